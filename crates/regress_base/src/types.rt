@@ -1,0 +1,41 @@
+//! Plain values that every layer shares: flags, ids and limits.
+
+/// The flags of a pattern, each read by itself. `unicode_sets` does not switch `unicode` on: a caller who
+/// wants the sets of JavaScript's flag v sets both.
+#[derive(Clone, Copy, Debug, Default, PartialEq, Eq)]
+pub struct Flags {
+    /// Flag i: a character matches in either case.
+    pub icase: bool,
+    /// Flag m: `^` and `$` also match beside a line terminator.
+    pub multiline: bool,
+    /// Flag s: `.` also matches a line terminator.
+    pub dot_all: bool,
+    /// Flag u: the stricter grammar, and folds of Unicode.
+    pub unicode: bool,
+    /// Flag v: classes with strings and operators.
+    pub unicode_sets: bool,
+}
+
+/// The number of a capture group, from 0 on, by the order of opening parentheses.
+pub type CaptureGroupID = u16;
+
+/// The name of a capture group.
+pub type CaptureGroupName = String;
+
+/// The number of a loop, from 0 on.
+pub type LoopID = u16;
+
+/// A place in a compiled program, from 0 on.
+pub type IP = usize;
+
+/// How many capture groups a pattern may have.
+pub const MAX_CAPTURE_GROUPS: usize = 65535;
+
+/// How many loops (quantified items) a pattern may have.
+pub const MAX_LOOPS: usize = 65535;
+
+/// How many levels a pattern may have: the whole pattern is one, and so is each group.
+pub const MAX_NESTING_DEPTH: u32 = 256;
+
+/// How many members a small set of bytes or code points may have.
+pub const MAX_CHAR_SET_LENGTH: usize = 4;
