@@ -1,0 +1,35 @@
+-- Which patterns are accepted, and what it is for a tree to mean what its pattern does.
+use Rattle.std.specs.Prelude.{◌≡◌, ℕ, ◌≤◌, Bool, not, ◌||◌, IsTrue, List, [], map, encode_utf8_all}
+use Rattle.regress_base.specs.declared.types.Flags.{Flags}
+use Rattle.regress_base.specs.declared.types.TheConstants.{MAX_CAPTURE_GROUPS, MAX_NESTING_DEPTH}
+use Rattle.regress_tree.specs.Reading.{IsText, forwards}
+use Rattle.regress_tree.specs.Steps.{State, IsStateOf, byte_state}
+use Rattle.regress_tree.specs.Matching.{Setting, matches}
+use Rattle.regress_tree.specs.Tree.{Tree}
+use Rattle.regress_syntax.specs.Syntax.{Pattern, groups, names, levels}
+use Rattle.regress_syntax.specs.Meaning.{meaning}
+use Rattle.regress_parse.specs.Grammar.{Source, Context, IsPattern}
+
+-- The rows of the grammar that are served hold for the flag s alone.
+abbrev pub is_served : Flags → Bool
+is_served flags = not (flags.icase || flags.multiline || flags.unicode || flags.unicode_sets)
+
+-- the whole text is the pattern's, whose own groups and names are those that the rows look at
+pub record IsDerived (flags : Flags) (text : Source) (p : Pattern) : Type 0 where
+  pub served : IsTrue (is_served flags)
+  pub whole : IsPattern (record { flags = flags; groups = groups p; names = names p }) p text []
+
+-- this project's limits
+pub record IsWithinLimits (p : Pattern) : Type 0 where
+  pub groups : groups p ≤ MAX_CAPTURE_GROUPS
+  pub levels : levels p ≤ MAX_NESTING_DEPTH
+
+-- the pattern that the text stands for, within the limits
+pub record IsAccepted (flags : Flags) (text : Source) (p : Pattern) : Type 0 where
+  pub derived : IsDerived flags text p
+  pub limits : IsWithinLimits p
+
+-- On every text and from every state the tree's outcomes are the pattern's, place for byte place, in their order.
+abbrev pub Means : Tree → Pattern → Type 0
+Means tree p = (setting : Setting) (text : List ℕ) (s : State) → IsText text → IsStateOf text s →
+    matches setting (encode_utf8_all text) forwards tree (byte_state text s) ≡ map (byte_state text) (meaning setting text forwards p s)

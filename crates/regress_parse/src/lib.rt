@@ -1,0 +1,2 @@
+//! From the text of a pattern to its tree.
+#![tactic(auto)]

@@ -1,0 +1,97 @@
+-- Outcomes: what a part of a pattern makes of a state, and the words of which all parts are made.
+use Rattle.std.specs.Prelude.{◌≡◌, ℕ, Bool, true, false, not, ◌&&◌, List, [], ◌∷◌, ◌++◌, filter, flat_map, map, Option, Some, None, if◌then◌else◌, ◌==◌, min, max, slice_set, ◌≤◌, length, All}
+use Rattle.regress_tree.specs.Reading.{Direction, Reading, Read, next_character, byte_place}
+
+-- from where to where a group has last matched, the smaller place first
+abbrev pub Span : Type 0
+Span = ℕ × ℕ
+
+-- where matching stands: at a place, with what each group has captured so far
+pub record State : Type 0 where
+  pub place : ℕ
+  pub captures : List (Option Span)
+
+-- the outcomes of a part of a pattern from a state, the preferred ones first
+abbrev pub Step : Type 0
+Step = State → List State
+
+abbrev pub same_capture : Option Span → Option Span → Bool
+same_capture None None = true
+same_capture (Some a) (Some b) = (a.0 == b.0) && (a.1 == b.1)
+same_capture None (Some b) = false
+same_capture (Some a) None = false
+
+abbrev pub same_captures : List (Option Span) → List (Option Span) → Bool
+same_captures [] [] = true
+same_captures (a ∷ as') (b ∷ bs) = same_capture a b && same_captures as' bs
+same_captures [] (b ∷ bs) = false
+same_captures (a ∷ as') [] = false
+
+-- the two states are equal
+unfoldable pub same_state : State → State → Bool
+same_state s t = (s.place == t.place) && same_captures s.captures t.captures
+
+-- the first of equal outcomes: a later one would be tried after the first has failed, in vain
+abbrev pub distinct : List State → List State
+distinct [] = []
+distinct (s ∷ rest) = s ∷ filter (λ t. not (same_state s t)) (distinct rest)
+
+-- The two steps cannot be told apart, whatever follows them: the same distinct outcomes from every state.
+pub record Alike (f g : Step) : Type 0 where
+  pub same : (s : State) → distinct (f s) ≡ distinct (g s)
+
+-- matches the empty text
+abbrev pub stay : Step
+stay s = s ∷ []
+
+-- never matches
+abbrev pub fail : Step
+fail s = []
+
+-- f, and then g from each of its outcomes
+infixl 20 ◌then_◌
+abbrev pub ◌then_◌ : Step → Step → Step
+(f then_ g) s = flat_map g (f s)
+
+-- what f finds, and then what g finds
+infixl 10 ◌or_◌
+abbrev pub ◌or_◌ : Step → Step → Step
+(f or_ g) s = f s ++ g s
+
+-- moves over the character if it passes the test
+abbrev pub moved : (ℕ → Bool) → State → Option Read → List State
+moved test s None = []
+moved test s (Some read) = if test read.character then record s { place = read.place } ∷ [] else []
+
+-- one character that passes the test (ECMA-262, CharacterSetMatcher)
+unfoldable pub one_character : Direction → Reading → (ℕ → Bool) → Step
+one_character d r test s = moved test s (next_character d r s.place)
+
+-- the state in which group `id` has matched between the two places
+abbrev pub captured : ℕ → ℕ → State → State
+captured id from s = record s { captures = slice_set s.captures id (Some (min from s.place, max from s.place)) }
+
+-- a group: what the body finds, with the group's span set
+unfoldable pub capture : ℕ → Step → Step
+capture id f s = map (captured id s.place) (f s)
+
+-- A state of a text: its places lie in the text, and each span starts no later than it ends.
+pub record IsSpanOf (text : List ℕ) (span : Span) : Type 0 where
+  pub ordered : span.0 ≤ span.1
+  pub within : span.1 ≤ length text
+
+abbrev pub IsCaptureOf : List ℕ → Option Span → Type 0
+IsCaptureOf text None = Unit {0}
+IsCaptureOf text (Some span) = IsSpanOf text span
+
+pub record IsStateOf (text : List ℕ) (s : State) : Type 0 where
+  pub place : s.place ≤ length text
+  pub captures : All (IsCaptureOf text) s.captures
+
+-- the same capture, and the same state, in places of the UTF-8
+abbrev pub byte_capture : List ℕ → Option Span → Option Span
+byte_capture text None = None
+byte_capture text (Some span) = Some (byte_place text span.0, byte_place text span.1)
+
+abbrev pub byte_state : List ℕ → State → State
+byte_state text s = record { place = byte_place text s.place; captures = map (byte_capture text) s.captures }

@@ -1,0 +1,46 @@
+-- A `Node` without memory. Two equal trees may lie in different places: contracts speak of this type.
+use Rattle.std.specs.Prelude.{ℕ, List, [], ◌∷◌, map, Option, option_map, string_bytes}
+use Rattle.regress_tree.specs.declared.ir.node.Node.{Node, fold-Node}
+use Rattle.regress_tree.specs.declared.ir.node.Node.TheOpen.{Node-F}
+
+mutual
+  -- the kinds of `Node`, under its names for them
+  pub data Tree : Type 0 where
+    empty : Tree
+    goal : Tree
+    char : (c : ℕ) → Tree
+    cat : (parts : Trees) → Tree
+    alt : (left right : Tree) → Tree
+    match_any : Tree
+    match_any_except_line_terminator : Tree
+    -- the name as UTF-8
+    capture_group : (id : ℕ) (contents : Tree) (name : Option (List ℕ)) → Tree
+
+  -- trees in a row
+  pub data Trees : Type 0 where
+    no_trees : Trees
+    more_trees : (first : Tree) (rest : Trees) → Trees
+
+-- a list as a row
+abbrev pub row : List Tree → Trees
+row [] = no_trees
+row (t ∷ ts) = more_trees t (row ts)
+
+-- one level, with each node inside already seen as its tree
+abbrev pub tree_of_level : Node-F Tree → Tree
+tree_of_level Node-F.Empty = empty
+tree_of_level Node-F.Goal = goal
+tree_of_level (Node-F.Char c) = char c
+tree_of_level (Node-F.Cat parts) = cat (row parts.items)
+tree_of_level (Node-F.Alt left right) = alt left.value right.value
+tree_of_level Node-F.MatchAny = match_any
+tree_of_level Node-F.MatchAnyExceptLineTerminator = match_any_except_line_terminator
+tree_of_level (Node-F.CaptureGroup id contents name) = capture_group id contents.value (option_map string_bytes name)
+
+-- the tree of a node
+abbrev pub tree : Node → Tree
+tree = fold-Node Tree tree_of_level
+
+-- the trees of nodes in a row
+abbrev pub trees : List Node → Trees
+trees nodes = row (map tree nodes)

@@ -1,0 +1,68 @@
+//! The printed tree: one line a node, each node before its children.
+
+use super::node::{Node, Regex};
+use std::fmt;
+
+/// How many levels are shown by dots. A deeper one is shown by its number.
+const MAX_DEPTH_DOTS: usize = 120;
+
+impl fmt::Display for Regex {
+    fn fmt<W: fmt::Write>(&self, f: &mut fmt::Formatter<W>) -> fmt::Result {
+        write_tree(&self.node, 0, f)
+    }
+}
+
+#[cycle(write_tree)]
+fn write_tree<W: fmt::Write>(node: &Node, depth: usize, f: &mut fmt::Formatter<W>) -> fmt::Result {
+    write_indent(depth, f)?;
+    write_node(node, f)?;
+    let inside = depth.saturating_add(1);
+    match node {
+        Node::Empty
+        | Node::Goal
+        | Node::Char { .. }
+        | Node::MatchAny
+        | Node::MatchAnyExceptLineTerminator => Ok(()),
+        Node::Cat(parts) => write_trees(parts, inside, f),
+        Node::Alt(left, right) => {
+            write_tree(left, inside, f)?;
+            write_tree(right, inside, f)
+        }
+        Node::CaptureGroup { contents, .. } => write_tree(contents, inside, f),
+    }
+}
+
+#[cycle(write_tree)]
+fn write_trees<W: fmt::Write>(parts: &[Node], depth: usize, f: &mut fmt::Formatter<W>) -> fmt::Result {
+    for part in parts {
+        write_tree(part, depth, f)?;
+    }
+    Ok(())
+}
+
+fn write_indent<W: fmt::Write>(depth: usize, f: &mut fmt::Formatter<W>) -> fmt::Result {
+    for _ in 0..depth.min(MAX_DEPTH_DOTS) {
+        f.write_str("..")?;
+    }
+    if depth > MAX_DEPTH_DOTS {
+        let below = depth - MAX_DEPTH_DOTS;
+        write!(f, "(+{below}).. ")?;
+    }
+    Ok(())
+}
+
+fn write_node<W: fmt::Write>(node: &Node, f: &mut fmt::Formatter<W>) -> fmt::Result {
+    match node {
+        Node::Empty => f.write_str("Empty\n"),
+        Node::Goal => f.write_str("Goal\n"),
+        Node::Char { c } => writeln!(f, "'{c}'"),
+        Node::Cat(_) => f.write_str("Cat\n"),
+        Node::Alt(..) => f.write_str("Alt\n"),
+        Node::MatchAny => f.write_str("MatchAny\n"),
+        Node::MatchAnyExceptLineTerminator => f.write_str("MatchAnyExceptLineTerminator\n"),
+        Node::CaptureGroup { id, name, .. } => match name {
+            Some(name) => writeln!(f, "CaptureGroup {id} \"{name}\""),
+            None => writeln!(f, "CaptureGroup {id}"),
+        },
+    }
+}

@@ -1,0 +1,18 @@
+//! The table of the characters' cases, classes and properties.
+
+use std::alloc::{AllocError, Global};
+
+/// What a pattern needs to know of Unicode: how characters fold, and which have a property.
+/// It is empty so far: no pattern that is served asks it anything.
+#[derive(Debug, Drop)]
+pub struct Tables {
+    content: (),
+}
+
+impl Tables {
+    /// The small table, which the program uses. The error stands for want of memory, of which the
+    /// empty table takes none.
+    pub fn small(_alloc: Global) -> Result<Tables, AllocError> {
+        Ok(Tables { content: () })
+    }
+}
