@@ -34,3 +34,7 @@ is_short (more_trees t (more_trees u ts)) = false
 abbrev pub is_nested : Tree → Bool
 is_nested (cat parts) = is_short parts || has_cat parts
 is_nested _ = false
+
+-- The normal form: no node has a shape that rewriting removes.
+abbrev pub IsNormal : Tree → Type 0
+IsNormal = LacksShape is_nested

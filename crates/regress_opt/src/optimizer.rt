@@ -1,0 +1,33 @@
+//! The passes in their order.
+ghost use Rattle.std.specs.Prelude.{◌≡◌, ◌≤◌, OnOk};
+ghost use Rattle.regress_tree.specs.Reading.{forwards};
+ghost use Rattle.regress_tree.specs.Tree.{tree};
+ghost use Rattle.regress_tree.specs.WellFormed.{IsWellFormed, captures};
+ghost use Rattle.regress_tree.specs.Units.{units};
+ghost use Rattle.regress_tree.specs.Shapes.{IsNormal};
+ghost use Rattle.regress_opt.specs.Law.{MeansTheSame};
+
+use crate::flatten::Flatten;
+use crate::pass::run_pass;
+use regress_tree::ir::Regex;
+use std::alloc::{AllocError, Global};
+
+/// Brings the tree into normal form: no `Cat` has fewer than two parts, or a `Cat` part.
+/// After an error the tree may not be in normal form; it means what it did.
+pub fn optimize(alloc: Global, r: &mut Regex) -> Result<(), AllocError>
+    requires { IsWellFormed (tree r.old.node) }
+
+    // Whatever it answers.
+    ensures meaning { MeansTheSame forwards (tree r.old.node) (tree r.new.node) }
+    ensures well_formed { IsWellFormed (tree r.new.node) }
+    ensures captures { captures (tree r.new.node) ≡ captures (tree r.old.node) }
+    ensures units { units (tree r.new.node) ≤ units (tree r.old.node) }
+    ensures flags { r.new.flags ≡ r.old.flags }
+
+    // The normal form.
+    ensures normal { OnOk result (IsNormal (tree r.new.node)) }
+    ensures left { IsNormal (tree r.old.node) → tree r.new.node ≡ tree r.old.node }
+{
+    run_pass(r, &mut Flatten { alloc })?;
+    Ok(())
+}

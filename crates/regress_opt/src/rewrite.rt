@@ -1,0 +1,51 @@
+//! The law of a rewrite.
+ghost use Rattle.std.specs.Prelude.{◌≡◌, ◌≢◌, ◌≤◌, Bool, false, IsTrue, IfOk, OnErr};
+ghost use Rattle.regress_tree.specs.Tree.{Tree, tree};
+ghost use Rattle.regress_tree.specs.WellFormed.{captures};
+ghost use Rattle.regress_tree.specs.Units.{account, measure, IsLess};
+ghost use Rattle.regress_opt.specs.Law.{direction_of, IsPart, after, MeansTheSame, StandsWhere};
+
+use regress_tree::ir::{Node, Walk};
+use std::alloc::AllocError;
+
+/// What a rewrite did to a node.
+#[derive(Debug, Drop)]
+pub enum PassAction {
+    /// Nothing: the node is as it was.
+    Keep,
+    /// It was changed in its place.
+    Modified,
+    /// It is to become `Empty`.
+    Remove,
+    /// This node is to stand in its place.
+    Replace(Node),
+}
+
+/// A rewrite of single nodes. Its law says what it may do to one, wherever in a tree and in whichever
+/// direction the node is matched; `run_pass` applies it to every node of a tree.
+pub trait Rewrite {
+    /// The shapes that it removes, as a test on a node.
+    ghost removes: { Tree → Bool };
+
+    /// Whether it leaves each node as it is that has none of these shapes.
+    ghost is_exact: { Bool };
+
+    /// Looks at a node, whose children have been looked at before.
+    fn apply(&mut self, node: &mut Node, walk: &Walk) -> Result<PassAction, AllocError>
+        requires { IsPart (tree node.old) }
+
+        // What the action makes of the node.
+        ensures meaning { IfOk result (λ action. MeansTheSame (direction_of walk.now) (tree node.old) (after action (tree node.new))) }
+        ensures stands { IfOk result (λ action. StandsWhere (tree node.old) (after action (tree node.new))) }
+        ensures captures { IfOk result (λ action. captures (after action (tree node.new)) ≡ captures (tree node.old)) }
+        ensures account { IfOk result (λ action. account (after action (tree node.new)) ≤ account (tree node.old)) }
+
+        // `Keep` leaves the node, and comes only where there is nothing to remove; any other action makes it less.
+        ensures keep { result ≡ Ok PassAction.Keep → tree node.new ≡ tree node.old }
+        ensures kept { result ≡ Ok PassAction.Keep → removes (tree node.old) ≡ false }
+        ensures less { IfOk result (λ action. action ≢ PassAction.Keep → IsLess (measure (after action (tree node.new))) (measure (tree node.old))) }
+        ensures exact { IsTrue is_exact → removes (tree node.old) ≡ false → IfOk result (λ action. action ≡ PassAction.Keep) }
+
+        // Want of memory leaves the node.
+        ensures err { OnErr result (tree node.new ≡ tree node.old) };
+}
