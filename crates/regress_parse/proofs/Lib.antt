@@ -1,0 +1,2 @@
+pub mod ReaderLemmas
+pub mod GrammarLemmas
