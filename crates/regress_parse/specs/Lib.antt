@@ -2,3 +2,4 @@ pub mod Grammar
 pub mod Reader
 pub mod TreeOf
 pub mod Accepted
+pub mod Parsing

@@ -1,2 +1,6 @@
 //! From the text of a pattern to its tree.
 #![tactic(auto)]
+
+mod build;
+mod cursor;
+mod parser;

@@ -1,4 +1,5 @@
 pub mod Tree
+pub mod TreeLaws
 pub mod Reading
 pub mod Steps
 pub mod Matching

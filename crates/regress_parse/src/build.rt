@@ -1,0 +1,41 @@
+//! Trees from parts, and faults from their texts.
+ghost use Rattle.std.specs.Prelude.{◌≡◌, IfOk, map};
+ghost use Rattle.regress_tree.specs.Tree.{tree, trees};
+ghost use Rattle.regress_parse.specs.TreeOf.{joined};
+ghost use Rattle.regress_parse.specs.Parsing.{alternatives};
+
+use regress_syntax::{Error, ParseFault};
+use regress_tree::ir::{Node, NodeList};
+use std::alloc::{AllocError, Global};
+
+/// The text of what needs a row or a flag that isn't served.
+pub(crate) const UNSUPPORTED: &str = "Unsupported syntax";
+
+/// A fault of the pattern. Where its text finds no memory, that is the fault.
+pub(crate) fn syntax(alloc: Global, text: &str) -> ParseFault {
+    match String::from_str(alloc, text) {
+        Ok(text) => ParseFault::Syntax(Error { text }),
+        Err(fault) => ParseFault::Memory(fault),
+    }
+}
+
+/// The node of an alternative: no part is `Empty`, one part is that part.
+pub(crate) fn make_cat(mut parts: NodeList) -> Node
+    ensures { tree result ≡ joined (trees parts.items) }
+{
+    if parts.len() > 1 {
+        return Node::Cat(parts);
+    }
+    parts.pop().unwrap_or(Node::Empty)
+}
+
+/// The node of alternatives: `Alt(a, Alt(b, c))`.
+pub(crate) fn make_alt(alloc: Global, mut before: NodeList, last: Node) -> Result<Node, AllocError>
+    ensures { IfOk result (λ node. tree node ≡ alternatives (map tree before.items) (tree last)) }
+{
+    let mut node = last;
+    while let Some(left) = before.pop() {
+        node = Node::Alt(Box::new(alloc, left)?, Box::new(alloc, node)?);
+    }
+    Ok(node)
+}
