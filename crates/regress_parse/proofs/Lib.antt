@@ -1,2 +1,3 @@
 pub mod ReaderLemmas
 pub mod GrammarLemmas
+pub mod BuildLemmas

@@ -1,10 +1,9 @@
 -- The reading function: it needs no more calls than the text allows, and its equations.
-use Rattle.std.proofs.Common.{◌≡◌, ℕ, zero, suc, ◌+◌, ◌*◌, ◌<◌, ◌≤◌, ◌⊎◌, inl, inr, ⊎_elim, Bool, true, false, cond, List, [], ◌∷◌, length, drop, Option, Some, None, option_and_then, refl, sym, ap, ◌∙◌, subst, arith, length-drop}
-use Prim.Native.String.{String}
+use Rattle.std.proofs.Common.{◌≡◌, ℕ, zero, suc, ◌+◌, ◌*◌, ◌<◌, ◌≤◌, ◌⊎◌, inl, inr, ⊎_elim, Bool, true, false, cond, ◌==◌, List, [], ◌∷◌, length, drop, Option, Some, None, option_and_then, refl, sym, ap, ◌∙◌, subst, arith, length-drop}
 use Rattle.std.proofs.lemmas.Option.{none-some, same_Some, cond_some}
 use Rattle.std.proofs.lemmas.Bool.{cond-true, cond-false}
 use Rattle.regress_syntax.specs.Syntax.{Pattern, Terms, Term, one, either, no_terms, more_terms, literal, dot, grouping, capture}
-use Rattle.regress_parse.specs.Grammar.{Source, Context, ◌∈◌, is_at, ends_alternative, is_plain}
+use Rattle.regress_parse.specs.Grammar.{Source, Context, opening, closing, full_stop, colon, question_mark, bar, is_at, ends_alternative, is_plain}
 use Rattle.regress_parse.specs.Reader.{Found, ◌>>=◌, closed, group_by, term_by, term_of, read_terms, read_pattern, enough, pattern_at, terms_at, term_at}
 
 -- what is found behind something
@@ -27,9 +26,9 @@ cond_same true x y x' y' h k = h refl
 cond_same false x y x' y' h k = k refl
 
 -- what is at the front of a text is in it
-pub at_front : (s : String) (t : Source) → is_at s t ≡ true → 0 < length t
-at_front s [] e = cc
-at_front s (c ∷ t) e = omega arith
+pub at_front : (k : ℕ) (t : Source) → is_at k t ≡ true → 0 < length t
+at_front k [] e = cc
+at_front k (c ∷ t) e = omega arith
 
 -- What reads does not end before the text that it was given.
 abbrev pub Shortens : {A : Type 0} → (Source → Found A) → Type 0
@@ -37,7 +36,7 @@ Shortens {A} f = (t : Source) (x : A × Source) → f t ≡ Some x → length x.
 
 closed-shortens : (make : Pattern → Term) (x : Pattern × Source) (y : Term × Source) → closed make x ≡ Some y → length y.1 ≤ length x.1
 closed-shortens make x y e =
-    let same = (cond_some (is_at ")" x.1) (make x.0, drop 1 x.1) y e).1 in
+    let same = (cond_some (is_at closing x.1) (make x.0, drop 1 x.1) y e).1 in
     omega (arith, ap (λ (z : Term × Source). length z.1) same, length-drop 1 x.1)
 
 then_closed-shortens : (inner : Source → Found Pattern) → Shortens inner → (make : Pattern → Term) (t : Source) (y : Term × Source) →
@@ -49,36 +48,36 @@ then_closed-shortens inner h make t y e =
 group-shortens : (inner : Source → Found Pattern) → Shortens inner → Shortens (group_by inner)
 group-shortens inner h t y e =
     ⊎_elim
-        (λ (named : (is_at "?" t ≡ true) × (cond (is_at ":" (drop 1 t)) (inner (drop 2 t) >>= closed grouping) None ≡ Some y)).
+        (λ (named : (is_at question_mark t ≡ true) × (cond (is_at colon (drop 1 t)) (inner (drop 1 (drop 1 t)) >>= closed grouping) None ≡ Some y)).
         ⊎_elim
-            (λ (plain : (is_at ":" (drop 1 t) ≡ true) × (inner (drop 2 t) >>= closed grouping ≡ Some y)).
-            omega (arith, then_closed-shortens inner h grouping (drop 2 t) y plain.1, length-drop 2 t))
-            (λ (other : (is_at ":" (drop 1 t) ≡ false) × (None ≡ Some y)). absurd (none-some y other.1))
-            (chosen (is_at ":" (drop 1 t)) _ _ _ named.1))
-        (λ (capturing : (is_at "?" t ≡ false) × (inner t >>= closed (capture None) ≡ Some y)).
+            (λ (plain : (is_at colon (drop 1 t) ≡ true) × (inner (drop 1 (drop 1 t)) >>= closed grouping ≡ Some y)).
+            omega (arith, then_closed-shortens inner h grouping (drop 1 (drop 1 t)) y plain.1, length-drop 1 t, length-drop 1 (drop 1 t)))
+            (λ (other : (is_at colon (drop 1 t) ≡ false) × (None ≡ Some y)). absurd (none-some y other.1))
+            (chosen (is_at colon (drop 1 t)) _ _ _ named.1))
+        (λ (capturing : (is_at question_mark t ≡ false) × (inner t >>= closed (capture None) ≡ Some y)).
         then_closed-shortens inner h (capture None) t y capturing.1)
-        (chosen (is_at "?" t) _ _ _ e)
+        (chosen (is_at question_mark t) _ _ _ e)
 
 -- A group is read alike by readers that agree on what is no longer.
 group-same : (f g : Source → Found Pattern) (t : Source) → ((u : Source) → length u ≤ length t → f u ≡ g u) → group_by f t ≡ group_by g t
 group-same f g t h =
-    cond_same (is_at "?" t) _ _ _ _
-    (λ named. cond_same (is_at ":" (drop 1 t)) _ _ _ _ (λ plain. ap (λ found. found >>= closed grouping) (h (drop 2 t) (omega (arith, length-drop 2 t)))) (λ other. refl))
+    cond_same (is_at question_mark t) _ _ _ _
+    (λ named. cond_same (is_at colon (drop 1 t)) _ _ _ _ (λ plain. ap (λ found. found >>= closed grouping) (h (drop 1 (drop 1 t)) (omega (arith, length-drop 1 t, length-drop 1 (drop 1 t))))) (λ other. refl))
     (λ capturing. ap (λ found. found >>= closed (capture None)) (h t (omega arith)))
 
 module _ (ctx : Context) where
   term_by-shortens : (inner : Source → Found Pattern) → Shortens inner → (c : ℕ) → Shortens (term_by ctx inner c)
   term_by-shortens inner h c t y e =
       ⊎_elim
-          (λ (is_dot : (c ∈ "." ≡ true) × (Some (dot ctx.flags, t) ≡ Some y)).
+          (λ (is_dot : (c == full_stop ≡ true) × (Some (dot ctx.flags, t) ≡ Some y)).
           omega (arith, ap (λ (z : Term × Source). length z.1) (same_Some _ _ is_dot.1)))
-          (λ (no_dot : (c ∈ "." ≡ false) × (cond (c ∈ "(") (group_by inner t) (cond (is_plain c) (Some (literal ctx.flags c, t)) None) ≡ Some y)).
+          (λ (no_dot : (c == full_stop ≡ false) × (cond (c == opening) (group_by inner t) (cond (is_plain c) (Some (literal ctx.flags c, t)) None) ≡ Some y)).
           ⊎_elim
-              (λ (opens : (c ∈ "(" ≡ true) × (group_by inner t ≡ Some y)). group-shortens inner h t y opens.1)
-              (λ (other : (c ∈ "(" ≡ false) × (cond (is_plain c) (Some (literal ctx.flags c, t)) None ≡ Some y)).
+              (λ (opens : (c == opening ≡ true) × (group_by inner t ≡ Some y)). group-shortens inner h t y opens.1)
+              (λ (other : (c == opening ≡ false) × (cond (is_plain c) (Some (literal ctx.flags c, t)) None ≡ Some y)).
               omega (arith, ap (λ (z : Term × Source). length z.1) (cond_some (is_plain c) _ _ other.1).1))
-              (chosen (c ∈ "(") _ _ _ no_dot.1))
-          (chosen (c ∈ ".") _ _ _ e)
+              (chosen (c == opening) _ _ _ no_dot.1))
+          (chosen (c == full_stop) _ _ _ e)
 
   pub term_of-shortens : (inner : Source → Found Pattern) → Shortens inner → (t : Source) (y : Term × Source) →
       term_of ctx inner t ≡ Some y → length y.1 < length t
@@ -111,7 +110,7 @@ module _ (ctx : Context) where
         let first = found_then (read_terms ctx n t) _ y e in
         let shorter = read_terms-shortens n t first.0 first.1 in
         ⊎_elim
-            (λ (more : (is_at "|" first.0.1 ≡ true) × (_ ≡ Some y)).
+            (λ (more : (is_at bar first.0.1 ≡ true) × (_ ≡ Some y)).
             let others = found_then (read_pattern ctx n (drop 1 first.0.1)) _ y more.1 in
             let same = same_Some (either first.0.0 others.0.0, others.0.1) y others.2 in
             omega (
@@ -120,16 +119,16 @@ module _ (ctx : Context) where
               length-drop 1 first.0.1,
               ap (λ (z : Pattern × Source). length z.1) same,
             ))
-            (λ (last : (is_at "|" first.0.1 ≡ false) × (_ ≡ Some y)).
+            (λ (last : (is_at bar first.0.1 ≡ false) × (_ ≡ Some y)).
             let same = same_Some (one first.0.0, first.0.1) y last.1 in
             omega (arith, shorter, ap (λ (z : Pattern × Source). length z.1) same))
-            (chosen (is_at "|" first.0.1) _ _ _ first.2)
+            (chosen (is_at bar first.0.1) _ _ _ first.2)
 
   term_of-same : (f g : Source → Found Pattern) (t : Source) → ((u : Source) → length u < length t → f u ≡ g u) → term_of ctx f t ≡ term_of ctx g t
   term_of-same f g [] h = refl
   term_of-same f g (c ∷ t) h =
-      cond_same (c ∈ ".") _ _ _ _ (λ is_dot. refl)
-      (λ no_dot. cond_same (c ∈ "(") _ _ _ _ (λ opens. group-same f g t (λ u shorter. h u (omega arith))) (λ other. refl))
+      cond_same (c == full_stop) _ _ _ _ (λ is_dot. refl)
+      (λ no_dot. cond_same (c == opening) _ _ _ _ (λ opens. group-same f g t (λ u shorter. h u (omega arith))) (λ other. refl))
 
   -- More calls than enough change nothing.
   mutual
@@ -151,13 +150,13 @@ module _ (ctx : Context) where
     read_pattern-same zero m t h k = absurd (omega arith)
     read_pattern-same (suc n) zero t h k = absurd (omega arith)
     read_pattern-same (suc n) (suc m) t h k =
-        ap (λ found. found >>= λ (x : Terms × Source). cond (is_at "|" x.1) (read_pattern ctx n (drop 1 x.1) >>= λ (y : Pattern × Source). Some (either x.0 y.0, y.1)) (Some (one x.0, x.1)))
+        ap (λ found. found >>= λ (x : Terms × Source). cond (is_at bar x.1) (read_pattern ctx n (drop 1 x.1) >>= λ (y : Pattern × Source). Some (either x.0 y.0, y.1)) (Some (one x.0, x.1)))
             (read_terms-same n m t (omega arith) (omega arith))
         ∙ then_same (read_terms ctx m t) _ _
-            (λ x found. cond_same (is_at "|" x.1) _ _ _ _
+            (λ x found. cond_same (is_at bar x.1) _ _ _ _
                 (λ more. ap (λ found. found >>= λ (y : Pattern × Source). Some (either x.0 y.0, y.1))
                 (let shorter = read_terms-shortens m t x found in
-                let front = at_front "|" x.1 more in
+                let front = at_front bar x.1 more in
                 read_pattern-same n m (drop 1 x.1) (omega (arith, length-drop 1 x.1)) (omega (arith, length-drop 1 x.1))))
                 (λ last. refl))
 
@@ -168,7 +167,7 @@ module _ (ctx : Context) where
   -- the alternatives behind a first one
   abbrev pub others_of : Terms × Source → Found Pattern
   others_of x =
-      cond (is_at "|" x.1)
+      cond (is_at bar x.1)
       (pattern_at ctx (drop 1 x.1) >>= λ (y : Pattern × Source). Some (either x.0 y.0, y.1))
       (Some (one x.0, x.1))
 
@@ -211,13 +210,13 @@ module _ (ctx : Context) where
   pattern_at-is t =
       let n = enough ctx t in
       sym (pattern_at-enough (suc n) t (omega arith))
-      ∙ ap (λ found. found >>= λ (x : Terms × Source). cond (is_at "|" x.1) (read_pattern ctx n (drop 1 x.1) >>= λ (y : Pattern × Source). Some (either x.0 y.0, y.1)) (Some (one x.0, x.1)))
+      ∙ ap (λ found. found >>= λ (x : Terms × Source). cond (is_at bar x.1) (read_pattern ctx n (drop 1 x.1) >>= λ (y : Pattern × Source). Some (either x.0 y.0, y.1)) (Some (one x.0, x.1)))
           (terms_at-enough n t (omega arith))
       ∙ then_same (terms_at ctx t) _ _
-          (λ x found. cond_same (is_at "|" x.1) _ _ _ _
+          (λ x found. cond_same (is_at bar x.1) _ _ _ _
               (λ more. ap (λ found. found >>= λ (y : Pattern × Source). Some (either x.0 y.0, y.1))
               (let shorter = terms_at-shortens t x found in
-              let front = at_front "|" x.1 more in
+              let front = at_front bar x.1 more in
               pattern_at-enough n (drop 1 x.1) (omega (arith, length-drop 1 x.1))))
               (λ last. refl))
 

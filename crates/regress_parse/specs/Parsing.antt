@@ -43,12 +43,17 @@ pub record Fits (opened depth : ℕ) (part : Part) : Type 0 where
   pub levels : depth + part.levels ≤ MAX_NESTING_DEPTH
 
 -- The parser has gone over the part, and built its tree.
-pub record Builds (old new : Parser) (depth : ℕ) (node : Node) (part : Part) (rest : Source) : Type 0 where
-  pub node : tree node ≡ part.node old.group_count
+pub record Builds (old new : Parser) (depth : ℕ) (built : Node) (part : Part) (behind : Source) : Type 0 where
+  pub node : tree built ≡ part.node old.group_count
   pub fits : Fits old.group_count depth part
   pub counts : new.group_count ≡ old.group_count + part.groups
-  pub rest : text new ≡ rest
+  pub rest : text new ≡ behind
   pub flags : new.flags ≡ old.flags
+
+-- The parser has moved over code points alone.
+pub record Moves (old new : Parser) : Type 0 where
+  pub flags : new.flags ≡ old.flags
+  pub counts : new.group_count ≡ old.group_count
 
 -- a fault of the pattern says this, and want of memory nothing
 abbrev pub OnSyntax : ParseFault → Type 0 → Type 0
@@ -59,6 +64,11 @@ OnSyntax (Memory e) P = Unit {0}
 abbrev pub Yields : {A : Type 0} → (A → Part) → ℕ → Parser → Parser → Result Node ParseFault → Found A → Type 0
 Yields part depth old new (Ok node) found = IsSomeAnd found (λ x. Builds old new depth node (part x.0) x.1)
 Yields part depth old new (Err fault) found = OnSyntax fault (IfSome found (λ x. Fits old.group_count depth (part x.0) → ⊥))
+
+-- a fault of the pattern that comes only where this holds
+abbrev pub FailsOnlyIf : {X : Type 0} → Result X ParseFault → Type 0 → Type 0
+FailsOnlyIf (Ok x) P = Unit {0}
+FailsOnlyIf (Err fault) P = OnSyntax fault P
 
 -- alternatives before a last one
 abbrev pub alternatives : List Tree → Tree → Tree

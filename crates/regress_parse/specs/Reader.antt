@@ -1,8 +1,8 @@
 -- The grammar as a function: what it reads from the front of a text, and the text behind that. The relation of
 -- `Grammar` has the same rows, and `ReaderLemmas` shows that it relates what this reads and nothing else.
-use Rattle.std.specs.Prelude.{ℕ, zero, suc, ◌+◌, ◌*◌, Bool, true, false, List, [], ◌∷◌, length, drop, Option, Some, None, option_and_then, if◌then◌else◌}
+use Rattle.std.specs.Prelude.{ℕ, zero, suc, ◌+◌, ◌*◌, Bool, true, false, List, [], ◌∷◌, length, drop, Option, Some, None, ◌==◌, option_and_then, if◌then◌else◌}
 use Rattle.regress_syntax.specs.Syntax.{Pattern, Terms, Term, one, either, no_terms, more_terms, literal, dot, grouping, capture}
-use Rattle.regress_parse.specs.Grammar.{Source, Context, ◌∈◌, is_at, ends_alternative, is_plain}
+use Rattle.regress_parse.specs.Grammar.{Source, Context, opening, closing, full_stop, colon, question_mark, bar, is_at, ends_alternative, is_plain}
 
 -- what was read, and the text behind it
 abbrev pub Found : Type 0 → Type 0
@@ -15,21 +15,26 @@ found >>= next = option_and_then next found
 
 -- the closing parenthesis of a group
 abbrev pub closed : (Pattern → Term) → Pattern × Source → Found Term
-closed make (p, t) = if is_at ")" t then Some (make p, drop 1 t) else None
+closed make (p, t) = if is_at closing t then Some (make p, drop 1 t) else None
 
--- a group, behind its opening parenthesis, where `inner` reads a pattern
+-- a group that captures nothing, behind its `(?`, where `inner` reads a pattern
+abbrev pub grouping_by : (Source → Found Pattern) → Source → Found Term
+grouping_by inner t = if is_at colon t then inner (drop 1 t) >>= closed grouping else None
+
+-- a capture group without a name, behind its parenthesis
+abbrev pub capture_by : (Source → Found Pattern) → Source → Found Term
+capture_by inner t = inner t >>= closed (capture None)
+
+-- a group, behind its opening parenthesis
 abbrev pub group_by : (Source → Found Pattern) → Source → Found Term
-group_by inner t =
-    if is_at "?" t
-    then (if is_at ":" (drop 1 t) then inner (drop 2 t) >>= closed grouping else None)
-    else inner t >>= closed (capture None)
+group_by inner t = if is_at question_mark t then grouping_by inner (drop 1 t) else capture_by inner t
 
 module _ (ctx : Context) where
   -- a term that begins with c
   abbrev pub term_by : (Source → Found Pattern) → ℕ → Source → Found Term
   term_by inner c t =
-      if c ∈ "." then Some (dot ctx.flags, t)
-      else if c ∈ "(" then group_by inner t
+      if c == full_stop then Some (dot ctx.flags, t)
+      else if c == opening then group_by inner t
       else if is_plain c then Some (literal ctx.flags c, t)
       else None
 
@@ -50,7 +55,7 @@ module _ (ctx : Context) where
     read_pattern zero t = None
     read_pattern (suc n) t =
         read_terms n t >>= λ (ts, mid).
-        (if is_at "|" mid
+        (if is_at bar mid
         then (read_pattern n (drop 1 mid) >>= λ (p, rest). Some (either ts p, rest))
         else Some (one ts, mid))
 

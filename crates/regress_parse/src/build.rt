@@ -8,8 +8,17 @@ use regress_syntax::{Error, ParseFault};
 use regress_tree::ir::{Node, NodeList};
 use std::alloc::{AllocError, Global};
 
-/// The text of what needs a row or a flag that isn't served.
+/// What needs a row or a flag that isn't served.
 pub(crate) const UNSUPPORTED: &str = "Unsupported syntax";
+
+/// A parenthesis too many, or too few.
+pub(crate) const UNBALANCED: &str = "Unbalanced parenthesis";
+
+/// More levels than `MAX_NESTING_DEPTH`.
+pub(crate) const TOO_DEEP: &str = "Regular expression is too deeply nested";
+
+/// More groups than `MAX_CAPTURE_GROUPS`.
+pub(crate) const TOO_MANY_GROUPS: &str = "Capture group count limit exceeded";
 
 /// A fault of the pattern. Where its text finds no memory, that is the fault.
 pub(crate) fn syntax(alloc: Global, text: &str) -> ParseFault {
