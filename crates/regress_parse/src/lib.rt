@@ -4,3 +4,4 @@
 mod build;
 mod cursor;
 mod parser;
+mod rows;
