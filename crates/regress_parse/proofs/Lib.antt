@@ -1,1 +1,5 @@
+pub mod Characters
 pub mod Readings
+pub mod Simulation
+pub mod DistinctLemmas
+pub mod MeaningLemmas
