@@ -2,9 +2,8 @@
 use Rattle.std.proofs.Common.{◌≡◌, ℕ, ◌≤◌, Bool, true, false, cond, min, max, ◌<◌, List, [], ◌∷◌, ◌++◌, length, map, set, Option, Some, None, option_map, IfSome, All, flat_map, encode_utf8_all, refl, sym, ap, ap₂, ◌∙◌, ⊎_elim, arith}
 use Rattle.std.proofs.lemmas.List.{map-append, map-set}
 use Rattle.std.proofs.lemmas.List.Elements.{All-nil, All-cons, All-head, All-tail, All-append, All-set, All-map, All-weaker}
-use mathlib.Core.Path.{fun_ext}
 use Rattle.std.proofs.lemmas.Bool.{cases_lt}
-use Rattle.regress_tree.specs.Reading.{Direction, Read, Reading, next_character, IsText, of_characters, of_bytes, byte_place}
+use Rattle.regress_tree.specs.Reading.{Direction, Read, next_character, IsText, of_characters, of_bytes, byte_place}
 use Rattle.regress_tree.specs.Steps.{State, Step, IsStateOf, IsCaptureOf, byte_state, byte_capture, stay, ◌then_◌, ◌or_◌, moved, one_character, captured, capture}
 use Rattle.regress_parse.proofs.Characters.{byte_place-le}
 use Rattle.regress_parse.proofs.Readings.{byte_read, next_character-byte_place, next_character-within}
@@ -84,12 +83,6 @@ Simulates-one_character text is_text d test = record {
   within = λ s in'.
       moved-within text test s in' (next_character d (of_characters text) s.place) (next_character-within text d s.place in'.place);
 }
-
--- two tests that agree at each character take the same characters
-pub one_character-same : (d : Direction) (r : Reading) (p q : ℕ → Bool) → ((c : ℕ) → p c ≡ q c) → (s : State) →
-    one_character d r p s ≡ one_character d r q s
-unfolding one_character
-one_character-same d r p q e s = ap (λ test. moved test s (next_character d r s.place)) (fun_ext e)
 
 -- ---- captures
 
