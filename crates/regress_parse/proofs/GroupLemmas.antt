@@ -69,13 +69,13 @@ module _ (d : Direction) where
 -- ---- their ids
 
 -- one if k is below n, else none
-abbrev below : ℕ → ℕ → ℕ
+abbrev pub below : ℕ → ℕ → ℕ
 below k n = cond (nat_lt k n) 1 0
 
 below-add-one : (k n : ℕ) → below k n + cond (n == k) 1 0 ≡ below k (n + 1)
 below-add-one k n = grind (arith, nat_tests)
 
-abbrev count_id : ℕ → List Capture → ℕ
+abbrev pub count_id : ℕ → List Capture → ℕ
 count_id k = count_by (λ c. c.id == k)
 
 -- what counts from n on, for nothing and for two parts
