@@ -3,3 +3,10 @@ pub mod GrammarLemmas
 pub mod BuildLemmas
 pub mod SoFarLemmas
 pub mod AlternativesLemmas
+pub mod Characters
+pub mod Readings
+pub mod Simulation
+pub mod DistinctLemmas
+pub mod MeaningLemmas
+pub mod GroupLemmas
+pub mod WellFormedLemmas

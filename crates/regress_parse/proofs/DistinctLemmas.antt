@@ -1,0 +1,74 @@
+-- Dropping repeats over the characters of a text and over its bytes drops the same outcomes.
+use Rattle.std.proofs.Common.{◌≡◌, ℕ, ◌≤◌, Bool, true, false, cond, not, ◌&&◌, ◌==◌, List, [], ◌∷◌, length, map, filter, Option, Some, None, All, refl, sym, ap, ap₂, ◌∙◌, ⊎_elim, arith}
+use Rattle.std.proofs.lemmas.List.Elements.{All-cons, All-head, All-tail, All-filter}
+use Rattle.std.proofs.lemmas.Bool.{cases_eq, eq-eqb, ne_eqb}
+use Rattle.regress_tree.specs.Reading.{byte_place}
+use Rattle.regress_tree.specs.Steps.{State, Span, IsStateOf, IsCaptureOf, byte_state, byte_capture, same_capture, same_captures, same_state, distinct}
+use Rattle.regress_parse.proofs.Characters.{byte_place_same}
+
+module _ (text : List ℕ) where
+  -- two places are one place exactly if their byte places are
+  eqb-byte_place : (j k : ℕ) → j ≤ length text → k ≤ length text → (byte_place text j == byte_place text k) ≡ (j == k)
+  eqb-byte_place j k hj hk =
+      ⊎_elim
+      (λ (e : j ≡ k). eq-eqb _ _ (ap (byte_place text) e) ∙ sym (eq-eqb j k e))
+      (λ (ne : j ≡ k → ⊥). ne_eqb _ _ (λ e. ne (byte_place_same text j k hj hk e)) ∙ sym (ne_eqb j k ne))
+      (cases_eq j k)
+
+  same_capture-byte_capture : (a b : Option Span) → IsCaptureOf text a → IsCaptureOf text b →
+      same_capture (byte_capture text a) (byte_capture text b) ≡ same_capture a b
+  same_capture-byte_capture None None ha hb = refl
+  same_capture-byte_capture None (Some b) ha hb = refl
+  same_capture-byte_capture (Some a) None ha hb = refl
+  same_capture-byte_capture (Some a) (Some b) ha hb =
+      ap₂ (λ x y. x && y)
+      (eqb-byte_place a.0 b.0 (omega (arith, ha.ordered, ha.within)) (omega (arith, hb.ordered, hb.within)))
+      (eqb-byte_place a.1 b.1 ha.within hb.within)
+
+  same_captures-byte_capture : (as' bs : List (Option Span)) → All (IsCaptureOf text) as' → All (IsCaptureOf text) bs →
+      same_captures (map (byte_capture text) as') (map (byte_capture text) bs) ≡ same_captures as' bs
+  same_captures-byte_capture [] [] ha hb = refl
+  same_captures-byte_capture [] (b ∷ bs) ha hb = refl
+  same_captures-byte_capture (a ∷ as') [] ha hb = refl
+  same_captures-byte_capture (a ∷ as') (b ∷ bs) ha hb =
+      ap₂ (λ x y. x && y)
+      (same_capture-byte_capture a b (All-head (IsCaptureOf text) a as' ha) (All-head (IsCaptureOf text) b bs hb))
+      (same_captures-byte_capture as' bs (All-tail (IsCaptureOf text) a as' ha) (All-tail (IsCaptureOf text) b bs hb))
+
+  -- two states of the text are one state exactly if they are in places of the UTF-8
+  pub same_state-byte_state : (s t : State) → IsStateOf text s → IsStateOf text t → same_state (byte_state text s) (byte_state text t) ≡ same_state s t
+  unfolding same_state
+  same_state-byte_state s t hs ht =
+      ap₂ (λ x y. x && y) (eqb-byte_place s.place t.place hs.place ht.place)
+      (same_captures-byte_capture s.captures t.captures hs.captures ht.captures)
+
+  cond-map : (b : Bool) (xs ys : List State) → cond b (map (byte_state text) xs) (map (byte_state text) ys) ≡ map (byte_state text) (cond b xs ys)
+  cond-map true xs ys = refl
+  cond-map false xs ys = refl
+
+  filter-byte_state : (s : State) → IsStateOf text s → (states : List State) → All (IsStateOf text) states →
+      filter (λ t. not (same_state (byte_state text s) t)) (map (byte_state text) states)
+      ≡ map (byte_state text) (filter (λ t. not (same_state s t)) states)
+  filter-byte_state s hs [] all = refl
+  filter-byte_state s hs (t ∷ states) all =
+      ap₂ (λ same rest. cond (not same) (byte_state text t ∷ rest) rest)
+      (same_state-byte_state s t hs (All-head (IsStateOf text) t states all))
+      (filter-byte_state s hs states (All-tail (IsStateOf text) t states all))
+      ∙ cond-map (not (same_state s t)) (t ∷ filter (λ u. not (same_state s u)) states) (filter (λ u. not (same_state s u)) states)
+
+  pub All-distinct : (P : State → Type 0) (states : List State) → All P states → All P (distinct states)
+  All-distinct P [] all = all
+  All-distinct P (s ∷ states) all =
+      All-cons P s _ (All-head P s states all)
+      (All-filter (λ t. not (same_state s t)) P (distinct states) (All-distinct P states (All-tail P s states all)))
+
+  -- the distinct outcomes in places of the UTF-8
+  pub distinct-byte_state : (states : List State) → All (IsStateOf text) states →
+      distinct (map (byte_state text) states) ≡ map (byte_state text) (distinct states)
+  distinct-byte_state [] all = refl
+  distinct-byte_state (s ∷ states) all =
+      let hs = All-head (IsStateOf text) s states all in
+      let rest = All-tail (IsStateOf text) s states all in
+      ap (λ xs. byte_state text s ∷ xs)
+      (ap (filter (λ t. not (same_state (byte_state text s) t))) (distinct-byte_state states rest)
+      ∙ filter-byte_state s hs (distinct states) (All-distinct (IsStateOf text) states rest))

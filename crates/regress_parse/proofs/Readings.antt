@@ -1,0 +1,125 @@
+-- Reading a text by its characters and by the bytes of its UTF-8 gives the same characters, at places that answer each other.
+use Rattle.std.proofs.Common.{◌≡◌, ℕ, zero, suc, ◌+◌, ◌-◌, ◌<◌, ◌≤◌, cond, ◌==◌, ⊎_elim, List, length, Option, Some, None, option_map, option_and_then, slice_get, slice_index, IfSome, encode_utf8_all, refl, sym, ap, ◌∙◌, subst, arith}
+use Rattle.std.proofs.lemmas.Bool.{cond-true, cond-false, le-leb, eq-eqb, ne_eqb, cases_lt}
+use Rattle.std.proofs.lemmas.Option.{slice_get-get_or, slice_get_past}
+use Rattle.std.proofs.lemmas.Str.{len_utf8_bounds}
+use Rattle.std.specs.Char.{len_utf8}
+use Rattle.std.specs.Option.{option_or}
+use Rattle.regress_tree.specs.Reading.{Direction, forwards, backwards, Read, next_character, IsText, of_characters, character_at, read_after, read_before_by, read_before, of_bytes, byte_place}
+use Rattle.regress_parse.proofs.Characters.{byte_place-zero, byte_place-add-one, character_at-byte_place, character_at-end, character_at-within}
+
+-- a character read, in places of the UTF-8
+abbrev pub byte_read : List ℕ → Read → Read
+byte_read text r = record { character = r.character; place = byte_place text r.place }
+
+-- both readings over the characters, and neither at its end
+after_within : (text : List ℕ) (k : ℕ) → k < length text →
+    (of_characters text).after k ≡ Some (record { character = slice_index text k; place = k + 1 })
+after_within text k h = ap (option_map (λ c. record { character = c; place = k + 1 })) (slice_get-get_or text k 0 h)
+
+after_end : (text : List ℕ) (k : ℕ) → length text ≤ k → (of_characters text).after k ≡ None
+after_end text k h = ap (option_map (λ c. record { character = c; place = k + 1 })) (slice_get_past text k h)
+
+before_within : (text : List ℕ) (k : ℕ) → k < length text →
+    (of_characters text).before (k + 1) ≡ Some (record { character = slice_index text k; place = k })
+before_within text k h =
+    let back : k + 1 - 1 ≡ k = omega arith in
+    cond-false _ _ _ (ne_eqb (k + 1) 0 (omega arith))
+    ∙ ap (λ j. option_map (λ c. record { character = c; place = j }) (slice_get text j)) back
+    ∙ ap (option_map (λ c. record { character = c; place = k })) (slice_get-get_or text k 0 h)
+
+pub read_after-byte_place : (text : List ℕ) → IsText text → (k : ℕ) → k ≤ length text →
+    read_after (encode_utf8_all text) (byte_place text k) ≡ option_map (byte_read text) ((of_characters text).after k)
+unfolding read_after
+read_after-byte_place text is_text k within =
+    let p = byte_place text k in
+    ⊎_elim
+    (λ (h : k < length text).
+    ap (option_map (λ c. record { character = c; place = p + len_utf8 c })) (character_at-byte_place text is_text k h)
+    ∙ ap (λ q. Some (record { character = slice_index text k; place = q })) (sym (byte_place-add-one text k h))
+    ∙ ap (option_map (byte_read text)) (sym (after_within text k h)))
+    (λ (h : length text ≤ k).
+    ap (option_map (λ c. record { character = c; place = p + len_utf8 c })) (character_at-end text k h)
+    ∙ ap (option_map (byte_read text)) (sym (after_end text k h)))
+    (cases_lt k (length text))
+
+or_first : (o p : Option Read) (r : Read) → o ≡ Some r → option_or o p ≡ Some r
+or_first o p r e = ap (λ x. option_or x p) e
+
+or_second : (o p : Option Read) (r : Read) → o ≡ None → p ≡ Some r → option_or o p ≡ Some r
+or_second o p r none e = ap (λ x. option_or x p) none ∙ e
+
+first_found : (by : ℕ → Option Read) (n : ℕ) (r : Read) → 0 < n → n ≤ 4 → ((m : ℕ) → 0 < m → m < n → by m ≡ None) → by n ≡ Some r →
+    option_or (by 1) (option_or (by 2) (option_or (by 3) (by 4))) ≡ Some r
+first_found by zero r low high none e = absurd (omega arith)
+first_found by (suc zero) r low high none e = or_first _ _ r e
+first_found by (suc (suc zero)) r low high none e =
+    or_second _ _ r (none 1 (omega arith) (omega arith)) (or_first _ _ r e)
+first_found by (suc (suc (suc zero))) r low high none e =
+    or_second _ _ r (none 1 (omega arith) (omega arith)) (or_second _ _ r (none 2 (omega arith) (omega arith)) (or_first _ _ r e))
+first_found by (suc (suc (suc (suc zero)))) r low high none e =
+    or_second _ _ r (none 1 (omega arith) (omega arith))
+    (or_second _ _ r (none 2 (omega arith) (omega arith)) (or_second _ _ r (none 3 (omega arith) (omega arith)) e))
+first_found by (suc (suc (suc (suc (suc n))))) r low high none e = absurd (omega arith)
+
+before_of_len : (bytes : List ℕ) (n k c : ℕ) → character_at bytes k ≡ Some c → len_utf8 c ≡ n →
+    read_before_by bytes n (k + n) ≡ Some (record { character = c; place = k })
+before_of_len bytes n k c e is =
+    let back : k + n - n ≡ k = omega arith in
+    cond-true _ _ _ (le-leb n (k + n) (omega arith))
+    ∙ ap (λ j. option_and_then (λ x. cond (len_utf8 x == n) (Some (record { character = x; place = j })) None) (character_at bytes j)) back
+    ∙ ap (option_and_then (λ x. cond (len_utf8 x == n) (Some (record { character = x; place = k })) None)) e
+    ∙ cond-true _ _ _ (eq-eqb (len_utf8 c) n is)
+
+none_before : (bytes : List ℕ) (n k j : ℕ) → character_at bytes k ≡ None → j ≡ k + n → read_before_by bytes n j ≡ None
+none_before bytes n k j e is =
+    let back : j - n ≡ k = omega arith in
+    cond-true _ _ _ (le-leb n j (omega arith))
+    ∙ ap (λ i. option_and_then (λ x. cond (len_utf8 x == n) (Some (record { character = x; place = i })) None) (character_at bytes i)) back
+    ∙ ap (option_and_then (λ x. cond (len_utf8 x == n) (Some (record { character = x; place = k })) None)) e
+
+before_next : (text : List ℕ) → IsText text → (k : ℕ) → k < length text →
+    read_before (encode_utf8_all text) (byte_place text (k + 1)) ≡ Some (record { character = slice_index text k; place = byte_place text k })
+unfolding read_before
+before_next text is_text k h =
+    let bytes = encode_utf8_all text in
+    let c = slice_index text k in
+    let bounds = len_utf8_bounds c in
+    let next = byte_place-add-one text k h in
+    first_found (λ n. read_before_by bytes n (byte_place text (k + 1))) (len_utf8 c) _ (omega arith) (omega arith)
+    (λ n low high.
+    none_before bytes n (byte_place text k + (len_utf8 c - n)) (byte_place text (k + 1))
+    (character_at-within text is_text k (len_utf8 c - n) h (omega arith) (omega arith)) (omega arith))
+    (ap (read_before_by bytes (len_utf8 c)) next
+    ∙ before_of_len bytes (len_utf8 c) (byte_place text k) c (character_at-byte_place text is_text k h) refl)
+
+pub read_before-byte_place : (text : List ℕ) → IsText text → (k : ℕ) → k ≤ length text →
+    read_before (encode_utf8_all text) (byte_place text k) ≡ option_map (byte_read text) ((of_characters text).before k)
+unfolding read_before
+read_before-byte_place text is_text zero within = ap (read_before (encode_utf8_all text)) (byte_place-zero text)
+read_before-byte_place text is_text (suc k) within =
+    let next : k + 1 ≡ suc k = omega arith in
+    subst
+    (λ j. read_before (encode_utf8_all text) (byte_place text j) ≡ option_map (byte_read text) ((of_characters text).before j))
+    next
+    (before_next text is_text k within ∙ ap (option_map (byte_read text)) (sym (before_within text k within)))
+
+-- Over the bytes of a text the next character is the one that comes over its characters, and its place answers that one's.
+pub next_character-byte_place : (text : List ℕ) → IsText text → (d : Direction) (k : ℕ) → k ≤ length text →
+    next_character d (of_bytes (encode_utf8_all text)) (byte_place text k) ≡ option_map (byte_read text) (next_character d (of_characters text) k)
+next_character-byte_place text is_text forwards k within = read_after-byte_place text is_text k within
+next_character-byte_place text is_text backwards k within = read_before-byte_place text is_text k within
+
+-- reading does not leave the text
+pub next_character-within : (text : List ℕ) (d : Direction) (k : ℕ) → k ≤ length text →
+    IfSome (next_character d (of_characters text) k) (λ r. r.place ≤ length text)
+next_character-within text forwards k within =
+    ⊎_elim
+    (λ (h : k < length text). subst (λ o. IfSome o (λ r. r.place ≤ length text)) (sym (after_within text k h)) (omega arith))
+    (λ (h : length text ≤ k). subst (λ o. IfSome o (λ r. r.place ≤ length text)) (sym (after_end text k h)) tt)
+    (cases_lt k (length text))
+next_character-within text backwards zero within = tt
+next_character-within text backwards (suc k) within =
+    let next : k + 1 ≡ suc k = omega arith in
+    subst (λ j. IfSome ((of_characters text).before j) (λ r. r.place ≤ length text)) next
+    (subst (λ o. IfSome o (λ r. r.place ≤ length text)) (sym (before_within text k within)) (omega arith))
