@@ -3,6 +3,8 @@ pub mod GrammarLemmas
 pub mod BuildLemmas
 pub mod SoFarLemmas
 pub mod AlternativesLemmas
+pub mod TermLemmas
+pub mod ParserLemmas
 pub mod Characters
 pub mod Readings
 pub mod Simulation

@@ -1,9 +1,12 @@
 //! Trees from parts, and faults from their texts.
 ghost use Rattle.std.specs.Prelude.{◌≡◌, IfOk, map};
 ghost use Rattle.regress_tree.specs.Tree.{tree, trees};
-ghost use Rattle.regress_parse.specs.TreeOf.{joined};
+ghost use Rattle.regress_tree.specs.Reading.{forwards};
+ghost use Rattle.regress_syntax.specs.Syntax.{dot};
+ghost use Rattle.regress_parse.specs.TreeOf.{joined, tree_of_term};
 ghost use Rattle.regress_parse.specs.Parsing.{alternatives};
 
+use regress_base::types::Flags;
 use regress_syntax::{Error, ParseFault};
 use regress_tree::ir::{Node, NodeList};
 use std::alloc::{AllocError, Global};
@@ -25,6 +28,17 @@ pub(crate) fn syntax(alloc: Global, text: &str) -> ParseFault {
     match String::from_str(alloc, text) {
         Ok(text) => ParseFault::Syntax(Error { text }),
         Err(fault) => ParseFault::Memory(fault),
+    }
+}
+
+/// The node of `.`.
+pub(crate) fn make_dot(flags: Flags) -> Node
+    ensures { tree result ≡ tree_of_term forwards 0 (dot flags) }
+{
+    if flags.dot_all {
+        Node::MatchAny
+    } else {
+        Node::MatchAnyExceptLineTerminator
     }
 }
 

@@ -3,7 +3,7 @@ ghost use Rattle.std.specs.Prelude.{◌<◌, ◌≤◌, OnOk, length};
 ghost use Rattle.regress_parse.specs.Reader.{pattern_at, terms_at, term_at, group_by, grouping_by, capture_by};
 ghost use Rattle.regress_parse.specs.Parsing.{text, context, pattern_part, terms_part, term_part, Yields};
 
-use crate::build::{TOO_DEEP, TOO_MANY_GROUPS, UNSUPPORTED, make_alt, make_cat, syntax};
+use crate::build::{TOO_DEEP, TOO_MANY_GROUPS, UNSUPPORTED, make_alt, make_cat, make_dot, syntax};
 use crate::parser::Parser;
 use regress_base::types::{MAX_CAPTURE_GROUPS, MAX_NESTING_DEPTH};
 use regress_syntax::ParseFault;
@@ -50,11 +50,7 @@ impl Parser<'_> {
         ensures progress { OnOk result (length (text self.new) < length (text self.old)) }
     {
         if self.try_consume('.') {
-            return Ok(if self.flags.dot_all {
-                Node::MatchAny
-            } else {
-                Node::MatchAnyExceptLineTerminator
-            });
+            return Ok(make_dot(self.flags));
         }
         if self.try_consume('(') {
             return self.consume_group(depth);
