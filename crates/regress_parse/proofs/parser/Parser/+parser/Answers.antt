@@ -1,15 +1,18 @@
-use Rattle.std.proofs.Common.{◌≡◌, ◌+◌, false, Some, length, refl, sym, ap, ◌∙◌, subst, arith, length-drop}
+use Rattle.std.proofs.Common.{◌≡◌, ◌+◌, true, false, ◌∷◌, Some, length, drop, refl, sym, ap, ◌∙◌, subst, arith, length-drop}
 use Rattle.std.specs.Option.{IfSome}
 use Rattle.std.proofs.lemmas.Result.{err_from_is_err_and}
-use Rattle.regress_parse.specs.Grammar.{ends_alternative, bar as the_bar}
-use Rattle.regress_parse.specs.Reader.{pattern_at, terms_at, term_at}
-use Rattle.regress_parse.specs.TreeOf.{joined}
-use Rattle.regress_parse.specs.Parsing.{text, context, Fits, Builds, term_part, terms_part}
+use Rattle.regress_tree.specs.Reading.{forwards}
+use Rattle.regress_tree.specs.TreeLaws.{tree-Char}
+use Rattle.regress_syntax.specs.Syntax.{dot}
+use Rattle.regress_parse.specs.Grammar.{ends_alternative, is_at, opening, full_stop, bar as the_bar}
+use Rattle.regress_parse.specs.Reader.{group_by, pattern_at, terms_at, term_at}
+use Rattle.regress_parse.specs.TreeOf.{joined, tree_of_term}
+use Rattle.regress_parse.specs.Parsing.{text, context, Fits, Builds, Moves, term_part, terms_part}
 use Rattle.regress_parse.proofs.ReaderLemmas.{terms_at-shortens, at_front}
 use Rattle.regress_parse.proofs.SoFarLemmas.{terms-start, terms-step, terms-end, terms-fail}
 use Rattle.regress_parse.proofs.AlternativesLemmas.{alternatives-start, alternatives-step, alternatives-end, alternatives-node, first-fail, alternatives-fail}
 use Rattle.regress_parse.proofs.TermLemmas.{on_syntax, on_syntax_then, some_and, too_deep, term_at-dot, term_at-group, term_at-plain, term_at-none}
-use Rattle.regress_parse.proofs.ParserLemmas.{one_more_alternative}
+use Rattle.regress_parse.proofs.ParserLemmas.{one_more_alternative, yields_behind, term_progress}
 use Rattle.regress_parse.proofs.parser.Parser.+parser.Goals as goal
 
 pub consume_alternative-loop-parts-init : goal.consume_alternative-loop-parts-init
@@ -132,3 +135,57 @@ consume_disjunction-returns t c =
         flags = bar.moves.flags ∙ l.invariant.flags;
       });
     }
+
+pub consume_term-returns-then-try_consume-clause-value : goal.consume_term-returns-then-try_consume-clause-value
+consume_term-returns-then-try_consume-clause-value t c =
+    let old = c.args.self.now in
+    let past = c.if-try_consume.ensures in
+    rw (term_at-dot (context old.flags) (text old) (sym past.found)) (record {
+      node = c.make_dot.ensures ∙ ap (λ f. tree_of_term forwards 0 (dot f)) past.moves.flags;
+      fits = record { groups = omega (arith, old.within); levels = omega arith };
+      counts = omega (arith, past.moves.counts);
+      rest = past.text;
+      flags = past.moves.flags;
+    })
+
+pub consume_term-returns-then-try_consume-2-clause-value : goal.consume_term-returns-then-try_consume-2-clause-value
+consume_term-returns-then-try_consume-2-clause-value t c =
+    let old = c.args.self.now in
+    let mid = c.try_consume-2.new.self in
+    let first = c.if-try_consume.ensures in
+    let past = c.if-try_consume-2.ensures in
+    let moves : Moves old mid = record { flags = past.moves.flags ∙ first.moves.flags; counts = past.moves.counts ∙ first.moves.counts } in
+    let opens : is_at opening (text old) ≡ true = sym (past.found ∙ ap (is_at opening) first.text) in
+    yields_behind term_part c.args.depth old mid c.consume_group.new.self c.consume_group.result _ _ moves
+        (ap (λ f. group_by (pattern_at (context f)) (text mid)) moves.flags
+        ∙ ap (group_by (pattern_at (context old.flags))) (past.text ∙ ap (drop 1) first.text)
+        ∙ sym (term_at-group (context old.flags) (text old) opens))
+        c.consume_group.ensures.value
+
+pub consume_term-returns-then-try_consume-2-clause-progress : goal.consume_term-returns-then-try_consume-2-clause-progress
+consume_term-returns-then-try_consume-2-clause-progress t c =
+    term_progress c.args.depth c.args.self.now c.consume_group.new.self c.consume_group.result (consume_term-returns-then-try_consume-2-clause-value t c)
+
+pub consume_term-returns-in-Some-clause-value : goal.consume_term-returns-in-Some-clause-value
+consume_term-returns-in-Some-clause-value t c =
+    let old = c.args.self.now in
+    let first = c.if-try_consume.ensures in
+    let second = c.if-try_consume-2.ensures in
+    let plain = c.in-Some.ensures in
+    let whole : text old ≡ c.in-Some.c ∷ text c.next_plain.new.self = sym (second.text ∙ first.text) ∙ plain.some.1 in
+    rw (ap (term_at (context old.flags)) whole ∙ term_at-plain (context old.flags) c.in-Some.c (text c.next_plain.new.self) plain.some.0) (record {
+      node = tree-Char c.in-Some.c;
+      fits = record { groups = omega (arith, old.within); levels = omega arith };
+      counts = omega (arith, plain.moves.counts, second.moves.counts, first.moves.counts);
+      rest = refl;
+      flags = plain.moves.flags ∙ second.moves.flags ∙ first.moves.flags;
+    })
+
+pub consume_term-returns-in-None-clause-value : goal.consume_term-returns-in-None-clause-value
+consume_term-returns-in-None-clause-value t c =
+    let old = c.args.self.now in
+    let first = c.if-try_consume.ensures in
+    let second = c.if-try_consume-2.ensures in
+    let none = term_at-none (context old.flags) (text old) (sym first.found) (sym (second.found ∙ ap (is_at opening) first.text))
+        (λ d u e. c.in-None.ensures.none d u (second.text ∙ first.text ∙ e)) in
+    on_syntax c.syntax.result (rw none tt)
