@@ -5,6 +5,7 @@ pub mod SoFarLemmas
 pub mod AlternativesLemmas
 pub mod TermLemmas
 pub mod ParserLemmas
+pub mod AcceptedLemmas
 pub mod Characters
 pub mod Readings
 pub mod Simulation

@@ -5,10 +5,11 @@ use Rattle.std.proofs.lemmas.Bool.{cond-true, cond-false}
 use Rattle.regress_base.specs.declared.types.TheConstants.{MAX_CAPTURE_GROUPS, MAX_NESTING_DEPTH}
 use Rattle.regress_syntax.specs.declared.fault.ParseFault.{ParseFault}
 use Rattle.regress_syntax.specs.declared.fault.ParseFault.TheVariants.{Syntax, Memory}
+use Rattle.regress_syntax.specs.Fault.{OnSyntax}
 use Rattle.regress_syntax.specs.Syntax.{Pattern, Terms, Term, one, either, literal, dot, levels, levels_of_terms}
 use Rattle.regress_parse.specs.Grammar.{Source, Context, is_at, opening, full_stop, is_plain}
 use Rattle.regress_parse.specs.Reader.{Found, group_by, pattern_at, term_at}
-use Rattle.regress_parse.specs.Parsing.{Fits, pattern_part, OnSyntax}
+use Rattle.regress_parse.specs.Parsing.{Fits, pattern_part}
 use Rattle.regress_parse.proofs.ReaderLemmas.{term_at-is}
 use Rattle.regress_parse.proofs.GrammarLemmas.{plain_is_not}
 use Rattle.regress_parse.proofs.SoFarLemmas.{from_each}

@@ -7,7 +7,7 @@ use Rattle.regress_tree.specs.declared.ir.node.Node.{Node}
 use Rattle.regress_tree.specs.Reading.{forwards}
 use Rattle.regress_tree.specs.Tree.{Tree, Trees, tree, alt}
 use Rattle.regress_syntax.specs.declared.fault.ParseFault.{ParseFault}
-use Rattle.regress_syntax.specs.declared.fault.ParseFault.TheVariants.{Syntax, Memory}
+use Rattle.regress_syntax.specs.Fault.{OnSyntax}
 use Rattle.regress_syntax.specs.Syntax.{Pattern, Terms, Term, groups, groups_of_terms, groups_of_term, levels, levels_of_terms, levels_of_term}
 use Rattle.regress_parse.specs.declared.parser.Parser.{Parser}
 use Rattle.regress_parse.specs.Grammar.{Source, Context}
@@ -55,20 +55,10 @@ pub record Moves (old new : Parser) : Type 0 where
   pub flags : new.flags ≡ old.flags
   pub counts : new.group_count ≡ old.group_count
 
--- a fault of the pattern says this, and want of memory nothing
-abbrev pub OnSyntax : ParseFault → Type 0 → Type 0
-OnSyntax (Syntax e) P = P
-OnSyntax (Memory e) P = Unit {0}
-
 -- What a call of the parser answers: what the grammar reads, or a fault where it reads nothing or too much.
 abbrev pub Yields : {A : Type 0} → (A → Part) → ℕ → Parser → Parser → Result Node ParseFault → Found A → Type 0
 Yields part depth old new (Ok node) found = IsSomeAnd found (λ x. Builds old new depth node (part x.0) x.1)
 Yields part depth old new (Err fault) found = OnSyntax fault (IfSome found (λ x. Fits old.group_count depth (part x.0) → ⊥))
-
--- a fault of the pattern that comes only where this holds
-abbrev pub FailsOnlyIf : {X : Type 0} → Result X ParseFault → Type 0 → Type 0
-FailsOnlyIf (Ok x) P = Unit {0}
-FailsOnlyIf (Err fault) P = OnSyntax fault P
 
 -- alternatives before a last one
 abbrev pub alternatives : List Tree → Tree → Tree

@@ -1,7 +1,8 @@
 //! Reading the pattern, code point by code point.
 ghost use Rattle.std.specs.Prelude.{◌≡◌, ◌∷◌, drop, if◌then◌else◌, IfSome, IfNone, OnOk, Bool, true, false};
 ghost use Rattle.regress_parse.specs.Grammar.{is_at, ends_alternative, is_plain, closing};
-ghost use Rattle.regress_parse.specs.Parsing.{text, Moves, FailsOnlyIf};
+ghost use Rattle.regress_syntax.specs.Fault.{RefusedOnlyIf};
+ghost use Rattle.regress_parse.specs.Parsing.{text, Moves};
 
 use crate::build::{UNBALANCED, syntax};
 use crate::parser::Parser;
@@ -80,7 +81,7 @@ impl Parser<'_> {
     /// Moves past the parenthesis that closes a group.
     pub(crate) fn consume_closing(&mut self) -> Result<(), ParseFault>
         ensures ok { OnOk result (text self.old ≡ closing ∷ text self.new) }
-        ensures err { FailsOnlyIf result (is_at closing (text self.old) ≡ false) }
+        ensures err { RefusedOnlyIf result (is_at closing (text self.old) ≡ false) }
         ensures moves { Moves self.old self.new }
     {
         if self.try_consume(')') {

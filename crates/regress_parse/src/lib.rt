@@ -4,4 +4,7 @@
 mod build;
 mod cursor;
 mod parser;
+mod pattern;
 mod rows;
+
+pub use pattern::try_parse;

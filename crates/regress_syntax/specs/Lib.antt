@@ -1,2 +1,3 @@
 pub mod Syntax
 pub mod Meaning
+pub mod Fault

@@ -1,0 +1,55 @@
+use Rattle.std.proofs.Common.{◌≡◌, true, ◌∷◌, [], sym, ap, ap₂, ◌∙◌, subst, arith}
+use Rattle.std.proofs.lemmas.Result.{err_from_is_err_and}
+use Rattle.regress_tree.specs.Tree.{Tree, tree, trees, cat, more_trees, no_trees}
+use Rattle.regress_tree.specs.TreeLaws.{tree-Cat, tree-Goal}
+use Rattle.regress_tree.specs.WellFormed.{IsWellFormed}
+use Rattle.regress_parse.specs.TreeOf.{tree_of}
+use Rattle.regress_parse.specs.Accepted.{is_served, IsAccepted, Means}
+use Rattle.regress_parse.proofs.TermLemmas.{on_syntax_then}
+use Rattle.regress_parse.proofs.AcceptedLemmas.{reads_derived, derived_reads, same_derived, limits-fit, fit-limits}
+use Rattle.regress_parse.proofs.MeaningLemmas.{tree_of-means}
+use Rattle.regress_parse.proofs.WellFormedLemmas.{tree_of-well_formed}
+use Rattle.regress_parse.proofs.pattern.try_parse.Goals as goal
+
+pub returns-in_err-body-clause-refused : goal.returns-in_err-body-clause-refused
+returns-in_err-body-clause-refused c =
+    let p = err_from_is_err_and c.from_residual.result c.from_residual.ensures.1 in
+    let flags = c.args.flags in
+    let text = c.args.pattern.now in
+    rw (p.1, p.2) (on_syntax_then c.in_err-body.field-0.0
+        (λ refused q accepted. refused q (reads_derived flags text q accepted.derived) (limits-fit q accepted.limits))
+        c.in_err-body.ensures.err)
+
+pub returns-in_err-body-clause-only : goal.returns-in_err-body-clause-only
+returns-in_err-body-clause-only c = same_derived c.args.flags c.args.pattern.now
+
+pub returns-in_err-parts-clause-only : goal.returns-in_err-parts-clause-only
+returns-in_err-parts-clause-only c = same_derived c.args.flags c.args.pattern.now
+
+-- the pattern that was read, and its tree
+pub returns-clause-accepted : goal.returns-clause-accepted
+returns-clause-accepted c =
+    let flags = c.args.flags in
+    let read = c.in_ok-body.ensures.ok in
+    let served : is_served flags ≡ true = grind arith in
+    (
+      read.0,
+      record { derived = derived_reads flags c.args.pattern.now read.0 served read.1; limits = fit-limits read.0 read.2 },
+      tree-Cat c.in_ok-parts.parts
+      ∙ ap (λ nodes. cat (trees nodes)) c.in_ok-parts.ensures.items
+      ∙ ap₂ (λ a b. cat (more_trees a (more_trees b no_trees))) read.3 tree-Goal,
+    )
+
+pub returns-clause-only : goal.returns-clause-only
+returns-clause-only c = same_derived c.args.flags c.args.pattern.now
+
+pub returns-clause-meaning : goal.returns-clause-meaning
+returns-clause-meaning c q accepted =
+    let found = returns-clause-accepted c in
+    let same = found.2 ∙ ap tree_of (same_derived c.args.flags c.args.pattern.now found.0 q found.1.derived accepted.derived) in
+    subst (λ (t : Tree). Means t q) (sym same) (tree_of-means q)
+
+pub returns-clause-well_formed : goal.returns-clause-well_formed
+returns-clause-well_formed c =
+    let found = returns-clause-accepted c in
+    subst (λ (t : Tree). IsWellFormed t) (sym found.2) (tree_of-well_formed c.args.flags c.args.pattern.now found.0 c.requires found.1.derived)

@@ -1,0 +1,89 @@
+//! From a whole pattern to its tree.
+ghost use Rattle.std.specs.Prelude.{◌≡◌, ◌≤◌, [], All, Some, IfOk};
+ghost use Rattle.regress_tree.specs.Reading.{forwards};
+ghost use Rattle.regress_tree.specs.Tree.{tree};
+ghost use Rattle.regress_tree.specs.WellFormed.{IsWellFormed};
+ghost use Rattle.regress_syntax.specs.Fault.{RefusedOnlyIf};
+ghost use Rattle.regress_syntax.specs.Syntax.{Pattern};
+ghost use Rattle.regress_parse.specs.Grammar.{Source};
+ghost use Rattle.regress_parse.specs.Reader.{pattern_at};
+ghost use Rattle.regress_parse.specs.TreeOf.{tree_of, tree_of_pattern};
+ghost use Rattle.regress_parse.specs.Accepted.{is_served, IsDerived, IsAccepted, Means};
+ghost use Rattle.regress_parse.specs.Parsing.{context, Fits, pattern_part};
+
+use crate::build::{UNBALANCED, UNSUPPORTED, syntax};
+use crate::parser::Parser;
+use regress_base::types::Flags;
+use regress_syntax::ParseFault;
+use regress_tree::ir::{Node, Regex};
+use regress_tree::unicode::Tables;
+use std::alloc::Global;
+
+/// Parses a pattern, a list of code points of which a surrogate is an ordinary literal that matches
+/// nothing. So far it serves the rows `.`, `(?:`, `(` without a name, `|` and a character that stands
+/// for itself, and the flag s.
+///
+/// `Syntax` is answered with the text
+/// - `Unsupported syntax`, where the pattern needs a row or a flag that isn't served;
+/// - `Unbalanced parenthesis`, at a `)` too many, or too few;
+/// - `Regular expression is too deeply nested`, past `MAX_NESTING_DEPTH` levels: the whole pattern is
+///   one, and each group;
+/// - `Capture group count limit exceeded`, past `MAX_CAPTURE_GROUPS` groups.
+///
+/// `Memory` is answered where memory was wanting, also for the text of a fault. The time taken grows as
+/// the pattern does.
+pub fn try_parse(
+    alloc: Global,
+    pattern: &[u32],
+    flags: Flags,
+    _tables: &Tables,
+) -> Result<Regex, ParseFault>
+    requires { All (λ c. c ≤ 0x10_FFFF) pattern.now }
+
+    // Whatever memory there is: a tree only where the grammar and the limits have one, and a fault of the pattern only where not.
+    ensures accepted { IfOk result (λ r. (p : Pattern) × IsAccepted flags pattern.now p × (tree r.node ≡ tree_of p)) }
+    ensures refused { RefusedOnlyIf result ((p : Pattern) → IsAccepted flags pattern.now p → ⊥) }
+    ensures only { (p q : Pattern) → IsDerived flags pattern.now p → IsDerived flags pattern.now q → p ≡ q }
+
+    // What the tree is good for.
+    ensures meaning { IfOk result (λ r. (p : Pattern) → IsAccepted flags pattern.now p → Means (tree r.node) p) }
+    ensures well_formed { IfOk result (λ r. IsWellFormed (tree r.node)) }
+    ensures flags { IfOk result (λ r. r.flags ≡ flags) }
+{
+    if !is_served(flags) {
+        return Err(syntax(alloc, UNSUPPORTED));
+    }
+    let body = parse_body(alloc, pattern, flags)?;
+    let parts = vec![in alloc; body, Node::Goal]?;
+    Ok(Regex {
+        node: Node::Cat(parts),
+        flags,
+    })
+}
+
+/// Whether the rows that are served hold under the flags.
+fn is_served(flags: Flags) -> bool
+    ensures { result ≡ is_served flags }
+{
+    !(flags.icase || flags.multiline || flags.unicode || flags.unicode_sets)
+}
+
+/// Parses the whole text, up to its end.
+fn parse_body(alloc: Global, pattern: &[u32], flags: Flags) -> Result<Node, ParseFault>
+    ensures ok { IfOk result (λ node. (p : Pattern) × (pattern_at (context flags) pattern.now ≡ Some (p, []))
+        × Fits 0 0 (pattern_part p) × (tree node ≡ tree_of_pattern forwards 0 p)) }
+    ensures err { RefusedOnlyIf result ((p : Pattern) → pattern_at (context flags) pattern.now ≡ Some (p, []) → Fits 0 0 (pattern_part p) → ⊥) }
+{
+    let mut parser = Parser {
+        rest: pattern,
+        flags,
+        group_count: 0,
+        alloc,
+    };
+    let body = parser.consume_disjunction(0)?;
+    if parser.rest.is_empty() {
+        Ok(body)
+    } else {
+        Err(syntax(alloc, UNBALANCED))
+    }
+}
