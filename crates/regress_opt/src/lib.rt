@@ -2,10 +2,12 @@
 #![tactic(auto)]
 
 mod flatten;
+mod headline;
 mod optimizer;
 mod pass;
 mod rewrite;
 
+pub use headline::parse_and_optimize;
 pub use optimizer::optimize;
 pub use pass::run_pass;
 pub use rewrite::{PassAction, Rewrite};

@@ -1,0 +1,21 @@
+//! The pattern layer of a regular expression engine for ECMAScript syntax: from the text of a pattern
+//! to its optimized tree. The modules carry the names of the Rust crate `regress`.
+#![tactic(auto)]
+
+pub use regress_base::types;
+pub use regress_tree::ir;
+pub use regress_tree::unicode;
+
+/// From the text of a pattern to its tree.
+pub mod parse {
+    pub use regress_parse::try_parse;
+    pub use regress_syntax::{Error, ParseFault};
+}
+
+/// Rewriting of trees.
+pub mod optimizer {
+    pub use regress_opt::{PassAction, Rewrite, optimize, parse_and_optimize, run_pass};
+}
+
+#[cfg(test)]
+mod tests;

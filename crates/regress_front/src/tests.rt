@@ -1,0 +1,208 @@
+//! Rows from the text of a pattern to its trees, through every crate.
+
+use crate::optimizer::{optimize, parse_and_optimize};
+use crate::parse::{ParseFault, try_parse};
+use crate::types::{Flags, MAX_CAPTURE_GROUPS, MAX_CHAR_SET_LENGTH, MAX_LOOPS, MAX_NESTING_DEPTH};
+use crate::unicode::Tables;
+use std::alloc::Global;
+use std::test::Fail;
+
+/// What a pattern comes to.
+#[derive(Debug, Drop)]
+enum Answer {
+    /// The parsed tree and the optimized one, as they print.
+    Trees(String, String),
+    /// The text of the fault.
+    Fault(String),
+}
+
+fn dot_all() -> Flags {
+    Flags {
+        dot_all: true,
+        ..Flags::default()
+    }
+}
+
+fn code_points(alloc: Global, pattern: &str) -> Result<Vec<u32>, Fail> {
+    let mut points = Vec::new(alloc);
+    for c in pattern.chars() {
+        points.push(u32::from(c))?;
+    }
+    Ok(points)
+}
+
+fn repeated(alloc: Global, front: &str, middle: &str, back: &str, times: usize) -> Result<Vec<u32>, Fail> {
+    let mut text = String::new(alloc);
+    for _ in 0..times {
+        text.push_str(front)?;
+    }
+    text.push_str(middle)?;
+    for _ in 0..times {
+        text.push_str(back)?;
+    }
+    code_points(alloc, text.as_str())
+}
+
+fn answer_to(alloc: Global, points: &[u32], flags: Flags) -> Result<Answer, Fail> {
+    if !points.iter().all(|c| *c <= 0x10_FFFF) {
+        return Ok(Answer::Fault(String::from_str(alloc, "no code points")?));
+    }
+    let tables = Tables::small(alloc)?;
+    let mut regex = match try_parse(alloc, points, flags, &tables) {
+        Ok(regex) => regex,
+        Err(ParseFault::Syntax(error)) => return Ok(Answer::Fault(error.text)),
+        Err(ParseFault::Memory(fault)) => return Err(Fail::from(fault)),
+    };
+    let parsed = format!(in alloc; "{regex}")?;
+    optimize(alloc, &mut regex)?;
+    Ok(Answer::Trees(parsed, format!(in alloc; "{regex}")?))
+}
+
+fn fault_of(alloc: Global, points: &[u32]) -> Result<String, Fail> {
+    match answer_to(alloc, points, Flags::default())? {
+        Answer::Fault(text) => Ok(text),
+        Answer::Trees(..) => Ok(String::from_str(alloc, "accepted")?),
+    }
+}
+
+#[test]
+fn patterns_have_their_trees(rt: HostRuntime) -> Result<(), Fail> {
+    let any = "MatchAnyExceptLineTerminator";
+    let rows = [
+        ("", "..Empty\n", "..Empty\n"),
+        ("()", "..CaptureGroup 0\n....Empty\n", "..CaptureGroup 0\n....Empty\n"),
+        ("(?:)", "..Empty\n", "..Empty\n"),
+        ("|", "..Alt\n....Empty\n....Empty\n", "..Alt\n....Empty\n....Empty\n"),
+        ("a", "..'97'\n", "..'97'\n"),
+        (
+            "a|b|c",
+            "..Alt\n....'97'\n....Alt\n......'98'\n......'99'\n",
+            "..Alt\n....'97'\n....Alt\n......'98'\n......'99'\n",
+        ),
+        (
+            "((?:ab)c)",
+            "..CaptureGroup 0\n....Cat\n......Cat\n........'97'\n........'98'\n......'99'\n",
+            "..CaptureGroup 0\n....Cat\n......'97'\n......'98'\n......'99'\n",
+        ),
+        ("ab", "..Cat\n....'97'\n....'98'\n", "..'97'\n..'98'\n"),
+        ("\u{0}", "..'0'\n", "..'0'\n"),
+        ("\u{10FFFF}", "..'1114111'\n", "..'1114111'\n"),
+    ];
+    for (pattern, parsed, optimized) in rows {
+        let points = code_points(rt.alloc(), pattern)?;
+        let Answer::Trees(first, second) = answer_to(rt.alloc(), &points, Flags::default())? else {
+            assert!(rt; false, "{pattern} is refused");
+            return Ok(());
+        };
+        let want = format!(in rt.alloc(); "Cat\n{parsed}..Goal\n")?;
+        assert_eq!(rt; first.as_str(), want.as_str(), "parsed {pattern}");
+        let want = format!(in rt.alloc(); "Cat\n{optimized}..Goal\n")?;
+        assert_eq!(rt; second.as_str(), want.as_str(), "optimized {pattern}");
+    }
+    for (flags, line) in [(Flags::default(), any), (dot_all(), "MatchAny")] {
+        let Answer::Trees(first, _) = answer_to(rt.alloc(), &[u32::from(b'.')], flags)? else {
+            assert!(rt; false, "a dot is refused");
+            return Ok(());
+        };
+        let want = format!(in rt.alloc(); "Cat\n..{line}\n..Goal\n")?;
+        assert_eq!(rt; first.as_str(), want.as_str());
+    }
+    Ok(())
+}
+
+#[test]
+fn a_lone_surrogate_is_a_literal(rt: HostRuntime) -> Result<(), Fail> {
+    let Answer::Trees(first, second) = answer_to(rt.alloc(), &[0xD800], Flags::default())? else {
+        assert!(rt; false, "a surrogate is refused");
+        return Ok(());
+    };
+    assert_eq!(rt; first.as_str(), "Cat\n..'55296'\n..Goal\n");
+    assert_eq!(rt; second.as_str(), "Cat\n..'55296'\n..Goal\n");
+    Ok(())
+}
+
+#[test]
+fn faults_have_their_texts(rt: HostRuntime) -> Result<(), Fail> {
+    let rows = [
+        ("a)", "Unbalanced parenthesis"),
+        ("(a", "Unbalanced parenthesis"),
+        ("(?:a", "Unbalanced parenthesis"),
+        (")", "Unbalanced parenthesis"),
+        ("a*", "Unsupported syntax"),
+        ("\\d", "Unsupported syntax"),
+        ("[a]", "Unsupported syntax"),
+        ("(?<a>x)", "Unsupported syntax"),
+        ("(?", "Unsupported syntax"),
+    ];
+    for (pattern, want) in rows {
+        let points = code_points(rt.alloc(), pattern)?;
+        assert_eq!(rt; fault_of(rt.alloc(), &points)?.as_str(), want, "{pattern}");
+    }
+    Ok(())
+}
+
+#[test]
+fn flags_other_than_s_are_not_served(rt: HostRuntime) -> Result<(), Fail> {
+    let none = Flags::default();
+    let all = [
+        Flags { icase: true, ..none },
+        Flags { multiline: true, ..none },
+        Flags { unicode: true, ..none },
+        Flags { unicode_sets: true, ..none },
+    ];
+    for flags in all {
+        let Answer::Fault(text) = answer_to(rt.alloc(), &[u32::from(b'a')], flags)? else {
+            assert!(rt; false, "a flag is served");
+            return Ok(());
+        };
+        assert_eq!(rt; text.as_str(), "Unsupported syntax");
+    }
+    Ok(())
+}
+
+#[test]
+fn levels_and_groups_have_their_limits(rt: HostRuntime) -> Result<(), Fail> {
+    let alloc = rt.alloc();
+    let deep = "Regular expression is too deeply nested";
+    let many = "Capture group count limit exceeded";
+    assert_eq!(rt; fault_of(alloc, &repeated(alloc, "(?:", "a", ")", 255)?)?.as_str(), "accepted");
+    assert_eq!(rt; fault_of(alloc, &repeated(alloc, "(?:", "a", ")", 256)?)?.as_str(), deep);
+    assert_eq!(rt; fault_of(alloc, &repeated(alloc, "()", "", "", 65535)?)?.as_str(), "accepted");
+    assert_eq!(rt; fault_of(alloc, &repeated(alloc, "()", "", "", 65536)?)?.as_str(), many);
+    Ok(())
+}
+
+#[test]
+fn a_deep_line_counts_its_levels(rt: HostRuntime) -> Result<(), Fail> {
+    let alloc = rt.alloc();
+    let points = repeated(alloc, "(", "a", ")", 125)?;
+    let Answer::Trees(parsed, _) = answer_to(alloc, &points, Flags::default())? else {
+        assert!(rt; false, "125 groups are refused");
+        return Ok(());
+    };
+    let mut want = String::new(alloc);
+    for _ in 0..120 {
+        want.push_str("..")?;
+    }
+    want.push_str("(+1).. CaptureGroup 120")?;
+    assert!(rt; parsed.as_str().lines().any(|line| line == want.as_str()));
+    Ok(())
+}
+
+#[test]
+fn one_call_parses_and_optimizes(rt: HostRuntime) -> Result<(), Fail> {
+    let alloc = rt.alloc();
+    let tables = Tables::small(alloc)?;
+    let points = [u32::from(b'a'), u32::from(b'b')];
+    let (regex, optimized) = parse_and_optimize(alloc, &points, dot_all(), &tables)?;
+    optimized?;
+    assert_eq!(rt; format!(in alloc; "{regex}")?.as_str(), "Cat\n..'97'\n..'98'\n..Goal\n");
+    assert!(rt; regex.flags == dot_all());
+    Ok(())
+}
+
+#[test]
+fn limits_are_as_documented(rt: HostRuntime) {
+    assert_eq!(rt; (MAX_CAPTURE_GROUPS, MAX_LOOPS, MAX_CHAR_SET_LENGTH), (65535, 65535, 4));
+    assert_eq!(rt; MAX_NESTING_DEPTH, 256);
+}
