@@ -13,3 +13,4 @@ pub mod DistinctLemmas
 pub mod MeaningLemmas
 pub mod GroupLemmas
 pub mod WellFormedLemmas
+pub mod Examples

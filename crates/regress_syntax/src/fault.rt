@@ -1,16 +1,27 @@
 //! Why a pattern was refused.
 
-ghost use Rattle.std.specs.Prelude.{◌≡◌, alloc_error};
+ghost use Rattle.std.specs.Prelude.{◌≡◌, alloc_error, string_bytes, IfOk};
 ghost use Rattle.regress_syntax.specs.declared.fault.ParseFault.TheVariants.{Memory};
 
-use std::alloc::{AllocError, AllocFailed};
+use std::alloc::{AllocError, AllocFailed, Global};
 
-/// A fault of a pattern, told in words.
-#[derive(Debug, Drop, thiserror::Error)]
+/// A fault of a pattern, told in words. Two are compared, ordered and hashed by the bytes of their texts.
+#[derive(Debug, Drop, PartialEq, Eq, PartialOrd, Ord, Hash, thiserror::Error)]
 #[error("{text}")]
 pub struct Error {
     /// What is wrong, for a person to read.
     pub text: String,
+}
+
+impl Error {
+    /// An equal fault, in memory of its own. The error stands for want of memory.
+    pub fn try_clone(&self, alloc: Global) -> Result<Error, AllocError>
+        ensures { IfOk result (λ copy. string_bytes copy.text ≡ string_bytes self.now.text) }
+    {
+        Ok(Error {
+            text: String::from_str(alloc, &self.text)?,
+        })
+    }
 }
 
 /// Why a pattern was not parsed.
