@@ -1,0 +1,4 @@
+pub mod Distinct
+pub mod AlikeLemmas
+pub mod KeepsLemmas
+pub mod SweepLemmas
