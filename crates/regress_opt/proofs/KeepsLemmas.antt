@@ -1,9 +1,9 @@
 -- What rewriting keeps, composed: one change after another, and a change of a part in the whole.
-use Rattle.std.proofs.Common.{◌≡◌, ℕ, ◌+◌, ◌≤◌, List, ◌++◌, Option, refl, sym, ap, ap₂, ◌∙◌, arith, le_refl, le_trans, add-le-add}
+use Rattle.std.proofs.Common.{◌≡◌, ℕ, ◌+◌, ◌≤◌, List, [], ◌∷◌, ◌++◌, ◌<◌, zero, suc, length, get_or, set, Option, refl, sym, ap, ap₂, ◌∙◌, arith, le_refl, le_trans, le_of_suc-le-suc}
 use Rattle.std.specs.Prelude.{encode_utf8_all}
 use Rattle.regress_tree.specs.Reading.{Direction, IsText}
 use Rattle.regress_tree.specs.Steps.{Alike}
-use Rattle.regress_tree.specs.Tree.{Tree, Trees, empty, goal, char, cat, alt, match_any, match_any_except_line_terminator, capture_group, no_trees, more_trees}
+use Rattle.regress_tree.specs.Tree.{Tree, Trees, empty, goal, char, cat, alt, match_any, match_any_except_line_terminator, capture_group, no_trees, more_trees, row}
 use Rattle.regress_tree.specs.Matching.{Setting, steps, steps_in_row}
 use Rattle.regress_tree.specs.WellFormed.{Capture, Position, inside, MayStand, RowMayStand, captures, captures_in_row, last_of}
 use Rattle.regress_tree.specs.Units.{account, units, units_in_row}
@@ -67,6 +67,35 @@ module _ (d : Direction) where
     units = le_refl _;
   }
 
-  -- one tree of a row, and the trees behind it
-  pub RowKeeps-more : {t u : Tree} {ts us : Trees} → Keeps d t u → RowKeeps d ts us → SameEnd ts us → RowKeeps d (more_trees t ts) (more_trees u us)
-  RowKeeps-more a b = ?
+  -- One tree of a row is changed.
+  RowMayStand-set : (ts : List Tree) (i : ℕ) (u : Tree) → i < length ts → StandsWhere (get_or ts i empty) u → (n : ℕ) (p : Position) → RowMayStand n (row ts) p → RowMayStand n (row (set ts i u)) p
+  RowMayStand-set [] i u within keeps n p m = m
+  RowMayStand-set (t ∷ []) zero u within keeps n p m = keeps n p m
+  RowMayStand-set (t ∷ []) (suc i) u within keeps n p m = m
+  RowMayStand-set (t ∷ t' ∷ ts) zero u within keeps n p m = (keeps n inside m.0, m.1)
+  RowMayStand-set (t ∷ t' ∷ ts) (suc zero) u within keeps n p m = (m.0, RowMayStand-set (t' ∷ ts) zero u (le_of_suc-le-suc within) keeps n p m.1)
+  RowMayStand-set (t ∷ t' ∷ ts) (suc (suc i)) u within keeps n p m = (m.0, RowMayStand-set (t' ∷ ts) (suc i) u (le_of_suc-le-suc within) keeps n p m.1)
+
+  steps-set : (setting : Setting) (bytes : List ℕ) (ts : List Tree) (i : ℕ) (u : Tree) → i < length ts → Alike (steps setting bytes d (get_or ts i empty)) (steps setting bytes d u) →
+      Alike (steps_in_row setting bytes d (row ts)) (steps_in_row setting bytes d (row (set ts i u)))
+  steps-set setting bytes [] i u within alike = Alike-refl _
+  steps-set setting bytes (t ∷ ts) zero u within alike = Alike-then _ _ _ _ alike (Alike-refl _)
+  steps-set setting bytes (t ∷ ts) (suc i) u within alike = Alike-then _ _ _ _ (Alike-refl _) (steps-set setting bytes ts i u (le_of_suc-le-suc within) alike)
+
+  captures-set : (ts : List Tree) (i : ℕ) (u : Tree) → i < length ts → captures u ≡ captures (get_or ts i empty) → captures_in_row (row (set ts i u)) ≡ captures_in_row (row ts)
+  captures-set [] i u within same = refl
+  captures-set (t ∷ ts) zero u within same = ap (λ cs. cs ++ captures_in_row (row ts)) same
+  captures-set (t ∷ ts) (suc i) u within same = ap (λ cs. captures t ++ cs) (captures-set ts i u (le_of_suc-le-suc within) same)
+
+  units-set : (ts : List Tree) (i : ℕ) (u : Tree) → i < length ts → units u ≤ units (get_or ts i empty) → units_in_row (row (set ts i u)) ≤ units_in_row (row ts)
+  units-set [] i u within less = le_refl _
+  units-set (t ∷ ts) zero u within less = omega (arith, less)
+  units-set (t ∷ ts) (suc i) u within less = omega (arith, units-set ts i u (le_of_suc-le-suc within) less)
+
+  pub Keeps-cat_set : (ts : List Tree) (i : ℕ) (u : Tree) → i < length ts → Keeps d (get_or ts i empty) u → Keeps d (cat (row ts)) (cat (row (set ts i u)))
+  Keeps-cat_set ts i u within keeps = Keeps-cat (record {
+    meaning = λ setting text is_text. steps-set setting (encode_utf8_all text) ts i u within (keeps.meaning setting text is_text);
+    stands = RowMayStand-set ts i u within keeps.stands;
+    captures = captures-set ts i u within keeps.captures;
+    units = units-set ts i u within keeps.account;
+  })

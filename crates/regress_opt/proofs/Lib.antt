@@ -1,4 +1,5 @@
 pub mod Distinct
 pub mod AlikeLemmas
+pub mod TreeLemmas
 pub mod KeepsLemmas
 pub mod SweepLemmas
