@@ -53,8 +53,8 @@ filter-swap p q [] = refl
 filter-swap p q (x ∷ l) =
     let ih = filter-swap p q l in
     elim (cases_Bool (p x)) [
-      inl pt ↦ elim (cases_Bool (q x)) [ inl qt ↦ simp (pt, qt) (ap (λ r. x ∷ r) ih) | inr qf ↦ simp (pt, qf) ih ]
-    | inr pf ↦ elim (cases_Bool (q x)) [ inl qt ↦ simp (pf, qt) ih | inr qf ↦ simp (pf, qf) ih ]
+      | inl pt ↦ elim (cases_Bool (q x)) [ inl qt ↦ simp (pt, qt) (ap (λ r. x ∷ r) ih) | inr qf ↦ simp (pt, qf) ih ]
+      | inr pf ↦ elim (cases_Bool (q x)) [ inl qt ↦ simp (pf, qt) ih | inr qf ↦ simp (pf, qf) ih ]
     ]
 
 -- what passes p passes q
@@ -63,8 +63,8 @@ filter-absorb p q implies [] = refl
 filter-absorb p q implies (x ∷ l) =
     let ih = filter-absorb p q implies l in
     elim (cases_Bool (p x)) [
-      inl pt ↦ let qt = implies x pt in simp (pt, qt) (ap (λ r. x ∷ r) ih)
-    | inr pf ↦ elim (cases_Bool (q x)) [ inl qt ↦ simp (pf, qt) ih | inr qf ↦ simp (pf, qf) ih ]
+      | inl pt ↦ let qt = implies x pt in simp (pt, qt) (ap (λ r. x ∷ r) ih)
+      | inr pf ↦ elim (cases_Bool (q x)) [ inl qt ↦ simp (pf, qt) ih | inr qf ↦ simp (pf, qf) ih ]
     ]
 
 filter-filter : {X : Type 0} (p q : X → Bool) (l : List X) → filter p (filter q l) ≡ filter (λ x. q x && p x) l
@@ -72,8 +72,8 @@ filter-filter p q [] = refl
 filter-filter p q (x ∷ l) =
     let ih = filter-filter p q l in
     elim (cases_Bool (q x)) [
-      inl qt ↦ elim (cases_Bool (p x)) [ inl pt ↦ simp (pt, qt) (ap (λ r. x ∷ r) ih) | inr pf ↦ simp (pf, qt) ih ]
-    | inr qf ↦ simp qf ih
+      | inl qt ↦ elim (cases_Bool (p x)) [ inl pt ↦ simp (pt, qt) (ap (λ r. x ∷ r) ih) | inr pf ↦ simp (pf, qt) ih ]
+      | inr qf ↦ simp qf ih
     ]
 
 -- the list without the state
@@ -84,8 +84,8 @@ except s l = filter (λ t. not (same_state s t)) l
 except-absorb : (p : State → Bool) (s : State) → p s ≡ false → (l : List State) → filter p (except s l) ≡ filter p l
 except-absorb p s fails =
     filter-absorb p (λ t. not (same_state s t)) (λ t passes. elim (cases_Bool (same_state s t)) [
-      inl same ↦ absurd (false≢true (sym fails ∙ ap p (same_state-true s t same) ∙ passes))
-    | inr other ↦ simp other
+      | inl same ↦ absurd (false≢true (sym fails ∙ ap p (same_state-true s t same) ∙ passes))
+      | inr other ↦ simp other
     ])
 
 pub distinct-filter : (p : State → Bool) (l : List State) → distinct (filter p l) ≡ filter p (distinct l)
@@ -93,8 +93,8 @@ distinct-filter p [] = refl
 distinct-filter p (s ∷ l) =
     let ih = distinct-filter p l in
     elim (cases_Bool (p s)) [
-      inl pt ↦ simp pt (ap (λ r. s ∷ except s r) ih ∙ ap (λ r. s ∷ r) (filter-swap _ p (distinct l)))
-    | inr pf ↦ simp pf (ih ∙ sym (except-absorb p s pf (distinct l)))
+      | inl pt ↦ simp pt (ap (λ r. s ∷ except s r) ih ∙ ap (λ r. s ∷ r) (filter-swap _ p (distinct l)))
+      | inr pf ↦ simp pf (ih ∙ sym (except-absorb p s pf (distinct l)))
     ]
 
 -- Lists joined.
@@ -122,7 +122,7 @@ distinct-append [] ys = sym (filter_true (distinct ys))
 distinct-append (s ∷ xs) ys =
     let ih = distinct-append xs ys in
     let later : except s (without xs (distinct ys)) ≡ without (s ∷ xs) (distinct ys) =
-        filter-swap _ _ (distinct ys) ∙ filter-filter _ _ (distinct ys) ∙ filter_agree _ _ (λ t. not-or (same_state s t) (among t xs)) (distinct ys) in
+    filter-swap _ _ (distinct ys) ∙ filter-filter _ _ (distinct ys) ∙ filter_agree _ _ (λ t. not-or (same_state s t) (among t xs)) (distinct ys) in
     ap (λ r. s ∷ except s r) ih ∙ ap (λ r. s ∷ r) (filter-append _ (distinct xs) (without xs (distinct ys)) ∙ ap (λ r. except s (distinct xs) ++ r) later)
 
 among-distinct : (t : State) (l : List State) → among t (distinct l) ≡ among t l
@@ -130,8 +130,8 @@ among-distinct t [] = refl
 among-distinct t (s ∷ l) =
     let ih = among-distinct t l in
     elim (cases_Bool (same_state s t)) [
-      inl same ↦ simp same
-    | inr other ↦ simp other (among-except s t other (distinct l) ∙ ih)
+      | inl same ↦ simp same
+      | inr other ↦ simp other (among-except s t other (distinct l) ∙ ih)
     ]
   where
     among-except : (s t : State) → same_state s t ≡ false → (l : List State) → among t (except s l) ≡ among t l
@@ -139,10 +139,10 @@ among-distinct t (s ∷ l) =
     among-except s t other (x ∷ l) =
         let ih = among-except s t other l in
         elim (cases_Bool (same_state s x)) [
-          inl same ↦
-            let moved : same_state x t ≡ false = ap (λ y. same_state y t) (sym (same_state-true s x same)) ∙ other in
-            simp (same, moved) ih
-        | inr differs ↦ simp differs (ap (λ b. same_state x t || b) ih)
+          | inl same ↦
+              let moved : same_state x t ≡ false = ap (λ y. same_state y t) (sym (same_state-true s x same)) ∙ other in
+              simp (same, moved) ih
+          | inr differs ↦ simp differs (ap (λ b. same_state x t || b) ih)
         ]
 
 -- `without` asks only which states there are
@@ -185,22 +185,22 @@ module _ (f : State → List State) where
   flat_map-except s (t ∷ l) =
       let ih = flat_map-except s l in
       elim (cases_Bool (same_state s t)) [
-        inl same ↦
-          let nothing : without (f s) (distinct (f t)) ≡ [] = ap (λ x. without (f s) (distinct (f x))) (sym (same_state-true s t same)) ∙ without-itself (f s) in
-          let once : without (f s) (without (f t) (distinct (flat_map f l))) ≡ without (f s) (distinct (flat_map f l)) =
-              ap (λ x. without (f s) (without (f x) (distinct (flat_map f l)))) (sym (same_state-true s t same)) ∙ without-without (f s) _ in
-          simp same (without-flat_map (f s) t l ∙ ap₂ ◌++◌ nothing once ∙ ih)
-      | inr other ↦
-          let later : without (f s) (without (f t) (distinct (flat_map f l))) ≡ without (f s) (without (f t) (distinct (flat_map f (except s l)))) =
-              without-swap (f s) (f t) _ ∙ ap (without (f t)) ih ∙ without-swap (f t) (f s) _ in
-          simp other (without-flat_map (f s) t l ∙ ap (λ r. without (f s) (distinct (f t)) ++ r) later ∙ sym (without-flat_map (f s) t (except s l)))
+        | inl same ↦
+            let nothing : without (f s) (distinct (f t)) ≡ [] = ap (λ x. without (f s) (distinct (f x))) (sym (same_state-true s t same)) ∙ without-itself (f s) in
+            let once : without (f s) (without (f t) (distinct (flat_map f l))) ≡ without (f s) (distinct (flat_map f l)) =
+            ap (λ x. without (f s) (without (f x) (distinct (flat_map f l)))) (sym (same_state-true s t same)) ∙ without-without (f s) _ in
+            simp same (without-flat_map (f s) t l ∙ ap₂ ◌++◌ nothing once ∙ ih)
+        | inr other ↦
+            let later : without (f s) (without (f t) (distinct (flat_map f l))) ≡ without (f s) (without (f t) (distinct (flat_map f (except s l)))) =
+            without-swap (f s) (f t) _ ∙ ap (without (f t)) ih ∙ without-swap (f t) (f s) _ in
+            simp other (without-flat_map (f s) t l ∙ ap (λ r. without (f s) (distinct (f t)) ++ r) later ∙ sym (without-flat_map (f s) t (except s l)))
       ]
 
   distinct-flat_map : (l : List State) → distinct (flat_map f l) ≡ distinct (flat_map f (distinct l))
   distinct-flat_map [] = refl
   distinct-flat_map (s ∷ l) =
       distinct-append (f s) (flat_map f l) ∙ ap (λ r. distinct (f s) ++ r) (ap (without (f s)) (distinct-flat_map l) ∙ flat_map-except s (distinct l))
-          ∙ sym (distinct-append (f s) (flat_map f (except s (distinct l))))
+      ∙ sym (distinct-append (f s) (flat_map f (except s (distinct l))))
 
 distinct-flat_map-each : (f g : State → List State) → ((s : State) → distinct (f s) ≡ distinct (g s)) → (l : List State) → distinct (flat_map f l) ≡ distinct (flat_map g l)
 distinct-flat_map-each f g each [] = refl

@@ -1,18 +1,19 @@
 -- What a sweep answers, composed as the sweep goes.
-use Rattle.std.proofs.Common.{◌≡◌, ℕ, ◌+◌, ◌<◌, ◌≤◌, ◌≢◌, zero, suc, Bool, true, false, ◌||◌, List, [], ◌∷◌, length, get_or, set, Option, Result, Ok, Err, inl, inr, refl, sym, ap, subst, ◌∙◌, arith, le_of_suc-le-suc, zero-lt-suc, lt_irrefl, below_more, get_or-set_same, get_or-set_other, IsTrue}
+use Rattle.std.proofs.Common.{◌≡◌, ℕ, ◌+◌, ◌<◌, ◌≤◌, ◌≢◌, zero, suc, Bool, true, false, ◌||◌, List, [], ◌∷◌, length, map, get_or, set, Option, Result, Ok, Err, inl, inr, refl, sym, ap, ap₂, subst, subst₂, ◌∙◌, arith, le_of_suc-le-suc, zero-lt-suc, lt_irrefl, below_more, get_or-set_same, get_or-set_other, IsTrue}
 use Rattle.std.specs.Prelude.{IfOk, MatchBool}
 use Rattle.std.specs.declared.alloc.AllocError.{AllocError}
-use Rattle.std.proofs.lemmas.List.{set-get_or}
+use Rattle.std.proofs.lemmas.List.{set-get_or, get_or-map, length-map, map-set}
 use Rattle.std.proofs.lemmas.Bool.{or_parts}
 use Rattle.std.proofs.Math.Bool.{or_comm}
+use Rattle.regress_tree.specs.declared.ir.node.Node.{Node}
 use Rattle.regress_tree.specs.Reading.{Direction}
-use Rattle.regress_tree.specs.Tree.{Tree, Trees, empty, goal, char, cat, alt, match_any, match_any_except_line_terminator, capture_group, no_trees, more_trees, row}
+use Rattle.regress_tree.specs.Tree.{Tree, Trees, empty, goal, char, cat, alt, match_any, match_any_except_line_terminator, capture_group, no_trees, more_trees, row, tree, trees}
 use Rattle.regress_tree.specs.WellFormed.{Position, inside, MayStand, RowMayStand, last_of}
 use Rattle.regress_tree.specs.Units.{Measure, measure, weight, weight_of_row, IsLess}
 use Rattle.regress_tree.specs.Shapes.{LacksShape, RowLacksShape}
 use Rattle.regress_opt.specs.Law.{IsPart, Keeps}
 use Rattle.regress_opt.specs.Sweep.{TellsChange, LacksInside}
-use Rattle.regress_opt.proofs.KeepsLemmas.{Keeps-refl, Keeps-trans, Keeps-cat_set}
+use Rattle.regress_opt.proofs.KeepsLemmas.{Keeps-refl, Keeps-trans, Keeps-alt, Keeps-capture_group, Keeps-cat_set}
 
 -- The measure.
 
@@ -155,7 +156,7 @@ module _ (d : Direction) (shape : Tree → Bool) (exact : Bool) where
     pub PartsSwept-more : (b : Bool) → TellsChange (Ok b) (get_or now i empty) u → ((b ≡ false) → LacksShape shape u) → PartsSwept d shape exact initial (set now i u) (i + 1) (b || changed)
     PartsSwept-more b tells removed = record {
       keeps = swept_keeps;
-      tells = rw (or_comm b changed) (TellsChange-both changed b _ _ _ so_far.tells (TellsChange-cat_set (Ok b) now i u within tells));
+      tells = rw (or_comm b changed) (TellsChange-both changed b (cat (row initial)) (cat (row now)) (cat (row (set now i u))) so_far.tells (TellsChange-cat_set (Ok b) now i u within tells));
       clean = λ same.
           let parts = or_parts b changed same in
           below_more _ _
@@ -166,3 +167,104 @@ module _ (d : Direction) (shape : Tree → Bool) (exact : Bool) where
 
   pub PartsSwept-all : (initial now : List Tree) (n : ℕ) → length now ≤ n → PartsSwept d shape exact initial now n false → RowLacksShape shape (row now)
   PartsSwept-all initial now n all swept = RowLacksShape-from shape now (λ k within. swept.clean refl k (omega (arith, within, all)))
+
+-- A sweep of a node: of what lies inside it, and then of itself.
+pub swept_node_left : (shape : Tree → Bool) (exact : Bool) (old mid new : Tree) → (IsTrue exact → LacksInside shape old → mid ≡ old) → (IsTrue exact → shape mid ≡ false → new ≡ mid) →
+    IsTrue exact → LacksShape shape old → new ≡ old
+swept_node_left shape exact old mid new inner here is_exact lacks =
+    let same = inner is_exact (LacksShape-inside shape old lacks) in
+    here is_exact (ap shape same ∙ LacksShape-here shape old lacks) ∙ same
+
+-- A sweep of the two sides of an `Alt`, where `right'` is `right` as long as the right side is not swept.
+module _ (old new left left' right right' : Tree) (was : old ≡ alt left right) (is : new ≡ alt left' right') where
+  pub alt_keeps : (d : Direction) → Keeps d left left' → Keeps d right right' → Keeps d old new
+  alt_keeps d first second = subst₂ (λ (t u : Tree). Keeps d t u) (sym was) (sym is) (Keeps-alt d first second)
+
+  pub alt_left : (shape : Tree → Bool) (exact : Bool) → (IsTrue exact → LacksShape shape left → left' ≡ left) → (IsTrue exact → LacksShape shape right → right' ≡ right) →
+      IsTrue exact → LacksInside shape old → new ≡ old
+  alt_left shape exact first second is_exact lacks =
+      let sides : LacksShape shape left × LacksShape shape right = subst (λ (t : Tree). LacksInside shape t) was lacks in
+      is ∙ ap₂ alt (first is_exact sides.0) (second is_exact sides.1) ∙ sym was
+
+  alt_changed : (a b : Bool) → TellsChange (Ok a) left left' → TellsChange (Ok b) right right' → TellsChange (Ok (b || a)) old new
+  alt_changed a b first second =
+      let both : TellsChange (Ok (a || b)) (alt left right) (alt left' right') =
+      TellsChange-both a b (alt left right) (alt left' right) (alt left' right') (TellsChange-alt_left (Ok a) left left' right first) (TellsChange-alt_right (Ok b) right right' left' second) in
+      subst₂ (λ (t u : Tree). TellsChange (Ok (b || a)) t u) (sym was) (sym is) (rw (or_comm b a) both)
+
+  pub alt_changed_then : (a b : Bool) → b ≡ true → TellsChange (Ok a) left left' → TellsChange (Ok b) right right' → TellsChange (Ok b) old new
+  alt_changed_then a b is_true first second =
+      let both = alt_changed a b first second in
+      let same : (b || a) ≡ b = ap (λ x. x || a) is_true ∙ sym is_true in
+      subst (λ (x : Bool). TellsChange (Ok x) old new) same both
+
+  pub alt_changed_else : (a b : Bool) → b ≡ false → TellsChange (Ok a) left left' → TellsChange (Ok b) right right' → TellsChange (Ok a) old new
+  alt_changed_else a b is_false first second =
+      let both = alt_changed a b first second in
+      subst (λ (x : Bool). TellsChange (Ok x) old new) (ap (λ x. x || a) is_false) both
+
+pub alt_removed : (new left' right' : Tree) → new ≡ alt left' right' → (shape : Tree → Bool) → LacksShape shape left' → LacksShape shape right' → LacksInside shape new
+alt_removed new left' right' is shape first second =
+    let sides : LacksInside shape (alt left' right') = (first, second) in
+    subst (λ (t : Tree). LacksInside shape t) (sym is) sides
+
+-- A sweep of what a group holds.
+module _ (old new contents contents' : Tree) (id : ℕ) (name : Option (List ℕ)) (was : old ≡ capture_group id contents name) (is : new ≡ capture_group id contents' name) where
+  pub group_keeps : (d : Direction) → Keeps d contents contents' → Keeps d old new
+  group_keeps d inner = subst₂ (λ (t u : Tree). Keeps d t u) (sym was) (sym is) (Keeps-capture_group d id name inner)
+
+  pub group_left : (shape : Tree → Bool) (exact : Bool) → (IsTrue exact → LacksShape shape contents → contents' ≡ contents) → IsTrue exact → LacksInside shape old → new ≡ old
+  group_left shape exact inner is_exact lacks =
+      let inside : LacksShape shape contents = subst (λ (t : Tree). LacksInside shape t) was lacks in
+      is ∙ ap (λ t. capture_group id t name) (inner is_exact inside) ∙ sym was
+
+  pub group_changed : (r : Result Bool AllocError) → TellsChange r contents contents' → TellsChange r old new
+  group_changed r inner = subst₂ (λ (t u : Tree). TellsChange r t u) (sym was) (sym is) (TellsChange-capture_group r id contents contents' name inner)
+
+pub group_removed : (new contents' : Tree) (id : ℕ) (name : Option (List ℕ)) → new ≡ capture_group id contents' name → (shape : Tree → Bool) → LacksShape shape contents' → LacksInside shape new
+group_removed new contents' id name is shape inner = subst (λ (t : Tree). LacksInside shape t) (sym is) inner
+
+-- The sweep of a row of nodes.
+abbrev pub NodesSwept : Direction → (Tree → Bool) → Bool → List Node → List Node → ℕ → Bool → Type 0
+NodesSwept d shape exact initial now = PartsSwept d shape exact (map tree initial) (map tree now)
+
+module _ (d : Direction) (shape : Tree → Bool) (exact : Bool) (initial now : List Node) (i : ℕ) (changed : Bool) (so_far : NodesSwept d shape exact initial now i changed) (within : i < length now) (old : Node)
+    (at : old ≡ get_or now i old) where
+  tree-at : get_or (map tree now) i empty ≡ tree old
+  tree-at = get_or-map tree now i old empty within ∙ ap tree (sym at)
+
+  within_trees : i < length (map tree now)
+  within_trees = omega (arith, within, length-map now tree)
+
+  pub part_at : IsPart (cat (trees initial)) → IsPart (tree old)
+  part_at part = rw (← tree-at) (IsPart-at (map tree now) i within_trees (IsPart-kept d _ _ so_far.keeps part))
+
+  module _ (new : Node) (keeps : Keeps d (tree old) (tree new)) (left : IsTrue exact → LacksShape shape (tree old) → tree new ≡ tree old) where
+    keeps_at : Keeps d (get_or (map tree now) i empty) (tree new)
+    keeps_at = rw tree-at keeps
+
+    left_at : IsTrue exact → LacksShape shape (get_or (map tree now) i empty) → tree new ≡ get_or (map tree now) i empty
+    left_at = rw tree-at left
+
+    pub nodes_keeps : Keeps d (cat (trees initial)) (cat (trees (set now i new)))
+    nodes_keeps = rw (map-set tree now i new) (swept_keeps d shape exact (map tree initial) (map tree now) i changed so_far (tree new) within_trees keeps_at left_at)
+
+    pub nodes_left : IsTrue exact → RowLacksShape shape (trees initial) → trees (set now i new) ≡ trees initial
+    nodes_left is_exact lacks =
+        rw (map-set tree now i new) (ap row (swept_left d shape exact (map tree initial) (map tree now) i changed so_far (tree new) within_trees keeps_at left_at is_exact lacks))
+
+    pub nodes_more : (b : Bool) → TellsChange (Ok b) (tree old) (tree new) → (b ≡ false → LacksShape shape (tree new)) → NodesSwept d shape exact initial (set now i new) (i + 1) (b || changed)
+    nodes_more b tells removed =
+        rw (map-set tree now i new) (PartsSwept-more d shape exact (map tree initial) (map tree now) i changed so_far (tree new) within_trees keeps_at left_at b (rw tree-at tells) removed)
+
+pub nodes_all : (d : Direction) (shape : Tree → Bool) (exact : Bool) (initial now : List Node) (n : ℕ) (changed : Bool) → NodesSwept d shape exact initial now n changed → changed ≡ false → length now ≤ n →
+    RowLacksShape shape (trees now)
+nodes_all d shape exact initial now n changed swept same all =
+    PartsSwept-all d shape exact (map tree initial) (map tree now) n (omega (arith, all, length-map now tree)) (subst (λ (b : Bool). NodesSwept d shape exact initial now n b) same swept)
+
+-- `b || a`, by what was taken
+pub or_then : (a b x : Bool) → b ≡ true → x ≡ b → x ≡ (b || a)
+or_then a b x is_true same = same ∙ is_true ∙ sym (ap (λ y. y || a) is_true)
+
+pub or_else : (a b x : Bool) → b ≡ false → x ≡ a → x ≡ (b || a)
+or_else a b x is_false same = same ∙ sym (ap (λ y. y || a) is_false)

@@ -1,7 +1,7 @@
 -- The tree of each kind of node.
-use Rattle.std.proofs.Common.{◌≡◌, ℕ, Option, Vec, Box, Global, sym, ap, ◌∙◌}
+use Rattle.std.proofs.Common.{◌≡◌, ℕ, Option, Vec, Box, Global, sym, ap, ◌∙◌, rules}
 use Rattle.std.specs.Prelude.{String, option_map, string_bytes}
-use Rattle.regress_tree.specs.declared.ir.node.Node.{Node, fold-roll-Node}
+use Rattle.regress_tree.specs.declared.ir.node.Node.{Node, fold-roll-Node, out-Node, the_lemmas}
 use Rattle.regress_tree.specs.declared.ir.node.Node.TheOpen.{Node-F}
 use Rattle.regress_tree.specs.declared.ir.node.Node.TheVariants.{Empty, Goal, Char, Cat, Alt, MatchAny, MatchAnyExceptLineTerminator, CaptureGroup, rolls-Empty, rolls-Goal, rolls-Char, rolls-Cat, rolls-Alt, rolls-MatchAny, rolls-MatchAnyExceptLineTerminator, rolls-CaptureGroup}
 use Rattle.regress_tree.specs.Tree.{Tree, empty, goal, char, cat, alt, match_any, match_any_except_line_terminator, capture_group, tree_of_level, tree, trees}
@@ -29,3 +29,11 @@ tree-MatchAnyExceptLineTerminator = ap tree (sym rolls-MatchAnyExceptLineTermina
 
 pub tree-CaptureGroup : (id : ℕ) (contents : Box Node Global) (name : Option (String Global)) → tree (CaptureGroup id contents name) ≡ capture_group id (tree contents.value) (option_map string_bytes name)
 tree-CaptureGroup id contents name = ap tree (sym (rolls-CaptureGroup id contents name)) ∙ fold-roll-Node Tree tree_of_level (Node-F.CaptureGroup id contents name)
+
+-- One level of a node.
+
+pub out-Alt : (left right : Box Node Global) → out-Node (Alt left right) ≡ Node-F.Alt left right
+out-Alt left right = search (rules, the_lemmas)
+
+pub out-CaptureGroup : (id : ℕ) (contents : Box Node Global) (name : Option (String Global)) → out-Node (CaptureGroup id contents name) ≡ Node-F.CaptureGroup id contents name
+out-CaptureGroup id contents name = search (rules, the_lemmas)

@@ -58,7 +58,11 @@ fn sweep<R: Rewrite>(node: &mut Node, pass: &mut R, walk: &Walk) -> Result<bool,
 
 /// Sweeps what lies inside a node.
 #[cycle(sweep)]
-fn sweep_children<R: Rewrite>(node: &mut Node, pass: &mut R, walk: &Walk) -> Result<bool, AllocError>
+fn sweep_children<R: Rewrite>(
+    node: &mut Node,
+    pass: &mut R,
+    walk: &Walk,
+) -> Result<bool, AllocError>
     requires { IsPart (tree node.old) }
     ensures keeps { Keeps (direction_of walk.now) (tree node.old) (tree node.new) }
     ensures changed { TellsChange result (tree node.old) (tree node.new) }
@@ -88,7 +92,11 @@ fn sweep_children<R: Rewrite>(node: &mut Node, pass: &mut R, walk: &Walk) -> Res
 
 /// Sweeps the parts of a `Cat`.
 #[cycle(sweep)]
-fn sweep_parts<R: Rewrite>(parts: &mut NodeList, pass: &mut R, walk: &Walk) -> Result<bool, AllocError>
+fn sweep_parts<R: Rewrite>(
+    parts: &mut NodeList,
+    pass: &mut R,
+    walk: &Walk,
+) -> Result<bool, AllocError>
     requires { IsPart (cat (trees parts.old.items)) }
     ensures keeps { Keeps (direction_of walk.now) (cat (trees parts.old.items)) (cat (trees parts.new.items)) }
     ensures changed { TellsChange result (cat (trees parts.old.items)) (cat (trees parts.new.items)) }
