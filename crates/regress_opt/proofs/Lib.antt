@@ -3,3 +3,4 @@ pub mod AlikeLemmas
 pub mod TreeLemmas
 pub mod KeepsLemmas
 pub mod SweepLemmas
+pub mod PassLemmas
