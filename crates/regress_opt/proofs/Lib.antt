@@ -4,3 +4,4 @@ pub mod TreeLemmas
 pub mod KeepsLemmas
 pub mod SweepLemmas
 pub mod PassLemmas
+pub mod FlattenLemmas
