@@ -1,9 +1,9 @@
 -- Flattening keeps what a rewrite must keep, and makes the tree less.
-use Rattle.std.proofs.Common.{◌≡◌, ℕ, ◌+◌, ◌<◌, ◌≤◌, Bool, true, false, ◌||◌, List, [], ◌∷◌, ◌++◌, map, length, get_or, take, drop, Option, Some, None, Ok, Err, true≢false, Vec, Global, vec_len, refl, sym, ap, ap₂, subst, ◌∙◌, append_assoc, append-nil, arith, le_refl}
-use Rattle.std.specs.Prelude.{encode_utf8_all, SomeIff, alloc_error}
+use Rattle.std.proofs.Common.{◌≡◌, ℕ, ◌+◌, ◌<◌, ◌≤◌, ◌≢◌, Bool, true, false, ◌||◌, List, [], ◌∷◌, ◌++◌, map, length, get_or, take, drop, Option, Some, None, Result, Ok, Err, true≢false, Vec, Global, vec_len, refl, sym, ap, ap₂, subst, subst₂, ◌∙◌, append_assoc, append-nil, arith, le_refl}
+use Rattle.std.specs.Prelude.{encode_utf8_all, SomeIff, IfOk, alloc_error}
 use Rattle.std.specs.Option.{ok_or}
 use Rattle.std.specs.declared.alloc.AllocError.{AllocError}
-use Rattle.std.specs.List.{flat_map}
+use Rattle.std.specs.List.{flat_map, list_any}
 use Rattle.std.proofs.lemmas.Bool.{false≢true}
 use Rattle.std.proofs.lemmas.List.Concat.{flat_map-append}
 use Rattle.std.proofs.lemmas.List.{map-append, length-map, take_more, length_push, take-append-drop}
@@ -15,10 +15,13 @@ use Rattle.regress_tree.specs.Tree.{Tree, Trees, empty, goal, char, cat, alt, ma
 use Rattle.regress_tree.specs.Matching.{Setting, steps, steps_in_row}
 use Rattle.regress_tree.specs.WellFormed.{Position, inside, last, root, GoalMayStand, last_of, MayStand, RowMayStand, captures, captures_in_row}
 use Rattle.regress_tree.specs.Units.{account, units, units_in_row, weight, weight_of_row, measure, IsLess}
-use Rattle.regress_tree.specs.Shapes.{is_cat, has_cat}
-use Rattle.regress_opt.specs.Law.{Keeps}
-use Rattle.regress_opt.specs.Splice.{row_append, parts_of, spliced, row_length}
+use Rattle.regress_tree.specs.Shapes.{is_cat, has_cat, is_short}
+use Rattle.regress_opt.specs.declared.rewrite.PassAction.{PassAction}
+use Rattle.regress_opt.specs.declared.rewrite.PassAction.TheVariants.{Keep, Modified, Remove, Replace}
+use Rattle.regress_opt.specs.Law.{MeansTheSame, StandsWhere, Keeps, after}
+use Rattle.regress_opt.specs.Splice.{row_append, parts_of, spliced, row_length, Flattens}
 use Rattle.regress_opt.proofs.AlikeLemmas.{Alike-from_same}
+use Rattle.regress_opt.proofs.KeepsLemmas.{Keeps-refl}
 use Rattle.regress_opt.proofs.TreeLemmas.{tree-Cat}
 use Rattle.regress_opt.proofs.SweepLemmas.{less_from_weight}
 
@@ -324,8 +327,8 @@ module _ (all moved : List Node) (x : Node) (before : moved ≡ take (length mov
   moved_fits =
       let rest = drop (length moved + 1) all in
       let whole : row_length (spliced (trees all)) ≡ row_length (spliced (trees (moved ++ x ∷ []))) + row_length (spliced (trees rest)) =
-          ap (λ ys. row_length (spliced (trees ys))) (sym (take-append-drop (length moved + 1) all) ∙ ap (λ ys. ys ++ rest) (sym next_moved)) ∙ ap (λ ts. row_length (spliced ts)) (trees-append (moved ++ x ∷ []) rest)
-              ∙ ap row_length (spliced-append (trees (moved ++ x ∷ [])) (trees rest)) ∙ row_length-append (spliced (trees (moved ++ x ∷ []))) (spliced (trees rest)) in
+      ap (λ ys. row_length (spliced (trees ys))) (sym (take-append-drop (length moved + 1) all) ∙ ap (λ ys. ys ++ rest) (sym next_moved)) ∙ ap (λ ts. row_length (spliced ts)) (trees-append (moved ++ x ∷ []) rest)
+      ∙ ap row_length (spliced-append (trees (moved ++ x ∷ [])) (trees rest)) ∙ row_length-append (spliced (trees (moved ++ x ∷ []))) (spliced (trees rest)) in
       omega (arith, whole, spliced_len-push moved x)
 
 -- how long the new row is so far
@@ -340,3 +343,59 @@ moved_Cat flat moved x inner is items =
 pub moved_other : (flat moved : List Node) (x : Node) → is_cat (tree x) ≡ false → trees flat ≡ spliced (trees moved) → trees (flat ++ x ∷ []) ≡ spliced (trees (moved ++ x ∷ []))
 moved_other flat moved x other items =
     trees-append flat (x ∷ []) ∙ ap₂ row_append items (sym (parts_of-other (tree x) other)) ∙ sym (spliced-push moved x)
+
+-- What the calls find.
+
+pub is_short-from_len : (nodes : List Node) → 2 ≤ length nodes → is_short (trees nodes) ≡ false
+is_short-from_len [] long = absurd (omega (arith, long))
+is_short-from_len (x ∷ []) long = absurd (omega (arith, long))
+is_short-from_len (x ∷ y ∷ nodes) long = refl
+
+pub has_cat-any : (nodes : List Node) → has_cat (trees nodes) ≡ list_any (λ n. is_cat (tree n)) nodes
+has_cat-any [] = refl
+has_cat-any (x ∷ nodes) = ap (λ b. is_cat (tree x) || b) (has_cat-any nodes)
+
+-- The law.
+
+-- what the law says of an action that leaves `left`
+record Lawful (d : Direction) (action : PassAction) (old left : Tree) : Type 0 where
+  keeps : Keeps d old (after action left)
+  less : action ≢ Keep → IsLess (measure (after action left)) (measure old)
+
+flattens_lawful : (d : Direction) (action : PassAction) (old new : Trees) → Flattens action old new → Lawful d action (cat old) (cat new)
+flattens_lawful d Keep old new flattens = record {
+  keeps = subst (λ (ts : Trees). Keeps d (cat old) (cat ts)) (sym flattens.1) (Keeps-refl d (cat old));
+  less = λ other. absurd (other refl);
+}
+flattens_lawful d Modified old new flattens =
+    let improves = subst (λ (ts : Trees). Improves d (cat old) (cat ts)) (sym flattens.1) (spliced_improves d old flattens.0) in
+    record { keeps = improves.keeps; less = λ other. improves.less }
+flattens_lawful d Remove old new flattens =
+    let improves = subst (λ (ts : Trees). Improves d (cat ts) empty) (sym flattens) (none_improves d) in
+    record { keeps = improves.keeps; less = λ other. improves.less }
+flattens_lawful d (Replace part) old new flattens =
+    let improves = subst (λ (ts : Trees). Improves d (cat ts) (tree part)) (sym flattens) (one_improves d (tree part)) in
+    record { keeps = improves.keeps; less = λ other. improves.less }
+
+if_ok : (P Q : PassAction → Type 0) → ((action : PassAction) → P action → Q action) → (r : Result PassAction AllocError) → IfOk r P → IfOk r Q
+if_ok P Q weaker (Ok action) h = weaker action h
+if_ok P Q weaker (Err e) h = tt
+
+module _ (d : Direction) (r : Result PassAction AllocError) (old left : Tree) (was is : Trees) (old_is : old ≡ cat was) (left_is : left ≡ cat is) (flattens : IfOk r (λ action. Flattens action was is)) where
+  lawful : IfOk r (λ action. Lawful d action old left)
+  lawful = subst₂ (λ (o l : Tree). IfOk r (λ action. Lawful d action o l)) (sym old_is) (sym left_is) (if_ok (λ action. Flattens action was is) (λ action. Lawful d action (cat was) (cat is)) (λ action. flattens_lawful d action was is) r flattens)
+
+  pub flatten_meaning : IfOk r (λ action. MeansTheSame d old (after action left))
+  flatten_meaning = if_ok (λ action. Lawful d action old left) (λ action. MeansTheSame d old (after action left)) (λ action law. law.keeps.meaning) r lawful
+
+  pub flatten_stands : IfOk r (λ action. StandsWhere old (after action left))
+  flatten_stands = if_ok (λ action. Lawful d action old left) (λ action. StandsWhere old (after action left)) (λ action law. law.keeps.stands) r lawful
+
+  pub flatten_captures : IfOk r (λ action. captures (after action left) ≡ captures old)
+  flatten_captures = if_ok (λ action. Lawful d action old left) (λ action. captures (after action left) ≡ captures old) (λ action law. law.keeps.captures) r lawful
+
+  pub flatten_account : IfOk r (λ action. account (after action left) ≤ account old)
+  flatten_account = if_ok (λ action. Lawful d action old left) (λ action. account (after action left) ≤ account old) (λ action law. law.keeps.account) r lawful
+
+  pub flatten_less : IfOk r (λ action. action ≢ Keep → IsLess (measure (after action left)) (measure old))
+  flatten_less = if_ok (λ action. Lawful d action old left) (λ action. action ≢ Keep → IsLess (measure (after action left)) (measure old)) (λ action law. law.less) r lawful

@@ -37,3 +37,6 @@ out-Alt left right = search (rules, the_lemmas)
 
 pub out-CaptureGroup : (id : ℕ) (contents : Box Node Global) (name : Option (String Global)) → out-Node (CaptureGroup id contents name) ≡ Node-F.CaptureGroup id contents name
 out-CaptureGroup id contents name = search (rules, the_lemmas)
+
+pub out-Cat : (parts : Vec Node Global) → out-Node (Cat parts) ≡ Node-F.Cat parts
+out-Cat parts = search (rules, the_lemmas)

@@ -2,7 +2,7 @@
 ghost use Rattle.std.specs.Prelude.{◌≡◌, IfOk, OnOk, OnErr};
 ghost use Rattle.regress_tree.specs.Tree.{tree, trees};
 ghost use Rattle.regress_tree.specs.Shapes.{is_cat};
-ghost use Rattle.regress_opt.specs.Splice.{parts_of, spliced, row_length};
+ghost use Rattle.regress_opt.specs.Splice.{parts_of, spliced, row_length, Flattens};
 
 use crate::rewrite::{PassAction, Rewrite};
 use regress_tree::ir::{Node, NodeList, Walk};
@@ -25,21 +25,29 @@ impl Rewrite for Flatten {
     ghost is_exact = { true };
 
     fn apply(&mut self, node: &mut Node, _walk: &Walk) -> Result<PassAction, AllocError> {
-        let Node::Cat(parts) = node else {
-            return Ok(PassAction::Keep);
-        };
-        if parts.len() < 2 {
-            return Ok(match parts.pop() {
-                Some(part) => PassAction::Replace(part),
-                None => PassAction::Remove,
-            });
+        match node {
+            Node::Cat(parts) => flatten_cat(self.alloc, parts),
+            _ => Ok(PassAction::Keep),
         }
-        if !parts.iter().any(is_cat) {
-            return Ok(PassAction::Keep);
-        }
-        splice(self.alloc, parts)?;
-        Ok(PassAction::Modified)
     }
+}
+
+/// Flattens a `Cat` of these parts, or tells what is to stand in its place.
+fn flatten_cat(alloc: Global, parts: &mut NodeList) -> Result<PassAction, AllocError>
+    ensures action { IfOk result (λ action. Flattens action (trees parts.old.items) (trees parts.new.items)) }
+    ensures err { OnErr result (trees parts.new.items ≡ trees parts.old.items) }
+{
+    if parts.len() < 2 {
+        return Ok(match parts.pop() {
+            Some(part) => PassAction::Replace(part),
+            None => PassAction::Remove,
+        });
+    }
+    if !parts.iter().any(is_cat) {
+        return Ok(PassAction::Keep);
+    }
+    splice(alloc, parts)?;
+    Ok(PassAction::Modified)
 }
 
 fn is_cat(node: &Node) -> bool

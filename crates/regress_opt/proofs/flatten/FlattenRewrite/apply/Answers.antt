@@ -1,30 +1,32 @@
-use Rattle.std.proofs.Common.{rules, true, ◌≡◌, ℕ, Bool, false, List, [], ◌∷◌, ◌++◌}
-use Rattle.regress_tree.specs.Shapes.{is_nested}
+-- The law, from what became of the parts.
+use Rattle.std.proofs.Common.{rules}
+use Rattle.regress_tree.specs.Reading.{forwards}
+use Rattle.regress_tree.specs.Tree.{trees}
+use Rattle.regress_opt.proofs.TreeLemmas.{tree-Cat, out-Cat}
+use Rattle.regress_opt.proofs.FlattenLemmas.{flatten_meaning, flatten_stands, flatten_captures, flatten_account, flatten_less}
 use Rattle.regress_opt.proofs.flatten.FlattenRewrite.apply.Goals as goal
 
-pub returns-then-len-lt2-clause-meaning : goal.returns-then-len-lt2-clause-meaning
-returns-then-len-lt2-clause-meaning c = ?
+pub returns-in-Cat-clause-meaning : goal.returns-in-Cat-clause-meaning
+returns-in-Cat-clause-meaning c =
+    let action = rw c.in-Cat.parts-is at c.flatten_cat.ensures.action in
+    rw (c.in-Cat.is, out-Cat) (flatten_meaning _ c.flatten_cat.result _ _ (trees c.in-Cat.parts.items) (trees c.flatten_cat.new.parts.items) (tree-Cat c.in-Cat.parts) (tree-Cat c.flatten_cat.new.parts) action)
 
-pub returns-then-len-lt2-clause-stands : goal.returns-then-len-lt2-clause-stands
-returns-then-len-lt2-clause-stands c = ?
+pub returns-in-Cat-clause-stands : goal.returns-in-Cat-clause-stands
+returns-in-Cat-clause-stands c =
+    let action = rw c.in-Cat.parts-is at c.flatten_cat.ensures.action in
+    rw (c.in-Cat.is, out-Cat) (flatten_stands forwards c.flatten_cat.result _ _ (trees c.in-Cat.parts.items) (trees c.flatten_cat.new.parts.items) (tree-Cat c.in-Cat.parts) (tree-Cat c.flatten_cat.new.parts) action)
 
-pub returns-then-not-any-clause-kept : goal.returns-then-not-any-clause-kept
-returns-then-not-any-clause-kept c = ?
+pub returns-in-Cat-clause-captures : goal.returns-in-Cat-clause-captures
+returns-in-Cat-clause-captures c =
+    let action = rw c.in-Cat.parts-is at c.flatten_cat.ensures.action in
+    rw (c.in-Cat.is, out-Cat) (flatten_captures forwards c.flatten_cat.result _ _ (trees c.in-Cat.parts.items) (trees c.flatten_cat.new.parts.items) (tree-Cat c.in-Cat.parts) (tree-Cat c.flatten_cat.new.parts) action)
 
-pub returns-clause-meaning : goal.returns-clause-meaning
-returns-clause-meaning c = ?
+pub returns-in-Cat-clause-account : goal.returns-in-Cat-clause-account
+returns-in-Cat-clause-account c =
+    let action = rw c.in-Cat.parts-is at c.flatten_cat.ensures.action in
+    rw (c.in-Cat.is, out-Cat) (flatten_account forwards c.flatten_cat.result _ _ (trees c.in-Cat.parts.items) (trees c.flatten_cat.new.parts.items) (tree-Cat c.in-Cat.parts) (tree-Cat c.flatten_cat.new.parts) action)
 
-pub returns-clause-stands : goal.returns-clause-stands
-returns-clause-stands c = ?
-
-pub returns-clause-captures : goal.returns-clause-captures
-returns-clause-captures c = ?
-
-pub returns-clause-account : goal.returns-clause-account
-returns-clause-account c = ?
-
-pub returns-clause-less : goal.returns-clause-less
-returns-clause-less c = ?
-
-pub returns-clause-exact : goal.returns-clause-exact
-returns-clause-exact c = ?
+pub returns-in-Cat-clause-less : goal.returns-in-Cat-clause-less
+returns-in-Cat-clause-less c =
+    let action = rw c.in-Cat.parts-is at c.flatten_cat.ensures.action in
+    rw (c.in-Cat.is, out-Cat) (flatten_less forwards c.flatten_cat.result _ _ (trees c.in-Cat.parts.items) (trees c.flatten_cat.new.parts.items) (tree-Cat c.in-Cat.parts) (tree-Cat c.flatten_cat.new.parts) action)
