@@ -1,4 +1,8 @@
 //! Flattening of nested `Cat`s.
+ghost use Rattle.std.specs.Prelude.{◌≡◌, IfOk, OnOk, OnErr};
+ghost use Rattle.regress_tree.specs.Tree.{tree, trees};
+ghost use Rattle.regress_tree.specs.Shapes.{is_cat};
+ghost use Rattle.regress_opt.specs.Splice.{parts_of, spliced, row_length, Flattens};
 
 use crate::rewrite::{PassAction, Rewrite};
 use regress_tree::ir::{Node, NodeList, Walk};
@@ -21,45 +25,44 @@ impl Rewrite for Flatten {
     ghost is_exact = { true };
 
     fn apply(&mut self, node: &mut Node, _walk: &Walk) -> Result<PassAction, AllocError> {
-        let Node::Cat(parts) = node else {
-            return Ok(PassAction::Keep);
-        };
-        if parts.is_empty() {
-            return Ok(PassAction::Remove);
+        match node {
+            Node::Cat(parts) => flatten_cat(self.alloc, parts),
+            _ => Ok(PassAction::Keep),
         }
-        if parts.len() == 1 {
-            return Ok(match parts.pop() {
-                Some(part) => PassAction::Replace(part),
-                None => PassAction::Remove,
-            });
-        }
-        if !parts.iter().any(is_cat) {
-            return Ok(PassAction::Keep);
-        }
-        splice(self.alloc, parts)?;
-        Ok(PassAction::Modified)
     }
 }
 
-fn is_cat(node: &Node) -> bool {
+/// Flattens a `Cat` of these parts, or tells what is to stand in its place.
+fn flatten_cat(alloc: Global, parts: &mut NodeList) -> Result<PassAction, AllocError>
+    ensures action { IfOk result (λ action. Flattens action (trees parts.old.items) (trees parts.new.items)) }
+    ensures err { OnErr result (trees parts.new.items ≡ trees parts.old.items) }
+{
+    if parts.len() < 2 {
+        return Ok(match parts.pop() {
+            Some(part) => PassAction::Replace(part),
+            None => PassAction::Remove,
+        });
+    }
+    if !parts.iter().any(is_cat) {
+        return Ok(PassAction::Keep);
+    }
+    splice(alloc, parts)?;
+    Ok(PassAction::Modified)
+}
+
+fn is_cat(node: &Node) -> bool
+    ensures { result ≡ is_cat (tree node.now) }
+{
     matches!(node, Node::Cat(_))
 }
 
-/// How many parts there are once the parts of each `Cat` stand in its place.
-fn spliced_len(parts: &[Node]) -> usize {
-    let mut len: usize = 0;
-    for part in parts {
-        len = len.saturating_add(match part {
-            Node::Cat(inner) => inner.len(),
-            _ => 1,
-        });
-    }
-    len
-}
-
 /// Puts the parts of each `Cat` in its place. Each part is moved once.
-fn splice(alloc: Global, parts: &mut NodeList) -> Result<(), AllocError> {
-    let mut flat = Vec::with_capacity(alloc, spliced_len(parts))?;
+fn splice(alloc: Global, parts: &mut NodeList) -> Result<(), AllocError>
+    ensures ok { OnOk result (trees parts.new.items ≡ spliced (trees parts.old.items)) }
+    ensures err { OnErr result (trees parts.new.items ≡ trees parts.old.items) }
+{
+    let mut flat = Vec::with_capacity(alloc, spliced_len(parts)?)?;
+    // There is room: nothing fails from here on.
     for part in mem::replace(parts, Vec::new(alloc)) {
         match part {
             Node::Cat(mut inner) => flat.append(&mut inner)?,
@@ -68,4 +71,26 @@ fn splice(alloc: Global, parts: &mut NodeList) -> Result<(), AllocError> {
     }
     *parts = flat;
     Ok(())
+}
+
+/// How many parts there are once the parts of each `Cat` stand in its place. The error comes where
+/// they are more than `usize::MAX`: no memory holds them.
+fn spliced_len(parts: &[Node]) -> Result<usize, AllocError>
+    ensures { IfOk result (λ len. len ≡ row_length (spliced (trees parts.now))) }
+{
+    let mut len: usize = 0;
+    for part in parts {
+        len = len.checked_add(parts_len(part)).ok_or(AllocError)?;
+    }
+    Ok(len)
+}
+
+/// How many parts stand for a part.
+fn parts_len(part: &Node) -> usize
+    ensures { result ≡ row_length (parts_of (tree part.now)) }
+{
+    match part {
+        Node::Cat(inner) => inner.len(),
+        _ => 1,
+    }
 }

@@ -1,14 +1,15 @@
 //! Running a rewrite over a tree.
-ghost use Rattle.std.specs.Prelude.{◌≡◌, ◌≢◌, ◌≤◌, IsTrue, IfOk, OnOk, MatchBool};
+ghost use Rattle.std.specs.Prelude.{◌≡◌, ◌≢◌, ◌≤◌, false, IsTrue, IfOk, OnOk, OnErr, MatchBool};
 ghost use Rattle.regress_tree.specs.Reading.{forwards};
-ghost use Rattle.regress_tree.specs.Tree.{tree, trees};
+ghost use Rattle.regress_tree.specs.Tree.{tree, trees, cat};
 ghost use Rattle.regress_tree.specs.WellFormed.{IsWellFormed, captures};
 ghost use Rattle.regress_tree.specs.Units.{account};
 ghost use Rattle.regress_tree.specs.Shapes.{LacksShape};
-ghost use Rattle.regress_opt.specs.Law.{MeansTheSame};
+ghost use Rattle.regress_opt.specs.Law.{direction_of, IsPart, MeansTheSame, Keeps};
+ghost use Rattle.regress_opt.specs.Sweep.{TellsChange, LacksInside};
 
 use crate::rewrite::{PassAction, Rewrite};
-use regress_tree::ir::{Node, Regex, Walk};
+use regress_tree::ir::{Node, NodeList, Regex, Walk};
 use std::alloc::AllocError;
 
 /// Sweeps the tree, children before parents, until a sweep changes nothing, and answers whether the
@@ -43,41 +44,80 @@ pub fn run_pass<R: Rewrite>(r: &mut Regex, pass: &mut R) -> Result<bool, AllocEr
 
 /// Rewrites the children of a node and then the node, and answers whether that changed anything.
 #[cycle(sweep)]
-fn sweep<R: Rewrite>(node: &mut Node, pass: &mut R, walk: &Walk) -> Result<bool, AllocError> {
+fn sweep<R: Rewrite>(node: &mut Node, pass: &mut R, walk: &Walk) -> Result<bool, AllocError>
+    requires { IsPart (tree node.old) }
+    ensures keeps { Keeps (direction_of walk.now) (tree node.old) (tree node.new) }
+    ensures changed { TellsChange result (tree node.old) (tree node.new) }
+    ensures removed { result ≡ Ok false → LacksShape R.removes (tree node.new) }
+    ensures left { IsTrue R.is_exact → LacksShape R.removes (tree node.old) → tree node.new ≡ tree node.old }
+{
+    let changed_inside = sweep_children(node, pass, walk)?;
+    let changed_here = rewrite(node, pass, walk)?;
+    Ok(changed_inside || changed_here)
+}
+
+/// Sweeps what lies inside a node.
+#[cycle(sweep)]
+fn sweep_children<R: Rewrite>(
+    node: &mut Node,
+    pass: &mut R,
+    walk: &Walk,
+) -> Result<bool, AllocError>
+    requires { IsPart (tree node.old) }
+    ensures keeps { Keeps (direction_of walk.now) (tree node.old) (tree node.new) }
+    ensures changed { TellsChange result (tree node.old) (tree node.new) }
+    ensures removed { result ≡ Ok false → LacksInside R.removes (tree node.new) }
+    ensures left { IsTrue R.is_exact → LacksInside R.removes (tree node.old) → tree node.new ≡ tree node.old }
+{
     let inside = Walk {
         skip_children: false,
         depth: walk.depth.saturating_add(1),
         in_lookbehind: walk.in_lookbehind,
         unicode: walk.unicode,
     };
-    let changed_inside = match node {
-        Node::Cat(parts) => sweep_parts(parts, pass, &inside)?,
+    match node {
+        Node::Cat(parts) => sweep_parts(parts, pass, &inside),
         Node::Alt(left, right) => {
             let changed = sweep(left, pass, &inside)?;
-            sweep(right, pass, &inside)? || changed
+            Ok(sweep(right, pass, &inside)? || changed)
         }
-        Node::CaptureGroup { contents, .. } => sweep(contents, pass, &inside)?,
+        Node::CaptureGroup { contents, .. } => sweep(contents, pass, &inside),
         Node::Empty
         | Node::Goal
         | Node::Char { .. }
         | Node::MatchAny
-        | Node::MatchAnyExceptLineTerminator => false,
-    };
-    let changed_here = rewrite(node, pass, walk)?;
-    Ok(changed_inside || changed_here)
+        | Node::MatchAnyExceptLineTerminator => Ok(false),
+    }
 }
 
+/// Sweeps the parts of a `Cat`.
 #[cycle(sweep)]
-fn sweep_parts<R: Rewrite>(parts: &mut Vec<Node>, pass: &mut R, walk: &Walk) -> Result<bool, AllocError> {
+fn sweep_parts<R: Rewrite>(
+    parts: &mut NodeList,
+    pass: &mut R,
+    walk: &Walk,
+) -> Result<bool, AllocError>
+    requires { IsPart (cat (trees parts.old.items)) }
+    ensures keeps { Keeps (direction_of walk.now) (cat (trees parts.old.items)) (cat (trees parts.new.items)) }
+    ensures changed { TellsChange result (cat (trees parts.old.items)) (cat (trees parts.new.items)) }
+    ensures removed { result ≡ Ok false → LacksInside R.removes (cat (trees parts.new.items)) }
+    ensures left { IsTrue R.is_exact → LacksInside R.removes (cat (trees parts.old.items)) → trees parts.new.items ≡ trees parts.old.items }
+{
     let mut changed = false;
-    for part in parts.iter_mut() {
-        changed = sweep(part, pass, walk)? || changed;
+    for i in 0..parts.len() {
+        changed = sweep(&mut parts[i], pass, walk)? || changed;
     }
     Ok(changed)
 }
 
 /// Applies the rewrite to one node, and does what it answers.
-fn rewrite<R: Rewrite>(node: &mut Node, pass: &mut R, walk: &Walk) -> Result<bool, AllocError> {
+fn rewrite<R: Rewrite>(node: &mut Node, pass: &mut R, walk: &Walk) -> Result<bool, AllocError>
+    requires { IsPart (tree node.old) }
+    ensures keeps { Keeps (direction_of walk.now) (tree node.old) (tree node.new) }
+    ensures changed { TellsChange result (tree node.old) (tree node.new) }
+    ensures removed { result ≡ Ok false → R.removes (tree node.new) ≡ false }
+    ensures left { IsTrue R.is_exact → R.removes (tree node.old) ≡ false → tree node.new ≡ tree node.old }
+{
     match pass.apply(node, walk)? {
         PassAction::Keep => return Ok(false),
         PassAction::Modified => {}

@@ -1,0 +1,216 @@
+-- Laws of `distinct`: what it makes of lists joined, filtered and mapped.
+use Rattle.std.proofs.Common.{◌≡◌, ◌==◌, ℕ, Bool, true, false, not, ◌&&◌, ◌||◌, cond, List, [], ◌∷◌, ◌++◌, map, Option, Some, None, refl, sym, ap, ap₂, ◌∙◌, inl, inr, eqb-true, eq-eqb}
+use Rattle.std.specs.List.{filter, flat_map}
+use Rattle.std.proofs.lemmas.Bool.{and_parts, cases_Bool, or_right, or_cases, false≢true}
+use Rattle.std.proofs.lemmas.List.Concat.{flat_map_single}
+use Rattle.std.proofs.lemmas.List.Elements.{filter-append, filter_agree}
+use Rattle.regress_tree.specs.Steps.{Span, State, same_capture, same_captures, same_state, distinct}
+
+-- `same_state` decides equality.
+
+same_capture-true : (a b : Option Span) → same_capture a b ≡ true → a ≡ b
+same_capture-true None None e = refl
+same_capture-true None (Some b) e = absurd (false≢true e)
+same_capture-true (Some a) None e = absurd (false≢true e)
+same_capture-true (Some a) (Some b) e =
+    let parts = and_parts (a.0 == b.0) (a.1 == b.1) e in
+    let from : a.0 ≡ b.0 = eqb-true _ _ parts.0 in
+    let to : a.1 ≡ b.1 = eqb-true _ _ parts.1 in
+    ap₂ (λ (x y : ℕ). Some (x, y)) from to
+
+same_capture-refl : (a : Option Span) → same_capture a a ≡ true
+same_capture-refl None = refl
+same_capture-refl (Some a) = rw (eq-eqb a.0 a.0 refl, eq-eqb a.1 a.1 refl)
+
+same_captures-true : (xs ys : List (Option Span)) → same_captures xs ys ≡ true → xs ≡ ys
+same_captures-true [] [] e = refl
+same_captures-true [] (y ∷ ys) e = absurd (false≢true e)
+same_captures-true (x ∷ xs) [] e = absurd (false≢true e)
+same_captures-true (x ∷ xs) (y ∷ ys) e =
+    let parts = and_parts (same_capture x y) (same_captures xs ys) e in
+    ap₂ ◌∷◌ (same_capture-true x y parts.0) (same_captures-true xs ys parts.1)
+
+same_captures-refl : (xs : List (Option Span)) → same_captures xs xs ≡ true
+same_captures-refl [] = refl
+same_captures-refl (x ∷ xs) = rw (same_capture-refl x, same_captures-refl xs)
+
+pub same_state-true : (s t : State) → same_state s t ≡ true → s ≡ t
+unfolding same_state
+same_state-true s t e =
+    let parts = and_parts (s.place == t.place) (same_captures s.captures t.captures) e in
+    let place : s.place ≡ t.place = eqb-true _ _ parts.0 in
+    let captures : s.captures ≡ t.captures = same_captures-true _ _ parts.1 in
+    ap₂ (λ (p : ℕ) (cs : List (Option Span)). record { place = p; captures = cs }) place captures
+
+pub same_state-refl : (s : State) → same_state s s ≡ true
+unfolding same_state
+same_state-refl s = rw (eq-eqb s.place s.place refl, same_captures-refl s.captures)
+
+-- Filters.
+
+filter-swap : {X : Type 0} (p q : X → Bool) (l : List X) → filter p (filter q l) ≡ filter q (filter p l)
+filter-swap p q [] = refl
+filter-swap p q (x ∷ l) =
+    let ih = filter-swap p q l in
+    elim (cases_Bool (p x)) [
+      | inl pt ↦ elim (cases_Bool (q x)) [ inl qt ↦ simp (pt, qt) (ap (λ r. x ∷ r) ih) | inr qf ↦ simp (pt, qf) ih ]
+      | inr pf ↦ elim (cases_Bool (q x)) [ inl qt ↦ simp (pf, qt) ih | inr qf ↦ simp (pf, qf) ih ]
+    ]
+
+-- what passes p passes q
+filter-absorb : {X : Type 0} (p q : X → Bool) (implies : (x : X) → p x ≡ true → q x ≡ true) (l : List X) → filter p (filter q l) ≡ filter p l
+filter-absorb p q implies [] = refl
+filter-absorb p q implies (x ∷ l) =
+    let ih = filter-absorb p q implies l in
+    elim (cases_Bool (p x)) [
+      | inl pt ↦ let qt = implies x pt in simp (pt, qt) (ap (λ r. x ∷ r) ih)
+      | inr pf ↦ elim (cases_Bool (q x)) [ inl qt ↦ simp (pf, qt) ih | inr qf ↦ simp (pf, qf) ih ]
+    ]
+
+filter-filter : {X : Type 0} (p q : X → Bool) (l : List X) → filter p (filter q l) ≡ filter (λ x. q x && p x) l
+filter-filter p q [] = refl
+filter-filter p q (x ∷ l) =
+    let ih = filter-filter p q l in
+    elim (cases_Bool (q x)) [
+      | inl qt ↦ elim (cases_Bool (p x)) [ inl pt ↦ simp (pt, qt) (ap (λ r. x ∷ r) ih) | inr pf ↦ simp (pf, qt) ih ]
+      | inr qf ↦ simp qf ih
+    ]
+
+-- the list without the state
+abbrev except : State → List State → List State
+except s l = filter (λ t. not (same_state s t)) l
+
+-- a test that the state fails passes no state equal to it
+except-absorb : (p : State → Bool) (s : State) → p s ≡ false → (l : List State) → filter p (except s l) ≡ filter p l
+except-absorb p s fails =
+    filter-absorb p (λ t. not (same_state s t)) (λ t passes. elim (cases_Bool (same_state s t)) [
+      | inl same ↦ absurd (false≢true (sym fails ∙ ap p (same_state-true s t same) ∙ passes))
+      | inr other ↦ simp other
+    ])
+
+pub distinct-filter : (p : State → Bool) (l : List State) → distinct (filter p l) ≡ filter p (distinct l)
+distinct-filter p [] = refl
+distinct-filter p (s ∷ l) =
+    let ih = distinct-filter p l in
+    elim (cases_Bool (p s)) [
+      | inl pt ↦ simp pt (ap (λ r. s ∷ except s r) ih ∙ ap (λ r. s ∷ r) (filter-swap _ p (distinct l)))
+      | inr pf ↦ simp pf (ih ∙ sym (except-absorb p s pf (distinct l)))
+    ]
+
+-- Lists joined.
+
+-- the state is in the list
+abbrev among : State → List State → Bool
+among t [] = false
+among t (s ∷ l) = same_state s t || among t l
+
+-- the second list without what is in the first
+abbrev without : List State → List State → List State
+without xs l = filter (λ t. not (among t xs)) l
+
+not-or : (a b : Bool) → (not a && not b) ≡ not (a || b)
+not-or true b = refl
+not-or false b = refl
+
+filter_true : {X : Type 0} (l : List X) → filter (λ _. true) l ≡ l
+filter_true [] = refl
+filter_true (x ∷ l) = ap (λ r. x ∷ r) (filter_true l)
+
+-- what is new comes behind what was there
+distinct-append : (xs ys : List State) → distinct (xs ++ ys) ≡ distinct xs ++ without xs (distinct ys)
+distinct-append [] ys = sym (filter_true (distinct ys))
+distinct-append (s ∷ xs) ys =
+    let ih = distinct-append xs ys in
+    let later : except s (without xs (distinct ys)) ≡ without (s ∷ xs) (distinct ys) =
+    filter-swap _ _ (distinct ys) ∙ filter-filter _ _ (distinct ys) ∙ filter_agree _ _ (λ t. not-or (same_state s t) (among t xs)) (distinct ys) in
+    ap (λ r. s ∷ except s r) ih ∙ ap (λ r. s ∷ r) (filter-append _ (distinct xs) (without xs (distinct ys)) ∙ ap (λ r. except s (distinct xs) ++ r) later)
+
+among-distinct : (t : State) (l : List State) → among t (distinct l) ≡ among t l
+among-distinct t [] = refl
+among-distinct t (s ∷ l) =
+    let ih = among-distinct t l in
+    elim (cases_Bool (same_state s t)) [
+      | inl same ↦ simp same
+      | inr other ↦ simp other (among-except s t other (distinct l) ∙ ih)
+    ]
+  where
+    among-except : (s t : State) → same_state s t ≡ false → (l : List State) → among t (except s l) ≡ among t l
+    among-except s t other [] = refl
+    among-except s t other (x ∷ l) =
+        let ih = among-except s t other l in
+        elim (cases_Bool (same_state s x)) [
+          | inl same ↦
+              let moved : same_state x t ≡ false = ap (λ y. same_state y t) (sym (same_state-true s x same)) ∙ other in
+              simp (same, moved) ih
+          | inr differs ↦ simp differs (ap (λ b. same_state x t || b) ih)
+        ]
+
+-- `without` asks only which states there are
+without-distinct : (xs l : List State) → without (distinct xs) l ≡ without xs l
+without-distinct xs l = filter_agree _ _ (λ t. ap not (among-distinct t xs)) l
+
+without-alike : (xs ys l : List State) → distinct xs ≡ distinct ys → without xs l ≡ without ys l
+without-alike xs ys l e = sym (without-distinct xs l) ∙ ap (λ zs. without zs l) e ∙ without-distinct ys l
+
+pub distinct-append-alike : (xs xs' ys ys' : List State) → distinct xs ≡ distinct xs' → distinct ys ≡ distinct ys' → distinct (xs ++ ys) ≡ distinct (xs' ++ ys')
+distinct-append-alike xs xs' ys ys' first second =
+    distinct-append xs ys ∙ ap₂ ◌++◌ first (ap (without xs) second ∙ without-alike xs xs' (distinct ys') first) ∙ sym (distinct-append xs' ys')
+
+-- nothing is left of a list without what is in another that covers it
+without-covered : (xs l : List State) → ((t : State) → among t l ≡ true → among t xs ≡ true) → without xs l ≡ []
+without-covered xs [] covers = refl
+without-covered xs (s ∷ l) covers =
+    let here : among s xs ≡ true = covers s (ap (λ b. b || among s l) (same_state-refl s)) in
+    simp here (without-covered xs l (λ t e. covers t (or_right (same_state s t) (among t l) e)))
+
+without-itself : (xs : List State) → without xs (distinct xs) ≡ []
+without-itself xs = sym (distinct-filter _ xs) ∙ ap distinct (without-covered xs xs (λ t e. e))
+
+without-swap : (xs ys l : List State) → without xs (without ys l) ≡ without ys (without xs l)
+without-swap xs ys l = filter-swap _ _ l
+
+without-without : (xs l : List State) → without xs (without xs l) ≡ without xs l
+without-without xs l = filter-absorb _ _ (λ t e. e) l
+
+-- Lists of lists.
+
+module _ (f : State → List State) where
+  without-flat_map : (zs : List State) (t : State) (l : List State) →
+      without zs (distinct (flat_map f (t ∷ l))) ≡ without zs (distinct (f t)) ++ without zs (without (f t) (distinct (flat_map f l)))
+  without-flat_map zs t l = ap (without zs) (distinct-append (f t) (flat_map f l)) ∙ filter-append _ (distinct (f t)) _
+
+  -- what a state gives once it gives no more a second time
+  flat_map-except : (s : State) (l : List State) → without (f s) (distinct (flat_map f l)) ≡ without (f s) (distinct (flat_map f (except s l)))
+  flat_map-except s [] = refl
+  flat_map-except s (t ∷ l) =
+      let ih = flat_map-except s l in
+      elim (cases_Bool (same_state s t)) [
+        | inl same ↦
+            let nothing : without (f s) (distinct (f t)) ≡ [] = ap (λ x. without (f s) (distinct (f x))) (sym (same_state-true s t same)) ∙ without-itself (f s) in
+            let once : without (f s) (without (f t) (distinct (flat_map f l))) ≡ without (f s) (distinct (flat_map f l)) =
+            ap (λ x. without (f s) (without (f x) (distinct (flat_map f l)))) (sym (same_state-true s t same)) ∙ without-without (f s) _ in
+            simp same (without-flat_map (f s) t l ∙ ap₂ ◌++◌ nothing once ∙ ih)
+        | inr other ↦
+            let later : without (f s) (without (f t) (distinct (flat_map f l))) ≡ without (f s) (without (f t) (distinct (flat_map f (except s l)))) =
+            without-swap (f s) (f t) _ ∙ ap (without (f t)) ih ∙ without-swap (f t) (f s) _ in
+            simp other (without-flat_map (f s) t l ∙ ap (λ r. without (f s) (distinct (f t)) ++ r) later ∙ sym (without-flat_map (f s) t (except s l)))
+      ]
+
+  distinct-flat_map : (l : List State) → distinct (flat_map f l) ≡ distinct (flat_map f (distinct l))
+  distinct-flat_map [] = refl
+  distinct-flat_map (s ∷ l) =
+      distinct-append (f s) (flat_map f l) ∙ ap (λ r. distinct (f s) ++ r) (ap (without (f s)) (distinct-flat_map l) ∙ flat_map-except s (distinct l))
+      ∙ sym (distinct-append (f s) (flat_map f (except s (distinct l))))
+
+distinct-flat_map-each : (f g : State → List State) → ((s : State) → distinct (f s) ≡ distinct (g s)) → (l : List State) → distinct (flat_map f l) ≡ distinct (flat_map g l)
+distinct-flat_map-each f g each [] = refl
+distinct-flat_map-each f g each (s ∷ l) =
+    distinct-append-alike (f s) (g s) (flat_map f l) (flat_map g l) (each s) (distinct-flat_map-each f g each l)
+
+pub distinct-flat_map-alike : (f g : State → List State) (xs ys : List State) → ((s : State) → distinct (f s) ≡ distinct (g s)) → distinct xs ≡ distinct ys → distinct (flat_map f xs) ≡ distinct (flat_map g ys)
+distinct-flat_map-alike f g xs ys each same =
+    distinct-flat_map-each f g each xs ∙ distinct-flat_map g xs ∙ ap (λ l. distinct (flat_map g l)) same ∙ sym (distinct-flat_map g ys)
+
+pub distinct-map-alike : (g : State → State) (xs ys : List State) → distinct xs ≡ distinct ys → distinct (map g xs) ≡ distinct (map g ys)
+distinct-map-alike g xs ys same =
+    ap distinct (sym (flat_map_single g xs)) ∙ distinct-flat_map-alike (λ s. g s ∷ []) (λ s. g s ∷ []) xs ys (λ s. refl) same ∙ ap distinct (flat_map_single g ys)
