@@ -1,4 +1,5 @@
 //! The run of the program, on any writers.
+ghost use Rattle.std.specs.Prelude.{◌≤◌, All, IfOk};
 
 use crate::arguments::{Request, read_request};
 use regress_front::optimizer::parse_and_optimize;
@@ -49,7 +50,12 @@ impl From<ParseFault> for Failure {
 /// - 4: `out` can't be written.
 ///
 /// A failing write to `err` changes no status.
-pub fn run_front<W: Write, E: Write>(alloc: Global, args: &[String], out: &mut W, err: &mut E) -> u8 {
+pub fn run_front<W: Write, E: Write>(
+    alloc: Global,
+    args: &[String],
+    out: &mut W,
+    err: &mut E,
+) -> u8 {
     match print_trees(alloc, args, out) {
         Ok(()) => 0,
         Err(failure) => tell(failure, err),
@@ -92,7 +98,9 @@ fn print_trees<W: Write>(alloc: Global, args: &[String], out: &mut W) -> Result<
 }
 
 /// The characters of a pattern, as the parser reads them.
-fn code_points(alloc: Global, pattern: &str) -> Result<Vec<u32>, AllocError> {
+fn code_points(alloc: Global, pattern: &str) -> Result<Vec<u32>, AllocError>
+    ensures { IfOk result (λ points. All (λ c. c ≤ 0x10_FFFF) points.items) }
+{
     let mut points = Vec::new(alloc);
     for c in pattern.chars() {
         points.push(u32::from(c))?;

@@ -75,7 +75,12 @@ fn each_status_comes_with_its_output(rt: HostRuntime) -> Result<(), Fail> {
     let rows: [(&[&str], u8, &str, &str); 14] = [
         (&[FIRST_PATTERN], 0, FIRST_OUTPUT, ""),
         (&[".", "s"], 0, any, ""),
-        (&["", ""], 0, "Cat\n..Empty\n..Goal\n--\nCat\n..Empty\n..Goal\n", ""),
+        (
+            &["", ""],
+            0,
+            "Cat\n..Empty\n..Goal\n--\nCat\n..Empty\n..Goal\n",
+            "",
+        ),
         (&["a)"], 1, "", "error: Unbalanced parenthesis\n"),
         (&["a*"], 1, "", UNSUPPORTED),
         (&["a", "i"], 1, "", UNSUPPORTED),
@@ -92,7 +97,11 @@ fn each_status_comes_with_its_output(rt: HostRuntime) -> Result<(), Fail> {
         let args = strings(alloc, words)?;
         let mut written = blank(alloc, usize::MAX);
         let mut told = blank(alloc, usize::MAX);
-        assert_eq!(rt; run_front(alloc, &args, &mut written, &mut told), status, "{words:?}");
+        assert_eq!(rt;
+            run_front(alloc, &args, &mut written, &mut told),
+            status,
+            "{words:?}"
+        );
         assert_eq!(rt; written.text.as_slice(), out.as_bytes(), "{words:?}");
         assert_eq!(rt; told.text.as_slice(), err.as_bytes(), "{words:?}");
     }
@@ -115,7 +124,10 @@ fn a_refused_write_to_the_output_ends_with_status_4(rt: HostRuntime) -> Result<(
             break;
         }
         assert_eq!(rt; status, 4, "at write {writes}");
-        assert!(rt; FIRST_OUTPUT.as_bytes().starts_with(written.text.as_slice()), "at write {writes}");
+        assert!(rt;
+            FIRST_OUTPUT.as_bytes().starts_with(written.text.as_slice()),
+            "at write {writes}"
+        );
     }
     assert!(rt; full);
     Ok(())
@@ -126,8 +138,14 @@ fn a_refused_write_of_the_error_changes_no_status(rt: HostRuntime) -> Result<(),
     let alloc = rt.alloc();
     let mut written = blank(alloc, usize::MAX);
     let fault = strings(alloc, &["a)"])?;
-    assert_eq!(rt; run_front(alloc, &fault, &mut written, &mut blank(alloc, 0)), 1);
-    assert_eq!(rt; run_front(alloc, &[], &mut written, &mut blank(alloc, 0)), 2);
+    assert_eq!(rt;
+        run_front(alloc, &fault, &mut written, &mut blank(alloc, 0)),
+        1
+    );
+    assert_eq!(rt;
+        run_front(alloc, &[], &mut written, &mut blank(alloc, 0)),
+        2
+    );
     assert!(rt; written.text.is_empty());
     Ok(())
 }
