@@ -110,22 +110,22 @@ module _ (ctx : Context) where
         done = all;
         last = ts;
         reads = reads_on depth t0 t n0 n before final h more
-          ∙ ap (λ found. found >>= behind_all all) (pattern_at-is ctx (drop 1 t) ∙ ap (λ found. found >>= others_of ctx) found);
+            ∙ ap (λ found. found >>= behind_all all) (pattern_at-is ctx (drop 1 t) ∙ ap (λ found. found >>= others_of ctx) found);
         nodes = λ p.
-          let place : n0 + groups_of_all all ≡ (n0 + groups_of_all h.done) + groups_of_terms h.last = omega (arith, groups_of_all-push h.done h.last) in
-          ap (λ k. alternatives (map tree (before ++ final ∷ [])) (tree_of_pattern forwards k p)) place
-          ∙ alternatives-push before final (tree_of_pattern forwards ((n0 + groups_of_all h.done) + groups_of_terms h.last) p)
-          ∙ ap (λ u. alternatives (map tree before) (alt u (tree_of_pattern forwards ((n0 + groups_of_all h.done) + groups_of_terms h.last) p))) h.node
-          ∙ h.nodes (either h.last p)
-          ∙ ap (tree_of_pattern forwards n0) (sym (eithers-push h.done h.last p));
+            let place : n0 + groups_of_all all ≡ (n0 + groups_of_all h.done) + groups_of_terms h.last = omega (arith, groups_of_all-push h.done h.last) in
+            ap (λ k. alternatives (map tree (before ++ final ∷ [])) (tree_of_pattern forwards k p)) place
+            ∙ alternatives-push before final (tree_of_pattern forwards ((n0 + groups_of_all h.done) + groups_of_terms h.last) p)
+            ∙ ap (λ u. alternatives (map tree before) (alt u (tree_of_pattern forwards ((n0 + groups_of_all h.done) + groups_of_terms h.last) p))) h.node
+            ∙ h.nodes (either h.last p)
+            ∙ ap (tree_of_pattern forwards n0) (sym (eithers-push h.done h.last p));
         node = built ∙ ap (λ k. joined (trees_of_terms forwards k ts)) here;
         counts = omega (arith, counts, here, whole);
         fits = record {
           groups = omega (arith, fits.groups, here, whole);
           levels =
-            let last : levels (eithers h.done (one h.last)) + depth ≤ MAX_NESTING_DEPTH = omega (arith, h.fits.levels) in
-            let both = levels-eithers h.done h.last (one ts) (MAX_NESTING_DEPTH - depth) (omega (arith, last)) (omega (arith, fits.levels)) in
-            omega (arith, ap levels (eithers-push h.done h.last (one ts)), both, fits.levels);
+              let last : levels (eithers h.done (one h.last)) + depth ≤ MAX_NESTING_DEPTH = omega (arith, h.fits.levels) in
+              let both = levels-eithers h.done h.last (one ts) (MAX_NESTING_DEPTH - depth) (omega (arith, last)) (omega (arith, fits.levels)) in
+              omega (arith, ap levels (eithers-push h.done h.last (one ts)), both, fits.levels);
         };
         shorter = omega (arith, h.shorter, terms_at-shortens ctx (drop 1 t) (ts, rest) found, length-drop 1 t);
       }
@@ -147,14 +147,14 @@ module _ (ctx : Context) where
       (groups_of_terms ts ≤ groups x.0) × (1 + levels_of_terms ts ≤ levels x.0)
   first_terms ts mid x e =
       ⊎_elim
-          (λ (more : (is_at bar mid ≡ true) × (_ ≡ Some x)).
-          let others = found_then (pattern_at ctx (drop 1 mid)) _ x more.1 in
-          let same = ap (λ (z : Pattern × Source). z.0) (same_Some (either ts others.0.0, others.0.1) x others.2) in
-          (omega (arith, ap groups same), omega (arith, ap levels same)))
-          (λ (none : (is_at bar mid ≡ false) × (_ ≡ Some x)).
-          let same = ap (λ (z : Pattern × Source). z.0) (same_Some (one ts, mid) x none.1) in
-          (omega (arith, ap groups same), omega (arith, ap levels same)))
-          (chosen (is_at bar mid) _ _ _ e)
+      (λ (more : (is_at bar mid ≡ true) × (_ ≡ Some x)).
+      let others = found_then (pattern_at ctx (drop 1 mid)) _ x more.1 in
+      let same = ap (λ (z : Pattern × Source). z.0) (same_Some (either ts others.0.0, others.0.1) x others.2) in
+      (omega (arith, ap groups same), omega (arith, ap levels same)))
+      (λ (none : (is_at bar mid ≡ false) × (_ ≡ Some x)).
+      let same = ap (λ (z : Pattern × Source). z.0) (same_Some (one ts, mid) x none.1) in
+      (omega (arith, ap groups same), omega (arith, ap levels same)))
+      (chosen (is_at bar mid) _ _ _ e)
 
   -- a first alternative that is none, or too much, is so for the pattern
   pub first-fail : (depth : ℕ) (t : Source) (n : ℕ) → IfSome (terms_at ctx t) (λ x. Fits n (depth + 1) (terms_part x.0) → ⊥) →
@@ -164,7 +164,7 @@ module _ (ctx : Context) where
       let first = found_then (terms_at ctx t) (others_of ctx) x (sym (pattern_at-is ctx t) ∙ found) in
       let less = first_terms first.0.0 first.0.1 x first.2 in
       to_each (terms_at ctx t) _ refused first.0 first.1
-          (record { groups = omega (arith, fits.groups, less.0); levels = omega (arith, fits.levels, less.1) }))
+      (record { groups = omega (arith, fits.groups, less.0); levels = omega (arith, fits.levels, less.1) }))
 
   -- so is a later one
   pub alternatives-fail : (depth : ℕ) (t0 t : Source) (n0 n : ℕ) (before : List Node) (final : Node) → AlternativesSoFar depth t0 t n0 n before final →
@@ -177,7 +177,7 @@ module _ (ctx : Context) where
       let rest = found_then (pattern_at ctx (drop 1 t)) (behind_all all) x (sym (reads_on depth t0 t n0 n before final h more) ∙ found) in
       let same = ap (λ (z : Pattern × Source). z.0) (same_Some (eithers all rest.0.0, rest.0.1) x rest.2) in
       to_each (pattern_at ctx (drop 1 t)) _ (first-fail depth (drop 1 t) n refused) rest.0 rest.1
-          (record {
-            groups = omega (arith, fits.groups, here, ap groups same, groups-eithers all rest.0.0);
-            levels = omega (arith, fits.levels, ap levels same, levels-inside all rest.0.0);
-          }))
+      (record {
+        groups = omega (arith, fits.groups, here, ap groups same, groups-eithers all rest.0.0);
+        levels = omega (arith, fits.levels, ap levels same, levels-inside all rest.0.0);
+      }))

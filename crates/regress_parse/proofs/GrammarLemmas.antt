@@ -31,8 +31,8 @@ at_question_colon (c ∷ t) e f = ap (λ d. d ∷ t) (eqb-true c question_mark e
 pub plain_is_not : (c d : ℕ) → is_plain c ≡ true → is_plain d ≡ false → (c == d) ≡ false
 plain_is_not c d plain special =
     elim (c == d) as (λ b. (c == d) ≡ b → b ≡ false)
-        [ true ↦ λ e. absurd (let same = eqb-true c d e in let here : is_plain d ≡ true = subst (λ x. is_plain x ≡ true) same plain in cc) | false ↦ λ e. refl ]
-        refl
+    [ true ↦ λ e. absurd (let same = eqb-true c d e in let here : is_plain d ≡ true = subst (λ x. is_plain x ≡ true) same plain in cc) | false ↦ λ e. refl ]
+    refl
 
 module _ (ctx : Context) where
   -- what the function reads is in the relation
@@ -47,53 +47,54 @@ module _ (ctx : Context) where
   group-sound : (inner : Source → Found Pattern) → IsSound inner → (t : Source) (y : Term × Source) → group_by inner t ≡ Some y → IsTerm ctx y.0 (opening ∷ t) y.1
   group-sound inner h t y e =
       ⊎_elim
-          (λ (named : (is_at question_mark t ≡ true) × (cond (is_at colon (drop 1 t)) (inner (drop 1 (drop 1 t)) >>= closed grouping) None ≡ Some y)).
-          ⊎_elim
-              (λ (plain : (is_at colon (drop 1 t) ≡ true) × (inner (drop 1 (drop 1 t)) >>= closed grouping ≡ Some y)).
-              let found = found_then (inner (drop 1 (drop 1 t))) (closed grouping) y plain.1 in
-              let parts = closed-sound grouping found.0 y found.2 in
-              let body = subst (λ rest. IsPattern ctx found.0.0 (drop 1 (drop 1 t)) rest) parts.1 (h (drop 1 (drop 1 t)) found.0 found.1) in
-              let front = ap (λ u. opening ∷ u) (at_question_colon t named.0 plain.0) in
-              subst (λ x. IsTerm ctx x (opening ∷ t) y.1) parts.0 (drop 1 (drop 1 t), front, body))
-              (λ (other : (is_at colon (drop 1 t) ≡ false) × (None ≡ Some y)). absurd (none-some y other.1))
-              (chosen (is_at colon (drop 1 t)) _ _ _ named.1))
-          (λ (capturing : (is_at question_mark t ≡ false) × (inner t >>= closed (capture None) ≡ Some y)).
-          let found = found_then (inner t) (closed (capture None)) y capturing.1 in
-          let parts = closed-sound (capture None) found.0 y found.2 in
-          let body = subst (λ rest. IsPattern ctx found.0.0 t rest) parts.1 (h t found.0 found.1) in
-          subst (λ x. IsTerm ctx x (opening ∷ t) y.1) parts.0 (t, refl, capturing.0, body))
-          (chosen (is_at question_mark t) _ _ _ e)
+      (λ (named : (is_at question_mark t ≡ true) × (cond (is_at colon (drop 1 t)) (inner (drop 1 (drop 1 t)) >>= closed grouping) None ≡ Some y)).
+      ⊎_elim
+      (λ (plain : (is_at colon (drop 1 t) ≡ true) × (inner (drop 1 (drop 1 t)) >>= closed grouping ≡ Some y)).
+      let found = found_then (inner (drop 1 (drop 1 t))) (closed grouping) y plain.1 in
+      let parts = closed-sound grouping found.0 y found.2 in
+      let body = subst (λ rest. IsPattern ctx found.0.0 (drop 1 (drop 1 t)) rest) parts.1 (h (drop 1 (drop 1 t)) found.0 found.1) in
+      let front = ap (λ u. opening ∷ u) (at_question_colon t named.0 plain.0) in
+      subst (λ x. IsTerm ctx x (opening ∷ t) y.1) parts.0 (drop 1 (drop 1 t), front, body))
+      (λ (other : (is_at colon (drop 1 t) ≡ false) × (None ≡ Some y)). absurd (none-some y other.1))
+      (chosen (is_at colon (drop 1 t)) _ _ _ named.1))
+      (λ (capturing : (is_at question_mark t ≡ false) × (inner t >>= closed (capture None) ≡ Some y)).
+      let found = found_then (inner t) (closed (capture None)) y capturing.1 in
+      let parts = closed-sound (capture None) found.0 y found.2 in
+      let body = subst (λ rest. IsPattern ctx found.0.0 t rest) parts.1 (h t found.0 found.1) in
+      subst (λ x. IsTerm ctx x (opening ∷ t) y.1) parts.0 (t, refl, capturing.0, body))
+      (chosen (is_at question_mark t) _ _ _ e)
 
   term_of-sound : (inner : Source → Found Pattern) → IsSound inner → (t : Source) (y : Term × Source) → term_of ctx inner t ≡ Some y → IsTerm ctx y.0 t y.1
   term_of-sound inner h [] y e = absurd (none-some y e)
   term_of-sound inner h (c ∷ t) y e =
       ⊎_elim
-          (λ (is_dot : (c == full_stop ≡ true) × (Some (dot ctx.flags, t) ≡ Some y)).
-          subst (λ (x : Term × Source). IsTerm ctx x.0 (c ∷ t) x.1) (same_Some _ _ is_dot.1) (refl, ap (λ d. d ∷ t) (eqb-true c full_stop is_dot.0)))
-          (λ (no_dot : (c == full_stop ≡ false) × (cond (c == opening) (group_by inner t) (cond (is_plain c) (Some (literal ctx.flags c, t)) None) ≡ Some y)).
-          ⊎_elim
-              (λ (opens : (c == opening ≡ true) × (group_by inner t ≡ Some y)).
-              subst (λ d. IsTerm ctx y.0 (d ∷ t) y.1) (sym (eqb-true c opening opens.0)) (group-sound inner h t y opens.1))
-              (λ (other : (c == opening ≡ false) × (cond (is_plain c) (Some (literal ctx.flags c, t)) None ≡ Some y)).
-              let plain = cond_some (is_plain c) (literal ctx.flags c, t) y other.1 in
-              subst (λ (x : Term × Source). IsTerm ctx x.0 (c ∷ t) x.1) plain.1 (refl, plain.0, refl))
-              (chosen (c == opening) _ _ _ no_dot.1))
-          (chosen (c == full_stop) _ _ _ e)
+      (λ (is_dot : (c == full_stop ≡ true) × (Some (dot ctx.flags, t) ≡ Some y)).
+      subst (λ (x : Term × Source). IsTerm ctx x.0 (c ∷ t) x.1) (same_Some _ _ is_dot.1) (refl, ap (λ d. d ∷ t) (eqb-true c full_stop is_dot.0)))
+      (λ (no_dot : (c == full_stop ≡ false) × (cond (c == opening) (group_by inner t) (cond (is_plain c) (Some (literal ctx.flags c, t)) None) ≡ Some y)).
+      ⊎_elim
+      (λ (opens : (c == opening ≡ true) × (group_by inner t ≡ Some y)).
+      subst (λ d. IsTerm ctx y.0 (d ∷ t) y.1) (sym (eqb-true c opening opens.0)) (group-sound inner h t y opens.1))
+      (λ (other : (c == opening ≡ false) × (cond (is_plain c) (Some (literal ctx.flags c, t)) None ≡ Some y)).
+      let plain = cond_some (is_plain c) (literal ctx.flags c, t) y other.1 in
+      subst (λ (x : Term × Source). IsTerm ctx x.0 (c ∷ t) x.1) plain.1 (refl, plain.0, refl))
+      (chosen (c == opening) _ _ _ no_dot.1))
+      (chosen (c == full_stop) _ _ _ e)
 
   mutual
     unfolding read_terms
+
     read_terms-sound : (n : ℕ) (t : Source) (y : Terms × Source) → read_terms ctx n t ≡ Some y → AreTerms ctx y.0 t y.1
     read_terms-sound zero t y e = absurd (none-some y e)
     read_terms-sound (suc n) t y e =
         ⊎_elim
-            (λ (ends : (ends_alternative t ≡ true) × (Some (no_terms, t) ≡ Some y)).
-            subst (λ (z : Terms × Source). AreTerms ctx z.0 t z.1) (same_Some (no_terms, t) y ends.1) (ends.0, refl))
-            (λ (goes_on : (ends_alternative t ≡ false) × (_ ≡ Some y)).
-            let first = found_then (term_of ctx (read_pattern ctx n) t) _ y goes_on.1 in
-            let others = found_then (read_terms ctx n first.0.1) _ y first.2 in
-            subst (λ (z : Terms × Source). AreTerms ctx z.0 t z.1) (same_Some (more_terms first.0.0 others.0.0, others.0.1) y others.2)
-            (first.0.1, term_of-sound (read_pattern ctx n) (read_pattern-sound n) t first.0 first.1, read_terms-sound n first.0.1 others.0 others.1))
-            (chosen (ends_alternative t) _ _ _ e)
+        (λ (ends : (ends_alternative t ≡ true) × (Some (no_terms, t) ≡ Some y)).
+        subst (λ (z : Terms × Source). AreTerms ctx z.0 t z.1) (same_Some (no_terms, t) y ends.1) (ends.0, refl))
+        (λ (goes_on : (ends_alternative t ≡ false) × (_ ≡ Some y)).
+        let first = found_then (term_of ctx (read_pattern ctx n) t) _ y goes_on.1 in
+        let others = found_then (read_terms ctx n first.0.1) _ y first.2 in
+        subst (λ (z : Terms × Source). AreTerms ctx z.0 t z.1) (same_Some (more_terms first.0.0 others.0.0, others.0.1) y others.2)
+        (first.0.1, term_of-sound (read_pattern ctx n) (read_pattern-sound n) t first.0 first.1, read_terms-sound n first.0.1 others.0 others.1))
+        (chosen (ends_alternative t) _ _ _ e)
 
     read_pattern-sound : (n : ℕ) → IsSound (read_pattern ctx n)
     read_pattern-sound zero t y e = absurd (none-some y e)
@@ -101,13 +102,13 @@ module _ (ctx : Context) where
         let first = found_then (read_terms ctx n t) _ y e in
         let terms = read_terms-sound n t first.0 first.1 in
         ⊎_elim
-            (λ (more : (is_at bar first.0.1 ≡ true) × (_ ≡ Some y)).
-            let others = found_then (read_pattern ctx n (drop 1 first.0.1)) _ y more.1 in
-            subst (λ (z : Pattern × Source). IsPattern ctx z.0 t z.1) (same_Some (either first.0.0 others.0.0, others.0.1) y others.2)
-            (drop 1 first.0.1, subst (λ u. AreTerms ctx first.0.0 t u) (at_bar first.0.1 more.0) terms, read_pattern-sound n (drop 1 first.0.1) others.0 others.1))
-            (λ (last : (is_at bar first.0.1 ≡ false) × (_ ≡ Some y)).
-            subst (λ (z : Pattern × Source). IsPattern ctx z.0 t z.1) (same_Some (one first.0.0, first.0.1) y last.1) (terms, last.0))
-            (chosen (is_at bar first.0.1) _ _ _ first.2)
+        (λ (more : (is_at bar first.0.1 ≡ true) × (_ ≡ Some y)).
+        let others = found_then (read_pattern ctx n (drop 1 first.0.1)) _ y more.1 in
+        subst (λ (z : Pattern × Source). IsPattern ctx z.0 t z.1) (same_Some (either first.0.0 others.0.0, others.0.1) y others.2)
+        (drop 1 first.0.1, subst (λ u. AreTerms ctx first.0.0 t u) (at_bar first.0.1 more.0) terms, read_pattern-sound n (drop 1 first.0.1) others.0 others.1))
+        (λ (last : (is_at bar first.0.1 ≡ false) × (_ ≡ Some y)).
+        subst (λ (z : Pattern × Source). IsPattern ctx z.0 t z.1) (same_Some (one first.0.0, first.0.1) y last.1) (terms, last.0))
+        (chosen (is_at bar first.0.1) _ _ _ first.2)
 
   pub pattern_at-sound : IsSound (pattern_at ctx)
   unfolding pattern_at

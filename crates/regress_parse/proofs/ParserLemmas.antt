@@ -26,12 +26,12 @@ one_more_alternative depth old here mid new before final node h same at_bar past
     let x = found.0 in
     let flags = moves.flags ∙ same in
     let terms : terms_at (context old.flags) (drop 1 (text here)) ≡ Some x =
-        subst (λ u. terms_at (context old.flags) u ≡ Some x) past (subst (λ f. terms_at (context f) (text mid) ≡ Some x) flags found.1) in
+    subst (λ u. terms_at (context old.flags) u ≡ Some x) past (subst (λ f. terms_at (context f) (text mid) ≡ Some x) flags found.1) in
     let step = alternatives-step (context old.flags) depth (text old) (text here) old.group_count here.group_count before final node x.0 x.1 new.group_count
-        h at_bar terms
-        (b.node ∙ ap (λ k. joined (trees_of_terms forwards k x.0)) moves.counts)
-        (b.counts ∙ ap (λ k. k + groups_of_terms x.0) moves.counts)
-        (subst (λ k. Fits k (depth + 1) (terms_part x.0)) moves.counts b.fits) in
+    h at_bar terms
+    (b.node ∙ ap (λ k. joined (trees_of_terms forwards k x.0)) moves.counts)
+    (b.counts ∙ ap (λ k. k + groups_of_terms x.0) moves.counts)
+    (subst (λ k. Fits k (depth + 1) (terms_part x.0)) moves.counts b.fits) in
     (subst (λ u. AlternativesSoFar (context old.flags) depth (text old) u old.group_count new.group_count (before ++ final ∷ []) node) (sym b.rest) step, b.flags ∙ flags)
 
 -- what a call builds behind code points that were moved over
@@ -50,12 +50,12 @@ pub yields_behind : {A : Type 0} (part : A → Part) (depth : ℕ) (old mid new 
 yields_behind part depth old mid new (Ok node) found other moves same h =
     let x = some_and found (λ x. Builds mid new depth node (part x.0) x.1) h in
     subst (λ o. IsSomeAnd o (λ x. Builds old new depth node (part x.0) x.1)) (sym x.1 ∙ same)
-        (builds_behind old mid new depth node (part x.0.0) x.0.1 moves x.2)
+    (builds_behind old mid new depth node (part x.0.0) x.0.1 moves x.2)
 yields_behind part depth old mid new (Err fault) found other moves same h =
     on_syntax_then fault
-        (λ refused. subst (λ k. IfSome other (λ x. Fits k depth (part x.0) → ⊥)) moves.counts
-            (subst (λ o. IfSome o (λ x. Fits mid.group_count depth (part x.0) → ⊥)) same refused))
-        h
+    (λ refused. subst (λ k. IfSome other (λ x. Fits k depth (part x.0) → ⊥)) moves.counts
+    (subst (λ o. IfSome o (λ x. Fits mid.group_count depth (part x.0) → ⊥)) same refused))
+    h
 
 -- a term takes a code point at least
 pub term_progress : (depth : ℕ) (old new : Parser) (r : Result Node ParseFault) →

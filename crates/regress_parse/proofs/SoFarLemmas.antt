@@ -58,7 +58,7 @@ trees-append n (more_terms x xs) ys =
     ap (more_trees (tree_of_term forwards n x))
     (trees-append (n + groups_of_term x) xs ys
     ∙ ap (λ m. append_row (trees_of_terms forwards (n + groups_of_term x) xs) (trees_of_terms forwards m ys))
-        (add_assoc n (groups_of_term x) (groups_of_terms xs)))
+    (add_assoc n (groups_of_term x) (groups_of_terms xs)))
 
 trees-push : (nodes : List Node) (node : Node) → trees (nodes ++ node ∷ []) ≡ append_row (trees nodes) (more_trees (tree node) no_trees)
 trees-push [] node = refl
@@ -108,14 +108,14 @@ module _ (ctx : Context) where
       record {
         terms = all;
         reads =
-          h.reads
-          ∙ ap (λ found. found >>= behind h.terms)
-              (terms_at-is ctx t ∙ cond-false (ends_alternative t) _ _ goes_on ∙ ap (λ found. found >>= more_of ctx) found)
-          ∙ behind-more h.terms x (terms_at ctx rest);
+            h.reads
+            ∙ ap (λ found. found >>= behind h.terms)
+            (terms_at-is ctx t ∙ cond-false (ends_alternative t) _ _ goes_on ∙ ap (λ found. found >>= more_of ctx) found)
+            ∙ behind-more h.terms x (terms_at ctx rest);
         nodes =
-          trees-push parts node
-          ∙ ap₂ (λ us u. append_row us (more_trees u no_trees)) h.nodes (built ∙ ap (λ k. tree_of_term forwards k x) h.counts)
-          ∙ sym (trees-append n0 h.terms (more_terms x no_terms));
+            trees-push parts node
+            ∙ ap₂ (λ us u. append_row us (more_trees u no_trees)) h.nodes (built ∙ ap (λ k. tree_of_term forwards k x) h.counts)
+            ∙ sym (trees-append n0 h.terms (more_terms x no_terms));
         counts = omega (arith, counts, h.counts, count);
         fits = record {
           groups = omega (arith, fits.groups, h.counts, count);
@@ -140,7 +140,7 @@ module _ (ctx : Context) where
       from_each (terms_at ctx t0) _ (λ x found fits.
       let read = found_then (terms_at ctx t) (behind h.terms) x (sym h.reads ∙ found) in
       let whole = found_then (term_at ctx t) (more_of ctx) read.0
-          (sym (cond-false (ends_alternative t) _ _ goes_on) ∙ sym (terms_at-is ctx t) ∙ read.1) in
+      (sym (cond-false (ends_alternative t) _ _ goes_on) ∙ sym (terms_at-is ctx t) ∙ read.1) in
       let others = found_then (terms_at ctx whole.0.1) (λ (y : Terms × Source). Some (more_terms whole.0.0 y.0, y.1)) read.0 whole.2 in
       let first : more_terms whole.0.0 others.0.0 ≡ read.0.0 = ap (λ (z : Terms × Source). z.0) (same_Some _ _ others.2) in
       let all : append h.terms read.0.0 ≡ x.0 = ap (λ (z : Terms × Source). z.0) (same_Some _ _ read.2) in

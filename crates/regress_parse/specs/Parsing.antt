@@ -11,7 +11,7 @@ use Rattle.regress_syntax.specs.Fault.{OnSyntax}
 use Rattle.regress_syntax.specs.Syntax.{Pattern, Terms, Term, groups, groups_of_terms, groups_of_term, levels, levels_of_terms, levels_of_term}
 use Rattle.regress_parse.specs.declared.parser.Parser.{Parser}
 use Rattle.regress_parse.specs.Grammar.{Source, Context}
-use Rattle.regress_parse.specs.Reader.{Found}
+use Rattle.regress_parse.specs.Reader.{Found, pattern_at}
 use Rattle.regress_parse.specs.TreeOf.{tree_of_pattern, trees_of_terms, tree_of_term, joined}
 
 -- the context of the rows that are served, which look at the flags alone
@@ -59,6 +59,13 @@ pub record Moves (old new : Parser) : Type 0 where
 abbrev pub Yields : {A : Type 0} → (A → Part) → ℕ → Parser → Parser → Result Node ParseFault → Found A → Type 0
 Yields part depth old new (Ok node) found = IsSomeAnd found (λ x. Builds old new depth node (part x.0) x.1)
 Yields part depth old new (Err fault) found = OnSyntax fault (IfSome found (λ x. Fits old.group_count depth (part x.0) → ⊥))
+
+-- What parsing a whole text answers: the pattern that it is, within the limits, or a fault where it is none.
+abbrev pub YieldsWhole : Flags → Source → Result Node ParseFault → Type 0
+YieldsWhole flags t (Ok node) =
+    (p : Pattern) × (pattern_at (context flags) t ≡ Some (p, [])) × Fits 0 0 (pattern_part p) × (tree node ≡ tree_of_pattern forwards 0 p)
+YieldsWhole flags t (Err fault) =
+    OnSyntax fault ((p : Pattern) → pattern_at (context flags) t ≡ Some (p, []) → Fits 0 0 (pattern_part p) → ⊥)
 
 -- alternatives before a last one
 abbrev pub alternatives : List Tree → Tree → Tree

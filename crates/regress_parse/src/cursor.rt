@@ -27,7 +27,7 @@ const SPECIAL: [u32; 14] = [
 ];
 
 /// Whether the code point stands for itself.
-fn is_plain(c: u32) -> bool
+pub(crate) fn is_plain(c: u32) -> bool
     ensures { result ≡ is_plain c }
 {
     !SPECIAL.contains(&c)

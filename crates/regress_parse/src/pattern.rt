@@ -1,17 +1,15 @@
 //! From a whole pattern to its tree.
-ghost use Rattle.std.specs.Prelude.{◌≡◌, ◌≤◌, [], All, Some, IfOk};
-ghost use Rattle.regress_tree.specs.Reading.{forwards};
+ghost use Rattle.std.specs.Prelude.{◌≡◌, ◌≤◌, All, IfOk};
 ghost use Rattle.regress_tree.specs.Tree.{tree};
 ghost use Rattle.regress_tree.specs.WellFormed.{IsWellFormed};
 ghost use Rattle.regress_syntax.specs.Fault.{RefusedOnlyIf};
 ghost use Rattle.regress_syntax.specs.Syntax.{Pattern};
-ghost use Rattle.regress_parse.specs.Grammar.{Source};
-ghost use Rattle.regress_parse.specs.Reader.{pattern_at};
-ghost use Rattle.regress_parse.specs.TreeOf.{tree_of, tree_of_pattern};
+ghost use Rattle.regress_parse.specs.TreeOf.{tree_of};
 ghost use Rattle.regress_parse.specs.Accepted.{is_served, IsDerived, IsAccepted, Means};
-ghost use Rattle.regress_parse.specs.Parsing.{context, Fits, pattern_part};
+ghost use Rattle.regress_parse.specs.Parsing.{YieldsWhole};
 
 use crate::build::{UNBALANCED, UNSUPPORTED, syntax};
+use crate::cursor::is_plain;
 use crate::parser::Parser;
 use regress_base::types::Flags;
 use regress_syntax::ParseFault;
@@ -19,12 +17,16 @@ use regress_tree::ir::{Node, Regex};
 use regress_tree::unicode::Tables;
 use std::alloc::Global;
 
+/// The code points that begin rows that are served, beside those that stand for themselves.
+const SERVED: [u32; 4] = ['(' as u32, ')' as u32, '.' as u32, '|' as u32];
+
 /// Parses a pattern, a list of code points of which a surrogate is an ordinary literal that matches
 /// nothing. So far it serves the rows `.`, `(?:`, `(` without a name, `|` and a character that stands
 /// for itself, and the flag s.
 ///
 /// `Syntax` is answered with the text
-/// - `Unsupported syntax`, where the pattern needs a row or a flag that isn't served;
+/// - `Unsupported syntax`, where the pattern needs a row or a flag that isn't served, whatever else is
+///   wrong with it;
 /// - `Unbalanced parenthesis`, at a `)` too many, or too few;
 /// - `Regular expression is too deeply nested`, past `MAX_NESTING_DEPTH` levels: the whole pattern is
 ///   one, and each group;
@@ -68,11 +70,34 @@ fn is_served(flags: Flags) -> bool
     !(flags.icase || flags.multiline || flags.unicode || flags.unicode_sets)
 }
 
-/// Parses the whole text, up to its end.
+/// Whether some code point needs a row that isn't served. Such a pattern is told as unsupported,
+/// whatever else is wrong with it: rows that aren't served may have faults of their own, which come first.
+fn asks_for_more(pattern: &[u32]) -> bool {
+    for i in 0..pattern.len() {
+        let c = pattern[i];
+        let opens_group = c == u32::from(b'?')
+            && pattern.get(i.wrapping_sub(1)) == Some(&u32::from(b'('))
+            && pattern.get(i + 1) == Some(&u32::from(b':'));
+        if !is_plain(c) && !opens_group && !SERVED.contains(&c) {
+            return true;
+        }
+    }
+    false
+}
+
+/// Parses the whole text, and tells a fault of one that asks for more as unsupported.
 fn parse_body(alloc: Global, pattern: &[u32], flags: Flags) -> Result<Node, ParseFault>
-    ensures ok { IfOk result (λ node. (p : Pattern) × (pattern_at (context flags) pattern.now ≡ Some (p, []))
-        × Fits 0 0 (pattern_part p) × (tree node ≡ tree_of_pattern forwards 0 p)) }
-    ensures err { RefusedOnlyIf result ((p : Pattern) → pattern_at (context flags) pattern.now ≡ Some (p, []) → Fits 0 0 (pattern_part p) → ⊥) }
+    ensures { YieldsWhole flags pattern.now result }
+{
+    match parse_to_end(alloc, pattern, flags) {
+        Err(ParseFault::Syntax(_)) if asks_for_more(pattern) => Err(syntax(alloc, UNSUPPORTED)),
+        answer => answer,
+    }
+}
+
+/// Parses the whole text, up to its end.
+fn parse_to_end(alloc: Global, pattern: &[u32], flags: Flags) -> Result<Node, ParseFault>
+    ensures { YieldsWhole flags pattern.now result }
 {
     let mut parser = Parser {
         rest: pattern,

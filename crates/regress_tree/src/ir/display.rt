@@ -12,23 +12,28 @@ impl fmt::Display for Regex {
     }
 }
 
+// It goes down the right sides of alternatives in a loop: there may be as many levels as alternatives.
 #[cycle(write_tree)]
 fn write_tree<W: fmt::Write>(node: &Node, depth: usize, f: &mut fmt::Formatter<W>) -> fmt::Result {
-    write_indent(depth, f)?;
-    write_node(node, f)?;
-    let inside = depth.saturating_add(1);
-    match node {
-        Node::Empty
-        | Node::Goal
-        | Node::Char { .. }
-        | Node::MatchAny
-        | Node::MatchAnyExceptLineTerminator => Ok(()),
-        Node::Cat(parts) => write_trees(parts, inside, f),
-        Node::Alt(left, right) => {
-            write_tree(left, inside, f)?;
-            write_tree(right, inside, f)
+    let mut node = node;
+    let mut depth = depth;
+    loop {
+        write_indent(depth, f)?;
+        write_node(node, f)?;
+        depth = depth.saturating_add(1);
+        match node {
+            Node::Empty
+            | Node::Goal
+            | Node::Char { .. }
+            | Node::MatchAny
+            | Node::MatchAnyExceptLineTerminator => return Ok(()),
+            Node::Cat(parts) => return write_trees(parts, depth, f),
+            Node::Alt(left, right) => {
+                write_tree(left, depth, f)?;
+                node = right;
+            }
+            Node::CaptureGroup { contents, .. } => node = contents,
         }
-        Node::CaptureGroup { contents, .. } => write_tree(contents, inside, f),
     }
 }
 

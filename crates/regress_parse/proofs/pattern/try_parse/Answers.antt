@@ -17,8 +17,8 @@ returns-in_err-body-clause-refused c =
     let flags = c.args.flags in
     let text = c.args.pattern.now in
     rw (p.1, p.2) (on_syntax_then c.in_err-body.field-0.0
-        (λ refused q accepted. refused q (reads_derived flags text q accepted.derived) (limits-fit q accepted.limits))
-        c.in_err-body.ensures.err)
+    (λ refused q accepted. refused q (reads_derived flags text q accepted.derived) (limits-fit q accepted.limits))
+    c.in_err-body.ensures)
 
 pub returns-in_err-body-clause-only : goal.returns-in_err-body-clause-only
 returns-in_err-body-clause-only c = same_derived c.args.flags c.args.pattern.now
@@ -30,14 +30,13 @@ returns-in_err-parts-clause-only c = same_derived c.args.flags c.args.pattern.no
 pub returns-clause-accepted : goal.returns-clause-accepted
 returns-clause-accepted c =
     let flags = c.args.flags in
-    let read = c.in_ok-body.ensures.ok in
-    let served : is_served flags ≡ true = grind arith in
-    (
+    let read = c.in_ok-body.ensures in
+    let served : is_served flags ≡ true = grind arith in (
       read.0,
       record { derived = derived_reads flags c.args.pattern.now read.0 served read.1; limits = fit-limits read.0 read.2 },
       tree-Cat c.in_ok-parts.parts
-      ∙ ap (λ nodes. cat (trees nodes)) c.in_ok-parts.ensures.items
-      ∙ ap₂ (λ a b. cat (more_trees a (more_trees b no_trees))) read.3 tree-Goal,
+          ∙ ap (λ nodes. cat (trees nodes)) c.in_ok-parts.ensures.items
+          ∙ ap₂ (λ a b. cat (more_trees a (more_trees b no_trees))) read.3 tree-Goal,
     )
 
 pub returns-clause-only : goal.returns-clause-only

@@ -16,7 +16,7 @@ use Rattle.regress_parse.proofs.ParserLemmas.{one_more_alternative, yields_behin
 use Rattle.regress_parse.proofs.parser.Parser.+parser.Goals as goal
 
 pub consume_alternative-loop-parts-init : goal.consume_alternative-loop-parts-init
-consume_alternative-loop-parts-init t c = 
+consume_alternative-loop-parts-init t c =
     let old = c.args.self.now in
     record {
       so_far = rw c.new-parts.ensures.items (terms-start (context old.flags) c.args.depth (text old) old.group_count c.requires old.within);
@@ -32,7 +32,7 @@ consume_alternative-returns-in_err-consume_term t c =
     record {
       value = rw (p.1, p.2) (on_syntax_then c.in_err-consume_term.field-0.0
           (λ refused. terms-fail (context old.flags) c.args.depth (text old) (text l.self) old.group_count l.self.group_count l.parts.items l.invariant.so_far goes_on
-              (subst (λ f. IfSome (term_at (context f) (text l.self)) (λ x. Fits l.self.group_count c.args.depth (term_part x.0) → ⊥)) l.invariant.flags refused))
+          (subst (λ f. IfSome (term_at (context f) (text l.self)) (λ x. Fits l.self.group_count c.args.depth (term_part x.0) → ⊥)) l.invariant.flags refused))
           c.in_err-consume_term.ensures.value);
     }
 
@@ -46,7 +46,7 @@ consume_alternative-loop-parts-preserved t c =
     let b = found.2 in
     let read : term_at (context old.flags) (text l.self) ≡ Some found.0 = subst (λ f. term_at (context f) (text l.self) ≡ Some found.0) l.invariant.flags found.1 in
     let step = terms-step (context old.flags) c.args.depth (text old) (text l.self) old.group_count l.self.group_count l.parts.items c.in_ok-consume_term.field-0
-        found.0.0 found.0.1 new.group_count l.invariant.so_far goes_on read b.node b.counts b.fits in
+    found.0.0 found.0.1 new.group_count l.invariant.so_far goes_on read b.node b.counts b.fits in
     record {
       so_far = rw (b.rest, c.in_ok-push.ensures.items) step;
       flags = b.flags ∙ l.invariant.flags;
@@ -96,7 +96,7 @@ consume_disjunction-returns-in_err-last-2 t c =
     record {
       value = rw (p.1, p.2) (on_syntax_then c.in_err-last-2.field-0.0
           (λ refused. alternatives-fail (context old.flags) c.args.depth (text old) (text l.self) old.group_count l.self.group_count l.before.items l.last
-              l.invariant.so_far (sym bar.found) (rw (bar.moves.flags ∙ l.invariant.flags, bar.text, bar.moves.counts) at refused))
+          l.invariant.so_far (sym bar.found) (rw (bar.moves.flags ∙ l.invariant.flags, bar.text, bar.moves.counts) at refused))
           c.in_err-last-2.ensures.value);
     }
 
@@ -113,7 +113,7 @@ consume_disjunction-loop-before-preserved t c =
     let l = c.loop-before in
     let bar = c.loop-before-test.ensures in
     let step = one_more_alternative c.args.depth c.args.self.now l.self c.try_consume.new.self c.consume_alternative-in-loop-before.new.self l.before.items l.last c.in_ok-last-2.last
-        l.invariant.so_far l.invariant.flags (sym bar.found) bar.text bar.moves c.in_ok-last-2.ensures.value in
+    l.invariant.so_far l.invariant.flags (sym bar.found) bar.text bar.moves c.in_ok-last-2.ensures.value in
     record {
       so_far = rw c.in_ok-push.ensures.items step.0;
       flags = step.1;
@@ -157,10 +157,10 @@ consume_term-returns-then-try_consume-2-clause-value t c =
     let moves : Moves old mid = record { flags = past.moves.flags ∙ first.moves.flags; counts = past.moves.counts ∙ first.moves.counts } in
     let opens : is_at opening (text old) ≡ true = sym (past.found ∙ ap (is_at opening) first.text) in
     yields_behind term_part c.args.depth old mid c.consume_group.new.self c.consume_group.result _ _ moves
-        (ap (λ f. group_by (pattern_at (context f)) (text mid)) moves.flags
-        ∙ ap (group_by (pattern_at (context old.flags))) (past.text ∙ ap (drop 1) first.text)
-        ∙ sym (term_at-group (context old.flags) (text old) opens))
-        c.consume_group.ensures.value
+    (ap (λ f. group_by (pattern_at (context f)) (text mid)) moves.flags
+    ∙ ap (group_by (pattern_at (context old.flags))) (past.text ∙ ap (drop 1) first.text)
+    ∙ sym (term_at-group (context old.flags) (text old) opens))
+    c.consume_group.ensures.value
 
 pub consume_term-returns-then-try_consume-2-clause-progress : goal.consume_term-returns-then-try_consume-2-clause-progress
 consume_term-returns-then-try_consume-2-clause-progress t c =
@@ -187,5 +187,5 @@ consume_term-returns-in-None-clause-value t c =
     let first = c.if-try_consume.ensures in
     let second = c.if-try_consume-2.ensures in
     let none = term_at-none (context old.flags) (text old) (sym first.found) (sym (second.found ∙ ap (is_at opening) first.text))
-        (λ d u e. c.in-None.ensures.none d u (second.text ∙ first.text ∙ e)) in
+    (λ d u e. c.in-None.ensures.none d u (second.text ∙ first.text ∙ e)) in
     on_syntax c.syntax.result (rw none tt)
