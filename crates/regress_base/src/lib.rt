@@ -2,4 +2,5 @@
 //! sets of code points, sets of bytes and searches, and the bytes of UTF-8.
 #![tactic(auto)]
 
+pub mod bytesearch;
 pub mod types;
