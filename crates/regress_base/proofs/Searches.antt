@@ -1,0 +1,44 @@
+-- Facts on the loops that look for the least place.
+use Rattle.std.proofs.Common.{◌≡◌, ℕ, ◌+◌, ◌<◌, ◌≤◌, Bool, true, false, ◌&&◌, ◌||◌, eqb, ltb, List, [], ◌∷◌, length, get_or, refl, ap, sym, ◌∙◌, arith, inl, inr}
+use Rattle.std.specs.List.{list_any}
+use Rattle.std.proofs.lemmas.Bool.{lt-ltb, and_right, both_ways, eqb-true, eq-eqb, ne_eqb, cases_eq, false_from_ne_true}
+use Rattle.regress_base.specs.ByteSets.{bytes_of}
+use Rattle.regress_base.specs.Places.{IsLeastAt, IsMemberAt}
+
+-- no byte of the text before place n is a member
+abbrev pub NoneBefore : (ℕ → Bool) → List ℕ → ℕ → Type 0
+NoneBefore set text n = (k : ℕ) → k < n → set (get_or text k 0) ≡ false
+
+pub none_at : (set : ℕ → Bool) (text : List ℕ) (k : ℕ) → set (get_or text k 0) ≡ false → ¬ (IsMemberAt set text k)
+none_at set text k h at = both_ways (set (get_or text k 0)) h at.member
+
+-- the first member that the loop meets stands at the least place
+pub first_found : (set : ℕ → Bool) (text : List ℕ) (i : ℕ) → NoneBefore set text i → i < length text → set (get_or text i 0) ≡ true → IsLeastAt (IsMemberAt set text) (length text) i
+first_found set text i none inside found = record {
+  within = omega arith;
+  stands = record { inside = inside; member = found };
+  before = λ k h. none_at set text k (none k h);
+}
+
+-- a loop that meets no member has looked at each place
+pub none_found : (set : ℕ → Bool) (text : List ℕ) (n : ℕ) → length text ≤ n → NoneBefore set text n → (k : ℕ) → k ≤ length text → ¬ (IsMemberAt set text k)
+none_found set text n all none k h at = none_at set text k (none k (omega (arith, at.inside))) at
+
+one_or_none : (x b : ℕ) → (eqb x b || false) ≡ eqb b x
+one_or_none x b =
+    elim (cases_eq x b) [
+      inl e ↦ rw e (rw (eq-eqb b b refl) refl)
+    | inr ne ↦ rw (ne_eqb x b ne, ne_eqb b x (λ e. ne (sym e))) refl
+    ]
+
+-- the set of one byte
+pub bytes_of-one : (xs : List ℕ) (b : ℕ) → length xs ≡ 1 → b < 256 → bytes_of xs b ≡ eqb b (get_or xs 0 0)
+unfolding bytes_of
+bytes_of-one [] b one byte = absurd (omega (arith, one))
+bytes_of-one (x ∷ []) b one byte = rw (lt-ltb b 256 byte) (one_or_none x b)
+bytes_of-one (x ∷ y ∷ xs) b one byte = absurd (omega (arith, one))
+
+-- the set of the bytes of an array
+pub bytes_of-byte : (xs : List ℕ) (b : ℕ) → b < 256 → bytes_of xs b ≡ list_any (λ x. eqb x b) xs
+unfolding bytes_of
+bytes_of-byte xs b h = rw (lt-ltb b 256 h) refl
