@@ -1,10 +1,11 @@
 -- Facts on bits that lie in cells of a fixed width, as in both bitmaps.
-use Rattle.std.proofs.Common.{◌≡◌, ◌≢◌, ℕ, ◌+◌, ◌*◌, ◌/◌, ◌%◌, ◌^◌, ◌<◌, Bool, true, false, not, ◌&&◌, ◌||◌, eqb, ltb, List, length, get_or, set, bit_and, bit_or, refl, ap, sym, subst, ◌∙◌, arith, get_or-set_other, get_or-set_same, ⊎_elim, inl, inr}
+use Rattle.std.proofs.Common.{◌≡◌, ◌≢◌, ℕ, ◌+◌, ◌*◌, ◌/◌, ◌%◌, ◌^◌, ◌<◌, Bool, true, false, not, ◌&&◌, ◌||◌, eqb, ltb, List, length, get_or, set, replicate, max, bit_and, bit_or, ◌≤◌, ◌-◌, refl, ap, sym, subst, ◌∙◌, arith, get_or-set_other, get_or-set_same, ⊎_elim, inl, inr}
 use Rattle.std.specs.Int.{bit_at, Width}
-use Rattle.std.proofs.lemmas.Bool.{cases_eq, cases_lt, eq-eqb, ne_eqb, lt-ltb}
+use Rattle.std.proofs.lemmas.Bool.{cases_eq, cases_lt, eq-eqb, ne_eqb, lt-ltb, le-ltb}
 use Rattle.std.proofs.lemmas.Bool.Decides.{nat_tests}
 use Rattle.std.proofs.lemmas.Nat.{one_shl, pow_pos, div-add-mod', mod_below}
-use Rattle.std.proofs.lemmas.Nat.Bits.{and_pow, bit_at-lt, bit_at_set_same, bit_at_set_other}
+use Rattle.std.proofs.lemmas.Nat.Bits.{and_pow, bit_at-lt, bit_at_set_same, bit_at_set_other, bit_at_or, bit_at_not, bit_at-zero}
+use Rattle.std.proofs.lemmas.List.{get_or-replicate, get_or_past, length-replicate}
 use mir.Val.{bits}
 use Rattle.regress_base.specs.ByteSets.{bit_in}
 
@@ -68,4 +69,67 @@ or-guarded n v b x h =
     elim (cases_eq b v) [
       inl e ↦ rw (e, eq-eqb v v refl, lt-ltb v n h) refl
     | inr ne ↦ rw (ne_eqb b v ne) refl
+    ]
+
+-- ---- cells that a loop changes one by one
+
+-- the first i cells are changed, and the others are as they were
+pub record CellsUpTo (i : ℕ) (change : ℕ → ℕ) (old new : List ℕ) : Type 0 where
+  pub changed : (k : ℕ) → k < i → get_or new k 0 ≡ change k
+  pub others : (k : ℕ) → i ≤ k → get_or new k 0 ≡ get_or old k 0
+
+-- ---- a bit after `|` and after `!`
+
+either_bit : (x y : ℕ) → x < 2 → y < 2 → eqb (max x y) 1 ≡ (eqb x 1 || eqb y 1)
+either_bit x y p q =
+    elim (cases_lt x 1) [
+      inl a ↦ let e : x ≡ 0 = omega arith in let m : max x y ≡ y = omega arith in rw m (rw e refl)
+    | inr a ↦ let e : x ≡ 1 = omega arith in let m : max x y ≡ 1 = omega arith in rw (m, e) refl
+    ]
+
+other_bit : (x : ℕ) → x < 2 → eqb (1 - x) 1 ≡ not (eqb x 1)
+other_bit x p =
+    elim (cases_lt x 1) [
+      inl a ↦ let e : x ≡ 0 = omega arith in rw e refl
+    | inr a ↦ let e : x ≡ 1 = omega arith in rw e refl
+    ]
+
+pub bit_in-or : (n : ℕ) (xs ys zs : List ℕ) (b : ℕ) → get_or zs (b / n) 0 ≡ bit_or (get_or xs (b / n) 0) (get_or ys (b / n) 0) → bit_in n zs b ≡ (bit_in n xs b || bit_in n ys b)
+unfolding bit_in
+bit_in-or n xs ys zs b e =
+    let x = get_or xs (b / n) 0 in
+    let y = get_or ys (b / n) 0 in
+    rw (e, bit_at_or x y (b % n)) (either_bit (bit_at x (b % n)) (bit_at y (b % n)) (bit_at-lt x (b % n)) (bit_at-lt y (b % n)))
+
+pub bit_in-not : (w : Width) (xs zs : List ℕ) (b : ℕ) → b % bits w < bits w → get_or xs (b / bits w) 0 < 2 ^ bits w → get_or zs (b / bits w) 0 ≡ 2 ^ bits w - 1 - get_or xs (b / bits w) 0 → bit_in (bits w) zs b ≡ not (bit_in (bits w) xs b)
+unfolding bit_in
+bit_in-not w xs zs b low fits e =
+    let x = get_or xs (b / bits w) 0 in
+    rw (e, bit_at_not w x (b % bits w) fits low) (other_bit (bit_at x (b % bits w)) (bit_at-lt x (b % bits w)))
+
+zero_cell : (m i : ℕ) → get_or {A = ℕ} (replicate m 0) i 0 ≡ 0
+zero_cell m i =
+    elim (cases_lt i m) [
+      inl h ↦ get_or-replicate {A = ℕ} m i 0 0 h
+    | inr h ↦ get_or_past {X = ℕ} (replicate m 0) i 0 (rw (length-replicate {A = ℕ} m 0) h)
+    ]
+
+pub bit_in-zeros : (n m b : ℕ) → bit_in n (replicate m 0) b ≡ false
+unfolding bit_in
+bit_in-zeros n m b = rw (zero_cell m (b / n), bit_at-zero (b % n)) refl
+
+-- ---- sets of numbers below n
+
+pub or-below : (n b : ℕ) (x y z : Bool) → (b < n → x ≡ (y || z)) → (ltb b n && x) ≡ ((ltb b n && y) || (ltb b n && z))
+or-below n b x y z h =
+    elim (cases_lt b n) [
+      inl p ↦ rw (lt-ltb b n p) (h p)
+    | inr p ↦ rw (le-ltb b n p) refl
+    ]
+
+pub not-below : (n b : ℕ) (x y : Bool) → (b < n → x ≡ not y) → (ltb b n && x) ≡ (ltb b n && not (ltb b n && y))
+not-below n b x y h =
+    elim (cases_lt b n) [
+      inl p ↦ rw (lt-ltb b n p) (h p)
+    | inr p ↦ rw (le-ltb b n p) refl
     ]

@@ -1,2 +1,4 @@
+pub mod Bitmaps
 pub mod Cells
+pub mod Counting
 pub mod Searches

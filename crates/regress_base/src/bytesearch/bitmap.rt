@@ -73,7 +73,11 @@ impl ByteBitmap {
     pub fn count_bits(&self) -> u32
         ensures { result ≡ size_of (contains self.now) }
     {
-        self.words.iter().map(|word| word.count_ones()).sum()
+        let mut count = 0;
+        for word in self.words.iter() {
+            count += word.count_ones();
+        }
+        count
     }
 
     /// The members, ascending, and then zeros. The caller knows that at most `N` bytes are members.
@@ -112,7 +116,8 @@ impl PartialEq for ByteBitmap {
         ensures value { result ≡ same_members self.now other.now }
         ensures members { IsTrue result ↔ SameMembers (contains self.now) (contains other.now) }
     {
-        self.words == other.words
+        let (words, others) = (self.words.as_slice(), other.words.as_slice());
+        words == others
     }
 }
 
