@@ -25,21 +25,21 @@ use Rattle.regress_base.proofs.Counting.{count_below, count_below-add, count_bel
 same_bit : (x y : ℕ) → x < 2 → y < 2 → eqb x 1 ≡ eqb y 1 → x ≡ y
 same_bit x y p q e =
     elim (cases_lt x 1) [
-      inl a ↦ elim (cases_lt y 1) [
-        inl b ↦ omega arith
-      | inr b ↦
-        let one : y ≡ 1 = omega arith in
-        let zero' : x ≡ 0 = omega arith in
-        let t : eqb 0 1 ≡ eqb 1 1 = ap (λ k. eqb k 1) (sym zero') ∙ e ∙ ap (λ k. eqb k 1) one in
-        cc
+      | inl a ↦ elim (cases_lt y 1) [
+        | inl b ↦ omega arith
+        | inr b ↦
+            let one : y ≡ 1 = omega arith in
+            let zero' : x ≡ 0 = omega arith in
+            let t : eqb 0 1 ≡ eqb 1 1 = ap (λ k. eqb k 1) (sym zero') ∙ e ∙ ap (λ k. eqb k 1) one in
+            cc
       ]
-    | inr a ↦ elim (cases_lt y 1) [
-        inl b ↦
-        let one : x ≡ 1 = omega arith in
-        let zero' : y ≡ 0 = omega arith in
-        let t : eqb 1 1 ≡ eqb 0 1 = ap (λ k. eqb k 1) (sym one) ∙ e ∙ ap (λ k. eqb k 1) zero' in
-        cc
-      | inr b ↦ omega arith
+      | inr a ↦ elim (cases_lt y 1) [
+        | inl b ↦
+            let one : x ≡ 1 = omega arith in
+            let zero' : y ≡ 0 = omega arith in
+            let t : eqb 1 1 ≡ eqb 0 1 = ap (λ k. eqb k 1) (sym one) ∙ e ∙ ap (λ k. eqb k 1) zero' in
+            cc
+        | inr b ↦ omega arith
       ]
     ]
 
@@ -47,19 +47,19 @@ bit_in-place : (n : ℕ) (xs : List ℕ) (k i : ℕ) → i < n → bit_in n xs (
 unfolding bit_in
 bit_in-place n xs k i low = rw (div-mul-add k n i low, mod-mul-add k n i low) refl
 
-pub same_cells : (n m : ℕ) (xs ys : List ℕ) → length xs ≡ m → length ys ≡ m → ((k : ℕ) → get_or xs k 0 < 2 ^ n) → ((k : ℕ) → get_or ys k 0 < 2 ^ n) → ((b : ℕ) → b < n * m → bit_in n xs b ≡ bit_in n ys b) → xs ≡ ys
-same_cells n m xs ys lx ly fx fy same =
-    ext_get_or 0 xs ys (lx ∙ sym ly) (λ k inside.
-        same_from_bits_below n (get_or xs k 0) (get_or ys k 0) (fx k) (fy k) (λ i low.
-            same_bit (bit_at (get_or xs k 0) i) (bit_at (get_or ys k 0) i) (bit_at-lt (get_or xs k 0) i) (bit_at-lt (get_or ys k 0) i)
-            (sym (bit_in-place n xs k i low) ∙ same (k * n + i) (mul-add-lt k n i m (omega arith) low) ∙ bit_in-place n ys k i low)))
+same_cell : (n : ℕ) (xs ys : List ℕ) (k : ℕ) → get_or xs k 0 < 2 ^ n → get_or ys k 0 < 2 ^ n → ((i : ℕ) → i < n → bit_in n xs (k * n + i) ≡ bit_in n ys (k * n + i)) → get_or xs k 0 ≡ get_or ys k 0
+same_cell n xs ys k fx fy same =
+    same_from_bits_below n (get_or xs k 0) (get_or ys k 0) fx fy (λ i low.
+    same_bit (bit_at (get_or xs k 0) i) (bit_at (get_or ys k 0) i) (bit_at-lt (get_or xs k 0) i) (bit_at-lt (get_or ys k 0) i)
+    (sym (bit_in-place n xs k i low) ∙ same i low ∙ bit_in-place n ys k i low))
 
-pub same_words : (s t : ByteBitmap) → length s.words ≡ 16 → length t.words ≡ 16 → ((k : ℕ) → get_or s.words k 0 < 2 ^ 16) → ((k : ℕ) → get_or t.words k 0 < 2 ^ 16) → SameMembers (contains s) (contains t) → s.words ≡ t.words
+pub same_word : (s t : ByteBitmap) (k : ℕ) → k < 16 → get_or s.words k 0 < 2 ^ 16 → get_or t.words k 0 < 2 ^ 16 → SameMembers (contains s) (contains t) → get_or s.words k 0 ≡ get_or t.words k 0
 unfolding contains
-same_words s t ls lt fs ft same =
-    same_cells 16 16 s.words t.words ls lt fs ft (λ b h.
-        let e : (ltb b 256 && bit_in 16 s.words b) ≡ (ltb b 256 && bit_in 16 t.words b) = same b in
-        rw (lt-ltb b 256 h) at e)
+same_word s t k inside fs ft same =
+    same_cell 16 s.words t.words k fs ft (λ i low.
+    let byte : k * 16 + i < 256 = omega arith in
+    let e : (ltb (k * 16 + i) 256 && bit_in 16 s.words (k * 16 + i)) ≡ (ltb (k * 16 + i) 256 && bit_in 16 t.words (k * 16 + i)) = same (k * 16 + i) in
+    rw (lt-ltb (k * 16 + i) 256 byte) at e)
 
 pub members_from_words : (s t : ByteBitmap) → s.words ≡ t.words → SameMembers (contains s) (contains t)
 unfolding contains
@@ -78,9 +78,14 @@ members_from_flags : (s t : ByteBitmap) → map (contains s) all_bytes ≡ map (
 unfolding all_bytes
 members_from_flags s t e = λ b.
     elim (cases_lt b 256) [
-      inl h ↦ agree_below 256 (contains s) (contains t) e b h
-    | inr h ↦ contains-above s b h ∙ sym (contains-above t b h)
+      | inl h ↦ agree_below 256 (contains s) (contains t) e b h
+      | inr h ↦ contains-above s b h ∙ sym (contains-above t b h)
     ]
+
+-- `==` on bitmaps by their words
+pub equal_words : (s t : ByteBitmap) → length s.words ≡ 16 → length t.words ≡ 16 → ((k : ℕ) → k < 16 → get_or s.words k 0 ≡ get_or t.words k 0) → SameMembers (contains s) (contains t)
+equal_words s t ls lt same =
+    members_from_words s t (ext_get_or 0 s.words t.words (ls ∙ sym lt) (λ k inside. same k (omega arith)))
 
 -- `==` on bitmaps
 pub same_members-Decides : (s t : ByteBitmap) → Decides (same_members s t) (SameMembers (contains s) (contains t))
@@ -97,8 +102,8 @@ bytes_of-none b = and_right (ltb b 256) false refl
 or_turned : (v b : ℕ) (x : Bool) → (x || eqb v b) ≡ (eqb b v || x)
 or_turned v b x =
     elim (cases_eq b v) [
-      inl e ↦ rw (e, eq-eqb v v refl) (or_right x true refl)
-    | inr ne ↦ rw (ne_eqb b v ne, ne_eqb v b (λ e. ne (sym e))) (elim x as (λ y. (y || false) ≡ y) [ true ↦ refl | false ↦ refl ])
+      | inl e ↦ rw (e, eq-eqb v v refl) (or_right x true refl)
+      | inr ne ↦ rw (ne_eqb b v ne, ne_eqb v b (λ e. ne (sym e))) (elim x as (λ y. (y || false) ≡ y) [ true ↦ refl | false ↦ refl ])
     ]
 
 pub bytes_of-more : (xs : List ℕ) (i b : ℕ) → i < length xs → get_or xs i 0 < 256 → bytes_of (take (i + 1) xs) b ≡ (eqb b (get_or xs i 0) || bytes_of (take i xs) b)

@@ -22,8 +22,8 @@ of_one p g =
 of_bit : (x p : ℕ) → x < 2 → 0 < p → not (eqb (x * p) 0) ≡ eqb x 1
 of_bit x p h g =
     elim (cases_lt x 1) [
-      inl a ↦ let e : x ≡ 0 = omega arith in rw e (of_zero p)
-    | inr a ↦ let e : x ≡ 1 = omega arith in rw e (of_one p g)
+      | inl a ↦ let e : x ≡ 0 = omega arith in rw e (of_zero p)
+      | inr a ↦ let e : x ≡ 1 = omega arith in rw e (of_one p g)
     ]
 
 -- the code's test of one bit
@@ -48,27 +48,27 @@ set_other : (w : Width) (cells : List ℕ) (v b : ℕ) → v % bits w < bits w �
 unfolding bit_in
 set_other w cells v b low inside ne =
     elim (cases_eq (b / bits w) (v / bits w)) [
-      inl e ↦
-        let apart : b % bits w ≢ v % bits w = λ m. ne (same_place (bits w) b v e m) in
-        rw (e, get_or-set_same cells (v / bits w) (bit_or (get_or cells (v / bits w) 0) (1 * 2 ^ (v % bits w) % 2 ^ bits w)) 0 inside, bit_at_set_other w (get_or cells (v / bits w) 0) (v % bits w) low (b % bits w) apart) refl
-    | inr e ↦
-        rw (get_or-set_other cells (v / bits w) (b / bits w) (bit_or (get_or cells (v / bits w) 0) (1 * 2 ^ (v % bits w) % 2 ^ bits w)) 0 e) refl
+      | inl e ↦
+          let apart : b % bits w ≢ v % bits w = λ m. ne (same_place (bits w) b v e m) in
+          rw (e, get_or-set_same cells (v / bits w) (bit_or (get_or cells (v / bits w) 0) (1 * 2 ^ (v % bits w) % 2 ^ bits w)) 0 inside, bit_at_set_other w (get_or cells (v / bits w) 0) (v % bits w) low (b % bits w) apart) refl
+      | inr e ↦
+          rw (get_or-set_other cells (v / bits w) (b / bits w) (bit_or (get_or cells (v / bits w) 0) (1 * 2 ^ (v % bits w) % 2 ^ bits w)) 0 e) refl
     ]
 
 -- the bits after bit v is set
 pub bit_in-with_bit : (w : Width) (cells : List ℕ) (v b : ℕ) → v % bits w < bits w → v / bits w < length cells → bit_in (bits w) (with_bit w cells v) b ≡ (eqb b v || bit_in (bits w) cells b)
 bit_in-with_bit w cells v b low inside =
     elim (cases_eq b v) [
-      inl e ↦ rw (e, eq-eqb v v refl) (set_same w cells v low inside)
-    | inr ne ↦ rw (ne_eqb b v ne) (set_other w cells v b low inside ne)
+      | inl e ↦ rw (e, eq-eqb v v refl) (set_same w cells v low inside)
+      | inr ne ↦ rw (ne_eqb b v ne) (set_other w cells v b low inside ne)
     ]
 
 -- a set of numbers below n, after v joins it
 pub or-guarded : (n v b : ℕ) (x : Bool) → v < n → (ltb b n && (eqb b v || x)) ≡ (eqb b v || (ltb b n && x))
 or-guarded n v b x h =
     elim (cases_eq b v) [
-      inl e ↦ rw (e, eq-eqb v v refl, lt-ltb v n h) refl
-    | inr ne ↦ rw (ne_eqb b v ne) refl
+      | inl e ↦ rw (e, eq-eqb v v refl, lt-ltb v n h) refl
+      | inr ne ↦ rw (ne_eqb b v ne) refl
     ]
 
 -- ---- cells that a loop changes one by one
@@ -83,15 +83,15 @@ pub record CellsUpTo (i : ℕ) (change : ℕ → ℕ) (old new : List ℕ) : Typ
 either_bit : (x y : ℕ) → x < 2 → y < 2 → eqb (max x y) 1 ≡ (eqb x 1 || eqb y 1)
 either_bit x y p q =
     elim (cases_lt x 1) [
-      inl a ↦ let e : x ≡ 0 = omega arith in let m : max x y ≡ y = omega arith in rw m (rw e refl)
-    | inr a ↦ let e : x ≡ 1 = omega arith in let m : max x y ≡ 1 = omega arith in rw (m, e) refl
+      | inl a ↦ let e : x ≡ 0 = omega arith in let m : max x y ≡ y = omega arith in rw m (rw e refl)
+      | inr a ↦ let e : x ≡ 1 = omega arith in let m : max x y ≡ 1 = omega arith in rw (m, e) refl
     ]
 
 other_bit : (x : ℕ) → x < 2 → eqb (1 - x) 1 ≡ not (eqb x 1)
 other_bit x p =
     elim (cases_lt x 1) [
-      inl a ↦ let e : x ≡ 0 = omega arith in rw e refl
-    | inr a ↦ let e : x ≡ 1 = omega arith in rw e refl
+      | inl a ↦ let e : x ≡ 0 = omega arith in rw e refl
+      | inr a ↦ let e : x ≡ 1 = omega arith in rw e refl
     ]
 
 pub bit_in-or : (n : ℕ) (xs ys zs : List ℕ) (b : ℕ) → get_or zs (b / n) 0 ≡ bit_or (get_or xs (b / n) 0) (get_or ys (b / n) 0) → bit_in n zs b ≡ (bit_in n xs b || bit_in n ys b)
@@ -110,8 +110,8 @@ bit_in-not w xs zs b low fits e =
 zero_cell : (m i : ℕ) → get_or {A = ℕ} (replicate m 0) i 0 ≡ 0
 zero_cell m i =
     elim (cases_lt i m) [
-      inl h ↦ get_or-replicate {A = ℕ} m i 0 0 h
-    | inr h ↦ get_or_past {X = ℕ} (replicate m 0) i 0 (rw (length-replicate {A = ℕ} m 0) h)
+      | inl h ↦ get_or-replicate {A = ℕ} m i 0 0 h
+      | inr h ↦ get_or_past {X = ℕ} (replicate m 0) i 0 (rw (length-replicate {A = ℕ} m 0) h)
     ]
 
 pub bit_in-zeros : (n m b : ℕ) → bit_in n (replicate m 0) b ≡ false
@@ -123,13 +123,13 @@ bit_in-zeros n m b = rw (zero_cell m (b / n), bit_at-zero (b % n)) refl
 pub or-below : (n b : ℕ) (x y z : Bool) → (b < n → x ≡ (y || z)) → (ltb b n && x) ≡ ((ltb b n && y) || (ltb b n && z))
 or-below n b x y z h =
     elim (cases_lt b n) [
-      inl p ↦ rw (lt-ltb b n p) (h p)
-    | inr p ↦ rw (le-ltb b n p) refl
+      | inl p ↦ rw (lt-ltb b n p) (h p)
+      | inr p ↦ rw (le-ltb b n p) refl
     ]
 
 pub not-below : (n b : ℕ) (x y : Bool) → (b < n → x ≡ not y) → (ltb b n && x) ≡ (ltb b n && not (ltb b n && y))
 not-below n b x y h =
     elim (cases_lt b n) [
-      inl p ↦ rw (lt-ltb b n p) (h p)
-    | inr p ↦ rw (le-ltb b n p) refl
+      | inl p ↦ rw (lt-ltb b n p) (h p)
+      | inr p ↦ rw (le-ltb b n p) refl
     ]

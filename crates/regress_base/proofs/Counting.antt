@@ -6,9 +6,11 @@ use Rattle.std.specs.Int.RustNames.{count_ones}
 use Rattle.std.proofs.Common.{zero-add}
 use lib.Count.{ones, ones_in}
 use Rattle.std.proofs.lemmas.Bool.{cases_Bool, cases_lt}
-use Rattle.std.proofs.lemmas.List.{set_at, append_assoc, append-nil}
+use Rattle.std.proofs.lemmas.List.{set_at, append_assoc, append-nil, length_push}
 use Rattle.std.proofs.lemmas.List.Elements.{filter-append}
-use Rattle.std.proofs.lemmas.List.Sums.{sum_by-append, length-filter}
+use Rattle.std.proofs.lemmas.List.Sums.{sum_by-append, length-filter, count_by-le-length}
+use Rattle.std.proofs.lemmas.List.FromFn.{length-range_with_len}
+use Rattle.regress_base.specs.ByteSets.{all_bytes, members_of, size_of}
 use Rattle.std.proofs.lemmas.Nat.{ones_cat, shr_split, shr_below, pow_pos, mod_below}
 use Rattle.std.proofs.lemmas.Nat.Bits.{bit_at_cat_low, bit_at-lt}
 
@@ -77,15 +79,15 @@ small_ones : (a : ℕ) → a < 2 → count_ones a ≡ a
 unfolding ones ones_in
 small_ones a h =
     elim (cases_lt a 1) [
-      inl l ↦ let e : a ≡ 0 = omega arith in rw e refl
-    | inr l ↦ let e : a ≡ 1 = omega arith in rw e refl
+      | inl l ↦ let e : a ≡ 0 = omega arith in rw e refl
+      | inr l ↦ let e : a ≡ 1 = omega arith in rw e refl
     ]
 
 top_bit : (a : ℕ) → a < 2 → cond (eqb (a % 2) 1) 1 0 ≡ a
 top_bit a h =
     elim (cases_lt a 1) [
-      inl l ↦ let e : a ≡ 0 = omega arith in rw e refl
-    | inr l ↦ let e : a ≡ 1 = omega arith in rw e refl
+      | inl l ↦ let e : a ≡ 0 = omega arith in rw e refl
+      | inr l ↦ let e : a ≡ 1 = omega arith in rw e refl
     ]
 
 pub count_ones-bits : (k n : ℕ) → n < 2 ^ k → count_ones n ≡ count_below (λ i. eqb (bit_at n i) 1) k
@@ -114,3 +116,69 @@ write_next xs n v h =
     let m = n - (length xs + 1) in
     let e : n - length xs ≡ suc m = omega arith in
     ap (λ k. set (xs ++ replicate k 0) (length xs) v) e ∙ set_at xs 0 (replicate m 0) v (length xs) refl ∙ sym (append_assoc xs (v ∷ []) (replicate m 0))
+
+-- the array of n places begins with the numbers below b that pass the test, which are len, and goes on with zeros
+pub record IsFilled (p : ℕ → Bool) (n b len : ℕ) (array : List ℕ) : Type 0 where
+  pub filled : array ≡ filter_below p b ++ replicate (n - len) 0
+  pub counted : len ≡ length (filter_below p b)
+
+pub IsFilled-none : (p : ℕ → Bool) (n : ℕ) → IsFilled p n 0 0 (replicate n 0)
+IsFilled-none p n =
+    let e : n ≡ n - 0 = omega arith in
+    record { filled = ap (λ k. replicate {A = ℕ} k 0) e; counted = refl }
+
+pub IsFilled-yes : (p : ℕ → Bool) (n b len : ℕ) (array : List ℕ) → IsFilled p n b len array → p b ≡ true → len < n → IsFilled p n (b + 1) (len + 1) (set array len b)
+IsFilled-yes p n b len array so_far passes room =
+    let front = filter_below p b in
+    let e : b + 1 ≡ suc b = omega arith in
+    let grown : filter_below p (b + 1) ≡ front ++ b ∷ [] = ap (filter_below p) e ∙ filter_below-suc p b ∙ ap (λ t. front ++ cond t (b ∷ []) []) passes in
+    let at : len ≡ length front = so_far.counted in
+    let fits : length front < n = omega arith in
+    record {
+      filled =
+          ap (λ xs. set xs len b) so_far.filled
+          ∙ ap (λ k. set (front ++ replicate (n - k) 0) k b) at
+          ∙ write_next front n b fits
+          ∙ ap (λ k. (front ++ b ∷ []) ++ replicate (n - (k + 1)) 0) (sym at)
+          ∙ ap (λ xs. xs ++ replicate (n - (len + 1)) 0) (sym grown);
+      counted = ap (λ k. k + 1) at ∙ sym (length_push front b) ∙ ap length (sym grown);
+    }
+
+pub IsFilled-no : (p : ℕ → Bool) (n b len : ℕ) (array : List ℕ) → IsFilled p n b len array → p b ≡ false → IsFilled p n (b + 1) len array
+IsFilled-no p n b len array so_far fails =
+    let front = filter_below p b in
+    let e : b + 1 ≡ suc b = omega arith in
+    let same : filter_below p (b + 1) ≡ front = ap (filter_below p) e ∙ filter_below-suc p b ∙ ap (λ t. front ++ cond t (b ∷ []) []) fails ∙ append-nil front in
+    record {
+      filled = so_far.filled ∙ ap (λ xs. xs ++ replicate (n - len) 0) (sym same);
+      counted = so_far.counted ∙ ap length (sym same);
+    }
+
+-- ---- over all bytes
+
+pub size_of-is : (p : ℕ → Bool) → count_below p 256 ≡ size_of p
+unfolding all_bytes
+size_of-is p = refl
+
+pub members_of-is : (p : ℕ → Bool) → filter_below p 256 ≡ members_of p
+unfolding all_bytes
+members_of-is p = refl
+
+-- a member still has room
+pub IsFilled-room : (p : ℕ → Bool) (n b len : ℕ) (array : List ℕ) → IsFilled p n b len array → p b ≡ true → b < 256 → size_of p ≤ n → len < n
+IsFilled-room p n b len array so_far passes byte room =
+    let at = so_far.counted ∙ length-filter p (range_with_len 0 b) in
+    let more = count_below-lt p b 256 byte passes in
+    let all = size_of-is p in
+    omega arith
+
+pub IsFilled-all : (p : ℕ → Bool) (n len : ℕ) (array : List ℕ) → IsFilled p n 256 len array → array ≡ members_of p ++ replicate (n - size_of p) 0
+IsFilled-all p n len array so_far =
+    let at : len ≡ size_of p = so_far.counted ∙ length-filter p (range_with_len 0 256) ∙ size_of-is p in
+    so_far.filled ∙ ap (λ xs. xs ++ replicate (n - len) 0) (members_of-is p) ∙ ap (λ k. members_of p ++ replicate (n - k) 0) at
+
+pub count_below-bound : (p : ℕ → Bool) (n : ℕ) → count_below p n ≤ n
+count_below-bound p n =
+    let l = count_by-le-length p (range_with_len 0 n) in
+    let m = length-range_with_len 0 n in
+    omega arith

@@ -1,9 +1,12 @@
 -- Facts on the loops that look for the least place.
-use Rattle.std.proofs.Common.{◌≡◌, ℕ, ◌+◌, ◌<◌, ◌≤◌, Bool, true, false, ◌&&◌, ◌||◌, eqb, ltb, List, [], ◌∷◌, length, get_or, refl, ap, sym, ◌∙◌, arith, inl, inr}
-use Rattle.std.specs.List.{list_any}
+use Rattle.std.proofs.Common.{◌≡◌, ℕ, ◌+◌, ◌<◌, ◌≤◌, Bool, true, false, ◌&&◌, ◌||◌, eqb, ltb, List, [], ◌∷◌, length, get_or, take, drop, ◌-◌, Decides, refl, ap, sym, ◌∙◌, arith, inl, inr}
+use Rattle.std.specs.List.{list_any, starts_with}
+use Rattle.std.specs.Str.{bytes_eq}
+use Rattle.std.proofs.lemmas.List.{take_rest}
+use Rattle.std.proofs.lemmas.Slice.Eq.{bytes_eq-Decides}
 use Rattle.std.proofs.lemmas.Bool.{lt-ltb, and_right, both_ways, eqb-true, eq-eqb, ne_eqb, cases_eq, false_from_ne_true}
 use Rattle.regress_base.specs.ByteSets.{bytes_of}
-use Rattle.regress_base.specs.Places.{IsLeastAt, IsMemberAt}
+use Rattle.regress_base.specs.Places.{IsLeastAt, IsMemberAt, StandsWhole}
 
 -- no byte of the text before place n is a member
 abbrev pub NoneBefore : (ℕ → Bool) → List ℕ → ℕ → Type 0
@@ -27,8 +30,8 @@ none_found set text n all none k h at = none_at set text k (none k (omega (arith
 one_or_none : (x b : ℕ) → (eqb x b || false) ≡ eqb b x
 one_or_none x b =
     elim (cases_eq x b) [
-      inl e ↦ rw e (rw (eq-eqb b b refl) refl)
-    | inr ne ↦ rw (ne_eqb x b ne, ne_eqb b x (λ e. ne (sym e))) refl
+      | inl e ↦ rw e (rw (eq-eqb b b refl) refl)
+      | inr ne ↦ rw (ne_eqb x b ne, ne_eqb b x (λ e. ne (sym e))) refl
     ]
 
 -- the set of one byte
@@ -42,3 +45,14 @@ bytes_of-one (x ∷ y ∷ xs) b one byte = absurd (omega (arith, one))
 pub bytes_of-byte : (xs : List ℕ) (b : ℕ) → b < 256 → bytes_of xs b ≡ list_any (λ x. eqb x b) xs
 unfolding bytes_of
 bytes_of-byte xs b h = rw (lt-ltb b 256 h) refl
+
+-- what `starts_with` answers of the text from place i on
+pub starts-Decides : (text needle : List ℕ) (i : ℕ) (r : Bool) → r ≡ starts_with eqb (take (length text - i) (drop i text)) needle → Decides r (StandsWhole needle text i)
+starts-Decides text needle i r e =
+    let d = bytes_eq-Decides needle (take (length needle) (drop i text)) in
+    let at : r ≡ bytes_eq needle (take (length needle) (drop i text)) = e ∙ ap (λ xs. starts_with eqb xs needle) (take_rest text i) in
+    (λ t. sym (d.0 (sym at ∙ t)), λ h. at ∙ d.1 (sym h))
+
+-- the needle stands at the first place where `starts_with` answers true
+pub stands_first : (text needle : List ℕ) (i : ℕ) → ((k : ℕ) → k < i → ¬ (StandsWhole needle text k)) → i ≤ length text → StandsWhole needle text i → IsLeastAt (StandsWhole needle text) (length text) i
+stands_first text needle i none inside whole = record { within = inside; stands = whole; before = none }

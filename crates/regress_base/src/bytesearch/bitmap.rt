@@ -116,8 +116,12 @@ impl PartialEq for ByteBitmap {
         ensures value { result ≡ same_members self.now other.now }
         ensures members { IsTrue result ↔ SameMembers (contains self.now) (contains other.now) }
     {
-        let (words, others) = (self.words.as_slice(), other.words.as_slice());
-        words == others
+        for i in 0..WORDS {
+            if self.words[i] != other.words[i] {
+                return false;
+            }
+        }
+        true
     }
 }
 

@@ -11,5 +11,5 @@ returns c b =
     let rhs = c.args.rhs.now.words in
     let new = c.loop-i.self.words in
     or-below 256 b _ _ _ (λ h.
-        let inside : b / 16 < 16 = omega arith in
-        bit_in-or 16 old rhs new b (c.loop-i.invariant.changed (b / 16) (omega arith)))
+    let inside : b / 16 < 16 = omega arith in
+    bit_in-or 16 old rhs new b (c.loop-i.invariant.changed (b / 16) (omega arith)))
