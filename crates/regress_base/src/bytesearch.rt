@@ -9,6 +9,8 @@ mod debug_list;
 mod searcher;
 mod small_arrays;
 mod strings;
+#[cfg(test)]
+mod tests;
 
 pub use ascii::AsciiBitmap;
 pub use bitmap::ByteBitmap;
