@@ -1,7 +1,9 @@
 -- Facts on the loops that look for the least place.
-use Rattle.std.proofs.Common.{◌≡◌, ℕ, ◌+◌, ◌<◌, ◌≤◌, Bool, true, false, ◌&&◌, ◌||◌, eqb, ltb, List, [], ◌∷◌, length, get_or, take, drop, ◌-◌, Decides, refl, ap, sym, ◌∙◌, arith, inl, inr}
+use Rattle.std.proofs.Common.{◌≡◌, ◌≢◌, ℕ, ◌+◌, ◌<◌, ◌≤◌, Bool, true, false, ◌&&◌, ◌||◌, eqb, ltb, List, [], ◌∷◌, length, get_or, take, drop, ◌-◌, Decides, refl, ap, sym, ◌∙◌, arith, inl, inr}
 use Rattle.std.specs.List.{list_any, starts_with}
 use Rattle.std.specs.Str.{bytes_eq}
+use Rattle.std.proofs.lemmas.List.Folds.{list_any_at, list_any_none}
+use Rattle.std.proofs.lemmas.List.Elements.{All-from_get_or}
 use Rattle.std.proofs.lemmas.List.{take_rest}
 use Rattle.std.proofs.lemmas.Slice.Eq.{bytes_eq-Decides}
 use Rattle.std.proofs.lemmas.Bool.{lt-ltb, and_right, both_ways, eqb-true, eq-eqb, ne_eqb, cases_eq, false_from_ne_true}
@@ -34,6 +36,10 @@ one_or_none x b =
       | inr ne ↦ rw (ne_eqb x b ne, ne_eqb b x (λ e. ne (sym e))) refl
     ]
 
+or-false : (t : Bool) → (t || false) ≡ t
+or-false true = refl
+or-false false = refl
+
 -- the set of one byte
 pub bytes_of-one : (xs : List ℕ) (b : ℕ) → length xs ≡ 1 → b < 256 → bytes_of xs b ≡ eqb b (get_or xs 0 0)
 unfolding bytes_of
@@ -41,10 +47,30 @@ bytes_of-one [] b one byte = absurd (omega (arith, one))
 bytes_of-one (x ∷ []) b one byte = rw (lt-ltb b 256 byte) (one_or_none x b)
 bytes_of-one (x ∷ y ∷ xs) b one byte = absurd (omega (arith, one))
 
--- the set of the bytes of an array
-pub bytes_of-byte : (xs : List ℕ) (b : ℕ) → b < 256 → bytes_of xs b ≡ list_any (λ x. eqb x b) xs
+-- the sets of two, three and four bytes
+pub bytes_of-two : (xs : List ℕ) (b : ℕ) → length xs ≡ 2 → b < 256 → bytes_of xs b ≡ (eqb (get_or xs 0 0) b || eqb (get_or xs 1 0) b)
 unfolding bytes_of
-bytes_of-byte xs b h = rw (lt-ltb b 256 h) refl
+bytes_of-two [] b two byte = absurd (omega (arith, two))
+bytes_of-two (x ∷ []) b two byte = absurd (omega (arith, two))
+bytes_of-two (x ∷ y ∷ []) b two byte = rw (lt-ltb b 256 byte) (ap (λ t. eqb x b || t) (or-false (eqb y b)))
+bytes_of-two (x ∷ y ∷ z ∷ xs) b two byte = absurd (omega (arith, two))
+
+pub bytes_of-three : (xs : List ℕ) (b : ℕ) → length xs ≡ 3 → b < 256 → bytes_of xs b ≡ (eqb (get_or xs 0 0) b || (eqb (get_or xs 1 0) b || eqb (get_or xs 2 0) b))
+unfolding bytes_of
+bytes_of-three [] b three byte = absurd (omega (arith, three))
+bytes_of-three (w ∷ []) b three byte = absurd (omega (arith, three))
+bytes_of-three (w ∷ x ∷ []) b three byte = absurd (omega (arith, three))
+bytes_of-three (w ∷ x ∷ y ∷ []) b three byte = rw (lt-ltb b 256 byte) (ap (λ t. eqb w b || (eqb x b || t)) (or-false (eqb y b)))
+bytes_of-three (w ∷ x ∷ y ∷ z ∷ xs) b three byte = absurd (omega (arith, three))
+
+pub bytes_of-four : (xs : List ℕ) (b : ℕ) → length xs ≡ 4 → b < 256 → bytes_of xs b ≡ (eqb (get_or xs 0 0) b || (eqb (get_or xs 1 0) b || (eqb (get_or xs 2 0) b || eqb (get_or xs 3 0) b)))
+unfolding bytes_of
+bytes_of-four [] b four byte = absurd (omega (arith, four))
+bytes_of-four (v ∷ []) b four byte = absurd (omega (arith, four))
+bytes_of-four (v ∷ w ∷ []) b four byte = absurd (omega (arith, four))
+bytes_of-four (v ∷ w ∷ x ∷ []) b four byte = absurd (omega (arith, four))
+bytes_of-four (v ∷ w ∷ x ∷ y ∷ []) b four byte = rw (lt-ltb b 256 byte) (ap (λ t. eqb v b || (eqb w b || (eqb x b || t))) (or-false (eqb y b)))
+bytes_of-four (v ∷ w ∷ x ∷ y ∷ z ∷ xs) b four byte = absurd (omega (arith, four))
 
 -- what `starts_with` answers of the text from place i on
 pub starts-Decides : (text needle : List ℕ) (i : ℕ) (r : Bool) → r ≡ starts_with eqb (take (length text - i) (drop i text)) needle → Decides r (StandsWhole needle text i)

@@ -11,7 +11,7 @@ impl SmallArraySet for [u8; 2] {
     ghost members = { bytes_of };
 
     fn contains(self, b: u8) -> bool {
-        self.as_slice().contains(&b)
+        b == self[0] || b == self[1]
     }
 
     ghost bytes_only = { bytes_of-above };
@@ -21,7 +21,7 @@ impl SmallArraySet for [u8; 3] {
     ghost members = { bytes_of };
 
     fn contains(self, b: u8) -> bool {
-        self.as_slice().contains(&b)
+        b == self[0] || b == self[1] || b == self[2]
     }
 
     ghost bytes_only = { bytes_of-above };
@@ -31,7 +31,7 @@ impl SmallArraySet for [u8; 4] {
     ghost members = { bytes_of };
 
     fn contains(self, b: u8) -> bool {
-        self.as_slice().contains(&b)
+        b == self[0] || b == self[1] || b == self[2] || b == self[3]
     }
 
     ghost bytes_only = { bytes_of-above };
@@ -54,7 +54,7 @@ impl ByteSearcher for [u8; 2] {
     ghost stands_at = { λ set. IsMemberAt (bytes_of set) };
 
     fn find_in(&self, rhs: &[u8]) -> Option<usize> {
-        SmallArraySet::find_in(*self, rhs)
+        <[u8; 2] as SmallArraySet>::find_in(*self, rhs)
     }
 }
 
@@ -62,7 +62,7 @@ impl ByteSearcher for [u8; 3] {
     ghost stands_at = { λ set. IsMemberAt (bytes_of set) };
 
     fn find_in(&self, rhs: &[u8]) -> Option<usize> {
-        SmallArraySet::find_in(*self, rhs)
+        <[u8; 3] as SmallArraySet>::find_in(*self, rhs)
     }
 }
 
