@@ -2,4 +2,7 @@
 //! sets of code points, sets of bytes and searches, and the bytes of UTF-8.
 #![tactic(auto)]
 
+mod interval;
+
+pub mod codepointset;
 pub mod types;

@@ -1,0 +1,4 @@
+pub mod Intervals
+pub mod Utf8
+pub mod Classes
+pub mod Ranges
