@@ -1,5 +1,6 @@
 -- Intervals of code points, and lists of them as sets.
-use Rattle.std.specs.Prelude.{◌≡◌, ℕ, ◌+◌, ◌≤◌, Bool, true, false, not, ◌&&◌, ◌||◌, nat_le, IsTrue, List, [], ◌∷◌, Any}
+use Rattle.std.specs.Prelude.{◌≡◌, ℕ, ◌+◌, ◌≤◌, Bool, true, false, not, ◌&&◌, ◌||◌, nat_le, ◌==◌, IsTrue, List, [], ◌∷◌, Any}
+use Rattle.std.specs.Ordering.{on, eq_of_both}
 
 -- the greatest code point (Unicode Standard, section 3.4, definition D9)
 abbrev pub code_point_max : ℕ
@@ -9,6 +10,10 @@ code_point_max = 0x10FFFF
 pub record Bounds : Type 0 where
   pub first : ℕ
   pub last : ℕ
+
+-- whether the two have the same ends
+abbrev pub bounds_eq : Bounds → Bounds → Bool
+bounds_eq = eq_of_both (on (λ iv. iv.first) ◌==◌) (on (λ iv. iv.last) ◌==◌)
 
 -- the interval holds a code point at least, and no number above the greatest
 pub record IsInterval (iv : Bounds) : Type 0 where

@@ -63,6 +63,7 @@ impl Interval {
 
     /// Where the interval lies as seen from `cp`: `Greater` where all of it is above `cp`, `Less` where
     /// all of it is below, else `Equal`.
+    #[tactic(auto, using(crate::proofs::WithinLemmas::is_within_tells))]
     pub fn compare(self, cp: u32) -> Ordering
         ensures greater { (result ≡ Greater) ↔ (cp < self.first) }
         ensures less { (result ≡ Less) ↔ (self.last < cp) }
@@ -78,6 +79,7 @@ impl Interval {
     }
 
     /// Whether `cp` lies in the interval.
+    #[tactic(auto, using(crate::proofs::WithinLemmas::is_within_tells))]
     pub fn contains(self, cp: CodePoint) -> bool
         ensures { result ≡ is_within self cp }
     {

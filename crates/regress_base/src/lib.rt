@@ -4,5 +4,7 @@
 
 mod interval;
 
+pub mod charclasses;
 pub mod codepointset;
 pub mod types;
+pub mod util;

@@ -1,0 +1,59 @@
+//! The range of equal elements.
+ghost use Rattle.std.specs.Prelude.{◌≡◌, ◌≤◌, length};
+ghost use Rattle.std.specs.List.Sorted.{IsNonDecreasingBy};
+ghost use Rattle.std.specs.Fn.{ComputesKey};
+ghost use Rattle.std.specs.Ordering.{ordering_index};
+ghost use Rattle.std.specs.declared.cmp.Ordering.{Ordering};
+ghost use Rattle.regress_base.specs.Ranges.{IsEqualRange};
+
+use std::cmp::Ordering;
+use std::ops::Range;
+
+/// The range of the elements that `f` calls `Equal`, where its answers over `s` are `Less`, then
+/// `Equal`, then `Greater`. An empty one stands where an equal element would go. Two binary searches.
+pub fn equal_range_by<T, F: FnMut(&T) -> Ordering>(s: &[T], mut f: F) -> Range<usize>
+    requires { F.IsAlwaysCallable f }
+    ensures in_order { result.start ≤ result.end }
+    ensures in_bounds { result.end ≤ length s.now }
+    ensures equal { (ord : T → Ordering) → ComputesKey F.FnMut ord f
+        → IsNonDecreasingBy (λ x. ordering_index (ord x)) s.now
+        → IsEqualRange ord s.now result.start result.end }
+{
+    let start = lower_bound(s, &mut f);
+    let end = upper_bound(s, start, &mut f);
+    start..end
+}
+
+/// The first place from which on no element is `Less`.
+fn lower_bound<T, F: FnMut(&T) -> Ordering>(s: &[T], f: &mut F) -> usize
+    requires { F.IsAlwaysCallable f.old }
+{
+    let mut low = 0;
+    let mut high = s.len();
+    while low < high {
+        let mid = low + (high - low) / 2;
+        if f(&s[mid]).is_lt() {
+            low = mid + 1;
+        } else {
+            high = mid;
+        }
+    }
+    low
+}
+
+/// The first place from `low` on from which on each element is `Greater`.
+fn upper_bound<T, F: FnMut(&T) -> Ordering>(s: &[T], mut low: usize, f: &mut F) -> usize
+    requires callable { F.IsAlwaysCallable f.old }
+    requires in_bounds { low ≤ length s.now }
+{
+    let mut high = s.len();
+    while low < high {
+        let mid = low + (high - low) / 2;
+        if f(&s[mid]).is_gt() {
+            high = mid;
+        } else {
+            low = mid + 1;
+        }
+    }
+    low
+}
