@@ -1,1 +1,5 @@
 pub mod WithinLemmas
+pub mod MemberLemmas
+pub mod CanonicalLemmas
+pub mod SearchLemmas
+pub mod RangesLemmas
