@@ -3,3 +3,4 @@ pub mod MemberLemmas
 pub mod CanonicalLemmas
 pub mod SearchLemmas
 pub mod RangesLemmas
+pub mod AddLemmas

@@ -1,5 +1,6 @@
 -- Intervals of code points, and lists of them as sets.
-use Rattle.std.specs.Prelude.{◌≡◌, ℕ, ◌+◌, ◌≤◌, Bool, true, false, not, ◌&&◌, ◌||◌, nat_le, ◌==◌, IsTrue, List, [], ◌∷◌, Any}
+use Rattle.std.specs.Prelude.{◌≡◌, ℕ, ◌+◌, ◌<◌, ◌≤◌, Bool, true, false, not, ◌&&◌, ◌||◌, nat_le, ◌==◌, IsTrue, List, [], ◌∷◌, length, Any}
+use Rattle.std.specs.List.{AllWithin}
 use Rattle.std.specs.Ordering.{on, eq_of_both}
 
 -- the greatest code point (Unicode Standard, section 3.4, definition D9)
@@ -52,3 +53,12 @@ pub record Touches (a b : Bounds) : Type 0 where
 -- the interval touches one of the list at least
 abbrev pub TouchesAny : Bounds → List Bounds → Type 0
 TouchesAny iv ivs = Any (Touches iv) ivs
+
+-- The intervals before `start` end before `iv` begins, those from `end` on begin after it ends, each
+-- with a code point between, and those from `start` to `end` touch it.
+pub record IsTouchingRange (ivs : List Bounds) (iv : Bounds) (start end : ℕ) : Type 0 where
+  pub in_order : start ≤ end
+  pub in_bounds : end ≤ length ivs
+  pub before : AllWithin (λ old. old.last + 1 < iv.first) ivs 0 start
+  pub touching : AllWithin (Touches iv) ivs start end
+  pub behind : AllWithin (λ old. iv.last + 1 < old.first) ivs end (length ivs)

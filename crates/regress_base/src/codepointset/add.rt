@@ -1,6 +1,7 @@
 //! Adding intervals to a set.
-ghost use Rattle.std.specs.Prelude.{◌≡◌, ◌==◌, ℕ, ◌≤◌, ◌||◌, IsOk, OnOk, OnErr};
-ghost use Rattle.regress_base.specs.Intervals.{is_member, is_within, IsCanonical, TouchesAny};
+ghost use Rattle.std.specs.Prelude.{◌≡◌, ◌==◌, ℕ, ◌+◌, ◌<◌, ◌≤◌, ◌↔◌, ◌||◌, IsOk, OnOk, OnErr};
+ghost use Rattle.regress_base.specs.Intervals.{is_member, is_within, IsCanonical, TouchesAny, IsTouchingRange};
+ghost use Rattle.std.specs.declared.cmp.Ordering.TheVariants.{Less, Greater};
 
 use super::CodePointSet;
 use crate::interval::{CODE_POINT_MAX, CodePoint, Interval};
@@ -47,6 +48,7 @@ impl CodePointSet {
 /// Constant where it belongs at the end, else a binary search.
 fn touching(ivs: &[Interval], new_iv: Interval) -> Range<usize>
     requires { IsCanonical ivs.now }
+    ensures { IsTouchingRange ivs.now new_iv result.start result.end }
 {
     let len = ivs.len();
     match ivs.last() {
@@ -59,7 +61,10 @@ fn touching(ivs: &[Interval], new_iv: Interval) -> Range<usize>
 
 /// `Less` or `Greater` where `iv` lies before or after `other` with a code point between them, else
 /// `Equal`: they overlap or touch.
-fn merge_order(iv: Interval, other: Interval) -> Ordering {
+fn merge_order(iv: Interval, other: Interval) -> Ordering
+    ensures less { (result ≡ Less) ↔ (iv.last + 1 < other.first) }
+    ensures greater { (result ≡ Greater) ↔ (other.last + 1 < iv.first) }
+{
     if iv.last() + 1 < other.first() {
         Ordering::Less
     } else if other.last() + 1 < iv.first() {
