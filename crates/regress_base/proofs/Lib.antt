@@ -4,3 +4,4 @@ pub mod CanonicalLemmas
 pub mod SearchLemmas
 pub mod RangesLemmas
 pub mod AddLemmas
+pub mod JoinLemmas

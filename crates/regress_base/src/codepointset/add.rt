@@ -1,6 +1,6 @@
 //! Adding intervals to a set.
 ghost use Rattle.std.specs.Prelude.{◌≡◌, ◌==◌, ℕ, ◌+◌, ◌<◌, ◌≤◌, ◌↔◌, ◌||◌, IsOk, OnOk, OnErr};
-ghost use Rattle.regress_base.specs.Intervals.{is_member, is_within, IsCanonical, TouchesAny, IsTouchingRange};
+ghost use Rattle.regress_base.specs.Intervals.{is_member, is_within, IsInterval, IsCanonical, TouchesAny, IsTouchingRange};
 ghost use Rattle.std.specs.declared.cmp.Ordering.TheVariants.{Less, Greater};
 
 use super::CodePointSet;
@@ -48,13 +48,15 @@ impl CodePointSet {
 /// Constant where it belongs at the end, else a binary search.
 fn touching(ivs: &[Interval], new_iv: Interval) -> Range<usize>
     requires { IsCanonical ivs.now }
-    ensures { IsTouchingRange ivs.now new_iv result.start result.end }
+    ensures range { IsTouchingRange ivs.now new_iv result.start result.end }
+    ensures interval { IsInterval new_iv }
 {
     let len = ivs.len();
+    let first = new_iv.first();
     match ivs.last() {
         None => 0..0,
-        Some(last) if last.last() + 1 < new_iv.first() => len..len,
-        Some(last) if last.first() <= new_iv.first() => len - 1..len,
+        Some(last) if last.last() + 1 < first => len..len,
+        Some(last) if last.first() <= first => len - 1..len,
         Some(_) => equal_range_by(ivs, |iv| merge_order(*iv, new_iv)),
     }
 }
