@@ -5,3 +5,4 @@ pub mod SearchLemmas
 pub mod RangesLemmas
 pub mod AddLemmas
 pub mod JoinLemmas
+pub mod Utf8Lemmas

@@ -1,5 +1,5 @@
 //! The bytes of UTF-8 (RFC 3629, section 3). Surrogates follow the rule for three bytes.
-ghost use Rattle.std.specs.Prelude.{◌≡◌, ℕ, ◌<◌, ◌≤◌, ◌%◌, ◌^◌, IsTrue, [], ◌∷◌, Some, slice_get, encode_utf8, if◌then◌else◌};
+ghost use Rattle.std.specs.Prelude.{◌≡◌, ℕ, ◌<◌, ◌≤◌, ◌+◌, ◌*◌, ◌%◌, ◌^◌, IsTrue, [], ◌∷◌, Some, slice_get, encode_utf8, if◌then◌else◌};
 ghost use Rattle.regress_base.specs.Utf8.{is_scalar, is_continuation, IsLeadOfTwo, IsLeadOfThree, IsLeadOfFour, value_of_two, value_of_three, value_of_four};
 
 use crate::interval::CODE_POINT_MAX;
@@ -12,6 +12,7 @@ pub fn to_char_sat(c: u32) -> char
 }
 
 /// The first byte of the code point in UTF-8.
+#[tactic(auto, using(crate::proofs::Utf8Lemmas::first_of_two, crate::proofs::Utf8Lemmas::first_of_three, crate::proofs::Utf8Lemmas::first_of_four))]
 pub fn utf8_first_byte(cp: u32) -> u8
     requires { cp ≤ CODE_POINT_MAX }
     ensures { slice_get (encode_utf8 cp) 0 ≡ Some result }
@@ -41,7 +42,7 @@ pub fn utf8_w2(b0: u8, b1: u8) -> u32
     ensures value { result ≡ value_of_two b0 b1 }
     ensures decodes { (c : ℕ) → encode_utf8 c ≡ b0 ∷ b1 ∷ [] → result ≡ c }
 {
-    low_bits(b0, 5) << 6 | low_bits(b1, 6)
+    continued(low_bits(b0, 5), b1)
 }
 
 /// The code point of three bytes, 1110xxxx and two continuations.
@@ -52,7 +53,7 @@ pub fn utf8_w3(b0: u8, b1: u8, b2: u8) -> u32
     ensures value { result ≡ value_of_three b0 b1 b2 }
     ensures decodes { (c : ℕ) → encode_utf8 c ≡ b0 ∷ b1 ∷ b2 ∷ [] → result ≡ c }
 {
-    (low_bits(b0, 4) << 6 | low_bits(b1, 6)) << 6 | low_bits(b2, 6)
+    continued(continued(low_bits(b0, 4), b1), b2)
 }
 
 /// The code point of four bytes, 11110xxx and three continuations.
@@ -64,7 +65,15 @@ pub fn utf8_w4(b0: u8, b1: u8, b2: u8, b3: u8) -> u32
     ensures value { result ≡ value_of_four b0 b1 b2 b3 }
     ensures decodes { (c : ℕ) → encode_utf8 c ≡ b0 ∷ b1 ∷ b2 ∷ b3 ∷ [] → result ≡ c }
 {
-    ((low_bits(b0, 3) << 6 | low_bits(b1, 6)) << 6 | low_bits(b2, 6)) << 6 | low_bits(b3, 6)
+    continued(continued(continued(low_bits(b0, 3), b1), b2), b3)
+}
+
+/// The bits so far, and behind them the six of a continuation.
+fn continued(bits: u32, b: u8) -> u32
+    requires { bits < 2 ^ 24 }
+    ensures { result ≡ bits * 64 + b % 64 }
+{
+    bits << 6 | low_bits(b, 6)
 }
 
 /// The lowest `count` bits of the byte.
