@@ -5,3 +5,7 @@ pub mod ByteLaws
 pub mod ByteSets
 pub mod Needle
 pub mod Places
+pub mod Intervals
+pub mod Utf8
+pub mod Classes
+pub mod Ranges

@@ -2,5 +2,10 @@
 //! sets of code points, sets of bytes and searches, and the bytes of UTF-8.
 #![tactic(auto)]
 
+mod interval;
+
 pub mod bytesearch;
+pub mod charclasses;
+pub mod codepointset;
 pub mod types;
+pub mod util;

@@ -1,0 +1,111 @@
+//! Union, intersection and difference, and equality.
+ghost use Rattle.std.specs.Prelude.{◌≡◌, ℕ, ◌||◌, ◌&&◌, ◌↔◌, not, IsTrue, IfOk, OnOk, OnErr};
+ghost use Rattle.regress_base.specs.Intervals.{is_member, bounds_eq, IsCanonical};
+ghost use Rattle.std.proofs.Common.{rules};
+ghost use Rattle.std.specs.Cmp.Rules.{comparing};
+ghost use Rattle.std.specs.Cmp.Lexicographic.{pointwise};
+
+use super::{CodePointSet, invert};
+use crate::interval::Interval;
+use std::alloc::{AllocError, Global};
+
+impl CodePointSet {
+    /// Adds the members of `rhs`. After an error the set is as it was. One pass over both lists.
+    pub fn add_set(&mut self, rhs: CodePointSet) -> Result<(), AllocError>
+        ensures members { OnOk result ((c : ℕ) → is_member self.new c ≡ (is_member self.old c || is_member rhs c)) }
+        ensures canonical { IsCanonical self.new }
+        ensures err { OnErr result (self.new ≡ self.old) }
+    {
+        let joined = union(*self.ivs.allocator(), &self.ivs, &rhs.ivs)?;
+        self.ivs = joined.ivs;
+        Ok(())
+    }
+
+    /// Keeps the members that lie in one of the intervals. After an error the set is as it was. One
+    /// pass over both lists.
+    pub fn intersect(&mut self, intervals: &[Interval]) -> Result<(), AllocError>
+        requires { IsCanonical intervals.now }
+        ensures members { OnOk result ((c : ℕ) → is_member self.new c ≡ (is_member self.old c && is_member intervals.now c)) }
+        ensures canonical { IsCanonical self.new }
+        ensures err { OnErr result (self.new ≡ self.old) }
+    {
+        let common = intersection(*self.ivs.allocator(), &self.ivs, intervals)?;
+        self.ivs = common.ivs;
+        Ok(())
+    }
+
+    /// Drops the members that lie in one of the intervals. After an error the set is as it was. One
+    /// pass over the intervals, to have the gaps between them, and one over both lists.
+    pub fn remove(&mut self, intervals: &[Interval]) -> Result<(), AllocError>
+        requires { IsCanonical intervals.now }
+        ensures members { OnOk result ((c : ℕ) → is_member self.new c ≡ (is_member self.old c && not (is_member intervals.now c))) }
+        ensures canonical { IsCanonical self.new }
+        ensures err { OnErr result (self.new ≡ self.old) }
+    {
+        let kept = invert::gaps(*self.ivs.allocator(), intervals)?;
+        self.intersect(&kept)
+    }
+}
+
+/// The members of either list. The intervals are taken in ascending order, so that each is added at
+/// the end.
+fn union(alloc: Global, left: &[Interval], right: &[Interval]) -> Result<CodePointSet, AllocError>
+    ensures { IfOk result (λ set. (c : ℕ) → is_member set c ≡ (is_member left.now c || is_member right.now c)) }
+{
+    let mut joined = CodePointSet::new(alloc);
+    let mut i = 0;
+    let mut j = 0;
+    while i < left.len() || j < right.len() {
+        if j == right.len() || (i < left.len() && left[i].first() <= right[j].first()) {
+            joined.add(left[i])?;
+            i += 1;
+        } else {
+            joined.add(right[j])?;
+            j += 1;
+        }
+    }
+    Ok(joined)
+}
+
+/// The members of both lists.
+fn intersection(
+    alloc: Global,
+    left: &[Interval],
+    right: &[Interval],
+) -> Result<CodePointSet, AllocError>
+    requires left_canonical { IsCanonical left.now }
+    requires right_canonical { IsCanonical right.now }
+    ensures { IfOk result (λ set. (c : ℕ) → is_member set c ≡ (is_member left.now c && is_member right.now c)) }
+{
+    let mut common = CodePointSet::new(alloc);
+    let mut i = 0;
+    let mut j = 0;
+    while i < left.len() && j < right.len() {
+        if left[i].overlaps(right[j]) {
+            let first = left[i].first().max(right[j].first());
+            let last = left[i].last().min(right[j].last());
+            common.add(Interval::new(first, last))?;
+        }
+        if left[i].last() <= right[j].last() {
+            i += 1;
+        } else {
+            j += 1;
+        }
+    }
+    Ok(common)
+}
+
+/// Sets are equal where they have the same intervals, which is where they have the same members.
+impl PartialEq for CodePointSet {
+    ghost eq = { pointwise bounds_eq };
+
+    ghost laws = { Prim.search (comparing, rules) };
+
+    fn eq(&self, other: &CodePointSet) -> bool {
+        self.ivs == other.ivs
+    }
+}
+
+impl Eq for CodePointSet {
+    ghost laws = { Prim.search (comparing, rules) };
+}
