@@ -1,7 +1,8 @@
-pub mod Bitmaps
-pub mod Cells
-pub mod Counting
-pub mod Searches
+pub mod BitmapLemmas
+pub mod CellLemmas
+pub mod CountLemmas
+pub mod FindLemmas
+pub mod FirstByteLemmas
 pub mod WithinLemmas
 pub mod MemberLemmas
 pub mod CanonicalLemmas

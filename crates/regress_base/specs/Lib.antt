@@ -3,6 +3,7 @@ pub mod AsciiLaws
 pub mod ByteBitmap
 pub mod ByteLaws
 pub mod ByteSets
+pub mod FirstBytes
 pub mod Needle
 pub mod Places
 pub mod Intervals

@@ -1,6 +1,6 @@
 //! A set of bytes as a bitmap of 32 bytes.
 
-ghost use Rattle.std.specs.Prelude.{◌≡◌, ℕ, ◌<◌, ◌≤◌, ◌-◌, ◌==◌, ◌||◌, ◌&&◌, ◌++◌, ◌↔◌, false, not, nat_lt, IsTrue, replicate};
+ghost use Rattle.std.specs.Prelude.{◌≡◌, ℕ, ◌<◌, ◌≤◌, ◌-◌, ◌==◌, ◌||◌, ◌&&◌, ◌++◌, ◌↔◌, false, not, nat_le, nat_lt, IsTrue, replicate};
 ghost use Rattle.std.proofs.Common.{rules};
 ghost use Rattle.std.specs.Cmp.Rules.{comparing};
 ghost use Rattle.regress_base.specs.ByteBitmap.{contains, same_members};
@@ -47,6 +47,15 @@ impl ByteBitmap {
         ensures { (b : ℕ) → contains self.new b ≡ (b == val || contains self.old b) }
     {
         self.words[(val / WORD_BITS) as usize] |= 1 << (val % WORD_BITS);
+    }
+
+    /// Adds the bytes from `first` to `last`, both included.
+    pub(crate) fn set_range(&mut self, first: u8, last: u8)
+        ensures { (b : ℕ) → contains self.new b ≡ ((nat_le first b && nat_le b last) || contains self.old b) }
+    {
+        for b in first..=last {
+            self.set(b);
+        }
     }
 
     /// Adds the members of `rhs`.

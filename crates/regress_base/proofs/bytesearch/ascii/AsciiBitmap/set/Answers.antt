@@ -2,7 +2,7 @@ use Rattle.std.proofs.Common.{◌<◌, ◌%◌, ◌/◌, length, arith, rules, l
 use Rattle.std.specs.Int.{w8}
 use Rattle.regress_base.specs.AsciiBitmap.{ascii_contains}
 use Rattle.regress_base.specs.ByteSets.{bit_in}
-use Rattle.regress_base.proofs.Cells.{bit_in-with_bit, or-guarded}
+use Rattle.regress_base.proofs.CellLemmas.{bit_in-with_bit, or-guarded}
 use Rattle.regress_base.proofs.bytesearch.ascii.AsciiBitmap.set.Goals as goal
 
 pub returns : goal.returns

@@ -3,7 +3,7 @@ use Rattle.std.specs.Int.{w8}
 use Rattle.std.proofs.lemmas.Bool.{lt-ltb, le-ltb, lt-leb}
 use Rattle.regress_base.specs.AsciiBitmap.{ascii_contains}
 use Rattle.regress_base.specs.ByteSets.{bit_in}
-use Rattle.regress_base.proofs.Cells.{tested}
+use Rattle.regress_base.proofs.CellLemmas.{tested}
 use Rattle.regress_base.proofs.bytesearch.ascii.AsciiBitmapByteSet.contains.Goals as goal
 
 pub returns-then-val-le-ASCII_MAX : goal.returns-then-val-le-ASCII_MAX

@@ -1,5 +1,5 @@
 use Rattle.regress_base.specs.ByteBitmap.{contains}
-use Rattle.regress_base.proofs.Counting.{IsFilled}
+use Rattle.regress_base.proofs.CountLemmas.{IsFilled}
 use Rattle.regress_base.proofs.bytesearch.bitmap.ByteBitmap.as_array.Given as goal
 
 abbrev pub invariant-loop-b : goal.invariant-loop-b

@@ -1,5 +1,5 @@
 use Rattle.std.proofs.Common.{get_or, ◌-◌, ◌<◌, ◌^◌, ℕ}
-use Rattle.regress_base.proofs.Cells.{CellsUpTo}
+use Rattle.regress_base.proofs.CellLemmas.{CellsUpTo}
 use Rattle.regress_base.proofs.bytesearch.bitmap.ByteBitmap.bitnot.Given as goal
 
 abbrev pub invariant-loop-i : goal.invariant-loop-i

@@ -2,7 +2,7 @@ use Rattle.std.proofs.Common.{◌<◌, ◌%◌, ◌/◌, get_or, arith}
 use Rattle.regress_base.specs.ByteBitmap.{contains}
 use Rattle.regress_base.specs.ByteSets.{bit_in}
 use Rattle.std.proofs.lemmas.Bool.{lt-ltb}
-use Rattle.regress_base.proofs.Cells.{tested}
+use Rattle.regress_base.proofs.CellLemmas.{tested}
 use Rattle.std.specs.Int.{w16}
 use Rattle.regress_base.proofs.bytesearch.bitmap.ByteBitmap.contains.Goals as goal
 

@@ -1,7 +1,7 @@
 use Rattle.std.proofs.Common.{◌≡◌, ◌+◌, ◌*◌, ◌<◌, ◌^◌, get_or, sym, ap, ◌∙◌, arith, rules}
 use Rattle.regress_base.specs.ByteBitmap.{contains}
-use Rattle.regress_base.proofs.Bitmaps.{count_below-word}
-use Rattle.regress_base.proofs.Counting.{count_below, count_below-bound, size_of-is}
+use Rattle.regress_base.proofs.BitmapLemmas.{count_below-word}
+use Rattle.regress_base.proofs.CountLemmas.{count_below, count_below-bound, size_of-is}
 use Rattle.regress_base.proofs.bytesearch.bitmap.ByteBitmap.count_bits.Goals as goal
 
 pub overflow_add-count : goal.overflow_add-count

@@ -1,7 +1,7 @@
 use Rattle.std.proofs.Common.{◌≡◌, ◌||◌, eqb, get_or, take, sym, ap, ◌∙◌, arith}
 use Rattle.std.proofs.lemmas.List.{take_all}
 use Rattle.regress_base.specs.ByteSets.{bytes_of}
-use Rattle.regress_base.proofs.Bitmaps.{bytes_of-none, bytes_of-more}
+use Rattle.regress_base.proofs.BitmapLemmas.{bytes_of-none, bytes_of-more}
 use Rattle.regress_base.proofs.bytesearch.bitmap.ByteBitmap.new.Goals as goal
 
 pub loop-b-init : goal.loop-b-init

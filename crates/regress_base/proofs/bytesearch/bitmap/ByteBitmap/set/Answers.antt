@@ -1,7 +1,7 @@
 use Rattle.std.proofs.Common.{◌<◌, ◌%◌, ◌/◌, length, arith, rules, ltb, ◌&&◌, ◌∙◌, ap}
 use Rattle.regress_base.specs.ByteBitmap.{contains}
 use Rattle.regress_base.specs.ByteSets.{bit_in}
-use Rattle.regress_base.proofs.Cells.{bit_in-with_bit, or-guarded}
+use Rattle.regress_base.proofs.CellLemmas.{bit_in-with_bit, or-guarded}
 use Rattle.std.specs.Int.{w16}
 use Rattle.regress_base.proofs.bytesearch.bitmap.ByteBitmap.set.Goals as goal
 

@@ -1,7 +1,7 @@
 use Rattle.std.proofs.Common.{◌&&◌, ltb, ap, ◌∙◌}
 use Rattle.std.proofs.lemmas.Bool.{and_right}
 use Rattle.regress_base.specs.ByteBitmap.{contains}
-use Rattle.regress_base.proofs.Cells.{bit_in-zeros}
+use Rattle.regress_base.proofs.CellLemmas.{bit_in-zeros}
 use Rattle.regress_base.proofs.bytesearch.bitmap.ByteBitmapDefault.default.Goals as goal
 
 pub returns : goal.returns

@@ -3,7 +3,7 @@ use Rattle.std.proofs.lemmas.Bool.{false≢true}
 use Rattle.std.proofs.lemmas.Bool.Decides.{same_from_decides}
 use Rattle.regress_base.specs.ByteBitmap.{contains}
 use Rattle.regress_base.specs.ByteSets.{SameMembers}
-use Rattle.regress_base.proofs.Bitmaps.{same_word, equal_words, same_members-Decides}
+use Rattle.regress_base.proofs.BitmapLemmas.{same_word, equal_words, same_members-Decides}
 use Rattle.regress_base.proofs.bytesearch.bitmap.ByteBitmapPartialEq.eq.Goals as goal
 
 pub returns-then-self-i-clause-members : goal.returns-then-self-i-clause-members

@@ -1,5 +1,5 @@
 use Rattle.std.proofs.Common.{sym, ◌∙◌}
-use Rattle.regress_base.proofs.Searches.{first_found}
+use Rattle.regress_base.proofs.FindLemmas.{first_found}
 use Rattle.regress_base.proofs.bytesearch.searcher.SmallArraySet.find_in.Goals as goal
 
 pub returns-then-contains : goal.returns-then-contains

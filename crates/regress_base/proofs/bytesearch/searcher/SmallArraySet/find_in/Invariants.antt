@@ -1,4 +1,4 @@
-use Rattle.regress_base.proofs.Searches.{NoneBefore}
+use Rattle.regress_base.proofs.FindLemmas.{NoneBefore}
 use Rattle.regress_base.proofs.bytesearch.searcher.SmallArraySet.find_in.Given as goal
 
 abbrev pub invariant-loop-i : goal.invariant-loop-i

@@ -1,6 +1,6 @@
 use Rattle.std.proofs.Common.{get_or, below_more, sym, ◌∙◌}
 use Rattle.std.proofs.lemmas.Bool.{eq-eqb, ne_eqb}
-use Rattle.regress_base.proofs.Searches.{first_found, bytes_of-one}
+use Rattle.regress_base.proofs.FindLemmas.{first_found, bytes_of-one}
 use Rattle.regress_base.proofs.bytesearch.small_arrays.ArrayU81ByteSearcher.find_in.Goals as goal
 
 pub returns-then-b-self : goal.returns-then-b-self

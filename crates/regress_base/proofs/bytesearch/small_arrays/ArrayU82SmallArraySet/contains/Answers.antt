@@ -1,6 +1,6 @@
 use Rattle.std.proofs.Common.{arith}
 use Rattle.std.proofs.lemmas.Bool.Decides.{nat_tests}
-use Rattle.regress_base.proofs.Searches.{bytes_of-two}
+use Rattle.regress_base.proofs.FindLemmas.{bytes_of-two}
 use Rattle.regress_base.proofs.bytesearch.small_arrays.ArrayU82SmallArraySet.contains.Goals as goal
 
 pub returns-then-b-self : goal.returns-then-b-self

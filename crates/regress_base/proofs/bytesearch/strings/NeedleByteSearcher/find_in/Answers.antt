@@ -1,7 +1,7 @@
 use Rattle.std.proofs.Common.{below_more, arith}
 use Rattle.std.proofs.lemmas.Bool.Decides.{not_from_Decides}
 use Rattle.regress_base.specs.Needle.{needle_bytes}
-use Rattle.regress_base.proofs.Searches.{starts-Decides, stands_first}
+use Rattle.regress_base.proofs.FindLemmas.{starts-Decides, stands_first}
 use Rattle.regress_base.proofs.bytesearch.strings.NeedleByteSearcher.find_in.Goals as goal
 
 pub returns-then-starts_with : goal.returns-then-starts_with

@@ -17,8 +17,8 @@ use mir.Val.{bits}
 use Rattle.regress_base.specs.ByteBitmap.{contains, same_members}
 use Rattle.regress_base.specs.ByteSets.{bit_in, bytes_of, all_bytes, SameMembers}
 use Rattle.regress_base.specs.declared.bytesearch.bitmap.ByteBitmap.{ByteBitmap}
-use Rattle.regress_base.proofs.Cells.{or-guarded}
-use Rattle.regress_base.proofs.Counting.{count_below, count_below-add, count_below-agree, count_ones-bits}
+use Rattle.regress_base.proofs.CellLemmas.{or-guarded}
+use Rattle.regress_base.proofs.CountLemmas.{count_below, count_below-add, count_below-agree, count_ones-bits}
 
 -- ---- bitmaps with the same members have the same words
 
