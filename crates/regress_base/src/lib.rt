@@ -2,10 +2,9 @@
 //! sets of code points, sets of bytes and searches, and the bytes of UTF-8.
 #![tactic(auto)]
 
-mod interval;
-
 pub mod bytesearch;
 pub mod charclasses;
 pub mod codepointset;
+mod interval;
 pub mod types;
 pub mod util;
