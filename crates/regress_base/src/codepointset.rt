@@ -4,6 +4,7 @@ ghost use Rattle.regress_base.specs.Intervals.{is_member, IsCanonical};
 
 pub use crate::interval::{CODE_POINT_MAX, CodePoint, Interval};
 pub use canonical::is_canonical;
+
 use std::alloc::{AllocError, Global};
 use std::marker::Model;
 
