@@ -16,6 +16,7 @@ use Rattle.std.proofs.lemmas.Nat.Bits.{bit_at-lt, same_from_bits_below}
 use mir.Val.{bits}
 use Rattle.regress_base.specs.ByteBitmap.{contains, same_members}
 use Rattle.regress_base.specs.ByteSets.{bit_in, bytes_of, all_bytes, SameMembers}
+use Rattle.regress_base.specs.ByteLaws.{contains-bytes_only}
 use Rattle.regress_base.specs.declared.bytesearch.bitmap.ByteBitmap.{ByteBitmap}
 use Rattle.regress_base.proofs.CellLemmas.{or-guarded}
 use Rattle.regress_base.proofs.CountLemmas.{count_below, count_below-add, count_below-agree, count_ones-bits}
@@ -65,10 +66,6 @@ pub members_from_words : (s t : ByteBitmap) → s.words ≡ t.words → SameMemb
 unfolding contains
 members_from_words s t e = λ b. ap (λ ws. ltb b 256 && bit_in 16 ws b) e
 
-contains-above : (s : ByteBitmap) (b : ℕ) → 256 ≤ b → contains s b ≡ false
-unfolding contains
-contains-above s b h = rw (le-ltb b 256 h) refl
-
 -- tests that answer alike along the numbers below n answer alike there
 agree_below : (n : ℕ) (p q : ℕ → Bool) → map p (range_with_len 0 n) ≡ map q (range_with_len 0 n) → (b : ℕ) → b < n → p b ≡ q b
 agree_below n p q e b h =
@@ -79,7 +76,7 @@ unfolding all_bytes
 members_from_flags s t e = λ b.
     elim (cases_lt b 256) [
       | inl h ↦ agree_below 256 (contains s) (contains t) e b h
-      | inr h ↦ contains-above s b h ∙ sym (contains-above t b h)
+      | inr h ↦ contains-bytes_only s b h ∙ sym (contains-bytes_only t b h)
     ]
 
 -- `==` on bitmaps by their words

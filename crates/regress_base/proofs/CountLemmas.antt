@@ -10,7 +10,7 @@ use Rattle.std.proofs.lemmas.List.{set_at, append_assoc, append-nil, length_push
 use Rattle.std.proofs.lemmas.List.Elements.{filter-append}
 use Rattle.std.proofs.lemmas.List.Sums.{sum_by-append, length-filter, count_by-le-length}
 use Rattle.std.proofs.lemmas.List.FromFn.{length-range_with_len}
-use Rattle.regress_base.specs.ByteSets.{all_bytes, members_of, size_of}
+use Rattle.regress_base.specs.ByteSets.{all_bytes, members_of, member_count}
 use Rattle.std.proofs.lemmas.Nat.{ones_cat, shr_split, shr_below, pow_pos, mod_below}
 use Rattle.std.proofs.lemmas.Nat.Bits.{bit_at_cat_low, bit_at-lt}
 
@@ -156,25 +156,25 @@ IsFilled-no p n b len array so_far fails =
 
 -- ---- over all bytes
 
-pub size_of-is : (p : ℕ → Bool) → count_below p 256 ≡ size_of p
+pub member_count-is : (p : ℕ → Bool) → count_below p 256 ≡ member_count p
 unfolding all_bytes
-size_of-is p = refl
+member_count-is p = refl
 
 pub members_of-is : (p : ℕ → Bool) → filter_below p 256 ≡ members_of p
 unfolding all_bytes
 members_of-is p = refl
 
 -- a member still has room
-pub IsFilled-room : (p : ℕ → Bool) (n b len : ℕ) (array : List ℕ) → IsFilled p n b len array → p b ≡ true → b < 256 → size_of p ≤ n → len < n
+pub IsFilled-room : (p : ℕ → Bool) (n b len : ℕ) (array : List ℕ) → IsFilled p n b len array → p b ≡ true → b < 256 → member_count p ≤ n → len < n
 IsFilled-room p n b len array so_far passes byte room =
     let at = so_far.counted ∙ length-filter p (range_with_len 0 b) in
     let more = count_below-lt p b 256 byte passes in
-    let all = size_of-is p in
+    let all = member_count-is p in
     omega arith
 
-pub IsFilled-all : (p : ℕ → Bool) (n len : ℕ) (array : List ℕ) → IsFilled p n 256 len array → array ≡ members_of p ++ replicate (n - size_of p) 0
+pub IsFilled-all : (p : ℕ → Bool) (n len : ℕ) (array : List ℕ) → IsFilled p n 256 len array → array ≡ members_of p ++ replicate (n - member_count p) 0
 IsFilled-all p n len array so_far =
-    let at : len ≡ size_of p = so_far.counted ∙ length-filter p (range_with_len 0 256) ∙ size_of-is p in
+    let at : len ≡ member_count p = so_far.counted ∙ length-filter p (range_with_len 0 256) ∙ member_count-is p in
     so_far.filled ∙ ap (λ xs. xs ++ replicate (n - len) 0) (members_of-is p) ∙ ap (λ k. members_of p ++ replicate (n - k) 0) at
 
 pub count_below-bound : (p : ℕ → Bool) (n : ℕ) → count_below p n ≤ n

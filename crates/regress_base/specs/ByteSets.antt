@@ -12,8 +12,8 @@ abbrev pub members_of : (ℕ → Bool) → List ℕ
 members_of set = filter set all_bytes
 
 -- how many members a byte set has
-abbrev pub size_of : (ℕ → Bool) → ℕ
-size_of set = count_by set all_bytes
+abbrev pub member_count : (ℕ → Bool) → ℕ
+member_count set = count_by set all_bytes
 
 -- two byte sets have the same members
 abbrev pub SameMembers : (ℕ → Bool) → (ℕ → Bool) → Type 0

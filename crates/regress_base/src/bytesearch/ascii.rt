@@ -2,7 +2,7 @@
 
 ghost use Rattle.std.specs.Prelude.{◌≡◌, ℕ, ◌≤◌, ◌==◌, ◌||◌, false};
 ghost use Rattle.regress_base.specs.AsciiBitmap.{ascii_contains};
-ghost use Rattle.regress_base.specs.AsciiLaws.{ascii_contains-above};
+ghost use Rattle.regress_base.specs.AsciiLaws.{ascii_contains-bytes_only};
 
 use super::debug_list::write_members;
 use super::searcher::ByteSet;
@@ -44,7 +44,7 @@ impl ByteSet for AsciiBitmap {
         val <= ASCII_MAX && self.0[(val / CELL_BITS) as usize] & (1 << (val % CELL_BITS)) != 0
     }
 
-    ghost bytes_only = { ascii_contains-above };
+    ghost bytes_only = { ascii_contains-bytes_only };
 }
 
 impl fmt::Debug for AsciiBitmap {

@@ -4,7 +4,7 @@ ghost use Rattle.std.specs.Prelude.{◌≡◌, ℕ, ◌<◌, ◌≤◌, ◌-◌,
 ghost use Rattle.std.proofs.Common.{rules};
 ghost use Rattle.std.specs.Cmp.Rules.{comparing};
 ghost use Rattle.regress_base.specs.ByteBitmap.{contains, same_members};
-ghost use Rattle.regress_base.specs.ByteSets.{bytes_of, members_of, size_of, SameMembers};
+ghost use Rattle.regress_base.specs.ByteSets.{bytes_of, members_of, member_count, SameMembers};
 ghost use Rattle.regress_base.specs.Places.{IsMemberAt};
 
 use super::debug_list::write_members;
@@ -78,9 +78,10 @@ impl ByteBitmap {
         self
     }
 
-    /// How many members there are.
+    /// How many members there are: at most 256.
     pub fn count_bits(&self) -> u32
-        ensures { result ≡ size_of (contains self.now) }
+        ensures members { result ≡ member_count (contains self.now) }
+        ensures bound { result ≤ 256 }
     {
         let mut count = 0;
         for word in self.words.iter() {
@@ -91,8 +92,8 @@ impl ByteBitmap {
 
     /// The members, ascending, and then zeros. The caller knows that at most `N` bytes are members.
     pub fn as_array<const N: usize>(&self) -> [u8; N]
-        requires { size_of (contains self.now) ≤ N }
-        ensures { result ≡ members_of (contains self.now) ++ replicate (N - size_of (contains self.now)) 0 }
+        requires { member_count (contains self.now) ≤ N }
+        ensures { result ≡ members_of (contains self.now) ++ replicate (N - member_count (contains self.now)) 0 }
     {
         let mut array = [0; N];
         let mut len = 0;

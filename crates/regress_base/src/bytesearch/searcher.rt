@@ -9,6 +9,7 @@ pub trait ByteSearcher {
     ghost stands_at: { Self → List ℕ → ℕ → Type 0 };
 
     /// The least place of `rhs`, from 0 to its length, at which this stands, and `None` where it stands at none.
+    /// A byte set looks at each byte up to there once.
     fn find_in(&self, rhs: &[u8]) -> Option<usize>
         ensures { IsLeast (stands_at self.now rhs.now) (length rhs.now) result };
 }

@@ -3,7 +3,7 @@
 ghost use Rattle.std.specs.Prelude.{◌≡◌};
 ghost use Rattle.regress_base.specs.ByteSets.{bytes_of};
 ghost use Rattle.regress_base.specs.Places.{IsMemberAt};
-ghost use Rattle.regress_base.specs.ByteLaws.{bytes_of-above};
+ghost use Rattle.regress_base.specs.ByteLaws.{bytes_of-bytes_only};
 
 use super::searcher::{ByteSearcher, SmallArraySet};
 
@@ -14,7 +14,7 @@ impl SmallArraySet for [u8; 2] {
         b == self[0] || b == self[1]
     }
 
-    ghost bytes_only = { bytes_of-above };
+    ghost bytes_only = { bytes_of-bytes_only };
 }
 
 impl SmallArraySet for [u8; 3] {
@@ -24,7 +24,7 @@ impl SmallArraySet for [u8; 3] {
         b == self[0] || b == self[1] || b == self[2]
     }
 
-    ghost bytes_only = { bytes_of-above };
+    ghost bytes_only = { bytes_of-bytes_only };
 }
 
 impl SmallArraySet for [u8; 4] {
@@ -34,7 +34,7 @@ impl SmallArraySet for [u8; 4] {
         b == self[0] || b == self[1] || b == self[2] || b == self[3]
     }
 
-    ghost bytes_only = { bytes_of-above };
+    ghost bytes_only = { bytes_of-bytes_only };
 }
 
 impl ByteSearcher for [u8; 1] {

@@ -18,7 +18,8 @@ impl ByteSearcher for EmptyString {
     }
 }
 
-/// A string of bytes to look for as a whole. The empty one stands at every place of a text.
+/// A string of bytes to look for as a whole. The empty one stands at every place of a text. A search tries one place
+/// after another, so it costs at most the length of the text times that of the string.
 #[derive(Clone, Copy, Debug)]
 pub struct Needle<'a> {
     bytes: &'a [u8],
@@ -36,7 +37,6 @@ impl<'a> Needle<'a> {
 impl ByteSearcher for Needle<'_> {
     ghost stands_at = { λ needle. StandsWhole (needle_bytes needle) };
 
-    // Each place is tried in turn, which costs the length of the text times that of the needle at most.
     fn find_in(&self, rhs: &[u8]) -> Option<usize> {
         for i in 0..=rhs.len() {
             if rhs[i..].starts_with(self.bytes) {

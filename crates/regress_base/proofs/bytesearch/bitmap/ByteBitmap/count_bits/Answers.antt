@@ -1,7 +1,7 @@
 use Rattle.std.proofs.Common.{◌≡◌, ◌+◌, ◌*◌, ◌<◌, ◌^◌, get_or, sym, ap, ◌∙◌, arith, rules}
 use Rattle.regress_base.specs.ByteBitmap.{contains}
 use Rattle.regress_base.proofs.BitmapLemmas.{count_below-word}
-use Rattle.regress_base.proofs.CountLemmas.{count_below, count_below-bound, size_of-is}
+use Rattle.regress_base.proofs.CountLemmas.{count_below, count_below-bound, member_count-is}
 use Rattle.regress_base.proofs.bytesearch.bitmap.ByteBitmap.count_bits.Goals as goal
 
 pub overflow_add-count : goal.overflow_add-count
@@ -21,8 +21,13 @@ loop-word-preserved c =
     let more = count_below-word s i (omega arith) fits in
     omega arith
 
-pub returns : goal.returns
-returns c =
+pub returns-clause-members : goal.returns-clause-members
+returns-clause-members c =
     let s = c.args.self.now in
     let e : c.loop-word.word-index ≡ 16 = omega arith in
-    c.loop-word.invariant ∙ ap (λ i. count_below (contains s) (i * 16)) e ∙ size_of-is (contains s)
+    c.loop-word.invariant ∙ ap (λ i. count_below (contains s) (i * 16)) e ∙ member_count-is (contains s)
+
+pub returns-clause-bound : goal.returns-clause-bound
+returns-clause-bound c =
+    let bound = count_below-bound (contains c.args.self.now) (c.loop-word.word-index * 16) in
+    omega arith
