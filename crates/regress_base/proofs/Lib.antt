@@ -6,3 +6,4 @@ pub mod RangesLemmas
 pub mod AddLemmas
 pub mod JoinLemmas
 pub mod Utf8Lemmas
+pub mod CombineLemmas

@@ -1,6 +1,6 @@
 //! Union, intersection and difference, and equality.
 ghost use Rattle.std.specs.Prelude.{◌≡◌, ℕ, ◌||◌, ◌&&◌, ◌↔◌, not, IsTrue, IfOk, OnOk, OnErr};
-ghost use Rattle.regress_base.specs.Intervals.{is_member, bounds_eq, IsCanonical};
+ghost use Rattle.regress_base.specs.Intervals.{is_within, is_member, bounds_eq, IsCanonical};
 ghost use Rattle.std.proofs.Common.{rules};
 ghost use Rattle.std.specs.Cmp.Rules.{comparing};
 ghost use Rattle.std.specs.Cmp.Lexicographic.{pointwise};
@@ -67,7 +67,7 @@ fn union(alloc: Global, left: &[Interval], right: &[Interval]) -> Result<CodePoi
     Ok(joined)
 }
 
-/// The members of both lists.
+/// The members of both lists. Of two intervals the one that ends first overlaps no later one.
 fn intersection(
     alloc: Global,
     left: &[Interval],
@@ -81,11 +81,7 @@ fn intersection(
     let mut i = 0;
     let mut j = 0;
     while i < left.len() && j < right.len() {
-        if left[i].overlaps(right[j]) {
-            let first = left[i].first().max(right[j].first());
-            let last = left[i].last().min(right[j].last());
-            common.add(Interval::new(first, last))?;
-        }
+        add_overlap(&mut common, left[i], right[j])?;
         if left[i].last() <= right[j].last() {
             i += 1;
         } else {
@@ -93,6 +89,18 @@ fn intersection(
         }
     }
     Ok(common)
+}
+
+/// Adds the code points that both intervals hold.
+fn add_overlap(set: &mut CodePointSet, a: Interval, b: Interval) -> Result<(), AllocError>
+    ensures { OnOk result ((c : ℕ) → is_member set.new c ≡ (is_member set.old c || (is_within a c && is_within b c))) }
+{
+    if !a.overlaps(b) {
+        return Ok(());
+    }
+    let first = a.first().max(b.first());
+    let last = a.last().min(b.last());
+    set.add(Interval::new(first, last))
 }
 
 /// Sets are equal where they have the same intervals, which is where they have the same members.
