@@ -81,8 +81,10 @@ fn intersection(
     let mut i = 0;
     let mut j = 0;
     while i < left.len() && j < right.len() {
-        add_overlap(&mut common, left[i], right[j])?;
-        if left[i].last() <= right[j].last() {
+        let a = left[i];
+        let b = right[j];
+        add_overlap(&mut common, a, b)?;
+        if a.last() <= b.last() {
             i += 1;
         } else {
             j += 1;
