@@ -7,3 +7,5 @@ pub mod AddLemmas
 pub mod JoinLemmas
 pub mod Utf8Lemmas
 pub mod CombineLemmas
+pub mod UniqueLemmas
+pub mod GapsLemmas
