@@ -1,7 +1,7 @@
 -- The gaps of a canonical list are its complement.
-use Rattle.std.proofs.Common.{◌≡◌, ℕ, ◌+◌, ◌-◌, ◌<◌, ◌≤◌, Bool, true, false, not, ◌||◌, cond, nat_lt, nat_le, inl, inr, IsTrue, List, [], ◌∷◌, ◌++◌, length, drop, get_or, refl, sym, ap, ap₂, ◌∙◌, subst, le_refl, le-ltb, lt-ltb, arith}
+use Rattle.std.proofs.Common.{◌≡◌, ℕ, ◌+◌, ◌-◌, ◌<◌, ◌≤◌, Bool, true, false, not, ◌||◌, ◌&&◌, cond, nat_lt, nat_le, inl, inr, IsTrue, List, [], ◌∷◌, ◌++◌, length, drop, get_or, refl, sym, ap, ap₂, ◌∙◌, subst, le_refl, le-ltb, lt-ltb, arith}
 use Rattle.std.proofs.lemmas.List.{drop_more, drop_all, append_assoc, append-nil}
-use Rattle.std.proofs.lemmas.Bool.{cases_lt, cond-true, cond-false, or_left, or_right, or_from, le-leb, lt-leb, not_from_true, not_from_false}
+use Rattle.std.proofs.lemmas.Bool.{cases_lt, cond-true, cond-false, and_left, or_left, or_from, le-leb, lt-leb, not_from_true, not_from_false}
 use Rattle.regress_base.specs.Intervals.{Bounds, IsInterval, is_within, is_member, is_canonical_from, IsCanonical, IsComplement, code_point_max}
 use Rattle.regress_base.proofs.WithinLemmas.{le-is_within, lt-is_within, gt-is_within}
 use Rattle.regress_base.proofs.MemberLemmas.{is_member-nil, is_member-cons, is_member-one}
@@ -160,3 +160,11 @@ gaps_end out new start i ivs ended so_far some pushed =
 pub gaps_full : (out new : List Bounds) (start i : ℕ) (ivs : List Bounds) → length ivs ≤ i → out ++ gaps_from start (drop i ivs) ≡ gaps_from 0 ivs → code_point_max < start → new ≡ out → new ≡ gaps_from 0 ivs
 gaps_full out new start i ivs ended so_far full kept =
     kept ∙ sym (append-nil out) ∙ ap (λ l. out ++ l) (sym (gaps_from-full start full)) ∙ gaps_done out start i ivs (gaps_from 0 ivs) ended so_far
+
+-- what lies in the gaps lies not in the intervals
+pub members_minus : (ivs dropped kept : List Bounds) (c : ℕ) → IsCanonical ivs → IsComplement dropped kept → (is_member ivs c && is_member kept c) ≡ (is_member ivs c && not (is_member dropped c))
+members_minus ivs dropped kept c can away =
+    elim (cases_lt code_point_max c) [
+        inl past ↦ (let none = no_member_past_end ivs c can past in and_left _ _ none ∙ sym (and_left _ _ none))
+      | inr within ↦ ap (λ b. is_member ivs c && b) (away c within)
+    ]
