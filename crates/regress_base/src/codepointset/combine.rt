@@ -1,12 +1,12 @@
 //! Union, intersection and difference, and equality.
-ghost use Rattle.std.specs.Prelude.{◌≡◌, ℕ, ◌||◌, ◌&&◌, ◌↔◌, not, IsTrue, IfOk, OnOk, OnErr};
+ghost use Rattle.std.specs.Prelude.{◌≡◌, ℕ, ◌≤◌, ◌||◌, ◌&&◌, ◌↔◌, not, IsTrue, IfOk, OnOk, OnErr};
 ghost use Rattle.regress_base.specs.Intervals.{is_within, is_member, bounds_eq, IsCanonical};
 ghost use Rattle.std.proofs.Common.{rules};
 ghost use Rattle.std.specs.Cmp.Rules.{comparing};
 ghost use Rattle.std.specs.Cmp.Lexicographic.{pointwise};
 
 use super::{CodePointSet, invert};
-use crate::interval::Interval;
+use crate::interval::{CODE_POINT_MAX, Interval};
 use std::alloc::{AllocError, Global};
 
 impl CodePointSet {
@@ -111,7 +111,11 @@ impl PartialEq for CodePointSet {
 
     ghost laws = { Prim.search (comparing, rules) };
 
-    fn eq(&self, other: &CodePointSet) -> bool {
+    fn eq(&self, other: &CodePointSet) -> bool
+        ensures value { result ≡ pointwise bounds_eq self.now other.now }
+        ensures intervals { IsTrue result ↔ (self.now ≡ other.now) }
+        ensures members { IsTrue result ↔ ((c : ℕ) → c ≤ CODE_POINT_MAX → is_member self.now c ≡ is_member other.now c) }
+    {
         self.ivs == other.ivs
     }
 }
