@@ -101,7 +101,7 @@ member_above low [] c can h = absurd (false≢true (sym (is_member-nil c) ∙ h)
 member_above low (iv ∷ ivs) c can h =
     let p = canonical_parts low iv ivs can in
     elim (or_cases (is_within iv c) (is_member ivs c) (sym (is_member-cons iv ivs c) ∙ h)) [
-        inl within ↦ (let w = is_within-true iv c within in (omega (arith, p.above), omega (arith, p.interval.in_range)))
+      | inl within ↦ (let w = is_within-true iv c within in (omega (arith, p.above), omega (arith, p.interval.in_range)))
       | inr later ↦ (let r = member_above (iv.last + 2) ivs c p.rest later in (omega (arith, p.above, p.interval.ordered), r.1))
     ]
 

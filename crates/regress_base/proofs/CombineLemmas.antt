@@ -38,8 +38,8 @@ union_right xs i c x old new rest inside read added so_far =
 none_behind : (ivs : List Bounds) (i c : ℕ) (x : Bounds) → IsCanonical ivs → i < length ivs → x ≡ get_or ivs i x → c ≤ x.last → is_member (drop (i + 1) ivs) c ≡ false
 none_behind ivs i c x can inside read below =
     let behind : IsTrue (is_canonical_from (x.last + 2) (drop (i + 1) ivs)) =
-        subst (λ (n : ℕ). IsTrue (is_canonical_from (x.last + 2) (drop n ivs))) (sym (add-one i))
-        (subst (λ (b : Bounds). IsTrue (is_canonical_from (b.last + 2) (drop (suc i) ivs))) (sym read) (canonical_behind 0 ivs i x can inside)) in
+    subst (λ (n : ℕ). IsTrue (is_canonical_from (x.last + 2) (drop n ivs))) (sym (add-one i))
+    (subst (λ (b : Bounds). IsTrue (is_canonical_from (b.last + 2) (drop (suc i) ivs))) (sym read) (canonical_behind 0 ivs i x can inside)) in
     no_member_below (x.last + 2) (drop (i + 1) ivs) c behind (omega arith)
 
 within_and_behind : (w b : Bool) → (w ≡ true → b ≡ false) → (w && b) ≡ false
@@ -96,7 +96,7 @@ module _ (left right : List Bounds) (i j c : ℕ) (a b : Bounds) (old new whole 
 pub meet_done : (left right : List Bounds) (i j c : ℕ) (old whole : Bool) → (length left ≤ i) ⊎ (length right ≤ j) → (old || (is_member (drop i left) c && is_member (drop j right) c)) ≡ whole → old ≡ whole
 meet_done left right i j c old whole done so_far =
     let none : (is_member (drop i left) c && is_member (drop j right) c) ≡ false = elim done [
-        inl ended ↦ and_left _ _ (ap (λ l. is_member l c) (drop_all i left ended) ∙ is_member-nil c)
+      | inl ended ↦ and_left _ _ (ap (λ l. is_member l c) (drop_all i left ended) ∙ is_member-nil c)
       | inr ended ↦ and_right _ _ (ap (λ l. is_member l c) (drop_all j right ended) ∙ is_member-nil c)
     ] in
     sym (ap (λ b. old || b) none ∙ or-false old) ∙ so_far

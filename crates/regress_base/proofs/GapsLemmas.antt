@@ -36,12 +36,12 @@ gaps_from-full start h = cond-false _ _ _ (lt-leb start code_point_max h)
 pub canonical_gaps : (start low : ℕ) (ivs : List Bounds) → start ≤ low → IsTrue (is_canonical_from low ivs) → IsTrue (is_canonical_from start (gaps_from start ivs))
 canonical_gaps start low [] h can =
     elim (cases_lt code_point_max start) [
-        inl full ↦ subst (λ (l : List Bounds). IsTrue (is_canonical_from start l)) (sym (gaps_from-full start full)) refl
+      | inl full ↦ subst (λ (l : List Bounds). IsTrue (is_canonical_from start l)) (sym (gaps_from-full start full)) refl
       | inr some ↦ subst (λ (l : List Bounds). IsTrue (is_canonical_from start l)) (sym (gaps_from-end start some)) (canonical_cons start (pair start code_point_max) [] (record {
-          above = le_refl start;
-          interval = record { ordered = some; in_range = le_refl code_point_max };
-          rest = refl;
-        }))
+        above = le_refl start;
+        interval = record { ordered = some; in_range = le_refl code_point_max };
+        rest = refl;
+      }))
     ]
 canonical_gaps start low (iv ∷ ivs) h can =
     let p = canonical_parts low iv ivs can in
@@ -49,11 +49,11 @@ canonical_gaps start low (iv ∷ ivs) h can =
     let above = p.above in
     let rest = canonical_gaps (iv.last + 1) (iv.last + 2) ivs (omega arith) p.rest in
     elim (cases_lt start iv.first) [
-        inl gap ↦ subst (λ (l : List Bounds). IsTrue (is_canonical_from start l)) (sym (gaps_from-gap start iv ivs gap)) (canonical_cons start (pair start (iv.first - 1)) (gaps_from (iv.last + 1) ivs) (record {
-          above = le_refl start;
-          interval = record { ordered = omega arith; in_range = omega (arith, p.interval.in_range) };
-          rest = canonical_lower (iv.last + 1) (iv.first - 1 + 2) (gaps_from (iv.last + 1) ivs) (omega arith) rest;
-        }))
+      | inl gap ↦ subst (λ (l : List Bounds). IsTrue (is_canonical_from start l)) (sym (gaps_from-gap start iv ivs gap)) (canonical_cons start (pair start (iv.first - 1)) (gaps_from (iv.last + 1) ivs) (record {
+        above = le_refl start;
+        interval = record { ordered = omega arith; in_range = omega (arith, p.interval.in_range) };
+        rest = canonical_lower (iv.last + 1) (iv.first - 1 + 2) (gaps_from (iv.last + 1) ivs) (omega arith) rest;
+      }))
       | inr none ↦ subst (λ (l : List Bounds). IsTrue (is_canonical_from start l)) (sym (gaps_from-none start iv ivs none)) (canonical_lower (iv.last + 1) start (gaps_from (iv.last + 1) ivs) (omega arith) rest)
     ]
 
@@ -61,8 +61,8 @@ canonical_gaps start low (iv ∷ ivs) h can =
 skip_gap : (start c : ℕ) (iv : Bounds) (ivs : List Bounds) → iv.first ≤ c → is_member (gaps_from start (iv ∷ ivs)) c ≡ is_member (gaps_from (iv.last + 1) ivs) c
 skip_gap start c iv ivs from =
     elim (cases_lt start iv.first) [
-        inl gap ↦ ap (λ l. is_member l c) (gaps_from-gap start iv ivs gap) ∙ is_member-cons (pair start (iv.first - 1)) (gaps_from (iv.last + 1) ivs) c
-            ∙ ap (λ b. b || is_member (gaps_from (iv.last + 1) ivs) c) (gt-is_within (pair start (iv.first - 1)) c (omega arith))
+      | inl gap ↦ ap (λ l. is_member l c) (gaps_from-gap start iv ivs gap) ∙ is_member-cons (pair start (iv.first - 1)) (gaps_from (iv.last + 1) ivs) c
+          ∙ ap (λ b. b || is_member (gaps_from (iv.last + 1) ivs) c) (gt-is_within (pair start (iv.first - 1)) c (omega arith))
       | inr none ↦ ap (λ l. is_member l c) (gaps_from-none start iv ivs none)
     ]
 
@@ -75,18 +75,18 @@ complement_gaps start low c (iv ∷ ivs) h can from to =
     let ordered = p.interval.ordered in
     let above = p.above in
     elim (cases_lt c iv.first) [
-        inl before ↦
+      | inl before ↦
           ap (λ l. is_member l c) (gaps_from-gap start iv ivs (omega arith)) ∙ is_member-cons (pair start (iv.first - 1)) (gaps_from (iv.last + 1) ivs) c
           ∙ or_left _ _ (le-is_within (pair start (iv.first - 1)) c from (omega arith))
           ∙ sym (ap not (is_member-cons iv ivs c ∙ or_from _ _ (lt-is_within iv c before) (no_member_below (iv.last + 2) ivs c p.rest (omega arith))))
       | inr reached ↦ elim (cases_lt iv.last c) [
-            inl behind ↦ skip_gap start c iv ivs reached
-              ∙ complement_gaps (iv.last + 1) (iv.last + 2) c ivs (omega arith) p.rest (omega arith) to
-              ∙ sym (ap not (is_member-cons iv ivs c ∙ ap (λ b. b || is_member ivs c) (gt-is_within iv c behind)))
-          | inr inside ↦ skip_gap start c iv ivs reached
-              ∙ no_member_below (iv.last + 1) (gaps_from (iv.last + 1) ivs) c (canonical_gaps (iv.last + 1) (iv.last + 2) ivs (omega arith) p.rest) (omega arith)
-              ∙ sym (ap not (is_member-cons iv ivs c ∙ or_left _ _ (le-is_within iv c reached inside)))
-        ]
+        | inl behind ↦ skip_gap start c iv ivs reached
+            ∙ complement_gaps (iv.last + 1) (iv.last + 2) c ivs (omega arith) p.rest (omega arith) to
+            ∙ sym (ap not (is_member-cons iv ivs c ∙ ap (λ b. b || is_member ivs c) (gt-is_within iv c behind)))
+        | inr inside ↦ skip_gap start c iv ivs reached
+            ∙ no_member_below (iv.last + 1) (gaps_from (iv.last + 1) ivs) c (canonical_gaps (iv.last + 1) (iv.last + 2) ivs (omega arith) p.rest) (omega arith)
+            ∙ sym (ap not (is_member-cons iv ivs c ∙ or_left _ _ (le-is_within iv c reached inside)))
+      ]
     ]
 
 not-not : (b : Bool) → not (not b) ≡ b
@@ -165,6 +165,6 @@ gaps_full out new start i ivs ended so_far full kept =
 pub members_minus : (ivs dropped kept : List Bounds) (c : ℕ) → IsCanonical ivs → IsComplement dropped kept → (is_member ivs c && is_member kept c) ≡ (is_member ivs c && not (is_member dropped c))
 members_minus ivs dropped kept c can away =
     elim (cases_lt code_point_max c) [
-        inl past ↦ (let none = no_member_past_end ivs c can past in and_left _ _ none ∙ sym (and_left _ _ none))
+      | inl past ↦ (let none = no_member_past_end ivs c can past in and_left _ _ none ∙ sym (and_left _ _ none))
       | inr within ↦ ap (λ b. is_member ivs c && b) (away c within)
     ]

@@ -25,7 +25,7 @@ is_within-true iv c within = grind (arith, is_within_tells iv c)
 pub shared_from_ends : (a b : Bounds) → IsInterval a → IsInterval b → a.first ≤ b.last → b.first ≤ a.last → (c : ℕ) × IsTrue (is_within a c) × IsTrue (is_within b c)
 shared_from_ends a b ha hb first_in last_in =
     elim (cases_lt a.first b.first) [
-        inl later ↦ (b.first, le-is_within a b.first (omega arith) last_in, le-is_within b b.first (le_refl b.first) hb.ordered)
+      | inl later ↦ (b.first, le-is_within a b.first (omega arith) last_in, le-is_within b b.first (le_refl b.first) hb.ordered)
       | inr later ↦ (a.first, le-is_within a a.first (le_refl a.first) ha.ordered, le-is_within b a.first later first_in)
     ]
 
@@ -48,9 +48,9 @@ is_within_overlap a b c =
 pub not_within_both : (a b : Bounds) (c : ℕ) → ((a.first ≤ b.last) × (b.first ≤ a.last) → ⊥) → (is_within a c && is_within b c) ≡ false
 not_within_both a b c apart =
     elim (is_within_tells a c) [
-        inl in_a ↦ elim (is_within_tells b c) [
-            inl in_b ↦ absurd (apart (omega arith, omega arith))
-          | inr out_b ↦ and_right _ _ out_b.0
-        ]
+      | inl in_a ↦ elim (is_within_tells b c) [
+        | inl in_b ↦ absurd (apart (omega arith, omega arith))
+        | inr out_b ↦ and_right _ _ out_b.0
+      ]
       | inr out_a ↦ and_left _ _ out_a.0
     ]

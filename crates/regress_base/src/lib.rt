@@ -2,9 +2,8 @@
 //! sets of code points, sets of bytes and searches, and the bytes of UTF-8.
 #![tactic(auto)]
 
-mod interval;
-
 pub mod charclasses;
 pub mod codepointset;
+mod interval;
 pub mod types;
 pub mod util;

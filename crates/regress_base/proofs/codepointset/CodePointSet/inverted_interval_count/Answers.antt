@@ -11,7 +11,7 @@ loop-iv-preserved c =
     let above = next.0 in
     record {
       counted = elim c.if-start-first.branch [
-          then-start-first w ↦ count_step_gap c.loop-iv.start c.loop-iv.iv-index c.last-start.result c.iv-item.result items c.loop-iv-test.true c.iv-item.is c.last-start.ensures.value _ _ _ c.loop-iv.invariant.counted (omega arith) w.count-is
+        | then-start-first w ↦ count_step_gap c.loop-iv.start c.loop-iv.iv-index c.last-start.result c.iv-item.result items c.loop-iv-test.true c.iv-item.is c.last-start.ensures.value _ _ _ c.loop-iv.invariant.counted (omega arith) w.count-is
         | else-start-first w ↦ count_step_none c.loop-iv.start c.loop-iv.iv-index c.last-start.result c.iv-item.result items c.loop-iv-test.true c.iv-item.is c.last-start.ensures.value _ _ _ c.loop-iv.invariant.counted (omega arith) w.count-is
       ];
       canonical = next.1;
