@@ -39,7 +39,7 @@ merge_place-rises iv a b hi ha hb apart = by_places (merge_place iv a) (merge_pl
 pub merge_places_rise : (iv : Bounds) (ivs : List Bounds) → IsInterval iv → IsCanonical ivs → IsNonDecreasingBy (λ old. ordering_index (merge_place iv old)) ivs
 merge_places_rise iv ivs hi can i j d le lt =
     elim (cases_lt i j) [
-        inl before ↦ merge_place-rises iv (get_or ivs i d) (get_or ivs j d) hi (canonical_at 0 ivs i d can (omega arith)).interval (canonical_at 0 ivs j d can lt).interval (canonical_apart 0 ivs i j d can before lt)
+      | inl before ↦ merge_place-rises iv (get_or ivs i d) (get_or ivs j d) hi (canonical_at 0 ivs i d can (omega arith)).interval (canonical_at 0 ivs j d can lt).interval (canonical_apart 0 ivs i j d can before lt)
       | inr not_before ↦ (let same : i ≡ j = omega arith in le_of_eq (ap (λ k. ordering_index (merge_place iv (get_or ivs k d))) same))
     ]
 
@@ -84,7 +84,7 @@ touching-behind_all ivs iv last can at behind =
       in_order = le_refl (length ivs);
       in_bounds = le_refl (length ivs);
       before = λ k d from to. elim (cases_lt k (length ivs - 1)) [
-          inl earlier ↦ (let after = l.after k d earlier in omega arith)
+        | inl earlier ↦ (let after = l.after k d earlier in omega arith)
         | inr not_earlier ↦ (let P : Bounds → Type 0 = λ b. b.last + 1 < iv.first in
             let same : k ≡ length ivs - 1 = omega (arith, l.some) in
             subst P (sym (ap (λ n. get_or ivs n d) same ∙ l.here d)) behind)

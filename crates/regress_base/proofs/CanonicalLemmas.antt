@@ -101,7 +101,7 @@ member_above low [] c can h = absurd (false≢true (sym (is_member-nil c) ∙ h)
 member_above low (iv ∷ ivs) c can h =
     let p = canonical_parts low iv ivs can in
     elim (or_cases (is_within iv c) (is_member ivs c) (sym (is_member-cons iv ivs c) ∙ h)) [
-        inl within ↦ (let w = is_within-true iv c within in (omega (arith, p.above), omega (arith, p.interval.in_range)))
+      | inl within ↦ (let w = is_within-true iv c within in (omega (arith, p.above), omega (arith, p.interval.in_range)))
       | inr later ↦ (let r = member_above (iv.last + 2) ivs c p.rest later in (omega (arith, p.above, p.interval.ordered), r.1))
     ]
 
@@ -112,3 +112,10 @@ no_member_below low ivs c can h =
 pub no_member_past_end : (ivs : List Bounds) (c : ℕ) → IsCanonical ivs → code_point_max < c → is_member ivs c ≡ false
 no_member_past_end ivs c can h =
     false_from_ne_true _ (λ t. let above = member_above 0 ivs c can t in omega arith)
+
+-- the intervals behind a place
+pub canonical_behind : (low : ℕ) (ivs : List Bounds) (i : ℕ) (d : Bounds) → IsTrue (is_canonical_from low ivs) → i < length ivs → IsTrue (is_canonical_from ((get_or ivs i d).last + 2) (drop (suc i) ivs))
+canonical_behind low [] i d can h = absurd (not-suc-le-zero h)
+canonical_behind low (iv ∷ ivs) zero d can h = (canonical_parts low iv ivs can).rest
+canonical_behind low (iv ∷ ivs) (suc i) d can h =
+    canonical_behind (iv.last + 2) ivs i d (canonical_parts low iv ivs can).rest (le_of_suc-le-suc h)

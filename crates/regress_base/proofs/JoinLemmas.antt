@@ -62,8 +62,8 @@ module _ (ivs : List Bounds) (iv : Bounds) (start end : ℕ) (merged : Bounds) w
   members_joined c in_order m =
       let front : take start ivs ++ between ivs start end ≡ take end ivs = ap (λ l. l ++ between ivs start end) (sym (take-take start end ivs in_order)) ∙ take-append-drop start (take end ivs) in
       let whole : is_member ivs c ≡ ((is_member (take start ivs) c || is_member (between ivs start end) c) || is_member (drop end ivs) c) =
-          ap (λ l. is_member l c) (sym (take-append-drop end ivs)) ∙ is_member-append (take end ivs) (drop end ivs) c
-          ∙ ap (λ b. b || is_member (drop end ivs) c) (ap (λ l. is_member l c) (sym front) ∙ is_member-append (take start ivs) (between ivs start end) c) in
+      ap (λ l. is_member l c) (sym (take-append-drop end ivs)) ∙ is_member-append (take end ivs) (drop end ivs) c
+      ∙ ap (λ b. b || is_member (drop end ivs) c) (ap (λ l. is_member l c) (sym front) ∙ is_member-append (take start ivs) (between ivs start end) c) in
       is_member-append (take start ivs) (merged ∷ drop end ivs) c
       ∙ ap (λ b. is_member (take start ivs) c || b) (is_member-cons merged (drop end ivs) c ∙ ap (λ b. b || is_member (drop end ivs) c) (m.members c))
       ∙ swap_or (is_member (take start ivs) c) (is_member (between ivs start end) c) (is_member (drop end ivs) c) (is_within iv c)
@@ -126,41 +126,42 @@ merges_some ivs iv start end d can interval range some merged first last =
           let same_last : (get_or ivs (end - 1) e).last ≡ high.last = ap (λ b. b.last) same in
           let behind = range.behind k e h inside in omega arith);
       members = λ c. elim (cases_lt c iv.first) [
-          inl below ↦ elim (cases_lt c low.first) [
-              inl outside ↦ lt-is_within merged c (omega arith) ∙ sym (or_from _ _
-                  (between-nowhere ivs start end d range.in_bounds c (λ k from to. lt-is_within (get_or ivs k d) c (first_above k c from to outside)))
-                  (lt-is_within iv c below))
-            | inr inside ↦ le-is_within merged c (omega arith) (omega arith) ∙ sym (or_left _ _
-                  (between-at ivs start end d range.in_bounds start c (le_refl start) some (le-is_within low c inside (omega (arith, low_touches.not_before)))))
-          ]
+        | inl below ↦ elim (cases_lt c low.first) [
+          | inl outside ↦ lt-is_within merged c (omega arith) ∙ sym (or_from _ _
+              (between-nowhere ivs start end d range.in_bounds c (λ k from to. lt-is_within (get_or ivs k d) c (first_above k c from to outside)))
+              (lt-is_within iv c below))
+          | inr inside ↦ le-is_within merged c (omega arith) (omega arith) ∙ sym (or_left _ _
+              (between-at ivs start end d range.in_bounds start c (le_refl start) some (le-is_within low c inside (omega (arith, low_touches.not_before)))))
+        ]
         | inr from ↦ elim (cases_lt iv.last c) [
-              inl above ↦ elim (cases_lt high.last c) [
-                  inl outside ↦ gt-is_within merged c (omega arith) ∙ sym (or_from _ _
-                      (between-nowhere ivs start end d range.in_bounds c (λ k from to. gt-is_within (get_or ivs k d) c (last_below k c from to outside)))
-                      (gt-is_within iv c above))
-                | inr inside ↦ le-is_within merged c (omega arith) (omega arith) ∙ sym (or_left _ _
-                      (between-at ivs start end d range.in_bounds (end - 1) c (omega arith) (omega arith) (le-is_within high c (omega (arith, high_touches.not_after)) inside)))
-              ]
-            | inr to ↦ le-is_within merged c (omega arith) (omega arith) ∙ sym (or_right _ _ (le-is_within iv c from to))
+          | inl above ↦ elim (cases_lt high.last c) [
+            | inl outside ↦ gt-is_within merged c (omega arith) ∙ sym (or_from _ _
+                (between-nowhere ivs start end d range.in_bounds c (λ k from to. gt-is_within (get_or ivs k d) c (last_below k c from to outside)))
+                (gt-is_within iv c above))
+            | inr inside ↦ le-is_within merged c (omega arith) (omega arith) ∙ sym (or_left _ _
+                (between-at ivs start end d range.in_bounds (end - 1) c (omega arith) (omega arith) (le-is_within high c (omega (arith, high_touches.not_after)) inside)))
           ]
+          | inr to ↦ le-is_within merged c (omega arith) (omega arith) ∙ sym (or_right _ _ (le-is_within iv c from to))
+        ]
       ];
     }
   where
     first_above : (k c : ℕ) → start ≤ k → k < end → c < (get_or ivs start d).first → c < (get_or ivs k d).first
     first_above k c from to outside =
         elim (cases_lt start k) [
-            inl later ↦ (let gap = canonical_apart 0 ivs start k d can later (omega (arith, range.in_bounds)) in
-                let ordered = (canonical_at 0 ivs start d can (omega (arith, range.in_bounds))).interval.ordered in omega arith)
+          | inl later ↦ (let gap = canonical_apart 0 ivs start k d can later (omega (arith, range.in_bounds)) in
+              let ordered = (canonical_at 0 ivs start d can (omega (arith, range.in_bounds))).interval.ordered in omega arith)
           | inr not_later ↦ (let same : start ≡ k = omega arith in
-                subst (λ (n : ℕ). c < (get_or ivs n d).first) same outside)
+              subst (λ (n : ℕ). c < (get_or ivs n d).first) same outside)
         ]
+
     last_below : (k c : ℕ) → start ≤ k → k < end → (get_or ivs (end - 1) d).last < c → (get_or ivs k d).last < c
     last_below k c from to outside =
         elim (cases_lt k (end - 1)) [
-            inl earlier ↦ (let gap = canonical_apart 0 ivs k (end - 1) d can earlier (omega (arith, range.in_bounds)) in
-                let ordered = (canonical_at 0 ivs (end - 1) d can (omega (arith, range.in_bounds))).interval.ordered in omega arith)
+          | inl earlier ↦ (let gap = canonical_apart 0 ivs k (end - 1) d can earlier (omega (arith, range.in_bounds)) in
+              let ordered = (canonical_at 0 ivs (end - 1) d can (omega (arith, range.in_bounds))).interval.ordered in omega arith)
           | inr not_earlier ↦ (let same : end - 1 ≡ k = omega arith in
-                subst (λ (n : ℕ). (get_or ivs n d).last < c) same outside)
+              subst (λ (n : ℕ). (get_or ivs n d).last < c) same outside)
         ]
 
 -- the list has the members of the interval besides

@@ -11,3 +11,6 @@ pub mod RangesLemmas
 pub mod AddLemmas
 pub mod JoinLemmas
 pub mod Utf8Lemmas
+pub mod CombineLemmas
+pub mod UniqueLemmas
+pub mod GapsLemmas

@@ -54,7 +54,7 @@ place_of-rises c a b ha hb apart = by_places (place_of c a) (place_of c b) (plac
 pub places_rise : (c : ℕ) (ivs : List Bounds) → IsCanonical ivs → IsNonDecreasingBy (λ iv. ordering_index (place_of c iv)) ivs
 places_rise c ivs can i j d le lt =
     elim (cases_lt i j) [
-        inl before ↦ place_of-rises c (get_or ivs i d) (get_or ivs j d) (canonical_at 0 ivs i d can (omega arith)).interval (canonical_at 0 ivs j d can lt).interval (canonical_apart 0 ivs i j d can before lt)
+      | inl before ↦ place_of-rises c (get_or ivs i d) (get_or ivs j d) (canonical_at 0 ivs i d can (omega arith)).interval (canonical_at 0 ivs j d can lt).interval (canonical_apart 0 ivs i j d can before lt)
       | inr not_before ↦ (let same : i ≡ j = omega arith in le_of_eq (ap (λ k. ordering_index (place_of c (get_or ivs k d))) same))
     ]
 
@@ -64,6 +64,6 @@ found_member ivs c (Ok i) can bound at = sym (is_member-at ivs i c no_bounds bou
 found_member ivs c (Err i) can bound at =
     let parts = at (places_rise c ivs can) in
     sym (is_member-nowhere ivs c no_bounds (λ k lt. elim (cases_lt k i) [
-        inl before ↦ place_of-Less c _ (parts.0 k no_bounds (omega arith) before)
+      | inl before ↦ place_of-Less c _ (parts.0 k no_bounds (omega arith) before)
       | inr after ↦ place_of-Greater c _ (parts.1 k no_bounds after lt)
     ]))

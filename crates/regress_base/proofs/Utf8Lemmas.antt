@@ -45,40 +45,40 @@ byte k xs ys e = ap (λ l. get_or l k 0) e
 pub decode_two : (c b0 b1 : ℕ) → encode_utf8 c ≡ b0 ∷ b1 ∷ [] → value_of_two b0 b1 ≡ c
 decode_two c b0 b1 e =
     elim (cases_lt c 0x80) [
-        inl one ↦ absurd (omega (arith, ap length (sym (encode_one c one) ∙ e)))
+      | inl one ↦ absurd (omega (arith, ap length (sym (encode_one c one) ∙ e)))
       | inr from_two ↦ elim (cases_lt c 0x800) [
-            inl two ↦ (let f = sym (encode_two c from_two two) ∙ e in omega (arith, byte 0 _ _ f, byte 1 _ _ f))
-          | inr from_three ↦ elim (cases_lt c 0x1_0000) [
-                inl three ↦ absurd (omega (arith, ap length (sym (encode_three c from_three three) ∙ e)))
-              | inr four ↦ absurd (omega (arith, ap length (sym (encode_four c four) ∙ e)))
-            ]
+        | inl two ↦ (let f = sym (encode_two c from_two two) ∙ e in omega (arith, byte 0 _ _ f, byte 1 _ _ f))
+        | inr from_three ↦ elim (cases_lt c 0x1_0000) [
+          | inl three ↦ absurd (omega (arith, ap length (sym (encode_three c from_three three) ∙ e)))
+          | inr four ↦ absurd (omega (arith, ap length (sym (encode_four c four) ∙ e)))
         ]
+      ]
     ]
 
 pub decode_three : (c b0 b1 b2 : ℕ) → encode_utf8 c ≡ b0 ∷ b1 ∷ b2 ∷ [] → value_of_three b0 b1 b2 ≡ c
 decode_three c b0 b1 b2 e =
     elim (cases_lt c 0x80) [
-        inl one ↦ absurd (omega (arith, ap length (sym (encode_one c one) ∙ e)))
+      | inl one ↦ absurd (omega (arith, ap length (sym (encode_one c one) ∙ e)))
       | inr from_two ↦ elim (cases_lt c 0x800) [
-            inl two ↦ absurd (omega (arith, ap length (sym (encode_two c from_two two) ∙ e)))
-          | inr from_three ↦ elim (cases_lt c 0x1_0000) [
-                inl three ↦ (let f = sym (encode_three c from_three three) ∙ e in omega (arith, byte 0 _ _ f, byte 1 _ _ f, byte 2 _ _ f))
-              | inr four ↦ absurd (omega (arith, ap length (sym (encode_four c four) ∙ e)))
-            ]
+        | inl two ↦ absurd (omega (arith, ap length (sym (encode_two c from_two two) ∙ e)))
+        | inr from_three ↦ elim (cases_lt c 0x1_0000) [
+          | inl three ↦ (let f = sym (encode_three c from_three three) ∙ e in omega (arith, byte 0 _ _ f, byte 1 _ _ f, byte 2 _ _ f))
+          | inr four ↦ absurd (omega (arith, ap length (sym (encode_four c four) ∙ e)))
         ]
+      ]
     ]
 
 pub decode_four : (c b0 b1 b2 b3 : ℕ) → b0 < 0xF8 → encode_utf8 c ≡ b0 ∷ b1 ∷ b2 ∷ b3 ∷ [] → value_of_four b0 b1 b2 b3 ≡ c
 decode_four c b0 b1 b2 b3 lead e =
     elim (cases_lt c 0x80) [
-        inl one ↦ absurd (omega (arith, ap length (sym (encode_one c one) ∙ e)))
+      | inl one ↦ absurd (omega (arith, ap length (sym (encode_one c one) ∙ e)))
       | inr from_two ↦ elim (cases_lt c 0x800) [
-            inl two ↦ absurd (omega (arith, ap length (sym (encode_two c from_two two) ∙ e)))
-          | inr from_three ↦ elim (cases_lt c 0x1_0000) [
-                inl three ↦ absurd (omega (arith, ap length (sym (encode_three c from_three three) ∙ e)))
-              | inr four ↦ (let f = sym (encode_four c four) ∙ e in omega (arith, byte 0 _ _ f, byte 1 _ _ f, byte 2 _ _ f, byte 3 _ _ f))
-            ]
+        | inl two ↦ absurd (omega (arith, ap length (sym (encode_two c from_two two) ∙ e)))
+        | inr from_three ↦ elim (cases_lt c 0x1_0000) [
+          | inl three ↦ absurd (omega (arith, ap length (sym (encode_three c from_three three) ∙ e)))
+          | inr four ↦ (let f = sym (encode_four c four) ∙ e in omega (arith, byte 0 _ _ f, byte 1 _ _ f, byte 2 _ _ f, byte 3 _ _ f))
         ]
+      ]
     ]
 
 -- six bits more below a number that has room above

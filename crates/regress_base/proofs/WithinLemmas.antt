@@ -1,6 +1,6 @@
 -- What the test of an interval tells.
-use Rattle.std.proofs.Common.{◌≡◌, ℕ, ◌<◌, ◌≤◌, Bool, true, false, ◌⊎◌, inl, inr, le_refl, arith, IsTrue}
-use Rattle.std.proofs.lemmas.Bool.{cases_lt}
+use Rattle.std.proofs.Common.{◌≡◌, ℕ, ◌<◌, ◌≤◌, Bool, true, false, ◌⊎◌, ◌&&◌, ◌==◌, max, min, inl, inr, le_refl, arith, IsTrue}
+use Rattle.std.proofs.lemmas.Bool.{cases_lt, and_left, and_right}
 use Rattle.std.proofs.lemmas.Bool.Decides.{nat_tests}
 use Rattle.regress_base.specs.Intervals.{Bounds, IsInterval, is_within}
 
@@ -25,7 +25,7 @@ is_within-true iv c within = grind (arith, is_within_tells iv c)
 pub shared_from_ends : (a b : Bounds) → IsInterval a → IsInterval b → a.first ≤ b.last → b.first ≤ a.last → (c : ℕ) × IsTrue (is_within a c) × IsTrue (is_within b c)
 shared_from_ends a b ha hb first_in last_in =
     elim (cases_lt a.first b.first) [
-        inl later ↦ (b.first, le-is_within a b.first (omega arith) last_in, le-is_within b b.first (le_refl b.first) hb.ordered)
+      | inl later ↦ (b.first, le-is_within a b.first (omega arith) last_in, le-is_within b b.first (le_refl b.first) hb.ordered)
       | inr later ↦ (a.first, le-is_within a a.first (le_refl a.first) ha.ordered, le-is_within b a.first later first_in)
     ]
 
@@ -34,3 +34,23 @@ ends_from_shared a b shared =
     let in_a = is_within-true a shared.0 shared.1 in
     let in_b = is_within-true b shared.0 shared.2 in
     (omega arith, omega arith)
+
+-- an interval of one code point
+pub is_within_one : (first last c : ℕ) → first ≡ last → is_within (record { first = first; last = last }) c ≡ (c == first)
+is_within_one first last c same = grind (arith, nat_tests, is_within_tells (record { first = first; last = last }) c)
+
+-- the overlap of two intervals
+pub is_within_overlap : (a b : Bounds) (c : ℕ) → is_within (record { first = max a.first b.first; last = min a.last b.last }) c ≡ (is_within a c && is_within b c)
+is_within_overlap a b c =
+    grind (arith, nat_tests, is_within_tells a c, is_within_tells b c, is_within_tells (record { first = max a.first b.first; last = min a.last b.last }) c)
+
+-- two intervals that do not reach each other share nothing
+pub not_within_both : (a b : Bounds) (c : ℕ) → ((a.first ≤ b.last) × (b.first ≤ a.last) → ⊥) → (is_within a c && is_within b c) ≡ false
+not_within_both a b c apart =
+    elim (is_within_tells a c) [
+      | inl in_a ↦ elim (is_within_tells b c) [
+        | inl in_b ↦ absurd (apart (omega arith, omega arith))
+        | inr out_b ↦ and_right _ _ out_b.0
+      ]
+      | inr out_a ↦ and_left _ _ out_a.0
+    ]

@@ -41,6 +41,12 @@ is_canonical_from low (iv ∷ ivs) =
 abbrev pub IsCanonical : List Bounds → Type 0
 IsCanonical ivs = IsTrue (is_canonical_from 0 ivs)
 
+-- the law that canonical lists with the same members are equal
+abbrev pub CanonicalFormIsUnique : Type 0
+CanonicalFormIsUnique =
+    (xs ys : List Bounds) → IsCanonical xs → IsCanonical ys
+    → ((c : ℕ) → c ≤ code_point_max → is_member xs c ≡ is_member ys c) → xs ≡ ys
+
 -- up to the greatest code point, each list holds what the other one lacks
 abbrev pub IsComplement : List Bounds → List Bounds → Type 0
 IsComplement ivs others = (c : ℕ) → c ≤ code_point_max → is_member others c ≡ not (is_member ivs c)

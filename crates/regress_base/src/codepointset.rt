@@ -1,10 +1,9 @@
 //! Sets of code points, each kept as the canonical list of its intervals.
-ghost use Rattle.std.specs.Prelude.{◌≡◌, ℕ, ◌↔◌, IsTrue, IfOk, []};
+ghost use Rattle.std.specs.Prelude.{◌≡◌, ℕ, ◌≤◌, ◌↔◌, true, false, IsTrue, IfOk, []};
 ghost use Rattle.regress_base.specs.Intervals.{is_member, IsCanonical};
 
 pub use crate::interval::{CODE_POINT_MAX, CodePoint, Interval};
-pub use canonical::is_canonical;
-
+pub use canonical::{canonical_form_is_unique, is_canonical};
 use std::alloc::{AllocError, Global};
 use std::marker::Model;
 
@@ -69,9 +68,17 @@ impl CodePointSet {
 
     /// Whether the set has no member.
     pub fn is_empty(&self) -> bool
-        ensures { IsTrue result ↔ (self.now ≡ []) }
+        ensures intervals { IsTrue result ↔ (self.now ≡ []) }
+        ensures members { IsTrue result ↔ ((c : ℕ) → c ≤ CODE_POINT_MAX → is_member self.now c ≡ false) }
     {
         self.ivs.is_empty()
+    }
+
+    /// Whether every code point is a member. Constant.
+    pub(crate) fn contains_all_codepoints(&self) -> bool
+        ensures { IsTrue result ↔ ((c : ℕ) → c ≤ CODE_POINT_MAX → is_member self.now c ≡ true) }
+    {
+        self.intervals() == [Interval::new(0, CODE_POINT_MAX)].as_slice()
     }
 
     /// The intervals, ascending.

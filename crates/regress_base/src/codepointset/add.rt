@@ -33,6 +33,7 @@ impl CodePointSet {
     }
 
     /// Adds one code point, as [`add`](CodePointSet::add) does.
+    #[tactic(auto, using(crate::proofs::WithinLemmas::is_within_one))]
     pub fn add_one(&mut self, cp: CodePoint) -> Result<(), AllocError>
         requires { cp ≤ CODE_POINT_MAX }
         ensures members { OnOk result ((c : ℕ) → is_member self.new c ≡ (is_member self.old c || (c == cp))) }

@@ -1,6 +1,6 @@
 //! Searches in canonical lists of intervals.
 ghost use Rattle.std.specs.Prelude.{◌≡◌, ◌↔◌, IsTrue};
-ghost use Rattle.regress_base.specs.Intervals.{is_member, IsCanonical};
+ghost use Rattle.regress_base.specs.Intervals.{is_member, IsCanonical, CanonicalFormIsUnique};
 
 use crate::interval::Interval;
 
@@ -18,6 +18,12 @@ pub fn is_canonical(ivs: &[Interval]) -> bool
     }
     true
 }
+
+/// A law of the definitions: canonical lists with the same members are equal. It does nothing; a proof
+/// that needs the law calls it.
+pub fn canonical_form_is_unique()
+    ensures { CanonicalFormIsUnique }
+{}
 
 /// Whether one of the intervals contains `cp`. A binary search.
 pub(super) fn contains(ivs: &[Interval], cp: u32) -> bool

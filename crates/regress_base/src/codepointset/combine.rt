@@ -1,12 +1,12 @@
 //! Union, intersection and difference, and equality.
-ghost use Rattle.std.specs.Prelude.{◌≡◌, ℕ, ◌||◌, ◌&&◌, ◌↔◌, not, IsTrue, IfOk, OnOk, OnErr};
-ghost use Rattle.regress_base.specs.Intervals.{is_member, bounds_eq, IsCanonical};
+ghost use Rattle.std.specs.Prelude.{◌≡◌, ℕ, ◌≤◌, ◌||◌, ◌&&◌, ◌↔◌, not, IsTrue, IfOk, OnOk, OnErr};
+ghost use Rattle.regress_base.specs.Intervals.{is_within, is_member, bounds_eq, IsCanonical};
 ghost use Rattle.std.proofs.Common.{rules};
 ghost use Rattle.std.specs.Cmp.Rules.{comparing};
 ghost use Rattle.std.specs.Cmp.Lexicographic.{pointwise};
 
 use super::{CodePointSet, invert};
-use crate::interval::Interval;
+use crate::interval::{CODE_POINT_MAX, Interval};
 use std::alloc::{AllocError, Global};
 
 impl CodePointSet {
@@ -67,7 +67,7 @@ fn union(alloc: Global, left: &[Interval], right: &[Interval]) -> Result<CodePoi
     Ok(joined)
 }
 
-/// The members of both lists.
+/// The members of both lists. Of two intervals the one that ends first overlaps no later one.
 fn intersection(
     alloc: Global,
     left: &[Interval],
@@ -81,12 +81,10 @@ fn intersection(
     let mut i = 0;
     let mut j = 0;
     while i < left.len() && j < right.len() {
-        if left[i].overlaps(right[j]) {
-            let first = left[i].first().max(right[j].first());
-            let last = left[i].last().min(right[j].last());
-            common.add(Interval::new(first, last))?;
-        }
-        if left[i].last() <= right[j].last() {
+        let a = left[i];
+        let b = right[j];
+        add_overlap(&mut common, a, b)?;
+        if a.last() <= b.last() {
             i += 1;
         } else {
             j += 1;
@@ -95,13 +93,29 @@ fn intersection(
     Ok(common)
 }
 
+/// Adds the code points that both intervals hold.
+fn add_overlap(set: &mut CodePointSet, a: Interval, b: Interval) -> Result<(), AllocError>
+    ensures { OnOk result ((c : ℕ) → is_member set.new c ≡ (is_member set.old c || (is_within a c && is_within b c))) }
+{
+    if !a.overlaps(b) {
+        return Ok(());
+    }
+    let first = a.first().max(b.first());
+    let last = a.last().min(b.last());
+    set.add(Interval::new(first, last))
+}
+
 /// Sets are equal where they have the same intervals, which is where they have the same members.
 impl PartialEq for CodePointSet {
     ghost eq = { pointwise bounds_eq };
 
     ghost laws = { Prim.search (comparing, rules) };
 
-    fn eq(&self, other: &CodePointSet) -> bool {
+    fn eq(&self, other: &CodePointSet) -> bool
+        ensures value { result ≡ pointwise bounds_eq self.now other.now }
+        ensures intervals { IsTrue result ↔ (self.now ≡ other.now) }
+        ensures members { IsTrue result ↔ ((c : ℕ) → c ≤ CODE_POINT_MAX → is_member self.now c ≡ is_member other.now c) }
+    {
         self.ivs == other.ivs
     }
 }

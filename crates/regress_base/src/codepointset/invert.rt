@@ -13,7 +13,7 @@ impl CodePointSet {
     {
         let mut count = 0;
         let mut start = 0;
-        for iv in &self.ivs {
+        for iv in self.intervals() {
             if start < iv.first() {
                 count += 1;
             }

@@ -4,7 +4,11 @@ use super::*;
 fn equal_ranges(rt: HostRuntime) {
     let s = [0, 1, 2, 3, 4, 4, 4, 7, 8, 9, 9];
     for (wanted, range) in [(4, 4..7), (5, 7..7), (9, 9..11), (10, 11..11), (0, 0..1)] {
-        assert_eq!(rt; equal_range_by(&s, |x: &u32| x.cmp(&wanted)), range, "at {wanted}");
+        assert_eq!(rt;
+            equal_range_by(&s, |x: &u32| x.cmp(&wanted)),
+            range,
+            "at {wanted}"
+        );
     }
 }
 
@@ -33,14 +37,25 @@ fn bytes_decode(rt: HostRuntime) {
     assert_eq!(rt; utf8_w3(0xE2, 0x82, 0xAC), 0x20AC);
     assert_eq!(rt; utf8_w3(0xED, 0xA0, 0x80), 0xD800);
     assert_eq!(rt; utf8_w4(0xF4, 0x8F, 0xBF, 0xBF), 0x10FFFF);
-    for (byte, continues) in [(0x7F, false), (0x80, true), (0xBF, true), (0xC0, false), (0xFF, false)] {
+    for (byte, continues) in [
+        (0x7F, false),
+        (0x80, true),
+        (0xBF, true),
+        (0xC0, false),
+        (0xFF, false),
+    ] {
         assert_eq!(rt; is_utf8_continuation(byte), continues, "at {byte:X}");
     }
 }
 
 #[test]
 fn code_points_that_are_no_characters_saturate(rt: HostRuntime) {
-    for (c, wanted) in [(0x61, 'a'), (0xD7FF, '\u{D7FF}'), (0xD800, '\u{10FFFF}'), (0x110000, '\u{10FFFF}')] {
+    for (c, wanted) in [
+        (0x61, 'a'),
+        (0xD7FF, '\u{D7FF}'),
+        (0xD800, '\u{10FFFF}'),
+        (0x110000, '\u{10FFFF}'),
+    ] {
         assert_eq!(rt; to_char_sat(c), wanted, "at {c:X}");
     }
 }
