@@ -1,19 +1,16 @@
 -- Facts on the set that a `ByteBitmap` stands for.
-use Rattle.std.proofs.Common.{◌≡◌, ℕ, ◌+◌, ◌*◌, ◌/◌, ◌%◌, ◌^◌, ◌<◌, ◌≤◌, Bool, true, false, cond, ◌&&◌, ◌||◌, eqb, ltb, List, [], ◌∷◌, length, get_or, take, map, Decides, zero-add, refl, ap, sym, ◌∙◌, subst, arith, inl, inr}
-use Rattle.std.specs.Bool.{beq}
-use Rattle.std.specs.Int.{bit_at, Width}
+use Rattle.std.proofs.Common.{◌≡◌, ℕ, ◌+◌, ◌*◌, ◌^◌, ◌<◌, Bool, true, false, ◌&&◌, ◌||◌, eqb, ltb, List, [], length, get_or, take, map, Decides, zero-add, refl, ap, sym, ◌∙◌, arith, inl, inr}
+use Rattle.std.specs.Int.{bit_at}
 use Rattle.std.specs.Int.RustNames.{count_ones}
 use Rattle.std.specs.List.{range_with_len, list_any}
 use Rattle.std.specs.Cmp.{booleans_Decides}
-use Rattle.std.specs.Cmp.Lexicographic.{pointwise, pointwise_decides}
-use Rattle.std.proofs.lemmas.Bool.{cases_lt, cases_eq, lt-ltb, le-ltb, eq-eqb, ne_eqb, and_right, or_right}
-use Rattle.std.proofs.lemmas.Bool.Decides.{Decides-eqb}
+use Rattle.std.specs.Cmp.Lexicographic.{pointwise_decides}
+use Rattle.std.proofs.lemmas.Bool.{false≢true, cases_lt, cases_eq, lt-ltb, eq-eqb, ne_eqb, and_right, or_right}
 use Rattle.std.proofs.lemmas.List.{ext_get_or}
 use Rattle.std.proofs.lemmas.List.FromFn.{get_or-map-range_with_len}
 use Rattle.std.proofs.lemmas.List.Folds.{list_any_more}
-use Rattle.std.proofs.lemmas.Nat.{div-mul-add, mod-mul-add, mul-add-lt}
+use Rattle.std.proofs.lemmas.Nat.{div-mul-add, mod-mul-add}
 use Rattle.std.proofs.lemmas.Nat.Bits.{bit_at-lt, same_from_bits_below}
-use mir.Val.{bits}
 use Rattle.regress_base.specs.ByteBitmap.{contains, same_members}
 use Rattle.regress_base.specs.ByteSets.{bit_in, bytes_of, all_bytes, SameMembers}
 use Rattle.regress_base.specs.ByteLaws.{contains-bytes_only}
@@ -54,7 +51,7 @@ same_cell n xs ys k fx fy same =
     same_bit (bit_at (get_or xs k 0) i) (bit_at (get_or ys k 0) i) (bit_at-lt (get_or xs k 0) i) (bit_at-lt (get_or ys k 0) i)
     (sym (bit_in-place n xs k i low) ∙ same i low ∙ bit_in-place n ys k i low))
 
-pub same_word : (s t : ByteBitmap) (k : ℕ) → k < 16 → get_or s.words k 0 < 2 ^ 16 → get_or t.words k 0 < 2 ^ 16 → SameMembers (contains s) (contains t) → get_or s.words k 0 ≡ get_or t.words k 0
+same_word : (s t : ByteBitmap) (k : ℕ) → k < 16 → get_or s.words k 0 < 2 ^ 16 → get_or t.words k 0 < 2 ^ 16 → SameMembers (contains s) (contains t) → get_or s.words k 0 ≡ get_or t.words k 0
 unfolding contains
 same_word s t k inside fs ft same =
     same_cell 16 s.words t.words k fs ft (λ i low.
@@ -78,6 +75,11 @@ members_from_flags s t e = λ b.
       | inl h ↦ agree_below 256 (contains s) (contains t) e b h
       | inr h ↦ contains-bytes_only s b h ∙ sym (contains-bytes_only t b h)
     ]
+
+-- bitmaps that differ in a word differ in a member
+pub different_word : (s t : ByteBitmap) (k : ℕ) → k < 16 → get_or s.words k 0 < 2 ^ 16 → get_or t.words k 0 < 2 ^ 16 → (get_or s.words k 0 ≡ get_or t.words k 0 → ⊥) → Decides false (SameMembers (contains s) (contains t))
+different_word s t k inside fs ft differ =
+    (λ e. absurd (false≢true e), λ same. absurd (differ (same_word s t k inside fs ft same)))
 
 -- `==` on bitmaps by their words
 pub equal_words : (s t : ByteBitmap) → length s.words ≡ 16 → length t.words ≡ 16 → ((k : ℕ) → k < 16 → get_or s.words k 0 ≡ get_or t.words k 0) → SameMembers (contains s) (contains t)

@@ -1,9 +1,9 @@
 -- Facts on bits that lie in cells of a fixed width, as in both bitmaps.
-use Rattle.std.proofs.Common.{◌≡◌, ◌≢◌, ℕ, ◌+◌, ◌*◌, ◌/◌, ◌%◌, ◌^◌, ◌<◌, Bool, true, false, not, ◌&&◌, ◌||◌, eqb, ltb, List, length, get_or, set, replicate, max, bit_and, bit_or, ◌≤◌, ◌-◌, refl, ap, sym, subst, ◌∙◌, arith, get_or-set_other, get_or-set_same, ⊎_elim, inl, inr}
+use Rattle.std.proofs.Common.{◌≡◌, ◌≢◌, ℕ, ◌+◌, ◌*◌, ◌/◌, ◌%◌, ◌^◌, ◌<◌, Bool, true, false, not, ◌&&◌, ◌||◌, eqb, ltb, List, length, get_or, set, replicate, max, bit_and, bit_or, ◌≤◌, ◌-◌, refl, ap, sym, ◌∙◌, arith, get_or-set_other, get_or-set_same, inl, inr}
 use Rattle.std.specs.Int.{bit_at, Width}
 use Rattle.std.proofs.lemmas.Bool.{cases_eq, cases_lt, eq-eqb, ne_eqb, lt-ltb, le-ltb}
 use Rattle.std.proofs.lemmas.Bool.Decides.{nat_tests}
-use Rattle.std.proofs.lemmas.Nat.{one_shl, pow_pos, div-add-mod', mod_below}
+use Rattle.std.proofs.lemmas.Nat.{one_shl, pow_pos, div-add-mod'}
 use Rattle.std.proofs.lemmas.Nat.Bits.{and_pow, bit_at-lt, bit_at_set_same, bit_at_set_other, bit_at_or, bit_at_not, bit_at-zero}
 use Rattle.std.proofs.lemmas.List.{get_or-replicate, get_or_past, length-replicate}
 use mir.Val.{bits}

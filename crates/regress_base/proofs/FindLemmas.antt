@@ -1,12 +1,10 @@
 -- Facts on the loops that look for the least place.
-use Rattle.std.proofs.Common.{◌≡◌, ◌≢◌, ℕ, ◌+◌, ◌<◌, ◌≤◌, Bool, true, false, ◌&&◌, ◌||◌, eqb, ltb, List, [], ◌∷◌, length, get_or, take, drop, ◌-◌, Decides, refl, ap, sym, ◌∙◌, arith, inl, inr}
-use Rattle.std.specs.List.{list_any, starts_with}
+use Rattle.std.proofs.Common.{◌≡◌, ℕ, ◌<◌, ◌≤◌, Bool, true, false, ◌||◌, eqb, List, [], ◌∷◌, length, get_or, take, drop, ◌-◌, Decides, refl, ap, sym, ◌∙◌, arith, inl, inr}
+use Rattle.std.specs.List.{starts_with}
 use Rattle.std.specs.Str.{bytes_eq}
-use Rattle.std.proofs.lemmas.List.Folds.{list_any_at, list_any_none}
-use Rattle.std.proofs.lemmas.List.Elements.{All-from_get_or}
 use Rattle.std.proofs.lemmas.List.{take_rest}
 use Rattle.std.proofs.lemmas.Slice.Eq.{bytes_eq-Decides}
-use Rattle.std.proofs.lemmas.Bool.{lt-ltb, and_right, both_ways, eqb-true, eq-eqb, ne_eqb, cases_eq, false_from_ne_true}
+use Rattle.std.proofs.lemmas.Bool.{lt-ltb, both_ways, eq-eqb, ne_eqb, cases_eq}
 use Rattle.regress_base.specs.ByteSets.{bytes_of}
 use Rattle.regress_base.specs.Places.{IsLeastAt, IsMemberAt, StandsWhole}
 

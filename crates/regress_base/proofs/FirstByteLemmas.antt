@@ -1,7 +1,7 @@
 -- Which first bytes the code points of an interval have in UTF-8.
-use Rattle.std.proofs.Common.{◌≡◌, ◌↔◌, ℕ, ◌+◌, ◌-◌, ◌*◌, ◌/◌, ◌<◌, ◌≤◌, max, min, Bool, true, ◌&&◌, ◌||◌, IsTrue, ◌⊎◌, ⊎_elim, inl, inr, List, length, slice_get, encode_utf8, Some, unwrap_or, nat_le, refl, ap, sym, ◌∙◌, subst, arith}
+use Rattle.std.proofs.Common.{◌≡◌, ◌↔◌, ℕ, ◌+◌, ◌-◌, ◌*◌, ◌/◌, ◌<◌, ◌≤◌, max, min, Bool, true, ◌&&◌, ◌||◌, IsTrue, ◌⊎◌, ⊎_elim, inl, inr, length, slice_get, encode_utf8, Some, unwrap_or, nat_le, ap, sym, ◌∙◌, arith}
 use Rattle.std.proofs.lemmas.Bool.{cases_lt, leb-true, le-leb, and_parts, and_from, or_cases, or_left, or_right}
-use Rattle.std.proofs.lemmas.Nat.{le-div, div-mul-add}
+use Rattle.std.proofs.lemmas.Nat.{le-div}
 use Rattle.std.proofs.Math.Nat.{div-mul-le_self, le-div_iff_mul-le, mul-div_left}
 use Rattle.regress_base.specs.FirstBytes.{IsFirstByteBetween}
 use Rattle.regress_base.proofs.Utf8Lemmas.{encode_one, encode_two, encode_three, encode_four}

@@ -1,4 +1,4 @@
-use Rattle.std.proofs.Common.{◌<◌, ◌≤◌, ◌%◌, ◌/◌, get_or, arith, refl, sym, ◌∙◌}
+use Rattle.std.proofs.Common.{◌<◌, ◌≤◌, ◌%◌, ◌/◌, get_or, arith, refl}
 use Rattle.std.specs.Int.{w8}
 use Rattle.std.proofs.lemmas.Bool.{lt-ltb, le-ltb, lt-leb}
 use Rattle.regress_base.specs.AsciiBitmap.{ascii_contains}

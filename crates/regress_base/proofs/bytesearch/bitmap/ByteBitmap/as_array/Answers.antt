@@ -1,4 +1,4 @@
-use Rattle.std.proofs.Common.{◌≡◌, ◌<◌, ◌+◌, true, false, sym, ap, ◌∙◌, subst, arith}
+use Rattle.std.proofs.Common.{◌≡◌, ◌+◌, sym, ◌∙◌, subst, arith}
 use Rattle.regress_base.specs.ByteBitmap.{contains}
 use Rattle.regress_base.proofs.CountLemmas.{IsFilled, IsFilled-none, IsFilled-yes, IsFilled-no, IsFilled-room, IsFilled-all}
 use Rattle.regress_base.proofs.bytesearch.bitmap.ByteBitmap.as_array.Goals as goal

@@ -1,7 +1,6 @@
-use Rattle.std.proofs.Common.{◌<◌, ◌/◌, ◌%◌, get_or, ◌^◌, arith, rules}
+use Rattle.std.proofs.Common.{◌<◌, ◌/◌, ◌%◌, get_or, ◌^◌, arith}
 use Rattle.std.specs.Int.{w16}
 use Rattle.regress_base.specs.ByteBitmap.{contains}
-use Rattle.regress_base.specs.ByteSets.{bit_in}
 use Rattle.regress_base.proofs.CellLemmas.{bit_in-not, not-below}
 use Rattle.regress_base.proofs.bytesearch.bitmap.ByteBitmap.bitnot.Goals as goal
 

@@ -1,6 +1,5 @@
 use Rattle.std.proofs.Common.{◌<◌, ◌/◌, arith}
 use Rattle.regress_base.specs.ByteBitmap.{contains}
-use Rattle.regress_base.specs.ByteSets.{bit_in}
 use Rattle.regress_base.proofs.CellLemmas.{bit_in-or, or-below}
 use Rattle.regress_base.proofs.bytesearch.bitmap.ByteBitmap.bitor.Goals as goal
 

@@ -1,4 +1,4 @@
-use Rattle.std.proofs.Common.{◌≡◌, ◌+◌, ◌*◌, ◌<◌, ◌^◌, get_or, sym, ap, ◌∙◌, arith, rules}
+use Rattle.std.proofs.Common.{◌≡◌, ◌+◌, ◌*◌, ◌<◌, ◌^◌, get_or, ap, ◌∙◌, arith, rules}
 use Rattle.regress_base.specs.ByteBitmap.{contains}
 use Rattle.regress_base.proofs.BitmapLemmas.{count_below-word}
 use Rattle.regress_base.proofs.CountLemmas.{count_below, count_below-bound, member_count-is}

@@ -1,4 +1,4 @@
-use Rattle.std.proofs.Common.{◌≡◌, ◌||◌, eqb, get_or, take, sym, ap, ◌∙◌, arith}
+use Rattle.std.proofs.Common.{◌||◌, eqb, get_or, sym, ap, ◌∙◌}
 use Rattle.std.proofs.lemmas.List.{take_all}
 use Rattle.regress_base.specs.ByteSets.{bytes_of}
 use Rattle.regress_base.proofs.BitmapLemmas.{bytes_of-none, bytes_of-more}

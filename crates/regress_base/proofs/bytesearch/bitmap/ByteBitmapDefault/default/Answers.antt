@@ -1,4 +1,4 @@
-use Rattle.std.proofs.Common.{◌&&◌, ltb, ap, ◌∙◌}
+use Rattle.std.proofs.Common.{ltb}
 use Rattle.std.proofs.lemmas.Bool.{and_right}
 use Rattle.regress_base.specs.ByteBitmap.{contains}
 use Rattle.regress_base.proofs.CellLemmas.{bit_in-zeros}

@@ -1,4 +1,4 @@
-use Rattle.std.proofs.Common.{get_or, below_more, sym, ◌∙◌}
+use Rattle.std.proofs.Common.{below_more, ◌∙◌}
 use Rattle.std.proofs.lemmas.Bool.{eq-eqb, ne_eqb}
 use Rattle.regress_base.proofs.FindLemmas.{first_found, bytes_of-one}
 use Rattle.regress_base.proofs.bytesearch.small_arrays.ArrayU81ByteSearcher.find_in.Goals as goal
