@@ -59,7 +59,7 @@ same_word s t k inside fs ft same =
     let e : (ltb (k * 16 + i) 256 && bit_in 16 s.words (k * 16 + i)) ≡ (ltb (k * 16 + i) 256 && bit_in 16 t.words (k * 16 + i)) = same (k * 16 + i) in
     rw (lt-ltb (k * 16 + i) 256 byte) at e)
 
-pub members_from_words : (s t : ByteBitmap) → s.words ≡ t.words → SameMembers (contains s) (contains t)
+members_from_words : (s t : ByteBitmap) → s.words ≡ t.words → SameMembers (contains s) (contains t)
 unfolding contains
 members_from_words s t e = λ b. ap (λ ws. ltb b 256 && bit_in 16 ws b) e
 

@@ -12,7 +12,7 @@ use Rattle.regress_base.specs.Places.{IsLeastAt, IsMemberAt, StandsWhole}
 abbrev pub NoneBefore : (ℕ → Bool) → List ℕ → ℕ → Type 0
 NoneBefore set text n = (k : ℕ) → k < n → set (get_or text k 0) ≡ false
 
-pub none_at : (set : ℕ → Bool) (text : List ℕ) (k : ℕ) → set (get_or text k 0) ≡ false → ¬ (IsMemberAt set text k)
+none_at : (set : ℕ → Bool) (text : List ℕ) (k : ℕ) → set (get_or text k 0) ≡ false → ¬ (IsMemberAt set text k)
 none_at set text k h at = both_ways (set (get_or text k 0)) h at.member
 
 -- the first member that the loop meets stands at the least place
@@ -22,10 +22,6 @@ first_found set text i none inside found = record {
   stands = record { inside = inside; member = found };
   before = λ k h. none_at set text k (none k h);
 }
-
--- a loop that meets no member has looked at each place
-pub none_found : (set : ℕ → Bool) (text : List ℕ) (n : ℕ) → length text ≤ n → NoneBefore set text n → (k : ℕ) → k ≤ length text → ¬ (IsMemberAt set text k)
-none_found set text n all none k h at = none_at set text k (none k (omega (arith, at.inside))) at
 
 one_or_none : (x b : ℕ) → (eqb x b || false) ≡ eqb b x
 one_or_none x b =
