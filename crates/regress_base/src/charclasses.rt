@@ -2,6 +2,9 @@
 
 use crate::interval::Interval;
 
+#[cfg(test)]
+mod tests;
+
 /// A class that has an escape: `\d`, `\s` or `\w`.
 #[derive(Clone, Copy, Debug, PartialEq, Eq)]
 pub enum CharacterClassType {
