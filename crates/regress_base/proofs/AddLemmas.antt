@@ -1,19 +1,15 @@
 -- One interval more in a canonical list.
-use Rattle.std.proofs.Common.{◌≡◌, ℕ, ◌+◌, ◌-◌, ◌<◌, ◌≤◌, Bool, true, false, ◌||◌, ◌⊎◌, inl, inr, IsTrue, List, [], ◌∷◌, ◌++◌, length, take, drop, get_or, refl, ap, ◌∙◌, sym, suc, zero, subst, nat_lt, cond, le_refl, le_of_eq, Some, slice_get, arith}
+use Rattle.std.proofs.Common.{◌≡◌, ℕ, ◌+◌, ◌-◌, ◌<◌, ◌≤◌, inl, inr, List, length, get_or, ap, ◌∙◌, sym, subst, nat_lt, cond, le_refl, le_of_eq, Some, slice_get, arith}
 use Rattle.std.proofs.lemmas.Option.{slice_get_within, get_or_from_slice_get}
-use Rattle.std.proofs.lemmas.Bool.{cases_lt, cases_order, false_from_ne_true, or_left, or_right}
+use Rattle.std.proofs.lemmas.Bool.{cases_lt}
 use Rattle.std.proofs.lemmas.Bool.Decides.{nat_tests}
-use Rattle.std.proofs.lemmas.List.{take-append-drop, take_more, drop_more, get_or-drop, get_or-take, length-take-le, length-drop, drop-take}
-use Rattle.std.specs.List.{AllWithin}
 use Rattle.std.specs.List.Sorted.{IsNonDecreasingBy}
 use Rattle.std.specs.Ordering.{ordering_index, MatchOrdering}
 use Rattle.std.specs.declared.cmp.Ordering.{Ordering}
 use Rattle.std.specs.declared.cmp.Ordering.TheVariants.{Less, Equal, Greater}
 use Rattle.regress_base.specs.Ranges.{IsEqualRange}
-use Rattle.regress_base.specs.Intervals.{Bounds, IsInterval, code_point_max, is_within, is_member, is_canonical_from, IsCanonical, Touches, TouchesAny, IsTouchingRange}
-use Rattle.regress_base.proofs.WithinLemmas.{is_within_tells, le-is_within, lt-is_within, gt-is_within, is_within-true}
-use Rattle.regress_base.proofs.MemberLemmas.{is_member-nil, is_member-cons, is_member-append, is_member-at, is_member-nowhere}
-use Rattle.regress_base.proofs.CanonicalLemmas.{CanonicalParts, canonical_parts, canonical_cons, canonical_append, canonical_front, canonical_back, canonical_at, canonical_apart, next_low, next_low-nil, next_low-push}
+use Rattle.regress_base.specs.Intervals.{Bounds, IsInterval, IsCanonical, Touches, IsTouchingRange}
+use Rattle.regress_base.proofs.CanonicalLemmas.{canonical_at, canonical_apart}
 
 -- where an interval lies as seen from another, touching ones being equal
 unfoldable pub merge_place : Bounds → Bounds → Ordering

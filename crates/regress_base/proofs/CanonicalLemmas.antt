@@ -1,9 +1,8 @@
 -- Canonical lists.
-use Rattle.std.proofs.Common.{◌≡◌, ℕ, ◌+◌, ◌<◌, ◌≤◌, Bool, true, false, ◌&&◌, ◌||◌, ◌⊎◌, inl, inr, IsTrue, nat_le, List, [], ◌∷◌, ◌++◌, length, take, drop, get_or, refl, ap, ap₂, ◌∙◌, sym, suc, zero, le_of_suc-le-suc, not-suc-le-zero, arith, leb-true, subst}
-use Rattle.std.proofs.lemmas.Bool.{and_parts, and_from, or_from, or_cases, le-leb, cases_lt, cases_order, true_from_ne_false, both_ways, false≢true, true≢false, false_from_ne_true}
-use Rattle.std.proofs.lemmas.Bool.Decides.{nat_tests}
+use Rattle.std.proofs.Common.{◌≡◌, ℕ, ◌+◌, ◌<◌, ◌≤◌, true, false, inl, inr, IsTrue, nat_le, List, [], ◌∷◌, ◌++◌, length, drop, get_or, refl, ◌∙◌, sym, suc, zero, le_of_suc-le-suc, not-suc-le-zero, arith, leb-true}
+use Rattle.std.proofs.lemmas.Bool.{and_parts, and_from, or_cases, le-leb, false≢true, false_from_ne_true}
 use Rattle.regress_base.specs.Intervals.{Bounds, IsInterval, code_point_max, is_within, is_member, is_canonical_from, IsCanonical}
-use Rattle.regress_base.proofs.WithinLemmas.{is_within_tells, le-is_within, lt-is_within, gt-is_within, is_within-true}
+use Rattle.regress_base.proofs.WithinLemmas.{is_within-true}
 use Rattle.regress_base.proofs.MemberLemmas.{is_member-nil, is_member-cons}
 
 -- what a canonical list says of its first interval and of the others

@@ -1,11 +1,11 @@
 -- Membership along two lists that are walked at once.
-use Rattle.std.proofs.Common.{◌≡◌, ℕ, ◌+◌, ◌<◌, ◌≤◌, Bool, true, false, ◌||◌, ◌&&◌, not, inl, inr, IsTrue, List, [], ◌∷◌, length, take, drop, get_or, max, min, Result, Ok, Err, OnOk, refl, sym, ap, ap₂, ◌∙◌, subst, suc, add-one, ◌⊎◌, arith}
-use Rattle.std.proofs.lemmas.Bool.{cases_lt, and_left, and_right, true≢false}
-use Rattle.std.proofs.lemmas.List.{drop_more, drop_all, get_or_read}
-use Rattle.regress_base.specs.Intervals.{Bounds, is_within, is_member, is_canonical_from, IsCanonical, code_point_max}
+use Rattle.std.proofs.Common.{◌≡◌, ℕ, ◌+◌, ◌<◌, ◌≤◌, Bool, true, false, ◌||◌, ◌&&◌, inl, inr, IsTrue, List, [], length, take, drop, get_or, max, min, Result, Ok, Err, OnOk, refl, sym, ap, ap₂, ◌∙◌, subst, suc, add-one, ◌⊎◌, arith}
+use Rattle.std.proofs.lemmas.Bool.{and_left, and_right, true≢false}
+use Rattle.std.proofs.lemmas.List.{drop_all}
+use Rattle.regress_base.specs.Intervals.{Bounds, is_within, is_member, is_canonical_from, IsCanonical}
 use Rattle.regress_base.proofs.WithinLemmas.{is_within_overlap, is_within-true}
-use Rattle.regress_base.proofs.MemberLemmas.{is_member-nil, is_member-cons, is_member-take_more, is_member-drop_more, or_assoc, or-false}
-use Rattle.regress_base.proofs.CanonicalLemmas.{CanonicalParts, canonical_behind, no_member_below}
+use Rattle.regress_base.proofs.MemberLemmas.{is_member-nil, is_member-take_more, is_member-drop_more, or_assoc, or-false}
+use Rattle.regress_base.proofs.CanonicalLemmas.{canonical_behind, no_member_below}
 
 -- what holds on success, by what it follows from
 pub on_ok : {A E : Type 0} (r : Result A E) {P Q : Type 0} → (P → Q) → OnOk r P → OnOk r Q

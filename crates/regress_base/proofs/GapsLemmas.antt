@@ -1,11 +1,11 @@
 -- The gaps of a canonical list are its complement.
-use Rattle.std.proofs.Common.{◌≡◌, ℕ, ◌+◌, ◌-◌, ◌<◌, ◌≤◌, Bool, true, false, not, ◌||◌, ◌&&◌, cond, nat_lt, nat_le, inl, inr, IsTrue, List, [], ◌∷◌, ◌++◌, length, drop, get_or, refl, sym, ap, ap₂, ◌∙◌, subst, le_refl, le-ltb, lt-ltb, arith}
+use Rattle.std.proofs.Common.{◌≡◌, ℕ, ◌+◌, ◌-◌, ◌<◌, ◌≤◌, Bool, true, false, not, ◌||◌, ◌&&◌, cond, nat_lt, nat_le, inl, inr, IsTrue, List, [], ◌∷◌, ◌++◌, length, drop, get_or, refl, sym, ap, ◌∙◌, subst, le_refl, le-ltb, lt-ltb, arith}
 use Rattle.std.proofs.lemmas.List.{drop_more, drop_all, append_assoc, append-nil}
-use Rattle.std.proofs.lemmas.Bool.{cases_lt, cond-true, cond-false, and_left, or_left, or_from, le-leb, lt-leb, not_from_true, not_from_false}
-use Rattle.regress_base.specs.Intervals.{Bounds, IsInterval, is_within, is_member, is_canonical_from, IsCanonical, IsComplement, code_point_max}
+use Rattle.std.proofs.lemmas.Bool.{cases_lt, cond-true, cond-false, and_left, or_left, or_from, le-leb, lt-leb}
+use Rattle.regress_base.specs.Intervals.{Bounds, is_member, is_canonical_from, IsCanonical, IsComplement, code_point_max}
 use Rattle.regress_base.proofs.WithinLemmas.{le-is_within, lt-is_within, gt-is_within}
 use Rattle.regress_base.proofs.MemberLemmas.{is_member-nil, is_member-cons, is_member-one}
-use Rattle.regress_base.proofs.CanonicalLemmas.{CanonicalParts, canonical_parts, canonical_cons, canonical_lower, member_above, no_member_below, no_member_past_end}
+use Rattle.regress_base.proofs.CanonicalLemmas.{canonical_parts, canonical_cons, canonical_lower, no_member_below, no_member_past_end}
 use Rattle.regress_base.proofs.UniqueLemmas.{canonical_unique}
 
 abbrev pair : ℕ → ℕ → Bounds

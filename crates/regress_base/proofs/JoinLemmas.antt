@@ -3,10 +3,10 @@ use Rattle.std.proofs.Common.{◌≡◌, ℕ, ◌+◌, ◌-◌, ◌<◌, ◌≤�
 use Rattle.std.proofs.lemmas.Bool.{cases_lt, or_left, or_right, or_from}
 use Rattle.std.proofs.lemmas.List.{take-append-drop, take-take, take_more, take_more_set, drop-set-lt, drop_all, append_assoc, get_or-drop, get_or-take, length-take-le, length-drop, get_or_default}
 use Rattle.std.specs.List.{remove_range}
-use Rattle.regress_base.specs.Intervals.{Bounds, IsInterval, code_point_max, is_within, is_member, is_canonical_from, IsCanonical, Touches, TouchesAny, IsTouchingRange}
-use Rattle.regress_base.proofs.WithinLemmas.{is_within_tells, le-is_within, lt-is_within, gt-is_within, is_within-true}
+use Rattle.regress_base.specs.Intervals.{Bounds, IsInterval, is_within, is_member, is_canonical_from, IsCanonical, IsTouchingRange}
+use Rattle.regress_base.proofs.WithinLemmas.{le-is_within, lt-is_within, gt-is_within}
 use Rattle.regress_base.proofs.MemberLemmas.{is_member-nil, is_member-cons, is_member-append, is_member-at, is_member-nowhere}
-use Rattle.regress_base.proofs.CanonicalLemmas.{CanonicalParts, canonical_parts, canonical_cons, canonical_append, canonical_front, canonical_back, canonical_at, canonical_apart, next_low, next_low-nil, next_low-push}
+use Rattle.regress_base.proofs.CanonicalLemmas.{canonical_parts, canonical_cons, canonical_append, canonical_front, canonical_back, canonical_at, canonical_apart, next_low, next_low-nil, next_low-push}
 
 -- the intervals from `start` to `end`
 abbrev pub between : List Bounds → ℕ → ℕ → List Bounds

@@ -1,5 +1,5 @@
 -- Membership in lists that are made of others.
-use Rattle.std.proofs.Common.{◌≡◌, ℕ, ◌+◌, ◌<◌, Bool, true, false, ◌||◌, List, [], ◌∷◌, ◌++◌, length, take, drop, get_or, refl, ap, ◌∙◌, sym, suc, zero, le_of_suc-le-suc, not-suc-le-zero, arith}
+use Rattle.std.proofs.Common.{◌≡◌, ℕ, ◌+◌, ◌<◌, Bool, true, false, ◌||◌, List, [], ◌∷◌, ◌++◌, length, take, drop, get_or, refl, ap, ◌∙◌, suc, zero, le_of_suc-le-suc, not-suc-le-zero, arith}
 use Rattle.std.proofs.lemmas.Bool.{or_left, or_right, or_from}
 use Rattle.std.proofs.lemmas.List.{take_more, drop_more}
 use Rattle.regress_base.specs.Intervals.{Bounds, is_within, is_member}

@@ -1,14 +1,13 @@
 -- Binary searches in canonical lists.
-use Rattle.std.proofs.Common.{◌≡◌, ℕ, ◌+◌, ◌<◌, ◌≤◌, Bool, true, false, ◌⊎◌, inl, inr, IsTrue, nat_lt, List, length, get_or, Option, Result, Ok, Err, cond, refl, ◌∙◌, sym, ap, subst, le_refl, le_of_eq, arith}
+use Rattle.std.proofs.Common.{◌≡◌, ℕ, ◌+◌, ◌<◌, ◌≤◌, true, false, inl, inr, nat_lt, List, length, get_or, Result, Ok, Err, cond, sym, ap, subst, le_refl, le_of_eq, arith}
 use Rattle.std.proofs.lemmas.Bool.{cases_lt}
 use Rattle.std.proofs.lemmas.Bool.Decides.{nat_tests}
-use Rattle.std.specs.List.{HoldsAt, AllWithin}
 use Rattle.std.specs.List.Sorted.{IsNonDecreasingBy, IsBinarySearchResult, IsSearchInRange}
 use Rattle.std.specs.Ordering.{ordering_index, MatchOrdering}
 use Rattle.std.specs.Result.{is_ok}
 use Rattle.std.specs.declared.cmp.Ordering.{Ordering}
 use Rattle.std.specs.declared.cmp.Ordering.TheVariants.{Less, Equal, Greater}
-use Rattle.regress_base.specs.Intervals.{Bounds, IsInterval, is_within, is_member, is_canonical_from, IsCanonical}
+use Rattle.regress_base.specs.Intervals.{Bounds, IsInterval, is_within, is_member, IsCanonical}
 use Rattle.regress_base.proofs.WithinLemmas.{le-is_within, lt-is_within, gt-is_within}
 use Rattle.regress_base.proofs.MemberLemmas.{is_member-at, is_member-nowhere}
 use Rattle.regress_base.proofs.CanonicalLemmas.{canonical_at, canonical_apart}

@@ -1,12 +1,12 @@
 -- Canonical lists with the same members are equal.
-use Rattle.std.proofs.Common.{◌≡◌, ℕ, ◌+◌, ◌<◌, ◌≤◌, Bool, true, false, ◌||◌, inl, inr, IsTrue, List, [], ◌∷◌, refl, sym, ap, ap₂, ◌∙◌, subst, le_refl, le_antisymm, ◌&&◌, ◌==◌, eqb-true, eq-eqb, Decides, arith}
+use Rattle.std.proofs.Common.{◌≡◌, ℕ, ◌+◌, ◌≤◌, Bool, true, false, ◌||◌, inl, inr, IsTrue, List, [], ◌∷◌, refl, sym, ap, ap₂, ◌∙◌, subst, le_refl, le_antisymm, ◌==◌, eqb-true, eq-eqb, Decides, arith}
 use Rattle.std.specs.Cmp.Lexicographic.{pointwise}
 use Rattle.std.proofs.lemmas.Slice.Eq.{slice_eq-Decides}
 use Rattle.std.proofs.lemmas.Bool.{cases_lt, or_left, or_from, and_parts, and_from, false≢true}
-use Rattle.regress_base.specs.Intervals.{Bounds, bounds_eq, is_within, is_member, is_canonical_from, IsCanonical, code_point_max}
-use Rattle.regress_base.proofs.WithinLemmas.{le-is_within, lt-is_within, gt-is_within}
+use Rattle.regress_base.specs.Intervals.{Bounds, bounds_eq, is_member, is_canonical_from, IsCanonical, code_point_max}
+use Rattle.regress_base.proofs.WithinLemmas.{le-is_within, gt-is_within}
 use Rattle.regress_base.proofs.MemberLemmas.{is_member-nil, is_member-cons, is_member-one}
-use Rattle.regress_base.proofs.CanonicalLemmas.{CanonicalParts, canonical_parts, canonical_cons, member_above, no_member_below, no_member_past_end}
+use Rattle.regress_base.proofs.CanonicalLemmas.{canonical_parts, canonical_cons, member_above, no_member_below, no_member_past_end}
 
 abbrev pair : ℕ → ℕ → Bounds
 pair f l = record { first = f; last = l }

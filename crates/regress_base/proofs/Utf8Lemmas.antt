@@ -1,7 +1,7 @@
 -- The bytes of a code point, and the code point of bytes.
-use Rattle.std.proofs.Common.{◌≡◌, ℕ, ◌+◌, ◌*◌, ◌/◌, ◌%◌, ◌^◌, ◌<◌, ◌≤◌, List, [], ◌∷◌, length, get_or, slice_get, Option, Some, inl, inr, ap, sym, ◌∙◌, refl, bit_and, bit_or, lt-ltb, le-ltb, arith}
+use Rattle.std.proofs.Common.{◌≡◌, ℕ, ◌+◌, ◌*◌, ◌/◌, ◌%◌, ◌^◌, ◌<◌, ◌≤◌, List, [], ◌∷◌, length, get_or, slice_get, Some, inl, inr, ap, sym, ◌∙◌, bit_or, lt-ltb, le-ltb, arith}
 use Rattle.std.proofs.lemmas.Bool.{cond-true, cond-false, cases_lt}
-use Rattle.std.proofs.lemmas.Nat.{and_mask, or_shifted}
+use Rattle.std.proofs.lemmas.Nat.{or_shifted}
 use Rattle.std.specs.Char.{encode_utf8}
 use Rattle.regress_base.specs.Utf8.{value_of_two, value_of_three, value_of_four}
 

@@ -2,6 +2,9 @@
 
 use crate::interval::Interval;
 
+#[cfg(test)]
+mod tests;
+
 /// A class that has an escape: `\d`, `\s` or `\w`.
 #[derive(Clone, Copy, Debug, PartialEq, Eq)]
 pub enum CharacterClassType {
@@ -13,7 +16,7 @@ pub enum CharacterClassType {
     Words,
 }
 
-/// The characters of `\w`: 0 to 9, A to Z, the low line, a to z (ECMA-262, section 22.2.2.7.3).
+/// The characters of `\w`: 0 to 9, A to Z, the low line, a to z (ECMA-262, section 22.2.2.9, WordCharacters).
 pub const WORD_CHARS: [Interval; 4] = [
     Interval {
         first: 0x30,

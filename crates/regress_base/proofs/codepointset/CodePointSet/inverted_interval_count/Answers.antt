@@ -1,6 +1,6 @@
 -- The count is the length of the complement's list.
-use Rattle.std.proofs.Common.{◌≡◌, ◌+◌, ◌∙◌, length, ap, sym, arith, rules}
-use Rattle.regress_base.proofs.GapsLemmas.{gaps_from, gaps_from-end, gaps_from-full, count_step_gap, count_step_none, count_done, next_parts}
+use Rattle.std.proofs.Common.{◌+◌, length, ap, sym, arith, rules}
+use Rattle.regress_base.proofs.GapsLemmas.{gaps_from-end, gaps_from-full, count_step_gap, count_step_none, count_done, next_parts}
 use Rattle.regress_base.proofs.codepointset.CodePointSet.inverted_interval_count.Goals as goal
 use Rattle.regress_base.proofs.codepointset.CodePointSet.inverted_interval_count.Goals.{then-start-first, else-start-first}
 

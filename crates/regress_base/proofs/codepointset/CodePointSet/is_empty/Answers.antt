@@ -1,4 +1,4 @@
-use Rattle.std.proofs.Common.{◌≡◌, [], Decides, sym, subst, arith}
+use Rattle.std.proofs.Common.{subst, arith}
 use Rattle.std.proofs.lemmas.Grind.{common_steps}
 use Rattle.regress_base.specs.Intervals.{IsCanonical}
 use Rattle.regress_base.proofs.UniqueLemmas.{Decides-none}

@@ -1,4 +1,4 @@
-use Rattle.std.proofs.Common.{◌≤◌, sym, arith, rules}
+use Rattle.std.proofs.Common.{sym, rules}
 use Rattle.std.proofs.lemmas.Fn.{always_returns_same}
 use Rattle.regress_base.proofs.AddLemmas.{merge_place, merge_places_rise, touching-from_equal_range, touching-behind_all, touching-in_last}
 use Rattle.regress_base.proofs.codepointset.add.touching.Goals as goal

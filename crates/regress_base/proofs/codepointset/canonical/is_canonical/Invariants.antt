@@ -1,5 +1,5 @@
 -- The intervals so far are canonical, and the others are to begin at `low`.
-use Rattle.std.proofs.Common.{◌≡◌, take, drop, IsTrue}
+use Rattle.std.proofs.Common.{◌≡◌, drop}
 use Rattle.regress_base.specs.Intervals.{is_canonical_from}
 use Rattle.regress_base.proofs.codepointset.canonical.is_canonical.Given as goal
 

@@ -1,5 +1,5 @@
 -- The overlap runs from the later first to the earlier last.
-use Rattle.std.proofs.Common.{◌||◌, ◌∙◌, min, max, ap, ap₂, ℕ, arith}
+use Rattle.std.proofs.Common.{◌||◌, ◌∙◌, min, max, ap, ap₂}
 use Rattle.regress_base.specs.Intervals.{is_member}
 use Rattle.regress_base.proofs.CombineLemmas.{on_ok, overlap_by_ends}
 use Rattle.regress_base.proofs.codepointset.combine.add_overlap.Goals as goal

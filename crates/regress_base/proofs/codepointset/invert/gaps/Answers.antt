@@ -1,6 +1,5 @@
 -- The list is that of the complement.
-use Rattle.std.proofs.Common.{◌≡◌, ◌+◌, ◌-◌, ◌++◌, [], ◌∷◌, ◌∙◌, ap, ap₂, sym, arith, rules}
-use Rattle.regress_base.specs.Intervals.{Bounds}
+use Rattle.std.proofs.Common.{◌≡◌, ◌-◌, ◌++◌, [], ◌∷◌, ◌∙◌, ap, arith, rules}
 use Rattle.regress_base.proofs.GapsLemmas.{gaps_from, gaps_step_gap, gaps_step_none, gaps_end, gaps_full, complement_from}
 use Rattle.regress_base.proofs.codepointset.invert.gaps.Goals as goal
 use Rattle.regress_base.proofs.codepointset.invert.gaps.Goals.{then-start-first+in_ok-push, else-start-first, then-start-le-CODE_POINT_MAX+in_ok-push-2, else-start-le-CODE_POINT_MAX}

@@ -1,8 +1,7 @@
 -- The later of the two firsts is shared where the ends reach each other.
-use Rattle.std.proofs.Common.{◌≡◌, ◌<◌, ◌≤◌, subst, ap, arith, rules}
-use Rattle.std.proofs.lemmas.Bool.{le-leb}
+use Rattle.std.proofs.Common.{subst, arith, rules}
 use Rattle.std.proofs.lemmas.Bool.Decides.{nat_tests}
-use Rattle.regress_base.specs.Intervals.{Bounds, IsInterval}
+use Rattle.regress_base.specs.Intervals.{IsInterval}
 use Rattle.regress_base.proofs.WithinLemmas.{shared_from_ends, ends_from_shared}
 use Rattle.regress_base.proofs.interval.Interval.overlaps.Goals as goal
 

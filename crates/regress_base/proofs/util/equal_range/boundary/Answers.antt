@@ -1,7 +1,7 @@
 -- The answer at the middle tells which half goes.
-use Rattle.std.proofs.Common.{◌+◌, ◌-◌, ◌/◌, arith, rules, of_calls}
+use Rattle.std.proofs.Common.{◌+◌, ◌-◌, ◌/◌, arith, of_calls}
 use Rattle.std.specs.Ordering.{ordering_index}
-use Rattle.regress_base.proofs.RangesLemmas.{Narrowed, narrowed-lower, narrowed-upper, answers_next, read_index, index-lt, index-ge}
+use Rattle.regress_base.proofs.RangesLemmas.{narrowed-lower, narrowed-upper, answers_next, read_index, index-lt, index-ge}
 use Rattle.regress_base.proofs.util.equal_range.boundary.Goals as goal
 
 pub loop-low-preserved-then-lt : goal.loop-low-preserved-then-lt
