@@ -2,4 +2,9 @@
 //! sets of code points, sets of bytes and searches, and the bytes of UTF-8.
 #![tactic(auto)]
 
+pub mod bytesearch;
+pub mod charclasses;
+pub mod codepointset;
+mod interval;
 pub mod types;
+pub mod util;

@@ -1,4 +1,13 @@
-//! Plain values that every layer shares: flags, ids and limits.
+//! Plain values that every layer shares: flags, ids, limits, brackets, groups and loops.
+
+pub use crate::charclasses::CharacterClassType;
+pub use bracket::BracketContents;
+pub use captures::{GroupData, LoopData};
+
+mod bracket;
+mod captures;
+#[cfg(test)]
+mod tests;
 
 /// The flags of a pattern, each read by itself. `unicode_sets` does not switch `unicode` on: a caller who
 /// wants the sets of JavaScript's flag v sets both.

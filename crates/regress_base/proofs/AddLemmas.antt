@@ -1,0 +1,103 @@
+-- One interval more in a canonical list.
+use Rattle.std.proofs.Common.{◌≡◌, ℕ, ◌+◌, ◌-◌, ◌<◌, ◌≤◌, inl, inr, List, length, get_or, ap, ◌∙◌, sym, subst, nat_lt, cond, le_refl, le_of_eq, Some, slice_get, arith}
+use Rattle.std.proofs.lemmas.Option.{slice_get_within, get_or_from_slice_get}
+use Rattle.std.proofs.lemmas.Bool.{cases_lt}
+use Rattle.std.proofs.lemmas.Bool.Decides.{nat_tests}
+use Rattle.std.specs.List.Sorted.{IsNonDecreasingBy}
+use Rattle.std.specs.Ordering.{ordering_index, MatchOrdering}
+use Rattle.std.specs.declared.cmp.Ordering.{Ordering}
+use Rattle.std.specs.declared.cmp.Ordering.TheVariants.{Less, Equal, Greater}
+use Rattle.regress_base.specs.Ranges.{IsEqualRange}
+use Rattle.regress_base.specs.Intervals.{Bounds, IsInterval, IsCanonical, Touches, IsTouchingRange}
+use Rattle.regress_base.proofs.CanonicalLemmas.{canonical_at, canonical_apart}
+
+-- where an interval lies as seen from another, touching ones being equal
+unfoldable pub merge_place : Bounds → Bounds → Ordering
+merge_place iv old = cond (nat_lt (old.last + 1) iv.first) Less (cond (nat_lt (iv.last + 1) old.first) Greater Equal)
+
+pub merge_place_tells : (iv old : Bounds) → MatchOrdering (merge_place iv old) (old.last + 1 < iv.first) ((iv.first ≤ old.last + 1) × (old.first ≤ iv.last + 1)) (iv.last + 1 < old.first)
+unfolding merge_place
+merge_place_tells iv old = grind (arith, nat_tests)
+
+-- an interval does not come later than one behind it
+merge_place-rises : (iv a b : Bounds) → IsInterval iv → IsInterval a → IsInterval b → a.last + 1 < b.first → ordering_index (merge_place iv a) ≤ ordering_index (merge_place iv b)
+merge_place-rises iv a b hi ha hb apart = by_places (merge_place iv a) (merge_place iv b) (merge_place_tells iv a) (merge_place_tells iv b)
+  where
+    by_places : (x y : Ordering) → MatchOrdering x (a.last + 1 < iv.first) ((iv.first ≤ a.last + 1) × (a.first ≤ iv.last + 1)) (iv.last + 1 < a.first) → MatchOrdering y (b.last + 1 < iv.first) ((iv.first ≤ b.last + 1) × (b.first ≤ iv.last + 1)) (iv.last + 1 < b.first) → ordering_index x ≤ ordering_index y
+    by_places Less y s t = omega arith
+    by_places Equal Less s t = absurd (omega (arith, hb.ordered, s.0, t))
+    by_places Equal Equal s t = le_refl 1
+    by_places Equal Greater s t = omega arith
+    by_places Greater Less s t = absurd (omega (arith, hi.ordered, ha.ordered, hb.ordered, s, t))
+    by_places Greater Equal s t = absurd (omega (arith, ha.ordered, s, t.1))
+    by_places Greater Greater s t = le_refl 2
+
+pub merge_places_rise : (iv : Bounds) (ivs : List Bounds) → IsInterval iv → IsCanonical ivs → IsNonDecreasingBy (λ old. ordering_index (merge_place iv old)) ivs
+merge_places_rise iv ivs hi can i j d le lt =
+    elim (cases_lt i j) [
+      | inl before ↦ merge_place-rises iv (get_or ivs i d) (get_or ivs j d) hi (canonical_at 0 ivs i d can (omega arith)).interval (canonical_at 0 ivs j d can lt).interval (canonical_apart 0 ivs i j d can before lt)
+      | inr not_before ↦ (let same : i ≡ j = omega arith in le_of_eq (ap (λ k. ordering_index (merge_place iv (get_or ivs k d))) same))
+    ]
+
+placed : (iv old : Bounds) (o : Ordering) → merge_place iv old ≡ o → MatchOrdering o (old.last + 1 < iv.first) ((iv.first ≤ old.last + 1) × (old.first ≤ iv.last + 1)) (iv.last + 1 < old.first)
+placed iv old o e =
+    subst (λ (p : Ordering). MatchOrdering p (old.last + 1 < iv.first) ((iv.first ≤ old.last + 1) × (old.first ≤ iv.last + 1)) (iv.last + 1 < old.first)) e (merge_place_tells iv old)
+
+-- the range of equals by that place is the touching range
+pub touching-from_equal_range : (ivs : List Bounds) (iv : Bounds) (start end : ℕ) → IsEqualRange (merge_place iv) ivs start end → IsTouchingRange ivs iv start end
+touching-from_equal_range ivs iv start end range = record {
+  in_order = range.in_order;
+  in_bounds = range.in_bounds;
+  before = λ k d from to. placed iv (get_or ivs k d) Less (range.less k d from to);
+  touching = λ k d from to. (let t = placed iv (get_or ivs k d) Equal (range.equal k d from to) in record { not_before = t.0; not_after = t.1 });
+  behind = λ k d from to. placed iv (get_or ivs k d) Greater (range.greater k d from to);
+}
+
+-- where the last interval ends and begins, as seen from each one before it
+record LastAt (ivs : List Bounds) (last : Bounds) : Type 0 where
+  some : 0 < length ivs
+  here : (d : Bounds) → get_or ivs (length ivs - 1) d ≡ last
+  interval : IsInterval last
+  after : (k : ℕ) (d : Bounds) → k < length ivs - 1 → (get_or ivs k d).last + 1 < last.first
+
+last_at : (ivs : List Bounds) (last : Bounds) → IsCanonical ivs → slice_get ivs (length ivs - 1) ≡ Some last → LastAt ivs last
+last_at ivs last can at =
+    let inside = slice_get_within ivs (length ivs - 1) last at in
+    let here = λ (d : Bounds). get_or_from_slice_get ivs (length ivs - 1) last d at in
+    record {
+      some = omega arith;
+      here = here;
+      interval = subst IsInterval (here last) (canonical_at 0 ivs (length ivs - 1) last can inside).interval;
+      after = λ k d before. (let P : Bounds → Type 0 = λ b. (get_or ivs k d).last + 1 < b.first in subst P (here d) (canonical_apart 0 ivs k (length ivs - 1) d can before inside));
+    }
+
+-- an interval that begins behind the last one
+pub touching-behind_all : (ivs : List Bounds) (iv last : Bounds) → IsCanonical ivs → slice_get ivs (length ivs - 1) ≡ Some last → last.last + 1 < iv.first → IsTouchingRange ivs iv (length ivs) (length ivs)
+touching-behind_all ivs iv last can at behind =
+    let l = last_at ivs last can at in
+    let ordered = l.interval.ordered in
+    record {
+      in_order = le_refl (length ivs);
+      in_bounds = le_refl (length ivs);
+      before = λ k d from to. elim (cases_lt k (length ivs - 1)) [
+        | inl earlier ↦ (let after = l.after k d earlier in omega arith)
+        | inr not_earlier ↦ (let P : Bounds → Type 0 = λ b. b.last + 1 < iv.first in
+            let same : k ≡ length ivs - 1 = omega (arith, l.some) in
+            subst P (sym (ap (λ n. get_or ivs n d) same ∙ l.here d)) behind)
+      ];
+      touching = λ k d from to. absurd (omega arith);
+      behind = λ k d from to. absurd (omega arith);
+    }
+
+-- an interval that begins in the last one
+pub touching-in_last : (ivs : List Bounds) (iv last : Bounds) → IsCanonical ivs → iv.first ≤ iv.last → slice_get ivs (length ivs - 1) ≡ Some last → iv.first ≤ last.last + 1 → last.first ≤ iv.first → IsTouchingRange ivs iv (length ivs - 1) (length ivs)
+touching-in_last ivs iv last can ordered at reaches from_last =
+    let l = last_at ivs last can at in
+    record {
+      in_order = omega arith;
+      in_bounds = le_refl (length ivs);
+      before = λ k d from to. (let after = l.after k d to in omega arith);
+      touching = λ k d from to. (let same : k ≡ length ivs - 1 = omega arith in
+          subst (Touches iv) (sym (ap (λ n. get_or ivs n d) same ∙ l.here d)) (record { not_before = reaches; not_after = omega arith }));
+      behind = λ k d from to. absurd (omega arith);
+    }

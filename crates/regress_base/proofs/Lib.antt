@@ -1,0 +1,16 @@
+pub mod BitmapLemmas
+pub mod CellLemmas
+pub mod CountLemmas
+pub mod FindLemmas
+pub mod FirstByteLemmas
+pub mod WithinLemmas
+pub mod MemberLemmas
+pub mod CanonicalLemmas
+pub mod SearchLemmas
+pub mod RangesLemmas
+pub mod AddLemmas
+pub mod JoinLemmas
+pub mod Utf8Lemmas
+pub mod CombineLemmas
+pub mod UniqueLemmas
+pub mod GapsLemmas

@@ -1,0 +1,13 @@
+pub mod AsciiBitmap
+pub mod AsciiLaws
+pub mod ByteBitmap
+pub mod ByteLaws
+pub mod ByteSets
+pub mod FirstBytes
+pub mod Needle
+pub mod Places
+pub mod Intervals
+pub mod Utf8
+pub mod Classes
+pub mod Ranges
+pub mod Brackets

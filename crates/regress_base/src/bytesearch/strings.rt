@@ -1,0 +1,48 @@
+//! Strings of bytes to look for.
+
+ghost use Rattle.std.specs.Prelude.{◌≡◌};
+ghost use Rattle.regress_base.specs.Needle.{needle_bytes};
+ghost use Rattle.regress_base.specs.Places.{StandsWhole};
+
+use super::searcher::ByteSearcher;
+
+/// The empty string. It stands at every place of a text, so it is always found at place 0.
+#[derive(Clone, Copy, Debug)]
+pub struct EmptyString {}
+
+impl ByteSearcher for EmptyString {
+    ghost stands_at = { λ _ _ _. Unit {0} };
+
+    fn find_in(&self, _rhs: &[u8]) -> Option<usize> {
+        Some(0)
+    }
+}
+
+/// A string of bytes to look for as a whole. The empty one stands at every place of a text. A search tries one place
+/// after another, so it costs at most the length of the text times that of the string.
+#[derive(Clone, Copy, Debug)]
+pub struct Needle<'a> {
+    bytes: &'a [u8],
+}
+
+impl<'a> Needle<'a> {
+    /// Looks for `bytes`.
+    pub fn new(bytes: &'a [u8]) -> Needle<'a>
+        ensures { needle_bytes result ≡ bytes.now }
+    {
+        Needle { bytes }
+    }
+}
+
+impl ByteSearcher for Needle<'_> {
+    ghost stands_at = { λ needle. StandsWhole (needle_bytes needle) };
+
+    fn find_in(&self, rhs: &[u8]) -> Option<usize> {
+        for i in 0..=rhs.len() {
+            if rhs[i..].starts_with(self.bytes) {
+                return Some(i);
+            }
+        }
+        None
+    }
+}

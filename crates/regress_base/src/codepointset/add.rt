@@ -1,0 +1,78 @@
+//! Adding intervals to a set.
+ghost use Rattle.std.specs.Prelude.{◌≡◌, ◌==◌, ℕ, ◌+◌, ◌<◌, ◌≤◌, ◌↔◌, ◌||◌, IsOk, OnOk, OnErr};
+ghost use Rattle.regress_base.specs.Intervals.{is_member, is_within, IsInterval, IsCanonical, TouchesAny, IsTouchingRange};
+ghost use Rattle.std.specs.declared.cmp.Ordering.TheVariants.{Less, Greater};
+
+use super::CodePointSet;
+use crate::interval::{CODE_POINT_MAX, CodePoint, Interval};
+use crate::util::equal_range_by;
+use std::alloc::AllocError;
+use std::cmp::Ordering;
+use std::ops::Range;
+
+impl CodePointSet {
+    /// Adds an interval. It takes memory only where `new_iv` neither overlaps nor touches an interval
+    /// that is there, and after an error the set is as it was. A binary search, and one move of the
+    /// intervals behind the new one; at the end of the list amortized constant.
+    pub fn add(&mut self, new_iv: Interval) -> Result<(), AllocError>
+        ensures members { OnOk result ((c : ℕ) → is_member self.new c ≡ (is_member self.old c || is_within new_iv c)) }
+        ensures canonical { IsCanonical self.new }
+        ensures err { OnErr result (self.new ≡ self.old) }
+        ensures needs_no_memory { TouchesAny new_iv self.old → IsOk result }
+    {
+        let Range { start, end } = touching(&self.ivs, new_iv);
+        if start == end {
+            self.ivs.insert(start, new_iv)?;
+            return Ok(());
+        }
+        let first = self.ivs[start].first().min(new_iv.first());
+        let last = self.ivs[end - 1].last().max(new_iv.last());
+        self.ivs[start] = Interval::new(first, last);
+        self.ivs.drain(start + 1..end);
+        Ok(())
+    }
+
+    /// Adds one code point, as [`add`](CodePointSet::add) does.
+    #[tactic(auto, using(crate::proofs::WithinLemmas::is_within_one))]
+    pub fn add_one(&mut self, cp: CodePoint) -> Result<(), AllocError>
+        requires { cp ≤ CODE_POINT_MAX }
+        ensures members { OnOk result ((c : ℕ) → is_member self.new c ≡ (is_member self.old c || (c == cp))) }
+        ensures canonical { IsCanonical self.new }
+        ensures err { OnErr result (self.new ≡ self.old) }
+        ensures needs_no_memory { TouchesAny (record { first = cp; last = cp }) self.old → IsOk result }
+    {
+        self.add(Interval::new(cp, cp))
+    }
+}
+
+/// The places of the intervals that `new_iv` overlaps or touches, or the place where it would go.
+/// Constant where it belongs at the end, else a binary search.
+fn touching(ivs: &[Interval], new_iv: Interval) -> Range<usize>
+    requires { IsCanonical ivs.now }
+    ensures range { IsTouchingRange ivs.now new_iv result.start result.end }
+    ensures interval { IsInterval new_iv }
+{
+    let len = ivs.len();
+    let first = new_iv.first();
+    match ivs.last() {
+        None => 0..0,
+        Some(last) if last.last() + 1 < first => len..len,
+        Some(last) if last.first() <= first => len - 1..len,
+        Some(_) => equal_range_by(ivs, |iv| merge_order(*iv, new_iv)),
+    }
+}
+
+/// `Less` or `Greater` where `iv` lies before or after `other` with a code point between them, else
+/// `Equal`: they overlap or touch.
+fn merge_order(iv: Interval, other: Interval) -> Ordering
+    ensures less { (result ≡ Less) ↔ (iv.last + 1 < other.first) }
+    ensures greater { (result ≡ Greater) ↔ (other.last + 1 < iv.first) }
+{
+    if iv.last() + 1 < other.first() {
+        Ordering::Less
+    } else if other.last() + 1 < iv.first() {
+        Ordering::Greater
+    } else {
+        Ordering::Equal
+    }
+}

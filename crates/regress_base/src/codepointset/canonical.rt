@@ -1,0 +1,34 @@
+//! Searches in canonical lists of intervals.
+ghost use Rattle.std.specs.Prelude.{◌≡◌, ◌↔◌, IsTrue};
+ghost use Rattle.regress_base.specs.Intervals.{is_member, IsCanonical, CanonicalFormIsUnique};
+
+use crate::interval::Interval;
+
+/// Whether the intervals ascend and at least one code point is missing between neighbours, so that
+/// none overlap and none touch. Linear in the number of intervals.
+pub fn is_canonical(ivs: &[Interval]) -> bool
+    ensures { IsTrue result ↔ IsCanonical ivs.now }
+{
+    let mut low = 0;
+    for iv in ivs {
+        if iv.first() < low {
+            return false;
+        }
+        low = iv.last() + 2;
+    }
+    true
+}
+
+/// A law of the definitions: canonical lists with the same members are equal. It does nothing; a proof
+/// that needs the law calls it.
+pub fn canonical_form_is_unique()
+    ensures { CanonicalFormIsUnique }
+{}
+
+/// Whether one of the intervals contains `cp`. A binary search.
+pub(super) fn contains(ivs: &[Interval], cp: u32) -> bool
+    requires { IsCanonical ivs.now }
+    ensures { result ≡ is_member ivs.now cp }
+{
+    ivs.binary_search_by(|iv| iv.compare(cp)).is_ok()
+}

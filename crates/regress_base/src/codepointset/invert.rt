@@ -1,0 +1,58 @@
+//! Complements.
+ghost use Rattle.std.specs.Prelude.{◌≡◌, ℕ, List, length, IfOk};
+ghost use Rattle.regress_base.specs.Intervals.{Bounds, IsCanonical, IsComplement};
+
+use super::CodePointSet;
+use crate::interval::{CODE_POINT_MAX, Interval};
+use std::alloc::{AllocError, Global};
+
+impl CodePointSet {
+    /// How many intervals [`inverted`](CodePointSet::inverted) has. Linear, and takes no memory.
+    pub fn inverted_interval_count(&self) -> usize
+        ensures { (gaps : List Bounds) × IsCanonical gaps × IsComplement self.now gaps × (result ≡ length gaps) }
+    {
+        let mut count = 0;
+        let mut start = 0;
+        for iv in self.intervals() {
+            if start < iv.first() {
+                count += 1;
+            }
+            start = iv.last() + 1;
+        }
+        if start <= CODE_POINT_MAX {
+            count += 1;
+        }
+        count
+    }
+
+    /// The code points that are no members, up to [`CODE_POINT_MAX`]. One pass over the intervals.
+    #[must_use]
+    pub fn inverted(&self) -> Result<CodePointSet, AllocError>
+        ensures members { IfOk result (λ set. IsComplement self.now set) }
+        ensures canonical { IfOk result IsCanonical }
+        ensures twice { IfOk result (λ set. (back : List Bounds) → IsCanonical back → IsComplement set back → back ≡ self.now) }
+    {
+        let ivs = gaps(*self.ivs.allocator(), &self.ivs)?;
+        Ok(CodePointSet::from_sorted_disjoint_intervals(ivs))
+    }
+}
+
+/// The intervals between, before and behind these.
+pub(super) fn gaps(alloc: Global, ivs: &[Interval]) -> Result<Vec<Interval>, AllocError>
+    requires { IsCanonical ivs.now }
+    ensures members { IfOk result (λ gaps. IsComplement ivs.now gaps.items) }
+    ensures canonical { IfOk result (λ gaps. IsCanonical gaps.items) }
+{
+    let mut gaps = Vec::new(alloc);
+    let mut start = 0;
+    for iv in ivs {
+        if start < iv.first() {
+            gaps.push(Interval::new(start, iv.first() - 1))?;
+        }
+        start = iv.last() + 1;
+    }
+    if start <= CODE_POINT_MAX {
+        gaps.push(Interval::new(start, CODE_POINT_MAX))?;
+    }
+    Ok(gaps)
+}

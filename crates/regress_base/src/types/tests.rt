@@ -1,0 +1,43 @@
+use super::*;
+use crate::codepointset::{CODE_POINT_MAX, CodePointSet, Interval};
+use std::test::Fail;
+
+#[test]
+fn a_bracket_is_empty_where_it_accepts_nothing(rt: HostRuntime) -> Result<(), Fail> {
+    for (whole, invert, empty) in [
+        (false, false, true),
+        (false, true, false),
+        (true, false, false),
+        (true, true, true),
+    ] {
+        let mut cps = CodePointSet::new(rt.alloc());
+        if whole {
+            cps.add(Interval::new(0, CODE_POINT_MAX))?;
+        }
+        let contents = BracketContents { invert, cps };
+        assert_eq!(rt; contents.is_empty(), empty, "{contents:?}");
+        assert_eq!(rt; contents.try_clone(rt.alloc())?.is_empty(), empty);
+    }
+    let mut some = BracketContents {
+        invert: true,
+        cps: CodePointSet::new(rt.alloc()),
+    };
+    some.cps.add_one(CODE_POINT_MAX)?;
+    assert!(rt; !some.is_empty());
+    Ok(())
+}
+
+#[test]
+fn a_group_has_a_range_where_both_ends_are_set(rt: HostRuntime) {
+    let mut group = GroupData::<usize>::new();
+    assert!(rt; !group.start_matched() && !group.end_matched());
+    group.start = Some(3);
+    assert_eq!(rt; group.as_range(), None);
+    group.end = Some(5);
+    assert_eq!(rt; group.as_range(), Some(3..5));
+    assert!(rt; group.start_matched() && group.end_matched());
+    group.reset();
+    assert_eq!(rt; group.as_range(), None);
+    let turns = LoopData::new(7u8);
+    assert_eq!(rt; (turns.iters, turns.entry), (0, 7));
+}
