@@ -2,6 +2,7 @@
 ghost use Rattle.std.specs.Prelude.{◌≤◌, All, IfOk};
 
 use crate::arguments::{Request, read_request};
+use regress_front::codepointset::CODE_POINT_MAX;
 use regress_front::optimizer::parse_and_optimize;
 use regress_front::parse::{Error, ParseFault, try_parse};
 use regress_front::unicode::Tables;
@@ -99,7 +100,7 @@ fn print_trees<W: Write>(alloc: Global, args: &[String], out: &mut W) -> Result<
 
 /// The characters of a pattern, as the parser reads them.
 fn code_points(alloc: Global, pattern: &str) -> Result<Vec<u32>, AllocError>
-    ensures { IfOk result (λ points. All (λ c. c ≤ 0x10_FFFF) points.items) }
+    ensures { IfOk result (λ points. All (λ c. c ≤ CODE_POINT_MAX) points.items) }
 {
     let mut points = Vec::new(alloc);
     for c in pattern.chars() {

@@ -1,5 +1,6 @@
 //! Rows from the text of a pattern to its trees, through every crate.
 
+use crate::codepointset::CODE_POINT_MAX;
 use crate::optimizer::{optimize, parse_and_optimize};
 use crate::parse::{ParseFault, try_parse};
 use crate::types::{Flags, MAX_CAPTURE_GROUPS, MAX_CHAR_SET_LENGTH, MAX_LOOPS, MAX_NESTING_DEPTH};
@@ -44,7 +45,7 @@ fn repeated(alloc: Global, front: &str, middle: &str, back: &str, times: usize) 
 }
 
 fn answer_to(alloc: Global, points: &[u32], flags: Flags) -> Result<Answer, Fail> {
-    if !points.iter().all(|c| *c <= 0x10_FFFF) {
+    if !points.iter().all(|c| *c <= CODE_POINT_MAX) {
         return Ok(Answer::Fault(String::from_str(alloc, "no code points")?));
     }
     let tables = Tables::small(alloc)?;

@@ -1,5 +1,6 @@
 //! From the text of a pattern to its tree in normal form.
 ghost use Rattle.std.specs.Prelude.{◌≡◌, ◌≤◌, All, IfOk, OnOk};
+ghost use Rattle.regress_base.specs.Intervals.{code_point_max};
 ghost use Rattle.regress_tree.specs.Tree.{tree};
 ghost use Rattle.regress_tree.specs.WellFormed.{IsWellFormed, captures};
 ghost use Rattle.regress_tree.specs.Units.{units};
@@ -26,7 +27,7 @@ pub fn parse_and_optimize(
     flags: Flags,
     tables: &Tables,
 ) -> Result<(Regex, Result<(), AllocError>), ParseFault>
-    requires { All (λ c. c ≤ 0x10_FFFF) pattern.now }
+    requires { All (λ c. c ≤ code_point_max) pattern.now }
 
     // Unless memory is wanting, a tree is answered exactly where the grammar derives one within the limits.
     ensures accepted { IfOk result (λ r. (p : Pattern) × IsAccepted flags pattern.now p) }

@@ -1,5 +1,6 @@
 //! From a whole pattern to its tree.
 ghost use Rattle.std.specs.Prelude.{◌≡◌, ◌≤◌, All, IfOk};
+ghost use Rattle.regress_base.specs.Intervals.{code_point_max};
 ghost use Rattle.regress_tree.specs.Tree.{tree};
 ghost use Rattle.regress_tree.specs.WellFormed.{IsWellFormed};
 ghost use Rattle.regress_syntax.specs.Fault.{RefusedOnlyIf};
@@ -40,7 +41,7 @@ pub fn try_parse(
     flags: Flags,
     _tables: &Tables,
 ) -> Result<Regex, ParseFault>
-    requires { All (λ c. c ≤ 0x10_FFFF) pattern.now }
+    requires { All (λ c. c ≤ code_point_max) pattern.now }
 
     // Whatever memory there is: a tree only where the grammar and the limits have one, and a fault of the pattern only where not.
     ensures accepted { IfOk result (λ r. (p : Pattern) × IsAccepted flags pattern.now p × (tree r.node ≡ tree_of p)) }

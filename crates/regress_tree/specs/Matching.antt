@@ -1,5 +1,7 @@
 -- What a tree matches, over the bytes of a text.
 use Rattle.std.specs.Prelude.{ℕ, Bool, true, not, ◌||◌, ◌==◌, List}
+use Rattle.regress_base.specs.Classes.{line_terminators}
+use Rattle.regress_base.specs.Intervals.{is_member}
 use Rattle.regress_base.specs.declared.types.Flags.{Flags}
 use Rattle.regress_tree.specs.declared.unicode.Tables.{Tables}
 use Rattle.regress_tree.specs.Reading.{Direction, of_bytes}
@@ -13,7 +15,7 @@ pub record Setting : Type 0 where
 
 -- ECMA-262, LineTerminator
 abbrev pub is_line_terminator : ℕ → Bool
-is_line_terminator c = c == 0xA || c == 0xD || c == 0x2028 || c == 0x2029
+is_line_terminator = is_member line_terminators
 
 module _ (setting : Setting) (bytes : List ℕ) (d : Direction) where
   -- the outcomes of a tree, with repeats

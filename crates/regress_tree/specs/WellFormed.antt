@@ -1,5 +1,6 @@
 -- Which trees are well formed.
 use Rattle.std.specs.Prelude.{◌≡◌, ◌≢◌, ℕ, ◌+◌, ◌<◌, ◌≤◌, List, [], ◌∷◌, ◌++◌, length, map, count_by, ◌==◌, Option, Some, None, IfSome, if◌then◌else◌, nat_lt}
+use Rattle.regress_base.specs.Intervals.{code_point_max}
 use Rattle.regress_tree.specs.Tree.{Tree, Trees, empty, goal, char, cat, alt, match_any, match_any_except_line_terminator, capture_group, no_trees, more_trees}
 
 -- a capture group: its id, and its name as UTF-8
@@ -41,7 +42,7 @@ last_of root = last
 abbrev mutual
   pub MayStand : ℕ → Tree → Position → Type 0
   MayStand n goal p = GoalMayStand p
-  MayStand n (char c) p = c ≤ 0x10_FFFF
+  MayStand n (char c) p = c ≤ code_point_max
   MayStand n (cat parts) p = RowMayStand n parts (last_of p)
   MayStand n (alt left right) p = MayStand n left inside × MayStand n right inside
   MayStand n (capture_group id contents name) p = (id < n) × IfSome name (λ bytes. bytes ≢ []) × MayStand n contents inside
