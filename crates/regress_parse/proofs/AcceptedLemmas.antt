@@ -1,12 +1,12 @@
 -- What the reading function finds in a whole text is what the text stands for.
-use Rattle.std.proofs.Common.{◌≡◌, ℕ, ◌+◌, ◌≤◌, Bool, true, false, List, [], ◌∷◌, Option, Some, None, refl, sym, ap, ◌∙◌, subst, arith}
+use Rattle.std.proofs.Common.{◌≡◌, true, [], Some, None, refl, sym, ap, ◌∙◌, arith}
 use Rattle.std.proofs.lemmas.Option.{same_Some}
 use Rattle.regress_base.specs.declared.types.Flags.{Flags}
 use Rattle.regress_syntax.specs.Syntax.{Pattern, Terms, Term, one, either, no_terms, more_terms, literal, dot, grouping, capture, groups, names}
 use Rattle.regress_parse.specs.Grammar.{Source, Context, IsPattern, AreTerms, IsTerm}
 use Rattle.regress_parse.specs.Reader.{pattern_at}
 use Rattle.regress_parse.specs.Parsing.{context, Fits, pattern_part}
-use Rattle.regress_parse.specs.Accepted.{is_served, IsDerived, IsWithinLimits, IsAccepted}
+use Rattle.regress_parse.specs.Accepted.{is_served, IsDerived, IsWithinLimits}
 use Rattle.regress_parse.proofs.GrammarLemmas.{pattern_at-sound, pattern_at-complete}
 
 -- The rows that are served look at the flags alone.

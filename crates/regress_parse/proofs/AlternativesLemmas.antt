@@ -1,19 +1,19 @@
 -- What the loop over alternatives has read so far.
-use Rattle.std.proofs.Common.{◌≡◌, ℕ, ◌+◌, ◌-◌, ◌<◌, ◌≤◌, ◌⊎◌, inl, inr, ⊎_elim, max, Bool, true, false, List, [], ◌∷◌, ◌++◌, length, drop, map, Option, Some, None, refl, sym, ap, ap₂, ◌∙◌, subst, arith, length-drop, add_assoc, add-zero}
+use Rattle.std.proofs.Common.{◌≡◌, ℕ, ◌+◌, ◌-◌, ◌≤◌, ⊎_elim, true, false, List, [], ◌∷◌, ◌++◌, length, drop, map, Some, None, refl, sym, ap, ◌∙◌, arith, length-drop}
 use Rattle.std.specs.Option.{IfSome}
-use Rattle.std.proofs.lemmas.Option.{none-some, same_Some}
+use Rattle.std.proofs.lemmas.Option.{same_Some}
 use Rattle.std.proofs.lemmas.Bool.{cond-true, cond-false}
-use Rattle.regress_base.specs.declared.types.TheConstants.{MAX_CAPTURE_GROUPS, MAX_NESTING_DEPTH}
+use Rattle.regress_base.specs.declared.types.TheConstants.{MAX_NESTING_DEPTH}
 use Rattle.regress_tree.specs.declared.ir.node.Node.{Node}
 use Rattle.regress_tree.specs.Reading.{forwards}
-use Rattle.regress_tree.specs.Tree.{Tree, tree, alt}
+use Rattle.regress_tree.specs.Tree.{tree, alt}
 use Rattle.regress_syntax.specs.Syntax.{Pattern, Terms, one, either, groups, groups_of_terms, levels, levels_of_terms}
 use Rattle.regress_parse.specs.Grammar.{Source, Context, is_at, bar}
 use Rattle.regress_parse.specs.Reader.{Found, ◌>>=◌, pattern_at, terms_at}
 use Rattle.regress_parse.specs.TreeOf.{tree_of_pattern, trees_of_terms, joined}
 use Rattle.regress_parse.specs.Parsing.{Fits, pattern_part, terms_part, alternatives}
 use Rattle.regress_parse.proofs.BuildLemmas.{alternatives-push}
-use Rattle.regress_parse.proofs.ReaderLemmas.{found_then, chosen, pattern_at-is, terms_at-shortens, others_of, at_front}
+use Rattle.regress_parse.proofs.ReaderLemmas.{found_then, chosen, pattern_at-is, terms_at-shortens, others_of}
 use Rattle.regress_parse.proofs.SoFarLemmas.{to_each, from_each}
 
 -- a pattern behind alternatives

@@ -1,7 +1,7 @@
 -- Lists of nodes as trees.
-use Rattle.std.proofs.Common.{◌≡◌, ◌<◌, List, [], ◌∷◌, ◌++◌, length, map, refl, sym, ap, ◌∙◌, arith}
+use Rattle.std.proofs.Common.{◌≡◌, ◌<◌, List, [], ◌∷◌, ◌++◌, length, map, refl, ap, arith}
 use Rattle.regress_tree.specs.declared.ir.node.Node.{Node}
-use Rattle.regress_tree.specs.Tree.{Tree, tree, trees, alt, cat, row}
+use Rattle.regress_tree.specs.Tree.{Tree, tree, trees, alt, cat}
 use Rattle.regress_parse.specs.TreeOf.{joined}
 use Rattle.regress_parse.specs.Parsing.{alternatives}
 

@@ -1,16 +1,14 @@
 -- The definitions at worked patterns, by computation.
-use Rattle.std.proofs.Common.{◌≡◌, ℕ, false, true, List, [], ◌∷◌, Option, Some, None, encode_utf8_all, refl, codes}
+use Rattle.std.proofs.Common.{◌≡◌, ℕ, false, true, [], ◌∷◌, Some, None, refl, codes}
 use Rattle.regress_base.specs.declared.types.Flags.{Flags}
-use Rattle.regress_tree.specs.declared.unicode.Tables.{Tables}
-use Rattle.regress_tree.specs.Reading.{forwards, backwards, character_at, read_after, read_before}
-use Rattle.regress_tree.specs.Steps.{State, distinct, one_character, capture as captures, same_state}
-use Rattle.regress_tree.specs.Matching.{Setting, matches}
-use Rattle.regress_tree.specs.Tree.{Tree, Trees, empty, goal, char, cat, alt, match_any, match_any_except_line_terminator, capture_group, no_trees, more_trees}
+use Rattle.regress_tree.specs.Reading.{forwards, backwards}
+use Rattle.regress_tree.specs.Steps.{one_character, capture as captures, same_state}
+use Rattle.regress_tree.specs.Matching.{Setting}
+use Rattle.regress_tree.specs.Tree.{Tree, Trees, empty, goal, char, cat, alt, capture_group, no_trees, more_trees}
 use Rattle.regress_tree.specs.Units.{units}
 use Rattle.regress_tree.specs.Shapes.{is_nested}
-use Rattle.regress_syntax.specs.Syntax.{Pattern, Terms, Term, one, either, no_terms, more_terms, literal, dot, grouping, capture, groups, levels}
+use Rattle.regress_syntax.specs.Syntax.{Pattern, Terms, Term, one, either, no_terms, more_terms, literal, grouping, capture, levels}
 use Rattle.regress_syntax.specs.Meaning.{meaning}
-use Rattle.regress_parse.specs.Grammar.{Source, Context}
 use Rattle.regress_parse.specs.Reader.{read_terms, pattern_at}
 use Rattle.regress_parse.specs.TreeOf.{tree_of, tree_of_pattern}
 use Rattle.regress_parse.specs.Parsing.{context}

@@ -1,10 +1,10 @@
 -- The reading function reads what the grammar relates, and nothing else. So a text stands for one syntax tree at most.
-use Rattle.std.proofs.Common.{◌≡◌, ℕ, zero, suc, ◌+◌, ◌*◌, ◌<◌, ◌≤◌, ◌⊎◌, inl, inr, ⊎_elim, Bool, true, false, cond, ◌||◌, ◌==◌, List, [], ◌∷◌, length, drop, Option, Some, None, refl, sym, ap, ◌∙◌, subst, eqb-true, arith}
+use Rattle.std.proofs.Common.{◌≡◌, ℕ, zero, suc, ⊎_elim, true, false, cond, ◌||◌, ◌==◌, [], ◌∷◌, drop, Some, None, refl, sym, ap, ◌∙◌, subst, eqb-true}
 use Rattle.std.proofs.lemmas.Option.{none-some, same_Some, cond_some}
 use Rattle.std.proofs.lemmas.Bool.{cond-true, cond-false}
 use Rattle.regress_syntax.specs.Syntax.{Pattern, Terms, Term, one, either, no_terms, more_terms, literal, dot, grouping, capture}
 use Rattle.regress_parse.specs.Grammar.{Source, Context, opening, closing, full_stop, colon, question_mark, bar, is_at, ends_alternative, is_plain, IsPattern, AreTerms, IsTerm}
-use Rattle.regress_parse.specs.Reader.{Found, ◌>>=◌, closed, group_by, term_by, term_of, read_terms, read_pattern, enough, pattern_at, terms_at, term_at}
+use Rattle.regress_parse.specs.Reader.{Found, ◌>>=◌, closed, group_by, term_of, read_terms, read_pattern, enough, pattern_at, terms_at, term_at}
 use Rattle.regress_parse.proofs.ReaderLemmas.{found_then, chosen, terms_at-is, pattern_at-is, term_at-is, more_of, others_of}
 
 pub at_bar : (t : Source) → is_at bar t ≡ true → t ≡ bar ∷ drop 1 t

@@ -1,7 +1,6 @@
 -- The reading function: it needs no more calls than the text allows, and its equations.
-use Rattle.std.proofs.Common.{◌≡◌, ℕ, zero, suc, ◌+◌, ◌*◌, ◌<◌, ◌≤◌, ◌⊎◌, inl, inr, ⊎_elim, Bool, true, false, cond, ◌==◌, List, [], ◌∷◌, length, drop, Option, Some, None, option_and_then, refl, sym, ap, ◌∙◌, subst, arith, length-drop}
+use Rattle.std.proofs.Common.{◌≡◌, ℕ, zero, suc, ◌+◌, ◌*◌, ◌<◌, ◌≤◌, ◌⊎◌, inl, inr, ⊎_elim, Bool, true, false, cond, ◌==◌, [], ◌∷◌, length, drop, Some, None, refl, sym, ap, ◌∙◌, arith, length-drop}
 use Rattle.std.proofs.lemmas.Option.{none-some, same_Some, cond_some}
-use Rattle.std.proofs.lemmas.Bool.{cond-true, cond-false}
 use Rattle.regress_syntax.specs.Syntax.{Pattern, Terms, Term, one, either, no_terms, more_terms, literal, dot, grouping, capture}
 use Rattle.regress_parse.specs.Grammar.{Source, Context, opening, closing, full_stop, colon, question_mark, bar, is_at, ends_alternative, is_plain}
 use Rattle.regress_parse.specs.Reader.{Found, ◌>>=◌, closed, group_by, term_by, term_of, read_terms, read_pattern, enough, pattern_at, terms_at, term_at}

@@ -1,21 +1,18 @@
 -- What the parser's loops have read so far, as facts on texts, syntax trees and lists of nodes.
-use Rattle.std.proofs.Common.{◌≡◌, ℕ, ◌+◌, ◌≤◌, max, Bool, true, false, List, [], ◌∷◌, ◌++◌, length, drop, map, Option, Some, None, refl, sym, ap, ap₂, ◌∙◌, subst, arith, length-drop, add_assoc}
+use Rattle.std.proofs.Common.{◌≡◌, ℕ, ◌+◌, ◌≤◌, max, true, false, List, [], ◌∷◌, ◌++◌, length, Option, Some, None, refl, sym, ap, ap₂, ◌∙◌, subst, arith, add_assoc}
 use Rattle.std.specs.Option.{IfSome}
 use Rattle.std.proofs.lemmas.Option.{none-some, same_Some}
 use Rattle.std.proofs.lemmas.Bool.{cond-true, cond-false}
-use Rattle.regress_base.specs.declared.types.Flags.{Flags}
 use Rattle.regress_base.specs.declared.types.TheConstants.{MAX_CAPTURE_GROUPS, MAX_NESTING_DEPTH}
 use Rattle.regress_tree.specs.declared.ir.node.Node.{Node}
 use Rattle.regress_tree.specs.Reading.{forwards}
-use Rattle.regress_tree.specs.Tree.{Tree, Trees, tree, trees, row, alt, no_trees, more_trees}
-use Rattle.regress_syntax.specs.Syntax.{Pattern, Terms, Term, one, either, no_terms, more_terms, groups, groups_of_terms, groups_of_term, levels, levels_of_terms, levels_of_term}
-use Rattle.regress_parse.specs.Grammar.{Source, Context, is_at, bar, ends_alternative}
-use Rattle.regress_parse.specs.Reader.{Found, ◌>>=◌, pattern_at, terms_at, term_at}
-use Rattle.regress_parse.specs.TreeOf.{tree_of_pattern, trees_of_terms, tree_of_term, joined}
-use Rattle.regress_parse.specs.Parsing.{Part, Fits, pattern_part, terms_part, term_part, alternatives}
-use Rattle.regress_parse.proofs.BuildLemmas.{alternatives-push}
-use Rattle.regress_parse.proofs.ReaderLemmas.{found_then, terms_at-is, pattern_at-is, term_at-shortens, more_of, others_of, at_front}
-use Rattle.regress_parse.proofs.GrammarLemmas.{at_bar}
+use Rattle.regress_tree.specs.Tree.{Trees, tree, trees, no_trees, more_trees}
+use Rattle.regress_syntax.specs.Syntax.{Terms, Term, no_terms, more_terms, groups_of_terms, groups_of_term, levels_of_terms}
+use Rattle.regress_parse.specs.Grammar.{Source, Context, ends_alternative}
+use Rattle.regress_parse.specs.Reader.{Found, ◌>>=◌, terms_at, term_at}
+use Rattle.regress_parse.specs.TreeOf.{trees_of_terms, tree_of_term}
+use Rattle.regress_parse.specs.Parsing.{Fits, terms_part, term_part}
+use Rattle.regress_parse.proofs.ReaderLemmas.{found_then, terms_at-is, term_at-shortens, more_of}
 
 -- Whatever is found has the property.
 pub to_each : {A : Type 0} (o : Option A) (P : A → Type 0) → IfSome o P → (x : A) → o ≡ Some x → P x

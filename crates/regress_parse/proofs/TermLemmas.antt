@@ -1,12 +1,12 @@
 -- What the next code point says of a term.
-use Rattle.std.proofs.Common.{◌≡◌, ℕ, ◌+◌, ◌<◌, ◌≤◌, Bool, true, false, cond, ◌==◌, List, [], ◌∷◌, length, drop, Option, Some, None, refl, sym, ap, ◌∙◌, subst, eqb-true, arith}
+use Rattle.std.proofs.Common.{◌≡◌, ℕ, ◌≤◌, true, false, ◌==◌, [], ◌∷◌, drop, Option, Some, None, refl, ap, ◌∙◌, eqb-true, arith}
 use Rattle.std.specs.Option.{IfSome, IsSomeAnd}
 use Rattle.std.proofs.lemmas.Bool.{cond-true, cond-false}
-use Rattle.regress_base.specs.declared.types.TheConstants.{MAX_CAPTURE_GROUPS, MAX_NESTING_DEPTH}
+use Rattle.regress_base.specs.declared.types.TheConstants.{MAX_NESTING_DEPTH}
 use Rattle.regress_syntax.specs.declared.fault.ParseFault.{ParseFault}
 use Rattle.regress_syntax.specs.declared.fault.ParseFault.TheVariants.{Syntax, Memory}
 use Rattle.regress_syntax.specs.Fault.{OnSyntax}
-use Rattle.regress_syntax.specs.Syntax.{Pattern, Terms, Term, one, either, literal, dot, levels, levels_of_terms}
+use Rattle.regress_syntax.specs.Syntax.{Pattern, one, either, literal, dot, levels}
 use Rattle.regress_parse.specs.Grammar.{Source, Context, is_at, opening, full_stop, is_plain}
 use Rattle.regress_parse.specs.Reader.{Found, group_by, pattern_at, term_at}
 use Rattle.regress_parse.specs.Parsing.{Fits, pattern_part}

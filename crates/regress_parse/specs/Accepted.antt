@@ -8,7 +8,7 @@ use Rattle.regress_tree.specs.Matching.{Setting, matches}
 use Rattle.regress_tree.specs.Tree.{Tree}
 use Rattle.regress_syntax.specs.Syntax.{Pattern, groups, names, levels}
 use Rattle.regress_syntax.specs.Meaning.{meaning}
-use Rattle.regress_parse.specs.Grammar.{Source, Context, IsPattern}
+use Rattle.regress_parse.specs.Grammar.{Source, IsPattern}
 
 -- The rows of the grammar that are served hold for the flag s alone.
 abbrev pub is_served : Flags → Bool

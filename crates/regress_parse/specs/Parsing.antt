@@ -1,11 +1,11 @@
 -- How the parser's values stand to what the grammar reads.
-use Rattle.std.specs.Prelude.{◌≡◌, ℕ, ◌+◌, ◌≤◌, List, [], ◌∷◌, Option, Some, None, IfSome, Result, Ok, Err}
+use Rattle.std.specs.Prelude.{◌≡◌, ℕ, ◌+◌, ◌≤◌, List, [], ◌∷◌, Some, IfSome, Result, Ok, Err}
 use Rattle.std.specs.Option.{IsSomeAnd}
 use Rattle.regress_base.specs.declared.types.Flags.{Flags}
 use Rattle.regress_base.specs.declared.types.TheConstants.{MAX_CAPTURE_GROUPS, MAX_NESTING_DEPTH}
 use Rattle.regress_tree.specs.declared.ir.node.Node.{Node}
 use Rattle.regress_tree.specs.Reading.{forwards}
-use Rattle.regress_tree.specs.Tree.{Tree, Trees, tree, alt}
+use Rattle.regress_tree.specs.Tree.{Tree, tree, alt}
 use Rattle.regress_syntax.specs.declared.fault.ParseFault.{ParseFault}
 use Rattle.regress_syntax.specs.Fault.{OnSyntax}
 use Rattle.regress_syntax.specs.Syntax.{Pattern, Terms, Term, groups, groups_of_terms, groups_of_term, levels, levels_of_terms, levels_of_term}

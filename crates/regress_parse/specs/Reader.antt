@@ -1,6 +1,6 @@
 -- The grammar as a function: what it reads from the front of a text, and the text behind that. The relation of
 -- `Grammar` has the same rows, and `ReaderLemmas` shows that it relates what this reads and nothing else.
-use Rattle.std.specs.Prelude.{ℕ, zero, suc, ◌+◌, ◌*◌, Bool, true, false, List, [], ◌∷◌, length, drop, Option, Some, None, ◌==◌, option_and_then, if◌then◌else◌}
+use Rattle.std.specs.Prelude.{ℕ, zero, suc, ◌+◌, ◌*◌, [], ◌∷◌, length, drop, Option, Some, None, ◌==◌, option_and_then, if◌then◌else◌}
 use Rattle.regress_syntax.specs.Syntax.{Pattern, Terms, Term, one, either, no_terms, more_terms, literal, dot, grouping, capture}
 use Rattle.regress_parse.specs.Grammar.{Source, Context, opening, closing, full_stop, colon, question_mark, bar, is_at, ends_alternative, is_plain}
 

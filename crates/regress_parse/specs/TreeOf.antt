@@ -1,5 +1,5 @@
 -- The tree of a syntax tree.
-use Rattle.std.specs.Prelude.{ℕ, ◌+◌, Option, option_map, if◌then◌else◌, encode_utf8_all}
+use Rattle.std.specs.Prelude.{ℕ, ◌+◌, option_map, if◌then◌else◌, encode_utf8_all}
 use Rattle.regress_tree.specs.Reading.{Direction, forwards, backwards}
 use Rattle.regress_tree.specs.Tree.{Tree, Trees, empty, goal, char, cat, alt, match_any, match_any_except_line_terminator, capture_group, no_trees, more_trees}
 use Rattle.regress_syntax.specs.Syntax.{Pattern, Terms, Term, one, either, no_terms, more_terms, literal, dot, grouping, capture, groups_of_term, groups_of_terms}

@@ -1,11 +1,11 @@
 -- What a tree matches, over the bytes of a text.
-use Rattle.std.specs.Prelude.{ℕ, Bool, true, not, ◌||◌, ◌==◌, List}
+use Rattle.std.specs.Prelude.{ℕ, Bool, true, not, ◌==◌, List}
 use Rattle.regress_base.specs.Classes.{line_terminators}
 use Rattle.regress_base.specs.Intervals.{is_member}
 use Rattle.regress_base.specs.declared.types.Flags.{Flags}
 use Rattle.regress_tree.specs.declared.unicode.Tables.{Tables}
 use Rattle.regress_tree.specs.Reading.{Direction, of_bytes}
-use Rattle.regress_tree.specs.Steps.{State, Step, distinct, stay, ◌then_◌, ◌or_◌, one_character, capture}
+use Rattle.regress_tree.specs.Steps.{Step, distinct, stay, ◌then_◌, ◌or_◌, one_character, capture}
 use Rattle.regress_tree.specs.Tree.{Tree, Trees, empty, goal, char, cat, alt, match_any, match_any_except_line_terminator, capture_group, no_trees, more_trees}
 
 -- what matching depends on beside the pattern and the text

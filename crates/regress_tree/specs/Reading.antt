@@ -1,5 +1,5 @@
 -- How a text is read, character by character, from either side of a place.
-use Rattle.std.specs.Prelude.{◌≡◌, ℕ, ◌+◌, ◌-◌, ◌<◌, ◌≤◌, Bool, ◌&&◌, List, All, length, take, drop, Option, Some, None, if◌then◌else◌, nat_eq, nat_le, ◌==◌, slice_get, slice_index, option_map, option_and_then, chars, encode_utf8, encode_utf8_all}
+use Rattle.std.specs.Prelude.{ℕ, ◌+◌, ◌-◌, ◌&&◌, List, All, length, take, drop, Option, Some, None, if◌then◌else◌, nat_eq, nat_le, ◌==◌, slice_get, slice_index, option_map, option_and_then, chars, encode_utf8, encode_utf8_all}
 use Rattle.std.specs.Char.{IsScalar, len_utf8}
 use Rattle.std.specs.List.{starts_with}
 use Rattle.std.specs.Option.{option_or}

@@ -1,6 +1,6 @@
 -- Shapes that rewriting removes, as tests on a node.
 use Rattle.std.specs.Prelude.{◌≡◌, Bool, true, false, ◌||◌}
-use Rattle.regress_tree.specs.Tree.{Tree, Trees, empty, goal, char, cat, alt, match_any, match_any_except_line_terminator, capture_group, no_trees, more_trees}
+use Rattle.regress_tree.specs.Tree.{Tree, Trees, cat, alt, capture_group, no_trees, more_trees}
 
 -- No node of the tree has the shape.
 module _ (shape : Tree → Bool) where

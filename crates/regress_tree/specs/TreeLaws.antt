@@ -1,5 +1,5 @@
 -- The tree of a node, kind by kind.
-use Rattle.std.specs.Prelude.{◌≡◌, ℕ, map, Option, option_map, string_bytes, String}
+use Rattle.std.specs.Prelude.{◌≡◌, ℕ, Option, option_map, string_bytes, String}
 use Rattle.std.proofs.Common.{Vec, Box, Global, sym, ap, ◌∙◌}
 use Rattle.regress_tree.specs.declared.ir.node.Node.{Node, Node-F, fold-roll-Node}
 use Rattle.regress_tree.specs.declared.ir.node.Node.TheVariants.{Empty, Goal, Char, Cat, Alt, MatchAny, MatchAnyExceptLineTerminator, CaptureGroup, rolls-Empty, rolls-Goal, rolls-Char, rolls-Cat, rolls-Alt, rolls-MatchAny, rolls-MatchAnyExceptLineTerminator, rolls-CaptureGroup}

@@ -1,6 +1,6 @@
 -- How large a tree is, and what falls with every rewriting.
 use Rattle.std.specs.Prelude.{◌≡◌, ℕ, ◌+◌, ◌<◌, ◌⊎◌}
-use Rattle.regress_tree.specs.Tree.{Tree, Trees, empty, goal, char, cat, alt, match_any, match_any_except_line_terminator, capture_group, no_trees, more_trees}
+use Rattle.regress_tree.specs.Tree.{Tree, Trees, char, cat, alt, capture_group, no_trees, more_trees}
 
 -- Units: one for a node, five for a `Char`, whose UTF-8 would be a node and at most four bytes.
 abbrev mutual

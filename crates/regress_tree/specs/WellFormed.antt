@@ -1,7 +1,7 @@
 -- Which trees are well formed.
-use Rattle.std.specs.Prelude.{◌≡◌, ◌≢◌, ℕ, ◌+◌, ◌<◌, ◌≤◌, List, [], ◌∷◌, ◌++◌, length, map, count_by, ◌==◌, Option, Some, None, IfSome, if◌then◌else◌, nat_lt}
+use Rattle.std.specs.Prelude.{◌≡◌, ◌≢◌, ℕ, ◌<◌, ◌≤◌, List, [], ◌∷◌, ◌++◌, length, count_by, ◌==◌, Option, IfSome, if◌then◌else◌, nat_lt}
 use Rattle.regress_base.specs.Intervals.{code_point_max}
-use Rattle.regress_tree.specs.Tree.{Tree, Trees, empty, goal, char, cat, alt, match_any, match_any_except_line_terminator, capture_group, no_trees, more_trees}
+use Rattle.regress_tree.specs.Tree.{Tree, Trees, goal, char, cat, alt, capture_group, no_trees, more_trees}
 
 -- a capture group: its id, and its name as UTF-8
 pub record Capture : Type 0 where

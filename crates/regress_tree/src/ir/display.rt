@@ -38,7 +38,11 @@ fn write_tree<W: fmt::Write>(node: &Node, depth: usize, f: &mut fmt::Formatter<W
 }
 
 #[cycle(write_tree)]
-fn write_trees<W: fmt::Write>(parts: &[Node], depth: usize, f: &mut fmt::Formatter<W>) -> fmt::Result {
+fn write_trees<W: fmt::Write>(
+    parts: &[Node],
+    depth: usize,
+    f: &mut fmt::Formatter<W>,
+) -> fmt::Result {
     for part in parts {
         write_tree(part, depth, f)?;
     }

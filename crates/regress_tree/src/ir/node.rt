@@ -10,7 +10,9 @@ pub enum Node {
     /// The end of the pattern, where a match has succeeded.
     Goal,
     /// One character. A surrogate or a number past U+10FFFF is none, and matches nothing.
-    Char { c: u32 },
+    Char {
+        c: u32,
+    },
     /// The parts one after another. In a lookbehind they stand turned: the last one first.
     Cat(Vec<Node>),
     /// What the left side matches, and then what the right side does.

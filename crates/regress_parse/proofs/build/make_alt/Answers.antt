@@ -1,4 +1,4 @@
-use Rattle.std.proofs.Common.{◌≡◌, ◌++◌, ◌∷◌, [], map, sym, ap, ap₂, ◌∙◌, rules}
+use Rattle.std.proofs.Common.{◌≡◌, ◌++◌, ◌∷◌, [], map, sym, ap, ap₂, ◌∙◌}
 use Rattle.regress_tree.specs.Tree.{tree, alt}
 use Rattle.regress_tree.specs.TreeLaws.{tree-Alt}
 use Rattle.regress_parse.specs.Parsing.{alternatives}

@@ -4,13 +4,13 @@ use Rattle.std.proofs.lemmas.Result.{err_from_is_err_and}
 use Rattle.regress_tree.specs.Reading.{forwards}
 use Rattle.regress_tree.specs.TreeLaws.{tree-Char}
 use Rattle.regress_syntax.specs.Syntax.{dot}
-use Rattle.regress_parse.specs.Grammar.{ends_alternative, is_at, opening, full_stop, bar as the_bar}
+use Rattle.regress_parse.specs.Grammar.{ends_alternative, is_at, opening, bar as the_bar}
 use Rattle.regress_parse.specs.Reader.{group_by, pattern_at, terms_at, term_at}
 use Rattle.regress_parse.specs.TreeOf.{joined, tree_of_term}
 use Rattle.regress_parse.specs.Parsing.{text, context, Fits, Builds, Moves, term_part, terms_part}
 use Rattle.regress_parse.proofs.ReaderLemmas.{terms_at-shortens, at_front}
 use Rattle.regress_parse.proofs.SoFarLemmas.{terms-start, terms-step, terms-end, terms-fail}
-use Rattle.regress_parse.proofs.AlternativesLemmas.{alternatives-start, alternatives-step, alternatives-end, alternatives-node, first-fail, alternatives-fail}
+use Rattle.regress_parse.proofs.AlternativesLemmas.{alternatives-start, alternatives-end, alternatives-node, first-fail, alternatives-fail}
 use Rattle.regress_parse.proofs.TermLemmas.{on_syntax, on_syntax_then, some_and, too_deep, term_at-dot, term_at-group, term_at-plain, term_at-none}
 use Rattle.regress_parse.proofs.ParserLemmas.{one_more_alternative, yields_behind, term_progress}
 use Rattle.regress_parse.proofs.parser.Parser.+parser.Goals as goal
