@@ -8,7 +8,7 @@ ghost use Rattle.regress_tree.specs.Shapes.{IsNormal};
 ghost use Rattle.regress_syntax.specs.Fault.{RefusedOnlyIf};
 ghost use Rattle.regress_syntax.specs.Syntax.{Pattern};
 ghost use Rattle.regress_parse.specs.TreeOf.{tree_of};
-ghost use Rattle.regress_parse.specs.Accepted.{IsDerived, IsAccepted, Means};
+ghost use Rattle.regress_parse.specs.Accepted.{IsAccepted, NoneIsAccepted, OneIsDerived, OfAccepted, Means};
 
 use crate::optimizer::optimize;
 use regress_base::types::Flags;
@@ -29,23 +29,29 @@ pub fn parse_and_optimize(
 ) -> Result<(Regex, Result<(), AllocError>), ParseFault>
     requires { All (λ c. c ≤ code_point_max) pattern.now }
 
-    // Unless memory is wanting, a tree is answered exactly where the grammar derives one within the limits.
-    ensures accepted { IfOk result (λ r. (p : Pattern) × IsAccepted flags pattern.now p) }
-    ensures refused { RefusedOnlyIf result ((p : Pattern) → IsAccepted flags pattern.now p → ⊥) }
-    ensures only { (p q : Pattern) → IsDerived flags pattern.now p → IsDerived flags pattern.now q → p ≡ q }
+    // Unless memory is wanting, a tree is answered exactly where the grammar derives one within the
+    // limits.
+    ensures accepted { IfOk result (λ _. (p : Pattern) × IsAccepted flags pattern.now p) }
+    ensures refused { RefusedOnlyIf result (NoneIsAccepted flags pattern.now) }
+    ensures only { OneIsDerived flags pattern.now }
 
     // It is in normal form, and as it was parsed where that is.
     ensures normal { IfOk result (λ r. OnOk r.1 (IsNormal (tree r.0.node))) }
-    ensures left { IfOk result (λ r. (p : Pattern) → IsAccepted flags pattern.now p → IsNormal (tree_of p) → tree r.0.node ≡ tree_of p) }
+    ensures left { IfOk result (λ r. OfAccepted flags pattern.now
+        (λ p. IsNormal (tree_of p) → tree r.0.node ≡ tree_of p)) }
 
-    // On every UTF-8 text and from every state it gives the pattern's distinct outcomes in their order.
-    ensures meaning { IfOk result (λ r. (p : Pattern) → IsAccepted flags pattern.now p → Means (tree r.0.node) p) }
+    // On every UTF-8 text and from every state it gives the pattern's distinct outcomes in their
+    // order.
+    ensures meaning { IfOk result (λ r. OfAccepted flags pattern.now (Means (tree r.0.node))) }
     ensures flags { IfOk result (λ r. r.0.flags ≡ flags) }
 
-    // It is well formed, with the pattern's groups under their ids and names, and no larger than it was parsed.
+    // It is well formed, with the pattern's groups under their ids and names, and no larger than it
+    // was parsed.
     ensures well_formed { IfOk result (λ r. IsWellFormed (tree r.0.node)) }
-    ensures captures { IfOk result (λ r. (p : Pattern) → IsAccepted flags pattern.now p → captures (tree r.0.node) ≡ captures (tree_of p)) }
-    ensures units { IfOk result (λ r. (p : Pattern) → IsAccepted flags pattern.now p → units (tree r.0.node) ≤ units (tree_of p)) }
+    ensures captures { IfOk result (λ r. OfAccepted flags pattern.now
+        (λ p. captures (tree r.0.node) ≡ captures (tree_of p))) }
+    ensures units { IfOk result (λ r. OfAccepted flags pattern.now
+        (λ p. units (tree r.0.node) ≤ units (tree_of p))) }
 {
     let mut regex = try_parse(alloc, pattern, flags, tables)?;
     let optimized = optimize(alloc, &mut regex);

@@ -29,6 +29,18 @@ pub record IsAccepted (flags : Flags) (text : Source) (p : Pattern) : Type 0 whe
   pub derived : IsDerived flags text p
   pub limits : IsWithinLimits p
 
+-- The text stands for no pattern within the limits.
+abbrev pub NoneIsAccepted : Flags → Source → Type 0
+NoneIsAccepted flags text = (p : Pattern) → IsAccepted flags text p → ⊥
+
+-- It stands for one pattern at most, within the limits or not.
+abbrev pub OneIsDerived : Flags → Source → Type 0
+OneIsDerived flags text = (p q : Pattern) → IsDerived flags text p → IsDerived flags text q → p ≡ q
+
+-- This holds of the pattern that it stands for.
+abbrev pub OfAccepted : Flags → Source → (Pattern → Type 0) → Type 0
+OfAccepted flags text P = (p : Pattern) → IsAccepted flags text p → P p
+
 -- On every text and from every state the tree's outcomes are the pattern's, place for byte place, in their order.
 abbrev pub Means : Tree → Pattern → Type 0
 Means tree p = (setting : Setting) (text : List ℕ) (s : State) → IsText text → IsStateOf text s →

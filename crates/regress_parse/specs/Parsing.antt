@@ -11,7 +11,7 @@ use Rattle.regress_syntax.specs.Fault.{OnSyntax}
 use Rattle.regress_syntax.specs.Syntax.{Pattern, Terms, Term, groups, groups_of_terms, groups_of_term, levels, levels_of_terms, levels_of_term}
 use Rattle.regress_parse.specs.declared.parser.Parser.{Parser}
 use Rattle.regress_parse.specs.Grammar.{Source, Context}
-use Rattle.regress_parse.specs.Reader.{Found, pattern_at}
+use Rattle.regress_parse.specs.Reader.{Found, pattern_at, terms_at, term_at, group_by, grouping_by, capture_by}
 use Rattle.regress_parse.specs.TreeOf.{tree_of_pattern, trees_of_terms, tree_of_term, joined}
 
 -- the context of the rows that are served, which look at the flags alone
@@ -21,6 +21,26 @@ context flags = record { flags = flags; groups = 0; names = [] }
 -- the text that is still to read
 abbrev pub text : Parser → Source
 text p = p.rest.now
+
+-- what the grammar reads at the parser's place: a pattern, the rest of an alternative, a term, and a group or its
+-- forms behind what opens them
+abbrev pub pattern_here : Parser → Found Pattern
+pattern_here p = pattern_at (context p.flags) (text p)
+
+abbrev pub terms_here : Parser → Found Terms
+terms_here p = terms_at (context p.flags) (text p)
+
+abbrev pub term_here : Parser → Found Term
+term_here p = term_at (context p.flags) (text p)
+
+abbrev pub group_here : Parser → Found Term
+group_here p = group_by (pattern_at (context p.flags)) (text p)
+
+abbrev pub grouping_here : Parser → Found Term
+grouping_here p = grouping_by (pattern_at (context p.flags)) (text p)
+
+abbrev pub capture_here : Parser → Found Term
+capture_here p = capture_by (pattern_at (context p.flags)) (text p)
 
 -- what a stretch of the pattern comes to: its tree behind n opened groups, its groups and its levels
 pub record Part : Type 0 where

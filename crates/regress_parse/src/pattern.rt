@@ -6,7 +6,7 @@ ghost use Rattle.regress_tree.specs.WellFormed.{IsWellFormed};
 ghost use Rattle.regress_syntax.specs.Fault.{RefusedOnlyIf};
 ghost use Rattle.regress_syntax.specs.Syntax.{Pattern};
 ghost use Rattle.regress_parse.specs.TreeOf.{tree_of};
-ghost use Rattle.regress_parse.specs.Accepted.{is_served, IsDerived, IsAccepted, Means};
+ghost use Rattle.regress_parse.specs.Accepted.{is_served, IsAccepted, NoneIsAccepted, OneIsDerived, OfAccepted, Means};
 ghost use Rattle.regress_parse.specs.Parsing.{YieldsWhole};
 
 use crate::build::{UNBALANCED, UNSUPPORTED, syntax};
@@ -43,13 +43,15 @@ pub fn try_parse(
 ) -> Result<Regex, ParseFault>
     requires { All (λ c. c ≤ code_point_max) pattern.now }
 
-    // Whatever memory there is: a tree only where the grammar and the limits have one, and a fault of the pattern only where not.
-    ensures accepted { IfOk result (λ r. (p : Pattern) × IsAccepted flags pattern.now p × (tree r.node ≡ tree_of p)) }
-    ensures refused { RefusedOnlyIf result ((p : Pattern) → IsAccepted flags pattern.now p → ⊥) }
-    ensures only { (p q : Pattern) → IsDerived flags pattern.now p → IsDerived flags pattern.now q → p ≡ q }
+    // Whatever memory there is: a tree only where the grammar and the limits have one, and a fault
+    // of the pattern only where they have none.
+    ensures accepted { IfOk result
+        (λ r. (p : Pattern) × IsAccepted flags pattern.now p × (tree r.node ≡ tree_of p)) }
+    ensures refused { RefusedOnlyIf result (NoneIsAccepted flags pattern.now) }
+    ensures only { OneIsDerived flags pattern.now }
 
     // What the tree is good for.
-    ensures meaning { IfOk result (λ r. (p : Pattern) → IsAccepted flags pattern.now p → Means (tree r.node) p) }
+    ensures meaning { IfOk result (λ r. OfAccepted flags pattern.now (Means (tree r.node))) }
     ensures well_formed { IfOk result (λ r. IsWellFormed (tree r.node)) }
     ensures flags { IfOk result (λ r. r.flags ≡ flags) }
 {

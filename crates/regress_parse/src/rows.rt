@@ -1,7 +1,6 @@
 //! The grammar, row by row.
 ghost use Rattle.std.specs.Prelude.{◌<◌, ◌≤◌, OnOk, length};
-ghost use Rattle.regress_parse.specs.Reader.{pattern_at, terms_at, term_at, group_by, grouping_by, capture_by};
-ghost use Rattle.regress_parse.specs.Parsing.{text, context, pattern_part, terms_part, term_part, Yields};
+ghost use Rattle.regress_parse.specs.Parsing.{text, pattern_part, terms_part, term_part, Yields, pattern_here, terms_here, term_here, group_here, grouping_here, capture_here};
 
 use crate::build::{TOO_DEEP, TOO_MANY_GROUPS, UNSUPPORTED, make_alt, make_cat, make_dot, syntax};
 use crate::parser::Parser;
@@ -14,7 +13,7 @@ impl Parser<'_> {
     /// Reads alternatives up to a `)` or the end (ECMA-262, Disjunction).
     #[cycle(parser)]
     pub(crate) fn consume_disjunction(&mut self, depth: u32) -> Result<Node, ParseFault>
-        ensures value { Yields pattern_part depth self.old self.new result (pattern_at (context self.old.flags) (text self.old)) }
+        ensures value { Yields pattern_part depth self.old self.new result (pattern_here self.old) }
     {
         if depth >= MAX_NESTING_DEPTH {
             return Err(syntax(self.alloc, TOO_DEEP));
@@ -33,7 +32,7 @@ impl Parser<'_> {
     #[cycle(parser)]
     fn consume_alternative(&mut self, depth: u32) -> Result<Node, ParseFault>
         requires { depth ≤ MAX_NESTING_DEPTH }
-        ensures value { Yields terms_part depth self.old self.new result (terms_at (context self.old.flags) (text self.old)) }
+        ensures value { Yields terms_part depth self.old self.new result (terms_here self.old) }
     {
         let mut parts = Vec::new(self.alloc);
         while !self.ends_alternative() {
@@ -46,7 +45,7 @@ impl Parser<'_> {
     #[cycle(parser)]
     fn consume_term(&mut self, depth: u32) -> Result<Node, ParseFault>
         requires { depth ≤ MAX_NESTING_DEPTH }
-        ensures value { Yields term_part depth self.old self.new result (term_at (context self.old.flags) (text self.old)) }
+        ensures value { Yields term_part depth self.old self.new result (term_here self.old) }
         ensures progress { OnOk result (length (text self.new) < length (text self.old)) }
     {
         if self.try_consume('.') {
@@ -64,7 +63,7 @@ impl Parser<'_> {
     /// Reads a group behind its opening parenthesis.
     #[cycle(parser)]
     fn consume_group(&mut self, depth: u32) -> Result<Node, ParseFault>
-        ensures value { Yields term_part depth self.old self.new result (group_by (pattern_at (context self.old.flags)) (text self.old)) }
+        ensures value { Yields term_part depth self.old self.new result (group_here self.old) }
     {
         if self.try_consume('?') {
             return self.consume_grouping(depth);
@@ -75,7 +74,7 @@ impl Parser<'_> {
     /// Reads a group that captures nothing, behind its `(?`.
     #[cycle(parser)]
     fn consume_grouping(&mut self, depth: u32) -> Result<Node, ParseFault>
-        ensures value { Yields term_part depth self.old self.new result (grouping_by (pattern_at (context self.old.flags)) (text self.old)) }
+        ensures value { Yields term_part depth self.old self.new result (grouping_here self.old) }
     {
         if !self.try_consume(':') {
             return Err(syntax(self.alloc, UNSUPPORTED));
@@ -88,7 +87,7 @@ impl Parser<'_> {
     /// Reads a capture group without a name, behind its parenthesis.
     #[cycle(parser)]
     fn consume_capture(&mut self, depth: u32) -> Result<Node, ParseFault>
-        ensures value { Yields term_part depth self.old self.new result (capture_by (pattern_at (context self.old.flags)) (text self.old)) }
+        ensures value { Yields term_part depth self.old self.new result (capture_here self.old) }
     {
         let id = self.group_count;
         if usize::from(id) >= MAX_CAPTURE_GROUPS {
