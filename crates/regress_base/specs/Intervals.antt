@@ -35,7 +35,8 @@ is_member (iv ∷ ivs) c = is_within iv c || is_member ivs c
 abbrev pub is_canonical_from : ℕ → List Bounds → Bool
 is_canonical_from low [] = true
 is_canonical_from low (iv ∷ ivs) =
-    nat_le low iv.first && (nat_le iv.first iv.last && (nat_le iv.last code_point_max && is_canonical_from (iv.last + 2) ivs))
+    nat_le low iv.first
+    && (nat_le iv.first iv.last && (nat_le iv.last code_point_max && is_canonical_from (iv.last + 2) ivs))
 
 -- The intervals ascend, and between neighbours at least one code point is missing.
 abbrev pub IsCanonical : List Bounds → Type 0

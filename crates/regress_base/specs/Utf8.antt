@@ -1,10 +1,11 @@
 -- The bytes of UTF-8 (RFC 3629, section 3). `encode_utf8` of std gives the bytes of a code point: one
 -- below 0x80, two below 0x800, three below 0x10000, else four. Surrogates follow the rule for three.
 use Rattle.std.specs.Prelude.{ℕ, ◌+◌, ◌*◌, ◌%◌, ◌<◌, ◌≤◌, Bool, ◌&&◌, ◌||◌, nat_le, nat_lt}
+use Rattle.regress_base.specs.Intervals.{code_point_max}
 
 -- a code point that is a character: no surrogate, and none above the greatest
 abbrev pub is_scalar : ℕ → Bool
-is_scalar c = nat_lt c 0xD800 || (nat_le 0xE000 c && nat_le c 0x10FFFF)
+is_scalar c = nat_lt c 0xD800 || (nat_le 0xE000 c && nat_le c code_point_max)
 
 -- a byte that goes on with a code point begins with the bits 10
 abbrev pub is_continuation : ℕ → Bool

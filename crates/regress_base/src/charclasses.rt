@@ -16,7 +16,8 @@ pub enum CharacterClassType {
     Words,
 }
 
-/// The characters of `\w`: 0 to 9, A to Z, the low line, a to z (ECMA-262, section 22.2.2.9, WordCharacters).
+/// The characters of `\w`: 0 to 9, A to Z, the low line, a to z (WordCharacters of ECMA-262, section
+/// 22.2.2.9).
 pub const WORD_CHARS: [Interval; 4] = [
     Interval {
         first: 0x30,

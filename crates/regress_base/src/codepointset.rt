@@ -69,7 +69,8 @@ impl CodePointSet {
     /// Whether the set has no member.
     pub fn is_empty(&self) -> bool
         ensures intervals { IsTrue result ↔ (self.now ≡ []) }
-        ensures members { IsTrue result ↔ ((c : ℕ) → c ≤ CODE_POINT_MAX → is_member self.now c ≡ false) }
+        ensures members { IsTrue result ↔
+            ((c : ℕ) → c ≤ CODE_POINT_MAX → is_member self.now c ≡ false) }
     {
         self.ivs.is_empty()
     }

@@ -61,8 +61,8 @@ impl Interval {
         self.last
     }
 
-    /// Where the interval lies as seen from `cp`: `Greater` where all of it is above `cp`, `Less` where
-    /// all of it is below, else `Equal`.
+    /// Where the interval lies as seen from `cp`: `Greater` where all of it is above `cp`, `Less`
+    /// where all of it is below, else `Equal`.
     #[tactic(auto, using(crate::proofs::WithinLemmas::is_within_tells))]
     pub fn compare(self, cp: u32) -> Ordering
         ensures greater { (result ≡ Greater) ↔ (cp < self.first) }
@@ -89,7 +89,8 @@ impl Interval {
     /// Whether the two share a code point.
     pub fn overlaps(self, other: Interval) -> bool
         ensures ends { IsTrue result ↔ (self.first ≤ other.last) × (other.first ≤ self.last) }
-        ensures shared { IsTrue result ↔ ((c : ℕ) × IsTrue (is_within self c) × IsTrue (is_within other c)) }
+        ensures shared { IsTrue result ↔
+            ((c : ℕ) × IsTrue (is_within self c) × IsTrue (is_within other c)) }
     {
         self.first <= other.last && other.first <= self.last
     }

@@ -11,11 +11,12 @@ use std::cmp::Ordering;
 use std::ops::Range;
 
 impl CodePointSet {
-    /// Adds an interval. It takes memory only where `new_iv` neither overlaps nor touches an interval
-    /// that is there, and after an error the set is as it was. A binary search, and one move of the
+    /// Adds an interval. It takes memory only where `new_iv` neither overlaps nor touches one that
+    /// is there, and after an error the set is as it was. A binary search, and one move of the
     /// intervals behind the new one; at the end of the list amortized constant.
     pub fn add(&mut self, new_iv: Interval) -> Result<(), AllocError>
-        ensures members { OnOk result ((c : ℕ) → is_member self.new c ≡ (is_member self.old c || is_within new_iv c)) }
+        ensures members { OnOk result ((c : ℕ) →
+            is_member self.new c ≡ (is_member self.old c || is_within new_iv c)) }
         ensures canonical { IsCanonical self.new }
         ensures err { OnErr result (self.new ≡ self.old) }
         ensures needs_no_memory { TouchesAny new_iv self.old → IsOk result }
@@ -36,7 +37,8 @@ impl CodePointSet {
     #[tactic(auto, using(crate::proofs::WithinLemmas::is_within_one))]
     pub fn add_one(&mut self, cp: CodePoint) -> Result<(), AllocError>
         requires { cp ≤ CODE_POINT_MAX }
-        ensures members { OnOk result ((c : ℕ) → is_member self.new c ≡ (is_member self.old c || (c == cp))) }
+        ensures members { OnOk result ((c : ℕ) →
+            is_member self.new c ≡ (is_member self.old c || (c == cp))) }
         ensures canonical { IsCanonical self.new }
         ensures err { OnErr result (self.new ≡ self.old) }
         ensures needs_no_memory { TouchesAny (record { first = cp; last = cp }) self.old → IsOk result }

@@ -19,8 +19,8 @@ pub fn is_canonical(ivs: &[Interval]) -> bool
     true
 }
 
-/// A law of the definitions: canonical lists with the same members are equal. It does nothing; a proof
-/// that needs the law calls it.
+/// A law of the definitions: canonical lists with the same members are equal. It does nothing; a
+/// function whose proof needs the law calls it.
 pub fn canonical_form_is_unique()
     ensures { CanonicalFormIsUnique }
 {}

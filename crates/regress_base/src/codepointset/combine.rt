@@ -12,7 +12,8 @@ use std::alloc::{AllocError, Global};
 impl CodePointSet {
     /// Adds the members of `rhs`. After an error the set is as it was. One pass over both lists.
     pub fn add_set(&mut self, rhs: CodePointSet) -> Result<(), AllocError>
-        ensures members { OnOk result ((c : ℕ) → is_member self.new c ≡ (is_member self.old c || is_member rhs c)) }
+        ensures members { OnOk result ((c : ℕ) →
+            is_member self.new c ≡ (is_member self.old c || is_member rhs c)) }
         ensures canonical { IsCanonical self.new }
         ensures err { OnErr result (self.new ≡ self.old) }
     {
@@ -25,7 +26,8 @@ impl CodePointSet {
     /// pass over both lists.
     pub fn intersect(&mut self, intervals: &[Interval]) -> Result<(), AllocError>
         requires { IsCanonical intervals.now }
-        ensures members { OnOk result ((c : ℕ) → is_member self.new c ≡ (is_member self.old c && is_member intervals.now c)) }
+        ensures members { OnOk result ((c : ℕ) →
+            is_member self.new c ≡ (is_member self.old c && is_member intervals.now c)) }
         ensures canonical { IsCanonical self.new }
         ensures err { OnErr result (self.new ≡ self.old) }
     {
@@ -38,7 +40,8 @@ impl CodePointSet {
     /// pass over the intervals, to have the gaps between them, and one over both lists.
     pub fn remove(&mut self, intervals: &[Interval]) -> Result<(), AllocError>
         requires { IsCanonical intervals.now }
-        ensures members { OnOk result ((c : ℕ) → is_member self.new c ≡ (is_member self.old c && not (is_member intervals.now c))) }
+        ensures members { OnOk result ((c : ℕ) →
+            is_member self.new c ≡ (is_member self.old c && not (is_member intervals.now c))) }
         ensures canonical { IsCanonical self.new }
         ensures err { OnErr result (self.new ≡ self.old) }
     {
@@ -50,7 +53,8 @@ impl CodePointSet {
 /// The members of either list. The intervals are taken in ascending order, so that each is added at
 /// the end.
 fn union(alloc: Global, left: &[Interval], right: &[Interval]) -> Result<CodePointSet, AllocError>
-    ensures { IfOk result (λ set. (c : ℕ) → is_member set c ≡ (is_member left.now c || is_member right.now c)) }
+    ensures { IfOk result (λ set. (c : ℕ) →
+        is_member set c ≡ (is_member left.now c || is_member right.now c)) }
 {
     let mut joined = CodePointSet::new(alloc);
     let mut i = 0;
@@ -75,7 +79,8 @@ fn intersection(
 ) -> Result<CodePointSet, AllocError>
     requires left_canonical { IsCanonical left.now }
     requires right_canonical { IsCanonical right.now }
-    ensures { IfOk result (λ set. (c : ℕ) → is_member set c ≡ (is_member left.now c && is_member right.now c)) }
+    ensures { IfOk result (λ set. (c : ℕ) →
+        is_member set c ≡ (is_member left.now c && is_member right.now c)) }
 {
     let mut common = CodePointSet::new(alloc);
     let mut i = 0;
@@ -95,7 +100,8 @@ fn intersection(
 
 /// Adds the code points that both intervals hold.
 fn add_overlap(set: &mut CodePointSet, a: Interval, b: Interval) -> Result<(), AllocError>
-    ensures { OnOk result ((c : ℕ) → is_member set.new c ≡ (is_member set.old c || (is_within a c && is_within b c))) }
+    ensures { OnOk result ((c : ℕ) →
+        is_member set.new c ≡ (is_member set.old c || (is_within a c && is_within b c))) }
 {
     if !a.overlaps(b) {
         return Ok(());
@@ -114,7 +120,8 @@ impl PartialEq for CodePointSet {
     fn eq(&self, other: &CodePointSet) -> bool
         ensures value { result ≡ pointwise bounds_eq self.now other.now }
         ensures intervals { IsTrue result ↔ (self.now ≡ other.now) }
-        ensures members { IsTrue result ↔ ((c : ℕ) → c ≤ CODE_POINT_MAX → is_member self.now c ≡ is_member other.now c) }
+        ensures members { IsTrue result ↔
+            ((c : ℕ) → c ≤ CODE_POINT_MAX → is_member self.now c ≡ is_member other.now c) }
     {
         self.ivs == other.ivs
     }

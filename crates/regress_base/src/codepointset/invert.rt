@@ -9,7 +9,8 @@ use std::alloc::{AllocError, Global};
 impl CodePointSet {
     /// How many intervals [`inverted`](CodePointSet::inverted) has. Linear, and takes no memory.
     pub fn inverted_interval_count(&self) -> usize
-        ensures { (gaps : List Bounds) × IsCanonical gaps × IsComplement self.now gaps × (result ≡ length gaps) }
+        ensures { (gaps : List Bounds)
+            × IsCanonical gaps × IsComplement self.now gaps × (result ≡ length gaps) }
     {
         let mut count = 0;
         let mut start = 0;
@@ -30,7 +31,8 @@ impl CodePointSet {
     pub fn inverted(&self) -> Result<CodePointSet, AllocError>
         ensures members { IfOk result (λ set. IsComplement self.now set) }
         ensures canonical { IfOk result IsCanonical }
-        ensures twice { IfOk result (λ set. (back : List Bounds) → IsCanonical back → IsComplement set back → back ≡ self.now) }
+        ensures twice { IfOk result (λ set. (back : List Bounds) →
+            IsCanonical back → IsComplement set back → back ≡ self.now) }
     {
         let ivs = gaps(*self.ivs.allocator(), &self.ivs)?;
         Ok(CodePointSet::from_sorted_disjoint_intervals(ivs))

@@ -4,8 +4,8 @@ ghost use Rattle.std.specs.Prelude.{◌≡◌, ℕ, ◌≤◌, ◌↔◌, false,
 use crate::codepointset::CodePointSet;
 use std::alloc::{AllocError, Global};
 
-/// What stands between `[` and `]`: a code point is accepted where its membership in `cps` and `invert`
-/// differ.
+/// What stands between `[` and `]`: a code point is accepted where its membership in `cps` and
+/// `invert` differ.
 #[derive(Debug, Drop)]
 pub struct BracketContents {
     /// Whether the bracket accepts what `cps` lacks, as `[^a]` does.
@@ -16,10 +16,11 @@ pub struct BracketContents {
 
 impl BracketContents {
     ghost use Rattle.regress_base.specs.Brackets.{accepts};
+    ghost use Rattle.regress_base.specs.Intervals.{code_point_max};
 
     /// Whether no code point is accepted. Constant.
     pub fn is_empty(&self) -> bool
-        ensures { IsTrue result ↔ ((c : ℕ) → c ≤ 0x10FFFF → accepts self.now c ≡ false) }
+        ensures { IsTrue result ↔ ((c : ℕ) → c ≤ code_point_max → accepts self.now c ≡ false) }
     {
         if self.invert {
             self.cps.contains_all_codepoints()

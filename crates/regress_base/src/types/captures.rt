@@ -40,7 +40,8 @@ impl<P: Copy> GroupData<P> {
     /// From the start to the end, where both are set.
     pub fn as_range(&self) -> Option<Range<P>>
         ensures both { IsSome result ↔ (IsSome self.now.start × IsSome self.now.end) }
-        ensures ends { IfSome result (λ range. (self.now.start ≡ Some range.start) × (self.now.end ≡ Some range.end)) }
+        ensures ends { IfSome result (λ range.
+            (self.now.start ≡ Some range.start) × (self.now.end ≡ Some range.end)) }
     {
         match (self.start, self.end) {
             (Some(start), Some(end)) => Some(start..end),

@@ -10,7 +10,8 @@ use std::cmp::Ordering;
 use std::ops::Range;
 
 /// The range of the elements that `f` calls `Equal`, where its answers over `s` are `Less`, then
-/// `Equal`, then `Greater`. An empty one stands where an equal element would go. Two binary searches.
+/// `Equal`, then `Greater`. An empty one stands where an equal element would go. Two binary
+/// searches.
 pub fn equal_range_by<T, F: FnMut(&T) -> Ordering>(s: &[T], mut f: F) -> Range<usize>
     requires { F.IsAlwaysCallable f }
     ensures in_order { result.start ≤ result.end }
@@ -34,10 +35,12 @@ fn boundary<T, F: FnMut(&T) -> Ordering>(
     requires callable { F.IsAlwaysCallable f.old }
     requires in_bounds { low ≤ length s.now }
     ensures callable { F.IsAlwaysCallable f.new }
-    ensures keeps { (ord : T → Ordering) → ComputesKey F.FnMut ord f.old → ComputesKey F.FnMut ord f.new }
+    ensures keeps { (ord : T → Ordering) →
+        ComputesKey F.FnMut ord f.old → ComputesKey F.FnMut ord f.new }
     ensures from { low ≤ result }
     ensures in_bounds { result ≤ length s.now }
-    ensures splits { (ord : T → Ordering) → ComputesKey F.FnMut ord f.old → SplitsAt ord s.now least low result }
+    ensures splits { (ord : T → Ordering) →
+        ComputesKey F.FnMut ord f.old → SplitsAt ord s.now least low result }
 {
     let mut high = s.len();
     while low < high {

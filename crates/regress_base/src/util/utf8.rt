@@ -6,7 +6,7 @@ use crate::interval::CODE_POINT_MAX;
 
 /// The character of a code point, or U+10FFFF where `c` is no scalar value.
 pub fn to_char_sat(c: u32) -> char
-    ensures { result ≡ (if is_scalar c then c else 0x10FFFF) }
+    ensures { result ≡ (if is_scalar c then c else CODE_POINT_MAX) }
 {
     char::from_u32(c).unwrap_or(char::MAX)
 }
