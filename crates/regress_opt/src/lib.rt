@@ -5,6 +5,8 @@ mod flatten;
 mod optimizer;
 mod pass;
 mod rewrite;
+#[cfg(test)]
+mod tests;
 
 pub use optimizer::optimize;
 pub use pass::run_pass;
