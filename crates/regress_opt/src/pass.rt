@@ -110,7 +110,9 @@ fn sweep_parts<R: Rewrite>(
     Ok(changed)
 }
 
-/// Applies the rewrite to one node, and does what it answers.
+/// Applies the rewrite to one node, and does what it answers. A call of its own keeps what it needs
+/// out of the recursion's frames: a tree has as many levels as an alternation has alternatives.
+#[inline(never)]
 fn rewrite<R: Rewrite>(node: &mut Node, pass: &mut R, walk: &Walk) -> Result<bool, AllocError>
     requires { IsPart (tree node.old) }
     ensures keeps { Keeps (direction_of walk.now) (tree node.old) (tree node.new) }
