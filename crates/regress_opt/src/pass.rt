@@ -14,6 +14,8 @@ use std::alloc::AllocError;
 
 /// Sweeps the tree, children before parents, until a sweep changes nothing, and answers whether the
 /// tree changed. After an error some nodes are rewritten and others not.
+///
+/// A sweep is one walk over the tree, with one call of the rewrite for each node.
 pub fn run_pass<R: Rewrite>(r: &mut Regex, pass: &mut R) -> Result<bool, AllocError>
     requires { IsWellFormed (tree r.old.node) }
 
