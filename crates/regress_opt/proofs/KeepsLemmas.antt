@@ -1,13 +1,13 @@
 -- What rewriting keeps, composed: one change after another, and a change of a part in the whole.
-use Rattle.std.proofs.Common.{◌≡◌, ℕ, ◌+◌, ◌≤◌, List, [], ◌∷◌, ◌++◌, ◌<◌, zero, suc, length, get_or, set, Option, refl, sym, ap, ap₂, ◌∙◌, arith, le_refl, le_trans, le_of_suc-le-suc}
+use Rattle.std.proofs.Common.{◌≡◌, ℕ, ◌≤◌, List, [], ◌∷◌, ◌++◌, ◌<◌, zero, suc, length, get_or, set, Option, refl, ap, ap₂, ◌∙◌, arith, le_refl, le_trans, le_of_suc-le-suc}
 use Rattle.std.specs.Prelude.{encode_utf8_all}
 use Rattle.regress_tree.specs.Reading.{Direction, IsText}
 use Rattle.regress_tree.specs.Steps.{Alike}
-use Rattle.regress_tree.specs.Tree.{Tree, Trees, empty, goal, char, cat, alt, match_any, match_any_except_line_terminator, capture_group, no_trees, more_trees, row}
+use Rattle.regress_tree.specs.Tree.{Tree, Trees, empty, cat, alt, capture_group, row}
 use Rattle.regress_tree.specs.Matching.{Setting, steps, steps_in_row}
-use Rattle.regress_tree.specs.WellFormed.{Capture, Position, inside, MayStand, RowMayStand, captures, captures_in_row, last_of}
-use Rattle.regress_tree.specs.Units.{account, units, units_in_row}
-use Rattle.regress_opt.specs.Law.{MeansTheSame, StandsWhere, Keeps}
+use Rattle.regress_tree.specs.WellFormed.{Position, inside, RowMayStand, captures, captures_in_row, last_of}
+use Rattle.regress_tree.specs.Units.{units, units_in_row}
+use Rattle.regress_opt.specs.Law.{StandsWhere, Keeps}
 use Rattle.regress_opt.proofs.AlikeLemmas.{Alike-refl, Alike-trans, Alike-then, Alike-or, Alike-capture}
 
 -- the same, for a row
@@ -57,14 +57,6 @@ module _ (d : Direction) where
     stands = λ n p m. a.stands n (last_of p) m;
     captures = a.captures;
     account = omega (arith, a.units);
-  }
-
-  pub RowKeeps-refl : (ts : Trees) → RowKeeps d ts ts
-  RowKeeps-refl ts = record {
-    meaning = λ setting text is_text. Alike-refl _;
-    stands = λ n p m. m;
-    captures = refl;
-    units = le_refl _;
   }
 
   -- One tree of a row is changed.

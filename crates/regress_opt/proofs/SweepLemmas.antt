@@ -1,19 +1,18 @@
 -- What a sweep answers, composed as the sweep goes.
 use Rattle.std.proofs.Common.{◌≡◌, ℕ, ◌+◌, ◌<◌, ◌≤◌, ◌≢◌, zero, suc, Bool, true, false, ◌||◌, List, [], ◌∷◌, length, map, get_or, set, Option, Result, Ok, Err, inl, inr, refl, sym, ap, ap₂, subst, subst₂, ◌∙◌, arith, le_of_suc-le-suc, zero-lt-suc, lt_irrefl, below_more, get_or-set_same, get_or-set_other, IsTrue}
-use Rattle.std.specs.Prelude.{IfOk, MatchBool}
 use Rattle.std.specs.declared.alloc.AllocError.{AllocError}
 use Rattle.std.proofs.lemmas.List.{set-get_or, get_or-map, length-map, map-set}
 use Rattle.std.proofs.lemmas.Bool.{or_parts}
 use Rattle.std.proofs.Math.Bool.{or_comm}
 use Rattle.regress_tree.specs.declared.ir.node.Node.{Node}
 use Rattle.regress_tree.specs.Reading.{Direction}
-use Rattle.regress_tree.specs.Tree.{Tree, Trees, empty, goal, char, cat, alt, match_any, match_any_except_line_terminator, capture_group, no_trees, more_trees, row, tree, trees}
-use Rattle.regress_tree.specs.WellFormed.{Position, inside, MayStand, RowMayStand, last_of}
+use Rattle.regress_tree.specs.Tree.{Tree, empty, goal, char, cat, alt, match_any, match_any_except_line_terminator, capture_group, row, tree, trees}
+use Rattle.regress_tree.specs.WellFormed.{Position, inside, RowMayStand, last_of}
 use Rattle.regress_tree.specs.Units.{Measure, measure, weight, weight_of_row, IsLess}
 use Rattle.regress_tree.specs.Shapes.{LacksShape, RowLacksShape}
 use Rattle.regress_opt.specs.Law.{IsPart, Keeps}
 use Rattle.regress_opt.specs.Sweep.{TellsChange, LacksInside}
-use Rattle.regress_opt.proofs.KeepsLemmas.{Keeps-refl, Keeps-trans, Keeps-alt, Keeps-capture_group, Keeps-cat_set}
+use Rattle.regress_opt.proofs.KeepsLemmas.{Keeps-trans, Keeps-alt, Keeps-capture_group, Keeps-cat_set}
 
 -- The measure.
 
@@ -72,16 +71,6 @@ TellsChange-both false false t u v first second = second ∙ first
 
 -- Shapes.
 
-pub LacksShape-from_inside : (shape : Tree → Bool) (t : Tree) → shape t ≡ false → LacksInside shape t → LacksShape shape t
-LacksShape-from_inside shape empty here inner = here
-LacksShape-from_inside shape goal here inner = here
-LacksShape-from_inside shape (char c) here inner = here
-LacksShape-from_inside shape (cat parts) here inner = (here, inner)
-LacksShape-from_inside shape (alt left right) here inner = (here, inner.0, inner.1)
-LacksShape-from_inside shape match_any here inner = here
-LacksShape-from_inside shape match_any_except_line_terminator here inner = here
-LacksShape-from_inside shape (capture_group id contents name) here inner = (here, inner)
-
 pub LacksShape-here : (shape : Tree → Bool) (t : Tree) → LacksShape shape t → shape t ≡ false
 LacksShape-here shape empty lacks = lacks
 LacksShape-here shape goal lacks = lacks
@@ -134,14 +123,6 @@ pub record PartsSwept (d : Direction) (shape : Tree → Bool) (exact : Bool) (in
   pub left : IsTrue exact → RowLacksShape shape (row initial) → now ≡ initial
 
 module _ (d : Direction) (shape : Tree → Bool) (exact : Bool) where
-  pub PartsSwept-none : (ts : List Tree) → PartsSwept d shape exact ts ts 0 false
-  PartsSwept-none ts = record {
-    keeps = Keeps-refl d _;
-    tells = refl;
-    clean = λ same k within. absurd (omega (arith, within));
-    left = λ is_exact lacks. refl;
-  }
-
   module _ (initial now : List Tree) (i : ℕ) (changed : Bool) (so_far : PartsSwept d shape exact initial now i changed) (u : Tree) (within : i < length now)
       (keeps : Keeps d (get_or now i empty) u) (left : IsTrue exact → LacksShape shape (get_or now i empty) → u ≡ get_or now i empty) where
     pub swept_keeps : Keeps d (cat (row initial)) (cat (row (set now i u)))

@@ -1,6 +1,6 @@
 -- Rows of trees, spliced.
 use Rattle.std.specs.Prelude.{◌≡◌, ℕ, ◌+◌, true, false}
-use Rattle.regress_tree.specs.Tree.{Tree, Trees, empty, goal, char, cat, alt, match_any, match_any_except_line_terminator, capture_group, no_trees, more_trees, tree}
+use Rattle.regress_tree.specs.Tree.{Tree, Trees, cat, no_trees, more_trees, tree}
 use Rattle.regress_tree.specs.Shapes.{has_cat, is_nested}
 use Rattle.regress_opt.specs.declared.rewrite.PassAction.{PassAction}
 use Rattle.regress_opt.specs.declared.rewrite.PassAction.TheVariants.{Keep, Modified, Remove, Replace}

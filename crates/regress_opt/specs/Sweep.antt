@@ -1,7 +1,7 @@
 -- What a sweep over a tree answers.
 use Rattle.std.specs.Prelude.{◌≡◌, Bool, Result, IfOk, MatchBool}
 use Rattle.std.specs.declared.alloc.AllocError.{AllocError}
-use Rattle.regress_tree.specs.Tree.{Tree, Trees, empty, goal, char, cat, alt, match_any, match_any_except_line_terminator, capture_group, no_trees, more_trees}
+use Rattle.regress_tree.specs.Tree.{Tree, cat, alt, capture_group}
 use Rattle.regress_tree.specs.Units.{measure, IsLess}
 use Rattle.regress_tree.specs.Shapes.{LacksShape, RowLacksShape}
 

@@ -10,7 +10,7 @@ use std::alloc::{AllocError, Global};
 use std::mem;
 
 /// Removes a `Cat` of no part, puts the one part in the place of a `Cat` of one, and splices the
-/// parts of a part that is a `Cat` in at its place.
+/// parts of a part that is a `Cat` in at its place. The time for a `Cat` grows as its parts do.
 #[derive(Drop)]
 pub(crate) struct Flatten {
     pub(crate) alloc: Global,

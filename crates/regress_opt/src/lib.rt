@@ -6,6 +6,8 @@ mod headline;
 mod optimizer;
 mod pass;
 mod rewrite;
+#[cfg(test)]
+mod tests;
 
 pub use headline::parse_and_optimize;
 pub use optimizer::optimize;

@@ -14,6 +14,8 @@ use std::alloc::{AllocError, Global};
 
 /// Brings the tree into normal form: no `Cat` has fewer than two parts, or a `Cat` part.
 /// After an error the tree may not be in normal form; it means what it did.
+///
+/// The tree is walked over twice, and a part is moved once for each `Cat` around it that is spliced.
 pub fn optimize(alloc: Global, r: &mut Regex) -> Result<(), AllocError>
     requires { IsWellFormed (tree r.old.node) }
 

@@ -14,6 +14,8 @@ use std::alloc::AllocError;
 
 /// Sweeps the tree, children before parents, until a sweep changes nothing, and answers whether the
 /// tree changed. After an error some nodes are rewritten and others not.
+///
+/// A sweep is one walk over the tree, with one call of the rewrite for each node.
 pub fn run_pass<R: Rewrite>(r: &mut Regex, pass: &mut R) -> Result<bool, AllocError>
     requires { IsWellFormed (tree r.old.node) }
 
@@ -110,7 +112,9 @@ fn sweep_parts<R: Rewrite>(
     Ok(changed)
 }
 
-/// Applies the rewrite to one node, and does what it answers.
+/// Applies the rewrite to one node, and does what it answers. A call of its own keeps what it needs
+/// out of the recursion's frames: a tree has as many levels as an alternation has alternatives.
+#[inline(never)]
 fn rewrite<R: Rewrite>(node: &mut Node, pass: &mut R, walk: &Walk) -> Result<bool, AllocError>
     requires { IsPart (tree node.old) }
     ensures keeps { Keeps (direction_of walk.now) (tree node.old) (tree node.new) }

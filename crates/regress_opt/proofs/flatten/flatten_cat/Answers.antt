@@ -1,5 +1,5 @@
 -- What `any` answered tells whether there is a `Cat` among the parts.
-use Rattle.std.proofs.Common.{◌≡◌, ◌||◌, true, false, rules, tests, arith, refl, sym, ap₂, ◌∙◌}
+use Rattle.std.proofs.Common.{◌≡◌, ◌||◌, false, rules, tests, arith, refl, sym, ap₂, ◌∙◌}
 use Rattle.std.proofs.lemmas.Iterator.{YieldsList-from_slice}
 use Rattle.std.proofs.lemmas.Iterator.Search.{any_from_yields_List}
 use Rattle.regress_tree.specs.Tree.{tree, trees}

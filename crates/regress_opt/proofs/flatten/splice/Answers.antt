@@ -1,5 +1,5 @@
 -- The parts moved so far are the first ones, so there is room for the next.
-use Rattle.std.proofs.Common.{◌≡◌, ◌≤◌, ◌∙◌, false, rules, arith, ap, le_trans}
+use Rattle.std.proofs.Common.{◌≡◌, ◌∙◌, false, rules, arith, ap, le_trans}
 use Rattle.std.proofs.lemmas.Iterator.Adapters.{YieldsList-from_vec}
 use Rattle.std.proofs.lemmas.Iterator.Consumers.{YieldsList-turn}
 use Rattle.regress_tree.specs.declared.ir.node.Node.{the_lemmas}

@@ -1,12 +1,11 @@
 -- Each answer is a lemma on what was swept, at the values of the call.
-use Rattle.std.proofs.Common.{rules, arith, ◌||◌, ◌≡◌, ◌≤◌, ◌≢◌, ℕ, false, get_or, length-set, get_or-set_other, le_refl, subst, refl, sym, ap, ap₂, Ok, ◌∙◌}
+use Rattle.std.proofs.Common.{rules, arith, ◌||◌, ◌≡◌, ◌≤◌, ◌≢◌, false, get_or, length-set, get_or-set_other, le_refl, subst, refl, sym, ap, ap₂, Ok, ◌∙◌}
 use denote.Param.Weighed.{most, at_most}
 use Rattle.regress_tree.specs.declared.ir.node.Node.{Node, size-Node}
 use Rattle.std.specs.Prelude.{option_map, string_bytes}
-use Rattle.regress_tree.specs.Tree.{tree, trees, cat, alt, capture_group}
-use Rattle.regress_opt.specs.Law.{direction_of, IsPart, Keeps}
-use Rattle.regress_opt.specs.Sweep.{TellsChange, LacksInside}
-use Rattle.regress_opt.proofs.KeepsLemmas.{Keeps-refl, Keeps-trans, Keeps-alt, Keeps-capture_group}
+use Rattle.regress_tree.specs.Tree.{tree, alt, capture_group}
+use Rattle.regress_opt.specs.Law.{direction_of, IsPart}
+use Rattle.regress_opt.proofs.KeepsLemmas.{Keeps-refl, Keeps-trans}
 use Rattle.regress_opt.proofs.TreeLemmas.{tree-Alt, tree-CaptureGroup, out-Alt, out-CaptureGroup}
 use Rattle.regress_opt.proofs.SweepLemmas.{LacksShape-inside, swept_node_left, alt_keeps, alt_left, alt_changed_then, alt_changed_else, alt_removed, group_keeps, group_left, group_changed, group_removed, part_at, nodes_keeps, nodes_left, nodes_more, nodes_all, or_then, or_else}
 use Rattle.regress_opt.proofs.pass.+sweep.Goals as goal
@@ -140,7 +139,7 @@ sweep_parts-sweep-requires g t c κs within =
     let part : IsPart (tree c.index_mut.result.now) =
     part_at (direction_of c.args.walk.now) g.R.Rewrite.removes g.R.Rewrite.is_exact c.args.parts.now.items l.parts.items l.i l.changed l.invariant.1 (search rules) c.index_mut.result.now c.index_mut.ensures.value c.requires in
     let unvisited : c.index_mut.result.now ≡ get_or c.args.parts.now.items l.i c.index_mut.result.now =
-    c.index_mut.ensures.value ∙ l.invariant.0.1 l.i c.index_mut.result.now (le_refl _) in
+    subst (λ (n : Node). c.index_mut.result.now ≡ n) (l.invariant.0.1 l.i c.index_mut.result.now (le_refl _)) c.index_mut.ensures.value in
     let smaller : size-Node c.index_mut.result.now ≤ most size-Node c.args.parts.now.items =
     subst (λ (n : Node). size-Node n ≤ most size-Node c.args.parts.now.items) (sym unvisited) (at_most size-Node c.args.parts.now.items l.i c.index_mut.result.now (search rules)) in
     (omega (arith, smaller), (search rules, part))

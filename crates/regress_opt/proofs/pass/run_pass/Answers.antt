@@ -1,5 +1,4 @@
 -- One sweep more, of those so far.
-use Rattle.std.proofs.Common.{false}
 use Rattle.regress_opt.proofs.KeepsLemmas.{Keeps-trans}
 use Rattle.regress_opt.proofs.PassLemmas.{Swept-more}
 use Rattle.regress_opt.proofs.pass.run_pass.Goals as goal

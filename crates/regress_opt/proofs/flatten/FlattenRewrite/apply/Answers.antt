@@ -1,5 +1,4 @@
 -- The law, from what became of the parts.
-use Rattle.std.proofs.Common.{rules}
 use Rattle.regress_tree.specs.Reading.{forwards}
 use Rattle.regress_tree.specs.Tree.{trees}
 use Rattle.regress_opt.proofs.TreeLemmas.{tree-Cat, out-Cat}
