@@ -11,7 +11,7 @@ use Rattle.regress_tree.specs.declared.ir.node.Node.{Node}
 use Rattle.regress_tree.specs.declared.ir.node.Node.TheVariants.{Cat}
 use Rattle.regress_tree.specs.Reading.{Direction}
 use Rattle.regress_tree.specs.Steps.{State}
-use Rattle.regress_tree.specs.Tree.{Tree, Trees, empty, goal, char, cat, alt, match_any, match_any_except_line_terminator, capture_group, no_trees, more_trees, row, tree, trees}
+use Rattle.regress_tree.specs.Tree.{row_append, Tree, Trees, empty, goal, char, cat, alt, match_any, match_any_except_line_terminator, capture_group, no_trees, more_trees, row, tree, trees}
 use Rattle.regress_tree.specs.Matching.{Setting, steps, steps_in_row}
 use Rattle.regress_tree.specs.WellFormed.{Position, inside, last, root, GoalMayStand, last_of, MayStand, RowMayStand, captures, captures_in_row}
 use Rattle.regress_tree.specs.Units.{account, units, units_in_row, weight, weight_of_row, measure, IsLess}
@@ -19,10 +19,10 @@ use Rattle.regress_tree.specs.Shapes.{is_cat, has_cat, is_short}
 use Rattle.regress_opt.specs.declared.rewrite.PassAction.{PassAction}
 use Rattle.regress_opt.specs.declared.rewrite.PassAction.TheVariants.{Keep, Modified, Remove, Replace}
 use Rattle.regress_opt.specs.Law.{MeansTheSame, StandsWhere, Keeps, after}
-use Rattle.regress_opt.specs.Splice.{row_append, parts_of, spliced, row_length, Flattens}
+use Rattle.regress_opt.specs.Splice.{parts_of, spliced, row_length, Flattens}
 use Rattle.regress_opt.proofs.AlikeLemmas.{Alike-from_same}
 use Rattle.regress_opt.proofs.KeepsLemmas.{Keeps-refl}
-use Rattle.regress_opt.proofs.TreeLemmas.{tree-Cat}
+use Rattle.regress_tree.specs.TreeLaws.{tree-Cat}
 use Rattle.regress_opt.proofs.SweepLemmas.{less_from_weight}
 
 -- Positions: what may stand inside may stand as the last part, and that as the root.

@@ -1,14 +1,9 @@
 -- Rows of trees, spliced.
 use Rattle.std.specs.Prelude.{◌≡◌, ℕ, ◌+◌, true, false}
-use Rattle.regress_tree.specs.Tree.{Tree, Trees, cat, no_trees, more_trees, tree}
+use Rattle.regress_tree.specs.Tree.{row_append, Tree, Trees, cat, no_trees, more_trees, tree}
 use Rattle.regress_tree.specs.Shapes.{has_cat, is_nested}
 use Rattle.regress_opt.specs.declared.rewrite.PassAction.{PassAction}
 use Rattle.regress_opt.specs.declared.rewrite.PassAction.TheVariants.{Keep, Modified, Remove, Replace}
-
--- one row behind the other
-abbrev pub row_append : Trees → Trees → Trees
-row_append no_trees us = us
-row_append (more_trees t ts) us = more_trees t (row_append ts us)
 
 -- what stands for a tree in a row: the parts of a `Cat`, and any other tree itself
 abbrev pub parts_of : Tree → Trees

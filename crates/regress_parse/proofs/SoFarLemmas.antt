@@ -6,7 +6,7 @@ use Rattle.std.proofs.lemmas.Bool.{cond-true, cond-false}
 use Rattle.regress_base.specs.declared.types.TheConstants.{MAX_CAPTURE_GROUPS, MAX_NESTING_DEPTH}
 use Rattle.regress_tree.specs.declared.ir.node.Node.{Node}
 use Rattle.regress_tree.specs.Reading.{forwards}
-use Rattle.regress_tree.specs.Tree.{Trees, tree, trees, no_trees, more_trees}
+use Rattle.regress_tree.specs.Tree.{row_append, Trees, tree, trees, no_trees, more_trees}
 use Rattle.regress_syntax.specs.Syntax.{Terms, Term, no_terms, more_terms, groups_of_terms, groups_of_term, levels_of_terms}
 use Rattle.regress_parse.specs.Grammar.{Source, Context, ends_alternative}
 use Rattle.regress_parse.specs.Reader.{Found, ◌>>=◌, terms_at, term_at}
@@ -28,10 +28,6 @@ abbrev pub append : Terms → Terms → Terms
 append no_terms ys = ys
 append (more_terms x xs) ys = more_terms x (append xs ys)
 
-abbrev pub append_row : Trees → Trees → Trees
-append_row no_trees us = us
-append_row (more_trees t ts) us = more_trees t (append_row ts us)
-
 groups-append : (xs ys : Terms) → groups_of_terms (append xs ys) ≡ groups_of_terms xs + groups_of_terms ys
 groups-append no_terms ys = omega arith
 groups-append (more_terms x xs) ys = omega (arith, groups-append xs ys)
@@ -49,15 +45,15 @@ append-none no_terms = refl
 append-none (more_terms x xs) = ap (more_terms x) (append-none xs)
 
 trees-append : (n : ℕ) (xs ys : Terms) →
-    trees_of_terms forwards n (append xs ys) ≡ append_row (trees_of_terms forwards n xs) (trees_of_terms forwards (n + groups_of_terms xs) ys)
+    trees_of_terms forwards n (append xs ys) ≡ row_append (trees_of_terms forwards n xs) (trees_of_terms forwards (n + groups_of_terms xs) ys)
 trees-append n no_terms ys = let same : n ≡ n + 0 = omega arith in ap (λ m. trees_of_terms forwards m ys) same
 trees-append n (more_terms x xs) ys =
     ap (more_trees (tree_of_term forwards n x))
     (trees-append (n + groups_of_term x) xs ys
-    ∙ ap (λ m. append_row (trees_of_terms forwards (n + groups_of_term x) xs) (trees_of_terms forwards m ys))
+    ∙ ap (λ m. row_append (trees_of_terms forwards (n + groups_of_term x) xs) (trees_of_terms forwards m ys))
     (add_assoc n (groups_of_term x) (groups_of_terms xs)))
 
-trees-push : (nodes : List Node) (node : Node) → trees (nodes ++ node ∷ []) ≡ append_row (trees nodes) (more_trees (tree node) no_trees)
+trees-push : (nodes : List Node) (node : Node) → trees (nodes ++ node ∷ []) ≡ row_append (trees nodes) (more_trees (tree node) no_trees)
 trees-push [] node = refl
 trees-push (n ∷ nodes) node = ap (more_trees (tree n)) (trees-push nodes node)
 
@@ -111,7 +107,7 @@ module _ (ctx : Context) where
             ∙ behind-more h.terms x (terms_at ctx rest);
         nodes =
             trees-push parts node
-            ∙ ap₂ (λ us u. append_row us (more_trees u no_trees)) h.nodes (built ∙ ap (λ k. tree_of_term forwards k x) h.counts)
+            ∙ ap₂ (λ us u. row_append us (more_trees u no_trees)) h.nodes (built ∙ ap (λ k. tree_of_term forwards k x) h.counts)
             ∙ sym (trees-append n0 h.terms (more_terms x no_terms));
         counts = omega (arith, counts, h.counts, count);
         fits = record {

@@ -26,6 +26,11 @@ abbrev pub row : List Tree → Trees
 row [] = no_trees
 row (t ∷ ts) = more_trees t (row ts)
 
+-- one row behind the other
+abbrev pub row_append : Trees → Trees → Trees
+row_append no_trees us = us
+row_append (more_trees t ts) us = more_trees t (row_append ts us)
+
 -- one level, with each node inside already seen as its tree
 abbrev pub tree_of_level : Node-F Tree → Tree
 tree_of_level Node-F.Empty = empty
