@@ -2,13 +2,8 @@
 //! to its optimized tree. The modules carry the names of the Rust crate `regress`.
 #![tactic(auto)]
 
-pub use regress_base::bytesearch;
-pub use regress_base::charclasses;
-pub use regress_base::codepointset;
-pub use regress_base::types;
-pub use regress_base::util;
-pub use regress_tree::ir;
-pub use regress_tree::unicode;
+pub use regress_base::{bytesearch, charclasses, codepointset, types, util};
+pub use regress_tree::{ir, unicode};
 
 /// From the text of a pattern to its tree.
 pub mod parse {

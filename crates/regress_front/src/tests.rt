@@ -32,7 +32,13 @@ fn code_points(alloc: Global, pattern: &str) -> Result<Vec<u32>, Fail> {
     Ok(points)
 }
 
-fn repeated(alloc: Global, front: &str, middle: &str, back: &str, times: usize) -> Result<Vec<u32>, Fail> {
+fn repeated(
+    alloc: Global,
+    front: &str,
+    middle: &str,
+    back: &str,
+    times: usize,
+) -> Result<Vec<u32>, Fail> {
     let mut text = String::new(alloc);
     for _ in 0..times {
         text.push_str(front)?;
@@ -71,9 +77,17 @@ fn patterns_have_their_trees(rt: HostRuntime) -> Result<(), Fail> {
     let any = "MatchAnyExceptLineTerminator";
     let rows = [
         ("", "..Empty\n", "..Empty\n"),
-        ("()", "..CaptureGroup 0\n....Empty\n", "..CaptureGroup 0\n....Empty\n"),
+        (
+            "()",
+            "..CaptureGroup 0\n....Empty\n",
+            "..CaptureGroup 0\n....Empty\n",
+        ),
         ("(?:)", "..Empty\n", "..Empty\n"),
-        ("|", "..Alt\n....Empty\n....Empty\n", "..Alt\n....Empty\n....Empty\n"),
+        (
+            "|",
+            "..Alt\n....Empty\n....Empty\n",
+            "..Alt\n....Empty\n....Empty\n",
+        ),
         ("a", "..'97'\n", "..'97'\n"),
         (
             "a|b|c",
@@ -146,10 +160,22 @@ fn faults_have_their_texts(rt: HostRuntime) -> Result<(), Fail> {
 fn flags_other_than_s_are_not_served(rt: HostRuntime) -> Result<(), Fail> {
     let none = Flags::default();
     let all = [
-        Flags { icase: true, ..none },
-        Flags { multiline: true, ..none },
-        Flags { unicode: true, ..none },
-        Flags { unicode_sets: true, ..none },
+        Flags {
+            icase: true,
+            ..none
+        },
+        Flags {
+            multiline: true,
+            ..none
+        },
+        Flags {
+            unicode: true,
+            ..none
+        },
+        Flags {
+            unicode_sets: true,
+            ..none
+        },
     ];
     for flags in all {
         let Answer::Fault(text) = answer_to(rt.alloc(), &[u32::from(b'a')], flags)? else {
@@ -166,10 +192,22 @@ fn levels_and_groups_have_their_limits(rt: HostRuntime) -> Result<(), Fail> {
     let alloc = rt.alloc();
     let deep = "Regular expression is too deeply nested";
     let many = "Capture group count limit exceeded";
-    assert_eq!(rt; fault_of(alloc, &repeated(alloc, "(?:", "a", ")", 255)?)?.as_str(), "accepted");
-    assert_eq!(rt; fault_of(alloc, &repeated(alloc, "(?:", "a", ")", 256)?)?.as_str(), deep);
-    assert_eq!(rt; fault_of(alloc, &repeated(alloc, "()", "", "", 65535)?)?.as_str(), "accepted");
-    assert_eq!(rt; fault_of(alloc, &repeated(alloc, "()", "", "", 65536)?)?.as_str(), many);
+    assert_eq!(rt;
+        fault_of(alloc, &repeated(alloc, "(?:", "a", ")", 255)?)?.as_str(),
+        "accepted"
+    );
+    assert_eq!(rt;
+        fault_of(alloc, &repeated(alloc, "(?:", "a", ")", 256)?)?.as_str(),
+        deep
+    );
+    assert_eq!(rt;
+        fault_of(alloc, &repeated(alloc, "()", "", "", 65535)?)?.as_str(),
+        "accepted"
+    );
+    assert_eq!(rt;
+        fault_of(alloc, &repeated(alloc, "()", "", "", 65536)?)?.as_str(),
+        many
+    );
     Ok(())
 }
 
@@ -197,13 +235,19 @@ fn one_call_parses_and_optimizes(rt: HostRuntime) -> Result<(), Fail> {
     let points = [u32::from(b'a'), u32::from(b'b')];
     let (regex, optimized) = parse_and_optimize(alloc, &points, dot_all(), &tables)?;
     optimized?;
-    assert_eq!(rt; format!(in alloc; "{regex}")?.as_str(), "Cat\n..'97'\n..'98'\n..Goal\n");
+    assert_eq!(rt;
+        format!(in alloc; "{regex}")?.as_str(),
+        "Cat\n..'97'\n..'98'\n..Goal\n"
+    );
     assert!(rt; regex.flags == dot_all());
     Ok(())
 }
 
 #[test]
 fn limits_are_as_documented(rt: HostRuntime) {
-    assert_eq!(rt; (MAX_CAPTURE_GROUPS, MAX_LOOPS, MAX_CHAR_SET_LENGTH), (65535, 65535, 4));
+    assert_eq!(rt;
+        (MAX_CAPTURE_GROUPS, MAX_LOOPS, MAX_CHAR_SET_LENGTH),
+        (65535, 65535, 4)
+    );
     assert_eq!(rt; MAX_NESTING_DEPTH, 256);
 }
