@@ -1,4 +1,6 @@
 //! What the program is asked.
+ghost use Rattle.std.specs.Prelude.{◌≡◌, option_map, chars};
+ghost use Rattle.regex_front.specs.Request.{no_flags, with_letter, with_letters, request_of};
 
 use regress_front::types::Flags;
 
@@ -10,35 +12,60 @@ pub(crate) struct Request<'a> {
 
 /// Reads `PATTERN [FLAGS]`, or nothing where there are fewer or more arguments, or a letter is none of
 /// `imsuv` or comes twice.
-pub(crate) fn read_request(args: &[String]) -> Option<Request<'_>> {
+pub(crate) fn read_request(args: &[String]) -> Option<Request<'_>>
+    ensures { option_map (λ r. (chars r.pattern.now, r.flags)) result ≡ request_of args.now }
+{
     match args {
         [pattern] => Some(Request {
             pattern: pattern.as_str(),
             flags: Flags::default(),
         }),
-        [pattern, letters] => Some(Request {
-            pattern: pattern.as_str(),
-            flags: read_flags(letters.as_str())?,
-        }),
+        [pattern, letters] => {
+            let flags = read_flags(letters.as_bytes())?;
+            Some(Request {
+                pattern: pattern.as_str(),
+                flags,
+            })
+        }
         _ => None,
     }
 }
 
-fn read_flags(letters: &str) -> Option<Flags> {
+fn read_flags(letters: &[u8]) -> Option<Flags>
+    ensures { result ≡ with_letters no_flags letters.now }
+{
     let mut flags = Flags::default();
-    for letter in letters.chars() {
-        let flag = match letter {
-            'i' => &mut flags.icase,
-            'm' => &mut flags.multiline,
-            's' => &mut flags.dot_all,
-            'u' => &mut flags.unicode,
-            'v' => &mut flags.unicode_sets,
-            _ => return None,
-        };
-        if *flag {
-            return None;
-        }
-        *flag = true;
+    for letter in letters {
+        flags = with_letter(flags, *letter)?;
     }
     Some(flags)
+}
+
+/// The flags with that of one letter more, which was not there.
+fn with_letter(flags: Flags, letter: u8) -> Option<Flags>
+    ensures { result ≡ with_letter flags letter }
+{
+    match letter {
+        b'i' if !flags.icase => Some(Flags {
+            icase: true,
+            ..flags
+        }),
+        b'm' if !flags.multiline => Some(Flags {
+            multiline: true,
+            ..flags
+        }),
+        b's' if !flags.dot_all => Some(Flags {
+            dot_all: true,
+            ..flags
+        }),
+        b'u' if !flags.unicode => Some(Flags {
+            unicode: true,
+            ..flags
+        }),
+        b'v' if !flags.unicode_sets => Some(Flags {
+            unicode_sets: true,
+            ..flags
+        }),
+        _ => None,
+    }
 }

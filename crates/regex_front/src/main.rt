@@ -2,11 +2,13 @@
 #![tactic(auto)]
 
 mod arguments;
+mod failure;
 mod front;
 #[cfg(test)]
 mod tests;
 
-use front::{Failure, run_front, tell};
+use failure::{Failure, tell};
+use front::run_front;
 use std::env;
 use std::io::BufWriter;
 use std::process::ExitCode;

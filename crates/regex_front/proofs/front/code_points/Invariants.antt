@@ -1,6 +1,9 @@
-use Rattle.std.proofs.Common.{◌≤◌, All}
+use Rattle.std.proofs.Common.{◌≡◌, ◌≤◌, All}
 use Rattle.regex_front.proofs.front.code_points.Given as goal
 
--- a character is at most U+10FFFF
+-- the characters so far, each at most U+10FFFF
 abbrev pub invariant-loop-c : goal.invariant-loop-c
-invariant-loop-c l = All (λ c. c ≤ 0x10_FFFF) l.points.items
+invariant-loop-c l = record {
+  so_far : l.points.items ≡ l.yielded;
+  in_range : All (λ c. c ≤ 0x10_FFFF) l.points.items;
+}
