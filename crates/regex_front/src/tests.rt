@@ -1,5 +1,6 @@
 //! Each status of the program, with what it writes.
 
+use crate::failure::{Failure, tell};
 use crate::front::run_front;
 use std::alloc::{AllocError, Global};
 use std::io::{self, ErrorKind, Write};
@@ -130,6 +131,15 @@ fn a_refused_write_to_the_output_ends_with_status_4(rt: HostRuntime) -> Result<(
         );
     }
     assert!(rt; full);
+    Ok(())
+}
+
+#[test]
+fn want_of_memory_is_told_with_status_3(rt: HostRuntime) -> Result<(), Fail> {
+    let mut told = blank(rt.alloc(), usize::MAX);
+    assert_eq!(rt; tell(Failure::Memory, &mut told), 3);
+    assert_eq!(rt; told.text.as_slice(), "error: out of memory\n".as_bytes());
+    assert_eq!(rt; tell(Failure::Memory, &mut blank(rt.alloc(), 0)), 3);
     Ok(())
 }
 

@@ -2,5 +2,7 @@
 #![tactic(auto)]
 
 mod fault;
+#[cfg(test)]
+mod tests;
 
 pub use fault::{Error, ParseFault};
