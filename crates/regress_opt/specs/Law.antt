@@ -1,5 +1,6 @@
 -- What a rewrite may do to a part of a tree.
-use Rattle.std.specs.Prelude.{◌≡◌, ℕ, ◌≤◌, List, encode_utf8_all, if◌then◌else◌}
+use Rattle.std.specs.Prelude.{◌≡◌, ℕ, ◌≤◌, List, encode_utf8_all, if◌then◌else◌, Result, IfOk}
+use Rattle.std.specs.declared.alloc.AllocError.{AllocError}
 use Rattle.regress_tree.specs.declared.ir.walk.Walk.{Walk}
 use Rattle.regress_tree.specs.Reading.{Direction, forwards, backwards, IsText}
 use Rattle.regress_tree.specs.Steps.{Alike}
@@ -24,6 +25,10 @@ after Keep left = left
 after Modified left = left
 after Remove left = empty
 after (Replace node) left = tree node
+
+-- This holds of the tree that an action makes of a node, where the call left `left` there.
+abbrev pub OfMade : Result PassAction AllocError → Tree → (Tree → Type 0) → Type 0
+OfMade result left P = IfOk result (λ action. P (after action left))
 
 -- On every UTF-8 text, with whatever flags and table, the two trees cannot be told apart, from any state.
 abbrev pub MeansTheSame : Direction → Tree → Tree → Type 0

@@ -3,7 +3,7 @@ ghost use Rattle.std.specs.Prelude.{◌≡◌, ◌≢◌, ◌≤◌, Bool, false
 ghost use Rattle.regress_tree.specs.Tree.{Tree, tree};
 ghost use Rattle.regress_tree.specs.WellFormed.{captures};
 ghost use Rattle.regress_tree.specs.Units.{account, measure, IsLess};
-ghost use Rattle.regress_opt.specs.Law.{direction_of, IsPart, after, MeansTheSame, StandsWhere};
+ghost use Rattle.regress_opt.specs.Law.{direction_of, IsPart, after, OfMade, MeansTheSame, StandsWhere};
 
 use regress_tree::ir::{Node, Walk};
 use std::alloc::AllocError;
@@ -34,17 +34,21 @@ pub trait Rewrite {
     fn apply(&mut self, node: &mut Node, walk: &Walk) -> Result<PassAction, AllocError>
         requires { IsPart (tree node.old) }
 
-        // What the action makes of the node.
-        ensures meaning { IfOk result (λ action. MeansTheSame (direction_of walk.now) (tree node.old) (after action (tree node.new))) }
-        ensures stands { IfOk result (λ action. StandsWhere (tree node.old) (after action (tree node.new))) }
-        ensures captures { IfOk result (λ action. captures (after action (tree node.new)) ≡ captures (tree node.old)) }
-        ensures account { IfOk result (λ action. account (after action (tree node.new)) ≤ account (tree node.old)) }
+        // What the action makes of the node cannot be told apart from it, stands where it stood, has
+        // its groups and is no larger.
+        ensures meaning { OfMade result (tree node.new) (MeansTheSame (direction_of walk.now) (tree node.old)) }
+        ensures stands { OfMade result (tree node.new) (StandsWhere (tree node.old)) }
+        ensures captures { OfMade result (tree node.new) (λ made. captures made ≡ captures (tree node.old)) }
+        ensures account { OfMade result (tree node.new) (λ made. account made ≤ account (tree node.old)) }
 
-        // `Keep` leaves the node, and comes only where there is nothing to remove; any other action makes it less.
+        // `Keep` leaves the node, and comes only where there is nothing to remove. Any other action
+        // makes it less.
         ensures keep { result ≡ Ok PassAction.Keep → tree node.new ≡ tree node.old }
         ensures kept { result ≡ Ok PassAction.Keep → removes (tree node.old) ≡ false }
-        ensures less { IfOk result (λ action. action ≢ PassAction.Keep → IsLess (measure (after action (tree node.new))) (measure (tree node.old))) }
-        ensures exact { IsTrue is_exact → removes (tree node.old) ≡ false → IfOk result (λ action. action ≡ PassAction.Keep) }
+        ensures less { IfOk result (λ action. action ≢ PassAction.Keep →
+            IsLess (measure (after action (tree node.new))) (measure (tree node.old))) }
+        ensures exact { IsTrue is_exact → removes (tree node.old) ≡ false →
+            IfOk result (λ action. action ≡ PassAction.Keep) }
 
         // Want of memory leaves the node.
         ensures err { OnErr result (tree node.new ≡ tree node.old) };
