@@ -136,6 +136,82 @@ fn a_lone_surrogate_is_a_literal(rt: HostRuntime) -> Result<(), Fail> {
     Ok(())
 }
 
+// The answers of regress 0.12.0 to some of the patterns on which the two were compared: the printed tree,
+// a line `--`, and the tree after its flattening pass alone; or the text of its error. Its parser and
+// printer were called on the code points, over a small Unicode table.
+#[test]
+fn answers_are_those_of_the_rust_crate(rt: HostRuntime) -> Result<(), Fail> {
+    let rows = [
+        (
+            Flags::default(),
+            "(?:a|b|c|d)",
+            "Cat\n..Alt\n....'97'\n....Alt\n......'98'\n......Alt\n........'99'\n........'100'\n..Goal\n--\nCat\n..Alt\n....'97'\n....Alt\n......'98'\n......Alt\n........'99'\n........'100'\n..Goal\n",
+        ),
+        (
+            Flags::default(),
+            "ab(?:cd)ef",
+            "Cat\n..Cat\n....'97'\n....'98'\n....Cat\n......'99'\n......'100'\n....'101'\n....'102'\n..Goal\n--\nCat\n..'97'\n..'98'\n..'99'\n..'100'\n..'101'\n..'102'\n..Goal\n",
+        ),
+        (
+            Flags::default(),
+            "(||)",
+            "Cat\n..CaptureGroup 0\n....Alt\n......Empty\n......Alt\n........Empty\n........Empty\n..Goal\n--\nCat\n..CaptureGroup 0\n....Alt\n......Empty\n......Alt\n........Empty\n........Empty\n..Goal\n",
+        ),
+        (
+            Flags::default(),
+            "((?:\u{E000}(?:)0a)1)",
+            "Cat\n..CaptureGroup 0\n....Cat\n......Cat\n........'57344'\n........Empty\n........'48'\n........'97'\n......'49'\n..Goal\n--\nCat\n..CaptureGroup 0\n....Cat\n......'57344'\n......Empty\n......'48'\n......'97'\n......'49'\n..Goal\n",
+        ),
+        (
+            dot_all(),
+            "(S)b\u{D7FF}",
+            "Cat\n..Cat\n....CaptureGroup 0\n......'83'\n....'98'\n....'55295'\n..Goal\n--\nCat\n..CaptureGroup 0\n....'83'\n..'98'\n..'55295'\n..Goal\n",
+        ),
+        (
+            Flags::default(),
+            "(?:a:b|c|)",
+            "Cat\n..Alt\n....Cat\n......'97'\n......'58'\n......'98'\n....Alt\n......'99'\n......Empty\n..Goal\n--\nCat\n..Alt\n....Cat\n......'97'\n......'58'\n......'98'\n....Alt\n......'99'\n......Empty\n..Goal\n",
+        ),
+        (
+            Flags::default(),
+            "(:<1>x)",
+            "Cat\n..CaptureGroup 0\n....Cat\n......'58'\n......'60'\n......'49'\n......'62'\n......'120'\n..Goal\n--\nCat\n..CaptureGroup 0\n....Cat\n......'58'\n......'60'\n......'49'\n......'62'\n......'120'\n..Goal\n",
+        ),
+        (
+            dot_all(),
+            "1(a)",
+            "Cat\n..Cat\n....'49'\n....CaptureGroup 0\n......'97'\n..Goal\n--\nCat\n..'49'\n..CaptureGroup 0\n....'97'\n..Goal\n",
+        ),
+        (
+            Flags::default(),
+            "((a))",
+            "Cat\n..CaptureGroup 0\n....CaptureGroup 1\n......'97'\n..Goal\n--\nCat\n..CaptureGroup 0\n....CaptureGroup 1\n......'97'\n..Goal\n",
+        ),
+        (Flags::default(), "(a))", "error: Unbalanced parenthesis"),
+        (
+            Flags::default(),
+            "((?:)ab)c)",
+            "error: Unbalanced parenthesis",
+        ),
+        (Flags::default(), "&2a((b)", "error: Unbalanced parenthesis"),
+        (
+            Flags::default(),
+            "(?:(?:(?:(",
+            "error: Unbalanced parenthesis",
+        ),
+        (Flags::default(), "2(a)<b(", "error: Unbalanced parenthesis"),
+    ];
+    for (flags, pattern, want) in rows {
+        let points = code_points(rt.alloc(), pattern)?;
+        let found = match answer_to(rt.alloc(), &points, flags)? {
+            Answer::Trees(first, second) => format!(in rt.alloc(); "{first}--\n{second}")?,
+            Answer::Fault(text) => format!(in rt.alloc(); "error: {text}")?,
+        };
+        assert_eq!(rt; found.as_str(), want, "{pattern}");
+    }
+    Ok(())
+}
+
 #[test]
 fn faults_have_their_texts(rt: HostRuntime) -> Result<(), Fail> {
     let rows = [
