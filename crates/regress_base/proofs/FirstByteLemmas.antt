@@ -143,21 +143,21 @@ within a z first last b low high h = record { code_point = h.code_point; from_fi
 
 -- The interval is cut where the number of bytes changes, and the parts join one after another.
 pub four_widths : (first last z1 a2 z2 a3 z3 a4 b : ℕ) → z1 ≡ min last 0x7F → a2 ≡ max first 0x80 → z2 ≡ min last 0x7FF → a3 ≡ max first 0x800 → z3 ≡ min last 0xFFFF → a4 ≡ max first 0x1_0000 →
-    (P0 P1 P2 P3 P4 : Type 0) → P1 ↔ (P0 ⊎ IsFirstByteBetween first z1 b) → P2 ↔ (P1 ⊎ IsFirstByteBetween a2 z2 b) → P3 ↔ (P2 ⊎ IsFirstByteBetween a3 z3 b) → P4 ↔ (P3 ⊎ IsFirstByteBetween a4 last b) →
-    P4 ↔ (P0 ⊎ IsFirstByteBetween first last b)
-four_widths first last z1 a2 z2 a3 z3 a4 b e1 f2 e2 f3 e3 f4 P0 P1 P2 P3 P4 h1 h2 h3 h4 =
-    let to : P4 → P0 ⊎ IsFirstByteBetween first last b = λ p.
-    ⊎_elim (λ (p3 : P3).
-    ⊎_elim (λ (p2 : P2).
-    ⊎_elim (λ (p1 : P1).
-    ⊎_elim (λ (p0 : P0). inl p0) (λ (w : IsFirstByteBetween first z1 b). inr (within first z1 first last b (omega arith) (omega arith) w)) (h1.0 p1))
+    (Before One Two Three Four : Type 0) → One ↔ (Before ⊎ IsFirstByteBetween first z1 b) → Two ↔ (One ⊎ IsFirstByteBetween a2 z2 b) → Three ↔ (Two ⊎ IsFirstByteBetween a3 z3 b) → Four ↔ (Three ⊎ IsFirstByteBetween a4 last b) →
+    Four ↔ (Before ⊎ IsFirstByteBetween first last b)
+four_widths first last z1 a2 z2 a3 z3 a4 b e1 f2 e2 f3 e3 f4 Before One Two Three Four h1 h2 h3 h4 =
+    let to : Four → Before ⊎ IsFirstByteBetween first last b = λ p.
+    ⊎_elim (λ (p3 : Three).
+    ⊎_elim (λ (p2 : Two).
+    ⊎_elim (λ (p1 : One).
+    ⊎_elim (λ (p0 : Before). inl p0) (λ (w : IsFirstByteBetween first z1 b). inr (within first z1 first last b (omega arith) (omega arith) w)) (h1.0 p1))
     (λ (w : IsFirstByteBetween a2 z2 b). inr (within a2 z2 first last b (omega arith) (omega arith) w)) (h2.0 p2))
     (λ (w : IsFirstByteBetween a3 z3 b). inr (within a3 z3 first last b (omega arith) (omega arith) w)) (h3.0 p3))
     (λ (w : IsFirstByteBetween a4 last b). inr (within a4 last first last b (omega arith) (omega arith) w)) (h4.0 p) in
-    let up1 : P1 → P4 = λ p. h4.1 (inl (h3.1 (inl (h2.1 (inl p))))) in
-    let up2 : P2 → P4 = λ p. h4.1 (inl (h3.1 (inl p))) in
-    let up3 : P3 → P4 = λ p. h4.1 (inl p) in
-    let of_member : IsFirstByteBetween first last b → P4 = λ h.
+    let up1 : One → Four = λ p. h4.1 (inl (h3.1 (inl (h2.1 (inl p))))) in
+    let up2 : Two → Four = λ p. h4.1 (inl (h3.1 (inl p))) in
+    let up3 : Three → Four = λ p. h4.1 (inl p) in
+    let of_member : IsFirstByteBetween first last b → Four = λ h.
     let c = h.code_point in
     let low = h.from_first in
     let high = h.to_last in
@@ -171,4 +171,4 @@ four_widths first last z1 a2 z2 a3 z3 a4 b e1 f2 e2 f3 e3 f4 P0 P1 P2 P3 P4 h1 h
         ]
       ]
     ] in
-    (to, ⊎_elim (λ (p : P0). up1 (h1.1 (inl p))) of_member)
+    (to, ⊎_elim (λ (p : Before). up1 (h1.1 (inl p))) of_member)
