@@ -10,20 +10,22 @@ mod tests;
 use failure::{Failure, tell};
 use front::run_front;
 use std::env;
-use std::io::BufWriter;
+use std::io::{BufWriter, Write};
 use std::process::ExitCode;
 
 fn main(rt: HostRuntime) -> ExitCode {
-    let alloc = rt.alloc();
     let mut err = rt.stderr();
-    let Ok(all) = env::args(&rt) else {
-        return ExitCode::from(tell(Failure::Memory, &mut err));
+    let status = match run(&rt, &mut err) {
+        Ok(status) => status,
+        Err(failure) => tell(failure, &mut err),
     };
-    let Ok(args) = all.skip(1).collect::<Vec<String>>(alloc) else {
-        return ExitCode::from(tell(Failure::Memory, &mut err));
-    };
-    let Ok(mut out) = BufWriter::new(alloc, rt.stdout()) else {
-        return ExitCode::from(tell(Failure::Memory, &mut err));
-    };
-    ExitCode::from(run_front(alloc, &args, &mut out, &mut err))
+    ExitCode::from(status)
+}
+
+/// Hands the arguments to `run_front`. The error is that no memory was found for them.
+fn run<E: Write>(rt: &HostRuntime, err: &mut E) -> Result<u8, Failure> {
+    let alloc = rt.alloc();
+    let args = env::args(rt)?.skip(1).collect::<Vec<String>>(alloc)?;
+    let mut out = BufWriter::new(alloc, rt.stdout())?;
+    Ok(run_front(alloc, &args, &mut out, err))
 }
