@@ -45,6 +45,7 @@ fn print_trees<W: Write>(alloc: Global, args: &[String], out: &mut W) -> Result<
     let parsed = try_parse(alloc, &points, flags, &tables)?;
     write!(out, "{parsed}--\n")?;
     out.flush()?;
+    // It parses once more: what is printed second is the tree that its contract speaks of.
     let (optimized, done) = parse_and_optimize(alloc, &points, flags, &tables)?;
     done?;
     write!(out, "{optimized}")?;
