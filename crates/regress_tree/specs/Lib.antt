@@ -1,3 +1,5 @@
+pub mod Table
+pub mod TableOf
 pub mod Tree
 pub mod TreeLaws
 pub mod Reading
