@@ -20,9 +20,9 @@ use Rattle.regress_opt.specs.declared.rewrite.PassAction.{PassAction}
 use Rattle.regress_opt.specs.declared.rewrite.PassAction.TheVariants.{Keep, Modified, Remove, Replace}
 use Rattle.regress_opt.specs.Law.{MeansTheSame, StandsWhere, Keeps, after}
 use Rattle.regress_opt.specs.Splice.{parts_of, spliced, row_length, Flattens}
-use Rattle.regress_opt.proofs.AlikeLemmas.{Alike-from_same}
+use Rattle.regress_tree.proofs.laws.Alike.{Alike-from_same}
 use Rattle.regress_opt.proofs.KeepsLemmas.{Keeps-refl}
-use Rattle.regress_tree.specs.TreeLaws.{tree-Cat}
+use Rattle.regress_tree.proofs.laws.Nodes.{tree-Cat}
 use Rattle.regress_opt.proofs.SweepLemmas.{less_from_weight}
 
 -- Positions: what may stand inside may stand as the last part, and that as the root.

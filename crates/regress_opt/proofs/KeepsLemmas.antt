@@ -8,7 +8,7 @@ use Rattle.regress_tree.specs.Matching.{Setting, steps, steps_in_row}
 use Rattle.regress_tree.specs.WellFormed.{Position, inside, RowMayStand, captures, captures_in_row, last_of}
 use Rattle.regress_tree.specs.Units.{units, units_in_row}
 use Rattle.regress_opt.specs.Law.{StandsWhere, Keeps}
-use Rattle.regress_opt.proofs.AlikeLemmas.{Alike-refl, Alike-trans, Alike-then, Alike-or, Alike-capture}
+use Rattle.regress_tree.proofs.laws.Alike.{Alike-refl, Alike-trans, Alike-then, Alike-or, Alike-capture}
 
 -- the same, for a row
 pub record RowKeeps (d : Direction) (old new : Trees) : Type 0 where

@@ -10,8 +10,8 @@ use Rattle.regress_syntax.specs.Syntax.{Pattern, Terms, Term, one, either, no_te
 use Rattle.regress_syntax.specs.Meaning.{in_order, pattern_steps, terms_steps, term_steps}
 use Rattle.regress_parse.specs.TreeOf.{behind_row, in_row, joined, tree_of_pattern, trees_of_terms, tree_of_term, tree_of}
 use Rattle.regress_parse.specs.Accepted.{Means}
-use Rattle.regress_parse.proofs.DistinctLemmas.{distinct-byte_state}
-use Rattle.regress_parse.proofs.Simulation.{Simulates, Simulates-same_right, Simulates-stay, Simulates-then, Simulates-or, Simulates-one_character, Simulates-capture}
+use Rattle.regress_tree.proofs.laws.ByteStates.{distinct-byte_state}
+use Rattle.regress_tree.proofs.laws.Simulation.{Simulates, Simulates-same_right, Simulates-stay, Simulates-then, Simulates-or, Simulates-one_character, Simulates-capture}
 
 flat_map-stay : (states : List State) → flat_map stay states ≡ states
 flat_map-stay [] = refl

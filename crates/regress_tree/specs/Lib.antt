@@ -1,7 +1,6 @@
 pub mod Table
 pub mod TableOf
 pub mod Tree
-pub mod TreeLaws
 pub mod Reading
 pub mod Steps
 pub mod Matching

@@ -3,18 +3,25 @@ use Rattle.std.specs.Prelude.{ℕ, List, [], ◌∷◌, map, Option, option_map,
 use Rattle.regress_tree.specs.declared.ir.node.Node.{Node, fold-Node}
 use Rattle.regress_tree.specs.declared.ir.node.Node.TheOpen.{Node-F}
 
+-- the kinds of `Node` that hold no node, under its names for them
+pub data Leaf : Type 0 where
+  empty : Leaf
+  goal : Leaf
+  char : (c : ℕ) → Leaf
+  match_any : Leaf
+  match_any_except_line_terminator : Leaf
+
+-- the kinds that hold one node, without it
+pub data Wrapper : Type 0 where
+  -- the name as UTF-8
+  capture_group : (id : ℕ) (name : Option (List ℕ)) → Wrapper
+
 mutual
-  -- the kinds of `Node`, under its names for them
   pub data Tree : Type 0 where
-    empty : Tree
-    goal : Tree
-    char : (c : ℕ) → Tree
+    leaf : (l : Leaf) → Tree
     cat : (parts : Trees) → Tree
     alt : (left right : Tree) → Tree
-    match_any : Tree
-    match_any_except_line_terminator : Tree
-    -- the name as UTF-8
-    capture_group : (id : ℕ) (contents : Tree) (name : Option (List ℕ)) → Tree
+    wrapped : (w : Wrapper) (body : Tree) → Tree
 
   -- trees in a row
   pub data Trees : Type 0 where
@@ -33,14 +40,14 @@ row_append (more_trees t ts) us = more_trees t (row_append ts us)
 
 -- one level, with each node inside already seen as its tree
 abbrev pub tree_of_level : Node-F Tree → Tree
-tree_of_level Node-F.Empty = empty
-tree_of_level Node-F.Goal = goal
-tree_of_level (Node-F.Char c) = char c
+tree_of_level Node-F.Empty = leaf empty
+tree_of_level Node-F.Goal = leaf goal
+tree_of_level (Node-F.Char c) = leaf (char c)
 tree_of_level (Node-F.Cat parts) = cat (row parts.items)
 tree_of_level (Node-F.Alt left right) = alt left.value right.value
-tree_of_level Node-F.MatchAny = match_any
-tree_of_level Node-F.MatchAnyExceptLineTerminator = match_any_except_line_terminator
-tree_of_level (Node-F.CaptureGroup id contents name) = capture_group id contents.value (option_map string_bytes name)
+tree_of_level Node-F.MatchAny = leaf match_any
+tree_of_level Node-F.MatchAnyExceptLineTerminator = leaf match_any_except_line_terminator
+tree_of_level (Node-F.CaptureGroup id contents name) = wrapped (capture_group id (option_map string_bytes name)) contents.value
 
 -- the tree of a node
 abbrev pub tree : Node → Tree

@@ -1,58 +1,87 @@
 -- Which trees are well formed.
 use Rattle.std.specs.Prelude.{◌≡◌, ◌≢◌, ℕ, ◌<◌, ◌≤◌, List, [], ◌∷◌, ◌++◌, length, count_by, ◌==◌, Option, IfSome, if◌then◌else◌, nat_lt}
 use Rattle.regress_base.specs.Intervals.{code_point_max}
-use Rattle.regress_tree.specs.Tree.{Tree, Trees, goal, char, cat, alt, capture_group, no_trees, more_trees}
+use Rattle.regress_tree.specs.Tree.{Leaf, empty, goal, char, match_any, match_any_except_line_terminator, Wrapper, capture_group, Tree, Trees, leaf, cat, alt, wrapped, no_trees, more_trees}
 
 -- a capture group: its id, and its name as UTF-8
 pub record Capture : Type 0 where
   pub id : ℕ
   pub name : Option (List ℕ)
 
+-- the capture group that a wrapper is, if it is one
+abbrev pub captures_of_wrapper : Wrapper → List Capture
+captures_of_wrapper (capture_group id name) = record { id = id; name = name } ∷ []
+
 -- the capture groups of a tree, each before those inside it
 abbrev mutual
   pub captures : Tree → List Capture
+  captures (leaf l) = []
   captures (cat parts) = captures_in_row parts
   captures (alt left right) = captures left ++ captures right
-  captures (capture_group id contents name) = record { id = id; name = name } ∷ captures contents
-  captures _ = []
+  captures (wrapped w body) = captures_of_wrapper w ++ captures body
 
   pub captures_in_row : Trees → List Capture
   captures_in_row no_trees = []
   captures_in_row (more_trees t ts) = captures t ++ captures_in_row ts
 
--- Where a part stands: anywhere inside, as the last part of a `Cat` that is the root, or as the root.
+-- Where a part stands: as the body of a loop over one character, anywhere inside, as the last part of a `Cat` that is the
+-- root, or as the root.
 pub data Position : Type 0 where
+  one_character : Position
   inside : Position
   last : Position
   root : Position
 
 -- the goal ends the pattern: it is the root, or the last part of a `Cat` that is
 abbrev pub GoalMayStand : Position → Type 0
+GoalMayStand one_character = ⊥
 GoalMayStand inside = ⊥
 GoalMayStand last = Unit {0}
 GoalMayStand root = Unit {0}
 
+-- what may not be the body of a loop over one character
+abbrev pub NotAsOneCharacter : Position → Type 0
+NotAsOneCharacter one_character = ⊥
+NotAsOneCharacter inside = Unit {0}
+NotAsOneCharacter last = Unit {0}
+NotAsOneCharacter root = Unit {0}
+
 -- where the last part of a `Cat` stands
 abbrev pub last_of : Position → Position
+last_of one_character = inside
 last_of inside = inside
 last_of last = inside
 last_of root = last
 
+-- where what a wrapper holds stands
+abbrev pub position_in : Wrapper → Position
+position_in (capture_group id name) = inside
+
+-- the leaf may stand there
+abbrev pub LeafMayStand : Leaf → Position → Type 0
+LeafMayStand empty p = NotAsOneCharacter p
+LeafMayStand goal p = GoalMayStand p
+LeafMayStand (char c) p = c ≤ code_point_max
+LeafMayStand match_any p = Unit {0}
+LeafMayStand match_any_except_line_terminator p = Unit {0}
+
+-- the wrapper may stand around the tree, where there are n capture groups
+abbrev pub WrapperMayStand : ℕ → Wrapper → Tree → Type 0
+WrapperMayStand n (capture_group id name) body = (id < n) × IfSome name (λ bytes. bytes ≢ [])
+
 -- the tree may stand there in a well formed tree of n capture groups
 abbrev mutual
   pub MayStand : ℕ → Tree → Position → Type 0
-  MayStand n goal p = GoalMayStand p
-  MayStand n (char c) p = c ≤ code_point_max
-  MayStand n (cat parts) p = RowMayStand n parts (last_of p)
-  MayStand n (alt left right) p = MayStand n left inside × MayStand n right inside
-  MayStand n (capture_group id contents name) p = (id < n) × IfSome name (λ bytes. bytes ≢ []) × MayStand n contents inside
-  MayStand n _ p = Unit {0}
+  MayStand n (leaf l) p = LeafMayStand l p
+  MayStand n (cat parts) p = NotAsOneCharacter p × RowMayStand n parts (last_of p)
+  MayStand n (alt left right) p = NotAsOneCharacter p × MayStand n left inside × MayStand n right inside
+  MayStand n (wrapped w body) p = NotAsOneCharacter p × WrapperMayStand n w body × MayStand n body (position_in w)
 
   -- the last part stands at p, and the others inside
   pub RowMayStand : ℕ → Trees → Position → Type 0
   RowMayStand n no_trees p = Unit {0}
   RowMayStand n (more_trees t no_trees) p = MayStand n t p
-  RowMayStand n (more_trees t ts) p = MayStand n t inside × RowMayStand n ts p
+  RowMayStand n (more_trees t (more_trees u us)) p = MayStand n t inside × RowMayStand n (more_trees u us) p
 
 -- A well formed tree: each part may stand where it does, and the ids of its n capture groups are 0 to n - 1, each once.
 pub record IsWellFormed (t : Tree) : Type 0 where

@@ -6,7 +6,7 @@ use Rattle.std.specs.Prelude.{option_map, string_bytes}
 use Rattle.regress_tree.specs.Tree.{tree, alt, capture_group}
 use Rattle.regress_opt.specs.Law.{direction_of, IsPart}
 use Rattle.regress_opt.proofs.KeepsLemmas.{Keeps-refl, Keeps-trans}
-use Rattle.regress_tree.specs.TreeLaws.{tree-Alt, tree-CaptureGroup}
+use Rattle.regress_tree.proofs.laws.Nodes.{tree-Alt, tree-CaptureGroup}
 use Rattle.regress_opt.proofs.TreeLemmas.{out-Alt, out-CaptureGroup}
 use Rattle.regress_opt.proofs.SweepLemmas.{LacksShape-inside, swept_node_left, alt_keeps, alt_left, alt_changed_then, alt_changed_else, alt_removed, group_keeps, group_left, group_changed, group_removed, part_at, nodes_keeps, nodes_left, nodes_more, nodes_all, or_then, or_else}
 use Rattle.regress_opt.proofs.pass.+sweep.Goals as goal

@@ -1,7 +1,7 @@
 -- What the action makes of the node is what the law says.
 use Rattle.regress_tree.specs.Tree.{tree}
 use Rattle.regress_opt.specs.Law.{direction_of, Keeps, after}
-use Rattle.regress_tree.specs.TreeLaws.{tree-Empty}
+use Rattle.regress_tree.proofs.laws.Nodes.{tree-Empty}
 use Rattle.regress_opt.proofs.pass.rewrite.Goals as goal
 
 pub returns-in-Modified-clause-keeps : goal.returns-in-Modified-clause-keeps

@@ -1,5 +1,5 @@
 use Rattle.std.proofs.Common.{◌<◌, length, ◌∙◌, arith}
-use Rattle.regress_tree.specs.TreeLaws.{tree-Cat}
+use Rattle.regress_tree.proofs.laws.Nodes.{tree-Cat}
 use Rattle.regress_parse.proofs.BuildLemmas.{joined-many}
 use Rattle.regress_parse.proofs.build.make_cat.Goals as goal
 

@@ -1,7 +1,7 @@
 -- The law, from what became of the parts.
 use Rattle.regress_tree.specs.Reading.{forwards}
 use Rattle.regress_tree.specs.Tree.{trees}
-use Rattle.regress_tree.specs.TreeLaws.{tree-Cat}
+use Rattle.regress_tree.proofs.laws.Nodes.{tree-Cat}
 use Rattle.regress_opt.proofs.TreeLemmas.{out-Cat}
 use Rattle.regress_opt.proofs.FlattenLemmas.{flatten_meaning, flatten_stands, flatten_captures, flatten_account, flatten_less}
 use Rattle.regress_opt.proofs.flatten.FlattenRewrite.apply.Goals as goal

@@ -2,7 +2,7 @@ use Rattle.std.proofs.Common.{◌≡◌, ◌+◌, true, false, ◌∷◌, Some, 
 use Rattle.std.specs.Option.{IfSome}
 use Rattle.std.proofs.lemmas.Result.{err_from_is_err_and}
 use Rattle.regress_tree.specs.Reading.{forwards}
-use Rattle.regress_tree.specs.TreeLaws.{tree-Char}
+use Rattle.regress_tree.proofs.laws.Nodes.{tree-Char}
 use Rattle.regress_syntax.specs.Syntax.{dot}
 use Rattle.regress_parse.specs.Grammar.{ends_alternative, is_at, opening, bar as the_bar}
 use Rattle.regress_parse.specs.Reader.{group_by, pattern_at, terms_at, term_at}

@@ -1,7 +1,7 @@
 -- Alike steps: an equivalence that each word of steps keeps in each argument.
 use Rattle.std.proofs.Common.{◌≡◌, ℕ, refl, sym, ap, ◌∙◌}
 use Rattle.regress_tree.specs.Steps.{State, Step, Alike, distinct, ◌then_◌, ◌or_◌, capture, captured}
-use Rattle.regress_opt.proofs.Distinct.{distinct-append-alike, distinct-flat_map-alike, distinct-map-alike}
+use Rattle.regress_tree.proofs.laws.Distinct.{distinct-append-alike, distinct-flat_map-alike, distinct-map-alike}
 
 pub Alike-refl : (f : Step) → Alike f f
 Alike-refl f = record { same = λ s. refl }

@@ -5,8 +5,8 @@ use Rattle.std.proofs.lemmas.List.Elements.{All-nil, All-cons, All-head, All-tai
 use Rattle.std.proofs.lemmas.Bool.{cases_lt}
 use Rattle.regress_tree.specs.Reading.{Direction, Read, next_character, IsText, of_characters, of_bytes, byte_place}
 use Rattle.regress_tree.specs.Steps.{State, Step, IsStateOf, IsCaptureOf, byte_state, byte_capture, stay, ◌then_◌, ◌or_◌, moved, one_character, captured, capture}
-use Rattle.regress_parse.proofs.Characters.{byte_place-le}
-use Rattle.regress_parse.proofs.Readings.{byte_read, next_character-byte_place, next_character-within}
+use Rattle.regress_tree.proofs.laws.Characters.{byte_place-le}
+use Rattle.regress_tree.proofs.laws.Readings.{byte_read, next_character-byte_place, next_character-within}
 
 -- The step g over the bytes of a text does what f does over its characters, and f does not leave the text.
 pub record Simulates (text : List ℕ) (f g : Step) : Type 0 where

@@ -4,7 +4,7 @@ use Rattle.std.proofs.lemmas.List.Elements.{All-cons, All-head, All-tail, All-fi
 use Rattle.std.proofs.lemmas.Bool.{cases_eq, eq-eqb, ne_eqb}
 use Rattle.regress_tree.specs.Reading.{byte_place}
 use Rattle.regress_tree.specs.Steps.{State, Span, IsStateOf, IsCaptureOf, byte_state, byte_capture, same_capture, same_captures, same_state, distinct}
-use Rattle.regress_parse.proofs.Characters.{byte_place_same}
+use Rattle.regress_tree.proofs.laws.Characters.{byte_place_same}
 
 module _ (text : List ℕ) where
   -- two places are one place exactly if their byte places are

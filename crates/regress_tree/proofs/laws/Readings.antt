@@ -6,7 +6,7 @@ use Rattle.std.proofs.lemmas.Str.{len_utf8_bounds}
 use Rattle.std.specs.Char.{len_utf8}
 use Rattle.std.specs.Option.{option_or}
 use Rattle.regress_tree.specs.Reading.{Direction, forwards, backwards, Read, next_character, IsText, of_characters, character_at, read_after, read_before_by, read_before, of_bytes, byte_place}
-use Rattle.regress_parse.proofs.Characters.{byte_place-zero, byte_place-add-one, character_at-byte_place, character_at-end, character_at-within}
+use Rattle.regress_tree.proofs.laws.Characters.{byte_place-zero, byte_place-add-one, character_at-byte_place, character_at-end, character_at-within}
 
 -- a character read, in places of the UTF-8
 abbrev pub byte_read : List ℕ → Read → Read

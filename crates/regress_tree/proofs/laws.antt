@@ -1,0 +1,8 @@
+-- Laws of this crate's definitions, which the crates above may cite.
+pub mod Alike
+pub mod ByteStates
+pub mod Characters
+pub mod Distinct
+pub mod Nodes
+pub mod Readings
+pub mod Simulation
