@@ -38,6 +38,11 @@ abbrev pub row_append : Trees → Trees → Trees
 row_append no_trees us = us
 row_append (more_trees t ts) us = more_trees t (row_append ts us)
 
+-- the last one first
+abbrev pub row_reverse : Trees → Trees
+row_reverse no_trees = no_trees
+row_reverse (more_trees t ts) = row_append (row_reverse ts) (more_trees t no_trees)
+
 -- one level, with each node inside already seen as its tree
 abbrev pub tree_of_level : Node-F Tree → Tree
 tree_of_level Node-F.Empty = leaf empty
