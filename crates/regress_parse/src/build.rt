@@ -3,7 +3,7 @@ ghost use Rattle.std.specs.Prelude.{◌≡◌, IfOk, map};
 ghost use Rattle.regress_tree.specs.Tree.{tree, trees, leaf};
 ghost use Rattle.regress_tree.specs.TableOf.{table_of};
 ghost use Rattle.regress_syntax.specs.Views.{atom_of, group_of};
-ghost use Rattle.regress_parse.specs.TreeOf.{joined, leaf_of_atom, tree_of_group};
+ghost use Rattle.regress_parse.specs.TreeOf.{turned, joined, leaf_of_atom, tree_of_group};
 ghost use Rattle.regress_parse.specs.Parsing.{alternatives, direction};
 
 use regress_base::types::CaptureGroupID;
@@ -47,12 +47,19 @@ pub(crate) fn make_cat(mut parts: NodeList, backwards: bool) -> Node
     ensures { tree result ≡ joined (direction backwards) (trees parts.items) }
 {
     if parts.len() > 1 {
-        if backwards {
-            parts.reverse();
-        }
+        turn(&mut parts, backwards);
         return Node::Cat(parts);
     }
     parts.pop().unwrap_or(Node::Empty)
+}
+
+/// Turns the parts where matching runs backwards.
+fn turn(parts: &mut NodeList, backwards: bool)
+    ensures { trees parts.new.items ≡ turned (direction backwards) (trees parts.old.items) }
+{
+    if backwards {
+        parts.reverse();
+    }
 }
 
 /// The node of alternatives: `Alt(a, Alt(b, c))`.

@@ -69,7 +69,8 @@ impl Parser<'_> {
         ensures value { Yields (item_part (table_in around.now)) (direction_of around.now) around.now.depth (counted self.old) self.new result
             (item_at (context_in around.now) (text self.old)) }
     {
-        match read_head(&mut self.cursor, &around.scope)? {
+        let head = read_head(&mut self.cursor, &around.scope)?;
+        match head {
             Head::Atom(atom) => Ok(make_atom(atom, &around.scope)),
             Head::Opens(kind) => self.consume_group(kind, around),
         }
