@@ -1,16 +1,2 @@
-pub mod ReaderLemmas
-pub mod GrammarLemmas
-pub mod BuildLemmas
-pub mod SoFarLemmas
-pub mod AlternativesLemmas
-pub mod TermLemmas
-pub mod ParserLemmas
-pub mod AcceptedLemmas
-pub mod Characters
-pub mod Readings
-pub mod Simulation
-pub mod DistinctLemmas
 pub mod MeaningLemmas
 pub mod GroupLemmas
-pub mod WellFormedLemmas
-pub mod Examples
