@@ -1,2 +1,4 @@
 pub mod MeaningLemmas
 pub mod GroupLemmas
+pub mod WellFormedLemmas
+pub mod Examples
