@@ -7,3 +7,7 @@ pub mod AlternativesLemmas
 pub mod TermLemmas
 pub mod ParserLemmas
 pub mod AcceptedLemmas
+pub mod MeaningLemmas
+pub mod GroupLemmas
+pub mod WellFormedLemmas
+pub mod Examples

@@ -6,3 +6,4 @@ pub mod Distinct
 pub mod Nodes
 pub mod Readings
 pub mod Simulation
+pub mod Turned
