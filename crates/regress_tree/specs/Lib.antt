@@ -4,6 +4,7 @@ pub mod Tree
 pub mod Reading
 pub mod Steps
 pub mod Matching
+pub mod Walk
 pub mod WellFormed
 pub mod Units
 pub mod Shapes

@@ -1,4 +1,5 @@
 //! How a tree is walked.
+ghost use Rattle.std.specs.Prelude.{◌≡◌, ◌+◌, min, false};
 
 /// Where a walk over a tree stands.
 #[derive(Clone, Debug, Drop)]
@@ -11,4 +12,36 @@ pub struct Walk {
     pub in_lookbehind: bool,
     /// Whether the pattern has the flag u.
     pub unicode: bool,
+}
+
+impl Walk {
+    /// The walk at the root of a tree, which is matched forwards.
+    pub fn root(unicode: bool) -> Walk
+        ensures children { result.skip_children ≡ false }
+        ensures depth { result.depth ≡ 0 }
+        ensures direction { result.in_lookbehind ≡ false }
+        ensures unicode { result.unicode ≡ unicode }
+    {
+        Walk {
+            skip_children: false,
+            depth: 0,
+            in_lookbehind: false,
+            unicode,
+        }
+    }
+
+    /// The walk so many levels further inside, where no node between is a lookaround.
+    pub fn inside(&self, levels: usize) -> Walk
+        ensures children { result.skip_children ≡ false }
+        ensures depth { result.depth ≡ min (self.now.depth + levels) usize.MAX }
+        ensures direction { result.in_lookbehind ≡ self.now.in_lookbehind }
+        ensures unicode { result.unicode ≡ self.now.unicode }
+    {
+        Walk {
+            skip_children: false,
+            depth: self.depth.saturating_add(levels),
+            in_lookbehind: self.in_lookbehind,
+            unicode: self.unicode,
+        }
+    }
 }

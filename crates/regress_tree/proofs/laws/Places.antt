@@ -1,0 +1,163 @@
+-- Places where a tree stands as a part of another, and what of the whole follows from what is put there.
+use Rattle.std.proofs.Common.{◌≡◌, ℕ, ◌+◌, ◌*◌, ◌<◌, ◌≤◌, ◌⊎◌, inl, inr, Bool, List, ◌++◌, refl, ap, arith}
+use Rattle.regress_tree.specs.Reading.{Direction}
+use Rattle.regress_tree.specs.Steps.{Step, Alike}
+use Rattle.regress_tree.specs.Tree.{Wrapper, capture_group, Tree, Trees, cat, alt, wrapped, no_trees, more_trees, row_append}
+use Rattle.regress_tree.specs.Matching.{Setting, direction_in, wrapper_steps, steps, steps_in_row}
+use Rattle.regress_tree.specs.WellFormed.{captures, captures_in_row, captures_of_wrapper, Position, inside, last_of, position_in, WrapperMayStand, MayStand, RowMayStand}
+use Rattle.regress_tree.specs.Units.{units, units_in_row, loops, loops_in_row, unrollable, account, weight, weight_of_row, weight_of_wrapper, IsLess}
+use Rattle.regress_tree.specs.Shapes.{LacksShape, RowLacksShape, LacksInside}
+use Rattle.regress_tree.proofs.laws.Alike.{Alike-refl, Alike-then, Alike-or, Alike-capture}
+use Rattle.regress_tree.proofs.laws.Rows.{units-append, loops-append, weight-append}
+
+pub data Place : Type 0 where
+  -- in a row, between these trees
+  among : (before behind : Trees) → Place
+  left_of : (right : Tree) → Place
+  right_of : (left : Tree) → Place
+  -- what a wrapper holds
+  within : (w : Wrapper) → Place
+
+-- the whole with the tree at the place
+abbrev pub put : Place → Tree → Tree
+put (among before behind) t = cat (row_append before (more_trees t behind))
+put (left_of right) t = alt t right
+put (right_of left) t = alt left t
+put (within w) t = wrapped w t
+
+-- the direction there
+abbrev pub direction_at : Place → Direction → Direction
+direction_at (among before behind) d = d
+direction_at (left_of right) d = d
+direction_at (right_of left) d = d
+direction_at (within w) d = direction_in w d
+
+-- What it matches.
+
+module _ (setting : Setting) (bytes : List ℕ) where
+  -- alike bodies give alike wholes: all that a new wrapper has to add here
+  Alike-wrapper : (w : Wrapper) (f g : Step) → Alike f g → Alike (wrapper_steps setting bytes w f) (wrapper_steps setting bytes w g)
+  Alike-wrapper (capture_group id name) f g alike = Alike-capture id f g alike
+
+  Alike-among : (d : Direction) (before behind : Trees) (t u : Tree) → Alike (steps setting bytes d t) (steps setting bytes d u) →
+      Alike (steps_in_row setting bytes d (row_append before (more_trees t behind)))
+      (steps_in_row setting bytes d (row_append before (more_trees u behind)))
+  Alike-among d no_trees behind t u alike = Alike-then _ _ _ _ alike (Alike-refl _)
+  Alike-among d (more_trees x before) behind t u alike = Alike-then _ _ _ _ (Alike-refl _) (Alike-among d before behind t u alike)
+
+  pub Alike-put : (p : Place) (d : Direction) (t u : Tree) →
+      Alike (steps setting bytes (direction_at p d) t) (steps setting bytes (direction_at p d) u) →
+      Alike (steps setting bytes d (put p t)) (steps setting bytes d (put p u))
+  Alike-put (among before behind) d t u alike = Alike-among d before behind t u alike
+  Alike-put (left_of right) d t u alike = Alike-or _ _ _ _ alike (Alike-refl _)
+  Alike-put (right_of left) d t u alike = Alike-or _ _ _ _ (Alike-refl _) alike
+  Alike-put (within w) d t u alike = Alike-wrapper w _ _ alike
+
+-- Its groups.
+
+captures-among : (before behind : Trees) (t u : Tree) → captures u ≡ captures t →
+    captures_in_row (row_append before (more_trees u behind)) ≡ captures_in_row (row_append before (more_trees t behind))
+captures-among no_trees behind t u same = ap (λ cs. cs ++ captures_in_row behind) same
+captures-among (more_trees x before) behind t u same = ap (λ cs. captures x ++ cs) (captures-among before behind t u same)
+
+pub captures-put : (p : Place) (t u : Tree) → captures u ≡ captures t → captures (put p u) ≡ captures (put p t)
+captures-put (among before behind) t u same = captures-among before behind t u same
+captures-put (left_of right) t u same = ap (λ cs. cs ++ captures right) same
+captures-put (right_of left) t u same = ap (λ cs. captures left ++ cs) same
+captures-put (within w) t u same = ap (λ cs. captures_of_wrapper w ++ cs) same
+
+-- Where it may stand.
+
+-- the wrapper asks no more of a body than its groups
+WrapperMayStand-around : (n : ℕ) (w : Wrapper) (t u : Tree) → captures u ≡ captures t → WrapperMayStand n w t → WrapperMayStand n w u
+WrapperMayStand-around n (capture_group id name) t u same m = m
+
+module _ (t u : Tree) (stands : (n : ℕ) (p : Position) → MayStand n t p → MayStand n u p) where
+  RowMayStand-among : (n : ℕ) (p : Position) (before behind : Trees) → RowMayStand n (row_append before (more_trees t behind)) p →
+      RowMayStand n (row_append before (more_trees u behind)) p
+  RowMayStand-among n p no_trees no_trees m = stands n p m
+  RowMayStand-among n p no_trees (more_trees y behind) m = (stands n inside m.0, m.1)
+  RowMayStand-among n p (more_trees x no_trees) behind m = (m.0, RowMayStand-among n p no_trees behind m.1)
+  RowMayStand-among n p (more_trees x (more_trees y before)) behind m = (m.0, RowMayStand-among n p (more_trees y before) behind m.1)
+
+  pub MayStand-put : captures u ≡ captures t → (place : Place) (n : ℕ) (p : Position) → MayStand n (put place t) p → MayStand n (put place u) p
+  MayStand-put same (among before behind) n p m = (m.0, RowMayStand-among n (last_of p) before behind m.1)
+  MayStand-put same (left_of right) n p m = (m.0, stands n inside m.1, m.2)
+  MayStand-put same (right_of left) n p m = (m.0, m.1, stands n inside m.2)
+  MayStand-put same (within w) n p m = (m.0, WrapperMayStand-around n w t u same m.1, stands n (position_in w) m.2)
+
+RowMayStand-part : (n : ℕ) (p : Position) (before behind : Trees) (t : Tree) → RowMayStand n (row_append before (more_trees t behind)) p →
+    (q : Position) × MayStand n t q
+RowMayStand-part n p no_trees no_trees t m = (p, m)
+RowMayStand-part n p no_trees (more_trees y behind) t m = (inside, m.0)
+RowMayStand-part n p (more_trees x no_trees) behind t m = RowMayStand-part n p no_trees behind t m.1
+RowMayStand-part n p (more_trees x (more_trees y before)) behind t m = RowMayStand-part n p (more_trees y before) behind t m.1
+
+-- a part of what may stand somewhere may stand somewhere
+pub MayStand-part : (place : Place) (t : Tree) (n : ℕ) (p : Position) → MayStand n (put place t) p → (q : Position) × MayStand n t q
+MayStand-part (among before behind) t n p m = RowMayStand-part n (last_of p) before behind t m.1
+MayStand-part (left_of right) t n p m = (inside, m.1)
+MayStand-part (right_of left) t n p m = (inside, m.2)
+MayStand-part (within w) t n p m = (position_in w, m.2)
+
+-- How large it is.
+
+abbrev pub units_around : Place → ℕ
+units_around (among before behind) = 1 + (units_in_row before + units_in_row behind)
+units_around (left_of right) = 1 + units right
+units_around (right_of left) = 1 + units left
+units_around (within w) = 1
+
+pub units-put : (p : Place) (t : Tree) → units (put p t) ≡ units_around p + units t
+units-put (among before behind) t = omega (arith, units-append before (more_trees t behind))
+units-put (left_of right) t = omega arith
+units-put (right_of left) t = omega arith
+units-put (within w) t = omega arith
+
+abbrev pub loops_around : Place → ℕ
+loops_around (among before behind) = loops_in_row before + loops_in_row behind
+loops_around (left_of right) = loops right
+loops_around (right_of left) = loops left
+loops_around (within w) = unrollable w
+
+pub loops-put : (p : Place) (t : Tree) → loops (put p t) ≡ loops_around p + loops t
+loops-put (among before behind) t = omega (arith, loops-append before (more_trees t behind))
+loops-put (left_of right) t = omega arith
+loops-put (right_of left) t = omega arith
+loops-put (within w) t = omega arith
+
+abbrev pub weight_around : Place → ℕ
+weight_around (among before behind) = 2 + (weight_of_row before + weight_of_row behind)
+weight_around (left_of right) = 1 + weight right
+weight_around (right_of left) = 1 + weight left
+weight_around (within w) = weight_of_wrapper w
+
+pub weight-put : (p : Place) (t : Tree) → weight (put p t) ≡ weight_around p + weight t
+weight-put (among before behind) t = omega (arith, weight-append before (more_trees t behind))
+weight-put (left_of right) t = omega arith
+weight-put (right_of left) t = omega arith
+weight-put (within w) t = omega arith
+
+pub account-put : (p : Place) (t u : Tree) → account u ≤ account t → account (put p u) ≤ account (put p t)
+account-put p t u no_more = omega (arith, units-put p t, units-put p u, loops-put p t, loops-put p u)
+
+pub IsLess-put : (p : Place) (t u : Tree) → IsLess u t → IsLess (put p u) (put p t)
+IsLess-put p t u is_less = record { less = by is_less.less }
+  where
+    by : (loops u < loops t) ⊎ ((loops u ≡ loops t) × (weight u < weight t)) →
+        (loops (put p u) < loops (put p t)) ⊎ ((loops (put p u) ≡ loops (put p t)) × (weight (put p u) < weight (put p t)))
+    by (inl fewer) = inl (omega (arith, loops-put p t, loops-put p u))
+    by (inr lighter) = inr (omega (arith, lighter.0, loops-put p t, loops-put p u), omega (arith, lighter.1, weight-put p t, weight-put p u))
+
+-- Which shapes it lacks.
+
+module _ (shape : Tree → Bool) where
+  RowLacksShape-part : (before behind : Trees) (t : Tree) → RowLacksShape shape (row_append before (more_trees t behind)) → LacksShape shape t
+  RowLacksShape-part no_trees behind t lacks = lacks.0
+  RowLacksShape-part (more_trees x before) behind t lacks = RowLacksShape-part before behind t lacks.1
+
+  pub LacksShape-part : (p : Place) (t : Tree) → LacksInside shape (put p t) → LacksShape shape t
+  LacksShape-part (among before behind) t lacks = RowLacksShape-part before behind t lacks
+  LacksShape-part (left_of right) t lacks = lacks.0
+  LacksShape-part (right_of left) t lacks = lacks.1
+  LacksShape-part (within w) t lacks = lacks

@@ -1,0 +1,106 @@
+-- Rows of trees, one behind the other.
+use Rattle.std.proofs.Common.{◌≡◌, ℕ, ◌+◌, List, [], ◌∷◌, ◌++◌, map, flat_map, refl, sym, ap, ◌∙◌, append_assoc, append-nil, arith}
+use mathlib.Core.Path.{fun_ext}
+use Rattle.std.proofs.lemmas.List.{map-append}
+use Rattle.regress_tree.specs.declared.ir.node.Node.{Node}
+use Rattle.regress_tree.specs.Reading.{Direction}
+use Rattle.regress_tree.specs.Steps.{State}
+use Rattle.regress_tree.specs.Tree.{Leaf, empty, goal, char, match_any, match_any_except_line_terminator, Tree, Trees, leaf, cat, alt, wrapped, no_trees, more_trees, row, row_append, tree, trees}
+use Rattle.regress_tree.specs.Matching.{Setting, steps, steps_in_row}
+use Rattle.regress_tree.specs.WellFormed.{captures, captures_in_row, Position, one_character, inside, last, root, NotAsOneCharacter, GoalMayStand, last_of, LeafMayStand, MayStand, RowMayStand}
+use Rattle.regress_tree.specs.Units.{units, units_in_row, loops, loops_in_row, weight, weight_of_row}
+use Rattle.regress_tree.proofs.laws.Outcomes.{flat_map-then}
+
+pub row_append-none : (ts : Trees) → row_append ts no_trees ≡ ts
+row_append-none no_trees = refl
+row_append-none (more_trees t ts) = ap (more_trees t) (row_append-none ts)
+
+pub row_append-assoc : (ts us vs : Trees) → row_append (row_append ts us) vs ≡ row_append ts (row_append us vs)
+row_append-assoc no_trees us vs = refl
+row_append-assoc (more_trees t ts) us vs = ap (more_trees t) (row_append-assoc ts us vs)
+
+row-append : (ts us : List Tree) → row (ts ++ us) ≡ row_append (row ts) (row us)
+row-append [] us = refl
+row-append (t ∷ ts) us = ap (more_trees t) (row-append ts us)
+
+pub trees-append : (xs ys : List Node) → trees (xs ++ ys) ≡ row_append (trees xs) (trees ys)
+trees-append xs ys = ap row (map-append tree xs ys) ∙ row-append (map tree xs) (map tree ys)
+
+-- What a row matches, captures and counts.
+
+pub steps-append : (setting : Setting) (bytes : List ℕ) (d : Direction) (ts us : Trees) (s : State) →
+    steps_in_row setting bytes d (row_append ts us) s ≡ flat_map (steps_in_row setting bytes d us) (steps_in_row setting bytes d ts s)
+steps-append setting bytes d no_trees us s = sym (append-nil _)
+steps-append setting bytes d (more_trees t ts) us s =
+    ap (λ f. flat_map f (steps setting bytes d t s)) (fun_ext (steps-append setting bytes d ts us))
+    ∙ flat_map-then (steps_in_row setting bytes d ts) (steps_in_row setting bytes d us) (steps setting bytes d t s)
+
+pub captures-append : (ts us : Trees) → captures_in_row (row_append ts us) ≡ captures_in_row ts ++ captures_in_row us
+captures-append no_trees us = refl
+captures-append (more_trees t ts) us =
+    ap (λ cs. captures t ++ cs) (captures-append ts us) ∙ sym (append_assoc (captures t) (captures_in_row ts) (captures_in_row us))
+
+pub units-append : (ts us : Trees) → units_in_row (row_append ts us) ≡ units_in_row ts + units_in_row us
+units-append no_trees us = omega arith
+units-append (more_trees t ts) us = omega (arith, units-append ts us)
+
+pub loops-append : (ts us : Trees) → loops_in_row (row_append ts us) ≡ loops_in_row ts + loops_in_row us
+loops-append no_trees us = omega arith
+loops-append (more_trees t ts) us = omega (arith, loops-append ts us)
+
+pub weight-append : (ts us : Trees) → weight_of_row (row_append ts us) ≡ weight_of_row ts + weight_of_row us
+weight-append no_trees us = omega arith
+weight-append (more_trees t ts) us = omega (arith, weight-append ts us)
+
+-- What may stand as the last part of a `Cat` may stand where the `Cat` does.
+
+LeafMayStand-wider : (p q : Position) → (NotAsOneCharacter p → NotAsOneCharacter q) → (GoalMayStand p → GoalMayStand q) →
+    (l : Leaf) → LeafMayStand l p → LeafMayStand l q
+LeafMayStand-wider p q any ends empty m = any m
+LeafMayStand-wider p q any ends goal m = ends m
+LeafMayStand-wider p q any ends (char c) m = m
+LeafMayStand-wider p q any ends match_any m = tt
+LeafMayStand-wider p q any ends match_any_except_line_terminator m = tt
+
+pub MayStand-last : (n : ℕ) (t : Tree) → MayStand n t inside → MayStand n t last
+MayStand-last n (leaf l) m = LeafMayStand-wider inside last (λ any. tt) (λ none. absurd none) l m
+MayStand-last n (cat parts) m = m
+MayStand-last n (alt left right) m = m
+MayStand-last n (wrapped w body) m = m
+
+RowMayStand-last : (n : ℕ) (ts : Trees) → RowMayStand n ts inside → RowMayStand n ts last
+RowMayStand-last n no_trees m = tt
+RowMayStand-last n (more_trees t no_trees) m = MayStand-last n t m
+RowMayStand-last n (more_trees t (more_trees u ts)) m = (m.0, RowMayStand-last n (more_trees u ts) m.1)
+
+MayStand-root : (n : ℕ) (t : Tree) → MayStand n t last → MayStand n t root
+MayStand-root n (leaf l) m = LeafMayStand-wider last root (λ any. tt) (λ ends. tt) l m
+MayStand-root n (cat parts) m = (tt, RowMayStand-last n parts m.1)
+MayStand-root n (alt left right) m = m
+MayStand-root n (wrapped w body) m = m
+
+pub MayStand-from_last : (n : ℕ) (t : Tree) (p : Position) → NotAsOneCharacter p → MayStand n t (last_of p) → MayStand n t p
+MayStand-from_last n t one_character any m = absurd any
+MayStand-from_last n t inside any m = m
+MayStand-from_last n t last any m = MayStand-last n t m
+MayStand-from_last n t root any m = MayStand-root n t m
+
+-- Rows of what may stand, joined.
+
+MayStand-last_of : (n : ℕ) (t : Tree) (p : Position) → MayStand n t inside → MayStand n t (last_of p)
+MayStand-last_of n t one_character m = m
+MayStand-last_of n t inside m = m
+MayStand-last_of n t last m = m
+MayStand-last_of n t root m = MayStand-last n t m
+
+RowMayStand-more : (n : ℕ) (t : Tree) (ts : Trees) (p : Position) → MayStand n t inside → RowMayStand n ts (last_of p) →
+    RowMayStand n (more_trees t ts) (last_of p)
+RowMayStand-more n t no_trees p here later = MayStand-last_of n t p here
+RowMayStand-more n t (more_trees u ts) p here later = (here, later)
+
+pub RowMayStand-append : (n : ℕ) (ts us : Trees) (p : Position) → RowMayStand n ts inside → RowMayStand n us (last_of p) →
+    RowMayStand n (row_append ts us) (last_of p)
+RowMayStand-append n no_trees us p first second = second
+RowMayStand-append n (more_trees t no_trees) us p first second = RowMayStand-more n t us p first second
+RowMayStand-append n (more_trees t (more_trees u ts)) us p first second =
+    RowMayStand-more n t (row_append (more_trees u ts) us) p first.0 (RowMayStand-append n (more_trees u ts) us p first.1 second)
