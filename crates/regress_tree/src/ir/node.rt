@@ -13,6 +13,12 @@ pub enum Node {
     Char {
         c: u32,
     },
+    /// These bytes as they stand, whole UTF-8 of characters. No byte matches the empty text.
+    ByteSequence(Vec<u8>),
+    /// One character of a set of at most four ASCII bytes. An empty set matches nothing.
+    ByteSet(Vec<u8>),
+    /// One character of a set of at most four code points. An empty set matches nothing.
+    CharSet(Vec<u32>),
     /// The parts one after another. In a lookbehind they stand turned: the last one first.
     Cat(Vec<Node>),
     /// What the left side matches, and then what the right side does.
