@@ -1,7 +1,9 @@
-pub mod Distinct
-pub mod AlikeLemmas
-pub mod TreeLemmas
 pub mod KeepsLemmas
 pub mod SweepLemmas
+pub mod SpineLemmas
+pub mod NodeLemmas
+pub mod PartsLemmas
 pub mod PassLemmas
+pub mod CheckedLemmas
 pub mod FlattenLemmas
+pub mod SpliceLemmas

@@ -1,33 +1,40 @@
--- Sweep after sweep.
-use Rattle.std.proofs.Common.{◌≡◌, Bool, true, false, Ok, IsTrue, sym, subst, ◌∙◌}
-use Rattle.regress_tree.specs.Reading.{Direction}
-use Rattle.regress_tree.specs.Tree.{Tree}
-use Rattle.regress_tree.specs.Shapes.{LacksShape}
-use Rattle.regress_opt.specs.Law.{Keeps}
-use Rattle.regress_opt.specs.Sweep.{TellsChange}
-use Rattle.regress_opt.proofs.KeepsLemmas.{Keeps-trans}
-use Rattle.regress_opt.proofs.SweepLemmas.{TellsChange-both}
+-- A pass ends.
+use Rattle.std.proofs.Common.{◌≡◌, ℕ, ◌+◌, ◌*◌, ◌<◌, ◌≤◌, ◌⊎◌, inl, inr, ap, arith}
+use Rattle.std.proofs.Math.Nat.{mul-le-mul_left}
+use Rattle.regress_tree.specs.Tree.{Leaf, empty, goal, char, match_any, match_any_except_line_terminator, Wrapper, capture_group, Tree, Trees, leaf, cat, alt, wrapped, no_trees, more_trees}
+use Rattle.regress_tree.specs.Units.{units_of_leaf, units, units_in_row, loops, account, weight_of_leaf, weight_of_wrapper, weight, weight_of_row, IsLess}
 
--- what the sweeps so far have made of a tree
-pub record Swept (d : Direction) (shape : Tree → Bool) (exact : Bool) (initial now : Tree) (changed : Bool) : Type 0 where
-  pub keeps : Keeps d initial now
-  pub tells : TellsChange (Ok changed) initial now
-  pub left : IsTrue exact → LacksShape shape initial → now ≡ initial
+leaf_weight-le : (l : Leaf) → weight_of_leaf l ≤ 2 * units_of_leaf l
+leaf_weight-le empty = omega arith
+leaf_weight-le goal = omega arith
+leaf_weight-le (char c) = omega arith
+leaf_weight-le match_any = omega arith
+leaf_weight-le match_any_except_line_terminator = omega arith
 
-module _ (d : Direction) (shape : Tree → Bool) (exact : Bool) where
-  module _ (initial now : Tree) (changed : Bool) (so_far : Swept d shape exact initial now changed) (new : Tree) (keeps : Keeps d now new) (left : IsTrue exact → LacksShape shape now → new ≡ now) where
-    pub Swept-keeps : Keeps d initial new
-    Swept-keeps = Keeps-trans d so_far.keeps keeps
+wrapper_weight-le : (w : Wrapper) → weight_of_wrapper w ≤ 2
+wrapper_weight-le (capture_group id name) = omega arith
 
-    pub Swept-left : IsTrue exact → LacksShape shape initial → new ≡ initial
-    Swept-left is_exact lacks =
-        let same = so_far.left is_exact lacks in
-        left is_exact (subst (λ (t : Tree). LacksShape shape t) (sym same) lacks) ∙ same
+mutual
+  weight-le : (t : Tree) → weight t ≤ 2 * units t
+  weight-le (leaf l) = leaf_weight-le l
+  weight-le (cat parts) = omega (arith, row_weight-le parts)
+  weight-le (alt left right) = omega (arith, weight-le left, weight-le right)
+  weight-le (wrapped w body) = omega (arith, wrapper_weight-le w, weight-le body)
 
-    -- a sweep that changed something
-    pub Swept-more : TellsChange (Ok true) now new → Swept d shape exact initial new true
-    Swept-more tells = record { keeps = Swept-keeps; tells = both changed so_far.tells; left = Swept-left }
-      where
-        both : (b : Bool) → TellsChange (Ok b) initial now → TellsChange (Ok true) initial new
-        both true first = TellsChange-both true true initial now new first tells
-        both false first = TellsChange-both false true initial now new first tells
+  row_weight-le : (ts : Trees) → weight_of_row ts ≤ 2 * units_in_row ts
+  row_weight-le no_trees = omega arith
+  row_weight-le (more_trees t ts) = omega (arith, weight-le t, row_weight-le ts)
+
+-- More than the changes that are still to come, where the account of the tree was `spent` at first: a loop less leaves a
+-- tree whose weight is below what each loop counts here.
+abbrev pub changes_left : ℕ → Tree → ℕ
+changes_left spent t = (2 * spent + 1) * loops t + weight t
+
+pub changes_left-falls : (spent : ℕ) (t u : Tree) → account t ≤ spent → account u ≤ account t → IsLess u t → changes_left spent u < changes_left spent t
+changes_left-falls spent t u within no_more is_less = by is_less.less
+  where
+    by : (loops u < loops t) ⊎ ((loops u ≡ loops t) × (weight u < weight t)) → changes_left spent u < changes_left spent t
+    by (inl fewer) =
+        let loop : loops u + 1 ≤ loops t = omega (arith, fewer) in
+        omega (arith, mul-le-mul_left (2 * spent + 1) loop, weight-le u, within, no_more)
+    by (inr lighter) = omega (arith, ap (λ k. (2 * spent + 1) * k) lighter.0, lighter.1)

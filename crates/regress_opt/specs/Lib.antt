@@ -1,3 +1,4 @@
 pub mod Law
 pub mod Sweep
+pub mod Spine
 pub mod Splice

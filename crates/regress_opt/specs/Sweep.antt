@@ -1,17 +1,23 @@
 -- What a sweep over a tree answers.
-use Rattle.std.specs.Prelude.{◌≡◌, Bool, Result, IfOk, MatchBool}
+use Rattle.std.specs.Prelude.{◌≡◌, Bool, true, false, IsTrue, Result, Ok, Err}
 use Rattle.std.specs.declared.alloc.AllocError.{AllocError}
-use Rattle.regress_tree.specs.Tree.{Tree, cat, alt, capture_group}
-use Rattle.regress_tree.specs.Units.{measure, IsLess}
-use Rattle.regress_tree.specs.Shapes.{LacksShape, RowLacksShape}
+use Rattle.regress_tree.specs.Reading.{Direction}
+use Rattle.regress_tree.specs.Tree.{Tree}
+use Rattle.regress_tree.specs.Units.{IsLess}
+use Rattle.regress_opt.specs.Law.{Keeps}
 
 -- It tells whether it changed the tree. Each change makes the tree less.
 abbrev pub TellsChange : Result Bool AllocError → Tree → Tree → Type 0
-TellsChange result old new = IfOk result (λ changed. MatchBool changed (IsLess (measure new) (measure old)) (new ≡ old))
+TellsChange (Ok true) old new = IsLess new old
+TellsChange (Ok false) old new = new ≡ old
+TellsChange (Err e) old new = Unit {0}
 
--- No node below the root of the tree has the shape.
-abbrev pub LacksInside : (Tree → Bool) → Tree → Type 0
-LacksInside shape (cat parts) = RowLacksShape shape parts
-LacksInside shape (alt left right) = LacksShape shape left × LacksShape shape right
-LacksInside shape (capture_group id contents name) = LacksShape shape contents
-LacksInside shape t = Unit {0}
+-- What sweeping makes of the tree `old`, where `clean_before` and `clean_after` say that there is nothing to remove in what is swept.
+pub record Swept (clean_before clean_after : Type 0) (is_exact : Bool) (d : Direction) (old new : Tree) (answer : Result Bool AllocError) : Type 0 where
+  -- the new tree stands for the old one
+  pub keeps : Keeps d old new
+  pub changed : TellsChange answer old new
+  -- where nothing changed there was nothing to remove
+  pub removed : answer ≡ Ok false → clean_after
+  -- and an exact rewrite changes nothing where there is nothing to remove
+  pub left : IsTrue is_exact → clean_before → new ≡ old

@@ -18,9 +18,9 @@ pub(crate) struct Flatten {
 
 impl Rewrite for Flatten {
     ghost use Rattle.std.specs.Prelude.{true};
-    ghost use Rattle.regress_tree.specs.Shapes.{is_nested};
+    ghost use Rattle.regress_tree.specs.Shapes.{is_flattened_away};
 
-    ghost removes = { is_nested };
+    ghost removes = { is_flattened_away };
 
     ghost is_exact = { true };
 

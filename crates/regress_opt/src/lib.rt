@@ -6,6 +6,7 @@ mod headline;
 mod optimizer;
 mod pass;
 mod rewrite;
+mod spine;
 #[cfg(test)]
 mod tests;
 

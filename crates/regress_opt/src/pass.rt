@@ -1,14 +1,17 @@
 //! Running a rewrite over a tree.
 ghost use Rattle.std.specs.Prelude.{◌≡◌, ◌≢◌, ◌≤◌, false, IsTrue, IfOk, OnOk, OnErr, MatchBool};
 ghost use Rattle.regress_tree.specs.Reading.{forwards};
-ghost use Rattle.regress_tree.specs.Tree.{tree, trees, cat};
+ghost use Rattle.regress_tree.specs.Tree.{tree, trees, leaf, empty, cat};
+ghost use Rattle.regress_tree.specs.Walk.{direction_of};
 ghost use Rattle.regress_tree.specs.WellFormed.{IsWellFormed, captures};
 ghost use Rattle.regress_tree.specs.Units.{account};
-ghost use Rattle.regress_tree.specs.Shapes.{LacksShape};
-ghost use Rattle.regress_opt.specs.Law.{direction_of, IsPart, MeansTheSame, Keeps};
-ghost use Rattle.regress_opt.specs.Sweep.{TellsChange, LacksInside};
+ghost use Rattle.regress_tree.specs.Shapes.{LacksShape, LacksInside};
+ghost use Rattle.regress_opt.specs.Law.{IsPart, MeansTheSame};
+ghost use Rattle.regress_opt.specs.Sweep.{Swept};
+ghost use Rattle.regress_opt.specs.Spine.{is_alt, reattach, spine_length, LeftsLackShape};
 
 use crate::rewrite::{PassAction, Rewrite};
+use crate::spine::{relink, shift};
 use regress_tree::ir::{Node, NodeList, Regex, Walk};
 use std::alloc::AllocError;
 
@@ -31,12 +34,7 @@ pub fn run_pass<R: Rewrite>(r: &mut Regex, pass: &mut R) -> Result<bool, AllocEr
     ensures removed { OnOk result (LacksShape R.removes (tree r.new.node)) }
     ensures left { IsTrue R.is_exact → LacksShape R.removes (tree r.old.node) → tree r.new.node ≡ tree r.old.node }
 {
-    let walk = Walk {
-        skip_children: false,
-        depth: 0,
-        in_lookbehind: false,
-        unicode: r.flags.unicode,
-    };
+    let walk = Walk::root(r.flags.unicode);
     let mut changed = false;
     while sweep(&mut r.node, pass, &walk)? {
         changed = true;
@@ -44,47 +42,111 @@ pub fn run_pass<R: Rewrite>(r: &mut Regex, pass: &mut R) -> Result<bool, AllocEr
     Ok(changed)
 }
 
-/// Rewrites the children of a node and then the node, and answers whether that changed anything.
+/// Rewrites the nodes inside a node and then the node, and answers whether that changed anything.
 #[cycle(sweep)]
 fn sweep<R: Rewrite>(node: &mut Node, pass: &mut R, walk: &Walk) -> Result<bool, AllocError>
     requires { IsPart (tree node.old) }
-    ensures keeps { Keeps (direction_of walk.now) (tree node.old) (tree node.new) }
-    ensures changed { TellsChange result (tree node.old) (tree node.new) }
-    ensures removed { result ≡ Ok false → LacksShape R.removes (tree node.new) }
-    ensures left { IsTrue R.is_exact → LacksShape R.removes (tree node.old) → tree node.new ≡ tree node.old }
+    ensures { Swept (LacksShape R.removes (tree node.old)) (LacksShape R.removes (tree node.new)) R.is_exact
+        (direction_of walk.now) (tree node.old) (tree node.new) result }
 {
-    let changed_inside = sweep_children(node, pass, walk)?;
-    let changed_here = rewrite(node, pass, walk)?;
-    Ok(changed_inside || changed_here)
+    let mut above = Node::Empty;
+    let mut levels = 0;
+    match sweep_down(node, &mut above, &mut levels, pass, walk) {
+        Ok(changed) => Ok(changed | rewrite_up(node, above, levels, pass, walk)?),
+        Err(e) => {
+            relink(node, above);
+            Err(e)
+        }
+    }
 }
 
-/// Sweeps what lies inside a node.
+/// Goes down the right sides of alternatives and sweeps the left ones, and then the last alternative.
+/// What it has gone down is `above`, the last one first, with so many levels.
 #[cycle(sweep)]
-fn sweep_children<R: Rewrite>(
+fn sweep_down<R: Rewrite>(
+    node: &mut Node,
+    above: &mut Node,
+    levels: &mut usize,
+    pass: &mut R,
+    walk: &Walk,
+) -> Result<bool, AllocError>
+    requires part { IsPart (tree node.old) }
+    requires above { tree above.old ≡ leaf empty }
+    requires levels { levels.old ≡ 0 }
+    ensures swept { Swept (LacksShape R.removes (tree node.old))
+        (LacksShape R.removes (tree node.new) × LeftsLackShape R.removes (tree above.new)) R.is_exact
+        (direction_of walk.now) (tree node.old) (reattach (tree above.new) (tree node.new)) result }
+    ensures levels { OnOk result (levels.new ≡ spine_length (tree above.new)) }
+{
+    let mut changed = false;
+    while shift(node, above) {
+        *levels = levels.checked_add(1).ok_or(AllocError)?;
+        if let Node::Alt(left, _) = above {
+            changed |= sweep(left, pass, &walk.inside(*levels))?;
+        }
+    }
+    Ok(changed | sweep_one(node, pass, &walk.inside(*levels))?)
+}
+
+/// Rewrites the alternatives above a node, the last one first, which have it as their right side.
+fn rewrite_up<R: Rewrite>(
+    node: &mut Node,
+    above: Node,
+    levels: usize,
+    pass: &mut R,
+    walk: &Walk,
+) -> Result<bool, AllocError>
+    requires part { IsPart (reattach (tree above) (tree node.old)) }
+    requires levels { levels ≡ spine_length (tree above) }
+    ensures { Swept (LacksShape R.removes (reattach (tree above) (tree node.old)))
+        ((LacksShape R.removes (tree node.old) × LeftsLackShape R.removes (tree above)) → LacksShape R.removes (tree node.new))
+        R.is_exact (direction_of walk.now) (reattach (tree above) (tree node.old)) (tree node.new) result }
+{
+    let mut above = above;
+    let mut levels = levels;
+    let mut changed = false;
+    while shift(&mut above, node) {
+        levels -= 1;
+        match rewrite(node, pass, &walk.inside(levels)) {
+            Ok(here) => changed |= here,
+            Err(e) => {
+                relink(node, above);
+                return Err(e);
+            }
+        }
+    }
+    Ok(changed)
+}
+
+/// Sweeps what lies inside a node that is no `Alt`, and rewrites the node.
+#[cycle(sweep)]
+fn sweep_one<R: Rewrite>(node: &mut Node, pass: &mut R, walk: &Walk) -> Result<bool, AllocError>
+    requires part { IsPart (tree node.old) }
+    requires other { is_alt (tree node.old) ≡ false }
+    ensures { Swept (LacksShape R.removes (tree node.old)) (LacksShape R.removes (tree node.new)) R.is_exact
+        (direction_of walk.now) (tree node.old) (tree node.new) result }
+{
+    let changed = sweep_inside(node, pass, &walk.inside(1))?;
+    Ok(changed | rewrite(node, pass, walk)?)
+}
+
+/// Sweeps what lies inside a node that is no `Alt`.
+#[cycle(sweep)]
+fn sweep_inside<R: Rewrite>(
     node: &mut Node,
     pass: &mut R,
     walk: &Walk,
 ) -> Result<bool, AllocError>
-    requires { IsPart (tree node.old) }
-    ensures keeps { Keeps (direction_of walk.now) (tree node.old) (tree node.new) }
-    ensures changed { TellsChange result (tree node.old) (tree node.new) }
-    ensures removed { result ≡ Ok false → LacksInside R.removes (tree node.new) }
-    ensures left { IsTrue R.is_exact → LacksInside R.removes (tree node.old) → tree node.new ≡ tree node.old }
+    requires part { IsPart (tree node.old) }
+    requires other { is_alt (tree node.old) ≡ false }
+    ensures { Swept (LacksInside R.removes (tree node.old)) (LacksInside R.removes (tree node.new)) R.is_exact
+        (direction_of walk.now) (tree node.old) (tree node.new) result }
 {
-    let inside = Walk {
-        skip_children: false,
-        depth: walk.depth.saturating_add(1),
-        in_lookbehind: walk.in_lookbehind,
-        unicode: walk.unicode,
-    };
     match node {
-        Node::Cat(parts) => sweep_parts(parts, pass, &inside),
-        Node::Alt(left, right) => {
-            let changed = sweep(left, pass, &inside)?;
-            Ok(sweep(right, pass, &inside)? || changed)
-        }
-        Node::CaptureGroup { contents, .. } => sweep(contents, pass, &inside),
-        Node::Empty
+        Node::Cat(parts) => sweep_parts(parts, pass, walk),
+        Node::CaptureGroup { contents, .. } => sweep(contents, pass, walk),
+        Node::Alt(..)
+        | Node::Empty
         | Node::Goal
         | Node::Char { .. }
         | Node::MatchAny
@@ -100,27 +162,21 @@ fn sweep_parts<R: Rewrite>(
     walk: &Walk,
 ) -> Result<bool, AllocError>
     requires { IsPart (cat (trees parts.old.items)) }
-    ensures keeps { Keeps (direction_of walk.now) (cat (trees parts.old.items)) (cat (trees parts.new.items)) }
-    ensures changed { TellsChange result (cat (trees parts.old.items)) (cat (trees parts.new.items)) }
-    ensures removed { result ≡ Ok false → LacksInside R.removes (cat (trees parts.new.items)) }
-    ensures left { IsTrue R.is_exact → LacksInside R.removes (cat (trees parts.old.items)) → trees parts.new.items ≡ trees parts.old.items }
+    ensures { Swept (LacksInside R.removes (cat (trees parts.old.items))) (LacksInside R.removes (cat (trees parts.new.items)))
+        R.is_exact (direction_of walk.now) (cat (trees parts.old.items)) (cat (trees parts.new.items)) result }
 {
     let mut changed = false;
     for i in 0..parts.len() {
-        changed = sweep(&mut parts[i], pass, walk)? || changed;
+        changed |= sweep(&mut parts[i], pass, walk)?;
     }
     Ok(changed)
 }
 
-/// Applies the rewrite to one node, and does what it answers. A call of its own keeps what it needs
-/// out of the recursion's frames: a tree has as many levels as an alternation has alternatives.
-#[inline(never)]
+/// Applies the rewrite to one node, and does what it answers.
 fn rewrite<R: Rewrite>(node: &mut Node, pass: &mut R, walk: &Walk) -> Result<bool, AllocError>
     requires { IsPart (tree node.old) }
-    ensures keeps { Keeps (direction_of walk.now) (tree node.old) (tree node.new) }
-    ensures changed { TellsChange result (tree node.old) (tree node.new) }
-    ensures removed { result ≡ Ok false → R.removes (tree node.new) ≡ false }
-    ensures left { IsTrue R.is_exact → R.removes (tree node.old) ≡ false → tree node.new ≡ tree node.old }
+    ensures { Swept (R.removes (tree node.old) ≡ false) (R.removes (tree node.new) ≡ false) R.is_exact
+        (direction_of walk.now) (tree node.old) (tree node.new) result }
 {
     match pass.apply(node, walk)? {
         PassAction::Keep => return Ok(false),

@@ -1,9 +1,8 @@
 //! The law of a rewrite.
-ghost use Rattle.std.specs.Prelude.{◌≡◌, ◌≢◌, ◌≤◌, Bool, false, IsTrue, IfOk, OnErr};
+ghost use Rattle.std.specs.Prelude.{◌≡◌, Bool, IfOk, OnErr};
 ghost use Rattle.regress_tree.specs.Tree.{Tree, tree};
-ghost use Rattle.regress_tree.specs.WellFormed.{captures};
-ghost use Rattle.regress_tree.specs.Units.{account, measure, IsLess};
-ghost use Rattle.regress_opt.specs.Law.{direction_of, IsPart, after, OfMade, MeansTheSame, StandsWhere};
+ghost use Rattle.regress_tree.specs.Walk.{direction_of};
+ghost use Rattle.regress_opt.specs.Law.{IsPart, IsLawful};
 
 use regress_tree::ir::{Node, Walk};
 use std::alloc::AllocError;
@@ -35,20 +34,9 @@ pub trait Rewrite {
         requires { IsPart (tree node.old) }
 
         // What the action makes of the node cannot be told apart from it, stands where it stood, has
-        // its groups and is no larger.
-        ensures meaning { OfMade result (tree node.new) (MeansTheSame (direction_of walk.now) (tree node.old)) }
-        ensures stands { OfMade result (tree node.new) (StandsWhere (tree node.old)) }
-        ensures captures { OfMade result (tree node.new) (λ made. captures made ≡ captures (tree node.old)) }
-        ensures account { OfMade result (tree node.new) (λ made. account made ≤ account (tree node.old)) }
-
-        // `Keep` leaves the node, and comes only where there is nothing to remove. Any other action
-        // makes it less.
-        ensures keep { result ≡ Ok PassAction.Keep → tree node.new ≡ tree node.old }
-        ensures kept { result ≡ Ok PassAction.Keep → removes (tree node.old) ≡ false }
-        ensures less { IfOk result (λ action. action ≢ PassAction.Keep →
-            IsLess (measure (after action (tree node.new))) (measure (tree node.old))) }
-        ensures exact { IsTrue is_exact → removes (tree node.old) ≡ false →
-            IfOk result (λ action. action ≡ PassAction.Keep) }
+        // its groups, is no larger and, unless it is `Keep`, is less. `Keep` leaves the node, and comes
+        // only where there is nothing to remove.
+        ensures lawful { IfOk result (IsLawful removes is_exact (direction_of walk.now) (tree node.old) (tree node.new)) }
 
         // Want of memory leaves the node.
         ensures err { OnErr result (tree node.new ≡ tree node.old) };

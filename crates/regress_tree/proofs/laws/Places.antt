@@ -16,21 +16,21 @@ pub data Place : Type 0 where
   left_of : (right : Tree) → Place
   right_of : (left : Tree) → Place
   -- what a wrapper holds
-  within : (w : Wrapper) → Place
+  inside_of : (w : Wrapper) → Place
 
 -- the whole with the tree at the place
 abbrev pub put : Place → Tree → Tree
 put (among before behind) t = cat (row_append before (more_trees t behind))
 put (left_of right) t = alt t right
 put (right_of left) t = alt left t
-put (within w) t = wrapped w t
+put (inside_of w) t = wrapped w t
 
 -- the direction there
 abbrev pub direction_at : Place → Direction → Direction
 direction_at (among before behind) d = d
 direction_at (left_of right) d = d
 direction_at (right_of left) d = d
-direction_at (within w) d = direction_in w d
+direction_at (inside_of w) d = direction_in w d
 
 -- What it matches.
 
@@ -51,7 +51,7 @@ module _ (setting : Setting) (bytes : List ℕ) where
   Alike-put (among before behind) d t u alike = Alike-among d before behind t u alike
   Alike-put (left_of right) d t u alike = Alike-or _ _ _ _ alike (Alike-refl _)
   Alike-put (right_of left) d t u alike = Alike-or _ _ _ _ (Alike-refl _) alike
-  Alike-put (within w) d t u alike = Alike-wrapper w _ _ alike
+  Alike-put (inside_of w) d t u alike = Alike-wrapper w _ _ alike
 
 -- Its groups.
 
@@ -64,7 +64,7 @@ pub captures-put : (p : Place) (t u : Tree) → captures u ≡ captures t → ca
 captures-put (among before behind) t u same = captures-among before behind t u same
 captures-put (left_of right) t u same = ap (λ cs. cs ++ captures right) same
 captures-put (right_of left) t u same = ap (λ cs. captures left ++ cs) same
-captures-put (within w) t u same = ap (λ cs. captures_of_wrapper w ++ cs) same
+captures-put (inside_of w) t u same = ap (λ cs. captures_of_wrapper w ++ cs) same
 
 -- Where it may stand.
 
@@ -84,7 +84,7 @@ module _ (t u : Tree) (stands : (n : ℕ) (p : Position) → MayStand n t p → 
   MayStand-put same (among before behind) n p m = (m.0, RowMayStand-among n (last_of p) before behind m.1)
   MayStand-put same (left_of right) n p m = (m.0, stands n inside m.1, m.2)
   MayStand-put same (right_of left) n p m = (m.0, m.1, stands n inside m.2)
-  MayStand-put same (within w) n p m = (m.0, WrapperMayStand-around n w t u same m.1, stands n (position_in w) m.2)
+  MayStand-put same (inside_of w) n p m = (m.0, WrapperMayStand-around n w t u same m.1, stands n (position_in w) m.2)
 
 RowMayStand-part : (n : ℕ) (p : Position) (before behind : Trees) (t : Tree) → RowMayStand n (row_append before (more_trees t behind)) p →
     (q : Position) × MayStand n t q
@@ -98,7 +98,7 @@ pub MayStand-part : (place : Place) (t : Tree) (n : ℕ) (p : Position) → MayS
 MayStand-part (among before behind) t n p m = RowMayStand-part n (last_of p) before behind t m.1
 MayStand-part (left_of right) t n p m = (inside, m.1)
 MayStand-part (right_of left) t n p m = (inside, m.2)
-MayStand-part (within w) t n p m = (position_in w, m.2)
+MayStand-part (inside_of w) t n p m = (position_in w, m.2)
 
 -- How large it is.
 
@@ -106,37 +106,37 @@ abbrev pub units_around : Place → ℕ
 units_around (among before behind) = 1 + (units_in_row before + units_in_row behind)
 units_around (left_of right) = 1 + units right
 units_around (right_of left) = 1 + units left
-units_around (within w) = 1
+units_around (inside_of w) = 1
 
 pub units-put : (p : Place) (t : Tree) → units (put p t) ≡ units_around p + units t
 units-put (among before behind) t = omega (arith, units-append before (more_trees t behind))
 units-put (left_of right) t = omega arith
 units-put (right_of left) t = omega arith
-units-put (within w) t = omega arith
+units-put (inside_of w) t = omega arith
 
 abbrev pub loops_around : Place → ℕ
 loops_around (among before behind) = loops_in_row before + loops_in_row behind
 loops_around (left_of right) = loops right
 loops_around (right_of left) = loops left
-loops_around (within w) = unrollable w
+loops_around (inside_of w) = unrollable w
 
 pub loops-put : (p : Place) (t : Tree) → loops (put p t) ≡ loops_around p + loops t
 loops-put (among before behind) t = omega (arith, loops-append before (more_trees t behind))
 loops-put (left_of right) t = omega arith
 loops-put (right_of left) t = omega arith
-loops-put (within w) t = omega arith
+loops-put (inside_of w) t = omega arith
 
 abbrev pub weight_around : Place → ℕ
 weight_around (among before behind) = 2 + (weight_of_row before + weight_of_row behind)
 weight_around (left_of right) = 1 + weight right
 weight_around (right_of left) = 1 + weight left
-weight_around (within w) = weight_of_wrapper w
+weight_around (inside_of w) = weight_of_wrapper w
 
 pub weight-put : (p : Place) (t : Tree) → weight (put p t) ≡ weight_around p + weight t
 weight-put (among before behind) t = omega (arith, weight-append before (more_trees t behind))
 weight-put (left_of right) t = omega arith
 weight-put (right_of left) t = omega arith
-weight-put (within w) t = omega arith
+weight-put (inside_of w) t = omega arith
 
 pub account-put : (p : Place) (t u : Tree) → account u ≤ account t → account (put p u) ≤ account (put p t)
 account-put p t u no_more = omega (arith, units-put p t, units-put p u, loops-put p t, loops-put p u)
@@ -160,4 +160,4 @@ module _ (shape : Tree → Bool) where
   LacksShape-part (among before behind) t lacks = RowLacksShape-part before behind t lacks
   LacksShape-part (left_of right) t lacks = lacks.0
   LacksShape-part (right_of left) t lacks = lacks.1
-  LacksShape-part (within w) t lacks = lacks
+  LacksShape-part (inside_of w) t lacks = lacks

@@ -76,7 +76,7 @@ LeafMayStand-wider p q free ends (char_set characters) m = record { bounded = m.
 LeafMayStand-wider p q free ends match_any m = tt
 LeafMayStand-wider p q free ends match_any_except_line_terminator m = tt
 
-pub MayStand-last : (n : ℕ) (t : Tree) → MayStand n t inside → MayStand n t last
+MayStand-last : (n : ℕ) (t : Tree) → MayStand n t inside → MayStand n t last
 MayStand-last n (leaf l) m = LeafMayStand-wider inside last tt (λ none. absurd none) l m
 MayStand-last n (cat parts) m = m
 MayStand-last n (alt left right) m = m
@@ -98,6 +98,13 @@ MayStand-from_last n t one_character any m = absurd any
 MayStand-from_last n t inside any m = m
 MayStand-from_last n t last any m = MayStand-last n t m
 MayStand-from_last n t root any m = MayStand-root n t m
+
+-- what may stand in a `Cat` that is the last part may stand where that part does
+pub RowMayStand-last_of : (n : ℕ) (ts : Trees) (p : Position) → RowMayStand n ts (last_of (last_of p)) → RowMayStand n ts (last_of p)
+RowMayStand-last_of n ts one_character m = m
+RowMayStand-last_of n ts inside m = m
+RowMayStand-last_of n ts last m = m
+RowMayStand-last_of n ts root m = RowMayStand-last n ts m
 
 -- Rows of what may stand, joined.
 

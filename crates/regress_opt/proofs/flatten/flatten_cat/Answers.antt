@@ -4,7 +4,7 @@ use Rattle.std.proofs.lemmas.Iterator.{YieldsList-from_slice}
 use Rattle.std.proofs.lemmas.Iterator.Search.{any_from_yields_List}
 use Rattle.regress_tree.specs.Tree.{tree, trees}
 use Rattle.regress_tree.specs.Shapes.{is_cat, has_cat}
-use Rattle.regress_opt.proofs.FlattenLemmas.{is_short-from_len, has_cat-any}
+use Rattle.regress_opt.proofs.SpliceLemmas.{is_short-from_len, has_cat-any}
 use Rattle.regress_opt.proofs.flatten.flatten_cat.Goals as goal
 
 pub returns-then-not-any-clause-action : goal.returns-then-not-any-clause-action

@@ -1,5 +1,5 @@
 use Rattle.std.proofs.Common.{sym, ◌∙◌}
-use Rattle.regress_opt.proofs.FlattenLemmas.{parts_len-Cat}
+use Rattle.regress_opt.proofs.SpliceLemmas.{parts_len-Cat}
 use Rattle.regress_opt.proofs.flatten.parts_len.Goals as goal
 
 pub returns-in-Cat : goal.returns-in-Cat

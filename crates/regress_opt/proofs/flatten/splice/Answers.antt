@@ -5,7 +5,7 @@ use Rattle.std.proofs.lemmas.Iterator.Consumers.{YieldsList-turn}
 use Rattle.regress_tree.specs.declared.ir.node.Node.{the_lemmas}
 use Rattle.regress_tree.specs.Tree.{tree, trees}
 use Rattle.regress_tree.specs.Shapes.{is_cat}
-use Rattle.regress_opt.proofs.FlattenLemmas.{moved_before, moved_fits, moved_len, moved_Cat, moved_other, parts_len-Cat, parts_len-other}
+use Rattle.regress_opt.proofs.SpliceLemmas.{moved_before, moved_fits, moved_len, moved_Cat, moved_other, parts_len-Cat, parts_len-other}
 use Rattle.regress_opt.proofs.flatten.splice.Goals as goal
 
 pub returns-in_err-append-in-Cat-clause-err : goal.returns-in_err-append-in-Cat-clause-err

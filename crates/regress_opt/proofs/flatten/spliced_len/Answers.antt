@@ -1,5 +1,6 @@
 use Rattle.std.proofs.Common.{◌∙◌, arith}
-use Rattle.regress_opt.proofs.FlattenLemmas.{sum_of, spliced_len-more}
+use Rattle.regress_opt.proofs.CheckedLemmas.{sum_of}
+use Rattle.regress_opt.proofs.SpliceLemmas.{spliced_len-more}
 use Rattle.regress_opt.proofs.flatten.spliced_len.Goals as goal
 
 pub loop-part-preserved : goal.loop-part-preserved

@@ -1,0 +1,23 @@
+-- One level of a node.
+use Rattle.std.proofs.Common.{◌≡◌, ◌∙◌, sym, ap, ℕ, Option, Vec, Box, Global, rules}
+use Rattle.std.specs.Prelude.{String}
+use Rattle.regress_tree.specs.declared.ir.node.Node.{Node, out-Node, the_lemmas}
+use Rattle.regress_tree.specs.declared.ir.node.Node.TheOpen.{Node-F}
+use Rattle.regress_tree.specs.declared.ir.node.Node.TheVariants.{Cat, Alt, CaptureGroup}
+use Rattle.regress_tree.specs.Tree.{tree, alt}
+use Rattle.regress_tree.proofs.laws.Nodes.{tree-Alt}
+
+pub out-Alt : (left right : Box Node Global) → out-Node (Alt left right) ≡ Node-F.Alt left right
+out-Alt left right = search (rules, the_lemmas)
+
+pub out-CaptureGroup : (id : ℕ) (contents : Box Node Global) (name : Option (String Global)) →
+    out-Node (CaptureGroup id contents name) ≡ Node-F.CaptureGroup id contents name
+out-CaptureGroup id contents name = search (rules, the_lemmas)
+
+pub out-Cat : (parts : Vec Node Global) → out-Node (Cat parts) ≡ Node-F.Cat parts
+out-Cat parts = search (rules, the_lemmas)
+
+-- an `Alt`, by the value that was read at its left side
+pub alt_of : (node : Node) (left right : Box Node Global) (value : Node) → node ≡ Alt left right → value ≡ left.value →
+    tree node ≡ alt (tree value) (tree right.value)
+alt_of node left right value is value_is = ap tree is ∙ tree-Alt left right ∙ ap (λ n. alt (tree n) (tree right.value)) (sym value_is)
