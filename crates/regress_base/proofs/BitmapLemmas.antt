@@ -1,11 +1,12 @@
 -- Facts on the set that a `ByteBitmap` stands for.
-use Rattle.std.proofs.Common.{◌≡◌, ℕ, ◌+◌, ◌*◌, ◌^◌, ◌<◌, Bool, true, false, ◌&&◌, ◌||◌, eqb, ltb, List, [], length, get_or, take, map, Decides, zero-add, refl, ap, sym, ◌∙◌, arith, inl, inr}
+use Rattle.std.proofs.Common.{◌≡◌, ℕ, ◌+◌, ◌*◌, ◌^◌, ◌<◌, Bool, true, false, ◌&&◌, ◌||◌, eqb, ltb, List, [], leb, length, get_or, set, bit_or, take, map, ◌/◌, ◌%◌, ◌≤◌, Decides, zero-add, refl, ap, sym, ◌∙◌, arith, inl, inr}
 use Rattle.std.specs.Int.{bit_at}
 use Rattle.std.specs.Int.RustNames.{count_ones}
 use Rattle.std.specs.List.{range_with_len, list_any}
 use Rattle.std.specs.Cmp.{booleans_Decides}
 use Rattle.std.specs.Cmp.Lexicographic.{pointwise_decides}
-use Rattle.std.proofs.lemmas.Bool.{false≢true, cases_lt, cases_eq, lt-ltb, eq-eqb, ne_eqb, and_right, or_right}
+use Rattle.std.proofs.lemmas.Bool.{false≢true, cases_lt, cases_eq, lt-ltb, le-ltb, lt-leb, eq-eqb, ne_eqb, and_right, or_right}
+use Rattle.std.proofs.lemmas.Bool.Decides.{nat_tests}
 use Rattle.std.proofs.lemmas.List.{ext_get_or}
 use Rattle.std.proofs.lemmas.List.FromFn.{get_or-map-range_with_len}
 use Rattle.std.proofs.lemmas.List.Folds.{list_any_more}
@@ -15,7 +16,7 @@ use Rattle.regress_base.specs.ByteBitmap.{contains, same_members}
 use Rattle.regress_base.specs.ByteSets.{bit_in, bytes_of, all_bytes, SameMembers}
 use Rattle.regress_base.specs.ByteLaws.{contains-bytes_only}
 use Rattle.regress_base.specs.declared.bytesearch.bitmap.ByteBitmap.{ByteBitmap}
-use Rattle.regress_base.proofs.CellLemmas.{or-guarded}
+use Rattle.regress_base.proofs.CellLemmas.{or-guarded, bit_in-with_mask}
 use Rattle.regress_base.proofs.CountLemmas.{count_below, count_below-add, count_below-agree, count_ones-bits}
 
 -- ---- bitmaps with the same members have the same words
@@ -111,6 +112,74 @@ bytes_of-more xs i b inside byte =
     let v = get_or xs i 0 in
     let old = list_any (λ x. eqb x b) (take i xs) in
     ap (λ x. ltb b 256 && x) (list_any_more (λ x. eqb x b) xs i 0 inside ∙ or_turned v b old) ∙ or-guarded 256 v b old byte
+
+-- ---- a bitmap that a run joins word by word
+
+-- the ends of a run within a word that lies between those of its first and its last byte
+pub record IsRunWithin (first last word low high : ℕ) : Type 0 where
+  pub from : first / 16 ≤ word
+  pub to : word ≤ last / 16
+  pub low_first : word ≡ first / 16 → low ≡ first % 16
+  pub low_else : (word ≡ first / 16 → ⊥) → low ≡ 0
+  pub high_last : word ≡ last / 16 → high ≡ last % 16
+  pub high_else : (word ≡ last / 16 → ⊥) → high ≡ 15
+
+run_bit : (first last word low high b : ℕ) → IsRunWithin first last word low high → b / 16 ≡ word
+    → (leb low (b % 16) && leb (b % 16) high) ≡ (leb first b && leb b last)
+run_bit first last word low high b run at =
+    let from = run.from in
+    let to = run.to in
+    elim (cases_eq word (first / 16)) [
+      | inl f ↦
+          let l = run.low_first f in
+          elim (cases_eq word (last / 16)) [
+            | inl e ↦ let h = run.high_last e in grind (arith, nat_tests)
+            | inr ne ↦ let h = run.high_else ne in grind (arith, nat_tests)
+          ]
+      | inr nf ↦
+          let l = run.low_else nf in
+          elim (cases_eq word (last / 16)) [
+            | inl e ↦ let h = run.high_last e in grind (arith, nat_tests)
+            | inr ne ↦ let h = run.high_else ne in grind (arith, nat_tests)
+          ]
+    ]
+
+or_turned_and : (t x : Bool) → (x || t) ≡ ((t && true) || x)
+or_turned_and true true = refl
+or_turned_and true false = refl
+or_turned_and false true = refl
+or_turned_and false false = refl
+
+both_false : (g x t : Bool) → (g && (x || false)) ≡ ((t && false) || (g && x))
+both_false g true true = refl
+both_false g true false = refl
+both_false g false true = refl
+both_false g false false = refl
+
+pub run_joins : (s : ByteBitmap) (first last word low high mask b : ℕ) → length s.words ≡ 16 → last < 256 → IsRunWithin first last word low high
+    → ((k : ℕ) → k < 16 → eqb (bit_at mask k) 1 ≡ (leb low k && leb k high))
+    → contains (record { words = set s.words word (bit_or (get_or s.words word 0) mask) }) b ≡ (((leb first b && leb b last) && eqb (b / 16) word) || contains s b)
+unfolding contains
+run_joins s first last word low high mask b len byte run bits =
+    let to = run.to in
+    let inside = leb first b && leb b last in
+    let set = bit_in-with_mask 16 s.words word mask b (omega arith) in
+    let bit = bits (b % 16) (omega arith) in
+    elim (cases_eq (b / 16) word) [
+      | inl at ↦
+          let same = bit ∙ run_bit first last word low high b run at in
+          rw (set, same, at, eq-eqb word word refl) (elim (cases_lt b 256) [
+            | inl small ↦ rw (lt-ltb b 256 small) (or_turned_and inside (bit_in 16 s.words b))
+            | inr large ↦ rw (le-ltb b 256 large, lt-leb b last (omega arith)) (elim (leb first b) as (λ t. false ≡ ((t && false) && true || false)) [ true ↦ refl | false ↦ refl ])
+          ])
+      | inr apart ↦ rw (set, ne_eqb (b / 16) word apart) (both_false (ltb b 256) (bit_in 16 s.words b) inside)
+    ]
+
+-- the words before `word`, and then that one too
+pub run_more : (inside old : Bool) (b word : ℕ)
+    → ((inside && eqb (b / 16) word) || ((inside && ltb b (word * 16)) || old)) ≡ ((inside && ltb b ((word + 1) * 16)) || old)
+run_more false old b word = refl
+run_more true old b word = grind (arith, nat_tests)
 
 -- ---- how many members a bitmap has
 
