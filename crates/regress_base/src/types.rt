@@ -5,10 +5,9 @@ ghost use Rattle.regress_base.specs.Intervals.{code_point_max};
 ghost use Rattle.regress_base.specs.Limits.{max_capture_groups, max_loops, max_nesting_depth, max_char_set_length};
 
 pub use crate::charclasses::CharacterClassType;
+use crate::interval::CODE_POINT_MAX;
 pub use bracket::BracketContents;
 pub use captures::{GroupData, LoopData};
-
-use crate::interval::CODE_POINT_MAX;
 
 mod bracket;
 mod captures;
