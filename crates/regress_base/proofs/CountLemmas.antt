@@ -1,5 +1,5 @@
 -- The members below a bound: how many, and which.
-use Rattle.std.proofs.Common.{◌≡◌, ℕ, zero, suc, ◌+◌, ◌-◌, ◌/◌, ◌%◌, ◌^◌, ◌<◌, ◌≤◌, Bool, true, false, cond, eqb, List, [], ◌∷◌, ◌++◌, length, set, replicate, filter, count_by, refl, ap, sym, ◌∙◌, subst, arith, inl, inr}
+use Rattle.std.proofs.Common.{◌≡◌, ℕ, zero, suc, ◌+◌, ◌-◌, ◌/◌, ◌%◌, ◌^◌, ◌<◌, ◌≤◌, Bool, true, false, cond, eqb, ◌⊎◌, List, [], ◌∷◌, ◌++◌, length, set, replicate, filter, count_by, refl, ap, sym, ◌∙◌, subst, arith, inl, inr}
 use Rattle.std.specs.List.{range_with_len}
 use Rattle.std.specs.Int.{bit_at}
 use Rattle.std.specs.Int.RustNames.{count_ones}
@@ -127,7 +127,7 @@ IsFilled-none p n =
     let e : n ≡ n - 0 = omega arith in
     record { filled = ap (λ k. replicate {A = ℕ} k 0) e; counted = refl }
 
-pub IsFilled-yes : (p : ℕ → Bool) (n b len : ℕ) (array : List ℕ) → IsFilled p n b len array → p b ≡ true → len < n → IsFilled p n (b + 1) (len + 1) (set array len b)
+IsFilled-yes : (p : ℕ → Bool) (n b len : ℕ) (array : List ℕ) → IsFilled p n b len array → p b ≡ true → len < n → IsFilled p n (b + 1) (len + 1) (set array len b)
 IsFilled-yes p n b len array so_far passes room =
     let front = filter_below p b in
     let e : b + 1 ≡ suc b = omega arith in
@@ -144,7 +144,7 @@ IsFilled-yes p n b len array so_far passes room =
       counted = ap (λ k. k + 1) at ∙ sym (length_push front b) ∙ ap length (sym grown);
     }
 
-pub IsFilled-no : (p : ℕ → Bool) (n b len : ℕ) (array : List ℕ) → IsFilled p n b len array → p b ≡ false → IsFilled p n (b + 1) len array
+IsFilled-no : (p : ℕ → Bool) (n b len : ℕ) (array : List ℕ) → IsFilled p n b len array → p b ≡ false → IsFilled p n (b + 1) len array
 IsFilled-no p n b len array so_far fails =
     let front = filter_below p b in
     let e : b + 1 ≡ suc b = omega arith in
@@ -171,6 +171,15 @@ IsFilled-room p n b len array so_far passes byte room =
     let more = count_below-lt p b 256 byte passes in
     let all = member_count-is p in
     omega arith
+
+-- one number more, which joins the array where it is a member
+pub IsFilled-turn : (p : ℕ → Bool) (n b len len' : ℕ) (array array' : List ℕ) → b < 256 → member_count p ≤ n → IsFilled p n b len array
+    → ((p b ≡ true) × (len' ≡ len + 1) × (array' ≡ set array len b)) ⊎ ((p b ≡ false) × (len' ≡ len) × (array' ≡ array))
+    → IsFilled p n (b + 1) len' array'
+IsFilled-turn p n b len len' array array' byte fits so_far (inl joins) =
+    rw (joins.1, joins.2) (IsFilled-yes p n b len array so_far joins.0 (IsFilled-room p n b len array so_far joins.0 byte fits))
+IsFilled-turn p n b len len' array array' byte fits so_far (inr stays) =
+    rw (stays.1, stays.2) (IsFilled-no p n b len array so_far stays.0)
 
 pub IsFilled-all : (p : ℕ → Bool) (n len : ℕ) (array : List ℕ) → IsFilled p n 256 len array → array ≡ members_of p ++ replicate (n - member_count p) 0
 IsFilled-all p n len array so_far =
