@@ -40,24 +40,35 @@ same_place n a b d m = sym (div-add-mod' a n) ∙ ap (λ q. q * n + a % n) d ∙
 abbrev pub with_bit : (w : Width) → List ℕ → ℕ → List ℕ
 with_bit w cells v = set cells (v / bits w) (bit_or (get_or cells (v / bits w) 0) (1 * 2 ^ (v % bits w) % 2 ^ bits w))
 
-set_same : (w : Width) (cells : List ℕ) (v : ℕ) → v % bits w < bits w → v / bits w < length cells → bit_in (bits w) (with_bit w cells v) v ≡ true
+set_same : (w : Width) (cells : List ℕ) (v : ℕ) → v % bits w < bits w → v / bits w < length cells
+    → bit_in (bits w) (with_bit w cells v) v ≡ true
 unfolding bit_in
 set_same w cells v low inside =
-    rw (get_or-set_same cells (v / bits w) (bit_or (get_or cells (v / bits w) 0) (1 * 2 ^ (v % bits w) % 2 ^ bits w)) 0 inside, bit_at_set_same w (get_or cells (v / bits w) 0) (v % bits w) low) refl
+    rw (
+      get_or-set_same cells (v / bits w) (bit_or (get_or cells (v / bits w) 0) (1 * 2 ^ (v % bits w) % 2 ^ bits w)) 0 inside,
+      bit_at_set_same w (get_or cells (v / bits w) 0) (v % bits w) low,
+    ) refl
 
-set_other : (w : Width) (cells : List ℕ) (v b : ℕ) → v % bits w < bits w → v / bits w < length cells → b ≢ v → bit_in (bits w) (with_bit w cells v) b ≡ bit_in (bits w) cells b
+set_other : (w : Width) (cells : List ℕ) (v b : ℕ) → v % bits w < bits w → v / bits w < length cells → b ≢ v
+    → bit_in (bits w) (with_bit w cells v) b ≡ bit_in (bits w) cells b
 unfolding bit_in
 set_other w cells v b low inside ne =
     elim (cases_eq (b / bits w) (v / bits w)) [
       | inl e ↦
           let apart : b % bits w ≢ v % bits w = λ m. ne (same_place (bits w) b v e m) in
-          rw (e, get_or-set_same cells (v / bits w) (bit_or (get_or cells (v / bits w) 0) (1 * 2 ^ (v % bits w) % 2 ^ bits w)) 0 inside, bit_at_set_other w (get_or cells (v / bits w) 0) (v % bits w) low (b % bits w) apart) refl
+          rw (
+            e,
+            get_or-set_same cells (v / bits w) (bit_or (get_or cells (v / bits w) 0) (1 * 2 ^ (v % bits w) % 2 ^ bits w)) 0 inside,
+            bit_at_set_other w (get_or cells (v / bits w) 0) (v % bits w) low (b % bits w) apart,
+          ) refl
       | inr e ↦
-          rw (get_or-set_other cells (v / bits w) (b / bits w) (bit_or (get_or cells (v / bits w) 0) (1 * 2 ^ (v % bits w) % 2 ^ bits w)) 0 e) refl
+          rw (get_or-set_other cells (v / bits w) (b / bits w) (bit_or (get_or cells (v / bits w) 0) (1 * 2 ^ (v % bits w) % 2 ^ bits w))
+          0 e) refl
     ]
 
 -- the bits after bit v is set
-pub bit_in-with_bit : (w : Width) (cells : List ℕ) (v b : ℕ) → v % bits w < bits w → v / bits w < length cells → bit_in (bits w) (with_bit w cells v) b ≡ (eqb b v || bit_in (bits w) cells b)
+pub bit_in-with_bit : (w : Width) (cells : List ℕ) (v b : ℕ) → v % bits w < bits w → v / bits w < length cells
+    → bit_in (bits w) (with_bit w cells v) b ≡ (eqb b v || bit_in (bits w) cells b)
 bit_in-with_bit w cells v b low inside =
     elim (cases_eq b v) [
       | inl e ↦ rw (e, eq-eqb v v refl) (set_same w cells v low inside)
@@ -117,10 +128,20 @@ ones_between low high k l h within =
           rw (bit_at_mask_below low 16 k under, none, lt-leb low k under) refl
       | inr from ↦ elim (cases_lt high k) [
         | inl over ↦
-            rw (bit_at_mask_inside low 16 k from within, bit_at_ones_above (16 - (15 - high)) k (omega arith), le-leb low k from, lt-leb k high over)
+            rw (
+              bit_at_mask_inside low 16 k from within,
+              bit_at_ones_above (16 - (15 - high)) k (omega arith),
+              le-leb low k from,
+              lt-leb k high over,
+            )
             refl
         | inr to ↦
-            rw (bit_at_mask_inside low 16 k from within, bit_at_ones (16 - (15 - high)) k (omega arith), le-leb low k from, le-leb k high to)
+            rw (
+              bit_at_mask_inside low 16 k from within,
+              bit_at_ones (16 - (15 - high)) k (omega arith),
+              le-leb low k from,
+              le-leb k high to,
+            )
             refl
       ]
     ])
@@ -132,14 +153,16 @@ other_bit x p =
       | inr a ↦ let e : x ≡ 1 = omega arith in rw e refl
     ]
 
-pub bit_in-or : (n : ℕ) (xs ys zs : List ℕ) (b : ℕ) → get_or zs (b / n) 0 ≡ bit_or (get_or xs (b / n) 0) (get_or ys (b / n) 0) → bit_in n zs b ≡ (bit_in n xs b || bit_in n ys b)
+pub bit_in-or : (n : ℕ) (xs ys zs : List ℕ) (b : ℕ) → get_or zs (b / n) 0 ≡ bit_or (get_or xs (b / n) 0) (get_or ys (b / n) 0)
+    → bit_in n zs b ≡ (bit_in n xs b || bit_in n ys b)
 unfolding bit_in
 bit_in-or n xs ys zs b e =
     let x = get_or xs (b / n) 0 in
     let y = get_or ys (b / n) 0 in
     rw (e, bit_at_or x y (b % n)) (either_bit (bit_at x (b % n)) (bit_at y (b % n)) (bit_at-lt x (b % n)) (bit_at-lt y (b % n)))
 
-pub bit_in-not : (w : Width) (xs zs : List ℕ) (b : ℕ) → b % bits w < bits w → get_or xs (b / bits w) 0 < 2 ^ bits w → get_or zs (b / bits w) 0 ≡ 2 ^ bits w - 1 - get_or xs (b / bits w) 0 → bit_in (bits w) zs b ≡ not (bit_in (bits w) xs b)
+pub bit_in-not : (w : Width) (xs zs : List ℕ) (b : ℕ) → b % bits w < bits w → get_or xs (b / bits w) 0 < 2 ^ bits w
+    → get_or zs (b / bits w) 0 ≡ 2 ^ bits w - 1 - get_or xs (b / bits w) 0 → bit_in (bits w) zs b ≡ not (bit_in (bits w) xs b)
 unfolding bit_in
 bit_in-not w xs zs b low fits e =
     let x = get_or xs (b / bits w) 0 in

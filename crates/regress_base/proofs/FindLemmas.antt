@@ -49,7 +49,8 @@ none_in_part set text n part at none nowhere = λ k h here.
     elim (cases_lt k n) [
       | inl before ↦ none k before here
       | inr from ↦ (let e : n + (k - n) ≡ k = omega arith in
-          nowhere (k - n) (omega arith) (member_of_part set text n part (k - n) at (omega arith) (subst (IsMemberAt set text) (sym e) here)))
+          nowhere (k - n) (omega arith)
+          (member_of_part set text n part (k - n) at (omega arith) (subst (IsMemberAt set text) (sym e) here)))
     ]
 
 -- the least member of a part, where there is none before it
@@ -127,7 +128,8 @@ bytes_of-two (x ∷ []) b two byte = absurd (omega (arith, two))
 bytes_of-two (x ∷ y ∷ []) b two byte = rw (lt-ltb b 256 byte) (ap (λ t. eqb x b || t) (or-false (eqb y b)))
 bytes_of-two (x ∷ y ∷ z ∷ xs) b two byte = absurd (omega (arith, two))
 
-pub bytes_of-three : (xs : List ℕ) (b : ℕ) → length xs ≡ 3 → b < 256 → bytes_of xs b ≡ (eqb (get_or xs 0 0) b || (eqb (get_or xs 1 0) b || eqb (get_or xs 2 0) b))
+pub bytes_of-three : (xs : List ℕ) (b : ℕ) → length xs ≡ 3 → b < 256
+    → bytes_of xs b ≡ (eqb (get_or xs 0 0) b || (eqb (get_or xs 1 0) b || eqb (get_or xs 2 0) b))
 unfolding bytes_of
 bytes_of-three [] b three byte = absurd (omega (arith, three))
 bytes_of-three (w ∷ []) b three byte = absurd (omega (arith, three))
@@ -135,22 +137,26 @@ bytes_of-three (w ∷ x ∷ []) b three byte = absurd (omega (arith, three))
 bytes_of-three (w ∷ x ∷ y ∷ []) b three byte = rw (lt-ltb b 256 byte) (ap (λ t. eqb w b || (eqb x b || t)) (or-false (eqb y b)))
 bytes_of-three (w ∷ x ∷ y ∷ z ∷ xs) b three byte = absurd (omega (arith, three))
 
-pub bytes_of-four : (xs : List ℕ) (b : ℕ) → length xs ≡ 4 → b < 256 → bytes_of xs b ≡ (eqb (get_or xs 0 0) b || (eqb (get_or xs 1 0) b || (eqb (get_or xs 2 0) b || eqb (get_or xs 3 0) b)))
+pub bytes_of-four : (xs : List ℕ) (b : ℕ) → length xs ≡ 4 → b < 256
+    → bytes_of xs b ≡ (eqb (get_or xs 0 0) b || (eqb (get_or xs 1 0) b || (eqb (get_or xs 2 0) b || eqb (get_or xs 3 0) b)))
 unfolding bytes_of
 bytes_of-four [] b four byte = absurd (omega (arith, four))
 bytes_of-four (v ∷ []) b four byte = absurd (omega (arith, four))
 bytes_of-four (v ∷ w ∷ []) b four byte = absurd (omega (arith, four))
 bytes_of-four (v ∷ w ∷ x ∷ []) b four byte = absurd (omega (arith, four))
-bytes_of-four (v ∷ w ∷ x ∷ y ∷ []) b four byte = rw (lt-ltb b 256 byte) (ap (λ t. eqb v b || (eqb w b || (eqb x b || t))) (or-false (eqb y b)))
+bytes_of-four (v ∷ w ∷ x ∷ y ∷ []) b four byte = rw (lt-ltb b 256 byte)
+    (ap (λ t. eqb v b || (eqb w b || (eqb x b || t))) (or-false (eqb y b)))
 bytes_of-four (v ∷ w ∷ x ∷ y ∷ z ∷ xs) b four byte = absurd (omega (arith, four))
 
 -- what `starts_with` answers of the text from place i on
-pub starts-Decides : (text needle : List ℕ) (i : ℕ) (r : Bool) → r ≡ starts_with eqb (take (length text - i) (drop i text)) needle → Decides r (StandsWhole needle text i)
+pub starts-Decides : (text needle : List ℕ) (i : ℕ) (r : Bool) → r ≡ starts_with eqb (take (length text - i) (drop i text)) needle
+    → Decides r (StandsWhole needle text i)
 starts-Decides text needle i r e =
     let d = bytes_eq-Decides needle (take (length needle) (drop i text)) in
     let at : r ≡ bytes_eq needle (take (length needle) (drop i text)) = e ∙ ap (λ xs. starts_with eqb xs needle) (take_rest text i) in
     (λ t. sym (d.0 (sym at ∙ t)), λ h. at ∙ d.1 (sym h))
 
 -- the needle stands at the first place where `starts_with` answers true
-pub stands_first : (text needle : List ℕ) (i : ℕ) → ((k : ℕ) → k < i → ¬ (StandsWhole needle text k)) → i ≤ length text → StandsWhole needle text i → IsLeastAt (StandsWhole needle text) (length text) i
+pub stands_first : (text needle : List ℕ) (i : ℕ) → ((k : ℕ) → k < i → ¬ (StandsWhole needle text k)) → i ≤ length text
+    → StandsWhole needle text i → IsLeastAt (StandsWhole needle text) (length text) i
 stands_first text needle i none inside whole = record { within = inside; stands = whole; before = none }

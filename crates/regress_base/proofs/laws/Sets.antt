@@ -109,7 +109,8 @@ from-member p low (suc n) c h from to =
           ap (λ l. is_member l c) (from-passes p low n passes) ∙ put_before-member low c rest can
           ∙ elim (cases_eq c low) [
             | inl here ↦ or_left _ _ (eq-eqb c low here) ∙ sym passes ∙ ap p (sym here)
-            | inr later ↦ ap (λ t. t || is_member rest c) (ne_eqb c low later) ∙ from-member p (low + 1) n c (omega arith) (omega arith) (omega arith)
+            | inr later ↦ ap (λ t. t || is_member rest c) (ne_eqb c low later)
+                ∙ from-member p (low + 1) n c (omega arith) (omega arith) (omega arith)
           ]
       | inr fails ↦
           ap (λ l. is_member l c) (from-fails p low n fails)
@@ -130,7 +131,8 @@ unfolding intervals_of
 intervals_of-member p c h = from-member p 0 (code_point_max + 1) c (omega arith) (omega arith) (omega arith)
 
 -- a canonical list with the members that pass is the list of them
-pub canonical_is : (xs : List Bounds) (p : ℕ → Bool) → IsCanonical xs → ((c : ℕ) → c ≤ code_point_max → is_member xs c ≡ p c) → xs ≡ intervals_of p
+pub canonical_is : (xs : List Bounds) (p : ℕ → Bool) → IsCanonical xs → ((c : ℕ) → c ≤ code_point_max → is_member xs c ≡ p c)
+    → xs ≡ intervals_of p
 canonical_is xs p can same =
     canonical_unique xs (intervals_of p) can (intervals_of-canonical p) (λ c h. same c h ∙ sym (intervals_of-member p c h))
 

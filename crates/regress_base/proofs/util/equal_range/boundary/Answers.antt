@@ -21,7 +21,7 @@ loop-low-preserved-then-lt g c =
       in_bounds = omega arith;
       computes = λ ord h. (told ord h).1;
       narrowed = λ ord h rising before. narrowed-lower ord c.args.s.now n c.loop-low.low c.loop-low.high mid rising (omega arith)
-      (λ d. let here = (told ord h).0 d in omega (arith, here, less)) (c.loop-low.invariant.narrowed ord h rising before);
+          (λ d. let here = (told ord h).0 d in omega (arith, here, less)) (c.loop-low.invariant.narrowed ord h rising before);
     }
 
 pub loop-low-preserved : goal.loop-low-preserved
@@ -39,5 +39,5 @@ loop-low-preserved g c =
       in_bounds = omega arith;
       computes = λ ord h. (told ord h).1;
       narrowed = λ ord h rising before. narrowed-upper ord c.args.s.now n c.loop-low.low c.loop-low.high mid rising
-      (λ d. let here = (told ord h).0 d in omega (arith, here, least)) (c.loop-low.invariant.narrowed ord h rising before);
+          (λ d. let here = (told ord h).0 d in omega (arith, here, least)) (c.loop-low.invariant.narrowed ord h rising before);
     }

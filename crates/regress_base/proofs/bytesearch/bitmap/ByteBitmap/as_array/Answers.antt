@@ -9,11 +9,13 @@ loop-b-init g c = IsFilled-none (contains c.args.self.now) g.row.N
 
 pub bounds-array-len : goal.bounds-array-len
 bounds-array-len g c =
-    IsFilled-room (contains c.args.self.now) g.row.N c.loop-b.b c.loop-b.len c.loop-b.array c.loop-b.invariant (sym c.contains.ensures ∙ c.if-contains.true) (omega arith) c.requires
+    IsFilled-room (contains c.args.self.now) g.row.N c.loop-b.b c.loop-b.len c.loop-b.array c.loop-b.invariant
+    (sym c.contains.ensures ∙ c.if-contains.true) (omega arith) c.requires
 
 pub overflow_add-len : goal.overflow_add-len
 overflow_add-len g c =
-    let room = IsFilled-room (contains c.args.self.now) g.row.N c.loop-b.b c.loop-b.len c.loop-b.array c.loop-b.invariant (sym c.contains.ensures ∙ c.if-contains.true) (omega arith) c.requires in
+    let room = IsFilled-room (contains c.args.self.now) g.row.N c.loop-b.b c.loop-b.len c.loop-b.array c.loop-b.invariant
+    (sym c.contains.ensures ∙ c.if-contains.true) (omega arith) c.requires in
     omega (arith, g.N.fits)
 
 pub loop-b-preserved : goal.loop-b-preserved

@@ -20,7 +20,8 @@ loop-word-preserved c =
     let len : length c.loop-word.self.words ≡ 16 = search rules in
     λ k.
     let inside = leb c.args.first k && leb k c.args.last in
-    run_joins c.loop-word.self c.args.first c.args.last c.loop-word.word _ _ c.bits_between.result k len (omega arith) run c.bits_between.ensures
+    run_joins c.loop-word.self c.args.first c.args.last c.loop-word.word _ _ c.bits_between.result k len (omega arith) run
+    c.bits_between.ensures
     ∙ ap (λ t. (inside && eqb (k / 16) c.loop-word.word) || t) (c.loop-word.invariant k)
     ∙ run_more inside (contains c.args.self.now k) k c.loop-word.word
 
