@@ -26,7 +26,8 @@ read_index ord xs i x r d inside read answer =
 
 -- both at once, for a closure that computes an order
 pub answered : {F X : Type 0} (g : Mut F (Bor X × Unit {0}) Ordering) (ord : X → Ordering) (xs : List X)
-    → (i : ℕ) (f f' : F) (a : Bor X) (r : Ordering) → i < length xs → a.now ≡ get_or xs i a.now → Called g f (a, tt) r f' → ComputesKey g ord f
+    → (i : ℕ) (f f' : F) (a : Bor X) (r : Ordering) → i < length xs → a.now ≡ get_or xs i a.now
+    → Called g f (a, tt) r f' → ComputesKey g ord f
     → ((d : X) → ordering_index r ≡ ordering_index (ord (get_or xs i d))) × ComputesKey g ord f'
 answered g ord xs i f f' a r inside read call computes =
     let both = answers_next g _ f (a, tt) r f' call computes in
