@@ -1,3 +1,4 @@
+pub mod FoldRows
 pub mod Table
 pub mod TableOf
 pub mod Tree

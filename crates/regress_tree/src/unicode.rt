@@ -1,5 +1,11 @@
 //! The table of the characters' cases, classes and properties.
 
+mod fold_range;
+mod images;
+mod range;
+
+pub use fold_range::FoldRange;
+pub use range::CodePointRange;
 use std::alloc::{AllocError, Global};
 
 /// What a pattern needs to know of Unicode: how characters fold, and which have a property.

@@ -1,0 +1,2 @@
+pub mod PackingLemmas
+pub mod RowLemmas
