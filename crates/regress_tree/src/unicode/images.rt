@@ -1,7 +1,9 @@
 //! Images under the rows of a table.
 ghost use Rattle.std.specs.Prelude.{◌≡◌, ℕ, IsTrue};
 ghost use Rattle.regress_tree.specs.FoldRows.{image as image_of, is_in_order, are_targets_in_range};
+ghost use Rattle.regress_tree.specs.TableOf.{table_of};
 
+use super::Tables;
 use super::fold_range::FoldRange;
 
 /// The image of `c` under the rows. A binary search.
@@ -14,4 +16,18 @@ pub(super) fn image(rows: &[FoldRange], c: u32) -> u32
         Ok(place) => rows[place].apply(c),
         Err(_) => c,
     }
+}
+
+/// The simple case folding of `c`. A binary search in the rows.
+pub fn fold(c: u32, tables: &Tables) -> u32
+    ensures { result ≡ (table_of tables.now).fold c }
+{
+    image(&tables.folds, c)
+}
+
+/// The simple upper case of `c`. A binary search in the rows.
+pub fn uppercase(c: u32, tables: &Tables) -> u32
+    ensures { result ≡ (table_of tables.now).uppercase c }
+{
+    image(&tables.uppers, c)
 }
