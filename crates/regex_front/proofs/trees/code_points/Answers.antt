@@ -2,7 +2,7 @@ use Rattle.std.proofs.Common.{sym, ◌∙◌}
 use Rattle.std.proofs.lemmas.Iterator.{YieldsList-from_chars}
 use Rattle.std.proofs.lemmas.Iterator.Consumers.{YieldsList-end}
 use Rattle.std.proofs.lemmas.List.{map-id}
-use Rattle.regex_front.proofs.front.code_points.Goals as goal
+use Rattle.regex_front.proofs.trees.code_points.Goals as goal
 
 pub returns-clause-characters : goal.returns-clause-characters
 returns-clause-characters c =
