@@ -1,5 +1,5 @@
 use Rattle.std.proofs.Common.{◌≡◌, ◌≤◌, All}
-use Rattle.regex_front.proofs.front.code_points.Given as goal
+use Rattle.regress_front.proofs.tests.caller.code_points.Given as goal
 
 -- the characters so far, each at most U+10FFFF
 abbrev pub invariant-loop-c : goal.invariant-loop-c
