@@ -4,7 +4,7 @@ use Rattle.regress_base.specs.declared.types.Flags.{Flags}
 use Rattle.regress_tree.specs.Reading.{forwards, backwards}
 use Rattle.regress_tree.specs.Shapes.{is_flattened_away}
 use Rattle.regress_tree.specs.Steps.{one_character, capture as captures, same_state}
-use Rattle.regress_tree.X
+use Rattle.regress_tree.specs.SmallTable.{small_table}
 use Rattle.regress_tree.specs.Tree.{Tree, Trees, leaf, empty, goal, char, cat, alt, wrapped, capture_group, no_trees, more_trees}
 use Rattle.regress_tree.specs.Matching.{Setting}
 use Rattle.regress_tree.specs.Units.{units}
