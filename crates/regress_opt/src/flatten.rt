@@ -63,10 +63,10 @@ fn splice(alloc: Global, parts: &mut NodeList) -> Result<(), AllocError>
 {
     let mut flat = Vec::with_capacity(alloc, spliced_len(parts)?)?;
     // There is room: nothing fails from here on.
-    for part in mem::replace(parts, Vec::new(alloc)) {
-        match part {
-            Node::Cat(mut inner) => flat.append(&mut inner)?,
-            other => flat.push(other)?,
+    for mut part in mem::replace(parts, Vec::new(alloc)) {
+        match &mut part {
+            Node::Cat(inner) => flat.append(inner)?,
+            _ => flat.push(part)?,
         }
     }
     *parts = flat;

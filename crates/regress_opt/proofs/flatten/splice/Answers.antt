@@ -1,5 +1,5 @@
 -- The parts moved so far are the first ones, so there is room for the next.
-use Rattle.std.proofs.Common.{◌≡◌, ◌∙◌, false, rules, arith, ap, le_trans}
+use Rattle.std.proofs.Common.{◌≡◌, ◌∙◌, false, rules, arith, ap, ◌++◌, vec_len, le_trans}
 use Rattle.std.proofs.lemmas.Iterator.Adapters.{YieldsList-from_vec}
 use Rattle.std.proofs.lemmas.Iterator.Consumers.{YieldsList-turn}
 use Rattle.regress_tree.specs.declared.ir.node.Node.{the_lemmas}
@@ -16,7 +16,7 @@ returns-in_err-append-in-Cat-clause-err c =
     let fits = moved_fits c.args.parts.now.items l.yielded c.in-Some.part l.invariant.before turn.0 turn.1 in
     let len = moved_len l.flat.items l.yielded l.invariant.items in
     let more = parts_len-Cat c.in-Some.part c.in-Cat.inner c.in-Cat.is in
-    absurd (omega (arith, fits, len, more, l.flat.ok.0, l.invariant.room, c.in_err-append-in-Cat.ensures.full))
+    absurd (omega (arith, fits, len, more, l.flat.ok.0, l.invariant.room, ap vec_len c.in-Cat.inner-is, c.in_err-append-in-Cat.ensures.full))
 
 pub returns-in_err-push-in_default : goal.returns-in_err-push-in_default
 returns-in_err-push-in_default c =
@@ -29,13 +29,15 @@ returns-in_err-push-in_default c =
     let more = parts_len-other c.in-Some.part other in
     absurd (omega (arith, fits, len, more, l.flat.ok.0, l.invariant.room, c.in_err-push-in_default.ensures.full))
 
-pub loop-part-preserved-in-Cat : goal.loop-part-preserved-in-Cat
-loop-part-preserved-in-Cat c =
+pub loop-part-preserved-in-Cat-1 : goal.loop-part-preserved-in-Cat-1
+loop-part-preserved-in-Cat-1 c =
     let l = c.loop-part in
     let turn = YieldsList-turn (YieldsList-from_vec {s = c.into_iter-part-iterator.result} c.args.parts.now.items (search rules) (search rules))
     l.yielded l.part-iterator l.yielded_by c.next.result c.next.new.self c.in-Some.part c.in-Some.is c.next.ensures.steps in
     record {
-      items = ap trees c.in_ok-append-in-Cat.ensures.items ∙ moved_Cat l.flat.items l.yielded c.in-Some.part c.in-Cat.inner c.in-Cat.is l.invariant.items;
+      items = ap trees c.in_ok-append-in-Cat.ensures.items
+          ∙ ap (λ inner. trees (l.flat.items ++ inner.items)) c.in-Cat.inner-is
+          ∙ moved_Cat l.flat.items l.yielded c.in-Some.part c.in-Cat.inner c.in-Cat.is l.invariant.items;
       before = moved_before c.args.parts.now.items l.yielded c.in-Some.part l.invariant.before turn.0 turn.1;
       room = le_trans l.invariant.room c.in_ok-append-in-Cat.ensures.capacity;
     }
