@@ -81,54 +81,44 @@ plain = under no_flags
 abbrev dot_all : Setting
 dot_all = under (record no_flags { dot_all = true })
 
--- the empty pattern on "ab"
 the_empty_pattern_matches_at_each_place : Gives plain [] (codes "ab")
     (from 0 (at 0 [] ∷ []) ∷ from 1 (at 1 [] ∷ []) ∷ from 2 (at 2 [] ∷ []) ∷ [])
 unfolding Gives
 the_empty_pattern_matches_at_each_place = (refl, refl)
 
--- `a` on "ab"
 a_letter_matches_itself : Gives plain (codes "a") (codes "ab") (from 0 (at 1 [] ∷ []) ∷ from 1 [] ∷ from 2 [] ∷ [])
 unfolding Gives
 a_letter_matches_itself = (refl, refl)
 
--- `ab` on "ab"
 letters_match_in_a_row : Gives plain (codes "ab") (codes "ab") (from 0 (at 2 [] ∷ []) ∷ from 1 [] ∷ from 2 [] ∷ [])
 unfolding Gives
 letters_match_in_a_row = (refl, refl)
 
--- `a|ab` on "ab"
 an_earlier_alternative_comes_first : Gives plain (codes "a|ab") (codes "ab") (from 0 (at 1 [] ∷ at 2 [] ∷ []) ∷ from 1 [] ∷ from 2 [] ∷ [])
 unfolding Gives
 an_earlier_alternative_comes_first = (refl, refl)
 
--- `ab|a` on "ab"
 a_longer_alternative_may_come_first : Gives plain (codes "ab|a") (codes "ab") (from 0 (at 2 [] ∷ at 1 [] ∷ []) ∷ from 1 [] ∷ from 2 [] ∷ [])
 unfolding Gives
 a_longer_alternative_may_come_first = (refl, refl)
 
--- `a|a` on "a"
 a_repeated_outcome_is_dropped : Gives plain (codes "a|a") (codes "a") (from 0 (at 1 [] ∷ []) ∷ from 1 [] ∷ [])
 unfolding Gives
 a_repeated_outcome_is_dropped = (refl, refl)
 
--- `(a|ab)(c|bcd)` on "abcd"
 each_way_on_keeps_its_captures : Gives plain (codes "(a|ab)(c|bcd)") (codes "abcd")
     (from 0 (at 4 (span 0 1 ∷ span 1 4 ∷ []) ∷ at 3 (span 0 2 ∷ span 2 3 ∷ []) ∷ []) ∷ from 2 [] ∷ from 4 [] ∷ [])
 unfolding Gives
 each_way_on_keeps_its_captures = (refl, refl)
 
--- `((a)|b)` on "b"
 an_inner_group_passed_by_is_unset : Gives plain (codes "((a)|b)") (codes "b") (from 0 (at 1 (span 0 1 ∷ unset ∷ []) ∷ []) ∷ from 1 [] ∷ [])
 unfolding Gives
 an_inner_group_passed_by_is_unset = (refl, refl)
 
--- `(a)|(b)` on "b"
 the_other_alternative_is_unset : Gives plain (codes "(a)|(b)") (codes "b") (from 0 (at 1 (unset ∷ span 0 1 ∷ []) ∷ []) ∷ from 1 [] ∷ [])
 unfolding Gives
 the_other_alternative_is_unset = (refl, refl)
 
--- `(|a)(|b)` on "ab"
 groups_may_capture_nothing : Gives plain (codes "(|a)(|b)") (codes "ab")
     (from 0 (at 0 (span 0 0 ∷ span 0 0 ∷ []) ∷ at 1 (span 0 1 ∷ span 1 1 ∷ []) ∷ at 2 (span 0 1 ∷ span 1 2 ∷ []) ∷ []) ∷
     from 1 (at 1 (span 1 1 ∷ span 1 1 ∷ []) ∷ at 2 (span 1 1 ∷ span 1 2 ∷ []) ∷ []) ∷
@@ -136,42 +126,34 @@ groups_may_capture_nothing : Gives plain (codes "(|a)(|b)") (codes "ab")
 unfolding Gives
 groups_may_capture_nothing = (refl, refl)
 
--- `|a|` on "a"
 empty_alternatives_match : Gives plain (codes "|a|") (codes "a") (from 0 (at 0 [] ∷ at 1 [] ∷ []) ∷ from 1 (at 1 [] ∷ []) ∷ [])
 unfolding Gives
 empty_alternatives_match = (refl, refl)
 
--- `.` on U+000A
 dot_stops_at_a_line_feed : Gives plain (codes ".") (0xA ∷ []) (from 0 [] ∷ from 1 [] ∷ [])
 unfolding Gives
 dot_stops_at_a_line_feed = (refl, refl)
 
--- `.` with the flag s on U+000A
 dot_takes_a_line_feed_with_s : Gives dot_all (codes ".") (0xA ∷ []) (from 0 (at 1 [] ∷ []) ∷ from 1 [] ∷ [])
 unfolding Gives
 dot_takes_a_line_feed_with_s = (refl, refl)
 
--- `.` on U+2028
 dot_stops_at_a_line_separator : Gives plain (codes ".") (0x2028 ∷ []) (from 0 [] ∷ from 1 [] ∷ [])
 unfolding Gives
 dot_stops_at_a_line_separator = (refl, refl)
 
--- `.` on U+0085
 dot_takes_a_next_line : Gives plain (codes ".") (0x85 ∷ []) (from 0 (at 1 [] ∷ []) ∷ from 1 [] ∷ [])
 unfolding Gives
 dot_takes_a_next_line = (refl, refl)
 
--- `.b` on U+00E9 and then "b"
 dot_takes_two_bytes : Gives plain (codes ".b") (0xE9 ∷ 98 ∷ []) (from 0 (at 2 [] ∷ []) ∷ from 1 [] ∷ from 2 [] ∷ [])
 unfolding Gives
 dot_takes_two_bytes = (refl, refl)
 
--- `..` with the flag s on U+1F600 and then "a"
 dot_takes_four_bytes : Gives dot_all (codes "..") (0x1F600 ∷ 97 ∷ []) (from 0 (at 2 [] ∷ []) ∷ from 1 [] ∷ from 2 [] ∷ [])
 unfolding Gives
 dot_takes_four_bytes = (refl, refl)
 
--- `(?:a|(b))(?:c|(d))` on "bd"
 groups_stand_inside_groupings : Gives plain (codes "(?:a|(b))(?:c|(d))") (codes "bd")
     (from 0 (at 2 (span 0 1 ∷ span 1 2 ∷ []) ∷ []) ∷ from 1 [] ∷ from 2 [] ∷ [])
 unfolding Gives
