@@ -3,7 +3,7 @@ use Rattle.std.proofs.Common.{◌≡◌, ℕ, false, true, [], ◌∷◌, Some, 
 use Rattle.regress_tree.specs.Reading.{forwards, backwards}
 use Rattle.regress_tree.specs.Shapes.{is_flattened_away}
 use Rattle.regress_tree.specs.Steps.{one_character, capture as captures, same_state}
-use Rattle.regress_tree.specs.Table.{Table, empty_table}
+use Rattle.regress_tree.specs.Table.{Table}
 use Rattle.regress_tree.specs.Tree.{Tree, Trees, leaf, empty, goal, char, cat, alt, wrapped, capture_group, no_trees, more_trees}
 use Rattle.regress_tree.specs.Units.{units}
 use Rattle.regress_syntax.specs.Meaning.{meaning}
@@ -12,7 +12,7 @@ use Rattle.regress_syntax.specs.Syntax.{Pattern, Terms, Item, one, either, no_te
 use Rattle.regress_parse.specs.Reader.{read_terms, pattern_at}
 use Rattle.regress_parse.specs.TreeOf.{tree_of, tree_of_pattern}
 use Rattle.regress_parse.specs.Parsing.{context}
-use Rattle.regress_parse.proofs.Meanings.{no_flags, plain}
+use Rattle.regress_parse.proofs.Meanings.{no_flags, empty_table, plain}
 
 abbrev letter : ℕ → Item
 letter c = atom (literal no_flags c)

@@ -8,7 +8,7 @@ use Rattle.regress_base.specs.declared.types.Flags.{Flags}
 use Rattle.regress_base.specs.Intervals.{is_member, is_within}
 use Rattle.regress_tree.specs.Reading.{forwards, byte_place, character_at, read_after}
 use Rattle.regress_tree.specs.Steps.{Span, State, byte_state, one_character, capture as captures, same_state}
-use Rattle.regress_tree.specs.Table.{empty_table}
+use Rattle.regress_tree.specs.Table.{Table}
 use Rattle.regress_tree.specs.Matching.{Setting, matches}
 use Rattle.regress_syntax.specs.Meaning.{meaning}
 use Rattle.regress_syntax.specs.Rows.{head_at, times_at}
@@ -21,9 +21,22 @@ use Rattle.regress_parse.specs.Parsing.{context}
 abbrev pub no_flags : Flags
 no_flags = record { icase = false; multiline = false; dot_all = false; unicode = false; unicode_sets = false }
 
--- over the table in which each character is its own image
-abbrev pub under : Flags → Setting
-under flags = record { flags = flags; table = empty_table }
+-- each character is its own image, and nothing has a name
+abbrev pub empty_table : Table
+empty_table = record {
+  fold = λ c. c;
+  uppercase = λ c. c;
+  id_start = [];
+  id_continue = [];
+  general_category = [];
+  script = [];
+  script_extensions = [];
+  binary = [];
+  strings = [];
+}
+
+abbrev pub plain : Setting
+plain = record { flags = no_flags; table = empty_table }
 
 -- the pattern that the whole source is
 abbrev pub whole : Found Pattern → Option Pattern
@@ -75,11 +88,8 @@ span first last = Some (first, last)
 
 -- ---- without flags, and with s
 
-abbrev pub plain : Setting
-plain = under no_flags
-
 abbrev dot_all : Setting
-dot_all = under (record no_flags { dot_all = true })
+dot_all = record plain { flags = record no_flags { dot_all = true } }
 
 the_empty_pattern_matches_at_each_place : Gives plain [] (codes "ab")
     (from 0 (at 0 [] ∷ []) ∷ from 1 (at 1 [] ∷ []) ∷ from 2 (at 2 [] ∷ []) ∷ [])
