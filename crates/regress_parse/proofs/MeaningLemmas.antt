@@ -2,7 +2,8 @@
 use Rattle.std.proofs.Common.{◌≡◌, ℕ, ◌+◌, Bool, true, false, cond, not, ◌||◌, ◌==◌, List, Option, Some, None, encode_utf8_all, refl, sym, ap, ◌∙◌}
 use Rattle.regress_tree.specs.Reading.{Direction, forwards, backwards, IsText, of_characters}
 use Rattle.regress_tree.specs.Steps.{State, Step, byte_state, distinct, stay, ◌then_◌, one_character}
-use Rattle.regress_tree.specs.Matching.{Setting, is_line_terminator, steps, steps_in_row}
+use Rattle.regress_tree.specs.Matching.{Setting, steps, steps_in_row}
+use Rattle.regress_tree.specs.Assertions.{is_line_terminator}
 use Rattle.regress_tree.specs.Tree.{Tree, Trees, leaf, no_trees, more_trees, match_any, match_any_except_line_terminator}
 use Rattle.regress_syntax.specs.Syntax.{Atom, literal, dot, Group, grouping, capture, Quantifier, Pattern, Terms, Item, one, either, no_terms, more_terms, atom, group, opened_by, counts_of_term, counts_of_terms}
 use Rattle.regress_syntax.specs.Meaning.{in_order, direction_of_group, group_steps, times_steps, atom_steps, pattern_steps, terms_steps, item_steps}
@@ -10,7 +11,7 @@ use Rattle.regress_parse.specs.TreeOf.{turned, joined, tree_of_group, tree_of_ti
 use Rattle.regress_parse.specs.Accepted.{Means}
 use Rattle.regress_tree.proofs.laws.ByteStates.{distinct-byte_state}
 use Rattle.regress_tree.proofs.laws.Outcomes.{flat_map-stay}
-use Rattle.regress_tree.proofs.laws.Simulation.{Simulates, Simulates-same_right, Simulates-stay, Simulates-then, Simulates-or, Simulates-one_character, Simulates-capture}
+use Rattle.regress_tree.proofs.laws.Simulation.{Simulates, Simulates-within, Simulates-same_right, Simulates-stay, Simulates-then, Simulates-or, Simulates-one_character, Simulates-capture}
 use Rattle.regress_tree.proofs.laws.Turned.{steps-row_reverse}
 
 module _ (setting : Setting) (bytes : List ℕ) (d : Direction) where
@@ -38,63 +39,63 @@ module _ (setting : Setting) (bytes : List ℕ) (d : Direction) where
   steps-turned forwards t ts s = refl
   steps-turned backwards t ts s = steps-row_reverse setting bytes d t ts s
 
-Simulates-in_order : (text : List ℕ) (d : Direction) (f g h k : Step) → Simulates text f g → Simulates text h k →
-    Simulates text (in_order d f h) (in_order d g k)
-Simulates-in_order text forwards f g h k first second = Simulates-then text f g h k first second
-Simulates-in_order text backwards f g h k first second = Simulates-then text h k f g second first
+Simulates-in_order : (text : List ℕ) (d e : Direction) (f g h k : Step) → Simulates text e f g → Simulates text e h k →
+    Simulates text e (in_order d f h) (in_order d g k)
+Simulates-in_order text forwards e f g h k first second = Simulates-then text e f g h k first second
+Simulates-in_order text backwards e f g h k first second = Simulates-then text e h k f g second first
 
 module _ (setting : Setting) (text : List ℕ) where
   -- a group does what its tree does, if what it holds does
   group_simulates : (d : Direction) (n : ℕ) (kind : Group) (f : Step) (body : Tree) →
-      Simulates text f (steps setting (encode_utf8_all text) (direction_of_group kind d) body) →
-      Simulates text (group_steps n kind f) (steps setting (encode_utf8_all text) d (tree_of_group n kind body))
+      Simulates text (direction_of_group kind d) f (steps setting (encode_utf8_all text) (direction_of_group kind d) body) →
+      Simulates text d (group_steps n kind f) (steps setting (encode_utf8_all text) d (tree_of_group n kind body))
   group_simulates d n grouping f body sim = sim
-  group_simulates d n (capture name) f body sim = Simulates-capture text n _ _ sim
+  group_simulates d n (capture name) f body sim = Simulates-capture text d n _ _ sim
 
   -- and so does an item with its quantifier
   times_simulate : (d : Direction) (q : Option Quantifier) (f : Step) (body : Tree) →
-      Simulates text f (steps setting (encode_utf8_all text) d body) →
-      Simulates text (times_steps q f) (steps setting (encode_utf8_all text) d (tree_of_times q body))
+      Simulates text d f (steps setting (encode_utf8_all text) d body) →
+      Simulates text d (times_steps q f) (steps setting (encode_utf8_all text) d (tree_of_times q body))
   times_simulate d None f body sim = sim
   times_simulate d (Some q) f body sim = elim q [ ]
 
 module _ (setting : Setting) (text : List ℕ) (is_text : IsText text) where
   dot_simulates : (d : Direction) (dot_all : Bool) →
-      Simulates text (one_character d (of_characters text) (λ x. dot_all || not (is_line_terminator x)))
+      Simulates text d (one_character d (of_characters text) (λ x. dot_all || not (is_line_terminator x)))
       (steps setting (encode_utf8_all text) d (leaf (cond dot_all match_any match_any_except_line_terminator)))
   dot_simulates d true = Simulates-one_character text is_text d (λ x. true)
   dot_simulates d false = Simulates-one_character text is_text d (λ x. not (is_line_terminator x))
 
   atom_simulates : (d : Direction) (a : Atom) →
-      Simulates text (atom_steps setting.table text d a) (steps setting (encode_utf8_all text) d (leaf (leaf_of_atom setting.table a)))
+      Simulates text d (atom_steps setting.table text d a) (steps setting (encode_utf8_all text) d (leaf (leaf_of_atom setting.table a)))
   atom_simulates d (literal flags c) = Simulates-one_character text is_text d (λ x. x == c)
   atom_simulates d (dot flags) = dot_simulates d flags.dot_all
 
   mutual
     -- equal with repeats, whatever stands before
     pub pattern_simulates : (d : Direction) (n : ℕ) (p : Pattern) →
-        Simulates text (pattern_steps setting.table text d n p) (steps setting (encode_utf8_all text) d (tree_of_pattern setting.table d n p))
+        Simulates text d (pattern_steps setting.table text d n p) (steps setting (encode_utf8_all text) d (tree_of_pattern setting.table d n p))
     pattern_simulates d n (one ts) =
-        Simulates-same_right text _ _ _ (steps-joined setting (encode_utf8_all text) d d (trees_of_terms setting.table d n ts)) (terms_simulate d n ts)
+        Simulates-same_right text d _ _ _ (steps-joined setting (encode_utf8_all text) d d (trees_of_terms setting.table d n ts)) (terms_simulate d n ts)
     pattern_simulates d n (either ts p) =
-        Simulates-or text _ _ _ _
-        (Simulates-same_right text _ _ _ (steps-joined setting (encode_utf8_all text) d d (trees_of_terms setting.table d n ts)) (terms_simulate d n ts))
+        Simulates-or text d _ _ _ _
+        (Simulates-same_right text d _ _ _ (steps-joined setting (encode_utf8_all text) d d (trees_of_terms setting.table d n ts)) (terms_simulate d n ts))
         (pattern_simulates d (n + (counts_of_terms ts).groups) p)
 
     terms_simulate : (d : Direction) (n : ℕ) (ts : Terms) →
-        Simulates text (terms_steps setting.table text d n ts)
+        Simulates text d (terms_steps setting.table text d n ts)
         (steps_in_row setting (encode_utf8_all text) d (turned d (trees_of_terms setting.table d n ts)))
-    terms_simulate d n no_terms = Simulates-same_right text _ _ _ (steps-turned_none setting (encode_utf8_all text) d d) (Simulates-stay text)
+    terms_simulate d n no_terms = Simulates-same_right text d _ _ _ (steps-turned_none setting (encode_utf8_all text) d d) (Simulates-stay text d)
     terms_simulate d n (more_terms x q xs) =
-        Simulates-same_right text _ _ _
+        Simulates-same_right text d _ _ _
         (steps-turned setting (encode_utf8_all text) d d (tree_of_times q (tree_of_item setting.table d n x))
         (trees_of_terms setting.table d (n + (counts_of_term x q).groups) xs))
-        (Simulates-in_order text d _ _ _ _
+        (Simulates-in_order text d d _ _ _ _
         (times_simulate setting text d q _ (tree_of_item setting.table d n x) (item_simulates d n x))
         (terms_simulate d (n + (counts_of_term x q).groups) xs))
 
     item_simulates : (d : Direction) (n : ℕ) (x : Item) →
-        Simulates text (item_steps setting.table text d n x) (steps setting (encode_utf8_all text) d (tree_of_item setting.table d n x))
+        Simulates text d (item_steps setting.table text d n x) (steps setting (encode_utf8_all text) d (tree_of_item setting.table d n x))
     item_simulates d n (atom a) = atom_simulates d a
     item_simulates d n (group kind p) =
         group_simulates setting text d n kind _ (tree_of_pattern setting.table (direction_of_group kind d) (n + opened_by kind) p)
@@ -106,4 +107,4 @@ tree_of-means setting p text s is_text in' =
     let sim = pattern_simulates setting text is_text forwards 0 p in
     ap distinct
     (flat_map-stay (steps setting (encode_utf8_all text) forwards (tree_of_pattern setting.table forwards 0 p) (byte_state text s)) ∙ sim.same s in')
-    ∙ distinct-byte_state text (pattern_steps setting.table text forwards 0 p s) (sim.within s in')
+    ∙ distinct-byte_state text (pattern_steps setting.table text forwards 0 p s) (Simulates-within text forwards _ _ sim s in')
