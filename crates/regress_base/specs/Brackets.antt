@@ -1,8 +1,11 @@
 -- What a bracket accepts.
-use Rattle.std.specs.Prelude.{ℕ, Bool, not, if◌then◌else◌}
-use Rattle.regress_base.specs.Intervals.{is_member}
+use Rattle.std.specs.Prelude.{ℕ, Bool, not, List, if◌then◌else◌}
+use Rattle.regress_base.specs.Intervals.{Bounds, is_member}
 use Rattle.regress_base.specs.declared.types.bracket.BracketContents.{BracketContents}
 
 -- membership and `invert` differ
+abbrev pub is_accepted : (invert : Bool) → List Bounds → ℕ → Bool
+is_accepted invert intervals c = if invert then not (is_member intervals c) else is_member intervals c
+
 abbrev pub accepts : BracketContents → ℕ → Bool
-accepts contents c = if contents.invert then not (is_member contents.cps c) else is_member contents.cps c
+accepts contents = is_accepted contents.invert contents.cps

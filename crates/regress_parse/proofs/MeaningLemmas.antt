@@ -2,7 +2,8 @@
 use Rattle.std.proofs.Common.{◌≡◌, ℕ, ◌+◌, Bool, true, false, cond, not, ◌||◌, ◌==◌, List, Option, Some, None, encode_utf8_all, refl, sym, ap, ◌∙◌}
 use Rattle.regress_tree.specs.Reading.{Direction, forwards, backwards, IsText, of_characters}
 use Rattle.regress_tree.specs.Steps.{State, Step, byte_state, distinct, stay, one_character}
-use Rattle.regress_tree.specs.Matching.{Setting, is_line_terminator, steps, steps_in_row}
+use Rattle.regress_tree.specs.Matching.{Setting, steps, steps_in_row}
+use Rattle.regress_tree.specs.Assertions.{is_line_terminator}
 use Rattle.regress_tree.specs.Tree.{Tree, Trees, leaf, no_trees, more_trees, match_any, match_any_except_line_terminator}
 use Rattle.regress_syntax.specs.Syntax.{Atom, literal, dot, Group, grouping, capture, Quantifier, Pattern, Terms, Item, one, either, no_terms, more_terms, atom, group, opened_by, counts_of_term, counts_of_terms}
 use Rattle.regress_syntax.specs.Meaning.{in_order, direction_of_group, group_steps, times_steps, atom_steps, pattern_steps, terms_steps, item_steps}
@@ -38,35 +39,35 @@ module _ (setting : Setting) (bytes : List ℕ) (d : Direction) where
   steps-turned forwards t ts s = refl
   steps-turned backwards t ts s = steps-row_reverse setting bytes d t ts s
 
-Simulates-in_order : (text : List ℕ) (d : Direction) (f g h k : Step) → Simulates text f g → Simulates text h k →
-    Simulates text (in_order d f h) (in_order d g k)
-Simulates-in_order text forwards f g h k first second = Simulates-then text f g h k first second
-Simulates-in_order text backwards f g h k first second = Simulates-then text h k f g second first
+Simulates-in_order : (text : List ℕ) (d e : Direction) (f g h k : Step) → Simulates text e f g → Simulates text e h k →
+    Simulates text e (in_order d f h) (in_order d g k)
+Simulates-in_order text forwards e f g h k first second = Simulates-then text e f g h k first second
+Simulates-in_order text backwards e f g h k first second = Simulates-then text e h k f g second first
 
 module _ (setting : Setting) (text : List ℕ) where
   -- Over the bytes the tree, or the row turned, does what the step does over the characters.
   abbrev pub TreeSimulates : Direction → Step → Tree → Type 0
-  TreeSimulates d f t = Simulates text f (steps setting (encode_utf8_all text) d t)
+  TreeSimulates d f t = Simulates text d f (steps setting (encode_utf8_all text) d t)
 
   abbrev RowSimulates : Direction → Step → Trees → Type 0
-  RowSimulates d f ts = Simulates text f (steps_in_row setting (encode_utf8_all text) d (turned d ts))
+  RowSimulates d f ts = Simulates text d f (steps_in_row setting (encode_utf8_all text) d (turned d ts))
 
   joined_simulates : (d : Direction) (f : Step) (row : Trees) → RowSimulates d f row → TreeSimulates d f (joined d row)
-  joined_simulates d f row sim = Simulates-same_right text _ _ _ (steps-joined setting (encode_utf8_all text) d d row) sim
+  joined_simulates d f row sim = Simulates-same_right text d _ _ _ (steps-joined setting (encode_utf8_all text) d d row) sim
 
   none_simulate : (d : Direction) → RowSimulates d stay no_trees
-  none_simulate d = Simulates-same_right text _ _ _ (steps-turned_none setting (encode_utf8_all text) d d) (Simulates-stay text)
+  none_simulate d = Simulates-same_right text d _ _ _ (steps-turned_none setting (encode_utf8_all text) d d) (Simulates-stay text d)
 
   more_simulate : (d : Direction) (f g : Step) (t : Tree) (ts : Trees) → TreeSimulates d f t → RowSimulates d g ts →
       RowSimulates d (in_order d f g) (more_trees t ts)
   more_simulate d f g t ts first others =
-      Simulates-same_right text _ _ _ (steps-turned setting (encode_utf8_all text) d d t ts)
-      (Simulates-in_order text d _ _ _ _ first others)
+      Simulates-same_right text d _ _ _ (steps-turned setting (encode_utf8_all text) d d t ts)
+      (Simulates-in_order text d d _ _ _ _ first others)
 
   group_simulates : (d : Direction) (n : ℕ) (kind : Group) (f : Step) (body : Tree) → TreeSimulates (direction_of_group kind d) f body →
       TreeSimulates d (group_steps n kind f) (tree_of_group n kind body)
   group_simulates d n grouping f body sim = sim
-  group_simulates d n (capture name) f body sim = Simulates-capture text n _ _ sim
+  group_simulates d n (capture name) f body sim = Simulates-capture text d n _ _ sim
 
   times_simulate : (d : Direction) (q : Option Quantifier) (f : Step) (body : Tree) → TreeSimulates d f body →
       TreeSimulates d (times_steps q f) (tree_of_times q body)
@@ -91,7 +92,7 @@ module _ (setting : Setting) (text : List ℕ) (is_text : IsText text) where
         TreeSimulates setting text d (pattern_steps setting.table text d n p) (tree_of_pattern setting.table d n p)
     pattern_simulates d n (one ts) = joined_simulates setting text d _ (trees_of_terms setting.table d n ts) (terms_simulate d n ts)
     pattern_simulates d n (either ts p) =
-        Simulates-or text _ _ _ _ (joined_simulates setting text d _ (trees_of_terms setting.table d n ts) (terms_simulate d n ts))
+        Simulates-or text d _ _ _ _ (joined_simulates setting text d _ (trees_of_terms setting.table d n ts) (terms_simulate d n ts))
         (pattern_simulates d (n + (counts_of_terms ts).groups) p)
 
     terms_simulate : (d : Direction) (n : ℕ) (ts : Terms) →

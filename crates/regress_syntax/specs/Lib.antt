@@ -7,4 +7,5 @@ pub mod Reads
 pub mod Views
 pub mod Digits
 pub mod Escapes
+pub mod Quantifiers
 pub mod ClassRows

@@ -4,7 +4,7 @@ use Rattle.regress_base.specs.declared.types.Flags.{Flags}
 use Rattle.regress_tree.specs.Reading.{Direction, forwards, backwards, of_characters}
 use Rattle.regress_tree.specs.Steps.{Step, distinct, stay, ◌then_◌, ◌or_◌, one_character, capture as captures}
 use Rattle.regress_tree.specs.Table.{Table}
-use Rattle.regress_tree.specs.Matching.{is_line_terminator}
+use Rattle.regress_tree.specs.Assertions.{is_line_terminator}
 use Rattle.regress_syntax.specs.Syntax.{Atom, literal, dot, Group, grouping, capture, Quantifier, Pattern, Terms, Item, one, either, no_terms, more_terms, atom, group, opened_by, counts_of_terms, counts_of_term}
 
 -- a character matches the literal c: without the flag i, it is c

@@ -1,5 +1,6 @@
 -- Laws of this crate's definitions, which the crates above may cite.
 pub mod Alike
+pub mod Assertions
 pub mod ByteStates
 pub mod Characters
 pub mod Distinct
@@ -7,6 +8,7 @@ pub mod Nodes
 pub mod Outcomes
 pub mod Places
 pub mod Readings
+pub mod Repetition
 pub mod Rows
 pub mod Simulation
 pub mod Turned

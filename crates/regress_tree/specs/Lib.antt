@@ -7,6 +7,8 @@ pub mod TableOf
 pub mod Tree
 pub mod Reading
 pub mod Steps
+pub mod Assertions
+pub mod Repetition
 pub mod Matching
 pub mod Walk
 pub mod WellFormed

@@ -1,22 +1,19 @@
 -- What a tree matches, over the bytes of a text.
-use Rattle.std.specs.Prelude.{ℕ, Bool, true, not, ◌==◌, List}
+use Rattle.std.specs.Prelude.{ℕ, ◌+◌, Bool, true, not, ◌==◌, List, length}
 use Rattle.std.specs.List.{list_any}
-use Rattle.regress_base.specs.Classes.{line_terminators}
-use Rattle.regress_base.specs.Intervals.{is_member}
+use Rattle.regress_base.specs.Brackets.{is_accepted}
 use Rattle.regress_base.specs.declared.types.Flags.{Flags}
 use Rattle.regress_tree.specs.Table.{Table}
 use Rattle.regress_tree.specs.Reading.{Direction, of_bytes}
-use Rattle.regress_tree.specs.Steps.{Step, distinct, stay, ◌then_◌, ◌or_◌, one_character, these_bytes, capture}
-use Rattle.regress_tree.specs.Tree.{Leaf, empty, goal, char, byte_sequence, byte_set, char_set, match_any, match_any_except_line_terminator, Wrapper, capture_group, Tree, Trees, leaf, cat, alt, wrapped, no_trees, more_trees}
+use Rattle.regress_tree.specs.Steps.{Step, distinct, stay, ◌then_◌, ◌or_◌, one_character, these_bytes, hold_at, capture}
+use Rattle.regress_tree.specs.Assertions.{is_line_terminator, is_word_character, at_anchor, at_boundary}
+use Rattle.regress_tree.specs.Repetition.{repeat}
+use Rattle.regress_tree.specs.Tree.{Leaf, empty, goal, char, byte_sequence, byte_set, char_set, match_any, match_any_except_line_terminator, anchor, word_boundary, bracket, Wrapper, capture_group, loop, loop_one, Tree, Trees, leaf, cat, alt, wrapped, no_trees, more_trees}
 
 -- what a tree is made with, and matching depends on, beside the pattern and the text: the flags and the table
 pub record Setting : Type 0 where
   pub flags : Flags
   pub table : Table
-
--- ECMA-262, LineTerminator
-abbrev pub is_line_terminator : ℕ → Bool
-is_line_terminator = is_member line_terminators
 
 -- one of a small set
 abbrev pub is_among : List ℕ → ℕ → Bool
@@ -25,6 +22,8 @@ is_among members x = list_any (λ m. m == x) members
 -- the direction in which what a wrapper holds is matched
 abbrev pub direction_in : Wrapper → Direction → Direction
 direction_in (capture_group id name) d = d
+direction_in (loop quantifier start end) d = d
+direction_in (loop_one quantifier) d = d
 
 module _ (setting : Setting) (bytes : List ℕ) where
   -- the outcomes of a leaf
@@ -37,10 +36,16 @@ module _ (setting : Setting) (bytes : List ℕ) where
   leaf_steps d (char_set members) = one_character d (of_bytes bytes) (is_among members)
   leaf_steps d match_any = one_character d (of_bytes bytes) (λ x. true)
   leaf_steps d match_any_except_line_terminator = one_character d (of_bytes bytes) (λ x. not (is_line_terminator x))
+  leaf_steps d (anchor kind multiline) = hold_at (at_anchor (of_bytes bytes) kind multiline)
+  leaf_steps d (word_boundary invert unicode_icase) =
+      hold_at (at_boundary (of_bytes bytes) (is_word_character setting.table unicode_icase) invert)
+  leaf_steps d (bracket invert intervals) = one_character d (of_bytes bytes) (is_accepted invert intervals)
 
   -- the outcomes of a wrapper around what has these
   abbrev pub wrapper_steps : Wrapper → Step → Step
   wrapper_steps (capture_group id name) body = capture id body
+  wrapper_steps (loop quantifier start end) body = repeat (length bytes + 1) quantifier start end body
+  wrapper_steps (loop_one quantifier) body = repeat (length bytes + 1) quantifier 0 0 body
 
   -- the outcomes of a tree, with repeats
   abbrev mutual

@@ -21,6 +21,8 @@ pub record Reading : Type 0 where
   pub after : ℕ → Option Read
   -- the character that ends there
   pub before : ℕ → Option Read
+  -- the place at its end
+  pub length : ℕ
 
 -- the next character in a direction
 abbrev pub next_character : Direction → Reading → ℕ → Option Read
@@ -36,6 +38,7 @@ abbrev pub of_characters : List ℕ → Reading
 of_characters text = record {
   after = λ k. option_map (λ c. record { character = c; place = k + 1 }) (slice_get text k);
   before = λ k. if k == 0 then None else option_map (λ c. record { character = c; place = k - 1 }) (slice_get text (k - 1));
+  length = length text;
 }
 
 module _ (bytes : List ℕ) where
@@ -64,7 +67,7 @@ module _ (bytes : List ℕ) where
 
 -- a text by the bytes of its UTF-8: a place counts bytes
 abbrev pub of_bytes : List ℕ → Reading
-of_bytes bytes = record { after = read_after bytes; before = read_before bytes }
+of_bytes bytes = record { after = read_after bytes; before = read_before bytes; length = length bytes }
 
 -- the byte place of place k of a text
 unfoldable pub byte_place : List ℕ → ℕ → ℕ

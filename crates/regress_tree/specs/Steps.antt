@@ -77,6 +77,10 @@ these_bytes backwards bytes written s =
     then record s { place = s.place - length written } ∷ []
     else []
 
+-- the state itself, where the test holds at its place
+unfoldable pub hold_at : (ℕ → Bool) → Step
+hold_at test s = if test s.place then s ∷ [] else []
+
 -- the state in which group `id` has matched between the two places
 abbrev pub captured : ℕ → ℕ → State → State
 captured id from s = record s { captures = slice_set s.captures id (Some (min from s.place, max from s.place)) }

@@ -1,5 +1,8 @@
 -- A `Node` without memory. Two equal trees may lie in different places: contracts speak of this type.
-use Rattle.std.specs.Prelude.{ℕ, List, [], ◌∷◌, map, Option, option_map, string_bytes}
+use Rattle.std.specs.Prelude.{ℕ, Bool, List, [], ◌∷◌, map, Option, option_map, string_bytes}
+use Rattle.regress_base.specs.Intervals.{Bounds}
+use Rattle.regress_tree.specs.declared.ir.node.AnchorType.{AnchorType}
+use Rattle.regress_tree.specs.declared.ir.node.Quantifier.{Quantifier}
 use Rattle.regress_tree.specs.declared.ir.node.Node.{Node, fold-Node}
 use Rattle.regress_tree.specs.declared.ir.node.Node.TheOpen.{Node-F}
 
@@ -13,11 +16,17 @@ pub data Leaf : Type 0 where
   char_set : (characters : List ℕ) → Leaf
   match_any : Leaf
   match_any_except_line_terminator : Leaf
+  anchor : (kind : AnchorType) (multiline : Bool) → Leaf
+  word_boundary : (invert unicode_icase : Bool) → Leaf
+  bracket : (invert : Bool) (intervals : List Bounds) → Leaf
 
 -- the kinds that hold one node, without it
 pub data Wrapper : Type 0 where
   -- the name as UTF-8
   capture_group : (id : ℕ) (name : Option (List ℕ)) → Wrapper
+  -- the groups start to end - 1 lie inside
+  loop : (quantifier : Quantifier) (start end : ℕ) → Wrapper
+  loop_one : (quantifier : Quantifier) → Wrapper
 
 mutual
   pub data Tree : Type 0 where
@@ -58,7 +67,12 @@ tree_of_level (Node-F.Cat parts) = cat (row parts.items)
 tree_of_level (Node-F.Alt left right) = alt left.value right.value
 tree_of_level Node-F.MatchAny = leaf match_any
 tree_of_level Node-F.MatchAnyExceptLineTerminator = leaf match_any_except_line_terminator
+tree_of_level (Node-F.Anchor kind multiline) = leaf (anchor kind multiline)
+tree_of_level (Node-F.WordBoundary invert unicode_icase) = leaf (word_boundary invert unicode_icase)
 tree_of_level (Node-F.CaptureGroup id contents name) = wrapped (capture_group id (option_map string_bytes name)) contents.value
+tree_of_level (Node-F.Bracket contents) = leaf (bracket contents.invert contents.cps)
+tree_of_level (Node-F.Loop loopee quantifier groups) = wrapped (loop quantifier groups.start groups.end) loopee.value
+tree_of_level (Node-F.Loop1CharBody loopee quantifier) = wrapped (loop_one quantifier) loopee.value
 
 -- the tree of a node
 abbrev pub tree : Node → Tree

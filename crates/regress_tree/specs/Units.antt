@@ -1,6 +1,6 @@
 -- How large a tree is, and what falls with every rewriting.
-use Rattle.std.specs.Prelude.{◌≡◌, ℕ, ◌+◌, ◌*◌, ◌<◌, ◌⊎◌, [], ◌∷◌, length}
-use Rattle.regress_tree.specs.Tree.{Leaf, empty, goal, char, byte_sequence, byte_set, char_set, match_any, match_any_except_line_terminator, Wrapper, capture_group, Tree, Trees, leaf, cat, alt, wrapped, no_trees, more_trees}
+use Rattle.std.specs.Prelude.{◌≡◌, ℕ, ◌+◌, ◌*◌, ◌<◌, ◌⊎◌, [], ◌∷◌, length, if◌then◌else◌, ◌==◌}
+use Rattle.regress_tree.specs.Tree.{Leaf, empty, goal, char, byte_sequence, byte_set, char_set, match_any, match_any_except_line_terminator, anchor, word_boundary, bracket, Wrapper, capture_group, loop, loop_one, Tree, Trees, leaf, cat, alt, wrapped, no_trees, more_trees}
 
 -- One for a node, and one more for each byte of a `ByteSequence`; five for a `Char`, whose UTF-8 would be a node and at
 -- most four bytes.
@@ -13,6 +13,9 @@ units_of_leaf (byte_set bytes) = 1
 units_of_leaf (char_set characters) = 1
 units_of_leaf match_any = 1
 units_of_leaf match_any_except_line_terminator = 1
+units_of_leaf (anchor kind multiline) = 1
+units_of_leaf (word_boundary invert unicode_icase) = 1
+units_of_leaf (bracket invert intervals) = 1
 
 abbrev mutual
   pub units : Tree → ℕ
@@ -28,6 +31,8 @@ abbrev mutual
 -- whether it is a loop that may be unrolled, as a number
 abbrev pub unrollable : Wrapper → ℕ
 unrollable (capture_group id name) = 0
+unrollable (loop quantifier start end) = if quantifier.min == 0 then 0 else 1
+unrollable (loop_one quantifier) = 0
 
 -- how many loops may be unrolled
 abbrev mutual
@@ -60,9 +65,14 @@ weight_of_leaf (byte_set bytes) = 2
 weight_of_leaf (char_set characters) = 3
 weight_of_leaf match_any = 1
 weight_of_leaf match_any_except_line_terminator = 1
+weight_of_leaf (anchor kind multiline) = 1
+weight_of_leaf (word_boundary invert unicode_icase) = 1
+weight_of_leaf (bracket invert intervals) = 4 + length intervals
 
 abbrev pub weight_of_wrapper : Wrapper → ℕ
 weight_of_wrapper (capture_group id name) = 1
+weight_of_wrapper (loop quantifier start end) = 3
+weight_of_wrapper (loop_one quantifier) = 2
 
 abbrev mutual
   pub weight : Tree → ℕ

@@ -1,8 +1,10 @@
 -- Which trees are well formed.
-use Rattle.std.specs.Prelude.{◌≡◌, ◌≢◌, ℕ, ◌<◌, ◌≤◌, List, [], ◌∷◌, ◌++◌, length, count_by, ◌==◌, Option, IfSome, if◌then◌else◌, nat_lt, All, encode_utf8_all}
-use Rattle.regress_base.specs.Intervals.{code_point_max}
+use Rattle.std.specs.Prelude.{◌≡◌, ◌≢◌, ℕ, ◌<◌, ◌≤◌, Bool, true, ◌&&◌, List, [], ◌∷◌, ◌++◌, length, count_by, ◌==◌, Option, IfSome, if◌then◌else◌, nat_le, nat_lt, All, encode_utf8_all}
+use Rattle.regress_base.specs.Brackets.{is_accepted}
+use Rattle.regress_base.specs.Intervals.{Bounds, code_point_max, IsCanonical}
+use Rattle.regress_tree.specs.declared.ir.node.Quantifier.{Quantifier}
 use Rattle.regress_tree.specs.Reading.{IsText}
-use Rattle.regress_tree.specs.Tree.{Leaf, empty, goal, char, byte_sequence, byte_set, char_set, match_any, match_any_except_line_terminator, Wrapper, capture_group, Tree, Trees, leaf, cat, alt, wrapped, no_trees, more_trees}
+use Rattle.regress_tree.specs.Tree.{Leaf, empty, goal, char, byte_sequence, byte_set, char_set, match_any, match_any_except_line_terminator, anchor, word_boundary, bracket, Wrapper, capture_group, loop, loop_one, Tree, Trees, leaf, cat, alt, wrapped, no_trees, more_trees}
 
 -- how many members a small set may have (this project's profile)
 abbrev pub max_char_set_length : ℕ
@@ -16,6 +18,8 @@ pub record Capture : Type 0 where
 -- the capture group that a wrapper is, if it is one
 abbrev pub captures_of_wrapper : Wrapper → List Capture
 captures_of_wrapper (capture_group id name) = record { id = id; name = name } ∷ []
+captures_of_wrapper (loop quantifier start end) = []
+captures_of_wrapper (loop_one quantifier) = []
 
 -- the capture groups of a tree, each before those inside it
 abbrev mutual
@@ -61,6 +65,8 @@ last_of root = last
 -- where what a wrapper holds stands
 abbrev pub position_in : Wrapper → Position
 position_in (capture_group id name) = inside
+position_in (loop quantifier start end) = inside
+position_in (loop_one quantifier) = one_character
 
 -- what may be the body of a loop over one character only if this holds
 abbrev pub AsOneCharacter : Position → Type 0 → Type 0
@@ -82,6 +88,11 @@ pub record IsSmallSet (members : List ℕ) (greatest : ℕ) (p : Position) : Typ
   pub small : length members ≤ max_char_set_length
   pub some : AsOneCharacter p (members ≢ [])
 
+-- the intervals of a set, of which the bracket accepts some code point at that place
+pub record IsBracket (invert : Bool) (intervals : List Bounds) (p : Position) : Type 0 where
+  pub canonical : IsCanonical intervals
+  pub some : AsOneCharacter p ((c : ℕ) × (c ≤ code_point_max) × (is_accepted invert intervals c ≡ true))
+
 -- the leaf may stand there
 abbrev pub LeafMayStand : Leaf → Position → Type 0
 LeafMayStand empty p = NotAsOneCharacter p
@@ -92,10 +103,24 @@ LeafMayStand (byte_set bytes) p = IsSmallSet bytes 127 p
 LeafMayStand (char_set characters) p = IsSmallSet characters code_point_max p
 LeafMayStand match_any p = Unit {0}
 LeafMayStand match_any_except_line_terminator p = Unit {0}
+LeafMayStand (anchor kind multiline) p = NotAsOneCharacter p
+LeafMayStand (word_boundary invert unicode_icase) p = NotAsOneCharacter p
+LeafMayStand (bracket invert intervals) p = IsBracket invert intervals p
+
+-- at least no more turns than at most
+abbrev pub IsQuantifier : Quantifier → Type 0
+IsQuantifier q = IfSome q.max (λ max. q.min ≤ max)
+
+-- the ids of the capture groups of the tree are start to end - 1, each once
+abbrev pub HasGroups : (start end : ℕ) → Tree → Type 0
+HasGroups start end t =
+    (k : ℕ) → count_by (λ c. c.id == k) (captures t) ≡ (if nat_le start k && nat_lt k end then 1 else 0)
 
 -- the wrapper may stand around the tree, where there are n capture groups
 abbrev pub WrapperMayStand : ℕ → Wrapper → Tree → Type 0
 WrapperMayStand n (capture_group id name) body = (id < n) × IfSome name (λ bytes. bytes ≢ [])
+WrapperMayStand n (loop quantifier start end) body = IsQuantifier quantifier × HasGroups start end body
+WrapperMayStand n (loop_one quantifier) body = IsQuantifier quantifier
 
 -- the tree may stand there in a well formed tree of n capture groups
 abbrev mutual

@@ -6,5 +6,5 @@ mod node;
 mod tests;
 mod walk;
 
-pub use node::{Node, NodeList, Regex};
+pub use node::{AnchorType, Node, NodeList, Quantifier, Regex};
 pub use walk::Walk;

@@ -1,7 +1,9 @@
 -- Alike steps: an equivalence that each word of steps keeps in each argument.
-use Rattle.std.proofs.Common.{◌≡◌, ℕ, refl, sym, ap, ◌∙◌}
-use Rattle.regress_tree.specs.Steps.{State, Step, Alike, distinct, ◌then_◌, ◌or_◌, capture, captured}
-use Rattle.regress_tree.proofs.laws.Distinct.{distinct-append-alike, distinct-flat_map-alike, distinct-map-alike}
+use Rattle.std.proofs.Common.{◌≡◌, ◌==◌, ℕ, zero, suc, ◌+◌, Bool, true, false, not, filter, refl, sym, ap, ◌∙◌}
+use Rattle.regress_tree.specs.Steps.{State, Step, Alike, distinct, stay, ◌then_◌, ◌or_◌, capture, captured}
+use Rattle.regress_tree.specs.Repetition.{unset, turn, turns, moving, up_to, more_turns, repeat}
+use Rattle.regress_tree.specs.declared.ir.node.Quantifier.{Quantifier}
+use Rattle.regress_tree.proofs.laws.Distinct.{distinct-append-alike, distinct-filter, distinct-flat_map-alike, distinct-map-alike}
 
 pub Alike-refl : (f : Step) → Alike f f
 Alike-refl f = record { same = λ s. refl }
@@ -25,3 +27,33 @@ Alike-or f f' g g' a b = record { same = λ s. distinct-append-alike (f s) (f' s
 pub Alike-capture : (id : ℕ) (f f' : Step) → Alike f f' → Alike (capture id f) (capture id f')
 unfolding capture
 Alike-capture id f f' a = record { same = λ s. distinct-map-alike (captured id s.place) (f s) (f' s) (a.same s) }
+
+-- ---- repetition
+
+Alike-turn : (start end : ℕ) (f f' : Step) → Alike f f' → Alike (turn start end f) (turn start end f')
+Alike-turn start end f f' a = record { same = λ s. a.same (unset start end s) }
+
+Alike-turns : (n : ℕ) (f f' : Step) → Alike f f' → Alike (turns n f) (turns n f')
+Alike-turns zero f f' a = Alike-refl stay
+Alike-turns (suc n) f f' a = Alike-then f f' (turns n f) (turns n f') a (Alike-turns n f f' a)
+
+Alike-moving : (f f' : Step) → Alike f f' → Alike (moving f) (moving f')
+Alike-moving f f' a = record {
+  same = λ s.
+      let moves : State → Bool = λ t. not (t.place == s.place) in
+      distinct-filter moves (f s) ∙ ap (filter moves) (a.same s) ∙ sym (distinct-filter moves (f' s));
+}
+
+Alike-up_to : (greedy : Bool) (n : ℕ) (f f' : Step) → Alike f f' → Alike (up_to greedy n f) (up_to greedy n f')
+Alike-up_to greedy zero f f' a = Alike-refl stay
+Alike-up_to true (suc n) f f' a =
+    Alike-or _ _ stay stay (Alike-then _ _ _ _ (Alike-moving f f' a) (Alike-up_to true n f f' a)) (Alike-refl stay)
+Alike-up_to false (suc n) f f' a =
+    Alike-or stay stay _ _ (Alike-refl stay) (Alike-then _ _ _ _ (Alike-moving f f' a) (Alike-up_to false n f f' a))
+
+pub Alike-repeat : (bound : ℕ) (q : Quantifier) (start end : ℕ) (f f' : Step) → Alike f f' →
+    Alike (repeat bound q start end f) (repeat bound q start end f')
+unfolding repeat
+Alike-repeat bound q start end f f' a =
+    let alike = Alike-turn start end f f' a in
+    Alike-then _ _ _ _ (Alike-turns q.min _ _ alike) (Alike-up_to q.greedy (more_turns bound q) _ _ alike)

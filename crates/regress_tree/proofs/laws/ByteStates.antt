@@ -8,7 +8,7 @@ use Rattle.regress_tree.proofs.laws.Characters.{byte_place_same}
 
 module _ (text : List ℕ) where
   -- two places are one place exactly if their byte places are
-  eqb-byte_place : (j k : ℕ) → j ≤ length text → k ≤ length text → (byte_place text j == byte_place text k) ≡ (j == k)
+  pub eqb-byte_place : (j k : ℕ) → j ≤ length text → k ≤ length text → (byte_place text j == byte_place text k) ≡ (j == k)
   eqb-byte_place j k hj hk =
       ⊎_elim
       (λ (e : j ≡ k). eq-eqb _ _ (ap (byte_place text) e) ∙ sym (eq-eqb j k e))
@@ -46,15 +46,16 @@ module _ (text : List ℕ) where
   cond-map true xs ys = refl
   cond-map false xs ys = refl
 
-  filter-byte_state : (s : State) → IsStateOf text s → (states : List State) → All (IsStateOf text) states →
-      filter (λ t. not (same_state (byte_state text s) t)) (map (byte_state text) states)
-      ≡ map (byte_state text) (filter (λ t. not (same_state s t)) states)
-  filter-byte_state s hs [] all = refl
-  filter-byte_state s hs (t ∷ states) all =
-      ap₂ (λ same rest. cond (not same) (byte_state text t ∷ rest) rest)
-      (same_state-byte_state s t hs (All-head (IsStateOf text) t states all))
-      (filter-byte_state s hs states (All-tail (IsStateOf text) t states all))
-      ∙ cond-map (not (same_state s t)) (t ∷ filter (λ u. not (same_state s u)) states) (filter (λ u. not (same_state s u)) states)
+  -- tests that agree on the states of the text keep the same ones
+  pub filter-byte_state : (p q : State → Bool) → ((t : State) → IsStateOf text t → p (byte_state text t) ≡ q t) →
+      (states : List State) → All (IsStateOf text) states →
+      filter p (map (byte_state text) states) ≡ map (byte_state text) (filter q states)
+  filter-byte_state p q agree [] all = refl
+  filter-byte_state p q agree (t ∷ states) all =
+      ap₂ (λ kept rest. cond kept (byte_state text t ∷ rest) rest)
+      (agree t (All-head (IsStateOf text) t states all))
+      (filter-byte_state p q agree states (All-tail (IsStateOf text) t states all))
+      ∙ cond-map (q t) (t ∷ filter q states) (filter q states)
 
   pub All-distinct : (P : State → Type 0) (states : List State) → All P states → All P (distinct states)
   All-distinct P [] all = all
@@ -71,4 +72,5 @@ module _ (text : List ℕ) where
       let rest = All-tail (IsStateOf text) s states all in
       ap (λ xs. byte_state text s ∷ xs)
       (ap (filter (λ t. not (same_state (byte_state text s) t))) (distinct-byte_state states rest)
-      ∙ filter-byte_state s hs (distinct states) (All-distinct (IsStateOf text) states rest))
+      ∙ filter-byte_state (λ t. not (same_state (byte_state text s) t)) (λ t. not (same_state s t))
+      (λ t ht. ap not (same_state-byte_state s t hs ht)) (distinct states) (All-distinct (IsStateOf text) states rest))

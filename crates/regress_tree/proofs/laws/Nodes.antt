@@ -1,9 +1,13 @@
 -- The tree of a node, kind by kind.
-use Rattle.std.specs.Prelude.{◌≡◌, ℕ, Option, option_map, string_bytes, String}
+use Rattle.std.specs.Prelude.{◌≡◌, ℕ, Bool, Option, option_map, string_bytes, String}
 use Rattle.std.proofs.Common.{Vec, Box, Global, sym, ap, ◌∙◌}
 use Rattle.regress_tree.specs.declared.ir.node.Node.{Node, Node-F, fold-roll-Node}
-use Rattle.regress_tree.specs.declared.ir.node.Node.TheVariants.{Empty, Goal, Char, ByteSequence, ByteSet, CharSet, Cat, Alt, MatchAny, MatchAnyExceptLineTerminator, CaptureGroup, rolls-Empty, rolls-Goal, rolls-Char, rolls-ByteSequence, rolls-ByteSet, rolls-CharSet, rolls-Cat, rolls-Alt, rolls-MatchAny, rolls-MatchAnyExceptLineTerminator, rolls-CaptureGroup}
-use Rattle.regress_tree.specs.Tree.{Tree, tree, trees, tree_of_level, leaf, empty, goal, char, byte_sequence, byte_set, char_set, cat, alt, match_any, match_any_except_line_terminator, wrapped, capture_group}
+use Rattle.regress_tree.specs.declared.ir.node.Node.TheVariants.{Empty, Goal, Char, ByteSequence, ByteSet, CharSet, Cat, Alt, MatchAny, MatchAnyExceptLineTerminator, Anchor, WordBoundary, CaptureGroup, Bracket, Loop, Loop1CharBody, rolls-Empty, rolls-Goal, rolls-Char, rolls-ByteSequence, rolls-ByteSet, rolls-CharSet, rolls-Cat, rolls-Alt, rolls-MatchAny, rolls-MatchAnyExceptLineTerminator, rolls-Anchor, rolls-WordBoundary, rolls-CaptureGroup, rolls-Bracket, rolls-Loop, rolls-Loop1CharBody}
+use Rattle.regress_tree.specs.declared.ir.node.AnchorType.{AnchorType}
+use Rattle.regress_tree.specs.declared.ir.node.Quantifier.{Quantifier}
+use Rattle.regress_base.specs.declared.types.bracket.BracketContents.{BracketContents}
+use Rattle.std.specs.declared.ops.Range.{Range}
+use Rattle.regress_tree.specs.Tree.{Tree, tree, trees, tree_of_level, leaf, empty, goal, char, byte_sequence, byte_set, char_set, cat, alt, match_any, match_any_except_line_terminator, anchor, word_boundary, bracket, wrapped, capture_group, loop, loop_one}
 
 pub tree-Empty : tree Empty ≡ leaf empty
 tree-Empty = ap tree (sym rolls-Empty) ∙ fold-roll-Node Tree tree_of_level Node-F.Empty
@@ -41,3 +45,23 @@ pub tree-CaptureGroup : (id : ℕ) (contents : Box Node Global) (name : Option (
     tree (CaptureGroup id contents name) ≡ wrapped (capture_group id (option_map string_bytes name)) (tree contents.value)
 tree-CaptureGroup id contents name =
     ap tree (sym (rolls-CaptureGroup id contents name)) ∙ fold-roll-Node Tree tree_of_level (Node-F.CaptureGroup id contents name)
+
+pub tree-Anchor : (kind : AnchorType) (multiline : Bool) → tree (Anchor kind multiline) ≡ leaf (anchor kind multiline)
+tree-Anchor kind multiline = ap tree (sym (rolls-Anchor kind multiline)) ∙ fold-roll-Node Tree tree_of_level (Node-F.Anchor kind multiline)
+
+pub tree-WordBoundary : (invert unicode_icase : Bool) → tree (WordBoundary invert unicode_icase) ≡ leaf (word_boundary invert unicode_icase)
+tree-WordBoundary invert unicode_icase =
+    ap tree (sym (rolls-WordBoundary invert unicode_icase)) ∙ fold-roll-Node Tree tree_of_level (Node-F.WordBoundary invert unicode_icase)
+
+pub tree-Bracket : (contents : BracketContents) → tree (Bracket contents) ≡ leaf (bracket contents.invert contents.cps)
+tree-Bracket contents = ap tree (sym (rolls-Bracket contents)) ∙ fold-roll-Node Tree tree_of_level (Node-F.Bracket contents)
+
+pub tree-Loop : (loopee : Box Node Global) (quantifier : Quantifier) (groups : Range ℕ) →
+    tree (Loop loopee quantifier groups) ≡ wrapped (loop quantifier groups.start groups.end) (tree loopee.value)
+tree-Loop loopee quantifier groups =
+    ap tree (sym (rolls-Loop loopee quantifier groups)) ∙ fold-roll-Node Tree tree_of_level (Node-F.Loop loopee quantifier groups)
+
+pub tree-Loop1CharBody : (loopee : Box Node Global) (quantifier : Quantifier) →
+    tree (Loop1CharBody loopee quantifier) ≡ wrapped (loop_one quantifier) (tree loopee.value)
+tree-Loop1CharBody loopee quantifier =
+    ap tree (sym (rolls-Loop1CharBody loopee quantifier)) ∙ fold-roll-Node Tree tree_of_level (Node-F.Loop1CharBody loopee quantifier)

@@ -1,13 +1,13 @@
 -- Places where a tree stands as a part of another, and what of the whole follows from what is put there.
-use Rattle.std.proofs.Common.{◌≡◌, ℕ, ◌+◌, ◌*◌, ◌<◌, ◌≤◌, ◌⊎◌, inl, inr, Bool, List, ◌++◌, refl, ap, arith}
+use Rattle.std.proofs.Common.{◌≡◌, ℕ, ◌+◌, ◌*◌, ◌<◌, ◌≤◌, ◌⊎◌, inl, inr, Bool, ◌==◌, List, ◌++◌, length, count_by, refl, ap, ◌∙◌, arith}
 use Rattle.regress_tree.specs.Reading.{Direction}
 use Rattle.regress_tree.specs.Steps.{Step, Alike}
-use Rattle.regress_tree.specs.Tree.{Wrapper, capture_group, Tree, Trees, cat, alt, wrapped, no_trees, more_trees, row_append}
+use Rattle.regress_tree.specs.Tree.{Wrapper, capture_group, loop, loop_one, Tree, Trees, cat, alt, wrapped, no_trees, more_trees, row_append}
 use Rattle.regress_tree.specs.Matching.{Setting, direction_in, wrapper_steps, steps, steps_in_row}
 use Rattle.regress_tree.specs.WellFormed.{captures, captures_in_row, captures_of_wrapper, Position, inside, last_of, position_in, WrapperMayStand, MayStand, RowMayStand}
 use Rattle.regress_tree.specs.Units.{units, units_in_row, loops, loops_in_row, unrollable, account, weight, weight_of_row, weight_of_wrapper, IsLess}
 use Rattle.regress_tree.specs.Shapes.{LacksShape, RowLacksShape, LacksInside}
-use Rattle.regress_tree.proofs.laws.Alike.{Alike-refl, Alike-then, Alike-or, Alike-capture}
+use Rattle.regress_tree.proofs.laws.Alike.{Alike-refl, Alike-then, Alike-or, Alike-capture, Alike-repeat}
 use Rattle.regress_tree.proofs.laws.Rows.{units-append, loops-append, weight-append}
 
 pub data Place : Type 0 where
@@ -38,6 +38,8 @@ module _ (setting : Setting) (bytes : List ℕ) where
   -- alike bodies give alike wholes: all that a new wrapper has to add here
   Alike-wrapper : (w : Wrapper) (f g : Step) → Alike f g → Alike (wrapper_steps setting bytes w f) (wrapper_steps setting bytes w g)
   Alike-wrapper (capture_group id name) f g alike = Alike-capture id f g alike
+  Alike-wrapper (loop quantifier start end) f g alike = Alike-repeat (length bytes + 1) quantifier start end f g alike
+  Alike-wrapper (loop_one quantifier) f g alike = Alike-repeat (length bytes + 1) quantifier 0 0 f g alike
 
   Alike-among : (d : Direction) (before behind : Trees) (t u : Tree) → Alike (steps setting bytes d t) (steps setting bytes d u) →
       Alike (steps_in_row setting bytes d (row_append before (more_trees t behind)))
@@ -71,6 +73,9 @@ captures-put (inside_of w) t u same = ap (λ cs. captures_of_wrapper w ++ cs) sa
 -- the wrapper asks no more of a body than its groups
 WrapperMayStand-around : (n : ℕ) (w : Wrapper) (t u : Tree) → captures u ≡ captures t → WrapperMayStand n w t → WrapperMayStand n w u
 WrapperMayStand-around n (capture_group id name) t u same m = m
+WrapperMayStand-around n (loop quantifier start end) t u same m =
+    (m.0, λ k. ap (count_by (λ c. c.id == k)) same ∙ m.1 k)
+WrapperMayStand-around n (loop_one quantifier) t u same m = m
 
 module _ (t u : Tree) (stands : (n : ℕ) (p : Position) → MayStand n t p → MayStand n u p) where
   RowMayStand-among : (n : ℕ) (p : Position) (before behind : Trees) → RowMayStand n (row_append before (more_trees t behind)) p →

@@ -110,16 +110,21 @@ pub next_character-byte_place : (text : List ℕ) → IsText text → (d : Direc
 next_character-byte_place text is_text forwards k within = read_after-byte_place text is_text k within
 next_character-byte_place text is_text backwards k within = read_before-byte_place text is_text k within
 
--- reading does not leave the text
+-- the place does not lie against the direction
+abbrev pub IsOnward : Direction → (from to : ℕ) → Type 0
+IsOnward forwards from to = from ≤ to
+IsOnward backwards from to = to ≤ from
+
+-- reading does not leave the text, and goes in its direction
 pub next_character-within : (text : List ℕ) (d : Direction) (k : ℕ) → k ≤ length text →
-    IfSome (next_character d (of_characters text) k) (λ r. r.place ≤ length text)
+    IfSome (next_character d (of_characters text) k) (λ r. (r.place ≤ length text) × IsOnward d k r.place)
 next_character-within text forwards k within =
     ⊎_elim
-    (λ (h : k < length text). subst (λ o. IfSome o (λ r. r.place ≤ length text)) (sym (after_within text k h)) (omega arith))
-    (λ (h : length text ≤ k). subst (λ o. IfSome o (λ r. r.place ≤ length text)) (sym (after_end text k h)) tt)
+    (λ (h : k < length text). subst (λ o. IfSome o (λ r. (r.place ≤ length text) × (k ≤ r.place))) (sym (after_within text k h)) (omega arith, omega arith))
+    (λ (h : length text ≤ k). subst (λ o. IfSome o (λ r. (r.place ≤ length text) × (k ≤ r.place))) (sym (after_end text k h)) tt)
     (cases_lt k (length text))
 next_character-within text backwards zero within = tt
 next_character-within text backwards (suc k) within =
     let next : k + 1 ≡ suc k = omega arith in
-    subst (λ j. IfSome ((of_characters text).before j) (λ r. r.place ≤ length text)) next
-    (subst (λ o. IfSome o (λ r. r.place ≤ length text)) (sym (before_within text k within)) (omega arith))
+    subst (λ j. IfSome ((of_characters text).before j) (λ r. (r.place ≤ length text) × (r.place ≤ j))) next
+    (subst (λ o. IfSome o (λ r. (r.place ≤ length text) × (r.place ≤ k + 1))) (sym (before_within text k within)) (omega arith, omega arith))

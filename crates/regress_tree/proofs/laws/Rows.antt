@@ -5,7 +5,7 @@ use Rattle.std.proofs.lemmas.List.{map-append}
 use Rattle.regress_tree.specs.declared.ir.node.Node.{Node}
 use Rattle.regress_tree.specs.Reading.{Direction}
 use Rattle.regress_tree.specs.Steps.{State}
-use Rattle.regress_tree.specs.Tree.{Leaf, empty, goal, char, byte_sequence, byte_set, char_set, match_any, match_any_except_line_terminator, Tree, Trees, leaf, cat, alt, wrapped, no_trees, more_trees, row, row_append, tree, trees}
+use Rattle.regress_tree.specs.Tree.{Leaf, empty, goal, char, byte_sequence, byte_set, char_set, match_any, match_any_except_line_terminator, anchor, word_boundary, bracket, Tree, Trees, leaf, cat, alt, wrapped, no_trees, more_trees, row, row_append, tree, trees}
 use Rattle.regress_tree.specs.Matching.{Setting, steps, steps_in_row}
 use Rattle.regress_tree.specs.WellFormed.{captures, captures_in_row, Position, one_character, inside, last, root, NotAsOneCharacter, AsOneCharacter, GoalMayStand, last_of, LeafMayStand, MayStand, RowMayStand}
 use Rattle.regress_tree.specs.Units.{units, units_in_row, loops, loops_in_row, weight, weight_of_row}
@@ -75,6 +75,9 @@ LeafMayStand-wider p q free ends (byte_set bytes) m = record { bounded = m.bound
 LeafMayStand-wider p q free ends (char_set characters) m = record { bounded = m.bounded; small = m.small; some = not_as_one q _ free }
 LeafMayStand-wider p q free ends match_any m = tt
 LeafMayStand-wider p q free ends match_any_except_line_terminator m = tt
+LeafMayStand-wider p q free ends (anchor kind multiline) m = free
+LeafMayStand-wider p q free ends (word_boundary invert unicode_icase) m = free
+LeafMayStand-wider p q free ends (bracket invert intervals) m = record { canonical = m.canonical; some = not_as_one q _ free }
 
 MayStand-last : (n : ℕ) (t : Tree) → MayStand n t inside → MayStand n t last
 MayStand-last n (leaf l) m = LeafMayStand-wider inside last tt (λ none. absurd none) l m

@@ -3,57 +3,104 @@ use Rattle.std.proofs.Common.{◌≡◌, ℕ, ◌≤◌, Bool, true, false, cond
 use Rattle.std.proofs.lemmas.List.{map-append, map-set}
 use Rattle.std.proofs.lemmas.List.Elements.{All-nil, All-cons, All-head, All-tail, All-append, All-set, All-map, All-weaker}
 use Rattle.std.proofs.lemmas.Bool.{cases_lt}
-use Rattle.regress_tree.specs.Reading.{Direction, Read, next_character, IsText, of_characters, of_bytes, byte_place}
-use Rattle.regress_tree.specs.Steps.{State, Step, IsStateOf, IsCaptureOf, byte_state, byte_capture, stay, ◌then_◌, ◌or_◌, moved, one_character, captured, capture}
+use Rattle.regress_tree.specs.Reading.{Direction, forwards, backwards, Read, next_character, IsText, of_characters, of_bytes, byte_place}
+use Rattle.regress_tree.specs.Steps.{State, Step, IsStateOf, IsCaptureOf, byte_state, byte_capture, stay, ◌then_◌, ◌or_◌, moved, one_character, hold_at, captured, capture}
 use Rattle.regress_tree.proofs.laws.Characters.{byte_place-le}
-use Rattle.regress_tree.proofs.laws.Readings.{byte_read, next_character-byte_place, next_character-within}
+use Rattle.regress_tree.proofs.laws.Readings.{byte_read, IsOnward, next_character-byte_place, next_character-within}
 
--- The step g over the bytes of a text does what f does over its characters, and f does not leave the text.
-pub record Simulates (text : List ℕ) (f g : Step) : Type 0 where
+-- a state of the text that does not lie against the direction, as seen from another one
+pub record IsReached (text : List ℕ) (d : Direction) (from to : State) : Type 0 where
+  pub state : IsStateOf text to
+  pub onward : IsOnward d from.place to.place
+
+-- The step g over the bytes of a text does what f does over its characters, and f does not leave the text and goes in
+-- the direction.
+pub record Simulates (text : List ℕ) (d : Direction) (f g : Step) : Type 0 where
   pub same : (s : State) → IsStateOf text s → g (byte_state text s) ≡ map (byte_state text) (f s)
-  pub within : (s : State) → IsStateOf text s → All (IsStateOf text) (f s)
+  pub reached : (s : State) → IsStateOf text s → All (IsReached text d s) (f s)
 
--- a step that is equal at each state serves as well
-pub Simulates-same_right : (text : List ℕ) (f g h : Step) → ((s : State) → h s ≡ g s) → Simulates text f g → Simulates text f h
-Simulates-same_right text f g h e sim = record {
-  same = λ s in'. e (byte_state text s) ∙ sim.same s in';
-  within = sim.within;
-}
+IsOnward-refl : (d : Direction) (k : ℕ) → IsOnward d k k
+IsOnward-refl forwards k = omega arith
+IsOnward-refl backwards k = omega arith
 
-pub Simulates-stay : (text : List ℕ) → Simulates text stay stay
-Simulates-stay text = record {
-  same = λ s in'. refl;
-  within = λ s in'. All-cons (IsStateOf text) s [] in' (All-nil (IsStateOf text));
-}
+IsOnward-trans : (d : Direction) (i j k : ℕ) → IsOnward d i j → IsOnward d j k → IsOnward d i k
+IsOnward-trans forwards i j k first second = omega arith
+IsOnward-trans backwards i j k first second = omega arith
 
-flat_map-byte_state : (text : List ℕ) (f g : Step) → Simulates text f g → (states : List State) → All (IsStateOf text) states →
-    flat_map g (map (byte_state text) states) ≡ map (byte_state text) (flat_map f states)
-flat_map-byte_state text f g sim [] all = refl
-flat_map-byte_state text f g sim (s ∷ states) all =
-    ap₂ (λ xs ys. xs ++ ys) (sim.same s (All-head (IsStateOf text) s states all))
-    (flat_map-byte_state text f g sim states (All-tail (IsStateOf text) s states all))
-    ∙ sym (map-append (byte_state text) (f s) (flat_map f states))
+module _ (text : List ℕ) (d : Direction) where
+  pub Simulates-within : (f g : Step) → Simulates text d f g → (s : State) → IsStateOf text s → All (IsStateOf text) (f s)
+  Simulates-within f g sim s in' = All-weaker (IsReached text d s) (IsStateOf text) (λ t r. r.state) (f s) (sim.reached s in')
 
-All-flat_map : (text : List ℕ) (f g : Step) → Simulates text f g → (states : List State) → All (IsStateOf text) states →
-    All (IsStateOf text) (flat_map f states)
-All-flat_map text f g sim [] all = All-nil (IsStateOf text)
-All-flat_map text f g sim (s ∷ states) all =
-    All-append (IsStateOf text) (f s) (flat_map f states) (sim.within s (All-head (IsStateOf text) s states all))
-    (All-flat_map text f g sim states (All-tail (IsStateOf text) s states all))
+  -- a step that is equal at each state serves as well
+  pub Simulates-same_right : (f g h : Step) → ((s : State) → h s ≡ g s) → Simulates text d f g → Simulates text d f h
+  Simulates-same_right f g h e sim = record {
+    same = λ s in'. e (byte_state text s) ∙ sim.same s in';
+    reached = sim.reached;
+  }
 
-pub Simulates-then : (text : List ℕ) (f g h k : Step) → Simulates text f g → Simulates text h k → Simulates text (f then_ h) (g then_ k)
-Simulates-then text f g h k first second = record {
-  same = λ s in'. ap (flat_map k) (first.same s in') ∙ flat_map-byte_state text h k second (f s) (first.within s in');
-  within = λ s in'. All-flat_map text h k second (f s) (first.within s in');
-}
+  -- the state alone is reached
+  reached_itself : (s : State) → IsStateOf text s → All (IsReached text d s) (s ∷ [])
+  reached_itself s in' =
+      All-cons (IsReached text d s) s [] (record { state = in'; onward = IsOnward-refl d s.place }) (All-nil (IsReached text d s))
 
-pub Simulates-or : (text : List ℕ) (f g h k : Step) → Simulates text f g → Simulates text h k → Simulates text (f or_ h) (g or_ k)
-Simulates-or text f g h k left right = record {
-  same = λ s in'. ap₂ (λ xs ys. xs ++ ys) (left.same s in') (right.same s in') ∙ sym (map-append (byte_state text) (f s) (h s));
-  within = λ s in'. All-append (IsStateOf text) (f s) (h s) (left.within s in') (right.within s in');
-}
+  pub Simulates-stay : Simulates text d stay stay
+  Simulates-stay = record { same = λ s in'. refl; reached = reached_itself }
 
-module _ (text : List ℕ) (test : ℕ → Bool) (s : State) (in' : IsStateOf text s) where
+  flat_map-byte_state : (f g : Step) → Simulates text d f g → (states : List State) → All (IsStateOf text) states →
+      flat_map g (map (byte_state text) states) ≡ map (byte_state text) (flat_map f states)
+  flat_map-byte_state f g sim [] all = refl
+  flat_map-byte_state f g sim (s ∷ states) all =
+      ap₂ (λ xs ys. xs ++ ys) (sim.same s (All-head (IsStateOf text) s states all))
+      (flat_map-byte_state f g sim states (All-tail (IsStateOf text) s states all))
+      ∙ sym (map-append (byte_state text) (f s) (flat_map f states))
+
+  -- what a step makes of what is reached is reached
+  flat_map-reached : (f g : Step) → Simulates text d f g → (from : State) (states : List State) → All (IsReached text d from) states →
+      All (IsReached text d from) (flat_map f states)
+  flat_map-reached f g sim from [] all = All-nil (IsReached text d from)
+  flat_map-reached f g sim from (s ∷ states) all =
+      let here = All-head (IsReached text d from) s states all in
+      All-append (IsReached text d from) (f s) (flat_map f states)
+      (All-weaker (IsReached text d s) (IsReached text d from)
+      (λ t r. record { state = r.state; onward = IsOnward-trans d from.place s.place t.place here.onward r.onward }) (f s)
+      (sim.reached s here.state))
+      (flat_map-reached f g sim from states (All-tail (IsReached text d from) s states all))
+
+  pub Simulates-then : (f g h k : Step) → Simulates text d f g → Simulates text d h k → Simulates text d (f then_ h) (g then_ k)
+  Simulates-then f g h k first second = record {
+    same = λ s in'.
+        ap (flat_map k) (first.same s in') ∙ flat_map-byte_state h k second (f s) (Simulates-within f g first s in');
+    reached = λ s in'. flat_map-reached h k second s (f s) (first.reached s in');
+  }
+
+  pub Simulates-or : (f g h k : Step) → Simulates text d f g → Simulates text d h k → Simulates text d (f or_ h) (g or_ k)
+  Simulates-or f g h k left right = record {
+    same = λ s in'. ap₂ (λ xs ys. xs ++ ys) (left.same s in') (right.same s in') ∙ sym (map-append (byte_state text) (f s) (h s));
+    reached = λ s in'. All-append (IsReached text d s) (f s) (h s) (left.reached s in') (right.reached s in');
+  }
+
+  -- ---- tests on a place
+
+  cond-itself : (s : State) → IsStateOf text s → (b : Bool) → All (IsReached text d s) (cond b (s ∷ []) [])
+  cond-itself s in' true = reached_itself s in'
+  cond-itself s in' false = All-nil (IsReached text d s)
+
+  cond-same : (s : State) (b : Bool) → cond b (byte_state text s ∷ []) [] ≡ map (byte_state text) (cond b (s ∷ []) [])
+  cond-same s true = refl
+  cond-same s false = refl
+
+  -- a test that answers the same at each place of the text
+  pub Simulates-hold_at : (p q : ℕ → Bool) → ((k : ℕ) → k ≤ length text → q (byte_place text k) ≡ p k) →
+      Simulates text d (hold_at p) (hold_at q)
+  unfolding hold_at
+  Simulates-hold_at p q agree = record {
+    same = λ s in'. ap (λ b. cond b (byte_state text s ∷ []) []) (agree s.place in'.place) ∙ cond-same s (p s.place);
+    reached = λ s in'. cond-itself s in' (p s.place);
+  }
+
+-- ---- characters
+
+module _ (text : List ℕ) (d : Direction) (test : ℕ → Bool) (s : State) (in' : IsStateOf text s) where
   -- whether or not the character passes
   cond-byte_state : (b : Bool) (k : ℕ) →
       cond b (record (byte_state text s) { place = byte_place text k } ∷ []) [] ≡ map (byte_state text) (cond b (record s { place = k } ∷ []) [])
@@ -65,23 +112,27 @@ module _ (text : List ℕ) (test : ℕ → Bool) (s : State) (in' : IsStateOf te
   moved-byte_state None = refl
   moved-byte_state (Some read) = cond-byte_state (test read.character) read.place
 
-  cond-within : (b : Bool) (k : ℕ) → k ≤ length text → All (IsStateOf text) (cond b (record s { place = k } ∷ []) [])
-  cond-within true k h = All-cons (IsStateOf text) _ [] (record { place = h; captures = in'.captures }) (All-nil (IsStateOf text))
-  cond-within false k h = All-nil (IsStateOf text)
+  cond-reached : (b : Bool) (k : ℕ) → k ≤ length text → IsOnward d s.place k →
+      All (IsReached text d s) (cond b (record s { place = k } ∷ []) [])
+  cond-reached true k h onward =
+      All-cons (IsReached text d s) _ [] (record { state = record { place = h; captures = in'.captures }; onward = onward })
+      (All-nil (IsReached text d s))
+  cond-reached false k h onward = All-nil (IsReached text d s)
 
-  moved-within : (read : Option Read) → IfSome read (λ r. r.place ≤ length text) → All (IsStateOf text) (moved test s read)
-  moved-within None h = All-nil (IsStateOf text)
-  moved-within (Some read) h = cond-within (test read.character) read.place h
+  moved-reached : (read : Option Read) → IfSome read (λ r. (r.place ≤ length text) × IsOnward d s.place r.place) →
+      All (IsReached text d s) (moved test s read)
+  moved-reached None h = All-nil (IsReached text d s)
+  moved-reached (Some read) h = cond-reached (test read.character) read.place h.0 h.1
 
 pub Simulates-one_character : (text : List ℕ) → IsText text → (d : Direction) (test : ℕ → Bool) →
-    Simulates text (one_character d (of_characters text) test) (one_character d (of_bytes (encode_utf8_all text)) test)
+    Simulates text d (one_character d (of_characters text) test) (one_character d (of_bytes (encode_utf8_all text)) test)
 unfolding one_character
 Simulates-one_character text is_text d test = record {
   same = λ s in'.
       ap (moved test (byte_state text s)) (next_character-byte_place text is_text d s.place in'.place)
-      ∙ moved-byte_state text test s in' (next_character d (of_characters text) s.place);
-  within = λ s in'.
-      moved-within text test s in' (next_character d (of_characters text) s.place) (next_character-within text d s.place in'.place);
+      ∙ moved-byte_state text d test s in' (next_character d (of_characters text) s.place);
+  reached = λ s in'.
+      moved-reached text d test s in' (next_character d (of_characters text) s.place) (next_character-within text d s.place in'.place);
 }
 
 -- ---- captures
@@ -135,12 +186,15 @@ module _ (text : List ℕ) (id from : ℕ) (h : from ≤ length text) where
       ap₂ (λ x xs. x ∷ xs) (captured-byte_state s (All-head (IsStateOf text) s states all))
       (map-captured states (All-tail (IsStateOf text) s states all))
 
-pub Simulates-capture : (text : List ℕ) (id : ℕ) (f g : Step) → Simulates text f g → Simulates text (capture id f) (capture id g)
+pub Simulates-capture : (text : List ℕ) (d : Direction) (id : ℕ) (f g : Step) → Simulates text d f g →
+    Simulates text d (capture id f) (capture id g)
 unfolding capture
-Simulates-capture text id f g sim = record {
+Simulates-capture text d id f g sim = record {
   same = λ s in'.
-      ap (map (captured id (byte_place text s.place))) (sim.same s in') ∙ map-captured text id s.place in'.place (f s) (sim.within s in');
-  within = λ s in'.
-      All-map (IsStateOf text) (captured id s.place) (f s)
-      (All-weaker (IsStateOf text) (λ t. IsStateOf text (captured id s.place t)) (captured-within text id s.place in'.place) (f s) (sim.within s in'));
+      ap (map (captured id (byte_place text s.place))) (sim.same s in')
+      ∙ map-captured text id s.place in'.place (f s) (Simulates-within text d f g sim s in');
+  reached = λ s in'.
+      All-map (IsReached text d s) (captured id s.place) (f s)
+      (All-weaker (IsReached text d s) (λ t. IsReached text d s (captured id s.place t))
+      (λ t r. record { state = captured-within text id s.place in'.place t r.state; onward = r.onward }) (f s) (sim.reached s in'));
 }

@@ -2,6 +2,7 @@
 
 use super::node::{Node, Regex};
 use std::fmt;
+use std::ops::Range;
 
 /// How many levels are shown by dots. A deeper one is shown by its number.
 const MAX_DEPTH_DOTS: usize = 120;
@@ -29,13 +30,17 @@ fn write_tree<W: fmt::Write>(node: &Node, depth: usize, f: &mut fmt::Formatter<W
             | Node::ByteSet(_)
             | Node::CharSet(_)
             | Node::MatchAny
-            | Node::MatchAnyExceptLineTerminator => return Ok(()),
+            | Node::MatchAnyExceptLineTerminator
+            | Node::Anchor { .. }
+            | Node::WordBoundary { .. }
+            | Node::Bracket(_) => return Ok(()),
             Node::Cat(parts) => return write_trees(parts, depth, f),
             Node::Alt(left, right) => {
                 write_tree(left, depth, f)?;
                 node = right;
             }
             Node::CaptureGroup { contents, .. } => node = contents,
+            Node::Loop { loopee, .. } | Node::Loop1CharBody { loopee, .. } => node = loopee,
         }
     }
 }
@@ -79,6 +84,22 @@ fn write_node<W: fmt::Write>(node: &Node, f: &mut fmt::Formatter<W>) -> fmt::Res
             Some(name) => writeln!(f, "CaptureGroup {id} \"{name}\""),
             None => writeln!(f, "CaptureGroup {id}"),
         },
+        Node::Anchor {
+            anchor_type,
+            multiline,
+        } => writeln!(f, "Anchor {anchor_type:?} multiline={multiline}"),
+        Node::WordBoundary { invert: false, .. } => f.write_str("WordBoundary \"\\\\b\" \n"),
+        Node::WordBoundary { invert: true, .. } => f.write_str("WordBoundary \"\\\\B\" \n"),
+        Node::Bracket(contents) => writeln!(f, "Bracket {contents:?}"),
+        Node::Loop {
+            quant,
+            enclosed_groups,
+            ..
+        } => {
+            let Range { start, end } = enclosed_groups;
+            writeln!(f, "Loop (groups {start}..{end}) {quant:?}")
+        }
+        Node::Loop1CharBody { quant, .. } => writeln!(f, "Loop1Char {quant:?}"),
     }
 }
 

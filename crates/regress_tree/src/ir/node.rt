@@ -1,6 +1,27 @@
 //! The tree.
 
-use regress_base::types::{CaptureGroupID, CaptureGroupName, Flags};
+use regress_base::types::{BracketContents, CaptureGroupID, CaptureGroupName, Flags};
+use std::ops::Range;
+
+/// Which end of the text, or of a line, an anchor stands for.
+#[derive(Clone, Copy, Debug)]
+pub enum AnchorType {
+    /// `^`
+    StartOfLine,
+    /// `$`
+    EndOfLine,
+}
+
+/// How often the body of a loop is matched.
+#[derive(Clone, Copy, Debug)]
+pub struct Quantifier {
+    /// How many turns there are at least.
+    pub min: usize,
+    /// How many there are at most. With `None` there is no such number.
+    pub max: Option<usize>,
+    /// Whether another turn is tried before what follows the loop, or after it.
+    pub greedy: bool,
+}
 
 /// A node of the tree of a pattern. `specs/Matching.antt` says what each kind matches.
 ///
@@ -31,12 +52,37 @@ pub enum Node {
     MatchAny,
     /// Any character but a line terminator.
     MatchAnyExceptLineTerminator,
+    /// The start or the end of the text. With `multiline` also a place behind or before a line terminator.
+    Anchor {
+        anchor_type: AnchorType,
+        multiline: bool,
+    },
+    /// A place with a word character on exactly one side. With `invert` a place with one on both sides or on none. With
+    /// `unicode_icase` what folds to the fold of a word character is one too.
+    WordBoundary {
+        invert: bool,
+        unicode_icase: bool,
+    },
     /// A capture group. A name that is set is not empty, and several groups in different
     /// alternatives may share one.
     CaptureGroup {
         id: CaptureGroupID,
         contents: Box<Node>,
         name: Option<CaptureGroupName>,
+    },
+    /// One character that the bracket accepts.
+    Bracket(BracketContents),
+    /// As many turns of the body as the quantifier says. Each turn after the least number must move. A turn forgets what
+    /// the groups of these ids, which are exactly those inside, have captured.
+    Loop {
+        loopee: Box<Node>,
+        quant: Quantifier,
+        enclosed_groups: Range<u16>,
+    },
+    /// A loop whose body always matches exactly one character.
+    Loop1CharBody {
+        loopee: Box<Node>,
+        quant: Quantifier,
     },
 }
 
@@ -54,11 +100,26 @@ impl Drop for Node {
                     contents,
                     name: _name,
                 } => Box::into_inner(contents),
+                Node::Loop {
+                    loopee,
+                    quant: _,
+                    enclosed_groups: _enclosed_groups,
+                } => Box::into_inner(loopee),
+                Node::Loop1CharBody { loopee, quant: _ } => Box::into_inner(loopee),
+                Node::Bracket(_contents) => return,
                 Node::Empty
                 | Node::Goal
                 | Node::Char { c: _ }
                 | Node::MatchAny
-                | Node::MatchAnyExceptLineTerminator => return,
+                | Node::MatchAnyExceptLineTerminator
+                | Node::Anchor {
+                    anchor_type: _,
+                    multiline: _,
+                }
+                | Node::WordBoundary {
+                    invert: _,
+                    unicode_icase: _,
+                } => return,
             };
         }
     }

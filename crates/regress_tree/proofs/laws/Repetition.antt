@@ -1,0 +1,165 @@
+-- Repetition over the bytes of a text does what it does over its characters. How large the bound is makes no difference
+-- once it is past what is left of the text.
+use Rattle.std.proofs.Common.{◌≡◌, ◌⊎◌, inl, inr, ⊎_elim, ℕ, zero, suc, ◌+◌, ◌-◌, ◌<◌, ◌≤◌, min, nat_le, nat_lt, ◌==◌, Bool, true, false, not, ◌&&◌, cond, List, [], ◌∷◌, ◌++◌, length, map, filter, flat_map, Option, Some, None, All, encode_utf8_all, refl, sym, ap, ap₂, subst, ◌∙◌, arith}
+use Rattle.std.proofs.lemmas.Bool.{cases_eq, cases_lt, eq-eqb, false≢true}
+use Rattle.std.proofs.lemmas.List.Elements.{All-nil, All-cons, All-head, All-tail, All-filter, filter_passes}
+use Rattle.std.proofs.lemmas.Str.{length-le-encodes}
+use Rattle.regress_tree.specs.declared.ir.node.Quantifier.{Quantifier}
+use Rattle.regress_tree.specs.Reading.{Direction, forwards, backwards, byte_place}
+use Rattle.regress_tree.specs.Steps.{Span, State, Step, IsStateOf, IsCaptureOf, byte_state, byte_capture, stay, ◌then_◌, ◌or_◌}
+use Rattle.regress_tree.specs.Repetition.{unset_from, unset, turn, turns, moving, up_to, more_turns, repeat}
+use Rattle.regress_tree.proofs.laws.ByteStates.{eqb-byte_place, filter-byte_state}
+use Rattle.regress_tree.proofs.laws.Simulation.{IsReached, Simulates, Simulates-within, Simulates-stay, Simulates-then, Simulates-or}
+
+-- ---- one turn
+
+module _ (text : List ℕ) where
+  cond-byte_capture : (b : Bool) (c : Option Span) → cond b None (byte_capture text c) ≡ byte_capture text (cond b None c)
+  cond-byte_capture true c = refl
+  cond-byte_capture false c = refl
+
+  cond-within : (b : Bool) (c : Option Span) → IsCaptureOf text c → IsCaptureOf text (cond b None c)
+  cond-within true c h = tt
+  cond-within false c h = h
+
+  unset_from-byte_capture : (k start end : ℕ) (cs : List (Option Span)) →
+      unset_from k start end (map (byte_capture text) cs) ≡ map (byte_capture text) (unset_from k start end cs)
+  unset_from-byte_capture k start end [] = refl
+  unset_from-byte_capture k start end (c ∷ cs) =
+      ap₂ ◌∷◌ (cond-byte_capture (nat_le start k && nat_lt k end) c) (unset_from-byte_capture (k + 1) start end cs)
+
+  unset_from-within : (k start end : ℕ) (cs : List (Option Span)) → All (IsCaptureOf text) cs →
+      All (IsCaptureOf text) (unset_from k start end cs)
+  unset_from-within k start end [] all = all
+  unset_from-within k start end (c ∷ cs) all =
+      All-cons (IsCaptureOf text) _ _ (cond-within (nat_le start k && nat_lt k end) c (All-head (IsCaptureOf text) c cs all))
+      (unset_from-within (k + 1) start end cs (All-tail (IsCaptureOf text) c cs all))
+
+  unset-byte_state : (start end : ℕ) (s : State) → unset start end (byte_state text s) ≡ byte_state text (unset start end s)
+  unset-byte_state start end s =
+      ap (λ (cs : List (Option Span)). record { place = byte_place text s.place; captures = cs })
+      (unset_from-byte_capture 0 start end s.captures)
+
+  unset-within : (start end : ℕ) (s : State) → IsStateOf text s → IsStateOf text (unset start end s)
+  unset-within start end s in' = record { place = in'.place; captures = unset_from-within 0 start end s.captures in'.captures }
+
+-- ---- how much is left of the text
+
+abbrev left : Direction → List ℕ → ℕ → ℕ
+left forwards text k = length text - k
+left backwards text k = k
+
+-- a state of the text behind which less is left
+record IsFurther (text : List ℕ) (d : Direction) (from to : State) : Type 0 where
+  state : IsStateOf text to
+  less : left d text to.place < left d text from.place
+
+left-le : (d : Direction) (text : List ℕ) (k : ℕ) → k ≤ length text → left d text k ≤ length text
+left-le forwards text k h = omega arith
+left-le backwards text k h = omega arith
+
+less_left : (d : Direction) (text : List ℕ) (s t : State) → IsReached text d s t → (t.place ≡ s.place → ⊥) →
+    left d text t.place < left d text s.place
+less_left forwards text s t r moved = omega (arith, moved, r.onward, r.state.place)
+less_left backwards text s t r moved = omega (arith, moved, r.onward)
+
+reached_further : (d : Direction) (text : List ℕ) (s t : State) → IsReached text d s t → not (t.place == s.place) ≡ true → IsFurther text d s t
+reached_further d text s t r moves = record {
+  state = r.state;
+  less = less_left d text s t r (λ e. false≢true (sym (ap not (eq-eqb t.place s.place e)) ∙ moves));
+}
+
+flat_map-agree : (P : State → Type 0) (f g : Step) → ((s : State) → P s → f s ≡ g s) → (states : List State) → All P states →
+    flat_map f states ≡ flat_map g states
+flat_map-agree P f g agree [] all = refl
+flat_map-agree P f g agree (s ∷ states) all =
+    ap₂ ◌++◌ (agree s (All-head P s states all)) (flat_map-agree P f g agree states (All-tail P s states all))
+
+module _ (text : List ℕ) (d : Direction) (f g : Step) (sim : Simulates text d f g) where
+  Simulates-turn : (start end : ℕ) → Simulates text d (turn start end f) (turn start end g)
+  Simulates-turn start end = record {
+    same = λ s in'. ap g (unset-byte_state text start end s) ∙ sim.same (unset start end s) (unset-within text start end s in');
+    reached = λ s in' k e h.
+        let r = sim.reached (unset start end s) (unset-within text start end s in') k e h in
+        record { state = r.state; onward = r.onward };
+  }
+
+  Simulates-turns : (n : ℕ) → Simulates text d (turns n f) (turns n g)
+  Simulates-turns zero = Simulates-stay text d
+  Simulates-turns (suc n) = Simulates-then text d f g (turns n f) (turns n g) sim (Simulates-turns n)
+
+  Simulates-moving : Simulates text d (moving f) (moving g)
+  Simulates-moving = record {
+    same = λ s in'.
+        ap (filter (λ t. not (t.place == byte_place text s.place))) (sim.same s in')
+        ∙ filter-byte_state text (λ t. not (t.place == byte_place text s.place)) (λ t. not (t.place == s.place))
+        (λ t ht. ap not (eqb-byte_place text t.place s.place ht.place in'.place)) (f s) (Simulates-within text d f g sim s in');
+    reached = λ s in'. All-filter (λ t. not (t.place == s.place)) (IsReached text d s) (f s) (sim.reached s in');
+  }
+
+  Simulates-up_to : (greedy : Bool) (n : ℕ) → Simulates text d (up_to greedy n f) (up_to greedy n g)
+  Simulates-up_to greedy zero = Simulates-stay text d
+  Simulates-up_to true (suc n) =
+      Simulates-or text d _ _ stay stay (Simulates-then text d _ _ _ _ Simulates-moving (Simulates-up_to true n)) (Simulates-stay text d)
+  Simulates-up_to false (suc n) =
+      Simulates-or text d stay stay _ _ (Simulates-stay text d) (Simulates-then text d _ _ _ _ Simulates-moving (Simulates-up_to false n))
+
+  -- a turn that moves leaves less of the text
+  moving-further : (s : State) → IsStateOf text s → All (IsFurther text d s) (moving f s)
+  moving-further s in' k e h =
+      reached_further d text s _
+      (All-filter (λ t. not (t.place == s.place)) (IsReached text d s) (f s) (sim.reached s in') k e h)
+      (filter_passes (λ t. not (t.place == s.place)) (f s) k e h)
+
+  -- any two bounds past what is left give the same outcomes
+  up_to-bound : (greedy : Bool) (n m : ℕ) (s : State) → IsStateOf text s → left d text s.place < n → left d text s.place < m →
+      up_to greedy n f s ≡ up_to greedy m f s
+  up_to-bound greedy zero m s in' hn hm = absurd (omega arith)
+  up_to-bound greedy (suc n) zero s in' hn hm = absurd (omega arith)
+  up_to-bound true (suc n) (suc m) s in' hn hm =
+      ap (λ states. states ++ (s ∷ []))
+      (flat_map-agree (IsFurther text d s) (up_to true n f) (up_to true m f)
+      (λ t further. up_to-bound true n m t further.state (omega (arith, further.less)) (omega (arith, further.less)))
+      (moving f s) (moving-further s in'))
+  up_to-bound false (suc n) (suc m) s in' hn hm =
+      ap (λ states. s ∷ states)
+      (flat_map-agree (IsFurther text d s) (up_to false n f) (up_to false m f)
+      (λ t further. up_to-bound false n m t further.state (omega (arith, further.less)) (omega (arith, further.less)))
+      (moving f s) (moving-further s in'))
+
+  -- with bounds that are equal, or past the text's length
+  Simulates-up_to_bounds : (greedy : Bool) (n m : ℕ) → (n ≡ m) ⊎ ((length text < n) × (length text < m)) →
+      Simulates text d (up_to greedy n f) (up_to greedy m g)
+  Simulates-up_to_bounds greedy n m (inl e) =
+      subst (λ j. Simulates text d (up_to greedy n f) (up_to greedy j g)) e (Simulates-up_to greedy n)
+  Simulates-up_to_bounds greedy n m (inr past) =
+      let sims = Simulates-up_to greedy m in
+      let same : (s : State) → IsStateOf text s → up_to greedy n f s ≡ up_to greedy m f s =
+      λ s in'.
+      let within : left d text s.place ≤ length text = left-le d text s.place in'.place in
+      up_to-bound greedy n m s in' (omega (arith, past.0)) (omega (arith, past.1)) in
+      record {
+        same = λ s in'. sims.same s in' ∙ ap (map (byte_state text)) (sym (same s in'));
+        reached = λ s in'. subst (All (IsReached text d s)) (sym (same s in')) (sims.reached s in');
+      }
+
+more_turns-bound : (low high : ℕ) (q : Quantifier) → low ≤ high →
+    (more_turns (low + 1) q ≡ more_turns (high + 1) q) ⊎ ((low < more_turns (low + 1) q) × (low < more_turns (high + 1) q))
+more_turns-bound low high q h =
+    elim q.max as (λ m.
+    (more_turns (low + 1) (record q { max = m }) ≡ more_turns (high + 1) (record q { max = m }))
+    ⊎ ((low < more_turns (low + 1) (record q { max = m })) × (low < more_turns (high + 1) (record q { max = m })))) [
+      | None ↦ inr (omega arith, omega arith)
+      | Some max ↦
+          ⊎_elim (λ (few : max - q.min < low + 1). inl (omega arith)) (λ (many : low + 1 ≤ max - q.min). inr (omega arith, omega arith))
+          (cases_lt (max - q.min) (low + 1))
+    ]
+
+pub Simulates-repeat : (text : List ℕ) (d : Direction) (q : Quantifier) (start end : ℕ) (f g : Step) → Simulates text d f g →
+    Simulates text d (repeat (length text + 1) q start end f) (repeat (length (encode_utf8_all text) + 1) q start end g)
+unfolding repeat
+Simulates-repeat text d q start end f g sim =
+    let turned = Simulates-turn text d f g sim start end in
+    Simulates-then text d _ _ _ _ (Simulates-turns text d _ _ turned q.min)
+    (Simulates-up_to_bounds text d _ _ turned q.greedy _ _
+    (more_turns-bound (length text) (length (encode_utf8_all text)) q (length-le-encodes text)))
