@@ -11,7 +11,7 @@ use Rattle.regress_parse.specs.TreeOf.{turned, joined, tree_of_group, tree_of_ti
 use Rattle.regress_parse.specs.Accepted.{Means}
 use Rattle.regress_tree.proofs.laws.ByteStates.{distinct-byte_state}
 use Rattle.regress_tree.proofs.laws.Outcomes.{flat_map-stay}
-use Rattle.regress_tree.proofs.laws.Simulation.{Simulates, Simulates-same_right, Simulates-stay, Simulates-then, Simulates-or, Simulates-one_character, Simulates-capture}
+use Rattle.regress_tree.proofs.laws.Simulation.{Simulates, Simulates-within, Simulates-same_right, Simulates-stay, Simulates-then, Simulates-or, Simulates-one_character, Simulates-capture}
 use Rattle.regress_tree.proofs.laws.Turned.{steps-row_reverse}
 
 module _ (setting : Setting) (bytes : List ℕ) (d : Direction) where
@@ -117,4 +117,4 @@ tree_of-means setting p text s is_text in' =
     let body = tree_of_pattern setting.table forwards 0 p in
     let sim = pattern_simulates setting text is_text forwards 0 p in
     ap distinct (flat_map-stay (steps setting (encode_utf8_all text) forwards body (byte_state text s)) ∙ sim.same s in')
-    ∙ distinct-byte_state text (pattern_steps setting.table text forwards 0 p s) (sim.within s in')
+    ∙ distinct-byte_state text (pattern_steps setting.table text forwards 0 p s) (Simulates-within text forwards _ _ sim s in')
