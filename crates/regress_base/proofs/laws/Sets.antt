@@ -3,13 +3,10 @@ use Rattle.std.proofs.Common.{◌≡◌, ℕ, zero, suc, ◌+◌, ◌<◌, ◌�
 use Rattle.std.proofs.lemmas.Bool.{cases_eq, cases_Bool, cond-true, cond-false, or_left, eq-eqb, ne_eqb}
 use Rattle.std.proofs.lemmas.Bool.Decides.{nat_tests}
 use Rattle.regress_base.specs.Intervals.{Bounds, code_point_max, is_within, is_member, is_canonical_from, IsCanonical, put_before, intervals_from, intervals_of}
-use Rattle.regress_base.proofs.WithinLemmas.{is_within_one, is_within_tells}
+use Rattle.regress_base.proofs.WithinLemmas.{pair, is_within_one, is_within_tells}
 use Rattle.regress_base.proofs.MemberLemmas.{is_member-cons, is_member-append, or_assoc}
 use Rattle.regress_base.proofs.CanonicalLemmas.{canonical_parts, canonical_cons, canonical_lower, no_member_below, no_member_past_end}
 use Rattle.regress_base.proofs.UniqueLemmas.{canonical_unique}
-
-abbrev pair : ℕ → ℕ → Bounds
-pair f l = record { first = f; last = l }
 
 -- ---- one code point more
 
