@@ -1,5 +1,5 @@
 -- What the images of a table of rows keep, told by the code points of the rows that move.
-use Rattle.std.proofs.Common.{◌≡◌, ◌≢◌, ℕ, zero, suc, ◌+◌, ◌-◌, ◌%◌, ◌<◌, ◌≤◌, ◌⊎◌, Bool, true, false, not, ◌&&◌, ◌||◌, nat_lt, ◌==◌, IsTrue, List, [], ◌∷◌, ◌++◌, length, map, cond, filter, get_or, All, inl, inr, refl, sym, ap, subst, ◌∙◌, arith}
+use Rattle.std.proofs.Common.{◌≡◌, ◌≢◌, ℕ, zero, suc, ◌+◌, ◌-◌, ◌%◌, ◌<◌, ◌≤◌, ◌⊎◌, Bool, true, false, not, ◌&&◌, nat_lt, ◌==◌, IsTrue, List, [], ◌∷◌, ◌++◌, length, map, cond, filter, get_or, All, inl, inr, refl, sym, ap, subst, ◌∙◌, arith}
 use Rattle.std.proofs.lemmas.Bool.{cases_eq, eqb-true, eq-eqb}
 use Rattle.std.proofs.Math.Bool.{or-true}
 use Rattle.std.proofs.lemmas.Bool.Decides.{nat_tests}
@@ -10,7 +10,7 @@ use Rattle.regress_base.specs.Intervals.{code_point_max}
 use Rattle.regress_tree.specs.Listing.{lists, is_ascending_from}
 use Rattle.regress_tree.specs.FoldRows.{FoldRow, moved, is_in_row, image_in_row, image, is_in_order_from, is_in_order, are_targets_in_range}
 use Rattle.regress_tree.specs.Table.{IsIdempotent, HasSmallClasses, IsCaseMap}
-use Rattle.regress_tree.proofs.ListingLemmas.{ascending_parts, ascending_lower, ascending_within, ascending_filter, lists-tail, lists-past, lists-filter, length_without, lists-run}
+use Rattle.regress_tree.proofs.ListingLemmas.{ascending_parts, ascending_within, ascending_filter, lists-tail, lists-past, lists-filter, length_without, ascending_append, lists-append, lists-run}
 use Rattle.regress_tree.proofs.RowLemmas.{order_parts, shifted_is}
 
 -- the code points of the rows
@@ -26,10 +26,6 @@ moves f c = not (f c == c)
 abbrev pub movers : (ℕ → ℕ) → List FoldRow → List ℕ
 movers f rows = filter (moves f) (codes rows)
 
-pub lists-append : (xs ys : List ℕ) (c : ℕ) → lists (xs ++ ys) c ≡ (lists xs c || lists ys c)
-lists-append [] ys c = refl
-lists-append (x ∷ xs) ys c = let rest = lists-append xs ys c in grind (arith, nat_tests, rest)
-
 -- a number that has another image is in a row
 pub moves_in_codes : (rows : List FoldRow) (c : ℕ) → (lists (codes rows) c ≡ true) ⊎ (image rows c ≡ c)
 unfolding image
@@ -42,13 +38,6 @@ moves_in_codes (row ∷ rows) c = by_row (is_in_row row c) refl (moves_in_codes 
     by_row false e (inr stays) = inr stays
 
 -- rows in order have ascending code points
-ascending_append : (low start n : ℕ) (ys : List ℕ) → low ≤ start → IsTrue (is_ascending_from (start + n) ys) → IsTrue (is_ascending_from low (range_with_len start n ++ ys))
-ascending_append low start zero ys le h = ascending_lower (start + 0) low ys (omega arith) h
-ascending_append low start (suc n) ys le h =
-    let again : IsTrue (is_ascending_from (start + 1 + n) ys) = subst (λ (k : ℕ). IsTrue (is_ascending_from k ys)) (omega arith) h in
-    let rest = ascending_append (start + 1) (start + 1) n ys (omega arith) again in
-    grind (arith, nat_tests, rest)
-
 pub ascending_codes : (low : ℕ) (rows : List FoldRow) → IsTrue (is_in_order_from low rows) → IsTrue (is_ascending_from low (codes rows))
 ascending_codes low [] h = h
 ascending_codes low (row ∷ rows) h =

@@ -6,3 +6,4 @@ pub mod StringLemmas
 pub mod SmallTableLemmas
 pub mod NamedLemmas
 pub mod TableLemmas
+pub mod SourceLemmas

@@ -45,6 +45,11 @@ is_in_row row c = nat_le row.start c && nat_lt c (row.start + row.length)
 abbrev pub image_in_row : FoldRow → ℕ → ℕ
 image_in_row row c = if (c - row.start) % row.modulo == 0 then moved row.delta c else c
 
+-- whether a code point of the row's run moves, and to the target
+abbrev pub is_source : FoldRow → ℕ → ℕ → Bool
+is_source row target c =
+    is_in_row row c && ((c - row.start) % row.modulo == 0 && moved row.delta c == target)
+
 -- The image under a table of rows: the first row whose run holds the code point tells it, and a code point of no run is
 -- its own image.
 unfoldable pub image : List FoldRow → ℕ → ℕ

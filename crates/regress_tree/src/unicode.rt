@@ -4,14 +4,17 @@ ghost use Rattle.regress_tree.specs.Parts.{parts_from, IsSound};
 
 mod fold_range;
 mod images;
+mod listing;
 mod range;
 mod readers;
 mod small;
+mod unfold;
 
 pub use fold_range::FoldRange;
 pub use images::{fold, uppercase};
 pub use range::CodePointRange;
 use regress_base::codepointset::CodePointSet;
+pub use unfold::{expand_code_point, unfold_char, unfold_uppercase_char};
 
 /// What a pattern needs to know of Unicode: how characters fold, which may stand in a name, and
 /// which have a property. Each value is lawful: an image is its own image, at most four code points
