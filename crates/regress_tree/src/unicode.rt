@@ -8,6 +8,8 @@ mod listing;
 mod range;
 mod readers;
 mod small;
+#[cfg(test)]
+mod tests;
 mod unfold;
 
 pub use fold_range::FoldRange;
