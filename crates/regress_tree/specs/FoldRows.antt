@@ -1,6 +1,7 @@
 -- Rows of a table of images, as the Unicode Character Database lists simple case mappings: a run of code points, and how
 -- far each of them moves.
 use Rattle.std.specs.Prelude.{ℕ, ◌+◌, ◌-◌, ◌%◌, ◌^◌, ◌<◌, ◌≤◌, ◌≡◌, ◌⊎◌, Bool, true, ◌&&◌, nat_le, nat_lt, ◌==◌, if◌then◌else◌, List, [], ◌∷◌, ℤ, pos, negsuc, ◌≤ℤ◌}
+use Rattle.std.specs.List.{list_all}
 use Rattle.regress_base.specs.Intervals.{code_point_max}
 
 -- code points in a row: `length` of them, from `start` on
@@ -77,5 +78,4 @@ is_target_in_range row =
 
 -- the same of each row
 abbrev pub are_targets_in_range : List FoldRow → Bool
-are_targets_in_range [] = true
-are_targets_in_range (row ∷ rows) = is_target_in_range row && are_targets_in_range rows
+are_targets_in_range rows = list_all is_target_in_range rows

@@ -2,12 +2,15 @@
 ghost use Rattle.std.proofs.Props.{props};
 ghost use Rattle.regress_tree.specs.Parts.{parts_from, IsSound};
 
+mod checks;
 mod fold_range;
 mod images;
 mod listing;
+mod new;
 mod range;
 mod readers;
 mod small;
+mod tables_error;
 #[cfg(test)]
 mod tests;
 mod unfold;
@@ -16,6 +19,7 @@ pub use fold_range::FoldRange;
 pub use images::{fold, uppercase};
 pub use range::CodePointRange;
 use regress_base::codepointset::CodePointSet;
+pub use tables_error::{TablesError, Which};
 pub use unfold::{expand_code_point, unfold_char, unfold_uppercase_char};
 
 /// What a pattern needs to know of Unicode: how characters fold, which may stand in a name, and

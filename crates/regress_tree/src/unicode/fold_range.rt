@@ -1,10 +1,11 @@
 //! A row of a table of images, packed.
 ghost use Rattle.std.specs.Prelude.{◌≡◌, ℕ, ◌+◌, ◌-◌, ◌*◌, ◌/◌, ◌%◌, ◌^◌, ◌<◌, ◌≤◌, ◌↔◌, ◌==◌, false, IfSome, IfNone, pos, negsuc, ◌≤ℤ◌, IsTrue};
-ghost use Rattle.regress_tree.specs.FoldRows.{is_in_row, image_in_row, is_source, is_target_in_range, moved, IsModulo};
+ghost use Rattle.regress_tree.specs.FoldRows.{is_in_row, image_in_row, is_source, is_target_in_range, stays_in_range as stays_in_range_spec, moved, IsModulo};
 ghost use Rattle.regress_base.specs.Intervals.{code_point_max};
 ghost use Rattle.std.specs.declared.cmp.Ordering.TheVariants.{Less, Equal, Greater};
 
 use super::range::CodePointRange;
+use regress_base::codepointset::CODE_POINT_MAX;
 use std::cmp::Ordering;
 use std::marker::Model;
 
@@ -159,4 +160,22 @@ impl FoldRange {
             None
         }
     }
+
+    /// Whether the first and the last code point of the run move to code points.
+    pub(super) fn is_target_in_range(&self) -> bool
+        ensures { result ≡ is_target_in_range self.now }
+    {
+        stays_in_range(self.delta(), self.first()) && stays_in_range(self.delta(), self.last())
+    }
+}
+
+/// Whether `c` moved by `delta` is a code point.
+fn stays_in_range(delta: i32, c: u32) -> bool
+    requires low { c < 2 ^ 20 }
+    requires delta_low { negsuc (2 ^ 27 - 1) ≤ℤ delta }
+    requires delta_high { delta ≤ℤ pos (2 ^ 27 - 1) }
+    ensures { result ≡ stays_in_range_spec delta c }
+{
+    let moved = c as i32 + delta;
+    0 <= moved && moved <= CODE_POINT_MAX as i32
 }

@@ -92,7 +92,13 @@ fn lists_of_the_small_table(rt: HostRuntime) -> Result<(), Fail> {
     assert!(rt; is_run(tables.general_category("Zl"), 0x2028, 0x2028));
     assert!(rt; is_run(tables.general_category("Line_Separator"), 0x2028, 0x2028));
     assert!(rt; is_run(tables.general_category("Zp"), 0x2029, 0x2029));
-    assert!(rt; is_run(tables.general_category("Paragraph_Separator"), 0x2029, 0x2029));
+    assert!(rt;
+        is_run(
+            tables.general_category("Paragraph_Separator"),
+            0x2029,
+            0x2029
+        )
+    );
     assert!(rt; is_run(tables.script("Ogam"), 0x1680, 0x169C));
     assert!(rt; is_run(tables.script("Ogham"), 0x1680, 0x169C));
     assert!(rt; is_run(tables.script_extensions("Ogam"), 0x1680, 0x169C));
@@ -129,10 +135,8 @@ fn no_list_has_an_unknown_name(rt: HostRuntime) -> Result<(), Fail> {
 /// Whether each string is a key and the two signs that draw it as a keycap.
 fn are_keycaps(strings: &[Vec<u32>], keys: &[u8]) -> bool {
     strings.len() == keys.len()
-        && strings
-            .iter()
-            .zip(keys)
-            .all(|(string, key)| string.as_slice() == [*key as u32, 0xFE0F, 0x20E3].as_slice())
+        && strings.iter().zip(keys).all(|(string, key)| string.as_slice()
+            == [*key as u32, 0xFE0F, 0x20E3].as_slice())
 }
 
 #[test]
