@@ -1,4 +1,5 @@
 pub mod laws
+mod Examples
 pub mod PackingLemmas
 pub mod RowLemmas
 pub mod ListingLemmas

@@ -1,5 +1,6 @@
-use super::{Node, Regex};
-use regress_base::types::Flags;
+use super::{AnchorType, Node, Quantifier, Regex};
+use regress_base::codepointset::{CodePointSet, Interval};
+use regress_base::types::{BracketContents, Flags};
 use std::alloc::{AllocError, Global};
 use std::test::Fail;
 
@@ -22,5 +23,122 @@ fn long_alternations_are_dropped(rt: HostRuntime) -> Result<(), Fail> {
         flags: Flags::default(),
     };
     assert!(rt; matches!(&regex.node, Node::Alt(..)));
+    Ok(())
+}
+
+fn printed(alloc: Global, node: Node) -> Result<String, AllocError> {
+    let regex = Regex {
+        node,
+        flags: Flags::default(),
+    };
+    format!(in alloc; "{regex}")
+}
+
+/// `&`, and the letters a and b.
+fn bracket(alloc: Global, invert: bool) -> Result<BracketContents, AllocError> {
+    let mut cps = CodePointSet::new(alloc);
+    cps.add(Interval::new(0x26, 0x26))?;
+    cps.add(Interval::new(0x61, 0x62))?;
+    Ok(BracketContents { invert, cps })
+}
+
+#[test]
+fn each_leaf_is_one_line(rt: HostRuntime) -> Result<(), Fail> {
+    let alloc = rt.alloc();
+    let rows = [
+        (Node::Empty, "Empty\n"),
+        (Node::Goal, "Goal\n"),
+        (Node::Char { c: 97 }, "'97'\n"),
+        (Node::MatchAny, "MatchAny\n"),
+        (
+            Node::MatchAnyExceptLineTerminator,
+            "MatchAnyExceptLineTerminator\n",
+        ),
+        (
+            Node::ByteSequence(vec![in alloc; 0x61, 0x62]?),
+            "ByteSeq2 0x6162\n",
+        ),
+        (
+            Node::ByteSet(vec![in alloc; 0x4b, 0x6b]?),
+            "ByteSet2 0x4b 0x6b\n",
+        ),
+        (Node::ByteSet(Vec::new(alloc)), "ByteSet0\n"),
+        (
+            Node::CharSet(vec![in alloc; 0x4b, 0x6b]?),
+            "CharSet 0x4b, 0x6b\n",
+        ),
+        (Node::CharSet(Vec::new(alloc)), "CharSet \n"),
+        (
+            Node::Anchor {
+                anchor_type: AnchorType::StartOfLine,
+                multiline: false,
+            },
+            "Anchor StartOfLine multiline=false\n",
+        ),
+        (
+            Node::Anchor {
+                anchor_type: AnchorType::EndOfLine,
+                multiline: true,
+            },
+            "Anchor EndOfLine multiline=true\n",
+        ),
+        (
+            Node::WordBoundary {
+                invert: false,
+                unicode_icase: false,
+            },
+            "WordBoundary \"\\\\b\" \n",
+        ),
+        (
+            Node::WordBoundary {
+                invert: true,
+                unicode_icase: true,
+            },
+            "WordBoundary \"\\\\B\" \n",
+        ),
+        (
+            Node::Bracket(bracket(alloc, false)?),
+            "Bracket BracketContents { invert: false, cps: CodePointSet { ivs: [U+0026-U+0026, U+0061-U+0062] } }\n",
+        ),
+    ];
+    for (node, line) in rows {
+        assert_eq!(rt; printed(alloc, node)?.as_str(), line);
+    }
+    Ok(())
+}
+
+#[test]
+fn a_loop_stands_above_its_body(rt: HostRuntime) -> Result<(), Fail> {
+    let alloc = rt.alloc();
+    let group = Node::CaptureGroup {
+        id: 0,
+        contents: Box::new(alloc, Node::Char { c: 97 })?,
+        name: None,
+    };
+    let node = Node::Loop {
+        loopee: Box::new(alloc, group)?,
+        quant: Quantifier {
+            min: 2,
+            max: Some(2),
+            greedy: true,
+        },
+        enclosed_groups: 0..1,
+    };
+    assert_eq!(rt;
+        printed(alloc, node)?.as_str(),
+        "Loop (groups 0..1) Quantifier { min: 2, max: Some(2), greedy: true }\n..CaptureGroup 0\n....'97'\n"
+    );
+    let node = Node::Loop1CharBody {
+        loopee: Box::new(alloc, Node::MatchAny)?,
+        quant: Quantifier {
+            min: 0,
+            max: None,
+            greedy: false,
+        },
+    };
+    assert_eq!(rt;
+        printed(alloc, node)?.as_str(),
+        "Loop1Char Quantifier { min: 0, max: None, greedy: false }\n..MatchAny\n"
+    );
     Ok(())
 }

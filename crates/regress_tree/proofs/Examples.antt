@@ -1,0 +1,168 @@
+-- The definitions at worked trees and places, by computation.
+use Rattle.std.proofs.Common.{◌≡◌, ℕ, Bool, true, false, List, [], ◌∷◌, map, Option, Some, None, refl, codes}
+use Rattle.std.specs.Str.{chars}
+use lib.Utf8.{encode}
+use Rattle.regress_base.specs.Classes.{digits}
+use Rattle.regress_base.specs.Intervals.{is_member, is_within}
+use Rattle.regress_base.specs.declared.types.Flags.{Flags}
+use Rattle.regress_tree.specs.declared.ir.node.AnchorType.TheVariants.{StartOfLine, EndOfLine}
+use Rattle.regress_tree.specs.declared.ir.node.Quantifier.{Quantifier}
+use Rattle.regress_tree.specs.Reading.{Direction, forwards, backwards, of_characters, of_bytes, read_after, read_before, character_at}
+use Rattle.regress_tree.specs.Steps.{State, Span, same_state, one_character, these_bytes, hold_at, capture}
+use Rattle.regress_tree.specs.Repetition.{unset, repeat}
+use Rattle.regress_tree.specs.Assertions.{is_word_character, at_anchor, at_boundary}
+use Rattle.regress_tree.specs.Matching.{Setting, matches}
+use Rattle.regress_tree.specs.SmallTable.{small_table}
+use Rattle.regress_tree.specs.Tree.{Tree, leaf, empty, char, byte_sequence, anchor, bracket, alt, wrapped, capture_group, loop, loop_one}
+use Rattle.regress_tree.specs.Units.{loops, account, weight}
+
+abbrev plain : Setting
+plain = record {
+  flags = record { icase = false; multiline = false; dot_all = false; unicode = false; unicode_sets = false };
+  table = small_table;
+}
+
+-- `*`, `*?` and `{2}`
+abbrev star : Quantifier
+star = record { min = 0; max = None; greedy = true }
+
+abbrev lazy_star : Quantifier
+lazy_star = record { min = 0; max = None; greedy = false }
+
+abbrev twice : Quantifier
+twice = record { min = 2; max = Some 2; greedy = true }
+
+abbrev a : Tree
+a = leaf (char 97)
+
+abbrev b : Tree
+b = leaf (char 98)
+
+-- a state where nothing has captured
+abbrev at : ℕ → State
+at place = record { place = place; captures = [] }
+
+-- where one group has captured this
+abbrev with_group : ℕ → Option Span → State
+with_group place span = record { place = place; captures = span ∷ [] }
+
+-- ---- repetition
+
+-- `a*` over "aa" takes as many as it can, and then fewer
+greedy_star : matches plain (codes "aa") forwards (wrapped (loop star 0 0) a) (at 0) ≡ at 2 ∷ at 1 ∷ at 0 ∷ []
+unfolding one_character chars encode character_at read_after repeat same_state
+greedy_star = refl
+
+-- `a*?` over "aa" takes as few as it can, and then more
+lazy_one : matches plain (codes "aa") forwards (wrapped (loop_one lazy_star) a) (at 0) ≡ at 0 ∷ at 1 ∷ at 2 ∷ []
+unfolding one_character chars encode character_at read_after repeat same_state
+lazy_one = refl
+
+-- backwards from the end
+star_backwards : matches plain (codes "aa") backwards (wrapped (loop star 0 0) a) (at 2) ≡ at 0 ∷ at 1 ∷ at 2 ∷ []
+unfolding one_character chars encode character_at read_before repeat same_state
+star_backwards = refl
+
+-- `(?:|a)*` over "a": a turn that does not move is dropped
+empty_turns_are_dropped : matches plain (codes "a") forwards (wrapped (loop star 0 0) (alt (leaf empty) a)) (at 0) ≡ at 1 ∷ at 0 ∷ []
+unfolding one_character chars encode character_at read_after repeat same_state
+empty_turns_are_dropped = refl
+
+-- `(?:|a){2}` over "a": a turn of the least number may be empty
+least_turns_may_be_empty : matches plain (codes "a") forwards (wrapped (loop twice 0 0) (alt (leaf empty) a)) (at 0) ≡ at 0 ∷ at 1 ∷ []
+unfolding one_character chars encode character_at read_after repeat same_state
+least_turns_may_be_empty = refl
+
+-- `(?:(a)|b)*` over "ab": the second turn forgets what the group captured in the first
+turns_forget : matches plain (codes "ab") forwards (wrapped (loop star 0 1) (alt (wrapped (capture_group 0 None) a) b)) (with_group 0 None)
+    ≡ with_group 2 None ∷ with_group 1 (Some (0, 1)) ∷ with_group 0 None ∷ []
+unfolding one_character chars encode character_at read_after capture repeat same_state
+turns_forget = refl
+
+-- the groups around the range keep what they have captured
+unset_middle : unset 1 2 (record { place = 5; captures = Some (0, 1) ∷ Some (1, 2) ∷ Some (2, 3) ∷ [] })
+    ≡ record { place = 5; captures = Some (0, 1) ∷ None ∷ Some (2, 3) ∷ [] }
+unset_middle = refl
+
+-- ---- anchors and boundaries
+
+-- `^` and `$` in "a", a line feed, "b": the ends, and with `multiline` also the ends of a line
+abbrev starts : (multiline : Bool) → List Bool
+starts multiline = map (at_anchor (of_characters (97 ∷ 10 ∷ 98 ∷ [])) StartOfLine multiline) (0 ∷ 1 ∷ 2 ∷ 3 ∷ [])
+
+abbrev ends : (multiline : Bool) → List Bool
+ends multiline = map (at_anchor (of_characters (97 ∷ 10 ∷ 98 ∷ [])) EndOfLine multiline) (0 ∷ 1 ∷ 2 ∷ 3 ∷ [])
+
+one_start : starts false ≡ true ∷ false ∷ false ∷ false ∷ []
+one_start = refl
+
+line_starts : starts true ≡ true ∷ false ∷ true ∷ false ∷ []
+unfolding is_member is_within
+line_starts = refl
+
+one_end : ends false ≡ false ∷ false ∷ false ∷ true ∷ []
+one_end = refl
+
+line_ends : ends true ≡ false ∷ true ∷ false ∷ true ∷ []
+unfolding is_member is_within
+line_ends = refl
+
+-- a tree's anchor asks the bytes: behind U+2028, three bytes, a line starts
+behind_a_separator : matches plain (0xE2 ∷ 0x80 ∷ 0xA8 ∷ []) forwards (leaf (anchor StartOfLine true)) (at 3) ≡ at 3 ∷ []
+unfolding is_member is_within hold_at chars encode character_at read_before same_state
+behind_a_separator = refl
+
+-- in "a-": a boundary before and behind the letter, none at the end
+abbrev boundaries : (invert : Bool) → List Bool
+boundaries invert = map (at_boundary (of_characters (codes "a-")) (is_word_character small_table false) invert) (0 ∷ 1 ∷ 2 ∷ [])
+
+at_boundaries : boundaries false ≡ true ∷ true ∷ false ∷ []
+unfolding is_member is_within
+at_boundaries = refl
+
+off_boundaries : boundaries true ≡ false ∷ false ∷ true ∷ []
+unfolding is_member is_within
+off_boundaries = refl
+
+-- ---- bytes and brackets
+
+-- a byte sequence compares its bytes as they stand, behind the place or before it
+bytes_behind : matches plain (codes "abab") forwards (leaf (byte_sequence (codes "ab"))) (at 2) ≡ at 4 ∷ []
+unfolding these_bytes same_state
+bytes_behind = refl
+
+bytes_before : matches plain (codes "abab") backwards (leaf (byte_sequence (codes "ab"))) (at 2) ≡ at 0 ∷ []
+unfolding these_bytes same_state
+bytes_before = refl
+
+other_bytes_before : matches plain (codes "abab") backwards (leaf (byte_sequence (codes "ab"))) (at 3) ≡ []
+unfolding these_bytes
+other_bytes_before = refl
+
+too_few_bytes_before : matches plain (codes "abab") backwards (leaf (byte_sequence (codes "ab"))) (at 1) ≡ []
+unfolding these_bytes
+too_few_bytes_before = refl
+
+-- `[^\d]` takes a letter, and no digit
+letter_is_no_digit : matches plain (codes "a1") forwards (leaf (bracket true digits)) (at 0) ≡ at 1 ∷ []
+unfolding is_member is_within one_character chars encode character_at read_after same_state
+letter_is_no_digit = refl
+
+digit_is_one : matches plain (codes "a1") forwards (leaf (bracket true digits)) (at 1) ≡ []
+unfolding is_member is_within one_character chars encode character_at read_after
+digit_is_one = refl
+
+-- ---- sizes
+
+-- a loop may be unrolled where its least number is not 0, and then its account holds what that may add
+star_stays : loops (wrapped (loop star 0 0) a) ≡ 0
+star_stays = refl
+
+twice_is_unrolled : loops (wrapped (loop twice 0 0) (wrapped (loop_one twice) a)) ≡ 1
+twice_is_unrolled = refl
+
+account_of_twice : account (wrapped (loop twice 0 0) a) ≡ 6407
+account_of_twice = refl
+
+weights : weight (wrapped (loop star 0 0) (wrapped (loop_one star) (leaf (bracket false digits)))) ≡ 10
+weights = refl
