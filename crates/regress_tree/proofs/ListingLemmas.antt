@@ -5,8 +5,7 @@ use Rattle.std.proofs.lemmas.Bool.Decides.{nat_tests}
 use Rattle.std.proofs.lemmas.List.Elements.{All-nil, All-cons}
 use Rattle.std.specs.List.{range_with_len, flat_map}
 use Rattle.regress_base.specs.Intervals.{Bounds, code_point_max, is_within, is_member, is_canonical_from, IsCanonical}
-use Rattle.regress_base.proofs.MemberLemmas.{is_member-nil, is_member-cons}
-use Rattle.regress_base.proofs.CanonicalLemmas.{canonical_parts, member_above}
+use Rattle.regress_base.proofs.laws.Sets.{is_member-nil, is_member-cons, canonical_parts, member_above}
 use Rattle.regress_tree.specs.Listing.{lists, is_ascending_from, IsListing}
 use Rattle.regress_tree.specs.Table.{code_points, HasSmallClasses}
 

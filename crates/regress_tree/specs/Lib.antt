@@ -7,6 +7,7 @@ pub mod Moves
 pub mod Refusals
 pub mod TableOf
 pub mod Tree
+pub mod Literal
 pub mod Reading
 pub mod Steps
 pub mod Assertions

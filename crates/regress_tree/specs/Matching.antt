@@ -1,8 +1,8 @@
 -- What a tree matches, over the bytes of a text.
 use Rattle.std.specs.Prelude.{ℕ, ◌+◌, Bool, true, not, ◌==◌, List, length}
-use Rattle.std.specs.List.{list_any}
 use Rattle.regress_base.specs.Brackets.{is_accepted}
 use Rattle.regress_base.specs.declared.types.Flags.{Flags}
+use Rattle.regress_tree.specs.Listing.{lists}
 use Rattle.regress_tree.specs.Table.{Table}
 use Rattle.regress_tree.specs.Reading.{Direction, of_bytes}
 use Rattle.regress_tree.specs.Steps.{Step, distinct, stay, ◌then_◌, ◌or_◌, one_character, these_bytes, hold_at, capture}
@@ -14,10 +14,6 @@ use Rattle.regress_tree.specs.Tree.{Leaf, empty, goal, char, byte_sequence, byte
 pub record Setting : Type 0 where
   pub flags : Flags
   pub table : Table
-
--- one of a small set
-abbrev pub is_among : List ℕ → ℕ → Bool
-is_among members x = list_any (λ m. m == x) members
 
 -- the direction in which what a wrapper holds is matched
 abbrev pub direction_in : Wrapper → Direction → Direction
@@ -32,8 +28,8 @@ module _ (setting : Setting) (bytes : List ℕ) where
   leaf_steps d goal = stay
   leaf_steps d (char c) = one_character d (of_bytes bytes) (λ x. x == c)
   leaf_steps d (byte_sequence written) = these_bytes d bytes written
-  leaf_steps d (byte_set members) = one_character d (of_bytes bytes) (is_among members)
-  leaf_steps d (char_set members) = one_character d (of_bytes bytes) (is_among members)
+  leaf_steps d (byte_set members) = one_character d (of_bytes bytes) (lists members)
+  leaf_steps d (char_set members) = one_character d (of_bytes bytes) (lists members)
   leaf_steps d match_any = one_character d (of_bytes bytes) (λ x. true)
   leaf_steps d match_any_except_line_terminator = one_character d (of_bytes bytes) (λ x. not (is_line_terminator x))
   leaf_steps d (anchor kind multiline) = hold_at (at_anchor (of_bytes bytes) kind multiline)
