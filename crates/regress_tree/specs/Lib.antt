@@ -3,6 +3,7 @@ pub mod TableOf
 pub mod Tree
 pub mod Reading
 pub mod Steps
+pub mod Ending
 pub mod Matching
 pub mod Walk
 pub mod WellFormed
