@@ -53,7 +53,8 @@ module _ (now : List Node) (i : ℕ) (in_row : i < length now) where
         let rest : drop i initial ≡ behind =
         sym unvisited ∙ drop-cons now i old in_row ∙ ap (λ n. n ∷ drop (suc i) now) (sym at) in
         let cut : initial ≡ take i initial ++ behind = sym (take-append-drop i initial) ∙ ap (λ nodes. take i initial ++ nodes) rest in
-        let whole : trees initial ≡ row_append (trees (take i initial)) (trees behind) = ap trees cut ∙ trees-append (take i initial) behind in
+        let whole : trees initial ≡ row_append (trees (take i initial)) (trees behind) =
+        ap trees cut ∙ trees-append (take i initial) behind in
         omega (arith, ap units_in_row whole, units-append (trees (take i initial)) (trees behind))
 
     module _ (shape : Tree → Bool) (exact : Bool) (d : Direction) (initial : List Node) (changed : Bool) (new : Node) where

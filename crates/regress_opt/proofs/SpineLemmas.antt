@@ -14,12 +14,6 @@ use Rattle.regress_opt.proofs.SweepLemmas.{joined, Swept-put, Swept-then, Swept-
 
 -- What stands at the end of the way, and the whole.
 
-pub reattach-none : (above t : Tree) → is_alt above ≡ false → reattach above t ≡ t
-reattach-none (leaf l) t none = refl
-reattach-none (cat parts) t none = refl
-reattach-none (alt left above) t none = absurd (true≢false none)
-reattach-none (wrapped w body) t none = refl
-
 pub IsPart-reattach : (above t : Tree) → IsPart (reattach above t) → IsPart t
 IsPart-reattach (leaf l) t part = part
 IsPart-reattach (cat parts) t part = part
