@@ -2,11 +2,10 @@
 use Rattle.std.specs.Prelude.{◌≡◌, ℕ, Option, Some, None, Result, Ok, Err}
 use Rattle.regress_syntax.specs.declared.fault.ParseFault.{ParseFault}
 use Rattle.regress_syntax.specs.declared.fault.ParseFault.TheVariants as fault
-use Rattle.regress_syntax.specs.Syntax.{Pattern}
-use Rattle.regress_parse.specs.Accepted.{IsAccepted, NoneIsAccepted}
 use Rattle.regex_front.specs.declared.failure.Failure.{Failure}
 use Rattle.regex_front.specs.declared.failure.Failure.TheVariants.{Syntax, Usage, Memory, Output}
 use Rattle.regex_front.specs.Request.{Request}
+use Rattle.regex_front.specs.Printed.{IsAcceptedPattern, NoneIsAccepted}
 
 -- the status of a failure
 abbrev pub status_of : Failure → ℕ
@@ -20,15 +19,22 @@ abbrev pub failure_of : ParseFault → Failure
 failure_of (fault.Syntax e) = Syntax e
 failure_of (fault.Memory e) = Memory
 
--- A fault of the pattern is told only of one that isn't accepted.
+-- A fault of the pattern is told only of one that isn't accepted, and one of the output only where there is output.
 abbrev pub IsDue : Request → Failure → Type 0
-IsDue (text, flags) (Syntax e) = NoneIsAccepted flags text
-IsDue (text, flags) Usage = ⊥
-IsDue (text, flags) Memory = Unit {0}
-IsDue (text, flags) Output = Unit {0}
+IsDue request (Syntax e) = NoneIsAccepted request
+IsDue request Usage = ⊥
+IsDue request Memory = Unit {0}
+IsDue request Output = IsAcceptedPattern request
 
 -- What a run answers: nothing is asked, or the pattern is accepted, or a failure is due.
 abbrev pub Ends : Option Request → Result (Unit {0}) Failure → Type 0
 Ends None r = r ≡ Err Usage
-Ends (Some (text, flags)) (Ok done) = (p : Pattern) × IsAccepted flags text p
+Ends (Some request) (Ok done) = IsAcceptedPattern request
 Ends (Some request) (Err failure) = IsDue request failure
+
+-- The arguments can't be had: one isn't UTF-8, or no memory was found for them.
+abbrev pub IsOfArguments : Failure → Type 0
+IsOfArguments (Syntax e) = ⊥
+IsOfArguments Usage = Unit {0}
+IsOfArguments Memory = Unit {0}
+IsOfArguments Output = ⊥

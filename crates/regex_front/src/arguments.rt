@@ -1,13 +1,39 @@
 //! What the program is asked.
-ghost use Rattle.std.specs.Prelude.{◌≡◌, option_map, chars};
+ghost use Rattle.std.specs.Prelude.{◌≡◌, ◌≢◌, IfErr, option_map, chars};
+ghost use Rattle.std.specs.IoError.{error_kind};
+ghost use Rattle.regex_front.specs.declared.failure.Failure.TheVariants.{Memory, Usage};
 ghost use Rattle.regex_front.specs.Request.{no_flags, with_letter, with_letters, request_of};
+ghost use Rattle.regex_front.specs.Ending.{IsOfArguments};
 
+use crate::failure::Failure;
 use regress_front::types::Flags;
+use std::env::{self, Env};
+use std::io::{self, ErrorKind};
 
 /// A pattern, and the flags that the letters name.
 pub(crate) struct Request<'a> {
     pub(crate) pattern: &'a str,
     pub(crate) flags: Flags,
+}
+
+/// The program's arguments, without its own name. The failure is `Memory` where no memory was found for them,
+/// and `Usage` where one isn't UTF-8: no such text is a pattern or a letter.
+pub(crate) fn arguments<R: Env + AllocGlobal>(rt: &R) -> Result<Vec<String>, Failure>
+    ensures { IfErr result IsOfArguments }
+{
+    let args = env::args(rt).map_err(unread)?;
+    Ok(args.skip(1).collect(rt.alloc())?)
+}
+
+/// Why the arguments can't be had.
+fn unread(error: io::Error) -> Failure
+    ensures memory { error_kind error ≡ ErrorKind.OutOfMemory → result ≡ Memory }
+    ensures other { error_kind error ≢ ErrorKind.OutOfMemory → result ≡ Usage }
+{
+    match error.kind() {
+        ErrorKind::OutOfMemory => Failure::Memory,
+        _ => Failure::Usage,
+    }
 }
 
 /// Reads `PATTERN [FLAGS]`, or nothing where there are fewer or more arguments, or a letter is none of

@@ -1,12 +1,14 @@
 //! Why a run ends with another status than 0.
 ghost use Rattle.std.specs.Prelude.{◌≡◌};
+ghost use Rattle.regex_front.specs.declared.failure.Failure.TheVariants.{Output};
 ghost use Rattle.regex_front.specs.Ending.{status_of};
 
 use regress_front::parse::{Error, ParseFault};
 use std::alloc::AllocError;
-use std::io::{self, Write};
+use std::io::Write;
 
-/// Why a run ends with another status than 0.
+/// Why a run ends with another status than 0. No `io::Error` is converted by `?`: it says that the output
+/// can't be written only where it comes from a write.
 #[derive(Debug, Drop)]
 pub(crate) enum Failure {
     /// The pattern has a fault: status 1.
@@ -30,17 +32,6 @@ impl From<AllocError> for Failure {
     }
 }
 
-impl From<io::Error> for Failure {
-    ghost use Rattle.std.specs.Prelude.{◌≡◌};
-    ghost use Rattle.regex_front.specs.declared.failure.Failure.TheVariants.{Output};
-
-    ghost from_gives = { λ _ failure. failure ≡ Output };
-
-    fn from(_: io::Error) -> Failure {
-        Failure::Output
-    }
-}
-
 impl From<ParseFault> for Failure {
     ghost use Rattle.std.specs.Prelude.{◌≡◌};
     ghost use Rattle.regex_front.specs.Ending.{failure_of};
@@ -57,7 +48,8 @@ impl From<ParseFault> for Failure {
 
 /// Writes what a failure has to say to `err`, and answers its status. A failing write changes nothing.
 pub(crate) fn tell<E: Write>(failure: Failure, err: &mut E) -> u8
-    ensures { result ≡ status_of failure }
+    ensures status { result ≡ status_of failure }
+    ensures quiet { failure ≡ Output → err.new ≡ err.old }
 {
     match failure {
         Failure::Syntax(error) => {

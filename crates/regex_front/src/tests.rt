@@ -1,37 +1,85 @@
 //! Each status of the program, with what it writes.
 
+use crate::arguments::arguments;
 use crate::failure::{Failure, tell};
 use crate::front::run_front;
 use std::alloc::{AllocError, Global};
+use std::env::{Env, FillError};
 use std::io::{self, ErrorKind, Write};
 use std::test::Fail;
 
-/// A writer that keeps what it takes, and fails at the write after `left` ones.
+/// A writer that keeps what it takes, and fails once it has taken `writes` writes or `flushes` flushes.
 #[derive(Drop)]
 struct Paper {
     text: Vec<u8>,
-    left: usize,
+    writes: usize,
+    flushes: usize,
 }
 
 impl Write for Paper {
     fn write(&mut self, buf: &[u8]) -> io::Result<usize> {
-        if self.left == 0 {
-            return Err(io::Error::from(ErrorKind::BrokenPipe));
-        }
-        self.left -= 1;
+        use_up(&mut self.writes)?;
         self.text.extend_from_slice(buf)?;
         Ok(buf.len())
     }
 
     fn flush(&mut self) -> io::Result<()> {
-        Ok(())
+        use_up(&mut self.flushes)
     }
 }
 
-fn blank(alloc: Global, left: usize) -> Paper {
+fn use_up(left: &mut usize) -> io::Result<()> {
+    if *left == 0 {
+        return Err(io::Error::from(ErrorKind::BrokenPipe));
+    }
+    *left -= 1;
+    Ok(())
+}
+
+fn blank(alloc: Global) -> Paper {
     Paper {
         text: Vec::new(alloc),
-        left,
+        writes: usize::MAX,
+        flushes: usize::MAX,
+    }
+}
+
+fn full(alloc: Global) -> Paper {
+    Paper {
+        writes: 0,
+        ..blank(alloc)
+    }
+}
+
+/// A runtime whose program is given these arguments.
+#[derive(Drop)]
+struct Given<'a> {
+    alloc: Global,
+    words: &'a [&'a [u8]],
+}
+
+impl Alloc for Given<'_> {
+    type A = Global;
+
+    fn alloc(&self) -> Global {
+        self.alloc
+    }
+}
+
+impl Env for Given<'_> {
+    fn arg(&self, i: usize, buf: &mut [u8]) -> Result<usize, FillError> {
+        let word = self.words.get(i).ok_or(FillError::NotPresent)?;
+        let room = buf.get_mut(..word.len()).ok_or(FillError::TooLong)?;
+        room.copy_from_slice(word);
+        Ok(word.len())
+    }
+
+    fn var(&self, _name: &str, _buf: &mut [u8]) -> Result<usize, FillError> {
+        Err(FillError::NotPresent)
+    }
+
+    fn var_at(&self, _i: usize, _buf: &mut [u8]) -> Result<usize, FillError> {
+        Err(FillError::NotPresent)
     }
 }
 
@@ -96,8 +144,8 @@ fn each_status_comes_with_its_output(rt: HostRuntime) -> Result<(), Fail> {
     ];
     for (words, status, out, err) in rows {
         let args = strings(alloc, words)?;
-        let mut written = blank(alloc, usize::MAX);
-        let mut told = blank(alloc, usize::MAX);
+        let mut written = blank(alloc);
+        let mut told = blank(alloc);
         assert_eq!(rt;
             run_front(alloc, &args, &mut written, &mut told),
             status,
@@ -113,15 +161,17 @@ fn each_status_comes_with_its_output(rt: HostRuntime) -> Result<(), Fail> {
 fn a_refused_write_to_the_output_ends_with_status_4(rt: HostRuntime) -> Result<(), Fail> {
     let alloc = rt.alloc();
     let args = strings(alloc, &[FIRST_PATTERN])?;
-    let mut full = false;
+    let mut refused = 0;
     for writes in 0..1000 {
-        let mut written = blank(alloc, writes);
-        let mut told = blank(alloc, usize::MAX);
+        let mut written = Paper {
+            writes,
+            ..blank(alloc)
+        };
+        let mut told = blank(alloc);
         let status = run_front(alloc, &args, &mut written, &mut told);
         assert!(rt; told.text.is_empty());
         if status == 0 {
             assert_eq!(rt; written.text.as_slice(), FIRST_OUTPUT.as_bytes());
-            full = true;
             break;
         }
         assert_eq!(rt; status, 4, "at write {writes}");
@@ -129,33 +179,85 @@ fn a_refused_write_to_the_output_ends_with_status_4(rt: HostRuntime) -> Result<(
             FIRST_OUTPUT.as_bytes().starts_with(written.text.as_slice()),
             "at write {writes}"
         );
+        refused = writes + 1;
     }
-    assert!(rt; full);
+    assert!(rt; 0 < refused && refused < 1000, "{refused} writes");
+    Ok(())
+}
+
+#[test]
+fn a_refused_flush_of_the_output_ends_with_status_4(rt: HostRuntime) -> Result<(), Fail> {
+    let alloc = rt.alloc();
+    let args = strings(alloc, &[FIRST_PATTERN])?;
+    let mut refused = 0;
+    for flushes in 0..10 {
+        let mut written = Paper {
+            flushes,
+            ..blank(alloc)
+        };
+        let mut told = blank(alloc);
+        let status = run_front(alloc, &args, &mut written, &mut told);
+        assert!(rt; told.text.is_empty());
+        if status == 0 {
+            break;
+        }
+        assert_eq!(rt; status, 4, "at flush {flushes}");
+        refused = flushes + 1;
+    }
+    assert!(rt; 0 < refused && refused < 10, "{refused} flushes");
     Ok(())
 }
 
 #[test]
 fn want_of_memory_is_told_with_status_3(rt: HostRuntime) -> Result<(), Fail> {
-    let mut told = blank(rt.alloc(), usize::MAX);
+    let mut told = blank(rt.alloc());
     assert_eq!(rt; tell(Failure::Memory, &mut told), 3);
     assert_eq!(rt; told.text.as_slice(), "error: out of memory\n".as_bytes());
-    assert_eq!(rt; tell(Failure::Memory, &mut blank(rt.alloc(), 0)), 3);
+    assert_eq!(rt; tell(Failure::Memory, &mut full(rt.alloc())), 3);
     Ok(())
 }
 
 #[test]
 fn a_refused_write_of_the_error_changes_no_status(rt: HostRuntime) -> Result<(), Fail> {
     let alloc = rt.alloc();
-    let mut written = blank(alloc, usize::MAX);
+    let mut written = blank(alloc);
     let fault = strings(alloc, &["a)"])?;
-    assert_eq!(rt;
-        run_front(alloc, &fault, &mut written, &mut blank(alloc, 0)),
-        1
-    );
-    assert_eq!(rt;
-        run_front(alloc, &[], &mut written, &mut blank(alloc, 0)),
-        2
-    );
+    assert_eq!(rt; run_front(alloc, &fault, &mut written, &mut full(alloc)), 1);
+    assert_eq!(rt; run_front(alloc, &[], &mut written, &mut full(alloc)), 2);
     assert!(rt; written.text.is_empty());
     Ok(())
+}
+
+#[test]
+fn arguments_are_utf_8(rt: HostRuntime) -> Result<(), Fail> {
+    let alloc = rt.alloc();
+    let words: [&[u8]; 3] = [b"regex-front", "\u{E9}".as_bytes(), b"s"];
+    let given = Given {
+        alloc,
+        words: &words,
+    };
+    let Ok(args) = arguments(&given) else {
+        assert!(rt; false, "they are refused");
+        return Ok(());
+    };
+    let found = args.iter().map(|arg| arg.as_str());
+    assert!(rt; found.eq(["\u{E9}", "s"].iter().copied()));
+    Ok(())
+}
+
+#[test]
+fn an_argument_that_is_not_utf_8_is_told_with_status_2(rt: HostRuntime) {
+    let alloc = rt.alloc();
+    let words: [&[u8]; 2] = [b"regex-front", b"\xFF"];
+    let given = Given {
+        alloc,
+        words: &words,
+    };
+    let Err(failure) = arguments(&given) else {
+        assert!(rt; false, "it is taken");
+        return;
+    };
+    let mut told = blank(alloc);
+    assert_eq!(rt; tell(failure, &mut told), 2);
+    assert_eq!(rt; told.text.as_slice(), USAGE.as_bytes());
 }

@@ -15,15 +15,21 @@ use Rattle.regress_base.proofs.CanonicalLemmas.{canonical_at, canonical_apart}
 unfoldable pub merge_place : Bounds → Bounds → Ordering
 merge_place iv old = cond (nat_lt (old.last + 1) iv.first) Less (cond (nat_lt (iv.last + 1) old.first) Greater Equal)
 
-pub merge_place_tells : (iv old : Bounds) → MatchOrdering (merge_place iv old) (old.last + 1 < iv.first) ((iv.first ≤ old.last + 1) × (old.first ≤ iv.last + 1)) (iv.last + 1 < old.first)
+pub merge_place_tells : (iv old : Bounds)
+    → MatchOrdering (merge_place iv old) (old.last + 1 < iv.first) ((iv.first ≤ old.last + 1) × (old.first ≤ iv.last + 1))
+    (iv.last + 1 < old.first)
 unfolding merge_place
 merge_place_tells iv old = grind (arith, nat_tests)
 
 -- an interval does not come later than one behind it
-merge_place-rises : (iv a b : Bounds) → IsInterval iv → IsInterval a → IsInterval b → a.last + 1 < b.first → ordering_index (merge_place iv a) ≤ ordering_index (merge_place iv b)
+merge_place-rises : (iv a b : Bounds) → IsInterval iv → IsInterval a → IsInterval b → a.last + 1 < b.first
+    → ordering_index (merge_place iv a) ≤ ordering_index (merge_place iv b)
 merge_place-rises iv a b hi ha hb apart = by_places (merge_place iv a) (merge_place iv b) (merge_place_tells iv a) (merge_place_tells iv b)
   where
-    by_places : (x y : Ordering) → MatchOrdering x (a.last + 1 < iv.first) ((iv.first ≤ a.last + 1) × (a.first ≤ iv.last + 1)) (iv.last + 1 < a.first) → MatchOrdering y (b.last + 1 < iv.first) ((iv.first ≤ b.last + 1) × (b.first ≤ iv.last + 1)) (iv.last + 1 < b.first) → ordering_index x ≤ ordering_index y
+    by_places : (x y : Ordering)
+        → MatchOrdering x (a.last + 1 < iv.first) ((iv.first ≤ a.last + 1) × (a.first ≤ iv.last + 1)) (iv.last + 1 < a.first)
+        → MatchOrdering y (b.last + 1 < iv.first) ((iv.first ≤ b.last + 1) × (b.first ≤ iv.last + 1)) (iv.last + 1 < b.first)
+        → ordering_index x ≤ ordering_index y
     by_places Less y s t = omega arith
     by_places Equal Less s t = absurd (omega (arith, hb.ordered, s.0, t))
     by_places Equal Equal s t = le_refl 1
@@ -32,24 +38,30 @@ merge_place-rises iv a b hi ha hb apart = by_places (merge_place iv a) (merge_pl
     by_places Greater Equal s t = absurd (omega (arith, ha.ordered, s, t.1))
     by_places Greater Greater s t = le_refl 2
 
-pub merge_places_rise : (iv : Bounds) (ivs : List Bounds) → IsInterval iv → IsCanonical ivs → IsNonDecreasingBy (λ old. ordering_index (merge_place iv old)) ivs
+pub merge_places_rise : (iv : Bounds) (ivs : List Bounds) → IsInterval iv → IsCanonical ivs
+    → IsNonDecreasingBy (λ old. ordering_index (merge_place iv old)) ivs
 merge_places_rise iv ivs hi can i j d le lt =
     elim (cases_lt i j) [
-      | inl before ↦ merge_place-rises iv (get_or ivs i d) (get_or ivs j d) hi (canonical_at 0 ivs i d can (omega arith)).interval (canonical_at 0 ivs j d can lt).interval (canonical_apart 0 ivs i j d can before lt)
+      | inl before ↦ merge_place-rises iv (get_or ivs i d) (get_or ivs j d) hi (canonical_at 0 ivs i d can (omega arith)).interval
+          (canonical_at 0 ivs j d can lt).interval (canonical_apart 0 ivs i j d can before lt)
       | inr not_before ↦ (let same : i ≡ j = omega arith in le_of_eq (ap (λ k. ordering_index (merge_place iv (get_or ivs k d))) same))
     ]
 
-placed : (iv old : Bounds) (o : Ordering) → merge_place iv old ≡ o → MatchOrdering o (old.last + 1 < iv.first) ((iv.first ≤ old.last + 1) × (old.first ≤ iv.last + 1)) (iv.last + 1 < old.first)
+placed : (iv old : Bounds) (o : Ordering) → merge_place iv old ≡ o
+    → MatchOrdering o (old.last + 1 < iv.first) ((iv.first ≤ old.last + 1) × (old.first ≤ iv.last + 1)) (iv.last + 1 < old.first)
 placed iv old o e =
-    subst (λ (p : Ordering). MatchOrdering p (old.last + 1 < iv.first) ((iv.first ≤ old.last + 1) × (old.first ≤ iv.last + 1)) (iv.last + 1 < old.first)) e (merge_place_tells iv old)
+    subst (λ (p : Ordering). MatchOrdering p (old.last + 1 < iv.first) ((iv.first ≤ old.last + 1) × (old.first ≤ iv.last + 1))
+    (iv.last + 1 < old.first)) e (merge_place_tells iv old)
 
 -- the range of equals by that place is the touching range
-pub touching-from_equal_range : (ivs : List Bounds) (iv : Bounds) (start end : ℕ) → IsEqualRange (merge_place iv) ivs start end → IsTouchingRange ivs iv start end
+pub touching-from_equal_range : (ivs : List Bounds) (iv : Bounds) (start end : ℕ) → IsEqualRange (merge_place iv) ivs start end
+    → IsTouchingRange ivs iv start end
 touching-from_equal_range ivs iv start end range = record {
   in_order = range.in_order;
   in_bounds = range.in_bounds;
   before = λ k d from to. placed iv (get_or ivs k d) Less (range.less k d from to);
-  touching = λ k d from to. (let t = placed iv (get_or ivs k d) Equal (range.equal k d from to) in record { not_before = t.0; not_after = t.1 });
+  touching = λ k d from to.
+      let t = placed iv (get_or ivs k d) Equal (range.equal k d from to) in record { not_before = t.0; not_after = t.1 };
   behind = λ k d from to. placed iv (get_or ivs k d) Greater (range.greater k d from to);
 }
 
@@ -68,11 +80,13 @@ last_at ivs last can at =
       some = omega arith;
       here = here;
       interval = subst IsInterval (here last) (canonical_at 0 ivs (length ivs - 1) last can inside).interval;
-      after = λ k d before. (let P : Bounds → Type 0 = λ b. (get_or ivs k d).last + 1 < b.first in subst P (here d) (canonical_apart 0 ivs k (length ivs - 1) d can before inside));
+      after = λ k d before. (let P : Bounds → Type 0 = λ b. (get_or ivs k d).last + 1 < b.first in
+          subst P (here d) (canonical_apart 0 ivs k (length ivs - 1) d can before inside));
     }
 
 -- an interval that begins behind the last one
-pub touching-behind_all : (ivs : List Bounds) (iv last : Bounds) → IsCanonical ivs → slice_get ivs (length ivs - 1) ≡ Some last → last.last + 1 < iv.first → IsTouchingRange ivs iv (length ivs) (length ivs)
+pub touching-behind_all : (ivs : List Bounds) (iv last : Bounds) → IsCanonical ivs → slice_get ivs (length ivs - 1) ≡ Some last
+    → last.last + 1 < iv.first → IsTouchingRange ivs iv (length ivs) (length ivs)
 touching-behind_all ivs iv last can at behind =
     let l = last_at ivs last can at in
     let ordered = l.interval.ordered in
@@ -90,7 +104,9 @@ touching-behind_all ivs iv last can at behind =
     }
 
 -- an interval that begins in the last one
-pub touching-in_last : (ivs : List Bounds) (iv last : Bounds) → IsCanonical ivs → iv.first ≤ iv.last → slice_get ivs (length ivs - 1) ≡ Some last → iv.first ≤ last.last + 1 → last.first ≤ iv.first → IsTouchingRange ivs iv (length ivs - 1) (length ivs)
+pub touching-in_last : (ivs : List Bounds) (iv last : Bounds) → IsCanonical ivs → iv.first ≤ iv.last
+    → slice_get ivs (length ivs - 1) ≡ Some last → iv.first ≤ last.last + 1 → last.first ≤ iv.first
+    → IsTouchingRange ivs iv (length ivs - 1) (length ivs)
 touching-in_last ivs iv last can ordered at reaches from_last =
     let l = last_at ivs last can at in
     record {

@@ -29,7 +29,8 @@ canonical_cons low iv ivs p =
     (and_from (nat_le iv.last code_point_max) _ (le-leb iv.last code_point_max p.interval.in_range) p.rest))
 
 -- a list may begin lower than it must
-pub canonical_lower : (low low' : ℕ) (ivs : List Bounds) → low' ≤ low → IsTrue (is_canonical_from low ivs) → IsTrue (is_canonical_from low' ivs)
+pub canonical_lower : (low low' : ℕ) (ivs : List Bounds) → low' ≤ low → IsTrue (is_canonical_from low ivs)
+    → IsTrue (is_canonical_from low' ivs)
 canonical_lower low low' [] h can = refl
 canonical_lower low low' (iv ∷ ivs) h can =
     let p = canonical_parts low iv ivs can in
@@ -49,7 +50,8 @@ unfolding next_low
 next_low-push low [] iv = refl
 next_low-push low (x ∷ xs) iv = next_low-push (x.last + 2) xs iv
 
-pub canonical_append : (low : ℕ) (xs ys : List Bounds) → IsTrue (is_canonical_from low xs) → IsTrue (is_canonical_from (next_low low xs) ys) → IsTrue (is_canonical_from low (xs ++ ys))
+pub canonical_append : (low : ℕ) (xs ys : List Bounds) → IsTrue (is_canonical_from low xs)
+    → IsTrue (is_canonical_from (next_low low xs) ys) → IsTrue (is_canonical_from low (xs ++ ys))
 unfolding next_low
 canonical_append low [] ys a b = b
 canonical_append low (x ∷ xs) ys a b =
@@ -62,7 +64,8 @@ canonical_front low (x ∷ xs) ys can =
     let p = canonical_parts low x (xs ++ ys) can in
     canonical_cons low x xs (record { above = p.above; interval = p.interval; rest = canonical_front (x.last + 2) xs ys p.rest })
 
-pub canonical_back : (low : ℕ) (xs ys : List Bounds) → IsTrue (is_canonical_from low (xs ++ ys)) → IsTrue (is_canonical_from (next_low low xs) ys)
+pub canonical_back : (low : ℕ) (xs ys : List Bounds) → IsTrue (is_canonical_from low (xs ++ ys))
+    → IsTrue (is_canonical_from (next_low low xs) ys)
 unfolding next_low
 canonical_back low [] ys can = can
 canonical_back low (x ∷ xs) ys can = canonical_back (x.last + 2) xs ys (canonical_parts low x (xs ++ ys) can).rest
@@ -72,7 +75,8 @@ pub record CanonicalAt (low : ℕ) (iv : Bounds) : Type 0 where
   pub above : low ≤ iv.first
   pub interval : IsInterval iv
 
-pub canonical_at : (low : ℕ) (ivs : List Bounds) (k : ℕ) (d : Bounds) → IsTrue (is_canonical_from low ivs) → k < length ivs → CanonicalAt low (get_or ivs k d)
+pub canonical_at : (low : ℕ) (ivs : List Bounds) (k : ℕ) (d : Bounds) → IsTrue (is_canonical_from low ivs) → k < length ivs
+    → CanonicalAt low (get_or ivs k d)
 canonical_at low [] k d can h = absurd (not-suc-le-zero h)
 canonical_at low (iv ∷ ivs) zero d can h =
     let p = canonical_parts low iv ivs can in record { above = p.above; interval = p.interval }
@@ -85,7 +89,8 @@ canonical_at low (iv ∷ ivs) (suc k) d can h =
     canonical_at_low low iv at p rest = omega (arith, p.above, p.interval.ordered, rest.above)
 
 -- at least one code point is missing between two intervals
-pub canonical_apart : (low : ℕ) (ivs : List Bounds) (i j : ℕ) (d : Bounds) → IsTrue (is_canonical_from low ivs) → i < j → j < length ivs → (get_or ivs i d).last + 1 < (get_or ivs j d).first
+pub canonical_apart : (low : ℕ) (ivs : List Bounds) (i j : ℕ) (d : Bounds) → IsTrue (is_canonical_from low ivs) → i < j → j < length ivs
+    → (get_or ivs i d).last + 1 < (get_or ivs j d).first
 canonical_apart low [] i j d can lt h = absurd (not-suc-le-zero h)
 canonical_apart low (iv ∷ ivs) i zero d can lt h = absurd (not-suc-le-zero lt)
 canonical_apart low (iv ∷ ivs) zero (suc j) d can lt h =
@@ -95,7 +100,8 @@ canonical_apart low (iv ∷ ivs) (suc i) (suc j) d can lt h =
     canonical_apart (iv.last + 2) ivs i j d (canonical_parts low iv ivs can).rest (le_of_suc-le-suc lt) (le_of_suc-le-suc h)
 
 -- every member lies at the low end or above it
-pub member_above : (low : ℕ) (ivs : List Bounds) (c : ℕ) → IsTrue (is_canonical_from low ivs) → is_member ivs c ≡ true → (low ≤ c) × (c ≤ code_point_max)
+pub member_above : (low : ℕ) (ivs : List Bounds) (c : ℕ) → IsTrue (is_canonical_from low ivs) → is_member ivs c ≡ true
+    → (low ≤ c) × (c ≤ code_point_max)
 member_above low [] c can h = absurd (false≢true (sym (is_member-nil c) ∙ h))
 member_above low (iv ∷ ivs) c can h =
     let p = canonical_parts low iv ivs can in
@@ -113,7 +119,8 @@ no_member_past_end ivs c can h =
     false_from_ne_true _ (λ t. let above = member_above 0 ivs c can t in omega arith)
 
 -- the intervals behind a place
-pub canonical_behind : (low : ℕ) (ivs : List Bounds) (i : ℕ) (d : Bounds) → IsTrue (is_canonical_from low ivs) → i < length ivs → IsTrue (is_canonical_from ((get_or ivs i d).last + 2) (drop (suc i) ivs))
+pub canonical_behind : (low : ℕ) (ivs : List Bounds) (i : ℕ) (d : Bounds) → IsTrue (is_canonical_from low ivs) → i < length ivs
+    → IsTrue (is_canonical_from ((get_or ivs i d).last + 2) (drop (suc i) ivs))
 canonical_behind low [] i d can h = absurd (not-suc-le-zero h)
 canonical_behind low (iv ∷ ivs) zero d can h = (canonical_parts low iv ivs can).rest
 canonical_behind low (iv ∷ ivs) (suc i) d can h =

@@ -1,5 +1,5 @@
 -- The members below a bound: how many, and which.
-use Rattle.std.proofs.Common.{◌≡◌, ℕ, zero, suc, ◌+◌, ◌-◌, ◌/◌, ◌%◌, ◌^◌, ◌<◌, ◌≤◌, Bool, true, false, cond, eqb, List, [], ◌∷◌, ◌++◌, length, set, replicate, filter, count_by, refl, ap, sym, ◌∙◌, subst, arith, inl, inr}
+use Rattle.std.proofs.Common.{◌≡◌, ℕ, zero, suc, ◌+◌, ◌-◌, ◌/◌, ◌%◌, ◌^◌, ◌<◌, ◌≤◌, Bool, true, false, cond, eqb, ◌⊎◌, List, [], ◌∷◌, ◌++◌, length, set, replicate, filter, count_by, refl, ap, sym, ◌∙◌, subst, arith, inl, inr}
 use Rattle.std.specs.List.{range_with_len}
 use Rattle.std.specs.Int.{bit_at}
 use Rattle.std.specs.Int.RustNames.{count_ones}
@@ -17,7 +17,8 @@ use Rattle.std.proofs.lemmas.Nat.Bits.{bit_at_cat_low}
 -- the numbers from a on, one more
 range_with_len-more : (a n : ℕ) → range_with_len a (suc n) ≡ range_with_len a n ++ (a + n) ∷ []
 range_with_len-more a zero = ap (λ x. x ∷ []) (omega arith)
-range_with_len-more a (suc n) = ap (λ xs. a ∷ xs) (range_with_len-more (a + 1) n ∙ ap (λ x. range_with_len (a + 1) n ++ x ∷ []) (omega arith))
+range_with_len-more a (suc n) = ap (λ xs. a ∷ xs)
+    (range_with_len-more (a + 1) n ∙ ap (λ x. range_with_len (a + 1) n ++ x ∷ []) (omega arith))
 
 upto-more : (n : ℕ) → range_with_len 0 (suc n) ≡ range_with_len 0 n ++ n ∷ []
 upto-more n = range_with_len-more 0 n ∙ ap (λ x. range_with_len 0 n ++ x ∷ []) (zero-add n)
@@ -35,7 +36,8 @@ filter_below-suc p n = ap (filter p) (upto-more n) ∙ filter-append p (range_wi
 
 pub count_below-suc : (p : ℕ → Bool) (n : ℕ) → count_below p (suc n) ≡ count_below p n + cond (p n) 1 0
 count_below-suc p n =
-    ap (count_by p) (upto-more n) ∙ sum_by-append (λ x. cond (p x) 1 0) (range_with_len 0 n) (n ∷ []) ∙ ap (λ c. count_below p n + c) (zero-add (cond (p n) 1 0))
+    ap (count_by p) (upto-more n) ∙ sum_by-append (λ x. cond (p x) 1 0) (range_with_len 0 n) (n ∷ [])
+    ∙ ap (λ c. count_below p n + c) (zero-add (cond (p n) 1 0))
 
 -- tests that agree below n pass as many numbers there
 pub count_below-agree : (p q : ℕ → Bool) (n : ℕ) → ((k : ℕ) → k < n → p k ≡ q k) → count_below p n ≡ count_below q n
@@ -104,18 +106,21 @@ count_ones-bits (suc k) n h =
     let parts : count_ones n ≡ count_ones a + count_ones r = ap count_ones (sym cut) ∙ ones_cat k a r low in
     let top = small_ones a high in
     let rest = count_ones-bits k r low in
-    let same = count_below-agree (λ i. eqb (bit_at r i) 1) (λ i. eqb (bit_at n i) 1) k (λ i l. ap (λ x. eqb x 1) (sym (bit_at_cat_low a k r i l) ∙ ap (λ x. bit_at x i) cut)) in
+    let same = count_below-agree (λ i. eqb (bit_at r i) 1) (λ i. eqb (bit_at n i) 1) k
+    (λ i l. ap (λ x. eqb x 1) (sym (bit_at_cat_low a k r i l) ∙ ap (λ x. bit_at x i) cut)) in
     let more = count_below-suc (λ i. eqb (bit_at n i) 1) k in
     let last = top_bit a high in
     omega arith
 
 -- ---- an array that is filled from the front
 
-pub write_next : (xs : List ℕ) (n v : ℕ) → length xs < n → set (xs ++ replicate (n - length xs) 0) (length xs) v ≡ (xs ++ v ∷ []) ++ replicate (n - (length xs + 1)) 0
+pub write_next : (xs : List ℕ) (n v : ℕ) → length xs < n
+    → set (xs ++ replicate (n - length xs) 0) (length xs) v ≡ (xs ++ v ∷ []) ++ replicate (n - (length xs + 1)) 0
 write_next xs n v h =
     let m = n - (length xs + 1) in
     let e : n - length xs ≡ suc m = omega arith in
-    ap (λ k. set (xs ++ replicate k 0) (length xs) v) e ∙ set_at xs 0 (replicate m 0) v (length xs) refl ∙ sym (append_assoc xs (v ∷ []) (replicate m 0))
+    ap (λ k. set (xs ++ replicate k 0) (length xs) v) e ∙ set_at xs 0 (replicate m 0) v (length xs) refl
+    ∙ sym (append_assoc xs (v ∷ []) (replicate m 0))
 
 -- the array of n places begins with the numbers below b that pass the test, which are len, and goes on with zeros
 pub record IsFilled (p : ℕ → Bool) (n b len : ℕ) (array : List ℕ) : Type 0 where
@@ -127,11 +132,13 @@ IsFilled-none p n =
     let e : n ≡ n - 0 = omega arith in
     record { filled = ap (λ k. replicate {A = ℕ} k 0) e; counted = refl }
 
-pub IsFilled-yes : (p : ℕ → Bool) (n b len : ℕ) (array : List ℕ) → IsFilled p n b len array → p b ≡ true → len < n → IsFilled p n (b + 1) (len + 1) (set array len b)
+IsFilled-yes : (p : ℕ → Bool) (n b len : ℕ) (array : List ℕ) → IsFilled p n b len array → p b ≡ true → len < n
+    → IsFilled p n (b + 1) (len + 1) (set array len b)
 IsFilled-yes p n b len array so_far passes room =
     let front = filter_below p b in
     let e : b + 1 ≡ suc b = omega arith in
-    let grown : filter_below p (b + 1) ≡ front ++ b ∷ [] = ap (filter_below p) e ∙ filter_below-suc p b ∙ ap (λ t. front ++ cond t (b ∷ []) []) passes in
+    let grown : filter_below p (b + 1) ≡ front ++ b ∷ [] = ap (filter_below p) e ∙ filter_below-suc p b
+    ∙ ap (λ t. front ++ cond t (b ∷ []) []) passes in
     let at : len ≡ length front = so_far.counted in
     let fits : length front < n = omega arith in
     record {
@@ -144,11 +151,12 @@ IsFilled-yes p n b len array so_far passes room =
       counted = ap (λ k. k + 1) at ∙ sym (length_push front b) ∙ ap length (sym grown);
     }
 
-pub IsFilled-no : (p : ℕ → Bool) (n b len : ℕ) (array : List ℕ) → IsFilled p n b len array → p b ≡ false → IsFilled p n (b + 1) len array
+IsFilled-no : (p : ℕ → Bool) (n b len : ℕ) (array : List ℕ) → IsFilled p n b len array → p b ≡ false → IsFilled p n (b + 1) len array
 IsFilled-no p n b len array so_far fails =
     let front = filter_below p b in
     let e : b + 1 ≡ suc b = omega arith in
-    let same : filter_below p (b + 1) ≡ front = ap (filter_below p) e ∙ filter_below-suc p b ∙ ap (λ t. front ++ cond t (b ∷ []) []) fails ∙ append-nil front in
+    let same : filter_below p (b + 1) ≡ front = ap (filter_below p) e ∙ filter_below-suc p b ∙ ap (λ t. front ++ cond t (b ∷ []) []) fails
+    ∙ append-nil front in
     record {
       filled = so_far.filled ∙ ap (λ xs. xs ++ replicate (n - len) 0) (sym same);
       counted = so_far.counted ∙ ap length (sym same);
@@ -165,14 +173,25 @@ unfolding all_bytes
 members_of-is p = refl
 
 -- a member still has room
-pub IsFilled-room : (p : ℕ → Bool) (n b len : ℕ) (array : List ℕ) → IsFilled p n b len array → p b ≡ true → b < 256 → member_count p ≤ n → len < n
+pub IsFilled-room : (p : ℕ → Bool) (n b len : ℕ) (array : List ℕ) → IsFilled p n b len array → p b ≡ true → b < 256 → member_count p ≤ n
+    → len < n
 IsFilled-room p n b len array so_far passes byte room =
     let at = so_far.counted ∙ length-filter p (range_with_len 0 b) in
     let more = count_below-lt p b 256 byte passes in
     let all = member_count-is p in
     omega arith
 
-pub IsFilled-all : (p : ℕ → Bool) (n len : ℕ) (array : List ℕ) → IsFilled p n 256 len array → array ≡ members_of p ++ replicate (n - member_count p) 0
+-- one number more, which joins the array where it is a member
+pub IsFilled-turn : (p : ℕ → Bool) (n b len len' : ℕ) (array array' : List ℕ) → b < 256 → member_count p ≤ n → IsFilled p n b len array
+    → ((p b ≡ true) × (len' ≡ len + 1) × (array' ≡ set array len b)) ⊎ ((p b ≡ false) × (len' ≡ len) × (array' ≡ array))
+    → IsFilled p n (b + 1) len' array'
+IsFilled-turn p n b len len' array array' byte fits so_far (inl joins) =
+    rw (joins.1, joins.2) (IsFilled-yes p n b len array so_far joins.0 (IsFilled-room p n b len array so_far joins.0 byte fits))
+IsFilled-turn p n b len len' array array' byte fits so_far (inr stays) =
+    rw (stays.1, stays.2) (IsFilled-no p n b len array so_far stays.0)
+
+pub IsFilled-all : (p : ℕ → Bool) (n len : ℕ) (array : List ℕ) → IsFilled p n 256 len array
+    → array ≡ members_of p ++ replicate (n - member_count p) 0
 IsFilled-all p n len array so_far =
     let at : len ≡ member_count p = so_far.counted ∙ length-filter p (range_with_len 0 256) ∙ member_count-is p in
     so_far.filled ∙ ap (λ xs. xs ++ replicate (n - len) 0) (members_of-is p) ∙ ap (λ k. members_of p ++ replicate (n - k) 0) at

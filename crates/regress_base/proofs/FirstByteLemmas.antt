@@ -29,7 +29,8 @@ div-le p a b some h =
     let down = div-mul-le_self a p in
     le-div (a / p) b p some (omega arith)
 
-run_begins : (base p first last f l b : ℕ) → IsRunOfWidth base p first last → first ≤ last → slice_get (encode_utf8 first) 0 ≡ Some f → slice_get (encode_utf8 last) 0 ≡ Some l → ((f ≤ b) × (b ≤ l)) ↔ IsFirstByteBetween first last b
+run_begins : (base p first last f l b : ℕ) → IsRunOfWidth base p first last → first ≤ last → slice_get (encode_utf8 first) 0 ≡ Some f
+    → slice_get (encode_utf8 last) 0 ≡ Some l → ((f ≤ b) × (b ≤ l)) ↔ IsFirstByteBetween first last b
 run_begins base p first last f l b run order ef el =
     let f-is : f ≡ base + first / p = same_some f (base + first / p) (sym ef ∙ run.begins first (omega arith) order) in
     let l-is : l ≡ base + last / p = same_some l (base + last / p) (sym el ∙ run.begins last order (omega arith)) in
@@ -102,7 +103,9 @@ narrow_three c h =
     ]
 
 -- the code points from `first` to `last`, where both have as many bytes, begin with the bytes from that of `first` to that of `last`
-pub first_bytes_run : (first last f l b : ℕ) → first ≤ last → length (encode_utf8 first) ≡ length (encode_utf8 last) → slice_get (encode_utf8 first) 0 ≡ Some f → slice_get (encode_utf8 last) 0 ≡ Some l → ((f ≤ b) × (b ≤ l)) ↔ IsFirstByteBetween first last b
+pub first_bytes_run : (first last f l b : ℕ) → first ≤ last → length (encode_utf8 first) ≡ length (encode_utf8 last)
+    → slice_get (encode_utf8 first) 0 ≡ Some f → slice_get (encode_utf8 last) 0 ≡ Some l
+    → ((f ≤ b) × (b ≤ l)) ↔ IsFirstByteBetween first last b
 first_bytes_run first last f l b order width ef el =
     elim (cases_lt last 0x80) [
       | inl one ↦ run_begins 0 1 first last f l b (run_of_one first last one) order ef el
@@ -128,29 +131,41 @@ first_bytes_run first last f l b order width ef el =
     ]
 
 -- the set after the bytes from f to l joined it
-pub joined : (t old : Bool) (f l b : ℕ) (P : Type 0) → t ≡ ((nat_le f b && nat_le b l) || old) → ((f ≤ b) × (b ≤ l)) ↔ P → IsTrue t ↔ (IsTrue old ⊎ P)
+pub joined : (t old : Bool) (f l b : ℕ) (P : Type 0) → t ≡ ((nat_le f b && nat_le b l) || old) → ((f ≤ b) × (b ≤ l)) ↔ P
+    → IsTrue t ↔ (IsTrue old ⊎ P)
 joined t old f l b P e run =
     let inside = nat_le f b && nat_le b l in
     let to : IsTrue t → IsTrue old ⊎ P = λ h.
-    ⊎_elim (λ (i : inside ≡ true). inr (run.0 (leb-true f b (and_parts _ _ i).0, leb-true b l (and_parts _ _ i).1))) (λ o. inl o) (or_cases inside old (sym e ∙ h)) in
+    ⊎_elim (λ (i : inside ≡ true). inr (run.0 (leb-true f b (and_parts _ _ i).0, leb-true b l (and_parts _ _ i).1))) (λ o. inl o)
+    (or_cases inside old (sym e ∙ h)) in
     let from : IsTrue old ⊎ P → IsTrue t =
-    ⊎_elim (λ (o : IsTrue old). e ∙ or_right inside old o) (λ (p : P). e ∙ or_left inside old (and_from _ _ (le-leb f b (run.1 p).0) (le-leb b l (run.1 p).1))) in
+    ⊎_elim (λ (o : IsTrue old). e ∙ or_right inside old o)
+    (λ (p : P). e ∙ or_left inside old (and_from _ _ (le-leb f b (run.1 p).0) (le-leb b l (run.1 p).1))) in
     (to, from)
 
 -- a part of the interval
 within : (a z first last b : ℕ) → first ≤ a → z ≤ last → IsFirstByteBetween a z b → IsFirstByteBetween first last b
-within a z first last b low high h = record { code_point = h.code_point; from_first = omega (arith, h.from_first); to_last = omega (arith, h.to_last); begins = h.begins }
+within a z first last b low high h =
+    record {
+      code_point = h.code_point;
+      from_first = omega (arith, h.from_first);
+      to_last = omega (arith, h.to_last);
+      begins = h.begins;
+    }
 
 -- The interval is cut where the number of bytes changes, and the parts join one after another.
-pub four_widths : (first last z1 a2 z2 a3 z3 a4 b : ℕ) → z1 ≡ min last 0x7F → a2 ≡ max first 0x80 → z2 ≡ min last 0x7FF → a3 ≡ max first 0x800 → z3 ≡ min last 0xFFFF → a4 ≡ max first 0x1_0000 →
-    (Before One Two Three Four : Type 0) → One ↔ (Before ⊎ IsFirstByteBetween first z1 b) → Two ↔ (One ⊎ IsFirstByteBetween a2 z2 b) → Three ↔ (Two ⊎ IsFirstByteBetween a3 z3 b) → Four ↔ (Three ⊎ IsFirstByteBetween a4 last b) →
+pub four_widths : (first last z1 a2 z2 a3 z3 a4 b : ℕ) → z1 ≡ min last 0x7F → a2 ≡ max first 0x80 → z2 ≡ min last 0x7FF
+    → a3 ≡ max first 0x800 → z3 ≡ min last 0xFFFF → a4 ≡ max first 0x1_0000 →
+    (Before One Two Three Four : Type 0) → One ↔ (Before ⊎ IsFirstByteBetween first z1 b) → Two ↔ (One ⊎ IsFirstByteBetween a2 z2 b)
+    → Three ↔ (Two ⊎ IsFirstByteBetween a3 z3 b) → Four ↔ (Three ⊎ IsFirstByteBetween a4 last b) →
     Four ↔ (Before ⊎ IsFirstByteBetween first last b)
 four_widths first last z1 a2 z2 a3 z3 a4 b e1 f2 e2 f3 e3 f4 Before One Two Three Four h1 h2 h3 h4 =
     let to : Four → Before ⊎ IsFirstByteBetween first last b = λ p.
     ⊎_elim (λ (p3 : Three).
     ⊎_elim (λ (p2 : Two).
     ⊎_elim (λ (p1 : One).
-    ⊎_elim (λ (p0 : Before). inl p0) (λ (w : IsFirstByteBetween first z1 b). inr (within first z1 first last b (omega arith) (omega arith) w)) (h1.0 p1))
+    ⊎_elim (λ (p0 : Before). inl p0)
+    (λ (w : IsFirstByteBetween first z1 b). inr (within first z1 first last b (omega arith) (omega arith) w)) (h1.0 p1))
     (λ (w : IsFirstByteBetween a2 z2 b). inr (within a2 z2 first last b (omega arith) (omega arith) w)) (h2.0 p2))
     (λ (w : IsFirstByteBetween a3 z3 b). inr (within a3 z3 first last b (omega arith) (omega arith) w)) (h3.0 p3))
     (λ (w : IsFirstByteBetween a4 last b). inr (within a4 last first last b (omega arith) (omega arith) w)) (h4.0 p) in

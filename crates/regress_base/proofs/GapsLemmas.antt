@@ -1,7 +1,9 @@
 -- The gaps of a canonical list are its complement.
-use Rattle.std.proofs.Common.{◌≡◌, ℕ, ◌+◌, ◌-◌, ◌<◌, ◌≤◌, Bool, true, false, not, ◌||◌, ◌&&◌, cond, nat_lt, nat_le, inl, inr, IsTrue, List, [], ◌∷◌, ◌++◌, length, drop, get_or, refl, sym, ap, ◌∙◌, subst, le_refl, le-ltb, lt-ltb, arith}
+use Rattle.std.proofs.Common.{◌≡◌, ℕ, ◌+◌, ◌-◌, ◌<◌, ◌≤◌, Bool, true, false, not, ◌||◌, ◌&&◌, cond, nat_lt, nat_le, inl, inr, IsTrue, List, [], ◌∷◌, ◌++◌, length, drop, get_or, slice_get, Some, None, refl, sym, ap, ◌∙◌, subst, le_refl, le-ltb, lt-ltb, arith}
 use Rattle.std.proofs.lemmas.List.{drop_more, drop_all, append_assoc, append-nil}
+use Rattle.std.proofs.lemmas.Option.{none-some, same_Some, get_or_from_slice_get}
 use Rattle.std.proofs.lemmas.Bool.{cases_lt, cond-true, cond-false, and_left, or_left, or_from, le-leb, lt-leb}
+use mir.Val.{bool_byte}
 use Rattle.regress_base.specs.Intervals.{Bounds, is_member, is_canonical_from, IsCanonical, IsComplement, code_point_max}
 use Rattle.regress_base.proofs.WithinLemmas.{le-is_within, lt-is_within, gt-is_within}
 use Rattle.regress_base.proofs.MemberLemmas.{is_member-nil, is_member-cons, is_member-one}
@@ -17,11 +19,13 @@ gaps_from start [] = cond (nat_le start code_point_max) (record { first = start;
 gaps_from start (iv ∷ ivs) =
     cond (nat_lt start iv.first) (record { first = start; last = iv.first - 1 } ∷ gaps_from (iv.last + 1) ivs) (gaps_from (iv.last + 1) ivs)
 
-pub gaps_from-gap : (start : ℕ) (iv : Bounds) (ivs : List Bounds) → start < iv.first → gaps_from start (iv ∷ ivs) ≡ record { first = start; last = iv.first - 1 } ∷ gaps_from (iv.last + 1) ivs
+pub gaps_from-gap : (start : ℕ) (iv : Bounds) (ivs : List Bounds) → start < iv.first
+    → gaps_from start (iv ∷ ivs) ≡ record { first = start; last = iv.first - 1 } ∷ gaps_from (iv.last + 1) ivs
 unfolding gaps_from
 gaps_from-gap start iv ivs h = cond-true _ _ _ (lt-ltb start iv.first h)
 
-pub gaps_from-none : (start : ℕ) (iv : Bounds) (ivs : List Bounds) → iv.first ≤ start → gaps_from start (iv ∷ ivs) ≡ gaps_from (iv.last + 1) ivs
+pub gaps_from-none : (start : ℕ) (iv : Bounds) (ivs : List Bounds) → iv.first ≤ start
+    → gaps_from start (iv ∷ ivs) ≡ gaps_from (iv.last + 1) ivs
 unfolding gaps_from
 gaps_from-none start iv ivs h = cond-false _ _ _ (le-ltb start iv.first h)
 
@@ -33,15 +37,17 @@ pub gaps_from-full : (start : ℕ) → code_point_max < start → gaps_from star
 unfolding gaps_from
 gaps_from-full start h = cond-false _ _ _ (lt-leb start code_point_max h)
 
-pub canonical_gaps : (start low : ℕ) (ivs : List Bounds) → start ≤ low → IsTrue (is_canonical_from low ivs) → IsTrue (is_canonical_from start (gaps_from start ivs))
+pub canonical_gaps : (start low : ℕ) (ivs : List Bounds) → start ≤ low → IsTrue (is_canonical_from low ivs)
+    → IsTrue (is_canonical_from start (gaps_from start ivs))
 canonical_gaps start low [] h can =
     elim (cases_lt code_point_max start) [
       | inl full ↦ subst (λ (l : List Bounds). IsTrue (is_canonical_from start l)) (sym (gaps_from-full start full)) refl
-      | inr some ↦ subst (λ (l : List Bounds). IsTrue (is_canonical_from start l)) (sym (gaps_from-end start some)) (canonical_cons start (pair start code_point_max) [] (record {
-        above = le_refl start;
-        interval = record { ordered = some; in_range = le_refl code_point_max };
-        rest = refl;
-      }))
+      | inr some ↦ subst (λ (l : List Bounds). IsTrue (is_canonical_from start l)) (sym (gaps_from-end start some))
+          (canonical_cons start (pair start code_point_max) [] (record {
+            above = le_refl start;
+            interval = record { ordered = some; in_range = le_refl code_point_max };
+            rest = refl;
+          }))
     ]
 canonical_gaps start low (iv ∷ ivs) h can =
     let p = canonical_parts low iv ivs can in
@@ -49,26 +55,32 @@ canonical_gaps start low (iv ∷ ivs) h can =
     let above = p.above in
     let rest = canonical_gaps (iv.last + 1) (iv.last + 2) ivs (omega arith) p.rest in
     elim (cases_lt start iv.first) [
-      | inl gap ↦ subst (λ (l : List Bounds). IsTrue (is_canonical_from start l)) (sym (gaps_from-gap start iv ivs gap)) (canonical_cons start (pair start (iv.first - 1)) (gaps_from (iv.last + 1) ivs) (record {
-        above = le_refl start;
-        interval = record { ordered = omega arith; in_range = omega (arith, p.interval.in_range) };
-        rest = canonical_lower (iv.last + 1) (iv.first - 1 + 2) (gaps_from (iv.last + 1) ivs) (omega arith) rest;
-      }))
-      | inr none ↦ subst (λ (l : List Bounds). IsTrue (is_canonical_from start l)) (sym (gaps_from-none start iv ivs none)) (canonical_lower (iv.last + 1) start (gaps_from (iv.last + 1) ivs) (omega arith) rest)
+      | inl gap ↦ subst (λ (l : List Bounds). IsTrue (is_canonical_from start l)) (sym (gaps_from-gap start iv ivs gap))
+          (canonical_cons start (pair start (iv.first - 1)) (gaps_from (iv.last + 1) ivs) (record {
+            above = le_refl start;
+            interval = record { ordered = omega arith; in_range = omega (arith, p.interval.in_range) };
+            rest = canonical_lower (iv.last + 1) (iv.first - 1 + 2) (gaps_from (iv.last + 1) ivs) (omega arith) rest;
+          }))
+      | inr none ↦ subst (λ (l : List Bounds). IsTrue (is_canonical_from start l)) (sym (gaps_from-none start iv ivs none))
+          (canonical_lower (iv.last + 1) start (gaps_from (iv.last + 1) ivs) (omega arith) rest)
     ]
 
 -- the gap before an interval does not matter at the interval's first or above it
-skip_gap : (start c : ℕ) (iv : Bounds) (ivs : List Bounds) → iv.first ≤ c → is_member (gaps_from start (iv ∷ ivs)) c ≡ is_member (gaps_from (iv.last + 1) ivs) c
+skip_gap : (start c : ℕ) (iv : Bounds) (ivs : List Bounds) → iv.first ≤ c
+    → is_member (gaps_from start (iv ∷ ivs)) c ≡ is_member (gaps_from (iv.last + 1) ivs) c
 skip_gap start c iv ivs from =
     elim (cases_lt start iv.first) [
-      | inl gap ↦ ap (λ l. is_member l c) (gaps_from-gap start iv ivs gap) ∙ is_member-cons (pair start (iv.first - 1)) (gaps_from (iv.last + 1) ivs) c
+      | inl gap ↦ ap (λ l. is_member l c) (gaps_from-gap start iv ivs gap)
+          ∙ is_member-cons (pair start (iv.first - 1)) (gaps_from (iv.last + 1) ivs) c
           ∙ ap (λ b. b || is_member (gaps_from (iv.last + 1) ivs) c) (gt-is_within (pair start (iv.first - 1)) c (omega arith))
       | inr none ↦ ap (λ l. is_member l c) (gaps_from-none start iv ivs none)
     ]
 
-pub complement_gaps : (start low c : ℕ) (ivs : List Bounds) → start ≤ low → IsTrue (is_canonical_from low ivs) → start ≤ c → c ≤ code_point_max → is_member (gaps_from start ivs) c ≡ not (is_member ivs c)
+pub complement_gaps : (start low c : ℕ) (ivs : List Bounds) → start ≤ low → IsTrue (is_canonical_from low ivs) → start ≤ c
+    → c ≤ code_point_max → is_member (gaps_from start ivs) c ≡ not (is_member ivs c)
 complement_gaps start low c [] h can from to =
-    ap (λ l. is_member l c) (gaps_from-end start (omega arith)) ∙ is_member-one (pair start code_point_max) c ∙ le-is_within (pair start code_point_max) c from to
+    ap (λ l. is_member l c) (gaps_from-end start (omega arith)) ∙ is_member-one (pair start code_point_max) c
+    ∙ le-is_within (pair start code_point_max) c from to
     ∙ sym (ap not (is_member-nil c))
 complement_gaps start low c (iv ∷ ivs) h can from to =
     let p = canonical_parts low iv ivs can in
@@ -76,15 +88,18 @@ complement_gaps start low c (iv ∷ ivs) h can from to =
     let above = p.above in
     elim (cases_lt c iv.first) [
       | inl before ↦
-          ap (λ l. is_member l c) (gaps_from-gap start iv ivs (omega arith)) ∙ is_member-cons (pair start (iv.first - 1)) (gaps_from (iv.last + 1) ivs) c
+          ap (λ l. is_member l c) (gaps_from-gap start iv ivs (omega arith))
+          ∙ is_member-cons (pair start (iv.first - 1)) (gaps_from (iv.last + 1) ivs) c
           ∙ or_left _ _ (le-is_within (pair start (iv.first - 1)) c from (omega arith))
-          ∙ sym (ap not (is_member-cons iv ivs c ∙ or_from _ _ (lt-is_within iv c before) (no_member_below (iv.last + 2) ivs c p.rest (omega arith))))
+          ∙ sym (ap not (is_member-cons iv ivs c
+          ∙ or_from _ _ (lt-is_within iv c before) (no_member_below (iv.last + 2) ivs c p.rest (omega arith))))
       | inr reached ↦ elim (cases_lt iv.last c) [
         | inl behind ↦ skip_gap start c iv ivs reached
             ∙ complement_gaps (iv.last + 1) (iv.last + 2) c ivs (omega arith) p.rest (omega arith) to
             ∙ sym (ap not (is_member-cons iv ivs c ∙ ap (λ b. b || is_member ivs c) (gt-is_within iv c behind)))
         | inr inside ↦ skip_gap start c iv ivs reached
-            ∙ no_member_below (iv.last + 1) (gaps_from (iv.last + 1) ivs) c (canonical_gaps (iv.last + 1) (iv.last + 2) ivs (omega arith) p.rest) (omega arith)
+            ∙ no_member_below (iv.last + 1) (gaps_from (iv.last + 1) ivs) c
+            (canonical_gaps (iv.last + 1) (iv.last + 2) ivs (omega arith) p.rest) (omega arith)
             ∙ sym (ap not (is_member-cons iv ivs c ∙ or_left _ _ (le-is_within iv c reached inside)))
       ]
     ]
@@ -94,16 +109,19 @@ not-not true = refl
 not-not false = refl
 
 -- the complement of a complement
-pub complement_twice : (ivs others back : List Bounds) → IsCanonical ivs → IsCanonical back → IsComplement ivs others → IsComplement others back → back ≡ ivs
+pub complement_twice : (ivs others back : List Bounds) → IsCanonical ivs → IsCanonical back → IsComplement ivs others
+    → IsComplement others back → back ≡ ivs
 complement_twice ivs others back can can_back away home =
     canonical_unique back ivs can_back can (λ c within. home c within ∙ ap not (away c within) ∙ not-not (is_member ivs c))
 
 -- one interval more, with a gap before it or without
-module _ (start i last : ℕ) (iv : Bounds) (ivs : List Bounds) (inside : i < length ivs) (read : iv ≡ get_or ivs i iv) (ends : last ≡ iv.last) where
+module _ (start i last : ℕ) (iv : Bounds) (ivs : List Bounds) (inside : i < length ivs) (read : iv ≡ get_or ivs i iv)
+    (ends : last ≡ iv.last) where
   split : drop i ivs ≡ iv ∷ drop (i + 1) ivs
   split = drop_more ivs i iv inside ∙ ap (λ b. b ∷ drop (i + 1) ivs) (sym read)
 
-  one_gap : start < iv.first → gaps_from start (drop i ivs) ≡ record { first = start; last = iv.first - 1 } ∷ gaps_from (last + 1) (drop (i + 1) ivs)
+  one_gap : start < iv.first
+      → gaps_from start (drop i ivs) ≡ record { first = start; last = iv.first - 1 } ∷ gaps_from (last + 1) (drop (i + 1) ivs)
   one_gap gap =
       ap (gaps_from start) split ∙ gaps_from-gap start iv (drop (i + 1) ivs) gap
       ∙ ap (λ n. pair start (iv.first - 1) ∷ gaps_from (n + 1) (drop (i + 1) ivs)) (sym ends)
@@ -114,7 +132,8 @@ module _ (start i last : ℕ) (iv : Bounds) (ivs : List Bounds) (inside : i < le
       ∙ ap (λ n. gaps_from (n + 1) (drop (i + 1) ivs)) (sym ends)
 
   module _ (out new whole : List Bounds) (so_far : out ++ gaps_from start (drop i ivs) ≡ whole) where
-    pub gaps_step_gap : start < iv.first → new ≡ out ++ record { first = start; last = iv.first - 1 } ∷ [] → new ++ gaps_from (last + 1) (drop (i + 1) ivs) ≡ whole
+    pub gaps_step_gap : start < iv.first → new ≡ out ++ record { first = start; last = iv.first - 1 } ∷ []
+        → new ++ gaps_from (last + 1) (drop (i + 1) ivs) ≡ whole
     gaps_step_gap gap pushed =
         ap (λ l. l ++ gaps_from (last + 1) (drop (i + 1) ivs)) pushed
         ∙ append_assoc out (pair start (iv.first - 1) ∷ []) (gaps_from (last + 1) (drop (i + 1) ivs))
@@ -124,45 +143,105 @@ module _ (start i last : ℕ) (iv : Bounds) (ivs : List Bounds) (inside : i < le
     gaps_step_none none kept =
         ap (λ l. l ++ gaps_from (last + 1) (drop (i + 1) ivs)) kept ∙ ap (λ l. out ++ l) (sym (no_gap none)) ∙ so_far
 
-  module _ (n new whole : ℕ) (so_far : n + length (gaps_from start (drop i ivs)) ≡ whole) where
-    pub count_step_gap : start < iv.first → new ≡ n + 1 → new + length (gaps_from (last + 1) (drop (i + 1) ivs)) ≡ whole
-    count_step_gap gap counted = let one = ap length (one_gap gap) in omega arith
-
-    pub count_step_none : iv.first ≤ start → new ≡ n → new + length (gaps_from (last + 1) (drop (i + 1) ivs)) ≡ whole
-    count_step_none none counted = let same = ap length (no_gap none) in omega arith
-
--- what a canonical rest says of the interval that comes next
-pub next_parts : (start i last : ℕ) (iv : Bounds) (ivs : List Bounds) → i < length ivs → iv ≡ get_or ivs i iv → last ≡ iv.last → IsTrue (is_canonical_from start (drop i ivs)) → (start ≤ iv.first) × IsTrue (is_canonical_from (last + 1) (drop (i + 1) ivs))
-next_parts start i last iv ivs inside read ends can =
-    let split = drop_more ivs i iv inside ∙ ap (λ b. b ∷ drop (i + 1) ivs) (sym read) in
-    let p = canonical_parts start iv (drop (i + 1) ivs) (subst (λ (l : List Bounds). IsTrue (is_canonical_from start l)) split can) in
-    (p.above, canonical_lower (iv.last + 2) (last + 1) (drop (i + 1) ivs) (omega arith) p.rest)
-
 -- the whole complement, as its list is built
 pub complement_from : (ivs gaps : List Bounds) → IsCanonical ivs → gaps ≡ gaps_from 0 ivs → IsCanonical gaps × IsComplement ivs gaps
-complement_from ivs gaps can made =
-    (subst IsCanonical (sym made) (canonical_gaps 0 0 ivs (le_refl 0) can), λ c within. ap (λ l. is_member l c) made ∙ complement_gaps 0 0 c ivs (le_refl 0) can (omega arith) within)
+complement_from ivs gaps can made = (
+  subst IsCanonical (sym made) (canonical_gaps 0 0 ivs (le_refl 0) can),
+  λ c within. ap (λ l. is_member l c) made
+      ∙ complement_gaps 0 0 c ivs (le_refl 0) can (omega arith) within,
+)
 
 -- the list and the count once all intervals are passed
-pub gaps_done : (out : List Bounds) (start i : ℕ) (ivs whole : List Bounds) → length ivs ≤ i → out ++ gaps_from start (drop i ivs) ≡ whole → out ++ gaps_from start [] ≡ whole
+pub gaps_done : (out : List Bounds) (start i : ℕ) (ivs whole : List Bounds) → length ivs ≤ i → out ++ gaps_from start (drop i ivs) ≡ whole
+    → out ++ gaps_from start [] ≡ whole
 gaps_done out start i ivs whole ended so_far = ap (λ l. out ++ gaps_from start l) (sym (drop_all i ivs ended)) ∙ so_far
 
-pub count_done : (items ivs : List Bounds) (count start i total : ℕ) → IsCanonical items → items ≡ ivs → length items ≤ i → count + length (gaps_from start (drop i items)) ≡ length (gaps_from 0 items) → total ≡ count + length (gaps_from start []) → (gaps : List Bounds) × IsCanonical gaps × IsComplement ivs gaps × (total ≡ length gaps)
-count_done items ivs count start i total can same ended so_far all =
-    let complement = complement_from items (gaps_from 0 items) can refl in
-    (gaps_from 0 items, complement.0, subst (λ (l : List Bounds). IsComplement l (gaps_from 0 items)) same complement.1, all ∙ ap (λ l. count + length (gaps_from start l)) (sym (drop_all i items ended)) ∙ so_far)
+-- ---- how many gaps there are
+
+count-cons : (start : ℕ) (iv : Bounds) (ivs : List Bounds)
+    → length (gaps_from start (iv ∷ ivs)) ≡ bool_byte (nat_lt start iv.first) + length (gaps_from (iv.last + 1) ivs)
+count-cons start iv ivs =
+    elim (cases_lt start iv.first) [
+      | inl gap ↦
+          let one : bool_byte (nat_lt start iv.first) ≡ 1 = ap bool_byte (lt-ltb start iv.first gap) in
+          let made = ap length (gaps_from-gap start iv ivs gap) in
+          omega arith
+      | inr none ↦
+          let zero : bool_byte (nat_lt start iv.first) ≡ 0 = ap bool_byte (le-ltb start iv.first none) in
+          let made = ap length (gaps_from-none start iv ivs none) in
+          omega arith
+    ]
+
+count-end : (last : ℕ) → length (gaps_from (last + 1) []) ≡ bool_byte (nat_lt last code_point_max)
+count-end last =
+    elim (cases_lt last code_point_max) [
+      | inl some ↦ ap length (gaps_from-end (last + 1) (omega arith)) ∙ sym (ap bool_byte (lt-ltb last code_point_max some))
+      | inr full ↦ ap length (gaps_from-full (last + 1) (omega arith)) ∙ sym (ap bool_byte (le-ltb last code_point_max full))
+    ]
+
+-- one gap between each two neighbours, one before the first where it begins above `start`, and one behind the last
+count-all : (start low : ℕ) (iv d : Bounds) (ivs : List Bounds) → IsTrue (is_canonical_from low (iv ∷ ivs))
+    → length (gaps_from start (iv ∷ ivs))
+    ≡ bool_byte (nat_lt start iv.first) + length ivs + bool_byte (nat_lt (get_or (iv ∷ ivs) (length ivs) d).last code_point_max)
+count-all start low iv d [] can =
+    let first = count-cons start iv [] in
+    let end = count-end iv.last in
+    omega arith
+count-all start low iv d (x ∷ xs) can =
+    let rest = (canonical_parts low iv (x ∷ xs) can).rest in
+    let above = (canonical_parts (iv.last + 2) x xs rest).above in
+    let first = count-cons start iv (x ∷ xs) in
+    let between : bool_byte (nat_lt (iv.last + 1) x.first) ≡ 1 = ap bool_byte (lt-ltb (iv.last + 1) x.first (omega arith)) in
+    let others = count-all (iv.last + 1) (iv.last + 2) x d xs rest in
+    omega arith
+
+-- the count of a set's gaps, by its first and its last interval
+pub counted : (items ivs : List Bounds) (first last : Bounds) (n : ℕ) → IsCanonical items → items ≡ ivs → slice_get items 0 ≡ Some first
+    → slice_get items (length items - 1) ≡ Some last
+    → n ≡ length items - 1 + bool_byte (nat_lt 0 first.first) + bool_byte (nat_lt last.last code_point_max)
+    → (gaps : List Bounds) × IsCanonical gaps × IsComplement ivs gaps × (n ≡ length gaps)
+counted [] ivs first last n can same at_first at_last is = absurd (none-some first at_first)
+counted (iv ∷ items) ivs first last n can same at_first at_last is =
+    let complement = complement_from (iv ∷ items) (gaps_from 0 (iv ∷ items)) can refl in
+    let behind : length (iv ∷ items) - 1 ≡ length items = omega arith in
+    let begin = ap (λ (b : Bounds). bool_byte (nat_lt 0 b.first)) (same_Some iv first at_first) in
+    let end =
+    ap (λ (b : Bounds). bool_byte (nat_lt b.last code_point_max))
+    (get_or_from_slice_get (iv ∷ items) (length items) last iv (ap (slice_get (iv ∷ items)) (sym behind) ∙ at_last)) in
+    let all = count-all 0 0 iv iv items can in (
+      gaps_from 0 (iv ∷ items),
+      complement.0,
+      subst (λ (l : List Bounds). IsComplement l (gaps_from 0 (iv ∷ items))) same complement.1,
+      omega arith,
+    )
+
+pub counted-none : (items ivs : List Bounds) → items ≡ ivs → slice_get items 0 ≡ None
+    → (gaps : List Bounds) × IsCanonical gaps × IsComplement ivs gaps × (1 ≡ length gaps)
+counted-none [] ivs same none =
+    let complement = complement_from [] (gaps_from 0 []) refl refl in (
+      gaps_from 0 [],
+      complement.0,
+      subst (λ (l : List Bounds). IsComplement l (gaps_from 0 [])) same complement.1,
+      sym (ap length (gaps_from-end 0 (omega arith))),
+    )
+counted-none (iv ∷ items) ivs same none = absurd (none-some iv (sym none))
 
 -- the list with the last gap, or without one
-pub gaps_end : (out new : List Bounds) (start i : ℕ) (ivs : List Bounds) → length ivs ≤ i → out ++ gaps_from start (drop i ivs) ≡ gaps_from 0 ivs → start ≤ code_point_max → new ≡ out ++ record { first = start; last = code_point_max } ∷ [] → new ≡ gaps_from 0 ivs
+pub gaps_end : (out new : List Bounds) (start i : ℕ) (ivs : List Bounds) → length ivs ≤ i
+    → out ++ gaps_from start (drop i ivs) ≡ gaps_from 0 ivs → start ≤ code_point_max
+    → new ≡ out ++ record { first = start; last = code_point_max } ∷ [] → new ≡ gaps_from 0 ivs
 gaps_end out new start i ivs ended so_far some pushed =
     pushed ∙ ap (λ l. out ++ l) (sym (gaps_from-end start some)) ∙ gaps_done out start i ivs (gaps_from 0 ivs) ended so_far
 
-pub gaps_full : (out new : List Bounds) (start i : ℕ) (ivs : List Bounds) → length ivs ≤ i → out ++ gaps_from start (drop i ivs) ≡ gaps_from 0 ivs → code_point_max < start → new ≡ out → new ≡ gaps_from 0 ivs
+pub gaps_full : (out new : List Bounds) (start i : ℕ) (ivs : List Bounds) → length ivs ≤ i
+    → out ++ gaps_from start (drop i ivs) ≡ gaps_from 0 ivs → code_point_max < start → new ≡ out → new ≡ gaps_from 0 ivs
 gaps_full out new start i ivs ended so_far full kept =
-    kept ∙ sym (append-nil out) ∙ ap (λ l. out ++ l) (sym (gaps_from-full start full)) ∙ gaps_done out start i ivs (gaps_from 0 ivs) ended so_far
+    kept ∙ sym (append-nil out) ∙ ap (λ l. out ++ l) (sym (gaps_from-full start full))
+    ∙ gaps_done out start i ivs (gaps_from 0 ivs) ended so_far
 
 -- what lies in the gaps lies not in the intervals
-pub members_minus : (ivs dropped kept : List Bounds) (c : ℕ) → IsCanonical ivs → IsComplement dropped kept → (is_member ivs c && is_member kept c) ≡ (is_member ivs c && not (is_member dropped c))
+pub members_minus : (ivs dropped kept : List Bounds) (c : ℕ) → IsCanonical ivs → IsComplement dropped kept
+    → (is_member ivs c && is_member kept c) ≡ (is_member ivs c && not (is_member dropped c))
 members_minus ivs dropped kept c can away =
     elim (cases_lt code_point_max c) [
       | inl past ↦ (let none = no_member_past_end ivs c can past in and_left _ _ none ∙ sym (and_left _ _ none))

@@ -19,15 +19,19 @@ pub record Merges (ivs : List Bounds) (iv : Bounds) (start end : ℕ) (merged : 
   pub before : (k : ℕ) (d : Bounds) → end ≤ k → k < length ivs → merged.last + 1 < (get_or ivs k d).first
   pub members : (c : ℕ) → is_within merged c ≡ (is_member (between ivs start end) c || is_within iv c)
 
-next_low-take : (ivs : List Bounds) (k bound : ℕ) (d : Bounds) → k ≤ length ivs → ((j : ℕ) → j < k → (get_or ivs j d).last + 1 < bound) → next_low 0 (take k ivs) ≤ bound
+next_low-take : (ivs : List Bounds) (k bound : ℕ) (d : Bounds) → k ≤ length ivs → ((j : ℕ) → j < k → (get_or ivs j d).last + 1 < bound)
+    → next_low 0 (take k ivs) ≤ bound
 next_low-take ivs zero bound d within above = le_trans (le_of_eq (next_low-nil 0)) (omega arith)
 next_low-take ivs (suc j) bound d within above =
-    let one_more : take (suc j) ivs ≡ take j ivs ++ get_or ivs j d ∷ [] = ap (λ n. take n ivs) (sym (add-one j)) ∙ take_more ivs j d within in
-    let at : next_low 0 (take (suc j) ivs) ≡ (get_or ivs j d).last + 2 = ap (next_low 0) one_more ∙ next_low-push 0 (take j ivs) (get_or ivs j d) in
+    let one_more : take (suc j) ivs ≡ take j ivs ++ get_or ivs j d ∷ [] = ap (λ n. take n ivs) (sym (add-one j))
+    ∙ take_more ivs j d within in
+    let at : next_low 0 (take (suc j) ivs) ≡ (get_or ivs j d).last + 2 = ap (next_low 0) one_more
+    ∙ next_low-push 0 (take j ivs) (get_or ivs j d) in
     let last = above j (omega arith) in
     omega (arith, at, last)
 
-canonical_raise : (low low' : ℕ) (ivs : List Bounds) (d : Bounds) → IsTrue (is_canonical_from low ivs) → (0 < length ivs → low' ≤ (get_or ivs 0 d).first) → IsTrue (is_canonical_from low' ivs)
+canonical_raise : (low low' : ℕ) (ivs : List Bounds) (d : Bounds) → IsTrue (is_canonical_from low ivs)
+    → (0 < length ivs → low' ≤ (get_or ivs 0 d).first) → IsTrue (is_canonical_from low' ivs)
 canonical_raise low low' [] d can above = refl
 canonical_raise low low' (iv ∷ ivs) d can above =
     let p = canonical_parts low iv ivs can in
@@ -35,7 +39,8 @@ canonical_raise low low' (iv ∷ ivs) d can above =
 
 module _ (ivs : List Bounds) (iv : Bounds) (start end : ℕ) (merged : Bounds) where
   -- the list with the merged interval in place of the range
-  pub canonical_joined : start ≤ end → end ≤ length ivs → IsCanonical ivs → Merges ivs iv start end merged → IsCanonical (take start ivs ++ merged ∷ drop end ivs)
+  pub canonical_joined : start ≤ end → end ≤ length ivs → IsCanonical ivs → Merges ivs iv start end merged
+      → IsCanonical (take start ivs ++ merged ∷ drop end ivs)
   canonical_joined in_order in_bounds can m =
       let front = canonical_front 0 (take start ivs) (drop start ivs) (subst IsCanonical (sym (take-append-drop start ivs)) can) in
       let back = canonical_back 0 (take end ivs) (drop end ivs) (subst IsCanonical (sym (take-append-drop end ivs)) can) in
@@ -44,7 +49,8 @@ module _ (ivs : List Bounds) (iv : Bounds) (start end : ℕ) (merged : Bounds) w
         above = low;
         interval = m.interval;
         rest = canonical_raise _ (merged.last + 2) (drop end ivs) merged back (λ some.
-            let at : get_or (drop end ivs) 0 merged ≡ get_or ivs end merged = get_or-drop end ivs 0 merged ∙ ap (λ n. get_or ivs n merged) (add-zero end) in
+            let at : get_or (drop end ivs) 0 merged ≡ get_or ivs end merged = get_or-drop end ivs 0 merged
+            ∙ ap (λ n. get_or ivs n merged) (add-zero end) in
             let gap = m.before end merged (le_refl end) (omega (arith, length-drop end ivs)) in
             let P : Bounds → Type 0 = λ b. merged.last + 2 ≤ b.first in
             subst P (sym at) (omega arith));
@@ -58,19 +64,25 @@ module _ (ivs : List Bounds) (iv : Bounds) (start end : ℕ) (merged : Bounds) w
   swap_or false false false true = refl
   swap_or false false false false = refl
 
-  pub members_joined : (c : ℕ) → start ≤ end → Merges ivs iv start end merged → is_member (take start ivs ++ merged ∷ drop end ivs) c ≡ (is_member ivs c || is_within iv c)
+  pub members_joined : (c : ℕ) → start ≤ end → Merges ivs iv start end merged
+      → is_member (take start ivs ++ merged ∷ drop end ivs) c ≡ (is_member ivs c || is_within iv c)
   members_joined c in_order m =
-      let front : take start ivs ++ between ivs start end ≡ take end ivs = ap (λ l. l ++ between ivs start end) (sym (take-take start end ivs in_order)) ∙ take-append-drop start (take end ivs) in
+      let front : take start ivs ++ between ivs start end
+      ≡ take end ivs = ap (λ l. l ++ between ivs start end) (sym (take-take start end ivs in_order))
+      ∙ take-append-drop start (take end ivs) in
       let whole : is_member ivs c ≡ ((is_member (take start ivs) c || is_member (between ivs start end) c) || is_member (drop end ivs) c) =
       ap (λ l. is_member l c) (sym (take-append-drop end ivs)) ∙ is_member-append (take end ivs) (drop end ivs) c
-      ∙ ap (λ b. b || is_member (drop end ivs) c) (ap (λ l. is_member l c) (sym front) ∙ is_member-append (take start ivs) (between ivs start end) c) in
+      ∙ ap (λ b. b || is_member (drop end ivs) c)
+      (ap (λ l. is_member l c) (sym front) ∙ is_member-append (take start ivs) (between ivs start end) c) in
       is_member-append (take start ivs) (merged ∷ drop end ivs) c
-      ∙ ap (λ b. is_member (take start ivs) c || b) (is_member-cons merged (drop end ivs) c ∙ ap (λ b. b || is_member (drop end ivs) c) (m.members c))
+      ∙ ap (λ b. is_member (take start ivs) c || b)
+      (is_member-cons merged (drop end ivs) c ∙ ap (λ b. b || is_member (drop end ivs) c) (m.members c))
       ∙ swap_or (is_member (take start ivs) c) (is_member (between ivs start end) c) (is_member (drop end ivs) c) (is_within iv c)
       ∙ ap (λ b. b || is_within iv c) (sym whole)
 
 -- what `drain` leaves of the list in which one place was written
-pub drained : (ivs : List Bounds) (start end : ℕ) (merged : Bounds) → start < end → end ≤ length ivs → remove_range (set ivs start merged) (start + 1) end ≡ take start ivs ++ merged ∷ drop end ivs
+pub drained : (ivs : List Bounds) (start end : ℕ) (merged : Bounds) → start < end → end ≤ length ivs
+    → remove_range (set ivs start merged) (start + 1) end ≡ take start ivs ++ merged ∷ drop end ivs
 drained ivs start end merged some in_bounds =
     ap₂ (λ a b. a ++ b) (take_more_set ivs start merged (omega arith)) (drop-set-lt end ivs start merged some)
     ∙ append_assoc (take start ivs) (merged ∷ []) (drop end ivs)
@@ -96,15 +108,21 @@ module _ (ivs : List Bounds) (start end : ℕ) (d : Bounds) (in_bounds : end ≤
   between-at : (k c : ℕ) → start ≤ k → k < end → is_within (get_or ivs k d) c ≡ true → is_member (between ivs start end) c ≡ true
   between-at k c from to within =
       let place : start + (k - start) ≡ k = omega arith in
-      is_member-at (between ivs start end) (k - start) c d (omega (arith, length-between)) (ap (λ b. is_within b c) (get_or-between (k - start) (omega arith) ∙ ap (λ n. get_or ivs n d) place) ∙ within)
+      is_member-at (between ivs start end) (k - start) c d (omega (arith, length-between))
+      (ap (λ b. is_within b c) (get_or-between (k - start) (omega arith) ∙ ap (λ n. get_or ivs n d) place) ∙ within)
 
-  between-nowhere : (c : ℕ) → ((k : ℕ) → start ≤ k → k < end → is_within (get_or ivs k d) c ≡ false) → is_member (between ivs start end) c ≡ false
+  between-nowhere : (c : ℕ) → ((k : ℕ) → start ≤ k → k < end → is_within (get_or ivs k d) c ≡ false)
+      → is_member (between ivs start end) c ≡ false
   between-nowhere c none =
-      is_member-nowhere (between ivs start end) c d (λ k h. ap (λ b. is_within b c) (get_or-between k (omega (arith, length-between))) ∙ none (start + k) (omega arith) (omega (arith, length-between)))
+      is_member-nowhere (between ivs start end) c d
+      (λ k h. ap (λ b. is_within b c) (get_or-between k (omega (arith, length-between)))
+      ∙ none (start + k) (omega arith) (omega (arith, length-between)))
 
 -- the interval from the first of a touching range or of `iv` to the last of either
-pub merges_some : (ivs : List Bounds) (iv : Bounds) (start end : ℕ) (d : Bounds) → IsCanonical ivs → IsInterval iv → IsTouchingRange ivs iv start end → start < end
-    → (merged : Bounds) → merged.first ≡ min (get_or ivs start d).first iv.first → merged.last ≡ max (get_or ivs (end - 1) d).last iv.last → Merges ivs iv start end merged
+pub merges_some : (ivs : List Bounds) (iv : Bounds) (start end : ℕ) (d : Bounds) → IsCanonical ivs → IsInterval iv
+    → IsTouchingRange ivs iv start end → start < end
+    → (merged : Bounds) → merged.first ≡ min (get_or ivs start d).first iv.first → merged.last ≡ max (get_or ivs (end - 1) d).last iv.last
+    → Merges ivs iv start end merged
 merges_some ivs iv start end d can interval range some merged first last =
     let low = get_or ivs start d in
     let high = get_or ivs (end - 1) d in
@@ -128,18 +146,22 @@ merges_some ivs iv start end d can interval range some merged first last =
       members = λ c. elim (cases_lt c iv.first) [
         | inl below ↦ elim (cases_lt c low.first) [
           | inl outside ↦ lt-is_within merged c (omega arith) ∙ sym (or_from _ _
-              (between-nowhere ivs start end d range.in_bounds c (λ k from to. lt-is_within (get_or ivs k d) c (first_above k c from to outside)))
+              (between-nowhere ivs start end d range.in_bounds c
+              (λ k from to. lt-is_within (get_or ivs k d) c (first_above k c from to outside)))
               (lt-is_within iv c below))
           | inr inside ↦ le-is_within merged c (omega arith) (omega arith) ∙ sym (or_left _ _
-              (between-at ivs start end d range.in_bounds start c (le_refl start) some (le-is_within low c inside (omega (arith, low_touches.not_before)))))
+              (between-at ivs start end d range.in_bounds start c (le_refl start) some
+              (le-is_within low c inside (omega (arith, low_touches.not_before)))))
         ]
         | inr from ↦ elim (cases_lt iv.last c) [
           | inl above ↦ elim (cases_lt high.last c) [
             | inl outside ↦ gt-is_within merged c (omega arith) ∙ sym (or_from _ _
-                (between-nowhere ivs start end d range.in_bounds c (λ k from to. gt-is_within (get_or ivs k d) c (last_below k c from to outside)))
+                (between-nowhere ivs start end d range.in_bounds c
+                (λ k from to. gt-is_within (get_or ivs k d) c (last_below k c from to outside)))
                 (gt-is_within iv c above))
             | inr inside ↦ le-is_within merged c (omega arith) (omega arith) ∙ sym (or_left _ _
-                (between-at ivs start end d range.in_bounds (end - 1) c (omega arith) (omega arith) (le-is_within high c (omega (arith, high_touches.not_after)) inside)))
+                (between-at ivs start end d range.in_bounds (end - 1) c (omega arith) (omega arith)
+                (le-is_within high c (omega (arith, high_touches.not_after)) inside)))
           ]
           | inr to ↦ le-is_within merged c (omega arith) (omega arith) ∙ sym (or_right _ _ (le-is_within iv c from to))
         ]
@@ -169,25 +191,29 @@ pub record IsAdded (ivs : List Bounds) (iv : Bounds) (new : List Bounds) : Type 
   pub canonical : IsCanonical new
   pub members : (c : ℕ) → is_member new c ≡ (is_member ivs c || is_within iv c)
 
-pub added : (ivs : List Bounds) (iv : Bounds) (start end : ℕ) (merged : Bounds) (new : List Bounds) → IsCanonical ivs → IsTouchingRange ivs iv start end → Merges ivs iv start end merged → new ≡ take start ivs ++ merged ∷ drop end ivs → IsAdded ivs iv new
+pub added : (ivs : List Bounds) (iv : Bounds) (start end : ℕ) (merged : Bounds) (new : List Bounds) → IsCanonical ivs
+    → IsTouchingRange ivs iv start end → Merges ivs iv start end merged → new ≡ take start ivs ++ merged ∷ drop end ivs → IsAdded ivs iv new
 added ivs iv start end merged new can range merges made = record {
   canonical = subst IsCanonical (sym made) (canonical_joined ivs iv start end merged range.in_order range.in_bounds can merges);
   members = λ c. ap (λ l. is_member l c) made ∙ members_joined ivs iv start end merged c range.in_order merges;
 }
 
 -- an interval that touches none
-pub added_new : (ivs : List Bounds) (iv : Bounds) (start end : ℕ) (new : List Bounds) → IsCanonical ivs → IsInterval iv → IsTouchingRange ivs iv start end → start ≡ end → new ≡ insert ivs start iv → IsAdded ivs iv new
+pub added_new : (ivs : List Bounds) (iv : Bounds) (start end : ℕ) (new : List Bounds) → IsCanonical ivs → IsInterval iv
+    → IsTouchingRange ivs iv start end → start ≡ end → new ≡ insert ivs start iv → IsAdded ivs iv new
 added_new ivs iv start end new can interval range same made =
     let none = subst (λ (n : ℕ). IsTouchingRange ivs iv start n) (sym same) range in
     added ivs iv start start iv new can none (merges_none ivs iv start interval none) made
 
 -- an interval that touches some, of which the first keeps the place
-pub added_joined : (ivs : List Bounds) (iv : Bounds) (start end : ℕ) (low high merged : Bounds) (new : List Bounds) → IsCanonical ivs → IsInterval iv → IsTouchingRange ivs iv start end → start ≢ end
+pub added_joined : (ivs : List Bounds) (iv : Bounds) (start end : ℕ) (low high merged : Bounds) (new : List Bounds) → IsCanonical ivs
+    → IsInterval iv → IsTouchingRange ivs iv start end → start ≢ end
     → low ≡ get_or ivs start low → high ≡ get_or ivs (end - 1) high
     → merged.first ≡ min low.first iv.first → merged.last ≡ max high.last iv.last
     → new ≡ remove_range (set ivs start merged) (start + 1) end → IsAdded ivs iv new
 added_joined ivs iv start end low high merged new can interval range differ low_at high_at first last made =
     let some : start < end = omega (arith, range.in_order, differ) in
     let high_here : high ≡ get_or ivs (end - 1) low = high_at ∙ get_or_default ivs (end - 1) high low (omega (arith, range.in_bounds)) in
-    let merges = merges_some ivs iv start end low can interval range some merged (first ∙ ap (λ b. min b.first iv.first) low_at) (last ∙ ap (λ b. max b.last iv.last) high_here) in
+    let merges = merges_some ivs iv start end low can interval range some merged (first ∙ ap (λ b. min b.first iv.first) low_at)
+    (last ∙ ap (λ b. max b.last iv.last) high_here) in
     added ivs iv start end merged new can range merges (made ∙ drained ivs start end merged some range.in_bounds)

@@ -14,3 +14,4 @@ pub mod Utf8Lemmas
 pub mod CombineLemmas
 pub mod UniqueLemmas
 pub mod GapsLemmas
+pub mod laws

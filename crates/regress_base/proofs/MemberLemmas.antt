@@ -35,11 +35,13 @@ is_member-push xs iv c =
     is_member-append xs (iv ∷ []) c ∙ ap (λ b. is_member xs c || b) (is_member-one iv c)
 
 -- one interval more of those taken
-pub is_member-take_more : (xs : List Bounds) (i c : ℕ) (d : Bounds) → i < length xs → is_member (take (i + 1) xs) c ≡ (is_member (take i xs) c || is_within (get_or xs i d) c)
+pub is_member-take_more : (xs : List Bounds) (i c : ℕ) (d : Bounds) → i < length xs
+    → is_member (take (i + 1) xs) c ≡ (is_member (take i xs) c || is_within (get_or xs i d) c)
 is_member-take_more xs i c d h =
     ap (λ l. is_member l c) (take_more xs i d h) ∙ is_member-push (take i xs) (get_or xs i d) c
 
-pub is_member-drop_more : (xs : List Bounds) (i c : ℕ) (d : Bounds) → i < length xs → is_member (drop i xs) c ≡ (is_within (get_or xs i d) c || is_member (drop (i + 1) xs) c)
+pub is_member-drop_more : (xs : List Bounds) (i c : ℕ) (d : Bounds) → i < length xs
+    → is_member (drop i xs) c ≡ (is_within (get_or xs i d) c || is_member (drop (i + 1) xs) c)
 is_member-drop_more xs i c d h =
     ap (λ l. is_member l c) (drop_more xs i d h) ∙ is_member-cons (get_or xs i d) (drop (i + 1) xs) c
 
@@ -50,7 +52,8 @@ is_member-at (x ∷ xs) zero c d h t =
 is_member-at (x ∷ xs) (suc i) c d h t =
     is_member-cons x xs c ∙ or_right (is_within x c) (is_member xs c) (is_member-at xs i c d (le_of_suc-le-suc h) t)
 
-pub is_member-nowhere : (xs : List Bounds) (c : ℕ) (d : Bounds) → ((i : ℕ) → i < length xs → is_within (get_or xs i d) c ≡ false) → is_member xs c ≡ false
+pub is_member-nowhere : (xs : List Bounds) (c : ℕ) (d : Bounds) → ((i : ℕ) → i < length xs → is_within (get_or xs i d) c ≡ false)
+    → is_member xs c ≡ false
 is_member-nowhere [] c d none = is_member-nil c
 is_member-nowhere (x ∷ xs) c d none =
     is_member-cons x xs c

@@ -3,7 +3,8 @@ use Rattle.std.proofs.Common.{◌≡◌, ℕ, ◌+◌, ◌<◌, ◌≤◌, Bool,
 use Rattle.std.proofs.lemmas.Bool.Decides.{nat_tests}
 use Rattle.std.proofs.lemmas.List.{get_or_read}
 use denote.Param.Members.{Mut}
-use Rattle.std.specs.Fn.{Called, AlwaysReturns}
+use denote.Bor.{Bor}
+use Rattle.std.specs.Fn.{Called, AlwaysReturns, ComputesKey}
 use Rattle.std.specs.List.{AllWithin}
 use Rattle.std.specs.List.Sorted.{IsNonDecreasingBy}
 use Rattle.std.specs.Ordering.{ordering_index}
@@ -12,14 +13,25 @@ use Rattle.std.specs.declared.cmp.Ordering.TheVariants.{Less, Equal, Greater}
 use Rattle.regress_base.specs.Ranges.{IsEqualRange, SplitsAt}
 
 -- a call of a closure that always computes: its answer, and what is left computes too
-pub answers_next : {F X R : Type 0} (g : Mut F X R) (P : X → R → Type 0) (f : F) (a : X) (r : R) (f' : F) → Called g f a r f' → AlwaysReturns g P f → P a r × AlwaysReturns g P f'
+answers_next : {F X R : Type 0} (g : Mut F X R) (P : X → R → Type 0) (f : F) (a : X) (r : R) (f' : F) → Called g f a r f'
+    → AlwaysReturns g P f → P a r × AlwaysReturns g P f'
 answers_next g P f a r f' call always =
     ((always.at (a ∷ []) r f' call).0, record { at = λ xs. (always.at (a ∷ xs) r f' call).1 })
 
 -- the answer at an element that was read
-pub read_index : {X : Type 0} (ord : X → Ordering) (xs : List X) (i : ℕ) (x : X) (r : Ordering) (d : X) → i < length xs → x ≡ get_or xs i x → r ≡ ord x → ordering_index r ≡ ordering_index (ord (get_or xs i d))
+read_index : {X : Type 0} (ord : X → Ordering) (xs : List X) (i : ℕ) (x : X) (r : Ordering) (d : X) → i < length xs → x ≡ get_or xs i x
+    → r ≡ ord x → ordering_index r ≡ ordering_index (ord (get_or xs i d))
 read_index ord xs i x r d inside read answer =
     ap ordering_index (answer ∙ ap ord (get_or_read xs i x inside read d))
+
+-- both at once, for a closure that computes an order
+pub answered : {F X : Type 0} (g : Mut F (Bor X × Unit {0}) Ordering) (ord : X → Ordering) (xs : List X)
+    → (i : ℕ) (f f' : F) (a : Bor X) (r : Ordering) → i < length xs → a.now ≡ get_or xs i a.now
+    → Called g f (a, tt) r f' → ComputesKey g ord f
+    → ((d : X) → ordering_index r ≡ ordering_index (ord (get_or xs i d))) × ComputesKey g ord f'
+answered g ord xs i f f' a r inside read call computes =
+    let both = answers_next g _ f (a, tt) r f' call computes in
+    (λ d. read_index ord xs i a.now r d inside read both.0, both.1)
 
 pub index-lt : (a b : ℕ) (t : Bool) → t ≡ is_lt (nat_cmp a b) → t ≡ true → a < b
 index-lt a b t is passed = let less : is_lt (nat_cmp a b) ≡ true = sym is ∙ passed in grind (arith, nat_tests)
@@ -33,13 +45,15 @@ pub record Narrowed {X : Type 0} (ord : X → Ordering) (xs : List X) (n low hig
   pub above : AllWithin (λ x. n ≤ ordering_index (ord x)) xs high (length xs)
 
 module _ {X : Type 0} (ord : X → Ordering) (xs : List X) (n low high mid : ℕ) where
-  pub narrowed-lower : IsNonDecreasingBy (λ x. ordering_index (ord x)) xs → mid < length xs → ((d : X) → ordering_index (ord (get_or xs mid d)) < n) → Narrowed ord xs n low high → Narrowed ord xs n (mid + 1) high
+  pub narrowed-lower : IsNonDecreasingBy (λ x. ordering_index (ord x)) xs → mid < length xs
+      → ((d : X) → ordering_index (ord (get_or xs mid d)) < n) → Narrowed ord xs n low high → Narrowed ord xs n (mid + 1) high
   narrowed-lower rising inside at narrowed = record {
     below = λ k d from to. let le = rising k mid d (omega arith) inside in let lt = at d in omega arith;
     above = narrowed.above;
   }
 
-  pub narrowed-upper : IsNonDecreasingBy (λ x. ordering_index (ord x)) xs → ((d : X) → n ≤ ordering_index (ord (get_or xs mid d))) → Narrowed ord xs n low high → Narrowed ord xs n low mid
+  pub narrowed-upper : IsNonDecreasingBy (λ x. ordering_index (ord x)) xs → ((d : X) → n ≤ ordering_index (ord (get_or xs mid d)))
+      → Narrowed ord xs n low high → Narrowed ord xs n low mid
   narrowed-upper rising at narrowed = record {
     below = narrowed.below;
     above = λ k d from to. let le = rising mid k d from to in let least = at d in omega arith;
@@ -61,7 +75,9 @@ is_greater Equal h = absurd (omega arith)
 is_greater Greater h = refl
 
 -- two splits, at `Equal` and at `Greater`, leave the equal elements between
-pub equal_range-from_splits : {X : Type 0} (ord : X → Ordering) (xs : List X) (start end : ℕ) → IsNonDecreasingBy (λ x. ordering_index (ord x)) xs → SplitsAt ord xs Equal 0 start → SplitsAt ord xs Greater start end → start ≤ end → end ≤ length xs → IsEqualRange ord xs start end
+pub equal_range-from_splits : {X : Type 0} (ord : X → Ordering) (xs : List X) (start end : ℕ)
+    → IsNonDecreasingBy (λ x. ordering_index (ord x)) xs → SplitsAt ord xs Equal 0 start → SplitsAt ord xs Greater start end → start ≤ end
+    → end ≤ length xs → IsEqualRange ord xs start end
 equal_range-from_splits ord xs start end rising lower upper in_order in_bounds =
     let first = lower rising (λ k d from to. absurd (omega arith)) in
     let second = upper rising (λ k d from to. let less = first.0 k d from to in omega arith) in

@@ -25,22 +25,27 @@ place_of_tells c iv = grind (arith, nat_tests)
 
 pub place_of-Equal : (c : ℕ) (iv : Bounds) → place_of c iv ≡ Equal → is_within iv c ≡ true
 place_of-Equal c iv e =
-    let tells = subst (λ (o : Ordering). MatchOrdering o (iv.last < c) ((iv.first ≤ c) × (c ≤ iv.last)) (c < iv.first)) e (place_of_tells c iv) in
+    let tells = subst (λ (o : Ordering). MatchOrdering o (iv.last < c) ((iv.first ≤ c) × (c ≤ iv.last)) (c < iv.first)) e
+    (place_of_tells c iv) in
     le-is_within iv c tells.0 tells.1
 
 pub place_of-Less : (c : ℕ) (iv : Bounds) → place_of c iv ≡ Less → is_within iv c ≡ false
 place_of-Less c iv e =
-    gt-is_within iv c (subst (λ (o : Ordering). MatchOrdering o (iv.last < c) ((iv.first ≤ c) × (c ≤ iv.last)) (c < iv.first)) e (place_of_tells c iv))
+    gt-is_within iv c (subst (λ (o : Ordering). MatchOrdering o (iv.last < c) ((iv.first ≤ c) × (c ≤ iv.last)) (c < iv.first)) e
+    (place_of_tells c iv))
 
 pub place_of-Greater : (c : ℕ) (iv : Bounds) → place_of c iv ≡ Greater → is_within iv c ≡ false
 place_of-Greater c iv e =
-    lt-is_within iv c (subst (λ (o : Ordering). MatchOrdering o (iv.last < c) ((iv.first ≤ c) × (c ≤ iv.last)) (c < iv.first)) e (place_of_tells c iv))
+    lt-is_within iv c (subst (λ (o : Ordering). MatchOrdering o (iv.last < c) ((iv.first ≤ c) × (c ≤ iv.last)) (c < iv.first)) e
+    (place_of_tells c iv))
 
 -- the place of an interval is no later than that of one behind it
-place_of-rises : (c : ℕ) (a b : Bounds) → IsInterval a → IsInterval b → a.last + 1 < b.first → ordering_index (place_of c a) ≤ ordering_index (place_of c b)
+place_of-rises : (c : ℕ) (a b : Bounds) → IsInterval a → IsInterval b → a.last + 1 < b.first
+    → ordering_index (place_of c a) ≤ ordering_index (place_of c b)
 place_of-rises c a b ha hb apart = by_places (place_of c a) (place_of c b) (place_of_tells c a) (place_of_tells c b)
   where
-    by_places : (x y : Ordering) → MatchOrdering x (a.last < c) ((a.first ≤ c) × (c ≤ a.last)) (c < a.first) → MatchOrdering y (b.last < c) ((b.first ≤ c) × (c ≤ b.last)) (c < b.first) → ordering_index x ≤ ordering_index y
+    by_places : (x y : Ordering) → MatchOrdering x (a.last < c) ((a.first ≤ c) × (c ≤ a.last)) (c < a.first)
+        → MatchOrdering y (b.last < c) ((b.first ≤ c) × (c ≤ b.last)) (c < b.first) → ordering_index x ≤ ordering_index y
     by_places Less y s t = omega arith
     by_places Equal Less s t = absurd (omega (arith, ha.ordered, hb.ordered, s.0, s.1, t))
     by_places Equal Equal s t = le_refl 1
@@ -53,12 +58,14 @@ place_of-rises c a b ha hb apart = by_places (place_of c a) (place_of c b) (plac
 pub places_rise : (c : ℕ) (ivs : List Bounds) → IsCanonical ivs → IsNonDecreasingBy (λ iv. ordering_index (place_of c iv)) ivs
 places_rise c ivs can i j d le lt =
     elim (cases_lt i j) [
-      | inl before ↦ place_of-rises c (get_or ivs i d) (get_or ivs j d) (canonical_at 0 ivs i d can (omega arith)).interval (canonical_at 0 ivs j d can lt).interval (canonical_apart 0 ivs i j d can before lt)
+      | inl before ↦ place_of-rises c (get_or ivs i d) (get_or ivs j d) (canonical_at 0 ivs i d can (omega arith)).interval
+          (canonical_at 0 ivs j d can lt).interval (canonical_apart 0 ivs i j d can before lt)
       | inr not_before ↦ (let same : i ≡ j = omega arith in le_of_eq (ap (λ k. ordering_index (place_of c (get_or ivs k d))) same))
     ]
 
 -- a search for a code point finds it just where it is a member
-pub found_member : (ivs : List Bounds) (c : ℕ) (r : Result ℕ ℕ) → IsCanonical ivs → IsSearchInRange r (length ivs) → IsBinarySearchResult (place_of c) ivs r → is_ok r ≡ is_member ivs c
+pub found_member : (ivs : List Bounds) (c : ℕ) (r : Result ℕ ℕ) → IsCanonical ivs → IsSearchInRange r (length ivs)
+    → IsBinarySearchResult (place_of c) ivs r → is_ok r ≡ is_member ivs c
 found_member ivs c (Ok i) can bound at = sym (is_member-at ivs i c no_bounds bound (place_of-Equal c _ (at no_bounds)))
 found_member ivs c (Err i) can bound at =
     let parts = at (places_rise c ivs can) in

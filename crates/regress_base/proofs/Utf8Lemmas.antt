@@ -23,7 +23,8 @@ pub encode_four : (c : ℕ) → 0x1_0000 ≤ c →
     encode_utf8 c ≡ (0xF0 + c / 262144) ∷ (0x80 + (c / 4096) % 64) ∷ (0x80 + (c / 64) % 64) ∷ (0x80 + c % 64) ∷ []
 unfolding encode_utf8
 encode_four c low =
-    cond-false _ _ _ (le-ltb c 0x80 (omega arith)) ∙ cond-false _ _ _ (le-ltb c 0x800 (omega arith)) ∙ cond-false _ _ _ (le-ltb c 0x1_0000 low)
+    cond-false _ _ _ (le-ltb c 0x80 (omega arith)) ∙ cond-false _ _ _ (le-ltb c 0x800 (omega arith))
+    ∙ cond-false _ _ _ (le-ltb c 0x1_0000 low)
 
 -- the first byte of each width, by the bits that the code sets
 pub first_of_two : (c : ℕ) → 0x80 ≤ c → c < 0x800 → slice_get (encode_utf8 c) 0 ≡ Some (bit_or 0xC0 (c / 64))

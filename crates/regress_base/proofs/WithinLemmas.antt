@@ -5,7 +5,8 @@ use Rattle.std.proofs.lemmas.Bool.Decides.{nat_tests}
 use Rattle.regress_base.specs.Intervals.{Bounds, IsInterval, is_within}
 
 -- the test with the facts that it stands for
-pub is_within_tells : (iv : Bounds) (c : ℕ) → ((is_within iv c ≡ true) × (iv.first ≤ c) × (c ≤ iv.last)) ⊎ ((is_within iv c ≡ false) × ((c < iv.first) ⊎ (iv.last < c)))
+pub is_within_tells : (iv : Bounds) (c : ℕ)
+    → ((is_within iv c ≡ true) × (iv.first ≤ c) × (c ≤ iv.last)) ⊎ ((is_within iv c ≡ false) × ((c < iv.first) ⊎ (iv.last < c)))
 unfolding is_within
 is_within_tells iv c = grind (arith, nat_tests)
 
@@ -22,14 +23,16 @@ pub is_within-true : (iv : Bounds) (c : ℕ) → is_within iv c ≡ true → (iv
 is_within-true iv c within = grind (arith, is_within_tells iv c)
 
 -- the later first of two intervals that reach each other lies in both
-pub shared_from_ends : (a b : Bounds) → IsInterval a → IsInterval b → a.first ≤ b.last → b.first ≤ a.last → (c : ℕ) × IsTrue (is_within a c) × IsTrue (is_within b c)
+pub shared_from_ends : (a b : Bounds) → IsInterval a → IsInterval b → a.first ≤ b.last → b.first ≤ a.last
+    → (c : ℕ) × IsTrue (is_within a c) × IsTrue (is_within b c)
 shared_from_ends a b ha hb first_in last_in =
     elim (cases_lt a.first b.first) [
       | inl later ↦ (b.first, le-is_within a b.first (omega arith) last_in, le-is_within b b.first (le_refl b.first) hb.ordered)
       | inr later ↦ (a.first, le-is_within a a.first (le_refl a.first) ha.ordered, le-is_within b a.first later first_in)
     ]
 
-pub ends_from_shared : (a b : Bounds) → ((c : ℕ) × IsTrue (is_within a c) × IsTrue (is_within b c)) → (a.first ≤ b.last) × (b.first ≤ a.last)
+pub ends_from_shared : (a b : Bounds) → ((c : ℕ) × IsTrue (is_within a c) × IsTrue (is_within b c))
+    → (a.first ≤ b.last) × (b.first ≤ a.last)
 ends_from_shared a b shared =
     let in_a = is_within-true a shared.0 shared.1 in
     let in_b = is_within-true b shared.0 shared.2 in
@@ -40,9 +43,16 @@ pub is_within_one : (first last c : ℕ) → first ≡ last → is_within (recor
 is_within_one first last c same = grind (arith, nat_tests, is_within_tells (record { first = first; last = last }) c)
 
 -- the overlap of two intervals
-pub is_within_overlap : (a b : Bounds) (c : ℕ) → is_within (record { first = max a.first b.first; last = min a.last b.last }) c ≡ (is_within a c && is_within b c)
+pub is_within_overlap : (a b : Bounds) (c : ℕ)
+    → is_within (record { first = max a.first b.first; last = min a.last b.last }) c ≡ (is_within a c && is_within b c)
 is_within_overlap a b c =
-    grind (arith, nat_tests, is_within_tells a c, is_within_tells b c, is_within_tells (record { first = max a.first b.first; last = min a.last b.last }) c)
+    grind (
+      arith,
+      nat_tests,
+      is_within_tells a c,
+      is_within_tells b c,
+      is_within_tells (record { first = max a.first b.first; last = min a.last b.last }) c,
+    )
 
 -- two intervals that do not reach each other share nothing
 pub not_within_both : (a b : Bounds) (c : ℕ) → ((a.first ≤ b.last) × (b.first ≤ a.last) → ⊥) → (is_within a c && is_within b c) ≡ false

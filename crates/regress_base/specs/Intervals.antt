@@ -1,5 +1,5 @@
 -- Intervals of code points, and lists of them as sets.
-use Rattle.std.specs.Prelude.{◌≡◌, ℕ, ◌+◌, ◌<◌, ◌≤◌, Bool, true, false, not, ◌&&◌, ◌||◌, nat_le, ◌==◌, IsTrue, List, [], ◌∷◌, length, Any}
+use Rattle.std.specs.Prelude.{◌≡◌, ℕ, zero, suc, ◌+◌, ◌<◌, ◌≤◌, Bool, true, false, not, ◌&&◌, ◌||◌, nat_le, ◌==◌, if◌then◌else◌, IsTrue, List, [], ◌∷◌, length, Any}
 use Rattle.std.specs.List.{AllWithin}
 use Rattle.std.specs.Ordering.{on, eq_of_both}
 
@@ -47,6 +47,23 @@ abbrev pub CanonicalFormIsUnique : Type 0
 CanonicalFormIsUnique =
     (xs ys : List Bounds) → IsCanonical xs → IsCanonical ys
     → ((c : ℕ) → c ≤ code_point_max → is_member xs c ≡ is_member ys c) → xs ≡ ys
+
+-- the code point c put before intervals that lie above it: the first of them grows where it begins right
+-- behind c, else c is an interval of its own
+unfoldable pub put_before : ℕ → List Bounds → List Bounds
+put_before c [] = record { first = c; last = c } ∷ []
+put_before c (iv ∷ ivs) =
+    if iv.first == c + 1 then record { first = c; last = iv.last } ∷ ivs else record { first = c; last = c } ∷ iv ∷ ivs
+
+-- the intervals of those of the n numbers from `low` on that pass the test
+unfoldable pub intervals_from : (ℕ → Bool) → ℕ → ℕ → List Bounds
+intervals_from p low zero = []
+intervals_from p low (suc n) =
+    if p low then put_before low (intervals_from p (low + 1) n) else intervals_from p (low + 1) n
+
+-- the canonical list of the code points that pass the test, from 0 to the greatest
+unfoldable pub intervals_of : (ℕ → Bool) → List Bounds
+intervals_of p = intervals_from p 0 (code_point_max + 1)
 
 -- up to the greatest code point, each list holds what the other one lacks
 abbrev pub IsComplement : List Bounds → List Bounds → Type 0

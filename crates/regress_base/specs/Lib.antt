@@ -11,3 +11,4 @@ pub mod Utf8
 pub mod Classes
 pub mod Ranges
 pub mod Brackets
+pub mod Limits

@@ -6,6 +6,7 @@ mod ascii;
 mod bitmap;
 mod char_set;
 mod debug_list;
+mod find;
 mod searcher;
 mod small_arrays;
 mod strings;

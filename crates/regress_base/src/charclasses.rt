@@ -1,5 +1,9 @@
 //! The classes of characters that a pattern names by an escape, as canonical lists of intervals.
 
+ghost use Rattle.std.specs.Prelude.{◌≡◌};
+ghost use Rattle.regress_base.specs.Classes.{digits, word_characters, white_space, line_terminators};
+ghost use Rattle.regress_base.specs.Intervals.{IsCanonical};
+
 use crate::interval::Interval;
 
 #[cfg(test)]
@@ -98,3 +102,35 @@ pub const LINE_TERMINATOR: [Interval; 3] = [
         last: 0x2029,
     },
 ];
+
+/// The characters of `\w`: [`WORD_CHARS`], with what is proved of it.
+pub fn word_intervals() -> [Interval; 4]
+    ensures value { result ≡ word_characters }
+    ensures canonical { IsCanonical result }
+{
+    WORD_CHARS
+}
+
+/// The characters of `\d`: [`DIGITS`], with what is proved of it.
+pub fn digit_intervals() -> [Interval; 1]
+    ensures value { result ≡ digits }
+    ensures canonical { IsCanonical result }
+{
+    DIGITS
+}
+
+/// White space: [`WHITESPACE`], with what is proved of it.
+pub fn white_space_intervals() -> [Interval; 9]
+    ensures value { result ≡ white_space }
+    ensures canonical { IsCanonical result }
+{
+    WHITESPACE
+}
+
+/// Line terminators: [`LINE_TERMINATOR`], with what is proved of it.
+pub fn line_terminator_intervals() -> [Interval; 3]
+    ensures value { result ≡ line_terminators }
+    ensures canonical { IsCanonical result }
+{
+    LINE_TERMINATOR
+}

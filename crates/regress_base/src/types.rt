@@ -1,6 +1,11 @@
 //! Plain values that every layer shares: flags, ids, limits, brackets, groups and loops.
 
+ghost use Rattle.std.specs.Prelude.{◌≡◌};
+ghost use Rattle.regress_base.specs.Intervals.{code_point_max};
+ghost use Rattle.regress_base.specs.Limits.{max_capture_groups, max_loops, max_nesting_depth, max_char_set_length};
+
 pub use crate::charclasses::CharacterClassType;
+use crate::interval::CODE_POINT_MAX;
 pub use bracket::BracketContents;
 pub use captures::{GroupData, LoopData};
 
@@ -48,3 +53,13 @@ pub const MAX_NESTING_DEPTH: u32 = 256;
 
 /// How many members a small set of bytes or code points may have.
 pub const MAX_CHAR_SET_LENGTH: usize = 4;
+
+/// A law of the limits and of the greatest code point: they are the numbers of the definitions. It does nothing; a
+/// function whose proof needs the law calls it.
+pub fn limits_are_as_defined()
+    ensures capture_groups { MAX_CAPTURE_GROUPS ≡ max_capture_groups }
+    ensures loops { MAX_LOOPS ≡ max_loops }
+    ensures nesting_depth { MAX_NESTING_DEPTH ≡ max_nesting_depth }
+    ensures char_set_length { MAX_CHAR_SET_LENGTH ≡ max_char_set_length }
+    ensures code_points { CODE_POINT_MAX ≡ code_point_max }
+{}

@@ -1,10 +1,13 @@
 //! Rows from the text of a pattern to its trees, through every crate.
 
+mod caller;
+
 use crate::codepointset::CODE_POINT_MAX;
 use crate::optimizer::{optimize, parse_and_optimize};
 use crate::parse::{ParseFault, try_parse};
 use crate::types::{Flags, MAX_CAPTURE_GROUPS, MAX_CHAR_SET_LENGTH, MAX_LOOPS, MAX_NESTING_DEPTH};
 use crate::unicode::Tables;
+use caller::{code_points, optimized_text};
 use std::alloc::Global;
 use std::test::Fail;
 
@@ -24,14 +27,6 @@ fn dot_all() -> Flags {
     }
 }
 
-fn code_points(alloc: Global, pattern: &str) -> Result<Vec<u32>, Fail> {
-    let mut points = Vec::new(alloc);
-    for c in pattern.chars() {
-        points.push(u32::from(c))?;
-    }
-    Ok(points)
-}
-
 fn repeated(
     alloc: Global,
     front: &str,
@@ -47,7 +42,7 @@ fn repeated(
     for _ in 0..times {
         text.push_str(back)?;
     }
-    code_points(alloc, text.as_str())
+    Ok(code_points(alloc, text.as_str())?)
 }
 
 fn answer_to(alloc: Global, points: &[u32], flags: Flags) -> Result<Answer, Fail> {
@@ -316,6 +311,21 @@ fn one_call_parses_and_optimizes(rt: HostRuntime) -> Result<(), Fail> {
         "Cat\n..'97'\n..'98'\n..Goal\n"
     );
     assert!(rt; regex.flags == dot_all());
+    Ok(())
+}
+
+#[test]
+fn another_crate_calls_the_library(rt: HostRuntime) -> Result<(), Fail> {
+    let alloc = rt.alloc();
+    let text = optimized_text(alloc, "(?:a|\u{E9})", Flags::default())?;
+    assert_eq!(rt; text.as_str(), "Cat\n..Alt\n....'97'\n....'233'\n..Goal\n");
+    match optimized_text(alloc, "a)", Flags::default()) {
+        Ok(_text) => assert!(rt; false, "it is accepted"),
+        Err(fault) => {
+            let told = fault.to_string(alloc)?;
+            assert_eq!(rt; told.as_str(), "Unbalanced parenthesis");
+        }
+    }
     Ok(())
 }
 

@@ -76,9 +76,10 @@ fn append_parts(flat: &mut NodeList, part: Node) -> Result<(), AllocError>
     ensures capacity { OnOk result (vec_capacity flat.old ≤ vec_capacity flat.new) }
     ensures room { vec_len flat.old + row_length (parts_of (tree part)) ≤ vec_capacity flat.old → IsOk result }
 {
-    match part {
-        Node::Cat(mut inner) => flat.append(&mut inner)?,
-        other => flat.push(other)?,
+    let mut part = part;
+    match &mut part {
+        Node::Cat(inner) => flat.append(inner)?,
+        _ => flat.push(part)?,
     }
     Ok(())
 }

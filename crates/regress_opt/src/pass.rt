@@ -144,6 +144,9 @@ fn sweep_inside<R: Rewrite>(node: &mut Node, pass: &mut R, walk: &Walk) -> Resul
         | Node::Empty
         | Node::Goal
         | Node::Char { .. }
+        | Node::ByteSequence(_)
+        | Node::ByteSet(_)
+        | Node::CharSet(_)
         | Node::MatchAny
         | Node::MatchAnyExceptLineTerminator => Ok(false),
     }

@@ -1,51 +1,78 @@
--- What the reading function finds in a whole text is what the text stands for.
-use Rattle.std.proofs.Common.{◌≡◌, true, [], Some, None, refl, sym, ap, ◌∙◌, arith}
+-- What the reading function finds in a whole source is what the source stands for.
+use Rattle.std.proofs.Common.{◌≡◌, true, [], ◌∷◌, Some, refl, sym, ap, ◌∙◌, arith}
 use Rattle.std.proofs.lemmas.Option.{same_Some}
-use Rattle.regress_base.specs.declared.types.Flags.{Flags}
-use Rattle.regress_syntax.specs.Syntax.{Pattern, Terms, Term, one, either, no_terms, more_terms, literal, dot, grouping, capture, groups, names}
-use Rattle.regress_parse.specs.Grammar.{Source, Context, IsPattern, AreTerms, IsTerm}
+use Rattle.regress_tree.specs.Matching.{Setting}
+use Rattle.regress_syntax.specs.Source.{Source}
+use Rattle.regress_syntax.specs.Syntax.{Group, grouping, capture, Pattern, Terms, Item, one, either, no_terms, more_terms, atom, group, nothing_counted}
+use Rattle.regress_syntax.specs.Rows.{Context, inside, head_at, times_at}
+use Rattle.regress_parse.specs.Grammar.{IsPattern, AreTerms, IsItem}
 use Rattle.regress_parse.specs.Reader.{pattern_at}
 use Rattle.regress_parse.specs.Parsing.{context, Fits, pattern_part}
-use Rattle.regress_parse.specs.Accepted.{is_served, IsDerived, IsWithinLimits}
+use Rattle.regress_parse.specs.Accepted.{is_served, own_context, IsDerived, IsWithinLimits}
 use Rattle.regress_parse.proofs.GrammarLemmas.{pattern_at-sound, pattern_at-complete}
 
--- The rows that are served look at the flags alone.
-module _ (a b : Context) (same : a.flags ≡ b.flags) where
-  mutual
-    in_any_context : (p : Pattern) (t rest : Source) → IsPattern a p t rest → IsPattern b p t rest
-    in_any_context (one ts) t rest h = (terms_in_any_context ts t rest h.0, h.1)
-    in_any_context (either ts p) t rest h = (h.0, terms_in_any_context ts t _ h.1, in_any_context p h.0 rest h.2)
+-- ---- the rows that are served look at the setting alone
 
-    terms_in_any_context : (ts : Terms) (t rest : Source) → AreTerms a ts t rest → AreTerms b ts t rest
-    terms_in_any_context no_terms t rest h = h
-    terms_in_any_context (more_terms x xs) t rest h = (h.0, term_in_any_context x t h.0 h.1, terms_in_any_context xs h.0 rest h.2)
+with_setting : Context → Setting → Context
+with_setting ctx setting = record ctx { setting = setting }
 
-    term_in_any_context : (x : Term) (t rest : Source) → IsTerm a x t rest → IsTerm b x t rest
-    term_in_any_context (literal flags c) t rest h = (h.0 ∙ same, h.1, h.2)
-    term_in_any_context (dot flags) t rest h = (h.0 ∙ same, h.1)
-    term_in_any_context (grouping p) t rest h = (h.0, h.1, in_any_context p h.0 _ h.2)
-    term_in_any_context (capture None p) t rest h = (h.0, h.1, h.2, in_any_context p h.0 _ h.3)
-    term_in_any_context (capture (Some name) p) t rest h = absurd h
+head_at-same : (a b : Context) → a.setting ≡ b.setting → (t : Source) → head_at a t ≡ head_at b t
+unfolding head_at with_setting
+head_at-same a b same [] = refl
+head_at-same a b same (c ∷ t) = ap (λ setting. head_at (with_setting b setting) (c ∷ t)) same
 
-abbrev own : Flags → Pattern → Context
-own flags p = record { flags = flags; groups = groups p; names = names p }
+times_at-same : (a b : Context) (t : Source) → times_at a t ≡ times_at b t
+unfolding times_at
+times_at-same a b t = refl
 
-pub reads_derived : (flags : Flags) (t : Source) (p : Pattern) → IsDerived flags t p → pattern_at (context flags) t ≡ Some (p, [])
-reads_derived flags t p h = pattern_at-complete (context flags) p t [] (in_any_context (own flags p) (context flags) refl p t [] h.whole)
+inside-same : (kind : Group) (a b : Context) → a.setting ≡ b.setting → (inside kind a).setting ≡ (inside kind b).setting
+inside-same grouping a b same = same
+inside-same (capture name) a b same = same
 
-pub derived_reads : (flags : Flags) (t : Source) (p : Pattern) → is_served flags ≡ true → pattern_at (context flags) t ≡ Some (p, []) → IsDerived flags t p
-derived_reads flags t p served found = record {
+mutual
+  in_any_context : (a b : Context) → a.setting ≡ b.setting → (p : Pattern) (t rest : Source) → IsPattern a p t rest → IsPattern b p t rest
+  in_any_context a b same (one ts) t rest h = (terms_in_any_context a b same ts t rest h.0, h.1)
+  in_any_context a b same (either ts p) t rest h =
+      (h.0, terms_in_any_context a b same ts t _ h.1, in_any_context a b same p h.0 rest h.2)
+
+  terms_in_any_context : (a b : Context) → a.setting ≡ b.setting → (ts : Terms) (t rest : Source) → AreTerms a ts t rest → AreTerms b ts t rest
+  terms_in_any_context a b same no_terms t rest h = h
+  terms_in_any_context a b same (more_terms x q xs) t rest h = (
+    h.0,
+    h.1,
+    item_in_any_context a b same x t h.0 h.2,
+    times_at-same b a h.0 ∙ h.3,
+    terms_in_any_context a b same xs h.1 rest h.4,
+  )
+
+  item_in_any_context : (a b : Context) → a.setting ≡ b.setting → (x : Item) (t rest : Source) → IsItem a x t rest → IsItem b x t rest
+  item_in_any_context a b same (atom x) t rest h = head_at-same b a (sym same) t ∙ h
+  item_in_any_context a b same (group kind p) t rest h = (
+    h.0,
+    head_at-same b a (sym same) t ∙ h.1,
+    in_any_context (inside kind a) (inside kind b) (inside-same kind a b same) p h.0 _ h.2,
+  )
+
+-- ---- a whole source
+
+pub reads_derived : (setting : Setting) (t : Source) (p : Pattern) → IsDerived setting t p → pattern_at (context setting) t ≡ Some (p, [])
+reads_derived setting t p h =
+    pattern_at-complete (context setting) p t [] (in_any_context (own_context setting p) (context setting) refl p t [] h.whole)
+
+pub derived_reads : (setting : Setting) (t : Source) (p : Pattern) → is_served setting.flags ≡ true →
+    pattern_at (context setting) t ≡ Some (p, []) → IsDerived setting t p
+derived_reads setting t p served found = record {
   served = served;
-  whole = in_any_context (context flags) (own flags p) refl p t [] (pattern_at-sound (context flags) t (p, []) found);
+  whole = in_any_context (context setting) (own_context setting p) refl p t [] (pattern_at-sound (context setting) t (p, []) found);
 }
 
 -- at most one
-pub same_derived : (flags : Flags) (t : Source) (p q : Pattern) → IsDerived flags t p → IsDerived flags t q → p ≡ q
-same_derived flags t p q h k =
-    ap (λ (x : Pattern × Source). x.0) (same_Some (p, []) (q, []) (sym (reads_derived flags t p h) ∙ reads_derived flags t q k))
+pub same_derived : (setting : Setting) (t : Source) (p q : Pattern) → IsDerived setting t p → IsDerived setting t q → p ≡ q
+same_derived setting t p q h k =
+    ap (λ (x : Pattern × Source). x.0) (same_Some (p, []) (q, []) (sym (reads_derived setting t p h) ∙ reads_derived setting t q k))
 
-pub limits-fit : (p : Pattern) → IsWithinLimits p → Fits 0 0 (pattern_part p)
-limits-fit p h = record { groups = omega (arith, h.groups); levels = omega (arith, h.levels) }
+pub limits-fit : (setting : Setting) (p : Pattern) → IsWithinLimits p → Fits nothing_counted 0 (pattern_part setting.table p)
+limits-fit setting p h = record { groups = omega (arith, h.groups); loops = omega (arith, h.loops); levels = omega (arith, h.levels) }
 
-pub fit-limits : (p : Pattern) → Fits 0 0 (pattern_part p) → IsWithinLimits p
-fit-limits p h = record { groups = omega (arith, h.groups); levels = omega (arith, h.levels) }
+pub fit-limits : (setting : Setting) (p : Pattern) → Fits nothing_counted 0 (pattern_part setting.table p) → IsWithinLimits p
+fit-limits setting p h = record { groups = omega (arith, h.groups); loops = omega (arith, h.loops); levels = omega (arith, h.levels) }

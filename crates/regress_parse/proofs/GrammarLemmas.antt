@@ -1,169 +1,131 @@
--- The reading function reads what the grammar relates, and nothing else. So a text stands for one syntax tree at most.
-use Rattle.std.proofs.Common.{◌≡◌, ℕ, zero, suc, ⊎_elim, true, false, cond, ◌||◌, ◌==◌, [], ◌∷◌, drop, Some, None, refl, sym, ap, ◌∙◌, subst, eqb-true}
+-- The reading function reads what the grammar relates, and nothing else. So a source stands for one syntax tree at most.
+use Rattle.std.proofs.Common.{◌≡◌, ℕ, zero, suc, ⊎_elim, true, false, ◌==◌, [], ◌∷◌, drop, Option, Some, None, refl, sym, ap, ◌∙◌, subst, eqb-true}
 use Rattle.std.proofs.lemmas.Option.{none-some, same_Some, cond_some}
-use Rattle.std.proofs.lemmas.Bool.{cond-true, cond-false}
-use Rattle.regress_syntax.specs.Syntax.{Pattern, Terms, Term, one, either, no_terms, more_terms, literal, dot, grouping, capture}
-use Rattle.regress_parse.specs.Grammar.{Source, Context, opening, closing, full_stop, colon, question_mark, bar, is_at, ends_alternative, is_plain, IsPattern, AreTerms, IsTerm}
-use Rattle.regress_parse.specs.Reader.{Found, ◌>>=◌, closed, group_by, term_of, read_terms, read_pattern, enough, pattern_at, terms_at, term_at}
-use Rattle.regress_parse.proofs.ReaderLemmas.{found_then, chosen, terms_at-is, pattern_at-is, term_at-is, more_of, others_of}
+use Rattle.std.proofs.lemmas.Bool.{cond-true, cond-false, cases_Bool}
+use Rattle.regress_syntax.specs.Source.{Source, Found, ◌>>=◌, closing, bar, is_at, ends_alternative}
+use Rattle.regress_syntax.specs.Syntax.{Group, Quantifier, Pattern, Terms, Item, one, either, no_terms, more_terms, atom, group}
+use Rattle.regress_syntax.specs.Rows.{Context, inside, Head, single, opens, head_at, times_at}
+use Rattle.regress_syntax.proofs.laws.Sources.{found_then, chosen}
+use Rattle.regress_syntax.proofs.laws.Rows.{head_at-ends}
+use Rattle.regress_parse.specs.Grammar.{IsPattern, AreTerms, IsItem}
+use Rattle.regress_parse.specs.Reader.{Term, closed, item_behind, item_by, quantified, term_by, read_terms, read_pattern, enough, pattern_at, terms_at, term_at, item_at}
+use Rattle.regress_parse.proofs.ReaderLemmas.{terms_at-is, pattern_at-is, term_at-is, item_at-is, more_by, others_by, more_of, others_of}
 
-pub at_bar : (t : Source) → is_at bar t ≡ true → t ≡ bar ∷ drop 1 t
-at_bar [] e = cc
-at_bar (c ∷ t) e = ap (λ d. d ∷ t) (eqb-true c bar e)
+at_this : (c : ℕ) (t : Source) → is_at c t ≡ true → t ≡ c ∷ drop 1 t
+at_this c [] e = cc
+at_this c (d ∷ t) e = ap (λ x. x ∷ t) (eqb-true d c e)
 
-pub at_close : (t : Source) → is_at closing t ≡ true → t ≡ closing ∷ drop 1 t
-at_close [] e = cc
-at_close (c ∷ t) e = ap (λ d. d ∷ t) (eqb-true c closing e)
+-- ---- what the function reads is in the relation
 
-at_question : (t : Source) → is_at question_mark t ≡ true → t ≡ question_mark ∷ drop 1 t
-at_question [] e = cc
-at_question (c ∷ t) e = ap (λ d. d ∷ t) (eqb-true c question_mark e)
+abbrev IsSound : (Context → Source → Found Pattern) → Type 0
+IsSound f = (ctx : Context) (t : Source) (x : Pattern × Source) → f ctx t ≡ Some x → IsPattern ctx x.0 t x.1
 
-at_colon : (t : Source) → is_at colon t ≡ true → t ≡ colon ∷ drop 1 t
-at_colon [] e = cc
-at_colon (c ∷ t) e = ap (λ d. d ∷ t) (eqb-true c colon e)
+closed-sound : (kind : Group) (x : Pattern × Source) (y : Item × Source) → closed kind x ≡ Some y →
+    (group kind x.0 ≡ y.0) × (x.1 ≡ closing ∷ y.1)
+closed-sound kind x y e =
+    let p = cond_some (is_at closing x.1) (group kind x.0, drop 1 x.1) y e in
+    (ap (λ (z : Item × Source). z.0) p.1, at_this closing x.1 p.0 ∙ ap (λ (z : Item × Source). closing ∷ z.1) p.1)
 
-at_question_colon : (t : Source) → is_at question_mark t ≡ true → is_at colon (drop 1 t) ≡ true → t ≡ question_mark ∷ colon ∷ drop 1 (drop 1 t)
-at_question_colon [] e f = cc
-at_question_colon (c ∷ t) e f = ap (λ d. d ∷ t) (eqb-true c question_mark e) ∙ ap (λ u. question_mark ∷ u) (at_colon t f)
+behind-sound : (inner : Context → Source → Found Pattern) → IsSound inner → (ctx : Context) (t : Source) (x : Head × Source) (y : Item × Source) →
+    head_at ctx t ≡ Some x → item_behind inner ctx x ≡ Some y → IsItem ctx y.0 t y.1
+behind-sound inner h ctx t (single a, rest) y front e =
+    subst (λ (z : Item × Source). IsItem ctx z.0 t z.1) (same_Some (atom a, rest) y e) front
+behind-sound inner h ctx t (opens kind, mid) y front e =
+    let found = found_then (inner (inside kind ctx) mid) (closed kind) y e in
+    let parts = closed-sound kind found.0 y found.2 in
+    let body = subst (λ rest. IsPattern (inside kind ctx) found.0.0 mid rest) parts.1 (h (inside kind ctx) mid found.0 found.1) in
+    subst (λ x. IsItem ctx x t y.1) parts.0 (mid, front, body)
 
--- A plain code point begins no other row: it is none of those.
-pub plain_is_not : (c d : ℕ) → is_plain c ≡ true → is_plain d ≡ false → (c == d) ≡ false
-plain_is_not c d plain special =
-    elim (c == d) as (λ b. (c == d) ≡ b → b ≡ false)
-    [ true ↦ λ e. absurd (let same = eqb-true c d e in let here : is_plain d ≡ true = subst (λ x. is_plain x ≡ true) same plain in cc) | false ↦ λ e. refl ]
-    refl
+item_by-sound : (inner : Context → Source → Found Pattern) → IsSound inner → (ctx : Context) (t : Source) (y : Item × Source) →
+    item_by inner ctx t ≡ Some y → IsItem ctx y.0 t y.1
+item_by-sound inner h ctx t y e =
+    let found = found_then (head_at ctx t) (item_behind inner ctx) y e in
+    behind-sound inner h ctx t found.0 y found.1 found.2
 
-module _ (ctx : Context) where
-  -- what the function reads is in the relation
-  abbrev pub IsSound : (Source → Found Pattern) → Type 0
-  IsSound f = (t : Source) (x : Pattern × Source) → f t ≡ Some x → IsPattern ctx x.0 t x.1
+mutual
+  unfolding read_terms
 
-  closed-sound : (make : Pattern → Term) (x : Pattern × Source) (y : Term × Source) → closed make x ≡ Some y → (make x.0 ≡ y.0) × (x.1 ≡ closing ∷ y.1)
-  closed-sound make x y e =
-      let p = cond_some (is_at closing x.1) (make x.0, drop 1 x.1) y e in
-      (ap (λ (z : Term × Source). z.0) p.1, at_close x.1 p.0 ∙ ap (λ (z : Term × Source). closing ∷ z.1) p.1)
-
-  group-sound : (inner : Source → Found Pattern) → IsSound inner → (t : Source) (y : Term × Source) → group_by inner t ≡ Some y → IsTerm ctx y.0 (opening ∷ t) y.1
-  group-sound inner h t y e =
+  read_terms-sound : (n : ℕ) (ctx : Context) (t : Source) (y : Terms × Source) → read_terms n ctx t ≡ Some y → AreTerms ctx y.0 t y.1
+  read_terms-sound zero ctx t y e = absurd (none-some y e)
+  read_terms-sound (suc n) ctx t y e =
       ⊎_elim
-      (λ (named : (is_at question_mark t ≡ true) × (cond (is_at colon (drop 1 t)) (inner (drop 1 (drop 1 t)) >>= closed grouping) None ≡ Some y)).
+      (λ (ends : (ends_alternative t ≡ true) × (Some (no_terms, t) ≡ Some y)).
+      subst (λ (z : Terms × Source). AreTerms ctx z.0 t z.1) (same_Some (no_terms, t) y ends.1) (ends.0, refl))
+      (λ (goes_on : (ends_alternative t ≡ false) × (_ ≡ Some y)).
+      let term = found_then (term_by (read_pattern n) ctx t) (more_by (read_terms n ctx)) y goes_on.1 in
+      let first = found_then (item_by (read_pattern n) ctx t) (quantified ctx) term.0 term.1 in
+      let times = found_then (times_at ctx first.0.1) (λ (q : Option Quantifier × Source). Some ((first.0.0, q.0), q.1)) term.0 first.2 in
+      let others = found_then (read_terms n ctx term.0.1) _ y term.2 in
+      let same : ((first.0.0, times.0.0), times.0.1) ≡ term.0 = same_Some _ term.0 times.2 in
+      let rest = subst (λ (z : Term × Source). (ts : Terms) (u : Source) → AreTerms ctx ts z.1 u → AreTerms ctx (more_terms z.0.0 z.0.1 ts) t u) same
+      (λ ts u others. (
+        first.0.1,
+        times.0.1,
+        item_by-sound (read_pattern n) (read_pattern-sound n) ctx t first.0 first.1,
+        times.1,
+        others,
+      )) in
+      subst (λ (z : Terms × Source). AreTerms ctx z.0 t z.1) (same_Some (more_terms term.0.0.0 term.0.0.1 others.0.0, others.0.1) y others.2)
+      (rest others.0.0 others.0.1 (read_terms-sound n ctx term.0.1 others.0 others.1)))
+      (chosen (ends_alternative t) _ _ _ e)
+
+  read_pattern-sound : (n : ℕ) → IsSound (read_pattern n)
+  read_pattern-sound zero ctx t y e = absurd (none-some y e)
+  read_pattern-sound (suc n) ctx t y e =
+      let first = found_then (read_terms n ctx t) (others_by (read_pattern n ctx)) y e in
+      let terms = read_terms-sound n ctx t first.0 first.1 in
       ⊎_elim
-      (λ (plain : (is_at colon (drop 1 t) ≡ true) × (inner (drop 1 (drop 1 t)) >>= closed grouping ≡ Some y)).
-      let found = found_then (inner (drop 1 (drop 1 t))) (closed grouping) y plain.1 in
-      let parts = closed-sound grouping found.0 y found.2 in
-      let body = subst (λ rest. IsPattern ctx found.0.0 (drop 1 (drop 1 t)) rest) parts.1 (h (drop 1 (drop 1 t)) found.0 found.1) in
-      let front = ap (λ u. opening ∷ u) (at_question_colon t named.0 plain.0) in
-      subst (λ x. IsTerm ctx x (opening ∷ t) y.1) parts.0 (drop 1 (drop 1 t), front, body))
-      (λ (other : (is_at colon (drop 1 t) ≡ false) × (None ≡ Some y)). absurd (none-some y other.1))
-      (chosen (is_at colon (drop 1 t)) _ _ _ named.1))
-      (λ (capturing : (is_at question_mark t ≡ false) × (inner t >>= closed (capture None) ≡ Some y)).
-      let found = found_then (inner t) (closed (capture None)) y capturing.1 in
-      let parts = closed-sound (capture None) found.0 y found.2 in
-      let body = subst (λ rest. IsPattern ctx found.0.0 t rest) parts.1 (h t found.0 found.1) in
-      subst (λ x. IsTerm ctx x (opening ∷ t) y.1) parts.0 (t, refl, capturing.0, body))
-      (chosen (is_at question_mark t) _ _ _ e)
+      (λ (more : (is_at bar first.0.1 ≡ true) × (_ ≡ Some y)).
+      let others = found_then (read_pattern n ctx (drop 1 first.0.1)) _ y more.1 in
+      subst (λ (z : Pattern × Source). IsPattern ctx z.0 t z.1) (same_Some (either first.0.0 others.0.0, others.0.1) y others.2)
+      (drop 1 first.0.1, subst (λ u. AreTerms ctx first.0.0 t u) (at_this bar first.0.1 more.0) terms,
+      read_pattern-sound n ctx (drop 1 first.0.1) others.0 others.1))
+      (λ (last : (is_at bar first.0.1 ≡ false) × (_ ≡ Some y)).
+      subst (λ (z : Pattern × Source). IsPattern ctx z.0 t z.1) (same_Some (one first.0.0, first.0.1) y last.1) (terms, last.0))
+      (chosen (is_at bar first.0.1) _ _ _ first.2)
 
-  term_of-sound : (inner : Source → Found Pattern) → IsSound inner → (t : Source) (y : Term × Source) → term_of ctx inner t ≡ Some y → IsTerm ctx y.0 t y.1
-  term_of-sound inner h [] y e = absurd (none-some y e)
-  term_of-sound inner h (c ∷ t) y e =
-      ⊎_elim
-      (λ (is_dot : (c == full_stop ≡ true) × (Some (dot ctx.flags, t) ≡ Some y)).
-      subst (λ (x : Term × Source). IsTerm ctx x.0 (c ∷ t) x.1) (same_Some _ _ is_dot.1) (refl, ap (λ d. d ∷ t) (eqb-true c full_stop is_dot.0)))
-      (λ (no_dot : (c == full_stop ≡ false) × (cond (c == opening) (group_by inner t) (cond (is_plain c) (Some (literal ctx.flags c, t)) None) ≡ Some y)).
-      ⊎_elim
-      (λ (opens : (c == opening ≡ true) × (group_by inner t ≡ Some y)).
-      subst (λ d. IsTerm ctx y.0 (d ∷ t) y.1) (sym (eqb-true c opening opens.0)) (group-sound inner h t y opens.1))
-      (λ (other : (c == opening ≡ false) × (cond (is_plain c) (Some (literal ctx.flags c, t)) None ≡ Some y)).
-      let plain = cond_some (is_plain c) (literal ctx.flags c, t) y other.1 in
-      subst (λ (x : Term × Source). IsTerm ctx x.0 (c ∷ t) x.1) plain.1 (refl, plain.0, refl))
-      (chosen (c == opening) _ _ _ no_dot.1))
-      (chosen (c == full_stop) _ _ _ e)
+pub pattern_at-sound : IsSound pattern_at
+unfolding pattern_at
+pattern_at-sound ctx t y e = read_pattern-sound (enough t) ctx t y e
 
-  mutual
-    unfolding read_terms
+-- ---- what is in the relation the function reads
 
-    read_terms-sound : (n : ℕ) (t : Source) (y : Terms × Source) → read_terms ctx n t ≡ Some y → AreTerms ctx y.0 t y.1
-    read_terms-sound zero t y e = absurd (none-some y e)
-    read_terms-sound (suc n) t y e =
-        ⊎_elim
-        (λ (ends : (ends_alternative t ≡ true) × (Some (no_terms, t) ≡ Some y)).
-        subst (λ (z : Terms × Source). AreTerms ctx z.0 t z.1) (same_Some (no_terms, t) y ends.1) (ends.0, refl))
-        (λ (goes_on : (ends_alternative t ≡ false) × (_ ≡ Some y)).
-        let first = found_then (term_of ctx (read_pattern ctx n) t) _ y goes_on.1 in
-        let others = found_then (read_terms ctx n first.0.1) _ y first.2 in
-        subst (λ (z : Terms × Source). AreTerms ctx z.0 t z.1) (same_Some (more_terms first.0.0 others.0.0, others.0.1) y others.2)
-        (first.0.1, term_of-sound (read_pattern ctx n) (read_pattern-sound n) t first.0 first.1, read_terms-sound n first.0.1 others.0 others.1))
-        (chosen (ends_alternative t) _ _ _ e)
+-- no item begins where an alternative ends
+none_at_end : (ctx : Context) (t : Source) (x : Head × Source) → head_at ctx t ≡ Some x → ends_alternative t ≡ false
+none_at_end ctx t x front =
+    ⊎_elim (λ (ends : ends_alternative t ≡ true). absurd (none-some x (sym (head_at-ends ctx t ends) ∙ front)))
+    (λ (goes_on : ends_alternative t ≡ false). goes_on) (cases_Bool (ends_alternative t))
 
-    read_pattern-sound : (n : ℕ) → IsSound (read_pattern ctx n)
-    read_pattern-sound zero t y e = absurd (none-some y e)
-    read_pattern-sound (suc n) t y e =
-        let first = found_then (read_terms ctx n t) _ y e in
-        let terms = read_terms-sound n t first.0 first.1 in
-        ⊎_elim
-        (λ (more : (is_at bar first.0.1 ≡ true) × (_ ≡ Some y)).
-        let others = found_then (read_pattern ctx n (drop 1 first.0.1)) _ y more.1 in
-        subst (λ (z : Pattern × Source). IsPattern ctx z.0 t z.1) (same_Some (either first.0.0 others.0.0, others.0.1) y others.2)
-        (drop 1 first.0.1, subst (λ u. AreTerms ctx first.0.0 t u) (at_bar first.0.1 more.0) terms, read_pattern-sound n (drop 1 first.0.1) others.0 others.1))
-        (λ (last : (is_at bar first.0.1 ≡ false) × (_ ≡ Some y)).
-        subst (λ (z : Pattern × Source). IsPattern ctx z.0 t z.1) (same_Some (one first.0.0, first.0.1) y last.1) (terms, last.0))
-        (chosen (is_at bar first.0.1) _ _ _ first.2)
+goes_on : (ctx : Context) (x : Item) (t rest : Source) → IsItem ctx x t rest → ends_alternative t ≡ false
+goes_on ctx (atom a) t rest h = none_at_end ctx t (single a, rest) h
+goes_on ctx (group kind p) t rest h = none_at_end ctx t (opens kind, h.0) h.1
 
-  pub pattern_at-sound : IsSound (pattern_at ctx)
-  unfolding pattern_at
-  pattern_at-sound t y e = read_pattern-sound (enough ctx t) t y e
+mutual
+  pub pattern_at-complete : (ctx : Context) (p : Pattern) (t rest : Source) → IsPattern ctx p t rest → pattern_at ctx t ≡ Some (p, rest)
+  pattern_at-complete ctx (one ts) t rest h =
+      pattern_at-is ctx t
+      ∙ ap (λ found. found >>= others_of ctx) (terms_at-complete ctx ts t rest h.0)
+      ∙ cond-false (is_at bar rest) _ _ h.1
+  pattern_at-complete ctx (either ts p) t rest h =
+      pattern_at-is ctx t
+      ∙ ap (λ found. found >>= others_of ctx) (terms_at-complete ctx ts t (bar ∷ h.0) h.1)
+      ∙ ap (λ found. found >>= λ (y : Pattern × Source). Some (either ts y.0, y.1)) (pattern_at-complete ctx p h.0 rest h.2)
 
-  -- a term does not begin where an alternative ends
-  term_goes_on : (x : Term) (t rest : Source) → IsTerm ctx x t rest → ends_alternative t ≡ false
-  term_goes_on (literal flags c) t rest h =
-      let plain = h.1 in
-      ap ends_alternative h.2
-      ∙ ap (λ b. b || (c == bar)) (plain_is_not c closing plain refl)
-      ∙ plain_is_not c bar plain refl
-  term_goes_on (dot flags) t rest h = ap ends_alternative h.1
-  term_goes_on (grouping p) t rest h = ap ends_alternative h.1
-  term_goes_on (capture None p) t rest h = ap ends_alternative h.1
-  term_goes_on (capture (Some name) p) t rest h = absurd h
+  terms_at-complete : (ctx : Context) (ts : Terms) (t rest : Source) → AreTerms ctx ts t rest → terms_at ctx t ≡ Some (ts, rest)
+  terms_at-complete ctx no_terms t rest h =
+      terms_at-is ctx t ∙ cond-true (ends_alternative t) _ _ h.0 ∙ ap (λ u. Some (no_terms, u)) h.1
+  terms_at-complete ctx (more_terms x q xs) t rest h =
+      terms_at-is ctx t
+      ∙ cond-false (ends_alternative t) _ _ (goes_on ctx x t h.0 h.2)
+      ∙ ap (λ found. found >>= more_of ctx)
+      (term_at-is ctx t
+      ∙ ap (λ found. found >>= quantified ctx) (item_at-complete ctx x t h.0 h.2)
+      ∙ ap (λ found. found >>= λ (y : Option Quantifier × Source). Some ((x, y.0), y.1)) h.3)
+      ∙ ap (λ found. found >>= λ (y : Terms × Source). Some (more_terms x q y.0, y.1)) (terms_at-complete ctx xs h.1 rest h.4)
 
-  -- what is in the relation the function reads
-  mutual
-    pub pattern_at-complete : (p : Pattern) (t rest : Source) → IsPattern ctx p t rest → pattern_at ctx t ≡ Some (p, rest)
-    pattern_at-complete (one ts) t rest h =
-        pattern_at-is ctx t ∙ ap (λ found. found >>= others_of ctx) (terms_at-complete ts t rest h.0)
-        ∙ cond-false (is_at bar rest) _ _ h.1
-    pattern_at-complete (either ts p) t rest h =
-        pattern_at-is ctx t ∙ ap (λ found. found >>= others_of ctx) (terms_at-complete ts t (bar ∷ h.0) h.1)
-        ∙ ap (λ (found : Found Pattern). found >>= λ (y : Pattern × Source). Some (either ts y.0, y.1)) (pattern_at-complete p h.0 rest h.2)
-
-    pub terms_at-complete : (ts : Terms) (t rest : Source) → AreTerms ctx ts t rest → terms_at ctx t ≡ Some (ts, rest)
-    terms_at-complete no_terms t rest h =
-        terms_at-is ctx t ∙ cond-true (ends_alternative t) _ _ h.0 ∙ ap (λ u. Some (no_terms, u)) h.1
-    terms_at-complete (more_terms x xs) t rest h =
-        terms_at-is ctx t ∙ cond-false (ends_alternative t) _ _ (term_goes_on x t h.0 h.1)
-        ∙ ap (λ found. found >>= more_of ctx) (term_at-complete x t h.0 h.1)
-        ∙ ap (λ (found : Found Terms). found >>= λ (y : Terms × Source). Some (more_terms x y.0, y.1)) (terms_at-complete xs h.0 rest h.2)
-
-    pub term_at-complete : (x : Term) (t rest : Source) → IsTerm ctx x t rest → term_at ctx t ≡ Some (x, rest)
-    term_at-complete (literal flags c) t rest h =
-        ap (term_at ctx) h.2 ∙ term_at-is ctx c rest
-        ∙ cond-false (c == full_stop) _ _ (plain_is_not c full_stop h.1 refl)
-        ∙ cond-false (c == opening) _ _ (plain_is_not c opening h.1 refl)
-        ∙ cond-true (is_plain c) _ _ h.1
-        ∙ ap (λ f. Some (literal f c, rest)) (sym h.0)
-    term_at-complete (dot flags) t rest h =
-        ap (term_at ctx) h.1 ∙ term_at-is ctx full_stop rest ∙ ap (λ f. Some (dot f, rest)) (sym h.0)
-    term_at-complete (grouping p) t rest h =
-        ap (term_at ctx) h.1 ∙ term_at-is ctx opening (question_mark ∷ colon ∷ h.0)
-        ∙ ap (λ found. found >>= closed grouping) (pattern_at-complete p h.0 (closing ∷ rest) h.2)
-    term_at-complete (capture None p) t rest h =
-        ap (term_at ctx) h.1 ∙ term_at-is ctx opening h.0
-        ∙ cond-false (is_at question_mark h.0) _ _ h.2
-        ∙ ap (λ found. found >>= closed (capture None)) (pattern_at-complete p h.0 (closing ∷ rest) h.3)
-    term_at-complete (capture (Some name) p) t rest h = absurd h
-
-  -- A text stands for one syntax tree at most, and that ends at one place.
-  pub same_pattern : (p q : Pattern) (t rest other : Source) → IsPattern ctx p t rest → IsPattern ctx q t other → p ≡ q
-  same_pattern p q t rest other h k =
-      ap (λ (x : Pattern × Source). x.0)
-      (same_Some (p, rest) (q, other) (sym (pattern_at-complete p t rest h) ∙ pattern_at-complete q t other k))
+  item_at-complete : (ctx : Context) (x : Item) (t rest : Source) → IsItem ctx x t rest → item_at ctx t ≡ Some (x, rest)
+  item_at-complete ctx (atom a) t rest h = item_at-is ctx t ∙ ap (λ found. found >>= item_behind pattern_at ctx) h
+  item_at-complete ctx (group kind p) t rest h =
+      item_at-is ctx t
+      ∙ ap (λ found. found >>= item_behind pattern_at ctx) h.1
+      ∙ ap (λ found. found >>= closed kind) (pattern_at-complete (inside kind ctx) p h.0 (closing ∷ rest) h.2)

@@ -1,70 +1,137 @@
 -- The capture groups of a pattern's tree are the pattern's, numbered as they open.
-use Rattle.std.proofs.Common.{◌≡◌, ℕ, ◌+◌, Bool, true, false, cond, ◌==◌, nat_lt, List, [], ◌∷◌, ◌++◌, length, Option, option_map, sum_by, count_by, encode_utf8_all, refl, sym, ap, ap₂, ◌∙◌, arith, append-nil, append_assoc}
+use Rattle.std.proofs.Common.{◌≡◌, ℕ, ◌+◌, cond, ◌==◌, nat_lt, List, [], ◌∷◌, ◌++◌, length, Option, Some, None, option_map, count_by, encode_utf8_all, refl, sym, ap, ap₂, subst, ◌∙◌, arith, append-nil}
+use Rattle.std.specs.List.Sorted.{IsPermutation}
 use Rattle.std.proofs.lemmas.List.{length-append}
-use Rattle.std.proofs.lemmas.List.Sums.{sum_by-append, sum_by-cons}
+use Rattle.std.proofs.lemmas.List.Sums.{sum_by-cons}
+use Rattle.std.proofs.lemmas.List.Sorted.{IsPermutation-refl, IsPermutation-trans, IsPermutation-append_left, IsPermutation-append_right, length_permutation, sum_by-IsPermutation}
 use Rattle.std.proofs.lemmas.Bool.Decides.{nat_tests}
 use Rattle.regress_tree.specs.Reading.{Direction, forwards, backwards}
-use Rattle.regress_tree.specs.Tree.{Tree, Trees, no_trees, more_trees, match_any, match_any_except_line_terminator}
+use Rattle.regress_tree.specs.Table.{Table}
+use Rattle.regress_tree.specs.Tree.{Tree, Trees, no_trees, more_trees}
 use Rattle.regress_tree.specs.WellFormed.{Capture, captures, captures_in_row}
-use Rattle.regress_syntax.specs.Syntax.{Name, Pattern, Terms, Term, one, either, no_terms, more_terms, literal, dot, grouping, capture, groups, groups_of_terms, groups_of_term, names, names_of_terms, names_of_term}
-use Rattle.regress_parse.specs.TreeOf.{behind_row, in_row, joined, tree_of_pattern, trees_of_terms, tree_of_term, tree_of}
+use Rattle.regress_tree.proofs.laws.Turned.{captures-row_reverse}
+use Rattle.regress_syntax.specs.Syntax.{Name, Group, grouping, capture, Quantifier, Pattern, Terms, Item, one, either, no_terms, more_terms, atom, group, opened_by, counts, counts_of_times, counts_of_terms, counts_of_term, counts_of_item, names, names_of_group, names_of_terms, names_of_item}
+use Rattle.regress_syntax.specs.Meaning.{direction_of_group}
+use Rattle.regress_parse.specs.TreeOf.{turned, joined, tree_of_group, tree_of_times, tree_of_pattern, trees_of_terms, tree_of_item, tree_of}
 
--- the group of an id and a name
-abbrev pub group : ℕ → Option Name → Capture
-group id name = record { id = id; name = option_map encode_utf8_all name }
+-- the groups of these names, with ids from n on
+abbrev pub numbered : ℕ → List (Option Name) → List Capture
+numbered n [] = []
+numbered n (name ∷ rest) = record { id = n; name = option_map encode_utf8_all name } ∷ numbered (n + 1) rest
 
--- ---- of rows
+numbered-append : (n k : ℕ) (xs ys : List (Option Name)) → length xs ≡ k → numbered n (xs ++ ys) ≡ numbered n xs ++ numbered (n + k) ys
+numbered-append n k [] ys e = let same : n ≡ n + k = omega arith in ap (λ m. numbered m ys) same
+numbered-append n k (x ∷ xs) ys e =
+    let same : n + 1 + length xs ≡ n + k = omega arith in
+    ap (λ cs. record { id = n; name = option_map encode_utf8_all x } ∷ cs)
+    (numbered-append (n + 1) (length xs) xs ys refl ∙ ap (λ m. numbered (n + 1) xs ++ numbered m ys) same)
 
-captures-joined : (row : Trees) → captures (joined row) ≡ captures_in_row row
-captures-joined no_trees = refl
-captures-joined (more_trees t no_trees) = sym (append-nil (captures t))
-captures-joined (more_trees t (more_trees u us)) = refl
+length-numbered : (n : ℕ) (xs : List (Option Name)) → length (numbered n xs) ≡ length xs
+length-numbered n [] = refl
+length-numbered n (x ∷ xs) = omega (arith, length-numbered (n + 1) xs)
 
-captures-behind_row : (t : Tree) (ts : Trees) → captures_in_row (behind_row t ts) ≡ captures_in_row ts ++ captures t
-captures-behind_row t no_trees = append-nil (captures t)
-captures-behind_row t (more_trees u us) =
-    ap (λ cs. captures u ++ cs) (captures-behind_row t us) ∙ sym (append_assoc (captures u) (captures_in_row us) (captures t))
+-- ---- as many names as groups, `None` where a group has none
 
--- a row has the groups of its parts in either direction
-length-captures-in_row : (d : Direction) (t : Tree) (ts : Trees) →
-    length (captures_in_row (in_row d t ts)) ≡ length (captures t) + length (captures_in_row ts)
-length-captures-in_row forwards t ts = length-append (captures t) (captures_in_row ts)
-length-captures-in_row backwards t ts =
-    omega (arith, ap length (captures-behind_row t ts), length-append (captures_in_row ts) (captures t))
+length-names_of_group : (kind : Group) → length (names_of_group kind) ≡ opened_by kind
+length-names_of_group grouping = refl
+length-names_of_group (capture name) = refl
 
-sum_by-captures-in_row : (f : Capture → ℕ) (d : Direction) (t : Tree) (ts : Trees) →
-    sum_by f (captures_in_row (in_row d t ts)) ≡ sum_by f (captures t) + sum_by f (captures_in_row ts)
-sum_by-captures-in_row f forwards t ts = sum_by-append f (captures t) (captures_in_row ts)
-sum_by-captures-in_row f backwards t ts =
-    omega (arith, ap (sum_by f) (captures-behind_row t ts), sum_by-append f (captures_in_row ts) (captures t))
+-- a quantifier opens none
+groups_of_times : (q : Option Quantifier) → (counts_of_times q).groups ≡ 0
+groups_of_times None = refl
+groups_of_times (Some q) = refl
 
-captures_of_dot : (dot_all : Bool) → captures (cond dot_all match_any match_any_except_line_terminator) ≡ []
-captures_of_dot true = refl
-captures_of_dot false = refl
+mutual
+  pub length-names : (p : Pattern) → length (names p) ≡ (counts p).groups
+  length-names (one ts) = length-names_of_terms ts
+  length-names (either ts p) =
+      length-append (names_of_terms ts) (names p) ∙ ap₂ (λ a b. a + b) (length-names_of_terms ts) (length-names p)
 
--- ---- their number
+  length-names_of_terms : (ts : Terms) → length (names_of_terms ts) ≡ (counts_of_terms ts).groups
+  length-names_of_terms no_terms = refl
+  length-names_of_terms (more_terms x q xs) =
+      omega (
+        arith,
+        length-append (names_of_item x) (names_of_terms xs),
+        length-names_of_item x,
+        groups_of_times q,
+        length-names_of_terms xs,
+      )
 
-module _ (d : Direction) where
+  length-names_of_item : (x : Item) → length (names_of_item x) ≡ (counts_of_item x).groups
+  length-names_of_item (atom a) = refl
+  length-names_of_item (group kind p) =
+      length-append (names_of_group kind) (names p) ∙ ap₂ (λ a b. a + b) (length-names_of_group kind) (length-names p)
+
+length-names_of_term : (x : Item) (q : Option Quantifier) → length (names_of_item x) ≡ (counts_of_term x q).groups
+length-names_of_term x q = omega (arith, length-names_of_item x, groups_of_times q)
+
+-- ---- what a group and a quantifier add to the groups of a tree
+
+captures-tree_of_group : (n : ℕ) (kind : Group) (body : Tree) →
+    captures (tree_of_group n kind body) ≡ numbered n (names_of_group kind) ++ captures body
+captures-tree_of_group n grouping body = refl
+captures-tree_of_group n (capture name) body = refl
+
+captures-tree_of_times : (q : Option Quantifier) (body : Tree) → captures (tree_of_times q body) ≡ captures body
+captures-tree_of_times None body = refl
+captures-tree_of_times (Some q) body = elim q [ ]
+
+-- ---- in either direction a tree has the groups of its pattern
+
+captures-turned : (d : Direction) (ts : Trees) → IsPermutation (captures_in_row ts) (captures_in_row (turned d ts))
+captures-turned forwards ts = IsPermutation-refl (captures_in_row ts)
+captures-turned backwards ts = captures-row_reverse ts
+
+captures-joined : (d : Direction) (row : Trees) → IsPermutation (captures_in_row row) (captures (joined d row))
+captures-joined d no_trees = IsPermutation-refl []
+captures-joined d (more_trees t no_trees) =
+    subst (IsPermutation (captures t ++ [])) (append-nil (captures t)) (IsPermutation-refl (captures t ++ []))
+captures-joined d (more_trees t (more_trees u us)) = captures-turned d (more_trees t (more_trees u us))
+
+-- two parts, the second behind the k groups of the first
+both_permuted : (n k : ℕ) (xs ys : List (Option Name)) (cs ds : List Capture) → length xs ≡ k → IsPermutation (numbered n xs) cs →
+    IsPermutation (numbered (n + k) ys) ds → IsPermutation (numbered n (xs ++ ys)) (cs ++ ds)
+both_permuted n k xs ys cs ds e first second =
+    subst (λ zs. IsPermutation zs (cs ++ ds)) (sym (numbered-append n k xs ys e))
+    (IsPermutation-trans _ _ _
+    (IsPermutation-append_left (numbered (n + k) ys) (numbered n xs) cs first)
+    (IsPermutation-append_right cs (numbered (n + k) ys) ds second))
+
+module _ (table : Table) where
   mutual
-    pub length-captures-tree_of_pattern : (n : ℕ) (p : Pattern) → length (captures (tree_of_pattern d n p)) ≡ groups p
-    length-captures-tree_of_pattern n (one ts) = ap length (captures-joined (trees_of_terms d n ts)) ∙ length-captures-trees_of_terms n ts
-    length-captures-tree_of_pattern n (either ts p) =
-        length-append (captures (joined (trees_of_terms d n ts))) (captures (tree_of_pattern d (n + groups_of_terms ts) p))
-        ∙ ap₂ (λ a b. a + b)
-        (ap length (captures-joined (trees_of_terms d n ts)) ∙ length-captures-trees_of_terms n ts)
-        (length-captures-tree_of_pattern (n + groups_of_terms ts) p)
+    -- the groups behind n opened ones have the pattern's names and the ids from n on, in some order
+    pub permuted-tree_of_pattern : (d : Direction) (n : ℕ) (p : Pattern) →
+        IsPermutation (numbered n (names p)) (captures (tree_of_pattern table d n p))
+    permuted-tree_of_pattern d n (one ts) =
+        IsPermutation-trans _ _ _ (permuted-trees_of_terms d n ts) (captures-joined d (trees_of_terms table d n ts))
+    permuted-tree_of_pattern d n (either ts p) =
+        both_permuted n _ _ _ _ _ (length-names_of_terms ts)
+        (IsPermutation-trans _ _ _ (permuted-trees_of_terms d n ts) (captures-joined d (trees_of_terms table d n ts)))
+        (permuted-tree_of_pattern d (n + (counts_of_terms ts).groups) p)
 
-    length-captures-trees_of_terms : (n : ℕ) (ts : Terms) → length (captures_in_row (trees_of_terms d n ts)) ≡ groups_of_terms ts
-    length-captures-trees_of_terms n no_terms = refl
-    length-captures-trees_of_terms n (more_terms t ts) =
-        length-captures-in_row d (tree_of_term d n t) (trees_of_terms d (n + groups_of_term t) ts)
-        ∙ ap₂ (λ a b. a + b) (length-captures-tree_of_term n t) (length-captures-trees_of_terms (n + groups_of_term t) ts)
+    permuted-trees_of_terms : (d : Direction) (n : ℕ) (ts : Terms) →
+        IsPermutation (numbered n (names_of_terms ts)) (captures_in_row (trees_of_terms table d n ts))
+    permuted-trees_of_terms d n no_terms = IsPermutation-refl []
+    permuted-trees_of_terms d n (more_terms x q xs) =
+        both_permuted n _ _ _ _ _ (length-names_of_term x q)
+        (subst (IsPermutation _) (sym (captures-tree_of_times q (tree_of_item table d n x))) (permuted-tree_of_item d n x))
+        (permuted-trees_of_terms d (n + (counts_of_term x q).groups) xs)
 
-    length-captures-tree_of_term : (n : ℕ) (t : Term) → length (captures (tree_of_term d n t)) ≡ groups_of_term t
-    length-captures-tree_of_term n (literal flags c) = refl
-    length-captures-tree_of_term n (dot flags) = ap length (captures_of_dot flags.dot_all)
-    length-captures-tree_of_term n (grouping p) = length-captures-tree_of_pattern n p
-    length-captures-tree_of_term n (capture name p) = omega (arith, length-captures-tree_of_pattern (n + 1) p)
+    permuted-tree_of_item : (d : Direction) (n : ℕ) (x : Item) →
+        IsPermutation (numbered n (names_of_item x)) (captures (tree_of_item table d n x))
+    permuted-tree_of_item d n (atom a) = IsPermutation-refl []
+    permuted-tree_of_item d n (group kind p) =
+        subst (IsPermutation _)
+        (sym (captures-tree_of_group n kind (tree_of_pattern table (direction_of_group kind d) (n + opened_by kind) p)))
+        (both_permuted n _ _ _ _ _ (length-names_of_group kind) (IsPermutation-refl (numbered n (names_of_group kind)))
+        (permuted-tree_of_pattern (direction_of_group kind d) (n + opened_by kind) p))
+
+  -- their number
+  pub length-captures-tree_of_pattern : (d : Direction) (n : ℕ) (p : Pattern) →
+      length (captures (tree_of_pattern table d n p)) ≡ (counts p).groups
+  length-captures-tree_of_pattern d n p =
+      length_permutation _ _ (permuted-tree_of_pattern d n p) ∙ length-numbered n (names p) ∙ length-names p
 
 -- ---- their ids
 
@@ -72,113 +139,86 @@ module _ (d : Direction) where
 abbrev pub below : ℕ → ℕ → ℕ
 below k n = cond (nat_lt k n) 1 0
 
-below-add-one : (k n : ℕ) → below k n + cond (n == k) 1 0 ≡ below k (n + 1)
-below-add-one k n = grind (arith, nat_tests)
-
 abbrev pub count_id : ℕ → List Capture → ℕ
 count_id k = count_by (λ c. c.id == k)
 
--- what counts from n on, for nothing and for two parts
-none_from : (f : ℕ → ℕ) (n : ℕ) → f n + 0 ≡ f (n + 0)
-none_from f n = let same : n + 0 ≡ n = omega arith in omega (arith, ap f same)
+below-add-one : (k n : ℕ) → below k n + cond (n == k) 1 0 ≡ below k (n + 1)
+below-add-one k n = grind (arith, nat_tests)
 
-both_from : (f : ℕ → ℕ) (n a b x y : ℕ) → f n + x ≡ f (n + a) → f (n + a) + y ≡ f (n + a + b) → f n + (x + y) ≡ f (n + (a + b))
-both_from f n a b x y first second = let same : n + (a + b) ≡ n + a + b = omega arith in omega (arith, ap f same)
+count_id-numbered : (k n : ℕ) (xs : List (Option Name)) → below k n + count_id k (numbered n xs) ≡ below k (n + length xs)
+count_id-numbered k n [] = let same : n + 0 ≡ n = omega arith in omega (arith, ap (below k) same)
+count_id-numbered k n (x ∷ xs) =
+    let same : n + 1 + length xs ≡ n + length (x ∷ xs) = omega arith in
+    let first = sum_by-cons (λ c. cond (c.id == k) 1 0) (record { id = n; name = option_map encode_utf8_all x }) (numbered (n + 1) xs) in
+    omega (arith, first, below-add-one k n, count_id-numbered k (n + 1) xs, ap (below k) same)
 
-module _ (d : Direction) (k : ℕ) where
-  mutual
-    -- the groups behind n opened ones have the ids from n on, each once
-    pub count_id-tree_of_pattern : (n : ℕ) (p : Pattern) → below k n + count_id k (captures (tree_of_pattern d n p)) ≡ below k (n + groups p)
-    count_id-tree_of_pattern n (one ts) = ap (λ cs. below k n + count_id k cs) (captures-joined (trees_of_terms d n ts)) ∙ count_id-trees_of_terms n ts
-    count_id-tree_of_pattern n (either ts p) =
-        ap (λ m. below k n + m)
-        (sum_by-append _ (captures (joined (trees_of_terms d n ts))) (captures (tree_of_pattern d (n + groups_of_terms ts) p)))
-        ∙ both_from (below k) n (groups_of_terms ts) (groups p) _ _
-        (ap (λ cs. below k n + count_id k cs) (captures-joined (trees_of_terms d n ts)) ∙ count_id-trees_of_terms n ts)
-        (count_id-tree_of_pattern (n + groups_of_terms ts) p)
-
-    count_id-trees_of_terms : (n : ℕ) (ts : Terms) →
-        below k n + count_id k (captures_in_row (trees_of_terms d n ts)) ≡ below k (n + groups_of_terms ts)
-    count_id-trees_of_terms n no_terms = none_from (below k) n
-    count_id-trees_of_terms n (more_terms t ts) =
-        ap (λ m. below k n + m) (sum_by-captures-in_row _ d (tree_of_term d n t) (trees_of_terms d (n + groups_of_term t) ts))
-        ∙ both_from (below k) n (groups_of_term t) (groups_of_terms ts) _ _ (count_id-tree_of_term n t) (count_id-trees_of_terms (n + groups_of_term t) ts)
-
-    count_id-tree_of_term : (n : ℕ) (t : Term) → below k n + count_id k (captures (tree_of_term d n t)) ≡ below k (n + groups_of_term t)
-    count_id-tree_of_term n (literal flags c) = none_from (below k) n
-    count_id-tree_of_term n (dot flags) =
-        ap (λ cs. below k n + count_id k cs) (captures_of_dot flags.dot_all) ∙ none_from (below k) n
-    count_id-tree_of_term n (grouping p) = count_id-tree_of_pattern n p
-    count_id-tree_of_term n (capture name p) =
-        ap (λ m. below k n + m) (sum_by-cons _ (group n name) (captures (tree_of_pattern d (n + 1) p)))
-        ∙ both_from (below k) n 1 (groups p) _ _ (below-add-one k n) (count_id-tree_of_pattern (n + 1) p)
+-- the ids behind n opened groups are those from n on, each once
+pub count_id-tree_of_pattern : (table : Table) (d : Direction) (k n : ℕ) (p : Pattern) →
+    below k n + count_id k (captures (tree_of_pattern table d n p)) ≡ below k (n + (counts p).groups)
+count_id-tree_of_pattern table d k n p =
+    omega (
+      arith,
+      sum_by-IsPermutation (λ c. cond (c.id == k) 1 0) _ _ (permuted-tree_of_pattern table d n p),
+      count_id-numbered k n (names p),
+      ap (λ m. below k (n + m)) (length-names p),
+    )
 
 -- ---- forwards, in their order
 
--- as many names as groups, `None` where a group has none
-mutual
-  pub length-names : (p : Pattern) → length (names p) ≡ groups p
-  length-names (one ts) = length-names_of_terms ts
-  length-names (either ts p) =
-      length-append (names_of_terms ts) (names p) ∙ ap₂ (λ a b. a + b) (length-names_of_terms ts) (length-names p)
+captures-joined_forwards : (row : Trees) → captures (joined forwards row) ≡ captures_in_row row
+captures-joined_forwards no_trees = refl
+captures-joined_forwards (more_trees t no_trees) = sym (append-nil (captures t))
+captures-joined_forwards (more_trees t (more_trees u us)) = refl
 
-  pub length-names_of_terms : (ts : Terms) → length (names_of_terms ts) ≡ groups_of_terms ts
-  length-names_of_terms no_terms = refl
-  length-names_of_terms (more_terms t ts) =
-      length-append (names_of_term t) (names_of_terms ts) ∙ ap₂ (λ a b. a + b) (length-names_of_term t) (length-names_of_terms ts)
+group_keeps_forwards : (kind : Group) → direction_of_group kind forwards ≡ forwards
+group_keeps_forwards grouping = refl
+group_keeps_forwards (capture name) = refl
 
-  pub length-names_of_term : (t : Term) → length (names_of_term t) ≡ groups_of_term t
-  length-names_of_term (literal flags c) = refl
-  length-names_of_term (dot flags) = refl
-  length-names_of_term (grouping p) = length-names p
-  length-names_of_term (capture name p) = omega (arith, length-names p)
+both_in_order : (n k : ℕ) (xs ys : List (Option Name)) (cs ds : List Capture) → length xs ≡ k → cs ≡ numbered n xs →
+    ds ≡ numbered (n + k) ys → cs ++ ds ≡ numbered n (xs ++ ys)
+both_in_order n k xs ys cs ds e first second = ap₂ (λ a b. a ++ b) first second ∙ sym (numbered-append n k xs ys e)
 
--- the groups of these names, with ids from n on
-abbrev pub numbered : ℕ → List (Option Name) → List Capture
-numbered n [] = []
-numbered n (name ∷ rest) = group n name ∷ numbered (n + 1) rest
+module _ (table : Table) where
+  mutual
+    -- the groups behind n opened ones have the pattern's names, in order, and the ids from n on
+    pub captures-tree_of_pattern : (n : ℕ) (p : Pattern) → captures (tree_of_pattern table forwards n p) ≡ numbered n (names p)
+    captures-tree_of_pattern n (one ts) = captures-joined_forwards (trees_of_terms table forwards n ts) ∙ captures-trees_of_terms n ts
+    captures-tree_of_pattern n (either ts p) =
+        both_in_order n _ _ _ _ _ (length-names_of_terms ts)
+        (captures-joined_forwards (trees_of_terms table forwards n ts) ∙ captures-trees_of_terms n ts)
+        (captures-tree_of_pattern (n + (counts_of_terms ts).groups) p)
 
-numbered-append : (n m : ℕ) (xs ys : List (Option Name)) → n + length xs ≡ m → numbered n (xs ++ ys) ≡ numbered n xs ++ numbered m ys
-numbered-append n m [] ys e = let same : n ≡ m = omega arith in ap (λ k. numbered k ys) same
-numbered-append n m (x ∷ xs) ys e = ap (λ cs. group n x ∷ cs) (numbered-append (n + 1) m xs ys (omega arith))
+    captures-trees_of_terms : (n : ℕ) (ts : Terms) →
+        captures_in_row (trees_of_terms table forwards n ts) ≡ numbered n (names_of_terms ts)
+    captures-trees_of_terms n no_terms = refl
+    captures-trees_of_terms n (more_terms x q xs) =
+        both_in_order n _ _ _ _ _ (length-names_of_term x q)
+        (captures-tree_of_times q (tree_of_item table forwards n x) ∙ captures-tree_of_item n x)
+        (captures-trees_of_terms (n + (counts_of_term x q).groups) xs)
 
-mutual
-  -- the groups behind n opened ones have the pattern's names, in order, and the ids from n on
-  pub captures-tree_of_pattern : (n : ℕ) (p : Pattern) → captures (tree_of_pattern forwards n p) ≡ numbered n (names p)
-  captures-tree_of_pattern n (one ts) = captures-joined (trees_of_terms forwards n ts) ∙ captures-trees_of_terms n ts
-  captures-tree_of_pattern n (either ts p) =
-      ap₂ (λ xs ys. xs ++ ys)
-      (captures-joined (trees_of_terms forwards n ts) ∙ captures-trees_of_terms n ts)
-      (captures-tree_of_pattern (n + groups_of_terms ts) p)
-      ∙ sym (numbered-append n (n + groups_of_terms ts) (names_of_terms ts) (names p) (ap (λ m. n + m) (length-names_of_terms ts)))
-
-  captures-trees_of_terms : (n : ℕ) (ts : Terms) → captures_in_row (trees_of_terms forwards n ts) ≡ numbered n (names_of_terms ts)
-  captures-trees_of_terms n no_terms = refl
-  captures-trees_of_terms n (more_terms t ts) =
-      ap₂ (λ xs ys. xs ++ ys) (captures-tree_of_term n t) (captures-trees_of_terms (n + groups_of_term t) ts)
-      ∙ sym (numbered-append n (n + groups_of_term t) (names_of_term t) (names_of_terms ts) (ap (λ m. n + m) (length-names_of_term t)))
-
-  captures-tree_of_term : (n : ℕ) (t : Term) → captures (tree_of_term forwards n t) ≡ numbered n (names_of_term t)
-  captures-tree_of_term n (literal flags c) = refl
-  captures-tree_of_term n (dot flags) = captures_of_dot flags.dot_all
-  captures-tree_of_term n (grouping p) = captures-tree_of_pattern n p
-  captures-tree_of_term n (capture name p) = ap (λ cs. group n name ∷ cs) (captures-tree_of_pattern (n + 1) p)
+    captures-tree_of_item : (n : ℕ) (x : Item) → captures (tree_of_item table forwards n x) ≡ numbered n (names_of_item x)
+    captures-tree_of_item n (atom a) = refl
+    captures-tree_of_item n (group kind p) =
+        captures-tree_of_group n kind (tree_of_pattern table (direction_of_group kind forwards) (n + opened_by kind) p)
+        ∙ both_in_order n _ _ _ _ _ (length-names_of_group kind) refl
+        (ap (λ d. captures (tree_of_pattern table d (n + opened_by kind) p)) (group_keeps_forwards kind)
+        ∙ captures-tree_of_pattern (n + opened_by kind) p)
 
 -- ---- the whole tree
 
-captures-of_whole : (p : Pattern) → captures (tree_of p) ≡ captures (tree_of_pattern forwards 0 p)
-captures-of_whole p = append-nil (captures (tree_of_pattern forwards 0 p))
+captures-of_whole : (table : Table) (p : Pattern) → captures (tree_of table p) ≡ captures (tree_of_pattern table forwards 0 p)
+captures-of_whole table p = append-nil (captures (tree_of_pattern table forwards 0 p))
 
 -- the groups of the tree are the pattern's, with its names, in the order in which they open, and with the ids from 0 on
-pub captures-tree_of : (p : Pattern) → captures (tree_of p) ≡ numbered 0 (names p)
-captures-tree_of p = captures-of_whole p ∙ captures-tree_of_pattern 0 p
+pub captures-tree_of : (table : Table) (p : Pattern) → captures (tree_of table p) ≡ numbered 0 (names p)
+captures-tree_of table p = captures-of_whole table p ∙ captures-tree_of_pattern table 0 p
 
-pub length-captures-tree_of : (p : Pattern) → length (captures (tree_of p)) ≡ groups p
-length-captures-tree_of p = ap length (captures-of_whole p) ∙ length-captures-tree_of_pattern forwards 0 p
+pub length-captures-tree_of : (table : Table) (p : Pattern) → length (captures (tree_of table p)) ≡ (counts p).groups
+length-captures-tree_of table p = ap length (captures-of_whole table p) ∙ length-captures-tree_of_pattern table forwards 0 p
 
-pub count_id-tree_of : (p : Pattern) (k : ℕ) →
-    count_by (λ c. c.id == k) (captures (tree_of p)) ≡ cond (nat_lt k (length (captures (tree_of p)))) 1 0
-count_id-tree_of p k =
+pub count_id-tree_of : (table : Table) (p : Pattern) (k : ℕ) →
+    count_by (λ c. c.id == k) (captures (tree_of table p)) ≡ cond (nat_lt k (length (captures (tree_of table p)))) 1 0
+count_id-tree_of table p k =
     let none : below k 0 ≡ 0 = grind (arith, nat_tests) in
-    let same : 0 + groups p ≡ length (captures (tree_of p)) = omega (arith, length-captures-tree_of p) in
-    omega (arith, none, ap (count_id k) (captures-of_whole p), count_id-tree_of_pattern forwards k 0 p, ap (below k) same)
+    let same : 0 + (counts p).groups ≡ length (captures (tree_of table p)) = omega (arith, length-captures-tree_of table p) in
+    omega (arith, none, ap (count_id k) (captures-of_whole table p), count_id-tree_of_pattern table forwards k 0 p, ap (below k) same)

@@ -1,89 +1,119 @@
 -- The tree of a pattern means what the pattern does.
-use Rattle.std.proofs.Common.{◌≡◌, ℕ, ◌+◌, Bool, true, false, cond, not, ◌||◌, ◌==◌, List, [], ◌∷◌, ◌++◌, flat_map, encode_utf8_all, refl, sym, ap, ◌∙◌, append-nil}
-use Rattle.std.proofs.lemmas.List.Concat.{flat_map-append}
-use mathlib.Core.Path.{fun_ext}
+use Rattle.std.proofs.Common.{◌≡◌, ℕ, ◌+◌, Bool, true, false, cond, not, ◌||◌, ◌==◌, List, Option, Some, None, encode_utf8_all, refl, sym, ap, ◌∙◌}
 use Rattle.regress_tree.specs.Reading.{Direction, forwards, backwards, IsText, of_characters}
-use Rattle.regress_tree.specs.Steps.{State, Step, byte_state, distinct, stay, ◌then_◌, one_character}
+use Rattle.regress_tree.specs.Steps.{State, Step, byte_state, distinct, stay, one_character}
 use Rattle.regress_tree.specs.Matching.{Setting, is_line_terminator, steps, steps_in_row}
-use Rattle.regress_tree.specs.Tree.{Tree, Trees, no_trees, more_trees, match_any, match_any_except_line_terminator}
-use Rattle.regress_syntax.specs.Syntax.{Pattern, Terms, Term, one, either, no_terms, more_terms, literal, dot, grouping, capture, groups_of_term, groups_of_terms}
-use Rattle.regress_syntax.specs.Meaning.{in_order, pattern_steps, terms_steps, term_steps}
-use Rattle.regress_parse.specs.TreeOf.{behind_row, in_row, joined, tree_of_pattern, trees_of_terms, tree_of_term, tree_of}
+use Rattle.regress_tree.specs.Tree.{Tree, Trees, leaf, no_trees, more_trees, match_any, match_any_except_line_terminator}
+use Rattle.regress_syntax.specs.Syntax.{Atom, literal, dot, Group, grouping, capture, Quantifier, Pattern, Terms, Item, one, either, no_terms, more_terms, atom, group, opened_by, counts_of_term, counts_of_terms}
+use Rattle.regress_syntax.specs.Meaning.{in_order, direction_of_group, group_steps, times_steps, atom_steps, pattern_steps, terms_steps, item_steps}
+use Rattle.regress_parse.specs.TreeOf.{turned, joined, tree_of_group, tree_of_times, leaf_of_atom, tree_of_pattern, trees_of_terms, tree_of_item, tree_of}
 use Rattle.regress_parse.specs.Accepted.{Means}
 use Rattle.regress_tree.proofs.laws.ByteStates.{distinct-byte_state}
+use Rattle.regress_tree.proofs.laws.Outcomes.{flat_map-stay}
 use Rattle.regress_tree.proofs.laws.Simulation.{Simulates, Simulates-same_right, Simulates-stay, Simulates-then, Simulates-or, Simulates-one_character, Simulates-capture}
-
-flat_map-stay : (states : List State) → flat_map stay states ≡ states
-flat_map-stay [] = refl
-flat_map-stay (s ∷ states) = ap (λ xs. s ∷ xs) (flat_map-stay states)
-
-flat_map-then : (f g : Step) (states : List State) → flat_map (f then_ g) states ≡ flat_map g (flat_map f states)
-flat_map-then f g [] = refl
-flat_map-then f g (s ∷ states) =
-    ap (λ xs. flat_map g (f s) ++ xs) (flat_map-then f g states) ∙ sym (flat_map-append g (f s) (flat_map f states))
+use Rattle.regress_tree.proofs.laws.Turned.{steps-row_reverse}
 
 module _ (setting : Setting) (bytes : List ℕ) (d : Direction) where
-  -- a row joined to one tree matches what the row does
-  pub steps-joined : (row : Trees) (s : State) → steps setting bytes d (joined row) s ≡ steps_in_row setting bytes d row s
-  steps-joined no_trees s = refl
-  steps-joined (more_trees t no_trees) s = sym (flat_map-stay (steps setting bytes d t s))
-  steps-joined (more_trees t (more_trees u us)) s = refl
+  -- a row of one tree is the same turned
+  steps-turned_one : (e : Direction) (t : Tree) (s : State) →
+      steps_in_row setting bytes d (turned e (more_trees t no_trees)) s ≡ steps setting bytes d t s
+  steps-turned_one forwards t s = flat_map-stay (steps setting bytes d t s)
+  steps-turned_one backwards t s = flat_map-stay (steps setting bytes d t s)
 
-  pub steps-behind_row : (t : Tree) (ts : Trees) (s : State) →
-      steps_in_row setting bytes d (behind_row t ts) s ≡ (steps_in_row setting bytes d ts then_ steps setting bytes d t) s
-  steps-behind_row t no_trees s = flat_map-stay (steps setting bytes d t s) ∙ sym (append-nil (steps setting bytes d t s))
-  steps-behind_row t (more_trees u us) s =
-      ap (λ f. flat_map f (steps setting bytes d u s)) (fun_ext (steps-behind_row t us))
-      ∙ flat_map-then (steps_in_row setting bytes d us) (steps setting bytes d t) (steps setting bytes d u s)
+  steps-turned_none : (e : Direction) (s : State) → steps_in_row setting bytes d (turned e no_trees) s ≡ stay s
+  steps-turned_none forwards s = refl
+  steps-turned_none backwards s = refl
 
-  -- a tree put into a row in a direction matches in the order of that direction
-  pub steps-in_row : (e : Direction) (t : Tree) (ts : Trees) (s : State) →
-      steps_in_row setting bytes d (in_row e t ts) s ≡ in_order e (steps setting bytes d t) (steps_in_row setting bytes d ts) s
-  steps-in_row forwards t ts s = refl
-  steps-in_row backwards t ts s = steps-behind_row t ts s
+  -- a row joined to one tree matches what the row does, turned
+  steps-joined : (e : Direction) (row : Trees) (s : State) →
+      steps setting bytes d (joined e row) s ≡ steps_in_row setting bytes d (turned e row) s
+  steps-joined e no_trees s = sym (steps-turned_none e s)
+  steps-joined e (more_trees t no_trees) s = sym (steps-turned_one e t s)
+  steps-joined e (more_trees t (more_trees u us)) s = refl
+
+  -- its parts match in the order of the direction
+  steps-turned : (e : Direction) (t : Tree) (ts : Trees) (s : State) →
+      steps_in_row setting bytes d (turned e (more_trees t ts)) s
+      ≡ in_order e (steps setting bytes d t) (steps_in_row setting bytes d (turned e ts)) s
+  steps-turned forwards t ts s = refl
+  steps-turned backwards t ts s = steps-row_reverse setting bytes d t ts s
 
 Simulates-in_order : (text : List ℕ) (d : Direction) (f g h k : Step) → Simulates text f g → Simulates text h k →
     Simulates text (in_order d f h) (in_order d g k)
 Simulates-in_order text forwards f g h k first second = Simulates-then text f g h k first second
 Simulates-in_order text backwards f g h k first second = Simulates-then text h k f g second first
 
-module _ (setting : Setting) (text : List ℕ) (is_text : IsText text) (d : Direction) where
-  dot_simulates : (dot_all : Bool) →
-      Simulates text (one_character d (of_characters text) (λ c. dot_all || not (is_line_terminator c)))
-      (steps setting (encode_utf8_all text) d (cond dot_all match_any match_any_except_line_terminator))
-  dot_simulates true = Simulates-one_character text is_text d (λ c. true)
-  dot_simulates false = Simulates-one_character text is_text d (λ c. not (is_line_terminator c))
+module _ (setting : Setting) (text : List ℕ) where
+  -- Over the bytes the tree, or the row turned, does what the step does over the characters.
+  abbrev pub TreeSimulates : Direction → Step → Tree → Type 0
+  TreeSimulates d f t = Simulates text f (steps setting (encode_utf8_all text) d t)
+
+  abbrev RowSimulates : Direction → Step → Trees → Type 0
+  RowSimulates d f ts = Simulates text f (steps_in_row setting (encode_utf8_all text) d (turned d ts))
+
+  joined_simulates : (d : Direction) (f : Step) (row : Trees) → RowSimulates d f row → TreeSimulates d f (joined d row)
+  joined_simulates d f row sim = Simulates-same_right text _ _ _ (steps-joined setting (encode_utf8_all text) d d row) sim
+
+  none_simulate : (d : Direction) → RowSimulates d stay no_trees
+  none_simulate d = Simulates-same_right text _ _ _ (steps-turned_none setting (encode_utf8_all text) d d) (Simulates-stay text)
+
+  more_simulate : (d : Direction) (f g : Step) (t : Tree) (ts : Trees) → TreeSimulates d f t → RowSimulates d g ts →
+      RowSimulates d (in_order d f g) (more_trees t ts)
+  more_simulate d f g t ts first others =
+      Simulates-same_right text _ _ _ (steps-turned setting (encode_utf8_all text) d d t ts)
+      (Simulates-in_order text d _ _ _ _ first others)
+
+  group_simulates : (d : Direction) (n : ℕ) (kind : Group) (f : Step) (body : Tree) → TreeSimulates (direction_of_group kind d) f body →
+      TreeSimulates d (group_steps n kind f) (tree_of_group n kind body)
+  group_simulates d n grouping f body sim = sim
+  group_simulates d n (capture name) f body sim = Simulates-capture text n _ _ sim
+
+  times_simulate : (d : Direction) (q : Option Quantifier) (f : Step) (body : Tree) → TreeSimulates d f body →
+      TreeSimulates d (times_steps q f) (tree_of_times q body)
+  times_simulate d None f body sim = sim
+  times_simulate d (Some q) f body sim = elim q [ ]
+
+module _ (setting : Setting) (text : List ℕ) (is_text : IsText text) where
+  dot_simulates : (d : Direction) (dot_all : Bool) →
+      TreeSimulates setting text d (one_character d (of_characters text) (λ x. dot_all || not (is_line_terminator x)))
+      (leaf (cond dot_all match_any match_any_except_line_terminator))
+  dot_simulates d true = Simulates-one_character text is_text d (λ x. true)
+  dot_simulates d false = Simulates-one_character text is_text d (λ x. not (is_line_terminator x))
+
+  atom_simulates : (d : Direction) (a : Atom) →
+      TreeSimulates setting text d (atom_steps setting.table text d a) (leaf (leaf_of_atom setting.table a))
+  atom_simulates d (literal flags c) = Simulates-one_character text is_text d (λ x. x == c)
+  atom_simulates d (dot flags) = dot_simulates d flags.dot_all
 
   mutual
     -- equal with repeats, whatever stands before
-    pub pattern_simulates : (n : ℕ) (p : Pattern) →
-        Simulates text (pattern_steps setting text d n p) (steps setting (encode_utf8_all text) d (tree_of_pattern d n p))
-    pattern_simulates n (one ts) =
-        Simulates-same_right text _ _ _ (steps-joined setting (encode_utf8_all text) d (trees_of_terms d n ts)) (terms_simulate n ts)
-    pattern_simulates n (either ts p) =
-        Simulates-or text _ _ _ _
-        (Simulates-same_right text _ _ _ (steps-joined setting (encode_utf8_all text) d (trees_of_terms d n ts)) (terms_simulate n ts))
-        (pattern_simulates (n + groups_of_terms ts) p)
+    pub pattern_simulates : (d : Direction) (n : ℕ) (p : Pattern) →
+        TreeSimulates setting text d (pattern_steps setting.table text d n p) (tree_of_pattern setting.table d n p)
+    pattern_simulates d n (one ts) = joined_simulates setting text d _ (trees_of_terms setting.table d n ts) (terms_simulate d n ts)
+    pattern_simulates d n (either ts p) =
+        Simulates-or text _ _ _ _ (joined_simulates setting text d _ (trees_of_terms setting.table d n ts) (terms_simulate d n ts))
+        (pattern_simulates d (n + (counts_of_terms ts).groups) p)
 
-    terms_simulate : (n : ℕ) (ts : Terms) →
-        Simulates text (terms_steps setting text d n ts) (steps_in_row setting (encode_utf8_all text) d (trees_of_terms d n ts))
-    terms_simulate n no_terms = Simulates-stay text
-    terms_simulate n (more_terms t ts) =
-        Simulates-same_right text _ _ _
-        (steps-in_row setting (encode_utf8_all text) d d (tree_of_term d n t) (trees_of_terms d (n + groups_of_term t) ts))
-        (Simulates-in_order text d _ _ _ _ (term_simulates n t) (terms_simulate (n + groups_of_term t) ts))
+    terms_simulate : (d : Direction) (n : ℕ) (ts : Terms) →
+        RowSimulates setting text d (terms_steps setting.table text d n ts) (trees_of_terms setting.table d n ts)
+    terms_simulate d n no_terms = none_simulate setting text d
+    terms_simulate d n (more_terms x q xs) =
+        more_simulate setting text d _ _ (tree_of_times q (tree_of_item setting.table d n x))
+        (trees_of_terms setting.table d (n + (counts_of_term x q).groups) xs)
+        (times_simulate setting text d q _ (tree_of_item setting.table d n x) (item_simulates d n x))
+        (terms_simulate d (n + (counts_of_term x q).groups) xs)
 
-    term_simulates : (n : ℕ) (t : Term) →
-        Simulates text (term_steps setting text d n t) (steps setting (encode_utf8_all text) d (tree_of_term d n t))
-    term_simulates n (literal flags c) = Simulates-one_character text is_text d (λ x. x == c)
-    term_simulates n (dot flags) = dot_simulates flags.dot_all
-    term_simulates n (grouping p) = pattern_simulates n p
-    term_simulates n (capture name p) = Simulates-capture text n _ _ (pattern_simulates (n + 1) p)
+    item_simulates : (d : Direction) (n : ℕ) (x : Item) →
+        TreeSimulates setting text d (item_steps setting.table text d n x) (tree_of_item setting.table d n x)
+    item_simulates d n (atom a) = atom_simulates d a
+    item_simulates d n (group kind p) =
+        group_simulates setting text d n kind _ (tree_of_pattern setting.table (direction_of_group kind d) (n + opened_by kind) p)
+        (pattern_simulates (direction_of_group kind d) (n + opened_by kind) p)
 
 -- On every text and from every state the tree's outcomes are the pattern's, place for byte place, in their order.
-pub tree_of-means : (p : Pattern) → Means (tree_of p) p
-tree_of-means p setting text s is_text in' =
+pub tree_of-means : (setting : Setting) (p : Pattern) → Means setting (tree_of setting.table p) p
+tree_of-means setting p text s is_text in' =
+    let body = tree_of_pattern setting.table forwards 0 p in
     let sim = pattern_simulates setting text is_text forwards 0 p in
-    ap distinct
-    (flat_map-stay (steps setting (encode_utf8_all text) forwards (tree_of_pattern forwards 0 p) (byte_state text s)) ∙ sim.same s in')
-    ∙ distinct-byte_state text (pattern_steps setting text forwards 0 p s) (sim.within s in')
+    ap distinct (flat_map-stay (steps setting (encode_utf8_all text) forwards body (byte_state text s)) ∙ sim.same s in')
+    ∙ distinct-byte_state text (pattern_steps setting.table text forwards 0 p s) (sim.within s in')

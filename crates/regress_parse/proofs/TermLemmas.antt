@@ -1,63 +1,76 @@
--- What the next code point says of a term.
-use Rattle.std.proofs.Common.{◌≡◌, ℕ, ◌≤◌, true, false, ◌==◌, [], ◌∷◌, drop, Option, Some, None, refl, ap, ◌∙◌, eqb-true, arith}
-use Rattle.std.specs.Option.{IfSome, IsSomeAnd}
+-- An item, its quantifier, and the group that an item may be, from what is read of them.
+use Rattle.std.proofs.Common.{◌≡◌, ℕ, ◌+◌, ◌<◌, ◌≤◌, true, false, ◌∷◌, drop, length, Option, Some, None, refl, sym, ap, ◌∙◌, subst, arith}
+use Rattle.std.specs.Option.{IfSome}
+use Rattle.std.proofs.lemmas.Option.{same_Some, cond_some}
 use Rattle.std.proofs.lemmas.Bool.{cond-true, cond-false}
-use Rattle.regress_base.specs.declared.types.TheConstants.{MAX_NESTING_DEPTH}
-use Rattle.regress_syntax.specs.declared.fault.ParseFault.{ParseFault}
-use Rattle.regress_syntax.specs.declared.fault.ParseFault.TheVariants.{Syntax, Memory}
-use Rattle.regress_syntax.specs.Fault.{OnSyntax}
-use Rattle.regress_syntax.specs.Syntax.{Pattern, one, either, literal, dot, levels}
-use Rattle.regress_parse.specs.Grammar.{Source, Context, is_at, opening, full_stop, is_plain}
-use Rattle.regress_parse.specs.Reader.{Found, group_by, pattern_at, term_at}
-use Rattle.regress_parse.specs.Parsing.{Fits, pattern_part}
-use Rattle.regress_parse.proofs.ReaderLemmas.{term_at-is}
-use Rattle.regress_parse.proofs.GrammarLemmas.{plain_is_not}
-use Rattle.regress_parse.proofs.SoFarLemmas.{from_each}
-
--- what holds whatever the fault
-pub on_syntax : {P : Type 0} (fault : ParseFault) → P → OnSyntax fault P
-on_syntax (Syntax e) h = h
-on_syntax (Memory e) h = tt
-
-pub on_syntax_then : {P Q : Type 0} (fault : ParseFault) → (P → Q) → OnSyntax fault P → OnSyntax fault Q
-on_syntax_then (Syntax e) f h = f h
-on_syntax_then (Memory e) f h = tt
-
-pub some_and : {A : Type 0} (o : Option A) (P : A → Type 0) → IsSomeAnd o P → (x : A) × (o ≡ Some x) × P x
-some_and None P h = absurd h
-some_and (Some x) P h = (x, refl, h)
+use Rattle.regress_tree.specs.Table.{Table}
+use Rattle.regress_syntax.specs.Source.{Source, Found, ◌>>=◌, closing, is_at}
+use Rattle.regress_syntax.specs.Syntax.{Atom, Group, Quantifier, Pattern, Item, one, either, atom, group, Counts, added, counts_of_group, opened_by, levels}
+use Rattle.regress_syntax.specs.Rows.{Context, inside, Head, single, opens, head_at, times_at}
+use Rattle.regress_syntax.proofs.laws.Sources.{found_then, from_each, to_each}
+use Rattle.regress_parse.specs.Reader.{Term, closed, item_behind, quantified, pattern_at, item_at, term_at}
+use Rattle.regress_parse.specs.Accepted.{max_capture_groups, max_nesting_depth}
+use Rattle.regress_parse.specs.Parsing.{Fits, pattern_part, term_part, item_part}
+use Rattle.regress_parse.proofs.CountLemmas.{Fits-inside}
+use Rattle.regress_parse.proofs.ReaderLemmas.{item_at-is, term_at-is}
 
 levels-positive : (p : Pattern) → 1 ≤ levels p
 levels-positive (one ts) = omega arith
 levels-positive (either ts p) = omega arith
 
--- no pattern fits where no level is left
-pub too_deep : (n depth : ℕ) (found : Found Pattern) → MAX_NESTING_DEPTH ≤ depth → IfSome found (λ x. Fits n depth (pattern_part x.0) → ⊥)
-too_deep n depth found full = from_each found _ (λ x _ fits. omega (arith, fits.levels, levels-positive x.0))
+module _ (table : Table) (ctx : Context) where
+  -- no pattern fits where no level is left
+  pub too_deep : (before : Counts) (depth : ℕ) (found : Found Pattern) → max_nesting_depth ≤ depth →
+      IfSome found (λ x. Fits before depth (pattern_part table x.0) → ⊥)
+  too_deep before depth found full = from_each found _ (λ x _ fits. omega (arith, fits.levels, levels-positive x.0))
 
-module _ (ctx : Context) where
-  pub term_at-dot : (t : Source) → is_at full_stop t ≡ true → term_at ctx t ≡ Some (dot ctx.flags, drop 1 t)
-  term_at-dot [] e = cc
-  term_at-dot (c ∷ t) e = term_at-is ctx c t ∙ cond-true (c == full_stop) _ _ e
+  -- ---- a term
 
-  pub term_at-group : (t : Source) → is_at opening t ≡ true → term_at ctx t ≡ group_by (pattern_at ctx) (drop 1 t)
-  term_at-group [] e = cc
-  term_at-group (c ∷ t) e =
-      let here = eqb-true c opening e in
-      term_at-is ctx c t
-      ∙ cond-false (c == full_stop) _ _ (ap (λ d. d == full_stop) here)
-      ∙ cond-true (c == opening) _ _ e
+  pub term_read : (t mid rest : Source) (x : Item) (q : Option Quantifier) → item_at ctx t ≡ Some (x, mid) →
+      times_at ctx mid ≡ Some (q, rest) → term_at ctx t ≡ Some ((x, q), rest)
+  term_read t mid rest x q item times =
+      term_at-is ctx t
+      ∙ ap (λ found. found >>= quantified ctx) item
+      ∙ ap (λ found. found >>= λ (q : Option Quantifier × Source). Some ((x, q.0), q.1)) times
 
-  pub term_at-plain : (c : ℕ) (t : Source) → is_plain c ≡ true → term_at ctx (c ∷ t) ≡ Some (literal ctx.flags c, t)
-  term_at-plain c t plain =
-      term_at-is ctx c t
-      ∙ cond-false (c == full_stop) _ _ (plain_is_not c full_stop plain refl)
-      ∙ cond-false (c == opening) _ _ (plain_is_not c opening plain refl)
-      ∙ cond-true (is_plain c) _ _ plain
+  pub no_term : (t mid : Source) (x : Item) → item_at ctx t ≡ Some (x, mid) → times_at ctx mid ≡ None → term_at ctx t ≡ None
+  no_term t mid x item times =
+      term_at-is ctx t
+      ∙ ap (λ found. found >>= quantified ctx) item
+      ∙ ap (λ found. found >>= λ (q : Option Quantifier × Source). Some ((x, q.0), q.1)) times
 
-  pub term_at-none : (t : Source) → is_at full_stop t ≡ false → is_at opening t ≡ false → ((c : ℕ) (u : Source) → t ≡ c ∷ u → is_plain c ≡ false) →
-      term_at ctx t ≡ None
-  unfolding term_at
-  term_at-none [] e f h = refl
-  term_at-none (c ∷ t) e f h =
-      term_at-is ctx c t ∙ cond-false (c == full_stop) _ _ e ∙ cond-false (c == opening) _ _ f ∙ cond-false (is_plain c) _ _ (h c t refl)
+  -- an item that is none, or too much, is so for the term
+  pub term-fail : (t : Source) (before : Counts) (depth : ℕ) → IfSome (item_at ctx t) (λ x. Fits before depth (item_part table x.0) → ⊥) →
+      IfSome (term_at ctx t) (λ x. Fits before depth (term_part table x.0) → ⊥)
+  term-fail t before depth refused =
+      from_each (term_at ctx t) _ (λ x found fits.
+      let item = found_then (item_at ctx t) (quantified ctx) x (sym (term_at-is ctx t) ∙ found) in
+      let times = found_then (times_at ctx item.0.1) (λ (q : Option Quantifier × Source). Some ((item.0.0, q.0), q.1)) x item.2 in
+      let same : (item.0.0, times.0.0) ≡ x.0 = ap (λ (z : Term × Source). z.0) (same_Some _ x times.2) in
+      let whole = subst (λ (z : Term). Fits before depth (term_part table z)) (sym same) fits in
+      to_each (item_at ctx t) _ refused item.0 item.1
+      (Fits-inside before before depth depth (term_part table (item.0.0, times.0.0)) (item_part table item.0.0)
+      (omega arith) (omega arith) (omega arith) whole))
+
+  -- ---- an item
+
+  pub item_from_head : (t : Source) (x : Head × Source) → head_at ctx t ≡ Some x → item_at ctx t ≡ item_behind pattern_at ctx x
+  item_from_head t x head = item_at-is ctx t ∙ ap (λ found. found >>= item_behind pattern_at ctx) head
+
+  pub no_item : (t : Source) → head_at ctx t ≡ None → item_at ctx t ≡ None
+  no_item t head = item_at-is ctx t ∙ ap (λ found. found >>= item_behind pattern_at ctx) head
+
+  -- ---- a group
+
+  -- one group too many is too many for the item
+  pub group-too_many : (kind : Group) (t : Source) (before : Counts) (depth : ℕ) → max_capture_groups < before.groups + opened_by kind →
+      IfSome (item_behind pattern_at ctx (opens kind, t)) (λ x. Fits before depth (item_part table x.0) → ⊥)
+  group-too_many kind t before depth many =
+      from_each (item_behind pattern_at ctx (opens kind, t)) _ (λ x found fits.
+      let body = found_then (pattern_at (inside kind ctx) t) (closed kind) x found in
+      let same = closed_same kind body.0 x body.2 in
+      let whole = subst (λ (y : Item). Fits before depth (item_part table y)) (sym same) fits in
+      omega (arith, whole.groups, many))
+    where
+      closed_same : (kind : Group) (x : Pattern × Source) (y : Item × Source) → closed kind x ≡ Some y → group kind x.0 ≡ y.0
+      closed_same kind x y e = ap (λ (z : Item × Source). z.0) (cond_some (is_at closing x.1) (group kind x.0, drop 1 x.1) y e).1

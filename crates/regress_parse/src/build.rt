@@ -1,55 +1,65 @@
-//! Trees from parts, and faults from their texts.
+//! Trees from parts.
 ghost use Rattle.std.specs.Prelude.{◌≡◌, IfOk, map};
-ghost use Rattle.regress_tree.specs.Tree.{tree, trees};
-ghost use Rattle.regress_tree.specs.Reading.{forwards};
-ghost use Rattle.regress_syntax.specs.Syntax.{dot};
-ghost use Rattle.regress_parse.specs.TreeOf.{joined, tree_of_term};
-ghost use Rattle.regress_parse.specs.Parsing.{alternatives};
+ghost use Rattle.regress_tree.specs.Tree.{tree, trees, leaf};
+ghost use Rattle.regress_tree.specs.TableOf.{table_of};
+ghost use Rattle.regress_syntax.specs.Views.{atom_of, group_of};
+ghost use Rattle.regress_parse.specs.TreeOf.{turned, joined, leaf_of_atom, tree_of_group};
+ghost use Rattle.regress_parse.specs.Parsing.{alternatives, direction};
 
-use regress_base::types::Flags;
-use regress_syntax::{Error, ParseFault};
+use regress_base::types::CaptureGroupID;
+use regress_syntax::{Atom, Group, Scope};
 use regress_tree::ir::{Node, NodeList};
 use std::alloc::{AllocError, Global};
 
-/// What needs a row or a flag that isn't served.
-pub(crate) const UNSUPPORTED: &str = "Unsupported syntax";
-
-/// A parenthesis too many, or too few.
-pub(crate) const UNBALANCED: &str = "Unbalanced parenthesis";
-
-/// More levels than `MAX_NESTING_DEPTH`.
-pub(crate) const TOO_DEEP: &str = "Regular expression is too deeply nested";
-
-/// More groups than `MAX_CAPTURE_GROUPS`.
-pub(crate) const TOO_MANY_GROUPS: &str = "Capture group count limit exceeded";
-
-/// A fault of the pattern. Where its text finds no memory, that is the fault.
-pub(crate) fn syntax(alloc: Global, text: &str) -> ParseFault {
-    match String::from_str(alloc, text) {
-        Ok(text) => ParseFault::Syntax(Error { text }),
-        Err(fault) => ParseFault::Memory(fault),
-    }
-}
-
-/// The node of `.`.
-pub(crate) fn make_dot(flags: Flags) -> Node
-    ensures { tree result ≡ tree_of_term forwards 0 (dot flags) }
+/// The node of an item that holds no pattern.
+pub(crate) fn make_atom(atom: Atom, scope: &Scope) -> Node
+    ensures { tree result ≡ leaf (leaf_of_atom (table_of scope.now.tables.now) (atom_of scope.now.flags atom)) }
 {
-    if flags.dot_all {
-        Node::MatchAny
-    } else {
-        Node::MatchAnyExceptLineTerminator
+    match atom {
+        Atom::Literal(c) => Node::Char { c },
+        Atom::Dot if scope.flags.dot_all => Node::MatchAny,
+        Atom::Dot => Node::MatchAnyExceptLineTerminator,
     }
 }
 
-/// The node of an alternative: no part is `Empty`, one part is that part.
-pub(crate) fn make_cat(mut parts: NodeList) -> Node
-    ensures { tree result ≡ joined (trees parts.items) }
+/// The node of a group, whose number is `id` if it captures.
+pub(crate) fn make_group(
+    alloc: Global,
+    kind: Group,
+    id: CaptureGroupID,
+    contents: Node,
+) -> Result<Node, AllocError>
+    ensures { IfOk result (λ node. tree node ≡ tree_of_group id (group_of kind) (tree contents)) }
+{
+    match kind {
+        Group::Grouping => Ok(contents),
+        Group::Capture => Ok(Node::CaptureGroup {
+            id,
+            contents: Box::new(alloc, contents)?,
+            name: None,
+        }),
+    }
+}
+
+/// The node of an alternative: no part is `Empty`, one part is that part. Where matching runs backwards,
+/// the parts stand turned.
+pub(crate) fn make_cat(mut parts: NodeList, backwards: bool) -> Node
+    ensures { tree result ≡ joined (direction backwards) (trees parts.items) }
 {
     if parts.len() > 1 {
+        turn(&mut parts, backwards);
         return Node::Cat(parts);
     }
     parts.pop().unwrap_or(Node::Empty)
+}
+
+/// Turns the parts where matching runs backwards.
+fn turn(parts: &mut NodeList, backwards: bool)
+    ensures { trees parts.new.items ≡ turned (direction backwards) (trees parts.old.items) }
+{
+    if backwards {
+        parts.reverse();
+    }
 }
 
 /// The node of alternatives: `Alt(a, Alt(b, c))`.

@@ -2,7 +2,6 @@
 #![tactic(auto)]
 
 mod build;
-mod cursor;
 mod parser;
 mod pattern;
 mod rows;

@@ -1,16 +1,50 @@
-//! A place in a pattern.
+//! A place in a pattern, and what lies around it.
 ghost use Rattle.std.specs.Prelude.{◌≤◌};
-ghost use Rattle.regress_base.specs.declared.types.TheConstants.{MAX_CAPTURE_GROUPS};
+ghost use Rattle.regress_parse.specs.Accepted.{max_capture_groups, max_loops};
 
-use regress_base::types::{CaptureGroupID, Flags, MAX_CAPTURE_GROUPS};
-use std::alloc::Global;
+use regress_base::types::{CaptureGroupID, LoopID, MAX_CAPTURE_GROUPS};
+use regress_syntax::fault::{TOO_MANY_GROUPS, syntax};
+use regress_syntax::{Cursor, Group, ParseFault, Scope};
 
-/// What is still to read, and how many groups were opened before it.
+/// What is still to read, and how many groups and loops were counted before it.
 #[derive(Drop)]
 pub(crate) struct Parser<'a> {
-    pub(crate) rest: &'a [u32],
-    pub(crate) flags: Flags,
+    pub(crate) cursor: Cursor<'a>,
     pub(crate) group_count: CaptureGroupID,
-    pub(crate) alloc: Global,
-    ghost within: { group_count ≤ MAX_CAPTURE_GROUPS },
+    pub(crate) loop_count: LoopID,
+    ghost groups_within: { group_count ≤ max_capture_groups },
+    ghost loops_within: { loop_count ≤ max_loops },
+}
+
+/// What lies around a part of the pattern.
+#[derive(Clone, Copy)]
+pub(crate) struct Around<'a> {
+    pub(crate) scope: Scope<'a>,
+    /// Whether the part is matched backwards.
+    pub(crate) backwards: bool,
+    /// How many levels lie around it.
+    pub(crate) depth: u32,
+}
+
+impl Parser<'_> {
+    ghost use Rattle.std.specs.Prelude.{◌≡◌, ◌+◌, ◌<◌, OnOk};
+    ghost use Rattle.regress_syntax.specs.Fault.{RefusedOnlyIf};
+    ghost use Rattle.regress_syntax.specs.Syntax.{added, opened_by, counts_of_group};
+    ghost use Rattle.regress_syntax.specs.Views.{group_of};
+    ghost use Rattle.regress_parse.specs.Parsing.{text, counted};
+
+    /// Counts a group, if it captures. The fault comes where it is one too many.
+    pub(crate) fn count_group(&mut self, kind: Group) -> Result<(), ParseFault>
+        ensures ok { OnOk result (counted self.new ≡ added (counted self.old) (counts_of_group (group_of kind))) }
+        ensures err { RefusedOnlyIf result (max_capture_groups < self.old.group_count + opened_by (group_of kind)) }
+        ensures text { text self.new ≡ text self.old }
+    {
+        if let Group::Capture = kind {
+            if usize::from(self.group_count) >= MAX_CAPTURE_GROUPS {
+                return Err(syntax(self.cursor.alloc, TOO_MANY_GROUPS));
+            }
+            self.group_count += 1;
+        }
+        Ok(())
+    }
 }

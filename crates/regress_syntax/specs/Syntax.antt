@@ -1,10 +1,23 @@
 -- The syntax tree of a pattern.
-use Rattle.std.specs.Prelude.{ℕ, ◌+◌, max, List, [], ◌∷◌, ◌++◌, Option}
+use Rattle.std.specs.Prelude.{ℕ, ◌+◌, max, List, [], ◌∷◌, ◌++◌, Option, Some, None}
 use Rattle.regress_base.specs.declared.types.Flags.{Flags}
 
 -- a name, by its characters
 abbrev pub Name : Type 0
 Name = List ℕ
+
+-- An item that holds no pattern. Each keeps the flags that are in force where it stands.
+pub data Atom : Type 0 where
+  literal : (flags : Flags) (c : ℕ) → Atom
+  dot : (flags : Flags) → Atom
+
+-- What a parenthesis opens. A group has no number: that counts the parentheses opened before it.
+pub data Group : Type 0 where
+  grouping : Group
+  capture : (name : Option Name) → Group
+
+-- How often an item is matched. None is read yet.
+pub data Quantifier : Type 0 where
 
 mutual
   -- one or more alternatives (ECMA-262, Disjunction)
@@ -12,33 +25,58 @@ mutual
     one : (terms : Terms) → Pattern
     either : (terms : Terms) (others : Pattern) → Pattern
 
-  -- terms in a row (ECMA-262, Alternative)
+  -- terms in a row, each an item and perhaps the quantifier behind it (ECMA-262, Alternative and Term)
   pub data Terms : Type 0 where
     no_terms : Terms
-    more_terms : (first : Term) (rest : Terms) → Terms
+    more_terms : (first : Item) (times : Option Quantifier) (rest : Terms) → Terms
 
-  -- A term. Each leaf keeps the flags that are in force where it stands. A group has no number: that counts the
-  -- parentheses opened before it.
-  pub data Term : Type 0 where
-    literal : (flags : Flags) (c : ℕ) → Term
-    dot : (flags : Flags) → Term
-    grouping : (body : Pattern) → Term
-    capture : (name : Option Name) (body : Pattern) → Term
+  pub data Item : Type 0 where
+    atom : (a : Atom) → Item
+    group : (kind : Group) (body : Pattern) → Item
 
--- how many capture groups there are
+-- what is counted from the front of a pattern on: capture groups, and loops, which are items with a quantifier
+pub record Counts : Type 0 where
+  pub groups : ℕ
+  pub loops : ℕ
+
+abbrev pub nothing_counted : Counts
+nothing_counted = record { groups = 0; loops = 0 }
+
+abbrev pub added : Counts → Counts → Counts
+added a b = record { groups = a.groups + b.groups; loops = a.loops + b.loops }
+
+-- how many groups a parenthesis opens that capture
+abbrev pub opened_by : Group → ℕ
+opened_by grouping = 0
+opened_by (capture name) = 1
+
+abbrev pub counts_of_group : Group → Counts
+counts_of_group kind = record { groups = opened_by kind; loops = 0 }
+
+abbrev pub counts_of_times : Option Quantifier → Counts
+counts_of_times None = nothing_counted
+counts_of_times (Some q) = record { groups = 0; loops = 1 }
+
 abbrev mutual
-  pub groups : Pattern → ℕ
-  groups (one ts) = groups_of_terms ts
-  groups (either ts p) = groups_of_terms ts + groups p
+  pub counts : Pattern → Counts
+  counts (one ts) = counts_of_terms ts
+  counts (either ts p) = added (counts_of_terms ts) (counts p)
 
-  pub groups_of_terms : Terms → ℕ
-  groups_of_terms no_terms = 0
-  groups_of_terms (more_terms t ts) = groups_of_term t + groups_of_terms ts
+  pub counts_of_terms : Terms → Counts
+  counts_of_terms no_terms = nothing_counted
+  counts_of_terms (more_terms x q xs) = added (added (counts_of_item x) (counts_of_times q)) (counts_of_terms xs)
 
-  pub groups_of_term : Term → ℕ
-  groups_of_term (grouping p) = groups p
-  groups_of_term (capture name p) = 1 + groups p
-  groups_of_term _ = 0
+  pub counts_of_item : Item → Counts
+  counts_of_item (atom a) = nothing_counted
+  counts_of_item (group kind p) = added (counts_of_group kind) (counts p)
+
+abbrev pub counts_of_term : Item → Option Quantifier → Counts
+counts_of_term x q = added (counts_of_item x) (counts_of_times q)
+
+-- the name of a capture group, or none; nothing for what captures nothing
+abbrev pub names_of_group : Group → List (Option Name)
+names_of_group grouping = []
+names_of_group (capture name) = name ∷ []
 
 -- the name of each capture group, by the order of opening parentheses
 abbrev mutual
@@ -48,12 +86,11 @@ abbrev mutual
 
   pub names_of_terms : Terms → List (Option Name)
   names_of_terms no_terms = []
-  names_of_terms (more_terms t ts) = names_of_term t ++ names_of_terms ts
+  names_of_terms (more_terms x q xs) = names_of_item x ++ names_of_terms xs
 
-  pub names_of_term : Term → List (Option Name)
-  names_of_term (grouping p) = names p
-  names_of_term (capture name p) = name ∷ names p
-  names_of_term _ = []
+  pub names_of_item : Item → List (Option Name)
+  names_of_item (atom a) = []
+  names_of_item (group kind p) = names_of_group kind ++ names p
 
 -- how many levels there are: the pattern is one, and so is each group around what lies deepest
 abbrev mutual
@@ -63,9 +100,8 @@ abbrev mutual
 
   pub levels_of_terms : Terms → ℕ
   levels_of_terms no_terms = 0
-  levels_of_terms (more_terms t ts) = max (levels_of_term t) (levels_of_terms ts)
+  levels_of_terms (more_terms x q xs) = max (levels_of_item x) (levels_of_terms xs)
 
-  pub levels_of_term : Term → ℕ
-  levels_of_term (grouping p) = levels p
-  levels_of_term (capture name p) = levels p
-  levels_of_term _ = 0
+  pub levels_of_item : Item → ℕ
+  levels_of_item (atom a) = 0
+  levels_of_item (group kind p) = levels p

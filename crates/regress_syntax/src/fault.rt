@@ -50,3 +50,23 @@ impl<T: Drop> From<AllocFailed<T>> for ParseFault {
         ParseFault::Memory(AllocError::from(given))
     }
 }
+
+/// What needs a row or a flag that isn't served.
+pub const UNSUPPORTED: &str = "Unsupported syntax";
+
+/// A parenthesis too many, or too few.
+pub const UNBALANCED: &str = "Unbalanced parenthesis";
+
+/// More levels than `MAX_NESTING_DEPTH`.
+pub const TOO_DEEP: &str = "Regular expression is too deeply nested";
+
+/// More groups than `MAX_CAPTURE_GROUPS`.
+pub const TOO_MANY_GROUPS: &str = "Capture group count limit exceeded";
+
+/// A fault of the pattern. Where its text finds no memory, that is the fault.
+pub fn syntax(alloc: Global, text: &str) -> ParseFault {
+    match String::from_str(alloc, text) {
+        Ok(text) => ParseFault::Syntax(Error { text }),
+        Err(fault) => ParseFault::Memory(fault),
+    }
+}

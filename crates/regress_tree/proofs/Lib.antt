@@ -1,1 +1,9 @@
 pub mod laws
+pub mod PackingLemmas
+pub mod RowLemmas
+pub mod ListingLemmas
+pub mod CaseMapLemmas
+pub mod StringLemmas
+pub mod SmallTableLemmas
+pub mod NamedLemmas
+pub mod TableLemmas

@@ -9,3 +9,4 @@ pub mod Places
 pub mod Readings
 pub mod Rows
 pub mod Simulation
+pub mod Turned

@@ -1,10 +1,13 @@
 -- Where the pattern ends.
-use Rattle.regress_tree.specs.Tree.{Leaf, empty, goal, char, match_any, match_any_except_line_terminator, Tree, Trees, leaf, cat, alt, wrapped, no_trees, more_trees}
+use Rattle.regress_tree.specs.Tree.{Leaf, empty, goal, char, byte_sequence, byte_set, char_set, match_any, match_any_except_line_terminator, Tree, Trees, leaf, cat, alt, wrapped, no_trees, more_trees}
 
 abbrev pub IsGoal : Leaf → Type 0
 IsGoal empty = ⊥
 IsGoal goal = Unit {0}
 IsGoal (char c) = ⊥
+IsGoal (byte_sequence bytes) = ⊥
+IsGoal (byte_set bytes) = ⊥
+IsGoal (char_set characters) = ⊥
 IsGoal match_any = ⊥
 IsGoal match_any_except_line_terminator = ⊥
 

@@ -1,4 +1,8 @@
+pub mod Listing
+pub mod FoldRows
 pub mod Table
+pub mod Parts
+pub mod SmallTable
 pub mod TableOf
 pub mod Tree
 pub mod Reading

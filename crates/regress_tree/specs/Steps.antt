@@ -1,6 +1,7 @@
 -- Outcomes: what a part of a pattern makes of a state, and the words of which all parts are made.
-use Rattle.std.specs.Prelude.{◌≡◌, ℕ, Bool, true, false, not, ◌&&◌, List, [], ◌∷◌, ◌++◌, filter, flat_map, map, Option, Some, None, if◌then◌else◌, ◌==◌, min, max, slice_set, ◌≤◌, length, All}
-use Rattle.regress_tree.specs.Reading.{Direction, Reading, Read, next_character, byte_place}
+use Rattle.std.specs.Prelude.{◌≡◌, ℕ, Bool, true, false, not, ◌&&◌, List, [], ◌∷◌, ◌++◌, filter, flat_map, map, Option, Some, None, if◌then◌else◌, ◌==◌, min, max, slice_set, ◌+◌, ◌-◌, ◌≤◌, length, drop, nat_eq, nat_le, All}
+use Rattle.std.specs.List.{starts_with}
+use Rattle.regress_tree.specs.Reading.{Direction, forwards, backwards, Reading, Read, next_character, byte_place}
 
 -- from where to where a group has last matched, the smaller place first
 abbrev pub Span : Type 0
@@ -66,6 +67,15 @@ moved test s (Some read) = if test read.character then record s { place = read.p
 -- one character that passes the test (ECMA-262, CharacterSetMatcher)
 unfoldable pub one_character : Direction → Reading → (ℕ → Bool) → Step
 one_character d r test s = moved test s (next_character d r s.place)
+
+-- These bytes as they stand, behind the place or before it.
+unfoldable pub these_bytes : Direction → List ℕ → List ℕ → Step
+these_bytes forwards bytes written s =
+    if starts_with nat_eq (drop s.place bytes) written then record s { place = s.place + length written } ∷ [] else []
+these_bytes backwards bytes written s =
+    if nat_le (length written) s.place && starts_with nat_eq (drop (s.place - length written) bytes) written
+    then record s { place = s.place - length written } ∷ []
+    else []
 
 -- the state in which group `id` has matched between the two places
 abbrev pub captured : ℕ → ℕ → State → State

@@ -8,6 +8,9 @@ pub data Leaf : Type 0 where
   empty : Leaf
   goal : Leaf
   char : (c : ℕ) → Leaf
+  byte_sequence : (bytes : List ℕ) → Leaf
+  byte_set : (bytes : List ℕ) → Leaf
+  char_set : (characters : List ℕ) → Leaf
   match_any : Leaf
   match_any_except_line_terminator : Leaf
 
@@ -38,11 +41,19 @@ abbrev pub row_append : Trees → Trees → Trees
 row_append no_trees us = us
 row_append (more_trees t ts) us = more_trees t (row_append ts us)
 
+-- the last one first
+abbrev pub row_reverse : Trees → Trees
+row_reverse no_trees = no_trees
+row_reverse (more_trees t ts) = row_append (row_reverse ts) (more_trees t no_trees)
+
 -- one level, with each node inside already seen as its tree
 abbrev pub tree_of_level : Node-F Tree → Tree
 tree_of_level Node-F.Empty = leaf empty
 tree_of_level Node-F.Goal = leaf goal
 tree_of_level (Node-F.Char c) = leaf (char c)
+tree_of_level (Node-F.ByteSequence bytes) = leaf (byte_sequence bytes.items)
+tree_of_level (Node-F.ByteSet bytes) = leaf (byte_set bytes.items)
+tree_of_level (Node-F.CharSet characters) = leaf (char_set characters.items)
 tree_of_level (Node-F.Cat parts) = cat (row parts.items)
 tree_of_level (Node-F.Alt left right) = alt left.value right.value
 tree_of_level Node-F.MatchAny = leaf match_any

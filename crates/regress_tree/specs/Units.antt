@@ -1,12 +1,16 @@
 -- How large a tree is, and what falls with every rewriting.
-use Rattle.std.specs.Prelude.{◌≡◌, ℕ, ◌+◌, ◌*◌, ◌<◌, ◌⊎◌}
-use Rattle.regress_tree.specs.Tree.{Leaf, empty, goal, char, match_any, match_any_except_line_terminator, Wrapper, capture_group, Tree, Trees, leaf, cat, alt, wrapped, no_trees, more_trees}
+use Rattle.std.specs.Prelude.{◌≡◌, ℕ, ◌+◌, ◌*◌, ◌<◌, ◌⊎◌, [], ◌∷◌, length}
+use Rattle.regress_tree.specs.Tree.{Leaf, empty, goal, char, byte_sequence, byte_set, char_set, match_any, match_any_except_line_terminator, Wrapper, capture_group, Tree, Trees, leaf, cat, alt, wrapped, no_trees, more_trees}
 
--- One for a node, five for a `Char`, whose UTF-8 would be a node and at most four bytes.
+-- One for a node, and one more for each byte of a `ByteSequence`; five for a `Char`, whose UTF-8 would be a node and at
+-- most four bytes.
 abbrev pub units_of_leaf : Leaf → ℕ
 units_of_leaf empty = 1
 units_of_leaf goal = 1
 units_of_leaf (char c) = 5
+units_of_leaf (byte_sequence bytes) = 1 + length bytes
+units_of_leaf (byte_set bytes) = 1
+units_of_leaf (char_set characters) = 1
 units_of_leaf match_any = 1
 units_of_leaf match_any_except_line_terminator = 1
 
@@ -50,6 +54,10 @@ abbrev pub weight_of_leaf : Leaf → ℕ
 weight_of_leaf empty = 1
 weight_of_leaf goal = 1
 weight_of_leaf (char c) = 4
+weight_of_leaf (byte_sequence []) = 2
+weight_of_leaf (byte_sequence (b ∷ bytes)) = 3
+weight_of_leaf (byte_set bytes) = 2
+weight_of_leaf (char_set characters) = 3
 weight_of_leaf match_any = 1
 weight_of_leaf match_any_except_line_terminator = 1
 

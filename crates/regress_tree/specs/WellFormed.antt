@@ -1,7 +1,12 @@
 -- Which trees are well formed.
-use Rattle.std.specs.Prelude.{◌≡◌, ◌≢◌, ℕ, ◌<◌, ◌≤◌, List, [], ◌∷◌, ◌++◌, length, count_by, ◌==◌, Option, IfSome, if◌then◌else◌, nat_lt}
+use Rattle.std.specs.Prelude.{◌≡◌, ◌≢◌, ℕ, ◌<◌, ◌≤◌, List, [], ◌∷◌, ◌++◌, length, count_by, ◌==◌, Option, IfSome, if◌then◌else◌, nat_lt, All, encode_utf8_all}
 use Rattle.regress_base.specs.Intervals.{code_point_max}
-use Rattle.regress_tree.specs.Tree.{Leaf, empty, goal, char, match_any, match_any_except_line_terminator, Wrapper, capture_group, Tree, Trees, leaf, cat, alt, wrapped, no_trees, more_trees}
+use Rattle.regress_tree.specs.Reading.{IsText}
+use Rattle.regress_tree.specs.Tree.{Leaf, empty, goal, char, byte_sequence, byte_set, char_set, match_any, match_any_except_line_terminator, Wrapper, capture_group, Tree, Trees, leaf, cat, alt, wrapped, no_trees, more_trees}
+
+-- how many members a small set may have (this project's profile)
+abbrev pub max_char_set_length : ℕ
+max_char_set_length = 4
 
 -- a capture group: its id, and its name as UTF-8
 pub record Capture : Type 0 where
@@ -57,11 +62,34 @@ last_of root = last
 abbrev pub position_in : Wrapper → Position
 position_in (capture_group id name) = inside
 
+-- what may be the body of a loop over one character only if this holds
+abbrev pub AsOneCharacter : Position → Type 0 → Type 0
+AsOneCharacter one_character P = P
+AsOneCharacter inside P = Unit {0}
+AsOneCharacter last P = Unit {0}
+AsOneCharacter root P = Unit {0}
+
+-- the bytes are the UTF-8 of some characters, of one at that place
+pub record AreUtf8 (bytes : List ℕ) (p : Position) : Type 0 where
+  pub characters : List ℕ
+  pub are_scalar : IsText characters
+  pub encoded : bytes ≡ encode_utf8_all characters
+  pub one : AsOneCharacter p (length characters ≡ 1)
+
+-- a small set of numbers up to a greatest one, not empty at that place
+pub record IsSmallSet (members : List ℕ) (greatest : ℕ) (p : Position) : Type 0 where
+  pub bounded : All (λ m. m ≤ greatest) members
+  pub small : length members ≤ max_char_set_length
+  pub some : AsOneCharacter p (members ≢ [])
+
 -- the leaf may stand there
 abbrev pub LeafMayStand : Leaf → Position → Type 0
 LeafMayStand empty p = NotAsOneCharacter p
 LeafMayStand goal p = GoalMayStand p
 LeafMayStand (char c) p = c ≤ code_point_max
+LeafMayStand (byte_sequence bytes) p = AreUtf8 bytes p
+LeafMayStand (byte_set bytes) p = IsSmallSet bytes 127 p
+LeafMayStand (char_set characters) p = IsSmallSet characters code_point_max p
 LeafMayStand match_any p = Unit {0}
 LeafMayStand match_any_except_line_terminator p = Unit {0}
 

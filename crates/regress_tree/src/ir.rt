@@ -2,6 +2,8 @@
 
 mod display;
 mod node;
+#[cfg(test)]
+mod tests;
 mod walk;
 
 pub use node::{Node, NodeList, Regex};

@@ -1,18 +1,31 @@
 //! The table of the characters' cases, classes and properties.
+ghost use Rattle.std.proofs.Props.{props};
+ghost use Rattle.regress_tree.specs.Parts.{parts_from, IsSound};
 
-use std::alloc::{AllocError, Global};
+mod fold_range;
+mod images;
+mod range;
+mod readers;
+mod small;
 
-/// What a pattern needs to know of Unicode: how characters fold, and which have a property.
-/// It is empty so far: no pattern that is served asks it anything.
+pub use fold_range::FoldRange;
+pub use images::{fold, uppercase};
+pub use range::CodePointRange;
+use regress_base::codepointset::CodePointSet;
+
+/// What a pattern needs to know of Unicode: how characters fold, which may stand in a name, and
+/// which have a property. Each value is lawful: an image is its own image, at most four code points
+/// share one, ASCII characters of names are letters, digits and `_`, and strings are nonempty.
 #[derive(Debug, Drop)]
 pub struct Tables {
-    content: (),
-}
-
-impl Tables {
-    /// The small table, which the program uses. The error stands for want of memory, of which the
-    /// empty table takes none.
-    pub fn small(_alloc: Global) -> Result<Tables, AllocError> {
-        Ok(Tables { content: () })
-    }
+    folds: Vec<FoldRange>,
+    uppers: Vec<FoldRange>,
+    id_start: CodePointSet,
+    id_continue: CodePointSet,
+    general_category: Vec<(String, CodePointSet)>,
+    script: Vec<(String, CodePointSet)>,
+    script_extensions: Vec<(String, CodePointSet)>,
+    binary: Vec<(String, CodePointSet)>,
+    strings: Vec<(String, Vec<Vec<u32>>)>,
+    ghost sound: { IsSound (parts_from folds.items uppers.items id_start id_continue general_category.items script.items script_extensions.items binary.items strings.items) } by { Prim.hlevel props },
 }

@@ -2,12 +2,14 @@
 
 ghost use Rattle.std.specs.Prelude.{◌≡◌, ℕ, ◌<◌, ◌≤◌, ◌-◌, ◌==◌, ◌||◌, ◌&&◌, ◌++◌, ◌↔◌, false, not, nat_le, nat_lt, IsTrue, replicate};
 ghost use Rattle.std.proofs.Common.{rules};
+ghost use Rattle.std.specs.Int.{bit_at};
 ghost use Rattle.std.specs.Cmp.Rules.{comparing};
 ghost use Rattle.regress_base.specs.ByteBitmap.{contains, same_members};
 ghost use Rattle.regress_base.specs.ByteSets.{bytes_of, members_of, member_count, SameMembers};
 ghost use Rattle.regress_base.specs.Places.{IsMemberAt};
 
 use super::debug_list::write_members;
+use super::find::find_byte;
 use super::searcher::ByteSearcher;
 use std::fmt;
 
@@ -49,12 +51,19 @@ impl ByteBitmap {
         self.words[(val / WORD_BITS) as usize] |= 1 << (val % WORD_BITS);
     }
 
-    /// Adds the bytes from `first` to `last`, both included.
-    pub(crate) fn set_range(&mut self, first: u8, last: u8)
+    /// Adds the bytes from `first` to `last`, both included, a word at a time.
+    pub(crate) fn set_run(&mut self, first: u8, last: u8)
         ensures { (b : ℕ) → contains self.new b ≡ ((nat_le first b && nat_le b last) || contains self.old b) }
     {
-        for b in first..=last {
-            self.set(b);
+        let (start, end) = (first / WORD_BITS, last / WORD_BITS);
+        for word in start..end + 1 {
+            let low = if word == start { first % WORD_BITS } else { 0 };
+            let high = if word == end {
+                last % WORD_BITS
+            } else {
+                WORD_BITS - 1
+            };
+            self.words[word as usize] |= bits_between(low, high);
         }
     }
 
@@ -107,6 +116,15 @@ impl ByteBitmap {
     }
 }
 
+// The word with the bits from `low` to `high`, both included, and no other.
+fn bits_between(low: u8, high: u8) -> u16
+    requires low { low < 16 }
+    requires high { high < 16 }
+    ensures { (k : ℕ) → k < 16 → (bit_at result k == 1) ≡ (nat_le low k && nat_le k high) }
+{
+    (u16::MAX << low) & (u16::MAX >> (WORD_BITS - 1 - high))
+}
+
 impl Default for ByteBitmap {
     ghost is_default = { λ s. (b : ℕ) → contains s b ≡ false };
 
@@ -143,12 +161,7 @@ impl ByteSearcher for ByteBitmap {
     ghost stands_at = { λ set. IsMemberAt (contains set) };
 
     fn find_in(&self, rhs: &[u8]) -> Option<usize> {
-        for (i, b) in rhs.iter().enumerate() {
-            if self.contains(*b) {
-                return Some(i);
-            }
-        }
-        None
+        find_byte(rhs, |b| self.contains(b))
     }
 }
 

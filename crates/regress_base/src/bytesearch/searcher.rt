@@ -3,6 +3,8 @@
 ghost use Rattle.std.specs.Prelude.{◌≡◌, ℕ, ◌≤◌, Bool, false, List, length};
 ghost use Rattle.regress_base.specs.Places.{IsLeast, IsMemberAt};
 
+use super::find::find_byte;
+
 /// Something to look for in a text: a member of a byte set, or a string.
 pub trait ByteSearcher {
     // It stands in the text at the place.
@@ -40,12 +42,7 @@ pub trait SmallArraySet: Copy {
     fn find_in(self, rhs: &[u8]) -> Option<usize>
         ensures { IsLeast (IsMemberAt (members self) rhs.now) (length rhs.now) result }
     {
-        for (i, b) in rhs.iter().enumerate() {
-            if self.contains(*b) {
-                return Some(i);
-            }
-        }
-        None
+        find_byte(rhs, |b| self.contains(b))
     }
 
     // A member is a byte.

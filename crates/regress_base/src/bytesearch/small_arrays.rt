@@ -5,6 +5,7 @@ ghost use Rattle.regress_base.specs.ByteSets.{bytes_of};
 ghost use Rattle.regress_base.specs.Places.{IsMemberAt};
 ghost use Rattle.regress_base.specs.ByteLaws.{bytes_of-bytes_only};
 
+use super::find::find_byte;
 use super::searcher::{ByteSearcher, SmallArraySet};
 
 impl SmallArraySet for [u8; 2] {
@@ -41,12 +42,7 @@ impl ByteSearcher for [u8; 1] {
     ghost stands_at = { λ set. IsMemberAt (bytes_of set) };
 
     fn find_in(&self, rhs: &[u8]) -> Option<usize> {
-        for (i, b) in rhs.iter().enumerate() {
-            if *b == self[0] {
-                return Some(i);
-            }
-        }
-        None
+        find_byte(rhs, |b| b == self[0])
     }
 }
 

@@ -144,6 +144,22 @@ fn bitmaps_with_the_same_members_are_equal(rt: HostRuntime) {
 }
 
 #[test]
+fn a_run_is_added_from_its_first_byte_to_its_last(rt: HostRuntime) {
+    for (first, last) in [(0, 0), (0, 255), (15, 16), (16, 31), (17, 30), (255, 255)] {
+        let mut bitmap = ByteBitmap::new(&[100]);
+        bitmap.set_run(first, last);
+        for b in 0..=u8::MAX {
+            let is_member = b == 100 || (first <= b && b <= last);
+            assert_eq!(rt;
+                bitmap.contains(b),
+                is_member,
+                "{b} after {first} to {last}"
+            );
+        }
+    }
+}
+
+#[test]
 fn bitmaps_print_their_runs(rt: HostRuntime) -> Result<(), Fail> {
     let mut full = ByteBitmap::default();
     full.bitnot();

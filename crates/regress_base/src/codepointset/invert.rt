@@ -7,23 +7,21 @@ use crate::interval::{CODE_POINT_MAX, Interval};
 use std::alloc::{AllocError, Global};
 
 impl CodePointSet {
-    /// How many intervals [`inverted`](CodePointSet::inverted) has. Linear, and takes no memory.
+    /// How many intervals [`inverted`](CodePointSet::inverted) has: one between each two neighbours, and one at either
+    /// end that is no member. Constant.
     pub fn inverted_interval_count(&self) -> usize
         ensures { (gaps : List Bounds)
             × IsCanonical gaps × IsComplement self.now gaps × (result ≡ length gaps) }
     {
-        let mut count = 0;
-        let mut start = 0;
-        for iv in self.intervals() {
-            if start < iv.first() {
-                count += 1;
+        let ivs = self.intervals();
+        match (ivs.first(), ivs.last()) {
+            (Some(first), Some(last)) => {
+                ivs.len() - 1
+                    + usize::from(first.first() > 0)
+                    + usize::from(last.last() < CODE_POINT_MAX)
             }
-            start = iv.last() + 1;
+            _ => 1,
         }
-        if start <= CODE_POINT_MAX {
-            count += 1;
-        }
-        count
     }
 
     /// The code points that are no members, up to [`CODE_POINT_MAX`]. One pass over the intervals.

@@ -41,3 +41,13 @@ fn a_group_has_a_range_where_both_ends_are_set(rt: HostRuntime) {
     let turns = LoopData::new(7u8);
     assert_eq!(rt; (turns.iters, turns.entry), (0, 7));
 }
+
+#[test]
+fn the_limits_are_those_of_the_profile(rt: HostRuntime) {
+    limits_are_as_defined();
+    assert_eq!(rt;
+        (MAX_CAPTURE_GROUPS, MAX_LOOPS, MAX_CHAR_SET_LENGTH),
+        (65535, 65535, 4)
+    );
+    assert_eq!(rt; (MAX_NESTING_DEPTH, CODE_POINT_MAX), (256, 0x10FFFF));
+}

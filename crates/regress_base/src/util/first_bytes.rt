@@ -30,7 +30,7 @@ fn add_first_bytes_of_one_width(first: u32, last: u32, bitmap: &mut ByteBitmap)
         ↔ (IsTrue (contains bitmap.old b) ⊎ IsFirstByteBetween first last b) }
 {
     if first <= last {
-        bitmap.set_range(utf8_first_byte(first), utf8_first_byte(last));
+        bitmap.set_run(utf8_first_byte(first), utf8_first_byte(last));
     }
 }
 

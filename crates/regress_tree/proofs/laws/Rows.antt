@@ -5,9 +5,9 @@ use Rattle.std.proofs.lemmas.List.{map-append}
 use Rattle.regress_tree.specs.declared.ir.node.Node.{Node}
 use Rattle.regress_tree.specs.Reading.{Direction}
 use Rattle.regress_tree.specs.Steps.{State}
-use Rattle.regress_tree.specs.Tree.{Leaf, empty, goal, char, match_any, match_any_except_line_terminator, Tree, Trees, leaf, cat, alt, wrapped, no_trees, more_trees, row, row_append, tree, trees}
+use Rattle.regress_tree.specs.Tree.{Leaf, empty, goal, char, byte_sequence, byte_set, char_set, match_any, match_any_except_line_terminator, Tree, Trees, leaf, cat, alt, wrapped, no_trees, more_trees, row, row_append, tree, trees}
 use Rattle.regress_tree.specs.Matching.{Setting, steps, steps_in_row}
-use Rattle.regress_tree.specs.WellFormed.{captures, captures_in_row, Position, one_character, inside, last, root, NotAsOneCharacter, GoalMayStand, last_of, LeafMayStand, MayStand, RowMayStand}
+use Rattle.regress_tree.specs.WellFormed.{captures, captures_in_row, Position, one_character, inside, last, root, NotAsOneCharacter, AsOneCharacter, GoalMayStand, last_of, LeafMayStand, MayStand, RowMayStand}
 use Rattle.regress_tree.specs.Units.{units, units_in_row, loops, loops_in_row, weight, weight_of_row}
 use Rattle.regress_tree.specs.Ending.{RowEndsInGoal}
 use Rattle.regress_tree.proofs.laws.Outcomes.{flat_map-then}
@@ -55,16 +55,30 @@ weight-append (more_trees t ts) us = omega (arith, weight-append ts us)
 
 -- What may stand as the last part of a `Cat` may stand where the `Cat` does.
 
-LeafMayStand-wider : (p q : Position) → (NotAsOneCharacter p → NotAsOneCharacter q) → (GoalMayStand p → GoalMayStand q) →
+not_as_one : (q : Position) (P : Type 0) → NotAsOneCharacter q → AsOneCharacter q P
+not_as_one one_character P free = absurd free
+not_as_one inside P free = tt
+not_as_one last P free = tt
+not_as_one root P free = tt
+
+LeafMayStand-wider : (p q : Position) → NotAsOneCharacter q → (GoalMayStand p → GoalMayStand q) →
     (l : Leaf) → LeafMayStand l p → LeafMayStand l q
-LeafMayStand-wider p q any ends empty m = any m
-LeafMayStand-wider p q any ends goal m = ends m
-LeafMayStand-wider p q any ends (char c) m = m
-LeafMayStand-wider p q any ends match_any m = tt
-LeafMayStand-wider p q any ends match_any_except_line_terminator m = tt
+LeafMayStand-wider p q free ends empty m = free
+LeafMayStand-wider p q free ends goal m = ends m
+LeafMayStand-wider p q free ends (char c) m = m
+LeafMayStand-wider p q free ends (byte_sequence bytes) m = record {
+  characters = m.characters;
+  are_scalar = m.are_scalar;
+  encoded = m.encoded;
+  one = not_as_one q _ free;
+}
+LeafMayStand-wider p q free ends (byte_set bytes) m = record { bounded = m.bounded; small = m.small; some = not_as_one q _ free }
+LeafMayStand-wider p q free ends (char_set characters) m = record { bounded = m.bounded; small = m.small; some = not_as_one q _ free }
+LeafMayStand-wider p q free ends match_any m = tt
+LeafMayStand-wider p q free ends match_any_except_line_terminator m = tt
 
 MayStand-last : (n : ℕ) (t : Tree) → MayStand n t inside → MayStand n t last
-MayStand-last n (leaf l) m = LeafMayStand-wider inside last (λ any. tt) (λ none. absurd none) l m
+MayStand-last n (leaf l) m = LeafMayStand-wider inside last tt (λ none. absurd none) l m
 MayStand-last n (cat parts) m = m
 MayStand-last n (alt left right) m = m
 MayStand-last n (wrapped w body) m = m
@@ -75,7 +89,7 @@ RowMayStand-last n (more_trees t no_trees) m = MayStand-last n t m
 RowMayStand-last n (more_trees t (more_trees u ts)) m = (m.0, RowMayStand-last n (more_trees u ts) m.1)
 
 MayStand-root : (n : ℕ) (t : Tree) → MayStand n t last → MayStand n t root
-MayStand-root n (leaf l) m = LeafMayStand-wider last root (λ any. tt) (λ ends. tt) l m
+MayStand-root n (leaf l) m = LeafMayStand-wider last root tt (λ ends. tt) l m
 MayStand-root n (cat parts) m = (tt, RowMayStand-last n parts m.1)
 MayStand-root n (alt left right) m = m
 MayStand-root n (wrapped w body) m = m

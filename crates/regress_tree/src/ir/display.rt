@@ -25,6 +25,9 @@ fn write_tree<W: fmt::Write>(node: &Node, depth: usize, f: &mut fmt::Formatter<W
             Node::Empty
             | Node::Goal
             | Node::Char { .. }
+            | Node::ByteSequence(_)
+            | Node::ByteSet(_)
+            | Node::CharSet(_)
             | Node::MatchAny
             | Node::MatchAnyExceptLineTerminator => return Ok(()),
             Node::Cat(parts) => return write_trees(parts, depth, f),
@@ -65,6 +68,9 @@ fn write_node<W: fmt::Write>(node: &Node, f: &mut fmt::Formatter<W>) -> fmt::Res
         Node::Empty => f.write_str("Empty\n"),
         Node::Goal => f.write_str("Goal\n"),
         Node::Char { c } => writeln!(f, "'{c}'"),
+        Node::ByteSequence(bytes) => write_byte_sequence(bytes, f),
+        Node::ByteSet(bytes) => write_byte_set(bytes, f),
+        Node::CharSet(characters) => write_char_set(characters, f),
         Node::Cat(_) => f.write_str("Cat\n"),
         Node::Alt(..) => f.write_str("Alt\n"),
         Node::MatchAny => f.write_str("MatchAny\n"),
@@ -74,4 +80,31 @@ fn write_node<W: fmt::Write>(node: &Node, f: &mut fmt::Formatter<W>) -> fmt::Res
             None => writeln!(f, "CaptureGroup {id}"),
         },
     }
+}
+
+fn write_byte_sequence<W: fmt::Write>(bytes: &[u8], f: &mut fmt::Formatter<W>) -> fmt::Result {
+    write!(f, "ByteSeq{} 0x", bytes.len())?;
+    for byte in bytes {
+        write!(f, "{byte:x}")?;
+    }
+    f.write_str("\n")
+}
+
+fn write_byte_set<W: fmt::Write>(bytes: &[u8], f: &mut fmt::Formatter<W>) -> fmt::Result {
+    write!(f, "ByteSet{}", bytes.len())?;
+    for byte in bytes {
+        write!(f, " 0x{byte:x}")?;
+    }
+    f.write_str("\n")
+}
+
+fn write_char_set<W: fmt::Write>(characters: &[u32], f: &mut fmt::Formatter<W>) -> fmt::Result {
+    f.write_str("CharSet ")?;
+    for (i, c) in characters.iter().enumerate() {
+        if i > 0 {
+            f.write_str(", ")?;
+        }
+        write!(f, "0x{c:x}")?;
+    }
+    f.write_str("\n")
 }

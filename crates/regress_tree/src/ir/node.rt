@@ -3,7 +3,11 @@
 use regress_base::types::{CaptureGroupID, CaptureGroupName, Flags};
 
 /// A node of the tree of a pattern. `specs/Matching.antt` says what each kind matches.
-#[derive(Debug, Drop)]
+///
+/// A tree has as many levels as an alternation has alternatives, and dropping one takes no stack for
+/// these: only for left sides and parts of `Cat`s, as deep as groups lie in one another. For this a node has
+/// a `Drop` of its own, so it is matched by reference, and a child is taken out by `mem::replace`.
+#[derive(Debug)]
 pub enum Node {
     /// Matches the empty text.
     Empty,
@@ -13,6 +17,12 @@ pub enum Node {
     Char {
         c: u32,
     },
+    /// These bytes as they stand, whole UTF-8 of characters. No byte matches the empty text.
+    ByteSequence(Vec<u8>),
+    /// One character of a set of at most four ASCII bytes. An empty set matches nothing.
+    ByteSet(Vec<u8>),
+    /// One character of a set of at most four code points. An empty set matches nothing.
+    CharSet(Vec<u32>),
     /// The parts one after another. In a lookbehind they stand turned: the last one first.
     Cat(Vec<Node>),
     /// What the left side matches, and then what the right side does.
@@ -28,6 +38,30 @@ pub enum Node {
         contents: Box<Node>,
         name: Option<CaptureGroupName>,
     },
+}
+
+impl Drop for Node {
+    // A kind that holds one node gives it to the next round.
+    fn drop(mut self) {
+        loop {
+            self = match self {
+                Node::ByteSequence(_bytes) | Node::ByteSet(_bytes) => return,
+                Node::CharSet(_characters) => return,
+                Node::Cat(_parts) => return,
+                Node::Alt(_left, right) => Box::into_inner(right),
+                Node::CaptureGroup {
+                    id: _,
+                    contents,
+                    name: _name,
+                } => Box::into_inner(contents),
+                Node::Empty
+                | Node::Goal
+                | Node::Char { c: _ }
+                | Node::MatchAny
+                | Node::MatchAnyExceptLineTerminator => return,
+            };
+        }
+    }
 }
 
 /// Nodes in a row.

@@ -5,4 +5,5 @@ use Rattle.regress_base.proofs.codepointset.CodePointSet.inverted.Goals as goal
 
 pub returns-clause-twice : goal.returns-clause-twice
 returns-clause-twice c = λ back canonical home.
-    complement_twice c.args.self.now c.from_sorted_disjoint_intervals.result back (subst IsCanonical c.self.view_is c.self.invariant) canonical (search rules) home
+    complement_twice c.args.self.now c.from_sorted_disjoint_intervals.result back (subst IsCanonical c.self.view_is c.self.invariant)
+    canonical (search rules) home

@@ -1,28 +1,18 @@
--- The count is the length of the complement's list.
-use Rattle.std.proofs.Common.{◌+◌, length, ap, sym, arith, rules}
-use Rattle.regress_base.proofs.GapsLemmas.{gaps_from-end, gaps_from-full, count_step_gap, count_step_none, count_done, next_parts}
+use Rattle.std.proofs.Common.{◌+◌, ◌-◌, ◌∙◌, length, nat_lt, ap, ap₂, sym, rules}
+use mir.Val.{bool_byte}
+use Rattle.regress_base.specs.Intervals.{code_point_max}
+use Rattle.regress_base.proofs.GapsLemmas.{counted, counted-none}
 use Rattle.regress_base.proofs.codepointset.CodePointSet.inverted_interval_count.Goals as goal
-use Rattle.regress_base.proofs.codepointset.CodePointSet.inverted_interval_count.Goals.{then-start-first, else-start-first}
 
-pub loop-iv-preserved : goal.loop-iv-preserved
-loop-iv-preserved c =
-    let items = c.intervals-iv-items.result.now in
-    let next = next_parts c.loop-iv.start c.loop-iv.iv-index c.last-start.result c.iv-item.result items c.loop-iv-test.true c.iv-item.is c.last-start.ensures.value c.loop-iv.invariant.canonical in
-    let above = next.0 in
-    record {
-      counted = elim c.if-start-first.branch [
-        | then-start-first w ↦ count_step_gap c.loop-iv.start c.loop-iv.iv-index c.last-start.result c.iv-item.result items c.loop-iv-test.true c.iv-item.is c.last-start.ensures.value _ _ _ c.loop-iv.invariant.counted (omega arith) w.count-is
-        | else-start-first w ↦ count_step_none c.loop-iv.start c.loop-iv.iv-index c.last-start.result c.iv-item.result items c.loop-iv-test.true c.iv-item.is c.last-start.ensures.value _ _ _ c.loop-iv.invariant.counted (omega arith) w.count-is
-      ];
-      canonical = next.1;
-      small = elim c.if-start-first.branch [ then-start-first w ↦ omega arith | else-start-first w ↦ omega arith ];
-      in_range = omega arith;
-    }
+pub returns-in-Some-Some : goal.returns-in-Some-Some
+returns-in-Some-Some c =
+    let ivs = c.intervals-ivs.result.now in
+    let before = c.from.ensures ∙ ap (λ n. bool_byte (nat_lt 0 n)) c.first-in-Some-Some.ensures.value in
+    let behind = c.from-in-Some-Some.ensures ∙ ap (λ n. bool_byte (nat_lt n code_point_max)) c.last-in-Some-Some.ensures.value in
+    counted ivs c.args.self.now c.in-Some-Some.first.now c.in-Some-Some.last.now _ c.intervals-ivs.ensures.canonical
+    c.intervals-ivs.ensures.value (sym c.in-Some-Some.ensures.value) (sym c.in-Some-Some.ensures'.value)
+    (ap₂ (λ m n. length ivs - 1 + m + n) before behind)
 
-pub returns-then-start-le-CODE_POINT_MAX : goal.returns-then-start-le-CODE_POINT_MAX
-returns-then-start-le-CODE_POINT_MAX c =
-    count_done c.intervals-iv-items.result.now _ c.loop-iv.count c.loop-iv.start c.loop-iv.iv-index _ c.intervals-iv-items.ensures.canonical c.intervals-iv-items.ensures.value (search rules) c.loop-iv.invariant.counted (sym (ap (λ l. c.loop-iv.count + length l) (gaps_from-end c.loop-iv.start (search rules))))
-
-pub returns-else-start-le-CODE_POINT_MAX : goal.returns-else-start-le-CODE_POINT_MAX
-returns-else-start-le-CODE_POINT_MAX c =
-    count_done c.intervals-iv-items.result.now _ c.loop-iv.count c.loop-iv.start c.loop-iv.iv-index _ c.intervals-iv-items.ensures.canonical c.intervals-iv-items.ensures.value (search rules) c.loop-iv.invariant.counted (let none = ap length (gaps_from-full c.loop-iv.start (search rules)) in omega arith)
+pub returns-in_default-2 : goal.returns-in_default-2
+returns-in_default-2 c =
+    counted-none c.intervals-ivs.result.now c.args.self.now c.intervals-ivs.ensures.value (sym c.in_default.ensures.value)

@@ -6,4 +6,5 @@ use Rattle.regress_base.proofs.codepointset.CodePointSet.is_empty.Goals as goal
 
 pub returns-clause-members : goal.returns-clause-members
 returns-clause-members c =
-    Decides-none c.args.self.now c.is_empty.result (subst IsCanonical c.self.view_is c.self.invariant) (λ passed. grind (arith, common_steps), λ none. grind (arith, common_steps))
+    Decides-none c.args.self.now c.is_empty.result (subst IsCanonical c.self.view_is c.self.invariant)
+    (λ passed. grind (arith, common_steps), λ none. grind (arith, common_steps))

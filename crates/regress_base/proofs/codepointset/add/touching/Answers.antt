@@ -9,10 +9,14 @@ returns-in-Some-clause-range c =
 
 pub returns-in-Some-2-clause-range : goal.returns-in-Some-2-clause-range
 returns-in-Some-2-clause-range c =
-    touching-in_last c.args.ivs.now c.args.new_iv c.in-Some.last.now c.requires c.first-first.ensures.ordered (sym c.in-Some.ensures.value) (search rules) (search rules)
+    touching-in_last c.args.ivs.now c.args.new_iv c.in-Some.last.now c.requires c.first-first.ensures.ordered
+    (sym c.in-Some.ensures.value) (search rules) (search rules)
 
 pub returns-in-Some-3-clause-range : goal.returns-in-Some-3-clause-range
 unfolding merge_place
 returns-in-Some-3-clause-range c =
     let computes = always_returns_same _ _ _ (λ a r f' k. search rules) in
-    touching-from_equal_range c.args.ivs.now c.args.new_iv _ _ (c.equal_range_by.ensures.equal (merge_place c.args.new_iv) computes (merge_places_rise c.args.new_iv c.args.ivs.now (record { ordered = c.first-first.ensures.ordered; in_range = c.first-first.ensures.in_range }) c.requires))
+    touching-from_equal_range c.args.ivs.now c.args.new_iv _ _
+    (c.equal_range_by.ensures.equal (merge_place c.args.new_iv) computes
+    (merge_places_rise c.args.new_iv c.args.ivs.now
+    (record { ordered = c.first-first.ensures.ordered; in_range = c.first-first.ensures.in_range }) c.requires))

@@ -8,4 +8,5 @@ pub returns : goal.returns
 unfolding place_of
 returns c =
     let placed = c.binary_search_by.ensures.position (place_of c.args.cp) (always_returns_same _ _ _ (λ a r f' k. search rules)) in
-    c.is_ok.ensures.value ∙ found_member c.args.ivs.now c.args.cp c.binary_search_by.result c.requires c.binary_search_by.ensures.bound placed
+    c.is_ok.ensures.value
+    ∙ found_member c.args.ivs.now c.args.cp c.binary_search_by.result c.requires c.binary_search_by.ensures.bound placed

@@ -8,4 +8,5 @@ pub returns : goal.returns
 returns c =
     let first = ap (λ m. m.first) c.new.ensures ∙ c.max-first.ensures ∙ ap₂ max c.first.ensures.value c.first-2.ensures.value in
     let last = ap (λ m. m.last) c.new.ensures ∙ c.min-last.ensures ∙ ap₂ min c.last.ensures.value c.last-2.ensures.value in
-    on_ok c.add.result (λ members. λ n. members n ∙ ap (λ b. is_member c.args.set.now n || b) (overlap_by_ends c.args.a c.args.b c.new.result n first last)) c.add.ensures.members
+    on_ok c.add.result (λ members. λ n. members n
+    ∙ ap (λ b. is_member c.args.set.now n || b) (overlap_by_ends c.args.a c.args.b c.new.result n first last)) c.add.ensures.members

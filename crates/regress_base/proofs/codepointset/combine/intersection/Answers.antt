@@ -15,15 +15,21 @@ pub loop-i-preserved-then-last : goal.loop-i-preserved-then-last
 loop-i-preserved-then-last c = record {
   left_in = search rules;
   right_in = c.loop-i.invariant.right_in;
-  members = λ n. meet_left c.args.left.now c.args.right.now c.loop-i.i c.loop-i.j n c.index-left-i.result c.index-right-j.result _ _ _ c.requires.left_canonical c.requires.right_canonical (search rules) (search rules) c.index-left-i.is c.index-right-j.is (c.in_ok-add_overlap.ensures n) (c.loop-i.invariant.members n) (search rules);
+  members = λ n. meet_left c.args.left.now c.args.right.now c.loop-i.i c.loop-i.j n c.index-left-i.result c.index-right-j.result _ _ _
+      c.requires.left_canonical c.requires.right_canonical (search rules) (search rules) c.index-left-i.is c.index-right-j.is
+      (c.in_ok-add_overlap.ensures n) (c.loop-i.invariant.members n) (search rules);
 }
 
 pub loop-i-preserved : goal.loop-i-preserved
 loop-i-preserved c = record {
   left_in = c.loop-i.invariant.left_in;
   right_in = search rules;
-  members = λ n. meet_right c.args.left.now c.args.right.now c.loop-i.i c.loop-i.j n c.index-left-i.result c.index-right-j.result _ _ _ c.requires.left_canonical c.requires.right_canonical (search rules) (search rules) c.index-left-i.is c.index-right-j.is (c.in_ok-add_overlap.ensures n) (c.loop-i.invariant.members n) (search rules);
+  members = λ n. meet_right c.args.left.now c.args.right.now c.loop-i.i c.loop-i.j n c.index-left-i.result c.index-right-j.result _ _ _
+      c.requires.left_canonical c.requires.right_canonical (search rules) (search rules) c.index-left-i.is c.index-right-j.is
+      (c.in_ok-add_overlap.ensures n) (c.loop-i.invariant.members n) (search rules);
 }
 
 pub returns : goal.returns
-returns c = λ n. meet_done c.args.left.now c.args.right.now c.loop-i.i c.loop-i.j n _ _ (elim c.loop-i-test.branch [ then-loop-i-test+else-j-right w ↦ inr (omega arith) | else-loop-i-test w ↦ inl (omega arith) ]) (c.loop-i.invariant.members n)
+returns c = λ n. meet_done c.args.left.now c.args.right.now c.loop-i.i c.loop-i.j n _ _
+    (elim c.loop-i-test.branch [ then-loop-i-test+else-j-right w ↦ inr (omega arith) | else-loop-i-test w ↦ inl (omega arith) ])
+    (c.loop-i.invariant.members n)

@@ -7,7 +7,8 @@ abbrev pub invariant-loop-i : goal.invariant-loop-i
 invariant-loop-i l = record {
   left_in : l.i ≤ length l.left;
   right_in : l.j ≤ length l.right;
-  members : (c : ℕ) → (is_member l.common c || (is_member (drop l.i l.left) c && is_member (drop l.j l.right) c)) ≡ (is_member l.left c && is_member l.right c);
+  members : (c : ℕ) → (is_member l.common c || (is_member (drop l.i l.left) c && is_member (drop l.j l.right) c))
+      ≡ (is_member l.left c && is_member l.right c);
 }
 
 abbrev pub decreases-loop-i : goal.decreases-loop-i

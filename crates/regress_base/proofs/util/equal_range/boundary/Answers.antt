@@ -1,39 +1,43 @@
 -- The answer at the middle tells which half goes.
 use Rattle.std.proofs.Common.{◌+◌, ◌-◌, ◌/◌, arith, of_calls}
+use Rattle.std.specs.Fn.{ComputesKey}
 use Rattle.std.specs.Ordering.{ordering_index}
-use Rattle.regress_base.proofs.RangesLemmas.{narrowed-lower, narrowed-upper, answers_next, read_index, index-lt, index-ge}
+use Rattle.std.specs.declared.cmp.Ordering.{Ordering}
+use Rattle.regress_base.proofs.RangesLemmas.{narrowed-lower, narrowed-upper, answered, index-lt, index-ge}
 use Rattle.regress_base.proofs.util.equal_range.boundary.Goals as goal
 
 pub loop-low-preserved-then-lt : goal.loop-low-preserved-then-lt
 loop-low-preserved-then-lt g c =
     let mid = c.loop-low.low + (c.loop-low.high - c.loop-low.low) / 2 in
     let n = ordering_index c.args.least in
+    let less = index-lt (ordering_index c.f.result) n c.lt.result c.lt.ensures c.if-lt.true in
+    let told = λ (ord : g.row.T.Denot → Ordering) (h : ComputesKey g.F.FnMut ord c.args.f.now).
+    answered g.F.FnMut ord c.args.s.now mid _ _ _ c.f.result (omega arith) c.index-s-mid.is c.f.ensures
+    (c.loop-low.invariant.computes ord h) in
     record {
       callable = search of_calls;
       start = omega arith;
       in_order = omega arith;
       in_bounds = omega arith;
-      computes = λ ord h. (answers_next g.F.FnMut _ _ _ _ _ c.f.ensures (c.loop-low.invariant.computes ord h)).1;
-      narrowed = λ ord h rising before. narrowed-lower ord c.args.s.now n c.loop-low.low c.loop-low.high mid rising (omega arith) (λ d.
-          let answer = (answers_next g.F.FnMut _ _ _ _ _ c.f.ensures (c.loop-low.invariant.computes ord h)).0 in
-          let here = read_index ord c.args.s.now mid c.index-s-mid.result c.f.result d (omega arith) c.index-s-mid.is answer in
-          let less = index-lt (ordering_index c.f.result) n c.lt.result c.lt.ensures c.if-lt.true in
-          omega (arith, here, less)) (c.loop-low.invariant.narrowed ord h rising before);
+      computes = λ ord h. (told ord h).1;
+      narrowed = λ ord h rising before. narrowed-lower ord c.args.s.now n c.loop-low.low c.loop-low.high mid rising (omega arith)
+          (λ d. let here = (told ord h).0 d in omega (arith, here, less)) (c.loop-low.invariant.narrowed ord h rising before);
     }
 
 pub loop-low-preserved : goal.loop-low-preserved
 loop-low-preserved g c =
     let mid = c.loop-low.low + (c.loop-low.high - c.loop-low.low) / 2 in
     let n = ordering_index c.args.least in
+    let least = index-ge (ordering_index c.f.result) n c.lt.result c.lt.ensures c.if-lt.false in
+    let told = λ (ord : g.row.T.Denot → Ordering) (h : ComputesKey g.F.FnMut ord c.args.f.now).
+    answered g.F.FnMut ord c.args.s.now mid _ _ _ c.f.result (omega arith) c.index-s-mid.is c.f.ensures
+    (c.loop-low.invariant.computes ord h) in
     record {
       callable = search of_calls;
       start = omega arith;
       in_order = omega arith;
       in_bounds = omega arith;
-      computes = λ ord h. (answers_next g.F.FnMut _ _ _ _ _ c.f.ensures (c.loop-low.invariant.computes ord h)).1;
-      narrowed = λ ord h rising before. narrowed-upper ord c.args.s.now n c.loop-low.low c.loop-low.high mid rising (λ d.
-          let answer = (answers_next g.F.FnMut _ _ _ _ _ c.f.ensures (c.loop-low.invariant.computes ord h)).0 in
-          let here = read_index ord c.args.s.now mid c.index-s-mid.result c.f.result d (omega arith) c.index-s-mid.is answer in
-          let least = index-ge (ordering_index c.f.result) n c.lt.result c.lt.ensures c.if-lt.false in
-          omega (arith, here, least)) (c.loop-low.invariant.narrowed ord h rising before);
+      computes = λ ord h. (told ord h).1;
+      narrowed = λ ord h rising before. narrowed-upper ord c.args.s.now n c.loop-low.low c.loop-low.high mid rising
+          (λ d. let here = (told ord h).0 d in omega (arith, here, least)) (c.loop-low.invariant.narrowed ord h rising before);
     }

@@ -16,7 +16,10 @@ invariant-loop-low g l = record {
   in_order : l.low ≤ l.high;
   in_bounds : l.high ≤ length l.s;
   computes : (ord : g.row.T.Denot → Ordering) → ComputesKey g.F.FnMut ord l.initial.f → ComputesKey g.F.FnMut ord l.f;
-  narrowed : (ord : g.row.T.Denot → Ordering) → ComputesKey g.F.FnMut ord l.initial.f → IsNonDecreasingBy (λ x. ordering_index (ord x)) l.s → AllWithin (λ x. ordering_index (ord x) < ordering_index l.least) l.s 0 l.fn.low → Narrowed ord l.s (ordering_index l.least) l.low l.high;
+  narrowed : (ord : g.row.T.Denot → Ordering) → ComputesKey g.F.FnMut ord l.initial.f
+      → IsNonDecreasingBy (λ x. ordering_index (ord x)) l.s
+      → AllWithin (λ x. ordering_index (ord x) < ordering_index l.least) l.s 0 l.fn.low
+      → Narrowed ord l.s (ordering_index l.least) l.low l.high;
 }
 
 abbrev pub decreases-loop-low : goal.decreases-loop-low

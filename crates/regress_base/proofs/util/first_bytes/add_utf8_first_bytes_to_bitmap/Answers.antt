@@ -18,7 +18,9 @@ pub returns : goal.returns
 returns c = λ b.
     let f = c.first-first.result in
     let l = c.last-last.result in
-    let parts = four_widths f l c.min.result c.max.result c.min-2.result c.max-2.result c.min-3.result c.max-3.result b c.min.ensures c.max.ensures c.min-2.ensures c.max-2.ensures c.min-3.ensures c.max-3.ensures
+    let parts = four_widths f l c.min.result c.max.result c.min-2.result c.max-2.result c.min-3.result c.max-3.result b c.min.ensures
+    c.max.ensures c.min-2.ensures c.max-2.ensures c.min-3.ensures c.max-3.ensures
     _ _ _ _ _
-    (c.add_first_bytes_of_one_width.ensures b) (c.add_first_bytes_of_one_width-2.ensures b) (c.add_first_bytes_of_one_width-3.ensures b) (c.add_first_bytes_of_one_width-4.ensures b) in
+    (c.add_first_bytes_of_one_width.ensures b) (c.add_first_bytes_of_one_width-2.ensures b) (c.add_first_bytes_of_one_width-3.ensures b)
+    (c.add_first_bytes_of_one_width-4.ensures b) in
     rw (← c.first-first.ensures.value, ← c.last-last.ensures.value) parts

@@ -1,14 +1,10 @@
-use Rattle.std.proofs.Common.{below_more, ◌∙◌}
-use Rattle.std.proofs.lemmas.Bool.{eq-eqb, ne_eqb}
-use Rattle.regress_base.proofs.FindLemmas.{first_found, bytes_of-one}
+use Rattle.std.proofs.Common.{◌≡◌, eqb, get_or, sym, ◌∙◌, rules}
+use Rattle.regress_base.specs.ByteSets.{bytes_of}
+use Rattle.regress_base.proofs.FindLemmas.{bytes_of-one}
 use Rattle.regress_base.proofs.bytesearch.small_arrays.ArrayU81ByteSearcher.find_in.Goals as goal
 
-pub returns-then-b-self : goal.returns-then-b-self
-returns-then-b-self c =
-    first_found _ c.args.rhs.now c.loop-i.i c.loop-i.invariant c.loop-i-test.true
-    (bytes_of-one c.args.self.now _ c.told-self (c.type_inv.rhs c.loop-i.i).fits ∙ eq-eqb _ _ c.if-b-self.true)
-
-pub loop-i-preserved : goal.loop-i-preserved
-loop-i-preserved c =
-    below_more _ _ c.loop-i.invariant
-    (bytes_of-one c.args.self.now _ c.told-self (c.type_inv.rhs c.loop-i.i).fits ∙ ne_eqb _ _ c.if-b-self.false)
+pub returns : goal.returns
+returns c =
+    c.find_byte.ensures (bytes_of c.args.self.now) (λ b r byte says.
+    let is : r ≡ eqb b (get_or c.args.self.now 0 0) = search rules in
+    is ∙ sym (bytes_of-one c.args.self.now b c.told-self byte))

@@ -16,4 +16,5 @@ loop-i-preserved c =
     let text = c.args.rhs.now in
     let needle = needle_bytes c.args.self.now in
     below_more _ _ c.loop-i.invariant
-    (not_from_Decides c.starts_with.result (starts-Decides text needle c.loop-i.i c.starts_with.result c.starts_with.ensures.value) c.if-starts_with.false)
+    (not_from_Decides c.starts_with.result (starts-Decides text needle c.loop-i.i c.starts_with.result c.starts_with.ensures.value)
+    c.if-starts_with.false)

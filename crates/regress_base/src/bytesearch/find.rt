@@ -1,0 +1,41 @@
+//! The walk over a text that the searches for bytes share.
+
+ghost use Rattle.std.specs.Prelude.{ℕ, ◌<◌, Bool, length, IfSome};
+ghost use Rattle.regress_base.specs.Places.{IsLeast, IsMemberAt, Tells};
+
+#[cfg(test)]
+mod tests;
+
+/// How many bytes the walk looks at in one turn.
+const LANES: usize = 4;
+
+/// The least index of `text` whose byte passes `test`. Each byte up to there is tested once.
+pub(super) fn find_byte<F: Fn(u8) -> bool>(text: &[u8], test: F) -> Option<usize>
+    requires { F.IsAlwaysCallable test }
+    ensures { (set : ℕ → Bool) → Tells (F.post test) set
+        → IsLeast (IsMemberAt set text.now) (length text.now) result }
+{
+    let (chunks, rest) = text.as_chunks::<LANES>();
+    for (i, chunk) in chunks.iter().enumerate() {
+        if let Some(lane) = first_index(chunk, &test) {
+            return Some(i * LANES + lane);
+        }
+    }
+    let behind = first_index(rest, &test)?;
+    Some(chunks.len() * LANES + behind)
+}
+
+// The same for a chunk, or for what is left behind the last one.
+fn first_index<F: Fn(u8) -> bool>(part: &[u8], test: &F) -> Option<usize>
+    requires { F.IsAlwaysCallable test.now }
+    ensures inside { IfSome result (λ i. i < length part.now) }
+    ensures least { (set : ℕ → Bool) → Tells (F.post test.now) set
+        → IsLeast (IsMemberAt set part.now) (length part.now) result }
+{
+    for (i, b) in part.iter().enumerate() {
+        if test(*b) {
+            return Some(i);
+        }
+    }
+    None
+}

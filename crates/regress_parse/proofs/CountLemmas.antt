@@ -1,0 +1,34 @@
+-- What is counted, and what keeps the limits.
+use Rattle.std.proofs.Common.{◌≡◌, ℕ, ◌+◌, ◌<◌, ◌≤◌, max, refl, ap₂, add_assoc, arith}
+use Rattle.regress_syntax.specs.Syntax.{Counts, added, nothing_counted}
+use Rattle.regress_parse.specs.Accepted.{max_nesting_depth}
+use Rattle.regress_parse.specs.Parsing.{Part, Fits}
+
+pub added-assoc : (a b c : Counts) → added (added a b) c ≡ added a (added b c)
+added-assoc a b c =
+    ap₂ (λ (g l : ℕ). record { groups = g; loops = l })
+    (let e : a.groups + b.groups + c.groups ≡ a.groups + (b.groups + c.groups) = omega arith in e)
+    (let e : a.loops + b.loops + c.loops ≡ a.loops + (b.loops + c.loops) = omega arith in e)
+
+pub added-nothing : (a : Counts) → added a nothing_counted ≡ a
+added-nothing a =
+    ap₂ (λ (g l : ℕ). record { groups = g; loops = l })
+    (let e : a.groups + 0 ≡ a.groups = omega arith in e)
+    (let e : a.loops + 0 ≡ a.loops = omega arith in e)
+
+pub nothing-added : (a : Counts) → added nothing_counted a ≡ a
+nothing-added a =
+    ap₂ (λ (g l : ℕ). record { groups = g; loops = l })
+    (let e : 0 + a.groups ≡ a.groups = omega arith in e)
+    (let e : 0 + a.loops ≡ a.loops = omega arith in e)
+
+-- What keeps the limits behind more, and as deep, keeps them behind less.
+pub Fits-inside : (before mid : Counts) (depth deep : ℕ) (whole part : Part) →
+    mid.groups + part.counts.groups ≤ before.groups + whole.counts.groups →
+    mid.loops + part.counts.loops ≤ before.loops + whole.counts.loops →
+    deep + part.levels ≤ depth + whole.levels → Fits before depth whole → Fits mid deep part
+Fits-inside before mid depth deep whole part g l d fits = record {
+  groups = omega (arith, fits.groups);
+  loops = omega (arith, fits.loops);
+  levels = omega (arith, fits.levels);
+}

@@ -1,0 +1,53 @@
+-- The text of a pattern, and reading from its front.
+use Rattle.std.specs.Prelude.{ℕ, Bool, true, false, not, ◌||◌, List, [], ◌∷◌, Option, ◌==◌, codes, option_and_then}
+use Rattle.std.specs.List.{list_any}
+
+-- the code points that are still to read
+abbrev pub Source : Type 0
+Source = List ℕ
+
+-- what was read, and the source behind it; nothing, where none can be read
+abbrev pub Found : Type 0 → Type 0
+Found A = Option (A × Source)
+
+-- goes on behind what was found, if anything was
+infixl 10 ◌>>=◌
+abbrev pub ◌>>=◌ : {A B : Type 0} → Found A → (A × Source → Found B) → Found B
+found >>= next = option_and_then next found
+
+-- the code points that the rows name: `(`, `)`, `.`, `:`, `?` and `|`
+abbrev pub opening : ℕ
+opening = 40
+
+abbrev pub closing : ℕ
+closing = 41
+
+abbrev pub full_stop : ℕ
+full_stop = 46
+
+abbrev pub colon : ℕ
+colon = 58
+
+abbrev pub question_mark : ℕ
+question_mark = 63
+
+abbrev pub bar : ℕ
+bar = 124
+
+-- this code point stands at the front
+abbrev pub is_at : ℕ → Source → Bool
+is_at c [] = false
+is_at c (d ∷ rest) = d == c
+
+-- an alternative goes no further: `)`, `|` or the end
+abbrev pub ends_alternative : Source → Bool
+ends_alternative [] = true
+ends_alternative (c ∷ rest) = c == closing || c == bar
+
+-- the code points that begin rows of their own, or none
+abbrev pub special : List ℕ
+special = codes "*+?{]}()[|\\^$."
+
+-- any other code point stands for itself
+abbrev pub is_plain : ℕ → Bool
+is_plain c = not (list_any (λ d. d == c) special)

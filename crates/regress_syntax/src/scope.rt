@@ -1,0 +1,13 @@
+//! What the rows of the grammar look at beside the source.
+
+use regress_base::types::Flags;
+use regress_tree::unicode::Tables;
+
+/// What the rows of the grammar look at beside the source.
+#[derive(Clone, Copy)]
+pub struct Scope<'a> {
+    /// The flags in force.
+    pub flags: Flags,
+    /// What the pattern may ask of Unicode.
+    pub tables: &'a Tables,
+}
