@@ -10,11 +10,12 @@ use Rattle.regress_tree.specs.Steps.{State}
 use Rattle.regress_tree.specs.Tree.{row_append, Tree, Trees, leaf, empty, cat, alt, wrapped, no_trees, more_trees, tree}
 use Rattle.regress_tree.specs.Matching.{Setting, steps, steps_in_row}
 use Rattle.regress_tree.specs.WellFormed.{Position, inside, last_of, MayStand, RowMayStand, captures, captures_in_row}
+use Rattle.regress_tree.specs.Ending.{EndsInGoal, RowEndsInGoal}
 use Rattle.regress_tree.specs.Units.{units, units_in_row, loops, loops_in_row, weight, weight_of_row, IsLess}
 use Rattle.regress_tree.specs.Shapes.{has_cat, is_short, is_flattened_away}
 use Rattle.regress_tree.proofs.laws.Alike.{Alike-from_same}
 use Rattle.regress_tree.proofs.laws.Outcomes.{flat_map-stay}
-use Rattle.regress_tree.proofs.laws.Rows.{row_append-none, steps-append, captures-append, units-append, loops-append, weight-append, RowMayStand-last_of, MayStand-from_last, RowMayStand-append}
+use Rattle.regress_tree.proofs.laws.Rows.{row_append-none, steps-append, captures-append, units-append, loops-append, weight-append, RowMayStand-last_of, MayStand-from_last, RowMayStand-append, RowEndsInGoal-append}
 use Rattle.regress_opt.specs.declared.rewrite.PassAction.{PassAction}
 use Rattle.regress_opt.specs.declared.rewrite.PassAction.TheVariants.{Keep, Modified, Remove, Replace}
 use Rattle.regress_opt.specs.Law.{Keeps, after, IsLawful}
@@ -34,7 +35,23 @@ spliced-stand n no_trees p m = tt
 spliced-stand n (more_trees t no_trees) p m =
     subst (λ (us : Trees). RowMayStand n us (last_of p)) (sym (row_append-none (parts_of t))) (parts_of-stand n t p m)
 spliced-stand n (more_trees t (more_trees u ts)) p m =
-    RowMayStand-append n (parts_of t) (spliced (more_trees u ts)) p (parts_of-stand n t inside m.0) (spliced-stand n (more_trees u ts) p m.1)
+    let later = spliced-stand n (more_trees u ts) p m.1 in
+    RowMayStand-append n (parts_of t) (spliced (more_trees u ts)) p (parts_of-stand n t inside m.0) later
+
+-- The goal at the end.
+
+parts_of-ends : (t : Tree) → EndsInGoal t → RowEndsInGoal (parts_of t)
+parts_of-ends (leaf l) ends = ends
+parts_of-ends (cat parts) ends = ends
+parts_of-ends (alt left right) ends = ends
+parts_of-ends (wrapped w body) ends = ends
+
+spliced-ends : (ts : Trees) → RowEndsInGoal ts → RowEndsInGoal (spliced ts)
+spliced-ends no_trees ends = ends
+spliced-ends (more_trees t no_trees) ends =
+    subst (λ (us : Trees). RowEndsInGoal us) (sym (row_append-none (parts_of t))) (parts_of-ends t ends)
+spliced-ends (more_trees t (more_trees u ts)) ends =
+    RowEndsInGoal-append (parts_of t) (spliced (more_trees u ts)) (spliced-ends (more_trees u ts) ends)
 
 -- Outcomes.
 
@@ -109,6 +126,7 @@ module _ (d : Direction) where
     meaning = λ setting text is_text. Alike-from_same (λ s. refl);
     stands = λ n p m. m.0;
     captures = refl;
+    goal = λ ends. absurd ends;
     account = omega arith;
   }
 
@@ -117,6 +135,7 @@ module _ (d : Direction) where
     meaning = λ setting text is_text. Alike-from_same (λ s. flat_map-stay _);
     stands = λ n p m. MayStand-from_last n t p m.0 m.1;
     captures = sym (append-nil (captures t));
+    goal = λ ends. ends;
     account = omega arith;
   }
 
@@ -125,6 +144,7 @@ module _ (d : Direction) where
     meaning = λ setting text is_text. Alike-from_same (λ s. sym (steps-spliced setting (encode_utf8_all text) d ts s));
     stands = λ n p m. (m.0, spliced-stand n ts p m.1);
     captures = captures-spliced ts;
+    goal = spliced-ends ts;
     account = omega (arith, units-spliced ts, loops-spliced ts);
   }
 
@@ -133,9 +153,9 @@ module _ (d : Direction) where
 lighter : (new old : Tree) → loops new ≡ loops old → weight new < weight old → IsLess new old
 lighter new old same less = record { less = inr (same, less) }
 
-changes : (removes : Tree → Bool) (exact : Bool) (d : Direction) (old left : Tree) (action : PassAction) → action ≢ Keep → removes old ≡ true →
-    Keeps d old (after action left) → IsLess (after action left) old → IsLawful removes exact d old left action
-changes removes exact d old left action other some keeps is_less = record {
+changes : (d : Direction) (old left : Tree) (action : PassAction) → action ≢ Keep → is_flattened_away old ≡ true →
+    Keeps d old (after action left) → IsLess (after action left) old → IsLawful is_flattened_away true d old left action
+changes d old left action other some keeps is_less = record {
   keeps = keeps;
   less = λ changed. is_less;
   kept = λ same. absurd (other same);
@@ -143,7 +163,7 @@ changes removes exact d old left action other some keeps is_less = record {
   exact = λ is_exact none. absurd (false≢true (sym none ∙ some));
 }
 
-pub keeps_lawful : (d : Direction) (t : Tree) → is_flattened_away t ≡ false → IsLawful is_flattened_away true d t t Keep
+keeps_lawful : (d : Direction) (t : Tree) → is_flattened_away t ≡ false → IsLawful is_flattened_away true d t t Keep
 keeps_lawful d t none = record {
   keeps = Keeps-refl d t;
   less = λ other. absurd (other refl);
@@ -158,15 +178,15 @@ flattens_lawful d Keep old new flattens =
     subst (λ (ts : Trees). IsLawful is_flattened_away true d (cat old) (cat ts) Keep) (sym flattens.1) (keeps_lawful d (cat old) flattens.0)
 flattens_lawful d Modified old new flattens =
     subst (λ (ts : Trees). IsLawful is_flattened_away true d (cat old) (cat ts) Modified) (sym flattens.1)
-    (changes is_flattened_away true d (cat old) (cat (spliced old)) Modified (λ same. cc) (or_right (is_short old) (has_cat old) flattens.0) (spliced_keeps d old)
+    (changes d (cat old) (cat (spliced old)) Modified (λ same. cc) (or_right (is_short old) (has_cat old) flattens.0) (spliced_keeps d old)
     (lighter (cat (spliced old)) (cat old) (loops-spliced old) (omega (arith, weight-less old flattens.0))))
 flattens_lawful d Remove old new flattens =
     subst (λ (ts : Trees). IsLawful is_flattened_away true d (cat ts) (cat new) Remove) (sym flattens)
-    (changes is_flattened_away true d (cat no_trees) (cat new) Remove (λ same. cc) refl (none_keeps d)
+    (changes d (cat no_trees) (cat new) Remove (λ same. cc) refl (none_keeps d)
     (lighter (leaf empty) (cat no_trees) refl (omega arith)))
 flattens_lawful d (Replace part) old new flattens =
     subst (λ (ts : Trees). IsLawful is_flattened_away true d (cat ts) (cat new) (Replace part)) (sym flattens)
-    (changes is_flattened_away true d (cat (more_trees (tree part) no_trees)) (cat new) (Replace part) (λ same. cc) refl (one_keeps d (tree part))
+    (changes d (cat (more_trees (tree part) no_trees)) (cat new) (Replace part) (λ same. cc) refl (one_keeps d (tree part))
     (lighter (tree part) (cat (more_trees (tree part) no_trees)) (omega arith) (omega arith)))
 
 pub flatten_lawful : (d : Direction) (r : Result PassAction AllocError) (was is : Trees) → IfOk r (λ action. Flattens action was is) →

@@ -34,7 +34,8 @@ mutual
 abbrev pub changes_left : ℕ → Tree → ℕ
 changes_left spent t = (3 * spent + 1) * loops t + weight t
 
-pub changes_left-falls : (spent : ℕ) (t u : Tree) → account t ≤ spent → account u ≤ account t → IsLess u t → changes_left spent u < changes_left spent t
+pub changes_left-falls : (spent : ℕ) (t u : Tree) → account t ≤ spent → account u ≤ account t → IsLess u t →
+    changes_left spent u < changes_left spent t
 changes_left-falls spent t u within no_more is_less = by is_less.less
   where
     by : (loops u < loops t) ⊎ ((loops u ≡ loops t) × (weight u < weight t)) → changes_left spent u < changes_left spent t

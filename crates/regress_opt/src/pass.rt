@@ -4,10 +4,11 @@ ghost use Rattle.regress_tree.specs.Reading.{forwards};
 ghost use Rattle.regress_tree.specs.Tree.{tree, trees, leaf, empty, cat};
 ghost use Rattle.regress_tree.specs.Walk.{direction_of};
 ghost use Rattle.regress_tree.specs.WellFormed.{IsWellFormed, captures};
+ghost use Rattle.regress_tree.specs.Ending.{EndsInGoal};
 ghost use Rattle.regress_tree.specs.Units.{account};
 ghost use Rattle.regress_tree.specs.Shapes.{LacksShape, LacksInside};
 ghost use Rattle.regress_opt.specs.Law.{IsPart, MeansTheSame};
-ghost use Rattle.regress_opt.specs.Sweep.{Swept};
+ghost use Rattle.regress_opt.specs.Sweep.{Swept, SweptOf};
 ghost use Rattle.regress_opt.specs.Spine.{is_alt, reattach, spine_length, LeftsLackShape};
 
 use crate::rewrite::{PassAction, Rewrite};
@@ -26,6 +27,7 @@ pub fn run_pass<R: Rewrite>(r: &mut Regex, pass: &mut R) -> Result<bool, AllocEr
     ensures meaning { MeansTheSame forwards (tree r.old.node) (tree r.new.node) }
     ensures well_formed { IsWellFormed (tree r.new.node) }
     ensures captures { captures (tree r.new.node) ≡ captures (tree r.old.node) }
+    ensures goal { EndsInGoal (tree r.old.node) → EndsInGoal (tree r.new.node) }
     ensures account { account (tree r.new.node) ≤ account (tree r.old.node) }
     ensures flags { r.new.flags ≡ r.old.flags }
 
@@ -46,8 +48,7 @@ pub fn run_pass<R: Rewrite>(r: &mut Regex, pass: &mut R) -> Result<bool, AllocEr
 #[cycle(sweep)]
 fn sweep<R: Rewrite>(node: &mut Node, pass: &mut R, walk: &Walk) -> Result<bool, AllocError>
     requires { IsPart (tree node.old) }
-    ensures { Swept (LacksShape R.removes (tree node.old)) (LacksShape R.removes (tree node.new)) R.is_exact
-        (direction_of walk.now) (tree node.old) (tree node.new) result }
+    ensures { SweptOf (LacksShape R.removes) R.is_exact (direction_of walk.now) (tree node.old) (tree node.new) result }
 {
     let mut above = Node::Empty;
     let mut levels = 0;
@@ -123,8 +124,7 @@ fn rewrite_up<R: Rewrite>(
 fn sweep_one<R: Rewrite>(node: &mut Node, pass: &mut R, walk: &Walk) -> Result<bool, AllocError>
     requires part { IsPart (tree node.old) }
     requires other { is_alt (tree node.old) ≡ false }
-    ensures { Swept (LacksShape R.removes (tree node.old)) (LacksShape R.removes (tree node.new)) R.is_exact
-        (direction_of walk.now) (tree node.old) (tree node.new) result }
+    ensures { SweptOf (LacksShape R.removes) R.is_exact (direction_of walk.now) (tree node.old) (tree node.new) result }
 {
     let changed = sweep_inside(node, pass, &walk.inside(1))?;
     Ok(changed | rewrite(node, pass, walk)?)
@@ -135,8 +135,7 @@ fn sweep_one<R: Rewrite>(node: &mut Node, pass: &mut R, walk: &Walk) -> Result<b
 fn sweep_inside<R: Rewrite>(node: &mut Node, pass: &mut R, walk: &Walk) -> Result<bool, AllocError>
     requires part { IsPart (tree node.old) }
     requires other { is_alt (tree node.old) ≡ false }
-    ensures { Swept (LacksInside R.removes (tree node.old)) (LacksInside R.removes (tree node.new)) R.is_exact
-        (direction_of walk.now) (tree node.old) (tree node.new) result }
+    ensures { SweptOf (LacksInside R.removes) R.is_exact (direction_of walk.now) (tree node.old) (tree node.new) result }
 {
     match node {
         Node::Cat(parts) => sweep_parts(parts, pass, walk),
@@ -161,8 +160,8 @@ fn sweep_parts<R: Rewrite>(
     walk: &Walk,
 ) -> Result<bool, AllocError>
     requires { IsPart (cat (trees parts.old.items)) }
-    ensures { Swept (LacksInside R.removes (cat (trees parts.old.items))) (LacksInside R.removes (cat (trees parts.new.items)))
-        R.is_exact (direction_of walk.now) (cat (trees parts.old.items)) (cat (trees parts.new.items)) result }
+    ensures { SweptOf (LacksInside R.removes) R.is_exact (direction_of walk.now)
+        (cat (trees parts.old.items)) (cat (trees parts.new.items)) result }
 {
     let mut changed = false;
     for i in 0..parts.len() {
@@ -174,8 +173,7 @@ fn sweep_parts<R: Rewrite>(
 /// Applies the rewrite to one node, and does what it answers.
 fn rewrite<R: Rewrite>(node: &mut Node, pass: &mut R, walk: &Walk) -> Result<bool, AllocError>
     requires { IsPart (tree node.old) }
-    ensures { Swept (R.removes (tree node.old) ≡ false) (R.removes (tree node.new) ≡ false) R.is_exact
-        (direction_of walk.now) (tree node.old) (tree node.new) result }
+    ensures { SweptOf (λ t. R.removes t ≡ false) R.is_exact (direction_of walk.now) (tree node.old) (tree node.new) result }
 {
     match pass.apply(node, walk)? {
         PassAction::Keep => return Ok(false),

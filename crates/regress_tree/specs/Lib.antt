@@ -12,6 +12,7 @@ pub mod Reading
 pub mod Steps
 pub mod Assertions
 pub mod Repetition
+pub mod Ending
 pub mod Matching
 pub mod Walk
 pub mod WellFormed
