@@ -7,3 +7,5 @@ pub mod NamedLemmas
 pub mod TableLemmas
 pub mod SourceLemmas
 pub mod RefusalLemmas
+pub mod ShiftLemmas
+pub mod ClosureLemmas
