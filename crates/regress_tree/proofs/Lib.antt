@@ -9,3 +9,5 @@ pub mod NamedLemmas
 pub mod TableLemmas
 pub mod SourceLemmas
 pub mod RefusalLemmas
+pub mod ShiftLemmas
+pub mod ClosureLemmas

@@ -134,16 +134,16 @@ lists-run start (suc n) c = let rest = lists-run (start + 1) n c in grind (arith
 
 -- ---- the members of a set
 
-lists-interval : (iv : Bounds) (c : ℕ) → iv.first ≤ iv.last → lists (code_points iv) c ≡ is_within iv c
+pub lists-interval : (iv : Bounds) (c : ℕ) → lists (code_points iv) c ≡ is_within iv c
 unfolding is_within
-lists-interval iv c le = let run = lists-run iv.first (iv.last + 1 - iv.first) c in grind (arith, nat_tests, run)
+lists-interval iv c = let run = lists-run iv.first (iv.last + 1 - iv.first) c in grind (arith, nat_tests, run)
 
 pub lists-members : (low : ℕ) (set : List Bounds) (c : ℕ) → IsTrue (is_canonical_from low set) → lists (flat_map code_points set) c ≡ is_member set c
 lists-members low [] c h = sym (is_member-nil c)
 lists-members low (iv ∷ ivs) c h =
     let parts = canonical_parts low iv ivs h in
     lists-append (code_points iv) (flat_map code_points ivs) c
-    ∙ rw (lists-interval iv c parts.interval.ordered, lists-members (iv.last + 2) ivs c parts.rest) (sym (is_member-cons iv ivs c))
+    ∙ rw (lists-interval iv c, lists-members (iv.last + 2) ivs c parts.rest) (sym (is_member-cons iv ivs c))
 
 pub ascending_members : (low : ℕ) (set : List Bounds) → IsTrue (is_canonical_from low set) → IsTrue (is_ascending_from low (flat_map code_points set))
 ascending_members low [] h = h
