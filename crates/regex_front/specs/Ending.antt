@@ -2,8 +2,6 @@
 use Rattle.std.specs.Prelude.{◌≡◌, ℕ, Option, Some, None, Result, Ok, Err}
 use Rattle.regress_syntax.specs.declared.fault.ParseFault.{ParseFault}
 use Rattle.regress_syntax.specs.declared.fault.ParseFault.TheVariants as fault
-use Rattle.std.specs.declared.io.ErrorKind.{ErrorKind}
-use Rattle.std.specs.declared.io.ErrorKind.TheVariants as kind
 use Rattle.regex_front.specs.declared.failure.Failure.{Failure}
 use Rattle.regex_front.specs.declared.failure.Failure.TheVariants.{Syntax, Usage, Memory, Output}
 use Rattle.regex_front.specs.Request.{Request}
@@ -33,11 +31,6 @@ abbrev pub Ends : Option Request → Result (Unit {0}) Failure → Type 0
 Ends None r = r ≡ Err Usage
 Ends (Some request) (Ok done) = IsAcceptedPattern request
 Ends (Some request) (Err failure) = IsDue request failure
-
--- why the arguments can't be had, by the kind of the error: one of them that isn't UTF-8 is `InvalidData`
-abbrev pub failure_of_kind : ErrorKind → Failure
-failure_of_kind kind.OutOfMemory = Memory
-failure_of_kind _ = Usage
 
 -- The arguments can't be had: one isn't UTF-8, or no memory was found for them.
 abbrev pub IsOfArguments : Failure → Type 0

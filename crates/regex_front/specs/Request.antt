@@ -27,6 +27,8 @@ with_letters flags (c ∷ cs) = option_and_then (λ more. with_letters more cs) 
 
 -- `PATTERN [FLAGS]`, each letter at most once
 abbrev pub request_of : List (String Global) → Option Request
+request_of [] = None
 request_of (pattern ∷ []) = Some (chars (string_bytes pattern), no_flags)
-request_of (pattern ∷ (letters ∷ [])) = option_map (λ flags. (chars (string_bytes pattern), flags)) (with_letters no_flags (string_bytes letters))
-request_of _ = None
+request_of (pattern ∷ (letters ∷ [])) =
+    option_map (λ flags. (chars (string_bytes pattern), flags)) (with_letters no_flags (string_bytes letters))
+request_of (pattern ∷ (letters ∷ (more ∷ others))) = None

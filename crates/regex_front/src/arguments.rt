@@ -1,8 +1,9 @@
 //! What the program is asked.
-ghost use Rattle.std.specs.Prelude.{◌≡◌, IfErr, option_map, chars};
+ghost use Rattle.std.specs.Prelude.{◌≡◌, ◌≢◌, IfErr, option_map, chars};
 ghost use Rattle.std.specs.IoError.{error_kind};
+ghost use Rattle.regex_front.specs.declared.failure.Failure.TheVariants.{Memory, Usage};
 ghost use Rattle.regex_front.specs.Request.{no_flags, with_letter, with_letters, request_of};
-ghost use Rattle.regex_front.specs.Ending.{failure_of_kind, IsOfArguments};
+ghost use Rattle.regex_front.specs.Ending.{IsOfArguments};
 
 use crate::failure::Failure;
 use regress_front::types::Flags;
@@ -26,7 +27,8 @@ pub(crate) fn arguments<R: Env + AllocGlobal>(rt: &R) -> Result<Vec<String>, Fai
 
 /// Why the arguments can't be had.
 fn unread(error: io::Error) -> Failure
-    ensures { result ≡ failure_of_kind (error_kind error) }
+    ensures memory { error_kind error ≡ ErrorKind.OutOfMemory → result ≡ Memory }
+    ensures other { error_kind error ≢ ErrorKind.OutOfMemory → result ≡ Usage }
 {
     match error.kind() {
         ErrorKind::OutOfMemory => Failure::Memory,

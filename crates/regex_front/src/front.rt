@@ -26,7 +26,7 @@ pub fn run_front<W: Write, E: Write>(alloc: Global, args: &[String], out: &mut W
     ensures refused { result ≡ 1 → IfSome (request_of args.now) NoneIsAccepted }
     ensures accepted { (result ≡ 0) ⊎ (result ≡ 4) → IfSome (request_of args.now) IsAcceptedPattern }
 
-    // Nothing is written to the output but trees, and nothing to the other writer beside them.
+    // The output is touched only where there are trees, and the other writer only where there are none.
     ensures untouched { result ≢ 0 → result ≢ 4 → out.new ≡ out.old }
     ensures quiet { (result ≡ 0) ⊎ (result ≡ 4) → err.new ≡ err.old }
 {

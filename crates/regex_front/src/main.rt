@@ -1,4 +1,6 @@
 //! `regex-front PATTERN [FLAGS]` prints the tree of a pattern, as it is parsed and as it is optimized.
+//! It ends with the status that `run_front` answers. An argument that isn't UTF-8 is none that is taken:
+//! status 2 and the usage. Want of memory for the arguments or the buffer is status 3, as elsewhere.
 #![tactic(auto)]
 
 ghost use Rattle.std.specs.Prelude.{IfErr};

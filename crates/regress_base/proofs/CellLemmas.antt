@@ -8,7 +8,7 @@ use Rattle.std.proofs.lemmas.Nat.Bits.{and_pow, bit_at-lt, bit_at_set_same, bit_
 use Rattle.std.proofs.lemmas.List.{get_or-replicate, get_or_past, length-replicate}
 use mir.Val.{bits}
 use Rattle.regress_base.specs.ByteSets.{bit_in}
-use Rattle.regress_base.proofs.MemberLemmas.{or-false}
+use Rattle.std.proofs.Math.Bool.{or-false}
 
 of_zero : (p : ℕ) → not (eqb (0 * p) 0) ≡ eqb 0 1
 of_zero p =

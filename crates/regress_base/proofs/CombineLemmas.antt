@@ -4,7 +4,8 @@ use Rattle.std.proofs.lemmas.Bool.{and_left, and_right, true≢false}
 use Rattle.std.proofs.lemmas.List.{drop_all}
 use Rattle.regress_base.specs.Intervals.{Bounds, is_within, is_member, is_canonical_from, IsCanonical}
 use Rattle.regress_base.proofs.WithinLemmas.{is_within_overlap, is_within-true}
-use Rattle.regress_base.proofs.MemberLemmas.{is_member-nil, is_member-take_more, is_member-drop_more, or_assoc, or-false}
+use Rattle.regress_base.proofs.MemberLemmas.{is_member-nil, is_member-take_more, is_member-drop_more, or_assoc}
+use Rattle.std.proofs.Math.Bool.{or-false}
 use Rattle.regress_base.proofs.CanonicalLemmas.{canonical_behind, no_member_below}
 
 -- what holds on success, by what it follows from

@@ -1,6 +1,7 @@
 -- Facts on the loops that look for the least place.
 use Rattle.std.proofs.Common.{◌≡◌, ℕ, zero, suc, ◌+◌, ◌*◌, ◌/◌, ◌<◌, ◌≤◌, Bool, true, false, ◌||◌, eqb, List, [], ◌∷◌, length, get_or, take, drop, ◌-◌, Decides, refl, ap, sym, subst, ◌∙◌, arith, inl, inr, below_more, not-suc-le-zero, le_of_suc-le-suc}
 use Rattle.std.specs.Simd.{first_chunks}
+use Rattle.std.proofs.Math.Bool.{or-false}
 use Rattle.std.specs.List.{starts_with}
 use Rattle.std.specs.Str.{bytes_eq}
 use Rattle.std.proofs.lemmas.List.{take_rest, drop-drop, length-drop, length-take-le, get_or-take, get_or-drop}
@@ -108,10 +109,6 @@ one_or_none x b =
       | inl e ↦ rw e (rw (eq-eqb b b refl) refl)
       | inr ne ↦ rw (ne_eqb x b ne, ne_eqb b x (λ e. ne (sym e))) refl
     ]
-
-or-false : (t : Bool) → (t || false) ≡ t
-or-false true = refl
-or-false false = refl
 
 -- the set of one byte
 pub bytes_of-one : (xs : List ℕ) (b : ℕ) → length xs ≡ 1 → b < 256 → bytes_of xs b ≡ eqb b (get_or xs 0 0)

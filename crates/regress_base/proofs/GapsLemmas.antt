@@ -5,13 +5,10 @@ use Rattle.std.proofs.lemmas.Option.{none-some, same_Some, get_or_from_slice_get
 use Rattle.std.proofs.lemmas.Bool.{cases_lt, cond-true, cond-false, and_left, or_left, or_from, le-leb, lt-leb}
 use mir.Val.{bool_byte}
 use Rattle.regress_base.specs.Intervals.{Bounds, is_member, is_canonical_from, IsCanonical, IsComplement, code_point_max}
-use Rattle.regress_base.proofs.WithinLemmas.{le-is_within, lt-is_within, gt-is_within}
+use Rattle.regress_base.proofs.WithinLemmas.{pair, le-is_within, lt-is_within, gt-is_within}
 use Rattle.regress_base.proofs.MemberLemmas.{is_member-nil, is_member-cons, is_member-one}
 use Rattle.regress_base.proofs.CanonicalLemmas.{canonical_parts, canonical_cons, canonical_lower, no_member_below, no_member_past_end}
 use Rattle.regress_base.proofs.UniqueLemmas.{canonical_unique}
-
-abbrev pair : ℕ → ℕ → Bounds
-pair f l = record { first = f; last = l }
 
 -- the gaps from a number on, before, between and behind the intervals
 unfoldable pub gaps_from : ℕ → List Bounds → List Bounds

@@ -1,5 +1,6 @@
 -- Membership in lists that are made of others.
 use Rattle.std.proofs.Common.{◌≡◌, ℕ, ◌+◌, ◌<◌, Bool, true, false, ◌||◌, List, [], ◌∷◌, ◌++◌, length, take, drop, get_or, refl, ap, ◌∙◌, suc, zero, le_of_suc-le-suc, not-suc-le-zero, arith}
+use Rattle.std.proofs.Math.Bool.{or-false}
 use Rattle.std.proofs.lemmas.Bool.{or_left, or_right, or_from}
 use Rattle.std.proofs.lemmas.List.{take_more, drop_more}
 use Rattle.regress_base.specs.Intervals.{Bounds, is_within, is_member}
@@ -15,10 +16,6 @@ is_member-cons iv ivs c = refl
 pub or_assoc : (x y z : Bool) → (x || (y || z)) ≡ ((x || y) || z)
 or_assoc true y z = refl
 or_assoc false y z = refl
-
-pub or-false : (x : Bool) → (x || false) ≡ x
-or-false true = refl
-or-false false = refl
 
 pub is_member-append : (xs ys : List Bounds) (c : ℕ) → is_member (xs ++ ys) c ≡ (is_member xs c || is_member ys c)
 unfolding is_member

@@ -1,5 +1,5 @@
 -- How a binary search narrows the places of answers that do not fall.
-use Rattle.std.proofs.Common.{◌≡◌, ℕ, ◌+◌, ◌<◌, ◌≤◌, Bool, true, false, List, [], ◌∷◌, length, get_or, refl, sym, ap, ◌∙◌, nat_cmp, is_lt, arith}
+use Rattle.std.proofs.Common.{◌≡◌, ℕ, ◌+◌, ◌<◌, ◌≤◌, Bool, true, false, List, [], ◌∷◌, length, get_or, sym, ap, ◌∙◌, nat_cmp, is_lt, arith}
 use Rattle.std.proofs.lemmas.Bool.Decides.{nat_tests}
 use Rattle.std.proofs.lemmas.List.{get_or_read}
 use denote.Param.Members.{Mut}
@@ -9,8 +9,6 @@ use Rattle.std.specs.List.{AllWithin}
 use Rattle.std.specs.List.Sorted.{IsNonDecreasingBy}
 use Rattle.std.specs.Ordering.{ordering_index}
 use Rattle.std.specs.declared.cmp.Ordering.{Ordering}
-use Rattle.std.specs.declared.cmp.Ordering.TheVariants.{Less, Equal, Greater}
-use Rattle.regress_base.specs.Ranges.{IsEqualRange, SplitsAt}
 
 -- a call of a closure that always computes: its answer, and what is left computes too
 answers_next : {F X R : Type 0} (g : Mut F X R) (P : X → R → Type 0) (f : F) (a : X) (r : R) (f' : F) → Called g f a r f'
@@ -58,33 +56,3 @@ module _ {X : Type 0} (ord : X → Ordering) (xs : List X) (n low high mid : ℕ
     below = narrowed.below;
     above = λ k d from to. let le = rising mid k d from to in let least = at d in omega arith;
   }
-
-is_less : (o : Ordering) → ordering_index o < 1 → o ≡ Less
-is_less Less h = refl
-is_less Equal h = absurd (omega arith)
-is_less Greater h = absurd (omega arith)
-
-is_equal : (o : Ordering) → 1 ≤ ordering_index o → ordering_index o < 2 → o ≡ Equal
-is_equal Less h k = absurd (omega arith)
-is_equal Equal h k = refl
-is_equal Greater h k = absurd (omega arith)
-
-is_greater : (o : Ordering) → 2 ≤ ordering_index o → o ≡ Greater
-is_greater Less h = absurd (omega arith)
-is_greater Equal h = absurd (omega arith)
-is_greater Greater h = refl
-
--- two splits, at `Equal` and at `Greater`, leave the equal elements between
-pub equal_range-from_splits : {X : Type 0} (ord : X → Ordering) (xs : List X) (start end : ℕ)
-    → IsNonDecreasingBy (λ x. ordering_index (ord x)) xs → SplitsAt ord xs Equal 0 start → SplitsAt ord xs Greater start end → start ≤ end
-    → end ≤ length xs → IsEqualRange ord xs start end
-equal_range-from_splits ord xs start end rising lower upper in_order in_bounds =
-    let first = lower rising (λ k d from to. absurd (omega arith)) in
-    let second = upper rising (λ k d from to. let less = first.0 k d from to in omega arith) in
-    record {
-      in_order = in_order;
-      in_bounds = in_bounds;
-      less = λ k d from to. is_less (ord (get_or xs k d)) (first.0 k d from to);
-      equal = λ k d from to. is_equal (ord (get_or xs k d)) (first.1 k d from (omega arith)) (second.0 k d (omega arith) to);
-      greater = λ k d from to. is_greater (ord (get_or xs k d)) (second.1 k d from to);
-    }

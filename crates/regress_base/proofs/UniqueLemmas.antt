@@ -4,12 +4,9 @@ use Rattle.std.specs.Cmp.Lexicographic.{pointwise}
 use Rattle.std.proofs.lemmas.Slice.Eq.{slice_eq-Decides}
 use Rattle.std.proofs.lemmas.Bool.{cases_lt, or_left, or_from, and_parts, and_from, false≢true}
 use Rattle.regress_base.specs.Intervals.{Bounds, bounds_eq, is_member, is_canonical_from, IsCanonical, code_point_max}
-use Rattle.regress_base.proofs.WithinLemmas.{le-is_within, gt-is_within}
+use Rattle.regress_base.proofs.WithinLemmas.{pair, le-is_within, gt-is_within}
 use Rattle.regress_base.proofs.MemberLemmas.{is_member-nil, is_member-cons, is_member-one}
 use Rattle.regress_base.proofs.CanonicalLemmas.{canonical_parts, canonical_cons, member_above, no_member_below, no_member_past_end}
-
-abbrev pair : ℕ → ℕ → Bounds
-pair f l = record { first = f; last = l }
 
 -- the first interval of a list that begins there
 from_first : (low : ℕ) (iv : Bounds) (ivs : List Bounds) → IsTrue (is_canonical_from low (iv ∷ ivs))

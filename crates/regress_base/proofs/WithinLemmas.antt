@@ -1,8 +1,12 @@
 -- What the test of an interval tells.
 use Rattle.std.proofs.Common.{◌≡◌, ℕ, ◌<◌, ◌≤◌, true, false, ◌⊎◌, ◌&&◌, ◌==◌, max, min, inl, inr, le_refl, arith, IsTrue}
-use Rattle.std.proofs.lemmas.Bool.{cases_lt, and_left, and_right}
+use Rattle.std.proofs.lemmas.Bool.{cases_lt}
 use Rattle.std.proofs.lemmas.Bool.Decides.{nat_tests}
 use Rattle.regress_base.specs.Intervals.{Bounds, IsInterval, is_within}
+
+-- an interval by its ends
+abbrev pub pair : ℕ → ℕ → Bounds
+pair f l = record { first = f; last = l }
 
 -- the test with the facts that it stands for
 pub is_within_tells : (iv : Bounds) (c : ℕ)
@@ -53,14 +57,3 @@ is_within_overlap a b c =
       is_within_tells b c,
       is_within_tells (record { first = max a.first b.first; last = min a.last b.last }) c,
     )
-
--- two intervals that do not reach each other share nothing
-pub not_within_both : (a b : Bounds) (c : ℕ) → ((a.first ≤ b.last) × (b.first ≤ a.last) → ⊥) → (is_within a c && is_within b c) ≡ false
-not_within_both a b c apart =
-    elim (is_within_tells a c) [
-      | inl in_a ↦ elim (is_within_tells b c) [
-        | inl in_b ↦ absurd (apart (omega arith, omega arith))
-        | inr out_b ↦ and_right _ _ out_b.0
-      ]
-      | inr out_a ↦ and_left _ _ out_a.0
-    ]

@@ -1,9 +1,10 @@
 //! From the text of a pattern to its tree in normal form.
-ghost use Rattle.std.specs.Prelude.{◌≡◌, ◌≤◌, All, IfOk, OnOk};
+ghost use Rattle.std.specs.Prelude.{◌≡◌, ◌≤◌, ◌+◌, ◌*◌, All, IfOk, OnOk};
 ghost use Rattle.regress_base.specs.Intervals.{code_point_max};
+ghost use Rattle.regress_tree.specs.TableOf.{table_of, setting_of};
 ghost use Rattle.regress_tree.specs.Tree.{tree};
 ghost use Rattle.regress_tree.specs.WellFormed.{IsWellFormed, captures};
-ghost use Rattle.regress_tree.specs.Units.{units};
+ghost use Rattle.regress_tree.specs.Units.{units, unrolling, loops};
 ghost use Rattle.regress_tree.specs.Shapes.{IsNormal};
 ghost use Rattle.regress_syntax.specs.Fault.{RefusedOnlyIf};
 ghost use Rattle.regress_syntax.specs.Syntax.{Pattern};
@@ -31,27 +32,29 @@ pub fn parse_and_optimize(
 
     // Unless memory is wanting, a tree is answered exactly where the grammar derives one within the
     // limits.
-    ensures accepted { IfOk result (λ _. (p : Pattern) × IsAccepted flags pattern.now p) }
-    ensures refused { RefusedOnlyIf result (NoneIsAccepted flags pattern.now) }
-    ensures only { OneIsDerived flags pattern.now }
+    ensures accepted { IfOk result (λ _. (p : Pattern) × IsAccepted (setting_of flags tables.now) pattern.now p) }
+    ensures refused { RefusedOnlyIf result (NoneIsAccepted (setting_of flags tables.now) pattern.now) }
+    ensures only { OneIsDerived (setting_of flags tables.now) pattern.now }
 
     // It is in normal form, and as it was parsed where that is.
     ensures normal { IfOk result (λ r. OnOk r.1 (IsNormal (tree r.0.node))) }
-    ensures left { IfOk result (λ r. OfAccepted flags pattern.now
-        (λ p. IsNormal (tree_of p) → tree r.0.node ≡ tree_of p)) }
+    ensures left { IfOk result (λ r. OfAccepted (setting_of flags tables.now) pattern.now
+        (λ p. IsNormal (tree_of (table_of tables.now) p) → tree r.0.node ≡ tree_of (table_of tables.now) p)) }
 
     // On every UTF-8 text and from every state it gives the pattern's distinct outcomes in their
     // order.
-    ensures meaning { IfOk result (λ r. OfAccepted flags pattern.now (Means (tree r.0.node))) }
+    ensures meaning { let setting = setting_of flags tables.now in
+        IfOk result (λ r. OfAccepted setting pattern.now (Means setting (tree r.0.node))) }
     ensures flags { IfOk result (λ r. r.0.flags ≡ flags) }
 
-    // It is well formed, with the pattern's groups under their ids and names, and no larger than it
-    // was parsed.
+    // It is well formed, with the pattern's groups under their ids and names, and has grown by at most
+    // what unrolling adds for each loop.
     ensures well_formed { IfOk result (λ r. IsWellFormed (tree r.0.node)) }
-    ensures captures { IfOk result (λ r. OfAccepted flags pattern.now
-        (λ p. captures (tree r.0.node) ≡ captures (tree_of p))) }
-    ensures units { IfOk result (λ r. OfAccepted flags pattern.now
-        (λ p. units (tree r.0.node) ≤ units (tree_of p))) }
+    ensures captures { IfOk result (λ r. OfAccepted (setting_of flags tables.now) pattern.now
+        (λ p. captures (tree r.0.node) ≡ captures (tree_of (table_of tables.now) p))) }
+    ensures units { IfOk result (λ r. OfAccepted (setting_of flags tables.now) pattern.now
+        (λ p. let parsed = tree_of (table_of tables.now) p in
+            units (tree r.0.node) ≤ units parsed + unrolling * loops parsed)) }
 {
     let mut regex = try_parse(alloc, pattern, flags, tables)?;
     let optimized = optimize(alloc, &mut regex);

@@ -132,11 +132,7 @@ fn sweep_one<R: Rewrite>(node: &mut Node, pass: &mut R, walk: &Walk) -> Result<b
 
 /// Sweeps what lies inside a node that is no `Alt`.
 #[cycle(sweep)]
-fn sweep_inside<R: Rewrite>(
-    node: &mut Node,
-    pass: &mut R,
-    walk: &Walk,
-) -> Result<bool, AllocError>
+fn sweep_inside<R: Rewrite>(node: &mut Node, pass: &mut R, walk: &Walk) -> Result<bool, AllocError>
     requires part { IsPart (tree node.old) }
     requires other { is_alt (tree node.old) ≡ false }
     ensures { Swept (LacksInside R.removes (tree node.old)) (LacksInside R.removes (tree node.new)) R.is_exact
@@ -149,6 +145,9 @@ fn sweep_inside<R: Rewrite>(
         | Node::Empty
         | Node::Goal
         | Node::Char { .. }
+        | Node::ByteSequence(_)
+        | Node::ByteSet(_)
+        | Node::CharSet(_)
         | Node::MatchAny
         | Node::MatchAnyExceptLineTerminator => Ok(false),
     }

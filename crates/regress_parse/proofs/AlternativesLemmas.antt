@@ -13,7 +13,7 @@ use Rattle.regress_syntax.specs.Rows.{Context}
 use Rattle.regress_syntax.proofs.laws.Sources.{found_then, chosen, to_each, from_each}
 use Rattle.regress_parse.specs.Reader.{pattern_at, terms_at}
 use Rattle.regress_parse.specs.TreeOf.{joined, tree_of_pattern, trees_of_terms}
-use Rattle.regress_parse.specs.Accepted.{max_nesting_depth}
+use Rattle.regress_base.specs.Limits.{max_nesting_depth}
 use Rattle.regress_parse.specs.Parsing.{alternatives, Fits, pattern_part, terms_part}
 use Rattle.regress_parse.proofs.BuildLemmas.{alternatives-push}
 use Rattle.regress_parse.proofs.CountLemmas.{Fits-inside}

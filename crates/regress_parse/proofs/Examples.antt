@@ -1,12 +1,10 @@
 -- The definitions at worked patterns, by computation.
 use Rattle.std.proofs.Common.{◌≡◌, ℕ, false, true, [], ◌∷◌, Some, None, refl, codes}
-use Rattle.regress_base.specs.declared.types.Flags.{Flags}
 use Rattle.regress_tree.specs.Reading.{forwards, backwards}
 use Rattle.regress_tree.specs.Shapes.{is_flattened_away}
 use Rattle.regress_tree.specs.Steps.{one_character, capture as captures, same_state}
-use Rattle.regress_tree.specs.SmallTable.{small_table}
+use Rattle.regress_tree.specs.Table.{Table}
 use Rattle.regress_tree.specs.Tree.{Tree, Trees, leaf, empty, goal, char, cat, alt, wrapped, capture_group, no_trees, more_trees}
-use Rattle.regress_tree.specs.Matching.{Setting}
 use Rattle.regress_tree.specs.Units.{units}
 use Rattle.regress_syntax.specs.Meaning.{meaning}
 use Rattle.regress_syntax.specs.Rows.{head_at, times_at}
@@ -14,12 +12,7 @@ use Rattle.regress_syntax.specs.Syntax.{Pattern, Terms, Item, one, either, no_te
 use Rattle.regress_parse.specs.Reader.{read_terms, pattern_at}
 use Rattle.regress_parse.specs.TreeOf.{tree_of, tree_of_pattern}
 use Rattle.regress_parse.specs.Parsing.{context}
-
-abbrev no_flags : Flags
-no_flags = record { icase = false; multiline = false; dot_all = false; unicode = false; unicode_sets = false }
-
-abbrev plain : Setting
-plain = record { flags = no_flags; table = small_table }
+use Rattle.regress_parse.proofs.Meanings.{no_flags, empty_table, plain}
 
 abbrev letter : ℕ → Item
 letter c = atom (literal no_flags c)
@@ -48,7 +41,7 @@ first_pattern-read : pattern_at (context plain) (codes "(?:a|bc)d") ≡ Some (fi
 unfolding pattern_at read_terms head_at times_at
 first_pattern-read = refl
 
-first_pattern-tree : tree_of small_table first_pattern ≡ first_tree
+first_pattern-tree : tree_of empty_table first_pattern ≡ first_tree
 first_pattern-tree = refl
 
 first_pattern-levels : levels first_pattern ≡ 2
@@ -59,11 +52,11 @@ first_tree-units : units first_tree ≡ 25
 first_tree-units = refl
 
 -- In a lookbehind the parts stand turned.
-turned : tree_of_pattern small_table backwards 0 (one (two (letter 97) (letter 98))) ≡ cat (row (character 98) (character 97))
+turned : tree_of_pattern empty_table backwards 0 (one (two (letter 97) (letter 98))) ≡ cat (row (character 98) (character 97))
 turned = refl
 
 -- the group that is opened first has the first id, in either direction
-numbered : tree_of_pattern small_table backwards 0
+numbered : tree_of_pattern empty_table backwards 0
     (one (two (group (capture None) (one (word (letter 97)))) (group (capture None) (one (word (letter 98))))))
     ≡ cat (row (wrapped (capture_group 1 None) (character 98)) (wrapped (capture_group 0 None) (character 97)))
 numbered = refl
@@ -82,10 +75,10 @@ unfolding pattern_at read_terms head_at times_at
 left_over = refl
 
 -- `|` is two empty alternatives
-bar_alone : tree_of small_table (either no_terms (one no_terms)) ≡ cat (row (alt (leaf empty) (leaf empty)) (leaf goal))
+bar_alone : tree_of empty_table (either no_terms (one no_terms)) ≡ cat (row (alt (leaf empty) (leaf empty)) (leaf goal))
 bar_alone = refl
 
-empty_alone : tree_of small_table (one no_terms) ≡ cat (row (leaf empty) (leaf goal))
+empty_alone : tree_of empty_table (one no_terms) ≡ cat (row (leaf empty) (leaf goal))
 empty_alone = refl
 
 -- flattening has something to do at the first pattern's tree, and not at the empty pattern's

@@ -1,5 +1,5 @@
 -- The capture groups of a pattern's tree are the pattern's, numbered as they open.
-use Rattle.std.proofs.Common.{◌≡◌, ℕ, ◌+◌, Bool, true, false, cond, ◌==◌, nat_lt, List, [], ◌∷◌, ◌++◌, length, Option, Some, None, option_map, count_by, encode_utf8_all, refl, sym, ap, ap₂, subst, ◌∙◌, arith, append-nil, append_assoc}
+use Rattle.std.proofs.Common.{◌≡◌, ℕ, ◌+◌, cond, ◌==◌, nat_lt, List, [], ◌∷◌, ◌++◌, length, Option, Some, None, option_map, count_by, encode_utf8_all, refl, sym, ap, ap₂, subst, ◌∙◌, arith, append-nil}
 use Rattle.std.specs.List.Sorted.{IsPermutation}
 use Rattle.std.proofs.lemmas.List.{length-append}
 use Rattle.std.proofs.lemmas.List.Sums.{sum_by-cons}
@@ -19,10 +19,12 @@ abbrev pub numbered : ℕ → List (Option Name) → List Capture
 numbered n [] = []
 numbered n (name ∷ rest) = record { id = n; name = option_map encode_utf8_all name } ∷ numbered (n + 1) rest
 
-numbered-append : (n m : ℕ) (xs ys : List (Option Name)) → n + length xs ≡ m → numbered n (xs ++ ys) ≡ numbered n xs ++ numbered m ys
-numbered-append n m [] ys e = let same : n ≡ m = omega arith in ap (λ k. numbered k ys) same
-numbered-append n m (x ∷ xs) ys e =
-    ap (λ cs. record { id = n; name = option_map encode_utf8_all x } ∷ cs) (numbered-append (n + 1) m xs ys (omega arith))
+numbered-append : (n k : ℕ) (xs ys : List (Option Name)) → length xs ≡ k → numbered n (xs ++ ys) ≡ numbered n xs ++ numbered (n + k) ys
+numbered-append n k [] ys e = let same : n ≡ n + k = omega arith in ap (λ m. numbered m ys) same
+numbered-append n k (x ∷ xs) ys e =
+    let same : n + 1 + length xs ≡ n + k = omega arith in
+    ap (λ cs. record { id = n; name = option_map encode_utf8_all x } ∷ cs)
+    (numbered-append (n + 1) (length xs) xs ys refl ∙ ap (λ m. numbered (n + 1) xs ++ numbered m ys) same)
 
 length-numbered : (n : ℕ) (xs : List (Option Name)) → length (numbered n xs) ≡ length xs
 length-numbered n [] = refl
@@ -48,7 +50,13 @@ mutual
   length-names_of_terms : (ts : Terms) → length (names_of_terms ts) ≡ (counts_of_terms ts).groups
   length-names_of_terms no_terms = refl
   length-names_of_terms (more_terms x q xs) =
-      omega (arith, length-append (names_of_item x) (names_of_terms xs), length-names_of_item x, groups_of_times q, length-names_of_terms xs)
+      omega (
+        arith,
+        length-append (names_of_item x) (names_of_terms xs),
+        length-names_of_item x,
+        groups_of_times q,
+        length-names_of_terms xs,
+      )
 
   length-names_of_item : (x : Item) → length (names_of_item x) ≡ (counts_of_item x).groups
   length-names_of_item (atom a) = refl
@@ -81,9 +89,14 @@ captures-joined d (more_trees t no_trees) =
     subst (IsPermutation (captures t ++ [])) (append-nil (captures t)) (IsPermutation-refl (captures t ++ []))
 captures-joined d (more_trees t (more_trees u us)) = captures-turned d (more_trees t (more_trees u us))
 
-both_permuted : {X : Type 0} (xs xs' ys ys' : List X) → IsPermutation xs xs' → IsPermutation ys ys' → IsPermutation (xs ++ ys) (xs' ++ ys')
-both_permuted xs xs' ys ys' first second =
-    IsPermutation-trans _ _ _ (IsPermutation-append_left ys xs xs' first) (IsPermutation-append_right xs' ys ys' second)
+-- two parts, the second behind the k groups of the first
+both_permuted : (n k : ℕ) (xs ys : List (Option Name)) (cs ds : List Capture) → length xs ≡ k → IsPermutation (numbered n xs) cs →
+    IsPermutation (numbered (n + k) ys) ds → IsPermutation (numbered n (xs ++ ys)) (cs ++ ds)
+both_permuted n k xs ys cs ds e first second =
+    subst (λ zs. IsPermutation zs (cs ++ ds)) (sym (numbered-append n k xs ys e))
+    (IsPermutation-trans _ _ _
+    (IsPermutation-append_left (numbered (n + k) ys) (numbered n xs) cs first)
+    (IsPermutation-append_right cs (numbered (n + k) ys) ds second))
 
 module _ (table : Table) where
   mutual
@@ -93,32 +106,26 @@ module _ (table : Table) where
     permuted-tree_of_pattern d n (one ts) =
         IsPermutation-trans _ _ _ (permuted-trees_of_terms d n ts) (captures-joined d (trees_of_terms table d n ts))
     permuted-tree_of_pattern d n (either ts p) =
-        subst (λ cs. IsPermutation cs (captures (tree_of_pattern table d n (either ts p))))
-        (sym (numbered-append n (n + (counts_of_terms ts).groups) (names_of_terms ts) (names p) (ap (λ m. n + m) (length-names_of_terms ts))))
-        (both_permuted _ _ _ _
+        both_permuted n _ _ _ _ _ (length-names_of_terms ts)
         (IsPermutation-trans _ _ _ (permuted-trees_of_terms d n ts) (captures-joined d (trees_of_terms table d n ts)))
-        (permuted-tree_of_pattern d (n + (counts_of_terms ts).groups) p))
+        (permuted-tree_of_pattern d (n + (counts_of_terms ts).groups) p)
 
     permuted-trees_of_terms : (d : Direction) (n : ℕ) (ts : Terms) →
         IsPermutation (numbered n (names_of_terms ts)) (captures_in_row (trees_of_terms table d n ts))
     permuted-trees_of_terms d n no_terms = IsPermutation-refl []
     permuted-trees_of_terms d n (more_terms x q xs) =
-        subst (λ cs. IsPermutation cs (captures_in_row (trees_of_terms table d n (more_terms x q xs))))
-        (sym (numbered-append n (n + (counts_of_term x q).groups) (names_of_item x) (names_of_terms xs)
-        (ap (λ m. n + m) (length-names_of_term x q))))
-        (both_permuted _ _ _ _
+        both_permuted n _ _ _ _ _ (length-names_of_term x q)
         (subst (IsPermutation _) (sym (captures-tree_of_times q (tree_of_item table d n x))) (permuted-tree_of_item d n x))
-        (permuted-trees_of_terms d (n + (counts_of_term x q).groups) xs))
+        (permuted-trees_of_terms d (n + (counts_of_term x q).groups) xs)
 
-    permuted-tree_of_item : (d : Direction) (n : ℕ) (x : Item) → IsPermutation (numbered n (names_of_item x)) (captures (tree_of_item table d n x))
+    permuted-tree_of_item : (d : Direction) (n : ℕ) (x : Item) →
+        IsPermutation (numbered n (names_of_item x)) (captures (tree_of_item table d n x))
     permuted-tree_of_item d n (atom a) = IsPermutation-refl []
     permuted-tree_of_item d n (group kind p) =
-        let body = tree_of_pattern table (direction_of_group kind d) (n + opened_by kind) p in
-        subst (IsPermutation (numbered n (names_of_item (group kind p)))) (sym (captures-tree_of_group n kind body))
-        (subst (λ cs. IsPermutation cs (numbered n (names_of_group kind) ++ captures body))
-        (sym (numbered-append n (n + opened_by kind) (names_of_group kind) (names p) (ap (λ m. n + m) (length-names_of_group kind))))
-        (IsPermutation-append_right (numbered n (names_of_group kind)) _ _
-        (permuted-tree_of_pattern (direction_of_group kind d) (n + opened_by kind) p)))
+        subst (IsPermutation _)
+        (sym (captures-tree_of_group n kind (tree_of_pattern table (direction_of_group kind d) (n + opened_by kind) p)))
+        (both_permuted n _ _ _ _ _ (length-names_of_group kind) (IsPermutation-refl (numbered n (names_of_group kind)))
+        (permuted-tree_of_pattern (direction_of_group kind d) (n + opened_by kind) p))
 
   -- their number
   pub length-captures-tree_of_pattern : (d : Direction) (n : ℕ) (p : Pattern) →
@@ -149,8 +156,12 @@ count_id-numbered k n (x ∷ xs) =
 pub count_id-tree_of_pattern : (table : Table) (d : Direction) (k n : ℕ) (p : Pattern) →
     below k n + count_id k (captures (tree_of_pattern table d n p)) ≡ below k (n + (counts p).groups)
 count_id-tree_of_pattern table d k n p =
-    omega (arith, sum_by-IsPermutation (λ c. cond (c.id == k) 1 0) _ _ (permuted-tree_of_pattern table d n p),
-    count_id-numbered k n (names p), ap (λ m. below k (n + m)) (length-names p))
+    omega (
+      arith,
+      sum_by-IsPermutation (λ c. cond (c.id == k) 1 0) _ _ (permuted-tree_of_pattern table d n p),
+      count_id-numbered k n (names p),
+      ap (λ m. below k (n + m)) (length-names p),
+    )
 
 -- ---- forwards, in their order
 
@@ -163,32 +174,35 @@ group_keeps_forwards : (kind : Group) → direction_of_group kind forwards ≡ f
 group_keeps_forwards grouping = refl
 group_keeps_forwards (capture name) = refl
 
+both_in_order : (n k : ℕ) (xs ys : List (Option Name)) (cs ds : List Capture) → length xs ≡ k → cs ≡ numbered n xs →
+    ds ≡ numbered (n + k) ys → cs ++ ds ≡ numbered n (xs ++ ys)
+both_in_order n k xs ys cs ds e first second = ap₂ (λ a b. a ++ b) first second ∙ sym (numbered-append n k xs ys e)
+
 module _ (table : Table) where
   mutual
     -- the groups behind n opened ones have the pattern's names, in order, and the ids from n on
     pub captures-tree_of_pattern : (n : ℕ) (p : Pattern) → captures (tree_of_pattern table forwards n p) ≡ numbered n (names p)
     captures-tree_of_pattern n (one ts) = captures-joined_forwards (trees_of_terms table forwards n ts) ∙ captures-trees_of_terms n ts
     captures-tree_of_pattern n (either ts p) =
-        ap₂ (λ xs ys. xs ++ ys)
+        both_in_order n _ _ _ _ _ (length-names_of_terms ts)
         (captures-joined_forwards (trees_of_terms table forwards n ts) ∙ captures-trees_of_terms n ts)
         (captures-tree_of_pattern (n + (counts_of_terms ts).groups) p)
-        ∙ sym (numbered-append n (n + (counts_of_terms ts).groups) (names_of_terms ts) (names p) (ap (λ m. n + m) (length-names_of_terms ts)))
 
-    captures-trees_of_terms : (n : ℕ) (ts : Terms) → captures_in_row (trees_of_terms table forwards n ts) ≡ numbered n (names_of_terms ts)
+    captures-trees_of_terms : (n : ℕ) (ts : Terms) →
+        captures_in_row (trees_of_terms table forwards n ts) ≡ numbered n (names_of_terms ts)
     captures-trees_of_terms n no_terms = refl
     captures-trees_of_terms n (more_terms x q xs) =
-        ap₂ (λ xs ys. xs ++ ys)
+        both_in_order n _ _ _ _ _ (length-names_of_term x q)
         (captures-tree_of_times q (tree_of_item table forwards n x) ∙ captures-tree_of_item n x)
         (captures-trees_of_terms (n + (counts_of_term x q).groups) xs)
-        ∙ sym (numbered-append n (n + (counts_of_term x q).groups) (names_of_item x) (names_of_terms xs) (ap (λ m. n + m) (length-names_of_term x q)))
 
     captures-tree_of_item : (n : ℕ) (x : Item) → captures (tree_of_item table forwards n x) ≡ numbered n (names_of_item x)
     captures-tree_of_item n (atom a) = refl
     captures-tree_of_item n (group kind p) =
         captures-tree_of_group n kind (tree_of_pattern table (direction_of_group kind forwards) (n + opened_by kind) p)
-        ∙ ap (λ cs. numbered n (names_of_group kind) ++ cs)
-        (ap (λ d. captures (tree_of_pattern table d (n + opened_by kind) p)) (group_keeps_forwards kind) ∙ captures-tree_of_pattern (n + opened_by kind) p)
-        ∙ sym (numbered-append n (n + opened_by kind) (names_of_group kind) (names p) (ap (λ m. n + m) (length-names_of_group kind)))
+        ∙ both_in_order n _ _ _ _ _ (length-names_of_group kind) refl
+        (ap (λ d. captures (tree_of_pattern table d (n + opened_by kind) p)) (group_keeps_forwards kind)
+        ∙ captures-tree_of_pattern (n + opened_by kind) p)
 
 -- ---- the whole tree
 

@@ -10,4 +10,5 @@ pub mod AcceptedLemmas
 pub mod MeaningLemmas
 pub mod GroupLemmas
 pub mod WellFormedLemmas
+pub mod Meanings
 pub mod Examples

@@ -1,7 +1,7 @@
 -- The tree of a pattern means what the pattern does.
 use Rattle.std.proofs.Common.{◌≡◌, ℕ, ◌+◌, Bool, true, false, cond, not, ◌||◌, ◌==◌, List, Option, Some, None, encode_utf8_all, refl, sym, ap, ◌∙◌}
 use Rattle.regress_tree.specs.Reading.{Direction, forwards, backwards, IsText, of_characters}
-use Rattle.regress_tree.specs.Steps.{State, Step, byte_state, distinct, stay, ◌then_◌, one_character}
+use Rattle.regress_tree.specs.Steps.{State, Step, byte_state, distinct, stay, one_character}
 use Rattle.regress_tree.specs.Matching.{Setting, steps, steps_in_row}
 use Rattle.regress_tree.specs.Assertions.{is_line_terminator}
 use Rattle.regress_tree.specs.Tree.{Tree, Trees, leaf, no_trees, more_trees, match_any, match_any_except_line_terminator}
@@ -45,57 +45,67 @@ Simulates-in_order text forwards e f g h k first second = Simulates-then text e 
 Simulates-in_order text backwards e f g h k first second = Simulates-then text e h k f g second first
 
 module _ (setting : Setting) (text : List ℕ) where
-  -- a group does what its tree does, if what it holds does
-  group_simulates : (d : Direction) (n : ℕ) (kind : Group) (f : Step) (body : Tree) →
-      Simulates text (direction_of_group kind d) f (steps setting (encode_utf8_all text) (direction_of_group kind d) body) →
-      Simulates text d (group_steps n kind f) (steps setting (encode_utf8_all text) d (tree_of_group n kind body))
+  -- Over the bytes the tree, or the row turned, does what the step does over the characters.
+  abbrev pub TreeSimulates : Direction → Step → Tree → Type 0
+  TreeSimulates d f t = Simulates text d f (steps setting (encode_utf8_all text) d t)
+
+  abbrev RowSimulates : Direction → Step → Trees → Type 0
+  RowSimulates d f ts = Simulates text d f (steps_in_row setting (encode_utf8_all text) d (turned d ts))
+
+  joined_simulates : (d : Direction) (f : Step) (row : Trees) → RowSimulates d f row → TreeSimulates d f (joined d row)
+  joined_simulates d f row sim = Simulates-same_right text d _ _ _ (steps-joined setting (encode_utf8_all text) d d row) sim
+
+  none_simulate : (d : Direction) → RowSimulates d stay no_trees
+  none_simulate d = Simulates-same_right text d _ _ _ (steps-turned_none setting (encode_utf8_all text) d d) (Simulates-stay text d)
+
+  more_simulate : (d : Direction) (f g : Step) (t : Tree) (ts : Trees) → TreeSimulates d f t → RowSimulates d g ts →
+      RowSimulates d (in_order d f g) (more_trees t ts)
+  more_simulate d f g t ts first others =
+      Simulates-same_right text d _ _ _ (steps-turned setting (encode_utf8_all text) d d t ts)
+      (Simulates-in_order text d d _ _ _ _ first others)
+
+  group_simulates : (d : Direction) (n : ℕ) (kind : Group) (f : Step) (body : Tree) → TreeSimulates (direction_of_group kind d) f body →
+      TreeSimulates d (group_steps n kind f) (tree_of_group n kind body)
   group_simulates d n grouping f body sim = sim
   group_simulates d n (capture name) f body sim = Simulates-capture text d n _ _ sim
 
-  -- and so does an item with its quantifier
-  times_simulate : (d : Direction) (q : Option Quantifier) (f : Step) (body : Tree) →
-      Simulates text d f (steps setting (encode_utf8_all text) d body) →
-      Simulates text d (times_steps q f) (steps setting (encode_utf8_all text) d (tree_of_times q body))
+  times_simulate : (d : Direction) (q : Option Quantifier) (f : Step) (body : Tree) → TreeSimulates d f body →
+      TreeSimulates d (times_steps q f) (tree_of_times q body)
   times_simulate d None f body sim = sim
   times_simulate d (Some q) f body sim = elim q [ ]
 
 module _ (setting : Setting) (text : List ℕ) (is_text : IsText text) where
   dot_simulates : (d : Direction) (dot_all : Bool) →
-      Simulates text d (one_character d (of_characters text) (λ x. dot_all || not (is_line_terminator x)))
-      (steps setting (encode_utf8_all text) d (leaf (cond dot_all match_any match_any_except_line_terminator)))
+      TreeSimulates setting text d (one_character d (of_characters text) (λ x. dot_all || not (is_line_terminator x)))
+      (leaf (cond dot_all match_any match_any_except_line_terminator))
   dot_simulates d true = Simulates-one_character text is_text d (λ x. true)
   dot_simulates d false = Simulates-one_character text is_text d (λ x. not (is_line_terminator x))
 
   atom_simulates : (d : Direction) (a : Atom) →
-      Simulates text d (atom_steps setting.table text d a) (steps setting (encode_utf8_all text) d (leaf (leaf_of_atom setting.table a)))
+      TreeSimulates setting text d (atom_steps setting.table text d a) (leaf (leaf_of_atom setting.table a))
   atom_simulates d (literal flags c) = Simulates-one_character text is_text d (λ x. x == c)
   atom_simulates d (dot flags) = dot_simulates d flags.dot_all
 
   mutual
     -- equal with repeats, whatever stands before
     pub pattern_simulates : (d : Direction) (n : ℕ) (p : Pattern) →
-        Simulates text d (pattern_steps setting.table text d n p) (steps setting (encode_utf8_all text) d (tree_of_pattern setting.table d n p))
-    pattern_simulates d n (one ts) =
-        Simulates-same_right text d _ _ _ (steps-joined setting (encode_utf8_all text) d d (trees_of_terms setting.table d n ts)) (terms_simulate d n ts)
+        TreeSimulates setting text d (pattern_steps setting.table text d n p) (tree_of_pattern setting.table d n p)
+    pattern_simulates d n (one ts) = joined_simulates setting text d _ (trees_of_terms setting.table d n ts) (terms_simulate d n ts)
     pattern_simulates d n (either ts p) =
-        Simulates-or text d _ _ _ _
-        (Simulates-same_right text d _ _ _ (steps-joined setting (encode_utf8_all text) d d (trees_of_terms setting.table d n ts)) (terms_simulate d n ts))
+        Simulates-or text d _ _ _ _ (joined_simulates setting text d _ (trees_of_terms setting.table d n ts) (terms_simulate d n ts))
         (pattern_simulates d (n + (counts_of_terms ts).groups) p)
 
     terms_simulate : (d : Direction) (n : ℕ) (ts : Terms) →
-        Simulates text d (terms_steps setting.table text d n ts)
-        (steps_in_row setting (encode_utf8_all text) d (turned d (trees_of_terms setting.table d n ts)))
-    terms_simulate d n no_terms = Simulates-same_right text d _ _ _ (steps-turned_none setting (encode_utf8_all text) d d) (Simulates-stay text d)
+        RowSimulates setting text d (terms_steps setting.table text d n ts) (trees_of_terms setting.table d n ts)
+    terms_simulate d n no_terms = none_simulate setting text d
     terms_simulate d n (more_terms x q xs) =
-        Simulates-same_right text d _ _ _
-        (steps-turned setting (encode_utf8_all text) d d (tree_of_times q (tree_of_item setting.table d n x))
-        (trees_of_terms setting.table d (n + (counts_of_term x q).groups) xs))
-        (Simulates-in_order text d d _ _ _ _
+        more_simulate setting text d _ _ (tree_of_times q (tree_of_item setting.table d n x))
+        (trees_of_terms setting.table d (n + (counts_of_term x q).groups) xs)
         (times_simulate setting text d q _ (tree_of_item setting.table d n x) (item_simulates d n x))
-        (terms_simulate d (n + (counts_of_term x q).groups) xs))
+        (terms_simulate d (n + (counts_of_term x q).groups) xs)
 
     item_simulates : (d : Direction) (n : ℕ) (x : Item) →
-        Simulates text d (item_steps setting.table text d n x) (steps setting (encode_utf8_all text) d (tree_of_item setting.table d n x))
+        TreeSimulates setting text d (item_steps setting.table text d n x) (tree_of_item setting.table d n x)
     item_simulates d n (atom a) = atom_simulates d a
     item_simulates d n (group kind p) =
         group_simulates setting text d n kind _ (tree_of_pattern setting.table (direction_of_group kind d) (n + opened_by kind) p)
@@ -104,7 +114,7 @@ module _ (setting : Setting) (text : List ℕ) (is_text : IsText text) where
 -- On every text and from every state the tree's outcomes are the pattern's, place for byte place, in their order.
 pub tree_of-means : (setting : Setting) (p : Pattern) → Means setting (tree_of setting.table p) p
 tree_of-means setting p text s is_text in' =
+    let body = tree_of_pattern setting.table forwards 0 p in
     let sim = pattern_simulates setting text is_text forwards 0 p in
-    ap distinct
-    (flat_map-stay (steps setting (encode_utf8_all text) forwards (tree_of_pattern setting.table forwards 0 p) (byte_state text s)) ∙ sim.same s in')
+    ap distinct (flat_map-stay (steps setting (encode_utf8_all text) forwards body (byte_state text s)) ∙ sim.same s in')
     ∙ distinct-byte_state text (pattern_steps setting.table text forwards 0 p s) (Simulates-within text forwards _ _ sim s in')

@@ -9,7 +9,7 @@ use Rattle.regress_syntax.specs.Syntax.{Atom, Group, Quantifier, Pattern, Item, 
 use Rattle.regress_syntax.specs.Rows.{Context, inside, Head, single, opens, head_at, times_at}
 use Rattle.regress_syntax.proofs.laws.Sources.{found_then, from_each, to_each}
 use Rattle.regress_parse.specs.Reader.{Term, closed, item_behind, quantified, pattern_at, item_at, term_at}
-use Rattle.regress_parse.specs.Accepted.{max_capture_groups, max_nesting_depth}
+use Rattle.regress_base.specs.Limits.{max_capture_groups, max_nesting_depth}
 use Rattle.regress_parse.specs.Parsing.{Fits, pattern_part, term_part, item_part}
 use Rattle.regress_parse.proofs.CountLemmas.{Fits-inside}
 use Rattle.regress_parse.proofs.ReaderLemmas.{item_at-is, term_at-is}

@@ -1,5 +1,5 @@
 -- The tree of a derived pattern is well formed.
-use Rattle.std.proofs.Common.{◌≡◌, ◌≢◌, ℕ, ◌+◌, ◌≤◌, ◌==◌, Bool, true, false, cond, [], ◌∷◌, drop, length, All, Option, Some, None, IfSome, option_map, encode_utf8_all, subst, arith}
+use Rattle.std.proofs.Common.{◌≢◌, ℕ, ◌+◌, ◌≤◌, ◌==◌, Bool, true, false, cond, [], ◌∷◌, drop, length, All, Option, Some, None, IfSome, option_map, encode_utf8_all, subst, arith}
 use Rattle.std.proofs.lemmas.List.Elements.{All-head, All-tail, All-drop}
 use Rattle.regress_base.specs.Intervals.{code_point_max}
 use Rattle.regress_tree.specs.Reading.{Direction, forwards, backwards}
@@ -119,27 +119,27 @@ module _ (table : Table) (m : ℕ) where
         let first = item_stands ctx d n x t derived.0 (omega arith) all derived.2 in
         let behind = subst (λ found. IfSome found (λ y. AreCodePoints y.1)) derived.3 (behind_times ctx derived.0 first.1) in
         let others = terms_stand ctx d (n + (counts_of_term x q).groups) xs derived.1 rest (omega arith) behind derived.4 in
-        (stands-more m (tree_of_times q (tree_of_item table d n x)) (trees_of_terms table d (n + (counts_of_term x q).groups) xs)
-        (stands-tree_of_times m q (tree_of_item table d n x) first.0) others.0, others.1)
+        let row = trees_of_terms table d (n + (counts_of_term x q).groups) xs in
+        (stands-more m _ row (stands-tree_of_times m q (tree_of_item table d n x) first.0) others.0, others.1)
 
     item_stands : (ctx : Context) (d : Direction) (n : ℕ) (x : Item) (t rest : Source) → n + (counts_of_item x).groups ≤ m →
         AreCodePoints t → IsItem ctx x t rest → MayStand m (tree_of_item table d n x) inside × AreCodePoints rest
     item_stands ctx d n (atom a) t rest h all derived = subst (StandsThere table) derived (head_at-stands table ctx t all)
     item_stands ctx d n (group kind p) t rest h all derived =
         let head = subst (StandsThere table) derived.1 (head_at-stands table ctx t all) in
+        let tree = tree_of_pattern table (direction_of_group kind d) (n + opened_by kind) p in
         let body = pattern_stands (context_inside kind ctx) (direction_of_group kind d) (n + opened_by kind) p derived.0 _
         (omega arith) head.1 derived.2 in
-        (stands-tree_of_group m n kind (tree_of_pattern table (direction_of_group kind d) (n + opened_by kind) p) (omega arith) head.0 body.0,
-        rest_of body.1)
+        (stands-tree_of_group m n kind tree (omega arith) head.0 body.0, rest_of body.1)
 
 -- A derived pattern's tree is well formed: the ids are 0 up to the number of groups, each once, the code points are
 -- those of the source, no name is empty, and the goal stands last.
 pub tree_of-well_formed : (setting : Setting) (source : Source) (p : Pattern) → All (λ c. c ≤ code_point_max) source →
     IsDerived setting source p → IsWellFormed (tree_of setting.table p)
 tree_of-well_formed setting source p all derived =
-    let within : 0 + (counts p).groups ≤ length (captures (tree_of setting.table p)) = omega (arith, length-captures-tree_of setting.table p) in
-    let body = pattern_stands setting.table (length (captures (tree_of setting.table p))) (own_context setting p) forwards 0 p source []
-    within (record { each = all }) derived.whole in
+    let m = length (captures (tree_of setting.table p)) in
+    let within : 0 + (counts p).groups ≤ m = omega (arith, length-captures-tree_of setting.table p) in
+    let body = pattern_stands setting.table m (own_context setting p) forwards 0 p source [] within (record { each = all }) derived.whole in
     record {
       stands = (tt, (body.0, tt));
       ids = count_id-tree_of setting.table p;

@@ -1,5 +1,6 @@
 -- Which patterns are accepted, and what it is for a tree to mean what its pattern does.
 use Rattle.std.specs.Prelude.{◌≡◌, ℕ, ◌≤◌, Bool, not, ◌||◌, IsTrue, List, [], map, encode_utf8_all}
+use Rattle.regress_base.specs.Limits.{max_capture_groups, max_loops, max_nesting_depth}
 use Rattle.regress_base.specs.declared.types.Flags.{Flags}
 use Rattle.regress_tree.specs.Reading.{IsText, forwards}
 use Rattle.regress_tree.specs.Steps.{State, IsStateOf, byte_state}
@@ -23,16 +24,6 @@ own_context setting p = record { setting = setting; groups = (counts p).groups; 
 pub record IsDerived (setting : Setting) (source : Source) (p : Pattern) : Type 0 where
   pub served : IsTrue (is_served setting.flags)
   pub whole : IsPattern (own_context setting p) p source []
-
--- how many capture groups, loops and levels a pattern may have (this project's profile)
-abbrev pub max_capture_groups : ℕ
-max_capture_groups = 65535
-
-abbrev pub max_loops : ℕ
-max_loops = 65535
-
-abbrev pub max_nesting_depth : ℕ
-max_nesting_depth = 256
 
 -- this project's limits
 pub record IsWithinLimits (p : Pattern) : Type 0 where

@@ -17,7 +17,7 @@ use Rattle.regress_parse.specs.declared.parser.Parser.{Parser}
 use Rattle.regress_parse.specs.declared.parser.Around.{Around}
 use Rattle.regress_parse.specs.Reader.{Term, pattern_at}
 use Rattle.regress_parse.specs.TreeOf.{tree_of_pattern, trees_of_terms, tree_of_item, tree_of_times, joined}
-use Rattle.regress_parse.specs.Accepted.{max_capture_groups, max_loops, max_nesting_depth}
+use Rattle.regress_base.specs.Limits.{max_capture_groups, max_loops, max_nesting_depth}
 
 -- what a stretch of the pattern comes to: its tree in a direction behind n opened groups, what it counts and its levels
 pub record Part : Type 0 where

@@ -1,6 +1,6 @@
 //! A place in a pattern, and what lies around it.
 ghost use Rattle.std.specs.Prelude.{◌≤◌};
-ghost use Rattle.regress_parse.specs.Accepted.{max_capture_groups, max_loops};
+ghost use Rattle.regress_base.specs.Limits.{max_capture_groups, max_loops};
 
 use regress_base::types::{CaptureGroupID, LoopID, MAX_CAPTURE_GROUPS};
 use regress_syntax::fault::{TOO_MANY_GROUPS, syntax};

@@ -2,7 +2,7 @@
 ghost use Rattle.std.specs.Prelude.{◌<◌, ◌≤◌, OnOk, length};
 ghost use Rattle.regress_syntax.specs.Views.{group_of};
 ghost use Rattle.regress_syntax.specs.Rows.{opens};
-ghost use Rattle.regress_parse.specs.Accepted.{max_nesting_depth};
+ghost use Rattle.regress_base.specs.Limits.{max_nesting_depth};
 ghost use Rattle.regress_parse.specs.Reader.{pattern_at, terms_at, term_at, item_at, item_behind};
 ghost use Rattle.regress_parse.specs.Parsing.{text, counted, direction_of, context_in, table_in, pattern_part, terms_part, term_part, item_part, Yields};
 

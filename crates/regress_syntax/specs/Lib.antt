@@ -5,3 +5,7 @@ pub mod Rows
 pub mod Fault
 pub mod Reads
 pub mod Views
+pub mod Digits
+pub mod Escapes
+pub mod Quantifiers
+pub mod ClassRows

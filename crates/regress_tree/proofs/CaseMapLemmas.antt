@@ -1,34 +1,21 @@
 -- What the images of a table of rows keep, told by the code points of the rows that move.
-use Rattle.std.proofs.Common.{◌≡◌, ◌≢◌, ℕ, zero, suc, ◌+◌, ◌-◌, ◌%◌, ◌<◌, ◌≤◌, ◌⊎◌, Bool, true, false, not, ◌&&◌, ◌||◌, nat_lt, ◌==◌, IsTrue, List, [], ◌∷◌, ◌++◌, length, map, cond, filter, get_or, All, inl, inr, refl, sym, ap, subst, ◌∙◌, arith}
+use Rattle.std.proofs.Common.{◌≡◌, ◌≢◌, ℕ, zero, suc, ◌+◌, ◌-◌, ◌%◌, ◌<◌, ◌≤◌, ◌⊎◌, Bool, true, false, not, ◌&&◌, nat_lt, ◌==◌, IsTrue, List, [], ◌∷◌, ◌++◌, length, map, cond, filter, get_or, All, inl, inr, refl, sym, ap, subst, ◌∙◌, arith}
 use Rattle.std.proofs.lemmas.Bool.{cases_eq, eqb-true, eq-eqb}
 use Rattle.std.proofs.Math.Bool.{or-true}
 use Rattle.std.proofs.lemmas.Bool.Decides.{nat_tests}
-use Rattle.std.proofs.lemmas.List.Elements.{All-head, All-tail, All-cons, All-map, All-weaker, filter_passes}
-use Rattle.std.specs.List.Sorted.{IsNonDecreasing}
+use Rattle.std.proofs.lemmas.List.Elements.{All-head, All-tail, All-cons, All-map, All-weaker, filter_passes, filter_agree}
+use Rattle.std.proofs.lemmas.List.Sorted.{IsNonDecreasingBy-from_sort}
+use Rattle.std.specs.List.Sorted.{IsNonDecreasing, IsSorted, IsStable, ties}
+use Rattle.std.specs.Ordering.{nat_cmp, is_lt}
 use Rattle.std.specs.List.{range_with_len}
 use Rattle.regress_base.specs.Intervals.{code_point_max}
 use Rattle.regress_tree.specs.Listing.{lists, is_ascending_from}
 use Rattle.regress_tree.specs.FoldRows.{FoldRow, moved, is_in_row, image_in_row, image, is_in_order_from, is_in_order, are_targets_in_range}
+use Rattle.regress_tree.specs.Parts.{AreSoundRows}
+use Rattle.regress_tree.specs.Moves.{codes, moves, movers, images, count_of, HasNoFour}
 use Rattle.regress_tree.specs.Table.{IsIdempotent, HasSmallClasses, IsCaseMap}
-use Rattle.regress_tree.proofs.ListingLemmas.{ascending_parts, ascending_lower, ascending_within, ascending_filter, lists-tail, lists-past, lists-filter, length_without, lists-run}
+use Rattle.regress_tree.proofs.ListingLemmas.{ascending_parts, ascending_within, ascending_filter, lists-tail, lists-past, lists-filter, length_without, ascending_append, lists-append, lists-run}
 use Rattle.regress_tree.proofs.RowLemmas.{order_parts, shifted_is}
-
--- the code points of the rows
-abbrev pub codes : List FoldRow → List ℕ
-codes [] = []
-codes (row ∷ rows) = range_with_len row.start row.length ++ codes rows
-
--- whether a number has another image
-abbrev pub moves : (ℕ → ℕ) → ℕ → Bool
-moves f c = not (f c == c)
-
--- the code points that have another image
-abbrev pub movers : (ℕ → ℕ) → List FoldRow → List ℕ
-movers f rows = filter (moves f) (codes rows)
-
-pub lists-append : (xs ys : List ℕ) (c : ℕ) → lists (xs ++ ys) c ≡ (lists xs c || lists ys c)
-lists-append [] ys c = refl
-lists-append (x ∷ xs) ys c = let rest = lists-append xs ys c in grind (arith, nat_tests, rest)
 
 -- a number that has another image is in a row
 pub moves_in_codes : (rows : List FoldRow) (c : ℕ) → (lists (codes rows) c ≡ true) ⊎ (image rows c ≡ c)
@@ -42,13 +29,6 @@ moves_in_codes (row ∷ rows) c = by_row (is_in_row row c) refl (moves_in_codes 
     by_row false e (inr stays) = inr stays
 
 -- rows in order have ascending code points
-ascending_append : (low start n : ℕ) (ys : List ℕ) → low ≤ start → IsTrue (is_ascending_from (start + n) ys) → IsTrue (is_ascending_from low (range_with_len start n ++ ys))
-ascending_append low start zero ys le h = ascending_lower (start + 0) low ys (omega arith) h
-ascending_append low start (suc n) ys le h =
-    let again : IsTrue (is_ascending_from (start + 1 + n) ys) = subst (λ (k : ℕ). IsTrue (is_ascending_from k ys)) (omega arith) h in
-    let rest = ascending_append (start + 1) (start + 1) n ys (omega arith) again in
-    grind (arith, nat_tests, rest)
-
 pub ascending_codes : (low : ℕ) (rows : List FoldRow) → IsTrue (is_in_order_from low rows) → IsTrue (is_ascending_from low (codes rows))
 ascending_codes low [] h = h
 ascending_codes low (row ∷ rows) h =
@@ -158,10 +138,6 @@ large_from_count rows d order own h small =
 
 -- ---- runs of equal numbers in a sorted list
 
--- how many of the list are d
-abbrev pub count_of : ℕ → List ℕ → ℕ
-count_of d xs = count_to (λ x. x) d xs
-
 -- those of a list that go to d are the d's among the images
 pub count_of-map : (f : ℕ → ℕ) (d : ℕ) (xs : List ℕ) → count_of d (map f xs) ≡ count_to f d xs
 count_of-map f d [] = refl
@@ -188,10 +164,6 @@ count_before d (suc k) (x ∷ xs) up above =
     by_test : (b : Bool) → count_of d xs ≤ k → length (cond b (x ∷ filter (λ y. y == d) xs) (filter (λ y. y == d) xs)) ≤ suc k
     by_test true rest = omega (arith, rest)
     by_test false rest = omega (arith, rest)
-
--- no number stands again three places on
-abbrev pub HasNoFour : List ℕ → Type 0
-HasNoFour xs = (i : ℕ) → i + 3 < length xs → get_or xs i 0 ≢ get_or xs (i + 3) 0
 
 pub few_without_four : (d : ℕ) (xs : List ℕ) → IsNonDecreasing xs → HasNoFour xs → count_of d xs ≤ 3
 few_without_four d [] up no_four = omega arith
@@ -229,10 +201,6 @@ many_between d (suc i) (suc j) (x ∷ xs) up le lt at_i at_j =
     by_test false rest = omega (arith, rest)
 
 -- ---- by the images of what moves
-
--- the images of the code points that have another image
-abbrev pub images : List FoldRow → List ℕ
-images rows = map (image rows) (movers (image rows) rows)
 
 pub lists-map : (f : ℕ → ℕ) (xs : List ℕ) (c : ℕ) → lists xs c ≡ true → lists (map f xs) (f c) ≡ true
 lists-map f [] c h = let no : false ≡ true = h in cc
@@ -279,9 +247,42 @@ image_in_range (row ∷ rows) c h le = by_row (is_in_row row c) refl (image_in_r
         by_modulo true = (shifted_is row c (grind (arith, nat_tests, h)) e).1
         by_modulo false = le
 
-pub case_map : (rows : List FoldRow) → IsTrue (are_targets_in_range rows) → IsIdempotent (image rows) → HasSmallClasses (image rows) → IsCaseMap (image rows)
-case_map rows targets idempotent small = record {
-  idempotent = idempotent;
-  in_range = λ c le. image_in_range rows c targets le;
-  small_classes = small;
+pub case_map : (rows : List FoldRow) → AreSoundRows rows → IsCaseMap (image rows)
+case_map rows sound = record {
+  idempotent = sound.idempotent;
+  in_range = λ c le. image_in_range rows c sound.in_range le;
+  small_classes = sound.small_classes;
 }
+
+-- ---- after a sort
+
+-- a sort keeps how often each number stands
+pub count_of_sorted : (xs ys : List ℕ) (d : ℕ) → IsStable nat_cmp xs ys → count_of d ys ≡ count_of d xs
+count_of_sorted xs ys d stable =
+    ap length (filter_agree (λ x. x == d) (ties (λ a b. is_lt (nat_cmp a b)) d) same ys ∙ stable d ∙ sym (filter_agree (λ x. x == d) (ties (λ a b. is_lt (nat_cmp a b)) d) same xs))
+  where
+    same : (x : ℕ) → (x == d) ≡ ties (λ a b. is_lt (nat_cmp a b)) d x
+    same x = grind (arith, nat_tests)
+
+pub few_after_sort : (xs ys : List ℕ) → IsStable nat_cmp xs ys → IsSorted nat_cmp ys → HasNoFour ys → (d : ℕ) → count_of d xs ≤ 3
+few_after_sort xs ys stable sorted no_four d =
+    subst (λ (n : ℕ). n ≤ 3) (count_of_sorted xs ys d stable) (few_without_four d ys (IsNonDecreasingBy-from_sort (λ x. x) ys sorted) no_four)
+
+pub many_after_sort : (xs ys : List ℕ) (i : ℕ) → IsStable nat_cmp xs ys → IsSorted nat_cmp ys → i + 3 < length ys → get_or ys i 0 ≡ get_or ys (i + 3) 0 → (d : ℕ) × (4 ≤ count_of d xs)
+many_after_sort xs ys i stable sorted lt same =
+    let d : ℕ = get_or ys i 0 in
+    let many = many_between d i (i + 3) ys (IsNonDecreasingBy-from_sort (λ x. x) ys sorted) (omega arith) lt refl (sym same) in
+    (d, subst (λ (n : ℕ). 4 ≤ n) (count_of_sorted xs ys d stable) (omega (arith, many)))
+
+pub small_classes_from : (rows : List FoldRow) (xs : List ℕ) → xs ≡ images rows → IsTrue (is_in_order rows) → ((d : ℕ) → count_of d xs ≤ 3) → HasSmallClasses (image rows)
+small_classes_from rows xs is order few =
+    small_from_images rows order (λ d. subst (λ (ys : List ℕ). count_of d ys ≤ 3) is (few d))
+
+pub large_classes_from : (rows : List FoldRow) (xs : List ℕ) (d : ℕ) → xs ≡ images rows → IsTrue (is_in_order rows) → IsIdempotent (image rows) → 4 ≤ count_of d xs → ¬ HasSmallClasses (image rows)
+large_classes_from rows xs d is order idempotent many =
+    let among = subst (λ (ys : List ℕ). 4 ≤ count_of d ys) is many in
+    large_from_images rows d order (by_member (lists (images rows) d) refl among) among
+  where
+    by_member : (b : Bool) → lists (images rows) d ≡ b → 4 ≤ count_of d (images rows) → image rows d ≡ d
+    by_member true e among = All-lists (λ x. image rows x ≡ x) (images rows) d (images_from_idempotent rows idempotent) e
+    by_member false e among = absurd (omega (arith, count_of_absent d (images rows) e))

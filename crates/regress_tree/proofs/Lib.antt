@@ -4,7 +4,8 @@ pub mod PackingLemmas
 pub mod RowLemmas
 pub mod ListingLemmas
 pub mod CaseMapLemmas
-pub mod StringLemmas
 pub mod SmallTableLemmas
 pub mod NamedLemmas
 pub mod TableLemmas
+pub mod SourceLemmas
+pub mod RefusalLemmas

@@ -1,9 +1,14 @@
 -- Ascending lists of numbers.
-use Rattle.std.proofs.Common.{◌≡◌, ◌≢◌, ℕ, zero, suc, ◌+◌, ◌<◌, ◌≤◌, Bool, true, false, not, ◌&&◌, ◌||◌, nat_le, ◌==◌, IsTrue, List, [], ◌∷◌, length, cond, filter, nat_lt, inl, inr, refl, sym, ap, ◌∙◌, arith}
+use Rattle.std.proofs.Common.{◌≡◌, ◌≢◌, ℕ, zero, suc, ◌+◌, ◌-◌, ◌<◌, ◌≤◌, Bool, true, false, not, ◌&&◌, ◌||◌, nat_le, ◌==◌, IsTrue, List, [], ◌∷◌, ◌++◌, length, cond, filter, nat_lt, All, inl, inr, refl, sym, ap, subst, ◌∙◌, arith}
 use Rattle.std.proofs.lemmas.Bool.{cases_eq, eqb-true}
 use Rattle.std.proofs.lemmas.Bool.Decides.{nat_tests}
-use Rattle.std.specs.List.{range_with_len}
-use Rattle.regress_tree.specs.Listing.{lists, is_ascending_from}
+use Rattle.std.proofs.lemmas.List.Elements.{All-nil, All-cons}
+use Rattle.std.specs.List.{range_with_len, flat_map}
+use Rattle.regress_base.specs.Intervals.{Bounds, code_point_max, is_within, is_member, is_canonical_from, IsCanonical}
+use Rattle.regress_base.proofs.MemberLemmas.{is_member-nil, is_member-cons}
+use Rattle.regress_base.proofs.CanonicalLemmas.{canonical_parts, member_above}
+use Rattle.regress_tree.specs.Listing.{lists, is_ascending_from, IsListing}
+use Rattle.regress_tree.specs.Table.{code_points, HasSmallClasses}
 
 pub record AscendingParts (low x : ℕ) (xs : List ℕ) : Type 0 where
   pub above : low ≤ x
@@ -111,11 +116,70 @@ length_without low d (x ∷ xs) h = by_test (x == d) refl (length_without (x + 1
         rw all (omega arith)
     by_test false e rest = omega (arith, rest)
 
--- the run of numbers from a number on
-pub ascending_run : (start n : ℕ) → IsTrue (is_ascending_from start (range_with_len start n))
-ascending_run start zero = refl
-ascending_run start (suc n) = let rest = ascending_run (start + 1) n in grind (arith, nat_tests, rest)
+-- a run of numbers before others that ascend behind it
+pub ascending_append : (low start n : ℕ) (ys : List ℕ) → low ≤ start → IsTrue (is_ascending_from (start + n) ys) → IsTrue (is_ascending_from low (range_with_len start n ++ ys))
+ascending_append low start zero ys le h = ascending_lower (start + 0) low ys (omega arith) h
+ascending_append low start (suc n) ys le h =
+    let again : IsTrue (is_ascending_from (start + 1 + n) ys) = subst (λ (k : ℕ). IsTrue (is_ascending_from k ys)) (omega arith) h in
+    let rest = ascending_append (start + 1) (start + 1) n ys (omega arith) again in
+    grind (arith, nat_tests, rest)
 
+pub lists-append : (xs ys : List ℕ) (c : ℕ) → lists (xs ++ ys) c ≡ (lists xs c || lists ys c)
+lists-append [] ys c = refl
+lists-append (x ∷ xs) ys c = let rest = lists-append xs ys c in grind (arith, nat_tests, rest)
+
+-- a run of numbers has those from its start to its end
 pub lists-run : (start n c : ℕ) → lists (range_with_len start n) c ≡ (nat_le start c && nat_lt c (start + n))
 lists-run start zero c = grind (arith, nat_tests)
 lists-run start (suc n) c = let rest = lists-run (start + 1) n c in grind (arith, nat_tests, rest)
+
+-- ---- the members of a set
+
+lists-interval : (iv : Bounds) (c : ℕ) → iv.first ≤ iv.last → lists (code_points iv) c ≡ is_within iv c
+unfolding is_within
+lists-interval iv c le = let run = lists-run iv.first (iv.last + 1 - iv.first) c in grind (arith, nat_tests, run)
+
+pub lists-members : (low : ℕ) (set : List Bounds) (c : ℕ) → IsTrue (is_canonical_from low set) → lists (flat_map code_points set) c ≡ is_member set c
+lists-members low [] c h = sym (is_member-nil c)
+lists-members low (iv ∷ ivs) c h =
+    let parts = canonical_parts low iv ivs h in
+    lists-append (code_points iv) (flat_map code_points ivs) c
+    ∙ rw (lists-interval iv c parts.interval.ordered, lists-members (iv.last + 2) ivs c parts.rest) (sym (is_member-cons iv ivs c))
+
+pub ascending_members : (low : ℕ) (set : List Bounds) → IsTrue (is_canonical_from low set) → IsTrue (is_ascending_from low (flat_map code_points set))
+ascending_members low [] h = h
+ascending_members low (iv ∷ ivs) h =
+    let parts = canonical_parts low iv ivs h in
+    let rest = ascending_members (iv.last + 2) ivs parts.rest in
+    ascending_append low iv.first (iv.last + 1 - iv.first) (flat_map code_points ivs) parts.above
+    (ascending_lower (iv.last + 2) (iv.first + (iv.last + 1 - iv.first)) (flat_map code_points ivs) (omega (arith, parts.interval.ordered)) rest)
+
+pub listing_of_members : (set : List Bounds) → IsCanonical set → IsListing (is_member set) (flat_map code_points set)
+listing_of_members set h = record {
+  ascending = ascending_members 0 set h;
+  members = λ c. lists-members 0 set c h ∙ by_member c (is_member set c) refl;
+}
+  where
+    by_member : (c : ℕ) (b : Bool) → is_member set c ≡ b → b ≡ (nat_le c code_point_max && b)
+    by_member c true e = let in_range = (member_above 0 set c h e).1 in grind (arith, nat_tests, in_range)
+    by_member c false e = grind (arith, nat_tests)
+
+-- tests that agree have one listing
+pub listing_of_same : (p q : ℕ → Bool) (xs : List ℕ) → ((c : ℕ) → p c ≡ q c) → IsListing p xs → IsListing q xs
+listing_of_same p q xs same listing = record {
+  ascending = listing.ascending;
+  members = λ c. listing.members c ∙ rw (same c);
+}
+
+-- what holds of each number that the list has
+pub All-from_lists : (P : ℕ → Type 0) (xs : List ℕ) → ((c : ℕ) → lists xs c ≡ true → P c) → All P xs
+All-from_lists P [] h = All-nil P
+All-from_lists P (x ∷ xs) h = All-cons P x xs (h x (lists-head x xs)) (All-from_lists P xs (λ c e. h c (lists-tail x xs c e)))
+
+-- the code points of an image are four at most
+pub few_of_image : (f : ℕ → ℕ) (image : ℕ) (xs : List ℕ) → HasSmallClasses f → IsListing (λ x. f x == image) xs → length xs ≤ 4
+few_of_image f image xs small listing =
+    small image xs listing.ascending (All-from_lists (λ x. f x ≡ image) xs (λ c e.
+    (let both : (nat_le c code_point_max && (f c == image)) ≡ true = sym (listing.members c) ∙ e in
+    let yes : (f c == image) ≡ true = grind (arith, nat_tests, both) in
+    eqb-true (f c) image yes)))

@@ -9,12 +9,12 @@ use Rattle.regress_base.specs.Intervals.{Bounds, is_member, is_within, is_canoni
 use Rattle.regress_base.specs.Classes.{word_characters}
 use Rattle.regress_tree.specs.Listing.{lists}
 use Rattle.regress_tree.specs.FoldRows.{FoldRow, image, is_in_order}
+use Rattle.regress_tree.specs.Moves.{images, count_of}
 use Rattle.regress_tree.specs.Table.{IsIdempotent, HasSmallClasses, Named, HasWordAscii, HasCanonicalSets}
-use Rattle.regress_tree.specs.Parts.{IsSound, parts_from, sets_of, strings_of}
+use Rattle.regress_tree.specs.Parts.{AreSoundRows, IsSound, parts_from, sets_of, strings_of}
 use Rattle.regress_tree.specs.SmallTable.{small_folds, small_uppers, small_parts}
 use Rattle.regress_tree.proofs.ListingLemmas.{lists-run}
-use Rattle.regress_tree.proofs.StringLemmas.{has_strings}
-use Rattle.regress_tree.proofs.CaseMapLemmas.{images, count_of, count_of_absent, All-lists, idempotent_from_images, small_from_images, case_map}
+use Rattle.regress_tree.proofs.CaseMapLemmas.{count_of_absent, All-lists, idempotent_from_images, small_from_images, case_map}
 
 -- the images of what moves are images of themselves, and each stands at most three times among them
 abbrev are_own_images : List FoldRow → Bool
@@ -75,15 +75,19 @@ id_continue_ascii : HasWordAscii small_parts.id_continue
 unfolding is_member is_within
 id_continue_ascii = word_ascii small_parts.id_continue refl
 
+small_rows : AreSoundRows small_folds × AreSoundRows small_uppers
+small_rows = (
+  record { in_order = refl; in_range = refl; idempotent = own_images small_folds small_folds-own; small_classes = few_images small_folds refl small_folds-few },
+  record { in_order = refl; in_range = refl; idempotent = own_images small_uppers small_uppers-own; small_classes = few_images small_uppers refl small_uppers-few },
+)
+
 pub small_sound : IsSound small_parts
 small_sound = record {
-  folds_in_order = refl;
-  uppers_in_order = refl;
-  folds_in_range = refl;
-  uppers_in_range = refl;
+  folds = small_rows.0;
+  uppers = small_rows.1;
   lawful = record {
-    fold = case_map small_folds refl (own_images small_folds small_folds-own) (few_images small_folds refl small_folds-few);
-    uppercase = case_map small_uppers refl (own_images small_uppers small_uppers-own) (few_images small_uppers refl small_uppers-few);
+    fold = case_map small_folds small_rows.0;
+    uppercase = case_map small_uppers small_rows.1;
     id_start = refl;
     id_continue = refl;
     id_start_ascii = id_start_ascii;
@@ -92,7 +96,7 @@ small_sound = record {
     script = canonical_sets small_parts.script refl;
     script_extensions = canonical_sets small_parts.script_extensions refl;
     binary = canonical_sets small_parts.binary refl;
-    strings = has_strings small_parts.strings refl;
+    strings = refl;
   };
 }
 

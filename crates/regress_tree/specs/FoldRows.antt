@@ -1,6 +1,7 @@
 -- Rows of a table of images, as the Unicode Character Database lists simple case mappings: a run of code points, and how
 -- far each of them moves.
 use Rattle.std.specs.Prelude.{ℕ, ◌+◌, ◌-◌, ◌%◌, ◌^◌, ◌<◌, ◌≤◌, ◌≡◌, ◌⊎◌, Bool, true, ◌&&◌, nat_le, nat_lt, ◌==◌, if◌then◌else◌, List, [], ◌∷◌, ℤ, pos, negsuc, ◌≤ℤ◌}
+use Rattle.std.specs.List.{list_all}
 use Rattle.regress_base.specs.Intervals.{code_point_max}
 
 -- code points in a row: `length` of them, from `start` on
@@ -45,6 +46,11 @@ is_in_row row c = nat_le row.start c && nat_lt c (row.start + row.length)
 abbrev pub image_in_row : FoldRow → ℕ → ℕ
 image_in_row row c = if (c - row.start) % row.modulo == 0 then moved row.delta c else c
 
+-- whether a code point of the row's run moves, and to the target
+abbrev pub is_source : FoldRow → ℕ → ℕ → Bool
+is_source row target c =
+    is_in_row row c && ((c - row.start) % row.modulo == 0 && moved row.delta c == target)
+
 -- The image under a table of rows: the first row whose run holds the code point tells it, and a code point of no run is
 -- its own image.
 unfoldable pub image : List FoldRow → ℕ → ℕ
@@ -72,5 +78,4 @@ is_target_in_range row =
 
 -- the same of each row
 abbrev pub are_targets_in_range : List FoldRow → Bool
-are_targets_in_range [] = true
-are_targets_in_range (row ∷ rows) = is_target_in_range row && are_targets_in_range rows
+are_targets_in_range rows = list_all is_target_in_range rows

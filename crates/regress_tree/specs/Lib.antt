@@ -3,6 +3,8 @@ pub mod FoldRows
 pub mod Table
 pub mod Parts
 pub mod SmallTable
+pub mod Moves
+pub mod Refusals
 pub mod TableOf
 pub mod Tree
 pub mod Reading

@@ -1,9 +1,9 @@
 -- What `Tables::new` is handed, and when it is refused.
-use Rattle.std.specs.Prelude.{ℕ, List, map, IsTrue, String, string_bytes, Vec}
+use Rattle.std.specs.Prelude.{ℕ, List, [], map, IsTrue, String, string_bytes, Vec}
 use Rattle.std.specs.declared.alloc.Global.{Global}
 use Rattle.regress_base.specs.Intervals.{Bounds}
 use Rattle.regress_tree.specs.FoldRows.{FoldRow, image, is_in_order, are_targets_in_range}
-use Rattle.regress_tree.specs.Table.{Table, Named, IsLawful}
+use Rattle.regress_tree.specs.Table.{Table, Named, IsIdempotent, HasSmallClasses, IsLawful}
 
 -- the rows of both maps, the sets of identifiers, and the named sets and strings
 pub record Parts : Type 0 where
@@ -44,13 +44,32 @@ abbrev pub strings_of : List (String Global × Vec (Vec ℕ Global) Global) → 
 strings_of entries =
     map (λ entry. record { name = string_bytes entry.0; value = map (λ string. string.items) entry.1.items }) entries
 
--- What a value of `Tables` keeps: what the searches in it rest on, and that its table is lawful.
+-- What the rows of a map keep: a binary search finds the row of a code point, and the images make a map of cases.
+pub record AreSoundRows (rows : List FoldRow) : Type 0 where
+  pub in_order : IsTrue (is_in_order rows)
+  pub in_range : IsTrue (are_targets_in_range rows)
+  pub idempotent : IsIdempotent (image rows)
+  pub small_classes : HasSmallClasses (image rows)
+
+-- What a value of `Tables` keeps.
 pub record IsSound (parts : Parts) : Type 0 where
-  pub folds_in_order : IsTrue (is_in_order parts.folds)
-  pub uppers_in_order : IsTrue (is_in_order parts.uppers)
-  pub folds_in_range : IsTrue (are_targets_in_range parts.folds)
-  pub uppers_in_range : IsTrue (are_targets_in_range parts.uppers)
+  pub folds : AreSoundRows parts.folds
+  pub uppers : AreSoundRows parts.uppers
   pub lawful : IsLawful (table_from parts)
+
+-- the rows of both maps, with nothing else
+abbrev pub rows_alone : (folds uppers : List FoldRow) → Parts
+rows_alone folds uppers = record {
+  folds = folds;
+  uppers = uppers;
+  id_start = [];
+  id_continue = [];
+  general_category = [];
+  script = [];
+  script_extensions = [];
+  binary = [];
+  strings = [];
+}
 
 -- the parts that a value of `Tables` holds
 abbrev pub parts_from :

@@ -1,6 +1,6 @@
 -- What a pattern asks of Unicode, as plain data.
-use Rattle.std.specs.Prelude.{◌≡◌, ◌≢◌, ℕ, ◌+◌, ◌-◌, ◌<◌, ◌≤◌, Bool, ◌&&◌, nat_le, ◌==◌, List, [], ◌∷◌, length, All, Option, Some, None, IsTrue, if◌then◌else◌}
-use Rattle.std.specs.List.{list_any, range_with_len}
+use Rattle.std.specs.Prelude.{◌≡◌, ℕ, ◌+◌, ◌-◌, ◌<◌, ◌≤◌, Bool, ◌&&◌, nat_le, nat_lt, ◌==◌, List, [], ◌∷◌, length, All, Option, Some, None, IsTrue, if◌then◌else◌}
+use Rattle.std.specs.List.{list_any, list_all, range_with_len}
 use Rattle.std.specs.Str.{bytes_eq}
 use Rattle.regress_base.specs.Intervals.{Bounds, code_point_max, is_member, IsCanonical}
 use Rattle.regress_base.specs.Classes.{word_characters}
@@ -50,10 +50,9 @@ pub record IsCaseMap (f : ℕ → ℕ) : Type 0 where
 abbrev pub HasWordAscii : List Bounds → Type 0
 HasWordAscii set = (c : ℕ) → c < 0x80 → IsTrue (is_member set c) → IsTrue (is_member word_characters c)
 
--- a string of code points, one at least
-pub record IsString (s : List ℕ) : Type 0 where
-  pub nonempty : s ≢ []
-  pub in_range : All (λ c. c ≤ code_point_max) s
+-- whether a list is a string of code points, one at least
+abbrev pub is_string : List ℕ → Bool
+is_string s = nat_lt 0 (length s) && list_all (λ c. nat_le c code_point_max) s
 
 -- each set under a name is canonical
 abbrev pub HasCanonicalSets : List (Named (List Bounds)) → Type 0
@@ -61,7 +60,7 @@ HasCanonicalSets entries = All (λ entry. IsCanonical entry.value) entries
 
 -- each string under a name is one
 abbrev pub HasStrings : List (Named (List (List ℕ))) → Type 0
-HasStrings entries = All (λ entry. All IsString entry.value) entries
+HasStrings entries = IsTrue (list_all (λ entry. list_all is_string entry.value) entries)
 
 -- What each table that the crate hands out keeps.
 pub record IsLawful (t : Table) : Type 0 where

@@ -1,14 +1,11 @@
 -- Which trees are well formed.
 use Rattle.std.specs.Prelude.{◌≡◌, ◌≢◌, ℕ, ◌<◌, ◌≤◌, Bool, true, ◌&&◌, List, [], ◌∷◌, ◌++◌, length, count_by, ◌==◌, Option, IfSome, if◌then◌else◌, nat_le, nat_lt, All, encode_utf8_all}
 use Rattle.regress_base.specs.Brackets.{is_accepted}
+use Rattle.regress_base.specs.Limits.{max_char_set_length}
 use Rattle.regress_base.specs.Intervals.{Bounds, code_point_max, IsCanonical}
 use Rattle.regress_tree.specs.declared.ir.node.Quantifier.{Quantifier}
 use Rattle.regress_tree.specs.Reading.{IsText}
 use Rattle.regress_tree.specs.Tree.{Leaf, empty, goal, char, byte_sequence, byte_set, char_set, match_any, match_any_except_line_terminator, anchor, word_boundary, bracket, Wrapper, capture_group, loop, loop_one, Tree, Trees, leaf, cat, alt, wrapped, no_trees, more_trees}
-
--- how many members a small set may have (this project's profile)
-abbrev pub max_char_set_length : ℕ
-max_char_set_length = 4
 
 -- a capture group: its id, and its name as UTF-8
 pub record Capture : Type 0 where

@@ -2,16 +2,25 @@
 ghost use Rattle.std.proofs.Props.{props};
 ghost use Rattle.regress_tree.specs.Parts.{parts_from, IsSound};
 
+mod checks;
 mod fold_range;
 mod images;
+mod listing;
+mod new;
 mod range;
 mod readers;
 mod small;
+mod tables_error;
+#[cfg(test)]
+mod tests;
+mod unfold;
 
 pub use fold_range::FoldRange;
 pub use images::{fold, uppercase};
 pub use range::CodePointRange;
 use regress_base::codepointset::CodePointSet;
+pub use tables_error::{TablesError, Which};
+pub use unfold::{expand_code_point, unfold_char, unfold_uppercase_char};
 
 /// What a pattern needs to know of Unicode: how characters fold, which may stand in a name, and
 /// which have a property. Each value is lawful: an image is its own image, at most four code points

@@ -1,15 +1,14 @@
--- Laws of sets of code points, for the crates above.
+-- Laws of sets of code points, for the crates above. What `pub use` passes on stands with its comment where it is proved.
+pub use Rattle.regress_base.proofs.MemberLemmas.{is_member-nil, is_member-cons, is_member-one, is_member-append}
+pub use Rattle.regress_base.proofs.CanonicalLemmas.{no_member_past_end}
+pub use Rattle.regress_base.proofs.UniqueLemmas.{canonical_unique}
 use Rattle.std.proofs.Common.{◌≡◌, ℕ, zero, suc, ◌+◌, ◌<◌, ◌≤◌, ◌==◌, Bool, true, false, ◌||◌, ◌++◌, inl, inr, IsTrue, List, [], ◌∷◌, refl, sym, ap, ◌∙◌, subst, le_refl, arith}
 use Rattle.std.proofs.lemmas.Bool.{cases_eq, cases_Bool, cond-true, cond-false, or_left, eq-eqb, ne_eqb}
 use Rattle.std.proofs.lemmas.Bool.Decides.{nat_tests}
 use Rattle.regress_base.specs.Intervals.{Bounds, code_point_max, is_within, is_member, is_canonical_from, IsCanonical, put_before, intervals_from, intervals_of}
-use Rattle.regress_base.proofs.WithinLemmas.{is_within_one, is_within_tells}
-use Rattle.regress_base.proofs.MemberLemmas.{is_member-cons, is_member-append, or_assoc}
-use Rattle.regress_base.proofs.CanonicalLemmas.{canonical_parts, canonical_cons, canonical_lower, no_member_below, no_member_past_end}
-use Rattle.regress_base.proofs.UniqueLemmas.{canonical_unique}
-
-abbrev pair : ℕ → ℕ → Bounds
-pair f l = record { first = f; last = l }
+use Rattle.regress_base.proofs.WithinLemmas.{pair, is_within_one, is_within_tells}
+use Rattle.regress_base.proofs.MemberLemmas.{or_assoc}
+use Rattle.regress_base.proofs.CanonicalLemmas.{canonical_parts, canonical_cons, canonical_lower, no_member_below}
 
 -- ---- one code point more
 
@@ -140,10 +139,3 @@ canonical_is xs p can same =
 pub intervals_of-agree : (p q : ℕ → Bool) → ((c : ℕ) → c ≤ code_point_max → p c ≡ q c) → intervals_of p ≡ intervals_of q
 intervals_of-agree p q same =
     canonical_is (intervals_of p) q (intervals_of-canonical p) (λ c h. intervals_of-member p c h ∙ same c h)
-
--- no number above the greatest code point is a member
-pub is_member-above : (xs : List Bounds) (c : ℕ) → IsCanonical xs → code_point_max < c → is_member xs c ≡ false
-is_member-above = no_member_past_end
-
-pub is_member-joined : (xs ys : List Bounds) (c : ℕ) → is_member (xs ++ ys) c ≡ (is_member xs c || is_member ys c)
-is_member-joined = is_member-append

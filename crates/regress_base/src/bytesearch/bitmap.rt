@@ -51,7 +51,7 @@ impl ByteBitmap {
         self.words[(val / WORD_BITS) as usize] |= 1 << (val % WORD_BITS);
     }
 
-    /// Adds the bytes from `first` to `last`, both included, a word at a time.
+    /// Adds the bytes from `first` to `last`, both included: by whole words, with a mask at each end.
     pub(crate) fn set_run(&mut self, first: u8, last: u8)
         ensures { (b : ℕ) → contains self.new b ≡ ((nat_le first b && nat_le b last) || contains self.old b) }
     {

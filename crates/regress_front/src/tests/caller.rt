@@ -1,5 +1,6 @@
 //! A caller of the library. docs/CALLING.md has this text, but for the line that gives this crate its own name.
 ghost use Rattle.std.specs.Prelude.{◌≡◌, ◌≤◌, All, IfOk, chars};
+ghost use Rattle.regress_tree.specs.SmallTable.{small_table};
 ghost use Rattle.regress_syntax.specs.Fault.{RefusedOnlyIf};
 ghost use Rattle.regress_syntax.specs.Syntax.{Pattern};
 ghost use Rattle.regress_parse.specs.Accepted.{IsAccepted, NoneIsAccepted};
@@ -14,8 +15,8 @@ use std::alloc::{AllocError, Global};
 
 /// The optimized tree of a pattern, as it prints.
 pub fn optimized_text(alloc: Global, pattern: &str, flags: Flags) -> Result<String, ParseFault>
-    ensures accepted { IfOk result (λ _. (p : Pattern) × IsAccepted flags (chars pattern.now) p) }
-    ensures refused { RefusedOnlyIf result (NoneIsAccepted flags (chars pattern.now)) }
+    ensures accepted { IfOk result (λ _. (p : Pattern) × IsAccepted (record { flags = flags; table = small_table }) (chars pattern.now) p) }
+    ensures refused { RefusedOnlyIf result (NoneIsAccepted (record { flags = flags; table = small_table }) (chars pattern.now)) }
 {
     let points = code_points(alloc, pattern)?;
     let tables = Tables::small(alloc)?;

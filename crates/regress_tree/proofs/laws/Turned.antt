@@ -24,7 +24,8 @@ pub captures-row_reverse : (ts : Trees) → IsPermutation (captures_in_row ts) (
 captures-row_reverse no_trees = IsPermutation-refl []
 captures-row_reverse (more_trees t ts) =
     subst (IsPermutation (captures t ++ captures_in_row ts))
-    (sym (captures-append (row_reverse ts) (more_trees t no_trees) ∙ ap (λ cs. captures_in_row (row_reverse ts) ++ cs) (append-nil (captures t))))
+    (sym (captures-append (row_reverse ts) (more_trees t no_trees)
+    ∙ ap (λ cs. captures_in_row (row_reverse ts) ++ cs) (append-nil (captures t))))
     (IsPermutation-trans _ _ _
     (IsPermutation-append_comm (captures t) (captures_in_row ts))
     (IsPermutation-append_left (captures t) _ _ (captures-row_reverse ts)))
@@ -34,4 +35,5 @@ pub RowMayStand-row_reverse : (n : ℕ) (ts : Trees) → RowMayStand n ts inside
 RowMayStand-row_reverse n no_trees m = tt
 RowMayStand-row_reverse n (more_trees t no_trees) m = m
 RowMayStand-row_reverse n (more_trees t (more_trees u us)) m =
-    RowMayStand-append n (row_reverse (more_trees u us)) (more_trees t no_trees) inside (RowMayStand-row_reverse n (more_trees u us) m.1) m.0
+    RowMayStand-append n (row_reverse (more_trees u us)) (more_trees t no_trees) inside
+    (RowMayStand-row_reverse n (more_trees u us) m.1) m.0

@@ -1,10 +1,11 @@
 //! A row of a table of images, packed.
-ghost use Rattle.std.specs.Prelude.{◌≡◌, ℕ, ◌+◌, ◌-◌, ◌*◌, ◌/◌, ◌%◌, ◌^◌, ◌<◌, ◌≤◌, ◌↔◌, pos, negsuc, ◌≤ℤ◌, IsTrue};
-ghost use Rattle.regress_tree.specs.FoldRows.{is_in_row, image_in_row, is_target_in_range, moved, IsModulo};
+ghost use Rattle.std.specs.Prelude.{◌≡◌, ℕ, ◌+◌, ◌-◌, ◌*◌, ◌/◌, ◌%◌, ◌^◌, ◌<◌, ◌≤◌, ◌↔◌, ◌==◌, false, IfSome, IfNone, pos, negsuc, ◌≤ℤ◌, IsTrue};
+ghost use Rattle.regress_tree.specs.FoldRows.{is_in_row, image_in_row, is_source, is_target_in_range, stays_in_range as stays_in_range_spec, moved, IsModulo};
 ghost use Rattle.regress_base.specs.Intervals.{code_point_max};
 ghost use Rattle.std.specs.declared.cmp.Ordering.TheVariants.{Less, Equal, Greater};
 
 use super::range::CodePointRange;
+use regress_base::codepointset::CODE_POINT_MAX;
 use std::cmp::Ordering;
 use std::marker::Model;
 
@@ -137,4 +138,44 @@ impl FoldRange {
     {
         (c as i32 + self.delta()) as u32
     }
+
+    /// The code point of the run that moves to `target`, if there is one: at most one does.
+    pub(super) fn source(&self, target: u32) -> Option<u32>
+        requires code_point { target ≤ code_point_max }
+        requires in_range { IsTrue (is_target_in_range self.now) }
+        ensures some { IfSome result (λ source. (c : ℕ) → is_source self.now target c ≡ (c == source)) }
+        ensures none { IfNone result ((c : ℕ) → is_source self.now target c ≡ false) }
+        ensures low { IfSome result (λ source. source ≤ code_point_max) }
+    {
+        let source = target as i32 - self.delta();
+        let first = self.first() as i32;
+        let last = self.last() as i32;
+        if source < first || last < source {
+            return None;
+        }
+        let source = source as u32;
+        if (source - self.first()).is_multiple_of(self.modulo()) {
+            Some(source)
+        } else {
+            None
+        }
+    }
+
+    /// Whether the first and the last code point of the run move to code points.
+    pub(super) fn is_target_in_range(&self) -> bool
+        ensures { result ≡ is_target_in_range self.now }
+    {
+        stays_in_range(self.delta(), self.first()) && stays_in_range(self.delta(), self.last())
+    }
+}
+
+/// Whether `c` moved by `delta` is a code point.
+fn stays_in_range(delta: i32, c: u32) -> bool
+    requires low { c < 2 ^ 20 }
+    requires delta_low { negsuc (2 ^ 27 - 1) ≤ℤ delta }
+    requires delta_high { delta ≤ℤ pos (2 ^ 27 - 1) }
+    ensures { result ≡ stays_in_range_spec delta c }
+{
+    let moved = c as i32 + delta;
+    0 <= moved && moved <= CODE_POINT_MAX as i32
 }

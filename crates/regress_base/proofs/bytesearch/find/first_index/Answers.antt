@@ -1,5 +1,5 @@
-use Rattle.std.proofs.Common.{subst, arith}
-use Rattle.regress_base.proofs.FindLemmas.{NoneBefore, none_past, none_more, first_found}
+use Rattle.std.proofs.Common.{arith}
+use Rattle.regress_base.proofs.FindLemmas.{none_past, none_more, first_found}
 use Rattle.regress_base.proofs.bytesearch.find.first_index.Goals as goal
 
 pub returns-then-test-clause-least : goal.returns-then-test-clause-least

@@ -1,4 +1,4 @@
-use Rattle.std.proofs.Common.{◌+◌, ◌-◌, ◌∙◌, length, nat_lt, ap, ap₂, sym, rules}
+use Rattle.std.proofs.Common.{◌+◌, ◌-◌, ◌∙◌, length, nat_lt, ap, ap₂, sym}
 use mir.Val.{bool_byte}
 use Rattle.regress_base.specs.Intervals.{code_point_max}
 use Rattle.regress_base.proofs.GapsLemmas.{counted, counted-none}

@@ -1,5 +1,5 @@
 -- Each turn adds the bytes of one word.
-use Rattle.std.proofs.Common.{ℕ, ◌≡◌, ◌/◌, ◌&&◌, ◌||◌, ◌∙◌, ap, eqb, leb, length, arith, rules}
+use Rattle.std.proofs.Common.{◌≡◌, ◌/◌, ◌&&◌, ◌||◌, ◌∙◌, ap, eqb, leb, length, arith, rules}
 use Rattle.std.proofs.lemmas.Bool.Decides.{nat_tests}
 use Rattle.regress_base.specs.ByteBitmap.{contains}
 use Rattle.regress_base.proofs.BitmapLemmas.{IsRunWithin, run_joins, run_more}
