@@ -6,7 +6,8 @@ use Rattle.std.proofs.lemmas.List.{take_all}
 use Rattle.std.proofs.lemmas.List.Folds.{list_any_more}
 use Rattle.std.specs.List.{list_any}
 use Rattle.regress_base.specs.Intervals.{Bounds, is_member}
-use Rattle.regress_base.proofs.MemberLemmas.{is_member-nil, or-false, or_assoc}
+use Rattle.std.proofs.Math.Bool.{or-false}
+use Rattle.regress_base.proofs.MemberLemmas.{is_member-nil, or_assoc}
 use Rattle.regress_tree.specs.FoldRows.{FoldRow, moved, is_in_row, image_in_row, is_source, image, is_in_order_from, is_in_order}
 use Rattle.regress_tree.proofs.RowLemmas.{order_parts, below_image}
 
