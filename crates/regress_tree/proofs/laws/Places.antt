@@ -1,5 +1,5 @@
 -- Places where a tree stands as a part of another, and what of the whole follows from what is put there.
-use Rattle.std.proofs.Common.{◌≡◌, ℕ, ◌+◌, ◌*◌, ◌<◌, ◌≤◌, ◌⊎◌, inl, inr, Bool, ◌==◌, List, ◌++◌, length, count_by, refl, ap, ◌∙◌, arith}
+use Rattle.std.proofs.Common.{◌≡◌, ℕ, ◌+◌, ◌<◌, ◌≤◌, ◌⊎◌, inl, inr, Bool, ◌==◌, List, ◌++◌, length, count_by, ap, ◌∙◌, arith}
 use Rattle.regress_tree.specs.Reading.{Direction}
 use Rattle.regress_tree.specs.Steps.{Step, Alike}
 use Rattle.regress_tree.specs.Tree.{Wrapper, capture_group, loop, loop_one, Tree, Trees, cat, alt, wrapped, no_trees, more_trees, row_append}
