@@ -10,12 +10,11 @@ use Rattle.regress_tree.specs.Steps.{State}
 use Rattle.regress_tree.specs.Tree.{row_append, Tree, Trees, leaf, empty, cat, alt, wrapped, no_trees, more_trees, tree}
 use Rattle.regress_tree.specs.Matching.{Setting, steps, steps_in_row}
 use Rattle.regress_tree.specs.WellFormed.{Position, inside, last_of, MayStand, RowMayStand, captures, captures_in_row}
-use Rattle.regress_tree.specs.Ending.{EndsInGoal, RowEndsInGoal}
 use Rattle.regress_tree.specs.Units.{units, units_in_row, loops, loops_in_row, weight, weight_of_row, IsLess}
 use Rattle.regress_tree.specs.Shapes.{has_cat, is_short, is_flattened_away}
 use Rattle.regress_tree.proofs.laws.Alike.{Alike-from_same}
 use Rattle.regress_tree.proofs.laws.Outcomes.{flat_map-stay}
-use Rattle.regress_tree.proofs.laws.Rows.{row_append-none, steps-append, captures-append, units-append, loops-append, weight-append, RowMayStand-last_of, MayStand-from_last, RowMayStand-append, RowEndsInGoal-append}
+use Rattle.regress_tree.proofs.laws.Rows.{row_append-none, steps-append, captures-append, units-append, loops-append, weight-append, RowMayStand-last_of, MayStand-from_last, RowMayStand-append}
 use Rattle.regress_opt.specs.declared.rewrite.PassAction.{PassAction}
 use Rattle.regress_opt.specs.declared.rewrite.PassAction.TheVariants.{Keep, Modified, Remove, Replace}
 use Rattle.regress_opt.specs.Law.{Keeps, after, IsLawful}
@@ -37,21 +36,6 @@ spliced-stand n (more_trees t no_trees) p m =
 spliced-stand n (more_trees t (more_trees u ts)) p m =
     let later = spliced-stand n (more_trees u ts) p m.1 in
     RowMayStand-append n (parts_of t) (spliced (more_trees u ts)) p (parts_of-stand n t inside m.0) later
-
--- The goal at the end.
-
-parts_of-ends : (t : Tree) → EndsInGoal t → RowEndsInGoal (parts_of t)
-parts_of-ends (leaf l) ends = ends
-parts_of-ends (cat parts) ends = ends
-parts_of-ends (alt left right) ends = ends
-parts_of-ends (wrapped w body) ends = ends
-
-spliced-ends : (ts : Trees) → RowEndsInGoal ts → RowEndsInGoal (spliced ts)
-spliced-ends no_trees ends = ends
-spliced-ends (more_trees t no_trees) ends =
-    subst (λ (us : Trees). RowEndsInGoal us) (sym (row_append-none (parts_of t))) (parts_of-ends t ends)
-spliced-ends (more_trees t (more_trees u ts)) ends =
-    RowEndsInGoal-append (parts_of t) (spliced (more_trees u ts)) (spliced-ends (more_trees u ts) ends)
 
 -- Outcomes.
 
@@ -126,7 +110,6 @@ module _ (d : Direction) where
     meaning = λ setting text is_text. Alike-from_same (λ s. refl);
     stands = λ n p m. m.0;
     captures = refl;
-    goal = λ ends. absurd ends;
     account = omega arith;
   }
 
@@ -135,7 +118,6 @@ module _ (d : Direction) where
     meaning = λ setting text is_text. Alike-from_same (λ s. flat_map-stay _);
     stands = λ n p m. MayStand-from_last n t p m.0 m.1;
     captures = sym (append-nil (captures t));
-    goal = λ ends. ends;
     account = omega arith;
   }
 
@@ -144,7 +126,6 @@ module _ (d : Direction) where
     meaning = λ setting text is_text. Alike-from_same (λ s. sym (steps-spliced setting (encode_utf8_all text) d ts s));
     stands = λ n p m. (m.0, spliced-stand n ts p m.1);
     captures = captures-spliced ts;
-    goal = spliced-ends ts;
     account = omega (arith, units-spliced ts, loops-spliced ts);
   }
 

@@ -4,7 +4,7 @@ use Rattle.std.specs.Prelude.{encode_utf8_all}
 use Rattle.regress_tree.specs.Reading.{Direction}
 use Rattle.regress_tree.specs.Tree.{Tree}
 use Rattle.regress_tree.proofs.laws.Alike.{Alike-refl, Alike-trans}
-use Rattle.regress_tree.proofs.laws.Places.{Place, put, direction_at, Alike-put, MayStand-put, captures-put, EndsInGoal-put, account-put, MayStand-part}
+use Rattle.regress_tree.proofs.laws.Places.{Place, put, direction_at, Alike-put, MayStand-put, captures-put, account-put, MayStand-part}
 use Rattle.regress_opt.specs.Law.{IsPart, Keeps}
 
 pub Keeps-refl : (d : Direction) (t : Tree) → Keeps d t t
@@ -12,7 +12,6 @@ Keeps-refl d t = record {
   meaning = λ setting text is_text. Alike-refl _;
   stands = λ n p m. m;
   captures = refl;
-  goal = λ ends. ends;
   account = le_refl _;
 }
 
@@ -21,7 +20,6 @@ Keeps-trans d a b = record {
   meaning = λ setting text is_text. Alike-trans (a.meaning setting text is_text) (b.meaning setting text is_text);
   stands = λ n p m. b.stands n p (a.stands n p m);
   captures = b.captures ∙ a.captures;
-  goal = λ ends. b.goal (a.goal ends);
   account = le_trans b.account a.account;
 }
 
@@ -30,7 +28,6 @@ Keeps-put p d a = record {
   meaning = λ setting text is_text. Alike-put setting (encode_utf8_all text) p d _ _ (a.meaning setting text is_text);
   stands = MayStand-put _ _ a.stands a.captures p;
   captures = captures-put p _ _ a.captures;
-  goal = EndsInGoal-put _ _ a.goal p;
   account = account-put p _ _ a.account;
 }
 

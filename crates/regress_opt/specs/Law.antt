@@ -5,7 +5,6 @@ use Rattle.regress_tree.specs.Steps.{Alike}
 use Rattle.regress_tree.specs.Tree.{Tree, leaf, empty, tree}
 use Rattle.regress_tree.specs.Matching.{Setting, steps}
 use Rattle.regress_tree.specs.WellFormed.{Position, MayStand, captures}
-use Rattle.regress_tree.specs.Ending.{EndsInGoal}
 use Rattle.regress_tree.specs.Units.{account, IsLess}
 use Rattle.regress_opt.specs.declared.rewrite.PassAction.{PassAction}
 use Rattle.regress_opt.specs.declared.rewrite.PassAction.TheVariants.{Keep, Modified, Remove, Replace}
@@ -31,8 +30,6 @@ pub record Keeps (d : Direction) (old new : Tree) : Type 0 where
   pub stands : StandsWhere old new
   -- has its capture groups, with their ids and names,
   pub captures : captures new ≡ captures old
-  -- ends with the goal if the old one does,
-  pub goal : EndsInGoal old → EndsInGoal new
   -- and is no larger, the loops counted as if they were unrolled
   pub account : account new ≤ account old
 

@@ -3,7 +3,6 @@ ghost use Rattle.std.specs.Prelude.{◌≡◌, ◌≤◌, ◌+◌, ◌*◌, OnOk
 ghost use Rattle.regress_tree.specs.Reading.{forwards};
 ghost use Rattle.regress_tree.specs.Tree.{tree};
 ghost use Rattle.regress_tree.specs.WellFormed.{IsWellFormed, captures};
-ghost use Rattle.regress_tree.specs.Ending.{EndsInGoal};
 ghost use Rattle.regress_tree.specs.Units.{units, unrolling, loops, account};
 ghost use Rattle.regress_tree.specs.Shapes.{IsNormal};
 ghost use Rattle.regress_opt.specs.Law.{MeansTheSame};
@@ -24,7 +23,6 @@ pub fn optimize(alloc: Global, r: &mut Regex) -> Result<(), AllocError>
     ensures meaning { MeansTheSame forwards (tree r.old.node) (tree r.new.node) }
     ensures well_formed { IsWellFormed (tree r.new.node) }
     ensures captures { captures (tree r.new.node) ≡ captures (tree r.old.node) }
-    ensures goal { EndsInGoal (tree r.old.node) → EndsInGoal (tree r.new.node) }
     ensures account { account (tree r.new.node) ≤ account (tree r.old.node) }
     ensures units { units (tree r.new.node) ≤ units (tree r.old.node) + unrolling * loops (tree r.old.node) }
     ensures flags { r.new.flags ≡ r.old.flags }

@@ -4,7 +4,6 @@ ghost use Rattle.regress_tree.specs.Reading.{forwards};
 ghost use Rattle.regress_tree.specs.Tree.{tree, trees, leaf, empty, cat};
 ghost use Rattle.regress_tree.specs.Walk.{direction_of};
 ghost use Rattle.regress_tree.specs.WellFormed.{IsWellFormed, captures};
-ghost use Rattle.regress_tree.specs.Ending.{EndsInGoal};
 ghost use Rattle.regress_tree.specs.Units.{account};
 ghost use Rattle.regress_tree.specs.Shapes.{LacksShape, LacksInside};
 ghost use Rattle.regress_opt.specs.Law.{IsPart, MeansTheSame};
@@ -27,7 +26,6 @@ pub fn run_pass<R: Rewrite>(r: &mut Regex, pass: &mut R) -> Result<bool, AllocEr
     ensures meaning { MeansTheSame forwards (tree r.old.node) (tree r.new.node) }
     ensures well_formed { IsWellFormed (tree r.new.node) }
     ensures captures { captures (tree r.new.node) ≡ captures (tree r.old.node) }
-    ensures goal { EndsInGoal (tree r.old.node) → EndsInGoal (tree r.new.node) }
     ensures account { account (tree r.new.node) ≤ account (tree r.old.node) }
     ensures flags { r.new.flags ≡ r.old.flags }
 

@@ -13,7 +13,6 @@ pub mod Reading
 pub mod Steps
 pub mod Assertions
 pub mod Repetition
-pub mod Ending
 pub mod Matching
 pub mod Walk
 pub mod WellFormed

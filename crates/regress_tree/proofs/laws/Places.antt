@@ -6,7 +6,6 @@ use Rattle.regress_tree.specs.Tree.{Wrapper, capture_group, loop, loop_one, Tree
 use Rattle.regress_tree.specs.Matching.{Setting, direction_in, wrapper_steps, steps, steps_in_row}
 use Rattle.regress_tree.specs.WellFormed.{captures, captures_in_row, captures_of_wrapper, Position, inside, last_of, position_in, WrapperMayStand, MayStand, RowMayStand}
 use Rattle.regress_tree.specs.Units.{units, units_in_row, loops, loops_in_row, unrollable, account, weight, weight_of_row, weight_of_wrapper, IsLess}
-use Rattle.regress_tree.specs.Ending.{EndsInGoal, RowEndsInGoal}
 use Rattle.regress_tree.specs.Shapes.{LacksShape, RowLacksShape, LacksInside}
 use Rattle.regress_tree.proofs.laws.Alike.{Alike-refl, Alike-then, Alike-or, Alike-capture, Alike-repeat}
 use Rattle.regress_tree.proofs.laws.Rows.{units-append, loops-append, weight-append}
@@ -106,22 +105,6 @@ MayStand-part (among before behind) t n p m = RowMayStand-part n (last_of p) bef
 MayStand-part (left_of right) t n p m = (inside, m.1)
 MayStand-part (right_of left) t n p m = (inside, m.2)
 MayStand-part (inside_of w) t n p m = (position_in w, m.2)
-
--- Whether it ends with the goal.
-
-module _ (t u : Tree) (still : EndsInGoal t → EndsInGoal u) where
-  RowEndsInGoal-among : (before behind : Trees) → RowEndsInGoal (row_append before (more_trees t behind)) →
-      RowEndsInGoal (row_append before (more_trees u behind))
-  RowEndsInGoal-among no_trees no_trees ends = still ends
-  RowEndsInGoal-among no_trees (more_trees y behind) ends = ends
-  RowEndsInGoal-among (more_trees x no_trees) behind ends = RowEndsInGoal-among no_trees behind ends
-  RowEndsInGoal-among (more_trees x (more_trees y before)) behind ends = RowEndsInGoal-among (more_trees y before) behind ends
-
-  pub EndsInGoal-put : (p : Place) → EndsInGoal (put p t) → EndsInGoal (put p u)
-  EndsInGoal-put (among before behind) ends = RowEndsInGoal-among before behind ends
-  EndsInGoal-put (left_of right) ends = ends
-  EndsInGoal-put (right_of left) ends = ends
-  EndsInGoal-put (inside_of w) ends = ends
 
 -- How large it is.
 

@@ -9,7 +9,6 @@ use Rattle.regress_tree.specs.Tree.{Leaf, empty, goal, char, byte_sequence, byte
 use Rattle.regress_tree.specs.Matching.{Setting, steps, steps_in_row}
 use Rattle.regress_tree.specs.WellFormed.{captures, captures_in_row, Position, one_character, inside, last, root, NotAsOneCharacter, AsOneCharacter, GoalMayStand, last_of, LeafMayStand, MayStand, RowMayStand}
 use Rattle.regress_tree.specs.Units.{units, units_in_row, loops, loops_in_row, weight, weight_of_row}
-use Rattle.regress_tree.specs.Ending.{RowEndsInGoal}
 use Rattle.regress_tree.proofs.laws.Outcomes.{flat_map-then}
 
 pub row_append-none : (ts : Trees) → row_append ts no_trees ≡ ts
@@ -129,13 +128,3 @@ RowMayStand-append n no_trees us p first second = second
 RowMayStand-append n (more_trees t no_trees) us p first second = RowMayStand-more n t us p first second
 RowMayStand-append n (more_trees t (more_trees u ts)) us p first second =
     RowMayStand-more n t (row_append (more_trees u ts) us) p first.0 (RowMayStand-append n (more_trees u ts) us p first.1 second)
-
--- A row behind others, with the goal at its end.
-
-RowEndsInGoal-more : (t : Tree) (ts : Trees) → RowEndsInGoal ts → RowEndsInGoal (more_trees t ts)
-RowEndsInGoal-more t no_trees ends = absurd ends
-RowEndsInGoal-more t (more_trees u us) ends = ends
-
-pub RowEndsInGoal-append : (ts us : Trees) → RowEndsInGoal us → RowEndsInGoal (row_append ts us)
-RowEndsInGoal-append no_trees us ends = ends
-RowEndsInGoal-append (more_trees t ts) us ends = RowEndsInGoal-more t (row_append ts us) (RowEndsInGoal-append ts us ends)
