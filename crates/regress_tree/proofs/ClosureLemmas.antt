@@ -5,7 +5,7 @@ use Rattle.std.proofs.lemmas.Bool.Decides.{nat_tests}
 use Rattle.std.proofs.Math.Bool.{or-true}
 use Rattle.std.proofs.lemmas.List.Elements.{All-head, All-tail}
 use Rattle.std.specs.List.{list_any}
-use Rattle.regress_base.proofs.MemberLemmas.{is_member-nil, is_member-cons}
+use Rattle.regress_base.proofs.laws.Sets.{is_member-nil, is_member-cons}
 use Rattle.regress_base.specs.Intervals.{Bounds, code_point_max, is_within, is_member}
 use Rattle.regress_tree.specs.declared.unicode.shift.Shift.{Shift}
 use Rattle.regress_tree.specs.FoldRows.{FoldRow, moved, is_in_row, image_in_row, image, stays_in_range, is_target_in_range, are_targets_in_range, is_in_order_from, is_in_order}

@@ -5,7 +5,8 @@ use Rattle.std.proofs.lemmas.Bool.Decides.{nat_tests}
 use Rattle.std.proofs.lemmas.List.{take_all}
 use Rattle.std.proofs.lemmas.List.Folds.{list_any_more}
 use Rattle.std.specs.List.{list_any}
-use Rattle.regress_base.proofs.MemberLemmas.{is_member-nil, is_member-take_more, or_assoc, or-false}
+use Rattle.std.proofs.Math.Bool.{or-false}
+use Rattle.regress_base.proofs.laws.Sets.{is_member-nil, is_member-take_more, or_assoc}
 use Rattle.regress_base.specs.Intervals.{Bounds, is_within, is_member}
 use Rattle.regress_tree.specs.declared.unicode.shift.Shift.{Shift}
 use Rattle.regress_tree.specs.FoldRows.{FoldRow, moved, stays_in_range}

@@ -1,5 +1,5 @@
 -- Laws of sets of code points, for the crates above. What `pub use` passes on stands with its comment where it is proved.
-pub use Rattle.regress_base.proofs.MemberLemmas.{or_assoc, is_member-nil, is_member-cons, is_member-one, is_member-append}
+pub use Rattle.regress_base.proofs.MemberLemmas.{or_assoc, is_member-nil, is_member-cons, is_member-one, is_member-append, is_member-take_more}
 pub use Rattle.regress_base.proofs.CanonicalLemmas.{canonical_parts, member_above, no_member_past_end}
 pub use Rattle.regress_base.proofs.UniqueLemmas.{canonical_unique}
 use Rattle.std.proofs.Common.{◌≡◌, ℕ, zero, suc, ◌+◌, ◌<◌, ◌≤◌, ◌==◌, Bool, true, false, ◌||◌, ◌++◌, inl, inr, IsTrue, List, [], ◌∷◌, refl, sym, ap, ◌∙◌, subst, le_refl, arith}

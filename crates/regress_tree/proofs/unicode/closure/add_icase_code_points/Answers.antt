@@ -1,8 +1,8 @@
 -- The images of the members, and then what goes to them, are the closure.
 use Rattle.std.proofs.Common.{◌≤◌, ◌||◌, List, All, refl, subst, ap, ◌∙◌}
 use Rattle.regress_base.specs.Intervals.{Bounds, is_member}
-use Rattle.regress_base.proofs.CanonicalLemmas.{member_above}
-use Rattle.regress_base.proofs.UniqueLemmas.{canonical_unique}
+use Rattle.regress_base.proofs.laws.Sets.{member_above}
+use Rattle.regress_base.proofs.laws.Sets.{canonical_unique}
 use Rattle.regress_tree.specs.FoldRows.{FoldRow}
 use Rattle.regress_tree.specs.Shifts.{lands_by, forward, backward}
 use Rattle.regress_tree.specs.TableOf.{table_of}

@@ -2,7 +2,7 @@
 use Rattle.std.proofs.Common.{◌≡◌, ◌+◌, ◌||◌, ◌==◌, min, max, sym, ap, ◌∙◌, arith}
 use Rattle.std.proofs.lemmas.Result.{on_ok_weaker}
 use Rattle.regress_base.specs.Intervals.{is_member, is_within}
-use Rattle.regress_base.proofs.MemberLemmas.{or-false}
+use Rattle.std.proofs.Math.Bool.{or-false}
 use Rattle.regress_tree.specs.Shifts.{lands}
 use Rattle.regress_tree.proofs.ShiftLemmas.{overlap_none, overlap_whole, between, lands_between_none, between_more, between_no_more, between_all}
 use Rattle.regress_tree.proofs.unicode.closure.add_overlap.Goals as goal
