@@ -138,6 +138,8 @@ fn sweep_inside<R: Rewrite>(node: &mut Node, pass: &mut R, walk: &Walk) -> Resul
     match node {
         Node::Cat(parts) => sweep_parts(parts, pass, walk),
         Node::CaptureGroup { contents, .. } => sweep(contents, pass, walk),
+        Node::Loop { loopee, .. } => sweep(loopee, pass, walk),
+        Node::Loop1CharBody { loopee, .. } => sweep(loopee, pass, walk),
         Node::Alt(..)
         | Node::Empty
         | Node::Goal
@@ -146,7 +148,10 @@ fn sweep_inside<R: Rewrite>(node: &mut Node, pass: &mut R, walk: &Walk) -> Resul
         | Node::ByteSet(_)
         | Node::CharSet(_)
         | Node::MatchAny
-        | Node::MatchAnyExceptLineTerminator => Ok(false),
+        | Node::MatchAnyExceptLineTerminator
+        | Node::Anchor { .. }
+        | Node::WordBoundary { .. }
+        | Node::Bracket(_) => Ok(false),
     }
 }
 

@@ -1,14 +1,14 @@
 -- Each answer is a lemma on plain trees, at the values of the call.
 use Rattle.std.proofs.Common.{rules, arith, ◌≡◌, ◌∙◌, sym, ap, subst, refl, length-set}
 use Rattle.std.specs.Prelude.{option_map, string_bytes}
-use Rattle.regress_tree.specs.Tree.{Tree, tree, capture_group}
+use Rattle.regress_tree.specs.Tree.{Tree, tree, capture_group, loop, loop_one}
 use Rattle.regress_tree.specs.Units.{units}
-use Rattle.regress_tree.proofs.laws.Nodes.{tree-Alt, tree-CaptureGroup}
+use Rattle.regress_tree.proofs.laws.Nodes.{tree-Alt, tree-CaptureGroup, tree-Loop, tree-Loop1CharBody}
 use Rattle.regress_tree.proofs.laws.Places.{inside_of}
 use Rattle.regress_opt.specs.Law.{IsPart}
 use Rattle.regress_opt.specs.Spine.{is_alt, spine_length}
 use Rattle.regress_opt.proofs.CheckedLemmas.{sum_of}
-use Rattle.regress_opt.proofs.NodeLemmas.{out-Alt, out-CaptureGroup, alt_of}
+use Rattle.regress_opt.proofs.NodeLemmas.{out-Alt, out-CaptureGroup, out-Loop, out-Loop1CharBody, alt_of}
 use Rattle.regress_opt.proofs.KeepsLemmas.{IsPart-kept}
 use Rattle.regress_opt.proofs.SweepLemmas.{Swept-error, Swept-put, Swept-walk}
 use Rattle.regress_opt.proofs.SpineLemmas.{IsPart-reattach, IsPart-down, units_down, levels_down, down_next, down_last}
@@ -84,6 +84,19 @@ sweep_inside-returns-in-CaptureGroup g t c =
     let contents_is = rw (c.in-CaptureGroup.is, out-CaptureGroup) at c.deref_mut.ensures.value in
     let place = inside_of (capture_group c.in-CaptureGroup.id (option_map string_bytes c.in-CaptureGroup.name)) in
     rw (c.in-CaptureGroup.is, out-CaptureGroup) (simp tree-CaptureGroup (Swept-put _ place _ (rw contents_is at c.sweep.ensures)))
+
+pub sweep_inside-returns-in-Loop : goal.sweep_inside-returns-in-Loop
+sweep_inside-returns-in-Loop g t c =
+    let loopee_is = rw (c.in-Loop.is, out-Loop) at c.deref_mut-in-Loop.ensures.value in
+    let place = inside_of (loop c.in-Loop.quant c.in-Loop.enclosed_groups.start c.in-Loop.enclosed_groups.end) in
+    rw (c.in-Loop.is, out-Loop) (simp tree-Loop (Swept-put _ place _ (rw loopee_is at c.sweep-in-Loop.ensures)))
+
+pub sweep_inside-returns-in-Loop1CharBody : goal.sweep_inside-returns-in-Loop1CharBody
+sweep_inside-returns-in-Loop1CharBody g t c =
+    let loopee_is = rw (c.in-Loop1CharBody.is, out-Loop1CharBody) at c.deref_mut-in-Loop1CharBody.ensures.value in
+    let place = inside_of (loop_one c.in-Loop1CharBody.quant) in
+    rw (c.in-Loop1CharBody.is, out-Loop1CharBody)
+    (simp tree-Loop1CharBody (Swept-put _ place _ (rw loopee_is at c.sweep-in-Loop1CharBody.ensures)))
 
 pub sweep_parts-sweep-requires : goal.sweep_parts-sweep-requires
 sweep_parts-sweep-requires g t c κs lives =
