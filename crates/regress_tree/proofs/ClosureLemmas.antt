@@ -21,7 +21,8 @@ pub record IsGoodRow (row : FoldRow) : Type 0 where
   pub target : IsTrue (is_target_in_range row)
 
 -- a code point of a row that has another image is aligned
-moves_aligned : (row : FoldRow) (x : ℕ) → image_in_row row x ≢ x → (((x - row.start) % row.modulo == 0) ≡ true) × (image_in_row row x ≡ moved row.delta x)
+moves_aligned : (row : FoldRow) (x : ℕ) → image_in_row row x ≢ x → (((x - row.start) % row.modulo == 0) ≡ true) ×
+    (image_in_row row x ≡ moved row.delta x)
 moves_aligned row x other = by_test ((x - row.start) % row.modulo == 0) other
   where
     by_test : (b : Bool) → cond b (moved row.delta x) x ≢ x → (b ≡ true) × (cond b (moved row.delta x) x ≡ moved row.delta x)
@@ -29,12 +30,15 @@ moves_aligned row x other = by_test ((x - row.start) % row.modulo == 0) other
     by_test false ne = absurd (ne refl)
 
 -- going there and back
-back_and_forth : (delta : ℤ) (start n x : ℕ) → IsTrue (stays_in_range delta start) → start ≤ x → (origin delta (moved delta x) ≡ x) × (origin (neg_ℤ delta) x ≡ moved delta x) × (moved (neg_ℤ delta) (moved delta x) ≡ x) × (moved delta x - moved delta start ≡ x - start) × (moved delta start ≤ moved delta x)
+back_and_forth : (delta : ℤ) (start n x : ℕ) → IsTrue (stays_in_range delta start) → start ≤ x → (origin delta (moved delta x) ≡ x) ×
+    (origin (neg_ℤ delta) x ≡ moved delta x) × (moved (neg_ℤ delta) (moved delta x) ≡ x) ×
+    (moved delta x - moved delta start ≡ x - start) × (moved delta start ≤ moved delta x)
 back_and_forth (pos zero) start n x stays le = grind (arith, nat_tests)
 back_and_forth (pos (suc m)) start n x stays le = grind (arith, nat_tests)
 back_and_forth (negsuc m) start n x stays le = grind (arith, nat_tests)
 
-lands_at : (s : Shift) (p : ℕ → Bool) (x c : ℕ) → origin s.delta c ≡ x → is_hit s x ≡ true → p x ≡ true → moved s.delta x ≡ c → lands s p c ≡ true
+lands_at : (s : Shift) (p : ℕ → Bool) (x c : ℕ) → origin s.delta c ≡ x → is_hit s x ≡ true → p x ≡ true → moved s.delta x ≡ c →
+    lands s p c ≡ true
 unfolding lands
 lands_at s p x c from hit passes to =
     let yes : (moved s.delta x == c) ≡ true = eq-eqb (moved s.delta x) c to in
@@ -53,16 +57,19 @@ forward_gives row p c good h =
     let within : is_in_row row x ≡ true = grind (arith, nat_tests, hit, good.nonempty) in
     (x, within, rw on there, passes)
 
-good_start : (row : FoldRow) → IsGoodRow row → IsTrue (stays_in_range row.delta row.start) × IsTrue (stays_in_range row.delta (row.start + row.length - 1))
+good_start : (row : FoldRow) → IsGoodRow row → IsTrue (stays_in_range row.delta row.start) ×
+    IsTrue (stays_in_range row.delta (row.start + row.length - 1))
 good_start row good = grind (arith, nat_tests, good.target)
 
 in_row_bounds : (row : FoldRow) (x : ℕ) → is_in_row row x ≡ true → (row.start ≤ x) × (x ≤ row.start + row.length - 1)
 in_row_bounds row x within = grind (arith, nat_tests, within)
 
-hit_from : (first last modulo x : ℕ) → first ≤ x → x ≤ last → ((x - first) % modulo == 0) ≡ true → ((nat_le first x && nat_le x last) && (x - first) % modulo == 0) ≡ true
+hit_from : (first last modulo x : ℕ) → first ≤ x → x ≤ last → ((x - first) % modulo == 0) ≡ true →
+    ((nat_le first x && nat_le x last) && (x - first) % modulo == 0) ≡ true
 hit_from first last modulo x low high on = rw on (grind (arith, nat_tests))
 
-forward_from : (row : FoldRow) (p : ℕ → Bool) (x : ℕ) → IsGoodRow row → is_in_row row x ≡ true → image_in_row row x ≢ x → p x ≡ true → lands (forward row) p (image_in_row row x) ≡ true
+forward_from : (row : FoldRow) (p : ℕ → Bool) (x : ℕ) → IsGoodRow row → is_in_row row x ≡ true → image_in_row row x ≢ x → p x ≡ true →
+    lands (forward row) p (image_in_row row x) ≡ true
 forward_from row p x good within other passes =
     let on = moves_aligned row x other in
     let bounds = in_row_bounds row x within in
@@ -74,18 +81,22 @@ moved_le : (delta : ℤ) (x y : ℕ) → x ≤ y → moved delta x ≤ moved del
 moved_le (pos n) x y le = omega arith
 moved_le (negsuc n) x y le = omega arith
 
-backward_from : (row : FoldRow) (p : ℕ → Bool) (x : ℕ) → IsGoodRow row → is_in_row row x ≡ true → image_in_row row x ≢ x → p (image_in_row row x) ≡ true → lands (backward row) p x ≡ true
+backward_from : (row : FoldRow) (p : ℕ → Bool) (x : ℕ) → IsGoodRow row → is_in_row row x ≡ true → image_in_row row x ≢ x →
+    p (image_in_row row x) ≡ true → lands (backward row) p x ≡ true
 backward_from row p x good within other passes =
     let on = moves_aligned row x other in
     let bounds = in_row_bounds row x within in
     let back = back_and_forth row.delta row.start 0 x (good_start row good).0 bounds.0 in
-    let aligned : ((moved row.delta x - moved row.delta row.start) % row.modulo == 0) ≡ true = subst (λ (k : ℕ). (k % row.modulo == 0) ≡ true) (sym back.3) on.0 in
-    let hit = hit_from (moved row.delta row.start) (moved row.delta (row.start + row.length - 1)) row.modulo (moved row.delta x) back.4 (moved_le row.delta x (row.start + row.length - 1) bounds.1) aligned in
+    let aligned : ((moved row.delta x - moved row.delta row.start) % row.modulo == 0) ≡ true = subst
+    (λ (k : ℕ). (k % row.modulo == 0) ≡ true) (sym back.3) on.0 in
+    let hit = hit_from (moved row.delta row.start) (moved row.delta (row.start + row.length - 1)) row.modulo (moved row.delta x) back.4
+    (moved_le row.delta x (row.start + row.length - 1) bounds.1) aligned in
     lands_at (backward row) p (moved row.delta x) x back.1 hit (subst (λ (k : ℕ). p k ≡ true) on.1 passes) back.2
 
 -- what goes back to a row was in it
 back_hits : (delta : ℤ) (start last s : ℕ) → IsTrue (stays_in_range delta start) → IsTrue (stays_in_range delta last) → start ≤ last →
-    moved delta start ≤ origin (neg_ℤ delta) s → origin (neg_ℤ delta) s ≤ moved delta last → moved (neg_ℤ delta) (origin (neg_ℤ delta) s) ≡ s →
+    moved delta start ≤ origin (neg_ℤ delta) s → origin (neg_ℤ delta) s ≤ moved delta last →
+    moved (neg_ℤ delta) (origin (neg_ℤ delta) s) ≡ s →
     (start ≤ s) × (s ≤ last) × (origin (neg_ℤ delta) s ≡ moved delta s) × (origin (neg_ℤ delta) s - moved delta start ≡ s - start)
 back_hits (pos zero) start last s stays_start stays_last le low high back = grind (arith, nat_tests)
 back_hits (pos (suc m)) start last s stays_start stays_last le low high back = grind (arith, nat_tests)
@@ -108,11 +119,13 @@ lands_parts s p c h = record {
   back = grind (arith, nat_tests, h);
 }
 
-backward_gives : (row : FoldRow) (p : ℕ → Bool) (x : ℕ) → IsGoodRow row → lands (backward row) p x ≡ true → (is_in_row row x ≡ true) × (p (image_in_row row x) ≡ true)
+backward_gives : (row : FoldRow) (p : ℕ → Bool) (x : ℕ) → IsGoodRow row → lands (backward row) p x ≡ true → (is_in_row row x ≡ true) ×
+    (p (image_in_row row x) ≡ true)
 backward_gives row p x good h =
     let parts = lands_parts (backward row) p x h in
     let ends = good_start row good in
-    let hits = back_hits row.delta row.start (row.start + row.length - 1) x ends.0 ends.1 (omega (arith, good.nonempty)) parts.low parts.high parts.back in
+    let hits = back_hits row.delta row.start (row.start + row.length - 1) x ends.0 ends.1
+    (omega (arith, good.nonempty)) parts.low parts.high parts.back in
     let on : ((x - row.start) % row.modulo == 0) ≡ true = subst (λ (k : ℕ). (k % row.modulo == 0) ≡ true) hits.3 parts.on in
     let passes : p (moved row.delta x) ≡ true = subst (λ (k : ℕ). p k ≡ true) hits.2 parts.passes in
     (in_row_from row x good hits.0 hits.1, rw on passes)
@@ -145,7 +158,8 @@ image_later row rows x e = rw e
 past_row : (row : FoldRow) (x : ℕ) → row.start + row.length ≤ x → is_in_row row x ≡ false
 past_row row x le = grind (arith, nat_tests)
 
-rows_forward_gives : (low : ℕ) (rows : List FoldRow) (p : ℕ → Bool) (c : ℕ) → IsTrue (is_in_order_from low rows) → AreGoodRows rows → lands_by forward rows p c ≡ true →
+rows_forward_gives : (low : ℕ) (rows : List FoldRow) (p : ℕ → Bool) (c : ℕ) → IsTrue (is_in_order_from low rows) → AreGoodRows rows →
+    lands_by forward rows p c ≡ true →
     (x : ℕ) × (low ≤ x) × (image rows x ≡ c) × (p x ≡ true)
 unfolding lands_by
 rows_forward_gives low [] p c order good h = let no : false ≡ true = h in cc
@@ -163,17 +177,22 @@ rows_forward_gives low (row ∷ rows) p c order good h =
         let found = later h in
         (found.0, omega (arith, found.1, above), image_later row rows found.0 (past_row row found.0 found.1) ∙ found.2, found.3)
 
-rows_forward_from : (rows : List FoldRow) (p : ℕ → Bool) (x : ℕ) → AreGoodRows rows → image rows x ≢ x → p x ≡ true → lands_by forward rows p (image rows x) ≡ true
+rows_forward_from : (rows : List FoldRow) (p : ℕ → Bool) (x : ℕ) → AreGoodRows rows → image rows x ≢ x → p x ≡ true →
+    lands_by forward rows p (image rows x) ≡ true
 unfolding lands_by image
 rows_forward_from [] p x good other passes = absurd (other refl)
-rows_forward_from (row ∷ rows) p x good other passes = by_row (is_in_row row x) refl (λ ne. rows_forward_from rows p x good.1 ne passes) other
+rows_forward_from (row ∷ rows) p x good other passes = by_row (is_in_row row x) refl
+    (λ ne. rows_forward_from rows p x good.1 ne passes) other
   where
-    by_row : (b : Bool) → is_in_row row x ≡ b → (image rows x ≢ x → lands_by forward rows p (image rows x) ≡ true) → cond b (image_in_row row x) (image rows x) ≢ x →
-        (lands (forward row) p (cond b (image_in_row row x) (image rows x)) || list_any (λ r. lands (forward r) p (cond b (image_in_row row x) (image rows x))) rows) ≡ true
+    by_row : (b : Bool) → is_in_row row x ≡ b → (image rows x ≢ x → lands_by forward rows p (image rows x) ≡ true) →
+        cond b (image_in_row row x) (image rows x) ≢ x →
+        (lands (forward row) p (cond b (image_in_row row x) (image rows x)) || list_any
+        (λ r. lands (forward r) p (cond b (image_in_row row x) (image rows x))) rows) ≡ true
     by_row true e later ne = rw (forward_from row p x good.0 e ne passes)
     by_row false e later ne = rw (later ne) (or-true (lands (forward row) p (image rows x)))
 
-rows_backward_gives : (low : ℕ) (rows : List FoldRow) (p : ℕ → Bool) (x : ℕ) → IsTrue (is_in_order_from low rows) → AreGoodRows rows → lands_by backward rows p x ≡ true →
+rows_backward_gives : (low : ℕ) (rows : List FoldRow) (p : ℕ → Bool) (x : ℕ) → IsTrue (is_in_order_from low rows) → AreGoodRows rows →
+    lands_by backward rows p x ≡ true →
     (low ≤ x) × (p (image rows x) ≡ true)
 unfolding lands_by
 rows_backward_gives low [] p x order good h = let no : false ≡ true = h in cc
@@ -182,7 +201,8 @@ rows_backward_gives low (row ∷ rows) p x order good h =
     by_row (lands (backward row) p x) refl h parts.above (rows_backward_gives (row.start + row.length) rows p x parts.rest good.1)
   where
     by_row : (b : Bool) → lands (backward row) p x ≡ b → (b || list_any (λ r. lands (backward r) p x) rows) ≡ true → low ≤ row.start →
-        (list_any (λ r. lands (backward r) p x) rows ≡ true → (row.start + row.length ≤ x) × (p (image rows x) ≡ true)) → (low ≤ x) × (p (image (row ∷ rows) x) ≡ true)
+        (list_any (λ r. lands (backward r) p x) rows ≡ true → (row.start + row.length ≤ x) × (p (image rows x) ≡ true)) → (low ≤ x) ×
+        (p (image (row ∷ rows) x) ≡ true)
     by_row true here h above later =
         let found = backward_gives row p x good.0 here in
         (omega (arith, (in_row_bounds row x found.0).0, above), ap p (image_here row rows x found.0) ∙ found.1)
@@ -190,7 +210,8 @@ rows_backward_gives low (row ∷ rows) p x order good h =
         let found = later h in
         (omega (arith, found.0, above), ap p (image_later row rows x (past_row row x found.0)) ∙ found.1)
 
-rows_backward_from : (rows : List FoldRow) (p : ℕ → Bool) (x : ℕ) → AreGoodRows rows → image rows x ≢ x → p (image rows x) ≡ true → lands_by backward rows p x ≡ true
+rows_backward_from : (rows : List FoldRow) (p : ℕ → Bool) (x : ℕ) → AreGoodRows rows → image rows x ≢ x → p (image rows x) ≡ true →
+    lands_by backward rows p x ≡ true
 unfolding lands_by image
 rows_backward_from [] p x good other passes = absurd (other refl)
 rows_backward_from (row ∷ rows) p x good other passes = by_row (is_in_row row x) refl (rows_backward_from rows p x good.1) other passes
@@ -214,7 +235,8 @@ list_any_gives : (q : ℕ → Bool) (xs : List ℕ) → list_any q xs ≡ true �
 list_any_gives q [] h = let no : false ≡ true = h in cc
 list_any_gives q (x ∷ xs) h = by_test (q x) refl h (list_any_gives q xs)
   where
-    by_test : (b : Bool) → q x ≡ b → (b || list_any q xs) ≡ true → (list_any q xs ≡ true → (m : ℕ) × (lists xs m ≡ true) × (q m ≡ true)) → (m : ℕ) × (lists (x ∷ xs) m ≡ true) × (q m ≡ true)
+    by_test : (b : Bool) → q x ≡ b → (b || list_any q xs) ≡ true → (list_any q xs ≡ true → (m : ℕ) × (lists xs m ≡ true) × (q m ≡ true)) →
+        (m : ℕ) × (lists (x ∷ xs) m ≡ true) × (q m ≡ true)
     by_test true e h later = (x, lists-head x xs, e)
     by_test false e h later = let found = later h in (found.0, lists-tail x xs found.0 found.1, found.2)
 
@@ -224,9 +246,11 @@ some_member q set = list_any (λ iv. list_any q (code_points iv)) set
 
 some_member_from : (q : ℕ → Bool) (set : List Bounds) (m : ℕ) → is_member set m ≡ true → q m ≡ true → some_member q set ≡ true
 some_member_from q [] m member h = let no : false ≡ true = sym (is_member-nil m) ∙ member in cc
-some_member_from q (iv ∷ ivs) m member h = by_test (is_within iv m) refl (sym (is_member-cons iv ivs m) ∙ member) (λ later. some_member_from q ivs m later h)
+some_member_from q (iv ∷ ivs) m member h = by_test (is_within iv m) refl (sym (is_member-cons iv ivs m) ∙ member)
+    (λ later. some_member_from q ivs m later h)
   where
-    by_test : (b : Bool) → is_within iv m ≡ b → (b || is_member ivs m) ≡ true → (is_member ivs m ≡ true → some_member q ivs ≡ true) → (list_any q (code_points iv) || some_member q ivs) ≡ true
+    by_test : (b : Bool) → is_within iv m ≡ b → (b || is_member ivs m) ≡ true → (is_member ivs m ≡ true → some_member q ivs ≡ true) →
+        (list_any q (code_points iv) || some_member q ivs) ≡ true
     by_test true e t later = rw (list_any_from q (code_points iv) m (lists-interval iv m ∙ e) h)
     by_test false e t later = rw (later t) (or-true (list_any q (code_points iv)))
 
@@ -234,7 +258,9 @@ some_member_gives : (q : ℕ → Bool) (set : List Bounds) → some_member q set
 some_member_gives q [] h = let no : false ≡ true = h in cc
 some_member_gives q (iv ∷ ivs) h = by_test (list_any q (code_points iv)) refl h (some_member_gives q ivs)
   where
-    by_test : (b : Bool) → list_any q (code_points iv) ≡ b → (b || some_member q ivs) ≡ true → (some_member q ivs ≡ true → (m : ℕ) × (is_member ivs m ≡ true) × (q m ≡ true)) → (m : ℕ) × (is_member (iv ∷ ivs) m ≡ true) × (q m ≡ true)
+    by_test : (b : Bool) → list_any q (code_points iv) ≡ b → (b || some_member q ivs) ≡ true →
+        (some_member q ivs ≡ true → (m : ℕ) × (is_member ivs m ≡ true) × (q m ≡ true)) → (m : ℕ) × (is_member (iv ∷ ivs) m ≡ true) ×
+        (q m ≡ true)
     by_test true e t later =
         let found = list_any_gives q (code_points iv) e in
         let within : is_within iv found.0 ≡ true = sym (lists-interval iv found.0) ∙ found.1 in
@@ -243,14 +269,16 @@ some_member_gives q (iv ∷ ivs) h = by_test (list_any q (code_points iv)) refl 
         let found = later t in
         (found.0, is_member-cons iv ivs found.0 ∙ rw found.1 (or-true (is_within iv found.0)), found.2)
 
-pub closure_from : (t : Table) (set : List Bounds) (m c : ℕ) → c ≤ code_point_max → is_member set m ≡ true → t.fold m ≡ t.fold c → is_in_closure t set c ≡ true
+pub closure_from : (t : Table) (set : List Bounds) (m c : ℕ) → c ≤ code_point_max → is_member set m ≡ true → t.fold m ≡ t.fold c →
+    is_in_closure t set c ≡ true
 unfolding is_in_closure
 closure_from t set m c le member same =
     let some = some_member_from (λ x. t.fold x == t.fold c) set m member (eq-eqb (t.fold m) (t.fold c) same) in
     let small : nat_le c code_point_max ≡ true = grind (arith, nat_tests) in
     rw (small, some)
 
-pub closure_gives : (t : Table) (set : List Bounds) (c : ℕ) → is_in_closure t set c ≡ true → (c ≤ code_point_max) × (m : ℕ) × (is_member set m ≡ true) × (t.fold m ≡ t.fold c)
+pub closure_gives : (t : Table) (set : List Bounds) (c : ℕ) → is_in_closure t set c ≡ true → (c ≤ code_point_max) × (m : ℕ) ×
+    (is_member set m ≡ true) × (t.fold m ≡ t.fold c)
 unfolding is_in_closure
 closure_gives t set c h =
     let small : c ≤ code_point_max = grind (arith, nat_tests, h) in
@@ -270,16 +298,19 @@ either : (x y z : Bool) → x ≡ (y || z) → x ≡ true → (y ≡ true) ⊎ (
 either x true z is h = inl refl
 either x false z is h = inr (sym is ∙ h)
 
-folded_gives : (rows : List FoldRow) (set : List Bounds) (folded closed : ℕ → Bool) (c : ℕ) → ClosesOver rows set folded closed → folded c ≡ true →
+folded_gives : (rows : List FoldRow) (set : List Bounds) (folded closed : ℕ → Bool) (c : ℕ) → ClosesOver rows set folded closed →
+    folded c ≡ true →
     (m : ℕ) × (is_member set m ≡ true) × (image rows m ≡ image rows c)
-folded_gives rows set folded closed c over h = elim (either (folded c) (is_member set c) (lands_by forward rows (is_member set) c) (over.images c) h) [
-  | inl member ↦ (c, member, refl)
-  | inr lands ↦ (
-      let found = rows_forward_gives 0 rows (is_member set) c over.in_order over.good lands in
-      (found.0, found.3, sym (over.idempotent found.0) ∙ ap (image rows) found.2))
-]
+folded_gives rows set folded closed c over h = elim (either (folded c) (is_member set c) (lands_by forward rows (is_member set) c)
+    (over.images c) h) [
+      | inl member ↦ (c, member, refl)
+      | inr lands ↦ (
+          let found = rows_forward_gives 0 rows (is_member set) c over.in_order over.good lands in
+          (found.0, found.3, sym (over.idempotent found.0) ∙ ap (image rows) found.2))
+    ]
 
-closed_gives : (rows : List FoldRow) (set : List Bounds) (folded closed : ℕ → Bool) (c : ℕ) → ClosesOver rows set folded closed → closed c ≡ true →
+closed_gives : (rows : List FoldRow) (set : List Bounds) (folded closed : ℕ → Bool) (c : ℕ) → ClosesOver rows set folded closed →
+    closed c ≡ true →
     (m : ℕ) × (is_member set m ≡ true) × (image rows m ≡ image rows c)
 closed_gives rows set folded closed c over h = elim (either (closed c) (folded c) (lands_by backward rows folded c) (over.sources c) h) [
   | inl in_folded ↦ folded_gives rows set folded closed c over in_folded
@@ -289,13 +320,16 @@ closed_gives rows set folded closed c over h = elim (either (closed c) (folded c
       (from.0, from.1, from.2 ∙ over.idempotent c))
 ]
 
-image_folded : (rows : List FoldRow) (set : List Bounds) (folded closed : ℕ → Bool) (m : ℕ) → ClosesOver rows set folded closed → is_member set m ≡ true → folded (image rows m) ≡ true
+image_folded : (rows : List FoldRow) (set : List Bounds) (folded closed : ℕ → Bool) (m : ℕ) → ClosesOver rows set folded closed →
+    is_member set m ≡ true → folded (image rows m) ≡ true
 image_folded rows set folded closed m over member = elim (cases_eq (image rows m) m) [
   | inl stays ↦ over.images (image rows m) ∙ (let here : is_member set (image rows m) ≡ true = ap (is_member set) stays ∙ member in rw here)
-  | inr other ↦ over.images (image rows m) ∙ rw (rows_forward_from rows (is_member set) m over.good other member) (or-true (is_member set (image rows m)))
+  | inr other ↦ over.images (image rows m) ∙ rw (rows_forward_from rows (is_member set) m over.good other member)
+      (or-true (is_member set (image rows m)))
 ]
 
-closed_from : (rows : List FoldRow) (set : List Bounds) (folded closed : ℕ → Bool) (m c : ℕ) → ClosesOver rows set folded closed → is_member set m ≡ true → image rows m ≡ image rows c → closed c ≡ true
+closed_from : (rows : List FoldRow) (set : List Bounds) (folded closed : ℕ → Bool) (m c : ℕ) → ClosesOver rows set folded closed →
+    is_member set m ≡ true → image rows m ≡ image rows c → closed c ≡ true
 closed_from rows set folded closed m c over member same =
     let there : folded (image rows c) ≡ true = ap folded (sym same) ∙ image_folded rows set folded closed m over member in
     elim (cases_eq (image rows c) c) [
@@ -308,7 +342,8 @@ same_truth true b there back = sym (there refl)
 same_truth false true there back = back refl
 same_truth false false there back = refl
 
-pub closure_is : (t : Table) (rows : List FoldRow) (set : List Bounds) (folded closed : ℕ → Bool) → ((x : ℕ) → t.fold x ≡ image rows x) → ClosesOver rows set folded closed →
+pub closure_is : (t : Table) (rows : List FoldRow) (set : List Bounds) (folded closed : ℕ → Bool) → ((x : ℕ) → t.fold x ≡ image rows x) →
+    ClosesOver rows set folded closed →
     ((c : ℕ) → closed c ≡ true → c ≤ code_point_max) → (c : ℕ) → closed c ≡ is_in_closure t set c
 closure_is t rows set folded closed same over bound c = same_truth (closed c) (is_in_closure t set c)
     (λ h. (let found = closed_gives rows set folded closed c over h in
@@ -317,7 +352,8 @@ closure_is t rows set folded closed same over bound c = same_truth (closed c) (i
     closed_from rows set folded closed found.1 c over found.2 (sym (same found.1) ∙ found.3 ∙ same c)))
 
 -- the closure of a closure is itself
-pub closure_twice : (t : Table) (set closed : List Bounds) → ((c : ℕ) → is_member closed c ≡ is_in_closure t set c) → (c : ℕ) → is_in_closure t closed c ≡ is_member closed c
+pub closure_twice : (t : Table) (set closed : List Bounds) → ((c : ℕ) → is_member closed c ≡ is_in_closure t set c) → (c : ℕ) →
+    is_in_closure t closed c ≡ is_member closed c
 closure_twice t set closed is c = same_truth (is_in_closure t closed c) (is_member closed c)
     (λ h. (let found = closure_gives t closed c h in
     let first = closure_gives t set found.1 (sym (is found.1) ∙ found.2) in

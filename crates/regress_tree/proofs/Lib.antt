@@ -11,3 +11,4 @@ pub mod SourceLemmas
 pub mod RefusalLemmas
 pub mod ShiftLemmas
 pub mod ClosureLemmas
+pub mod TableExamples

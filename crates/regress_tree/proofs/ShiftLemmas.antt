@@ -23,17 +23,22 @@ lands-none s p c h = let e = h (origin s.delta c) in grind (arith, nat_tests, e)
 
 -- ---- one interval
 
-pub overlap_none : (s : Shift) (iv : Bounds) (a b c : ℕ) → a ≡ max s.first iv.first → b ≡ min s.last iv.last → b < a → lands s (is_within iv) c ≡ false
+pub overlap_none : (s : Shift) (iv : Bounds) (a b c : ℕ) → a ≡ max s.first iv.first → b ≡ min s.last iv.last → b < a →
+    lands s (is_within iv) c ≡ false
 unfolding lands is_within
 overlap_none s iv a b c is_a is_b lt = grind (arith, nat_tests)
 
 -- a shift of every code point moves an interval as a whole
-whole : (s : Shift) (iv : Bounds) (a b c : ℕ) (delta : ℤ) → a ≡ max s.first iv.first → b ≡ min s.last iv.last → a ≤ b → IsTrue (stays_in_range delta s.first) → IsTrue (stays_in_range delta s.last) →
-    (nat_le (moved delta a) c && nat_le c (moved delta b)) ≡ ((((nat_le s.first (origin delta c) && nat_le (origin delta c) s.last) && true) && (nat_le iv.first (origin delta c) && nat_le (origin delta c) iv.last)) && (moved delta (origin delta c) == c))
+whole : (s : Shift) (iv : Bounds) (a b c : ℕ) (delta : ℤ) → a ≡ max s.first iv.first → b ≡ min s.last iv.last → a ≤ b →
+    IsTrue (stays_in_range delta s.first) → IsTrue (stays_in_range delta s.last) →
+    (nat_le (moved delta a) c && nat_le c (moved delta b)) ≡
+    ((((nat_le s.first (origin delta c) && nat_le (origin delta c) s.last) && true) &&
+    (nat_le iv.first (origin delta c) && nat_le (origin delta c) iv.last)) && (moved delta (origin delta c) == c))
 whole s iv a b c (pos n) is_a is_b le first last = grind (arith, nat_tests)
 whole s iv a b c (negsuc n) is_a is_b le first last = grind (arith, nat_tests)
 
-pub overlap_whole : (s : Shift) (iv : Bounds) (a b c : ℕ) → IsShift s → s.modulo ≡ 1 → a ≡ max s.first iv.first → b ≡ min s.last iv.last → a ≤ b →
+pub overlap_whole : (s : Shift) (iv : Bounds) (a b c : ℕ) → IsShift s → s.modulo ≡ 1 → a ≡ max s.first iv.first → b ≡ min s.last iv.last →
+    a ≤ b →
     is_within (record { first = moved s.delta a; last = moved s.delta b }) c ≡ lands s (is_within iv) c
 unfolding lands is_within
 overlap_whole s iv a b c shift one is_a is_b le =
@@ -82,7 +87,8 @@ lands_one s k c shift hit = elim (cases_eq c (moved s.delta k)) [
     not_back : c ≢ moved s.delta k → ((origin s.delta c == k) && (moved s.delta (origin s.delta c) == c)) ≡ false
     not_back elsewhere = elim (cases_eq (origin s.delta c) k) [
       | inl e ↦ (
-          let no : (moved s.delta (origin s.delta c) == c) ≡ false = rw e (let ne : moved s.delta k ≢ c = λ h. elsewhere (sym h) in grind (arith, nat_tests, ne)) in
+          let no : (moved s.delta (origin s.delta c) == c) ≡ false = rw e
+          (let ne : moved s.delta k ≢ c = λ h. elsewhere (sym h) in grind (arith, nat_tests, ne)) in
           rw no (and-false (origin s.delta c == k)))
       | inr ne ↦ (let no : (origin s.delta c == k) ≡ false = grind (arith, nat_tests, ne) in rw no)
     ]
@@ -91,26 +97,30 @@ lands_no_one : (s : Shift) (k c : ℕ) → is_hit s k ≡ false → lands s (λ 
 unfolding lands
 lands_no_one s k c hit = elim (cases_eq (origin s.delta c) k) [
   | inl e ↦ rw (e, hit)
-  | inr ne ↦ (let no : (origin s.delta c == k) ≡ false = grind (arith, nat_tests, ne) in rw no (never (is_hit s (origin s.delta c)) (moved s.delta (origin s.delta c) == c)))
+  | inr ne ↦ (let no : (origin s.delta c == k) ≡ false = grind (arith, nat_tests, ne) in
+      rw no (never (is_hit s (origin s.delta c)) (moved s.delta (origin s.delta c) == c)))
 ]
   where
     never : (x z : Bool) → ((x && false) && z) ≡ false
     never true z = refl
     never false z = refl
 
-pub between_more : (s : Shift) (a k c : ℕ) (old so_far new : Bool) → IsShift s → a ≤ k → is_hit s k ≡ true → so_far ≡ (old || lands s (between a k) c) → new ≡ (so_far || (c == moved s.delta k)) → new ≡ (old || lands s (between a (k + 1)) c)
+pub between_more : (s : Shift) (a k c : ℕ) (old so_far new : Bool) → IsShift s → a ≤ k → is_hit s k ≡ true →
+    so_far ≡ (old || lands s (between a k) c) → new ≡ (so_far || (c == moved s.delta k)) → new ≡ (old || lands s (between a (k + 1)) c)
 between_more s a k c old so_far new shift le hit is_so_far is_new =
     let one = lands_one s k c shift hit in
     let more = lands-or s (between a k) (λ x. x == k) (between a (k + 1)) c (λ x. grind (arith, nat_tests)) in
     is_new ∙ rw (is_so_far, more, one) (sym (or_assoc old (lands s (between a k) c) (c == moved s.delta k)))
 
-pub between_no_more : (s : Shift) (a k c : ℕ) (old so_far : Bool) → a ≤ k → is_hit s k ≡ false → so_far ≡ (old || lands s (between a k) c) → so_far ≡ (old || lands s (between a (k + 1)) c)
+pub between_no_more : (s : Shift) (a k c : ℕ) (old so_far : Bool) → a ≤ k → is_hit s k ≡ false →
+    so_far ≡ (old || lands s (between a k) c) → so_far ≡ (old || lands s (between a (k + 1)) c)
 between_no_more s a k c old so_far le hit is_so_far =
     let one = lands_no_one s k c hit in
     let more = lands-or s (between a k) (λ x. x == k) (between a (k + 1)) c (λ x. grind (arith, nat_tests)) in
     is_so_far ∙ rw (more, one, or-false (lands s (between a k) c))
 
-pub between_all : (s : Shift) (iv : Bounds) (a b c : ℕ) → a ≡ max s.first iv.first → b ≡ min s.last iv.last → lands s (between a (b + 1)) c ≡ lands s (is_within iv) c
+pub between_all : (s : Shift) (iv : Bounds) (a b c : ℕ) → a ≡ max s.first iv.first → b ≡ min s.last iv.last →
+    lands s (between a (b + 1)) c ≡ lands s (is_within iv) c
 unfolding lands is_within
 between_all s iv a b c is_a is_b = grind (arith, nat_tests)
 
@@ -119,8 +129,10 @@ between_all s iv a b c is_a is_b = grind (arith, nat_tests)
 pub intervals_none : (s : Shift) (c : ℕ) (old : Bool) → old ≡ (old || lands s (is_member []) c)
 intervals_none s c old = sym (or-false old) ∙ ap (λ b. old || b) (sym (lands-none s (is_member []) c is_member-nil))
 
-pub intervals_more : (s : Shift) (ivs : List Bounds) (i c : ℕ) (iv : Bounds) (old so_far new : Bool) → i < length ivs → iv ≡ get_or ivs i iv →
-    so_far ≡ (old || lands s (is_member (take i ivs)) c) → new ≡ (so_far || lands s (is_within iv) c) → new ≡ (old || lands s (is_member (take (i + 1) ivs)) c)
+pub intervals_more : (s : Shift) (ivs : List Bounds) (i c : ℕ) (iv : Bounds) (old so_far new : Bool) → i < length ivs →
+    iv ≡ get_or ivs i iv →
+    so_far ≡ (old || lands s (is_member (take i ivs)) c) → new ≡ (so_far || lands s (is_within iv) c) →
+    new ≡ (old || lands s (is_member (take (i + 1) ivs)) c)
 intervals_more s ivs i c iv old so_far new lt is is_so_far is_new =
     let more = lands-or s (is_member (take i ivs)) (is_within iv) (is_member (take (i + 1) ivs)) c
     (λ x. is_member-take_more ivs i x iv lt ∙ ap (λ v. is_member (take i ivs) x || is_within v x) (sym is)) in
@@ -134,13 +146,16 @@ pub rows_none : (way : FoldRow → Shift) (p : ℕ → Bool) (c : ℕ) (old : Bo
 unfolding lands_by
 rows_none way p c old = sym (or-false old)
 
-pub rows_more : (way : FoldRow → Shift) (p : ℕ → Bool) (rows : List FoldRow) (i c : ℕ) (row : FoldRow) (shift : Shift) (old so_far new : Bool) → i < length rows → row ≡ get_or rows i row → shift ≡ way row →
-    so_far ≡ (old || lands_by way (take i rows) p c) → new ≡ (so_far || lands shift p c) → new ≡ (old || lands_by way (take (i + 1) rows) p c)
+pub rows_more : (way : FoldRow → Shift) (p : ℕ → Bool) (rows : List FoldRow) (i c : ℕ) (row : FoldRow) (shift : Shift)
+    (old so_far new : Bool) → i < length rows → row ≡ get_or rows i row → shift ≡ way row →
+    so_far ≡ (old || lands_by way (take i rows) p c) → new ≡ (so_far || lands shift p c) →
+    new ≡ (old || lands_by way (take (i + 1) rows) p c)
 unfolding lands_by
 rows_more way p rows i c row shift old so_far new lt is is_shift is_so_far is_new =
     let more = list_any_more (λ r. lands (way r) p c) rows i row lt in
     let here : lands shift p c ≡ lands (way (get_or rows i row)) p c = ap (λ s. lands s p c) is_shift ∙ ap (λ r. lands (way r) p c) is in
-    is_new ∙ rw (is_so_far, here, more) (sym (or_assoc old (list_any (λ r. lands (way r) p c) (take i rows)) (lands (way (get_or rows i row)) p c)))
+    is_new ∙ rw (is_so_far, here, more) (sym (or_assoc old (list_any (λ r. lands (way r) p c) (take i rows))
+    (lands (way (get_or rows i row)) p c)))
 
 pub rows_all : (way : FoldRow → Shift) (p : ℕ → Bool) (rows : List FoldRow) (i c : ℕ) (old so_far : Bool) → length rows ≤ i →
     so_far ≡ (old || lands_by way (take i rows) p c) → so_far ≡ (old || lands_by way rows p c)

@@ -22,16 +22,20 @@ loop-row-init c = record {
 
 pub loop-row-preserved : goal.loop-row-preserved
 loop-row-preserved c = record {
-  members = λ x. rows_more forward (is_member c.args.intervals.now) c.args.rows.now c.loop-row.row-index x c.row-item.result c.forward.result _ _ _ c.loop-row-test.true c.row-item.is
+  members = λ x. rows_more forward (is_member c.args.intervals.now) c.args.rows.now c.loop-row.row-index x c.row-item.result
+      c.forward.result _ _ _ c.loop-row-test.true c.row-item.is
       c.forward.ensures.value (c.loop-row.invariant.members x) (c.in_ok-add_shifted.ensures x);
-  nonempty = All-more (λ (row : FoldRow). 1 ≤ row.length) c.args.rows.now c.loop-row.row-index c.row-item.result c.loop-row-test.true c.loop-row.invariant.nonempty
+  nonempty = All-more (λ (row : FoldRow). 1 ≤ row.length) c.args.rows.now c.loop-row.row-index c.row-item.result c.loop-row-test.true
+      c.loop-row.invariant.nonempty
       (subst (λ (row : FoldRow). 1 ≤ row.length) c.row-item.is c.forward.ensures.nonempty);
 }
 
 pub returns-clause-members : goal.returns-clause-members
 returns-clause-members c x =
-    rows_all forward (is_member c.args.intervals.now) c.args.rows.now c.loop-row.row-index x _ _ c.loop-row-test.false (c.loop-row.invariant.members x)
+    rows_all forward (is_member c.args.intervals.now) c.args.rows.now c.loop-row.row-index x _ _ c.loop-row-test.false
+    (c.loop-row.invariant.members x)
 
 pub returns-clause-nonempty : goal.returns-clause-nonempty
 returns-clause-nonempty c =
-    subst (λ (rows : List FoldRow). All (λ row. 1 ≤ row.length) rows) (take_all c.loop-row.row-index c.args.rows.now c.loop-row-test.false) c.loop-row.invariant.nonempty
+    subst (λ (rows : List FoldRow). All (λ row. 1 ≤ row.length) rows)
+    (take_all c.loop-row.row-index c.args.rows.now c.loop-row-test.false) c.loop-row.invariant.nonempty

@@ -24,21 +24,25 @@ returns-then-shift-eq1 c =
     (λ members x. members x ∙ ap (λ b. is_member c.args.set.now x || b)
     (ap (λ iv. is_within iv x) ends
     ∙ rw (c.apply.ensures.value, c.apply-then-shift-eq1.ensures.value)
-    (overlap_whole c.args.shift.now c.args.interval c.max-first.result c.min-last.result x c.requires c.if-shift-eq1.true first last c.if-last-first.false)))
+    (overlap_whole c.args.shift.now c.args.interval c.max-first.result c.min-last.result x c.requires c.if-shift-eq1.true first last
+    c.if-last-first.false)))
     c.add.ensures.members
 
 pub loop-c-init : goal.loop-c-init
 loop-c-init c x =
-    sym (or-false (is_member c.args.set.now x)) ∙ ap (λ b. is_member c.args.set.now x || b) (sym (lands_between_none c.args.shift.now c.max-first.result x))
+    sym (or-false (is_member c.args.set.now x)) ∙ ap (λ b. is_member c.args.set.now x || b)
+    (sym (lands_between_none c.args.shift.now c.max-first.result x))
 
 pub loop-c-preserved : goal.loop-c-preserved
 loop-c-preserved c =
     elim c.if-moves.branch [
       | then-moves+in_ok-add_one w ↦ λ x. rw w.set-is
-          (between_more c.args.shift.now c.max-first.result c.loop-c.c x _ _ _ c.requires (omega arith) (sym c.moves.ensures ∙ w.if-moves.true) (c.loop-c.invariant x)
+          (between_more c.args.shift.now c.max-first.result c.loop-c.c x _ _ _ c.requires (omega arith)
+          (sym c.moves.ensures ∙ w.if-moves.true) (c.loop-c.invariant x)
           (w.in_ok-add_one.ensures.members x ∙ ap (λ k. is_member c.loop-c.set x || (x == k)) w.apply-then-moves.ensures.value))
       | else-moves w ↦ λ x. rw w.set-is
-          (between_no_more c.args.shift.now c.max-first.result c.loop-c.c x _ _ (omega arith) (sym c.moves.ensures ∙ w.if-moves.false) (c.loop-c.invariant x))
+          (between_no_more c.args.shift.now c.max-first.result c.loop-c.c x _ _ (omega arith) (sym c.moves.ensures ∙ w.if-moves.false)
+          (c.loop-c.invariant x))
     ]
 
 pub returns : goal.returns
@@ -48,4 +52,5 @@ returns c x =
     let done : c.loop-c.c ≡ c.min-last.result + 1 = omega arith in
     c.loop-c.invariant x
     ∙ ap (λ k. is_member c.args.set.now x || lands c.args.shift.now (between c.max-first.result k) x) done
-    ∙ ap (λ b. is_member c.args.set.now x || b) (between_all c.args.shift.now c.args.interval c.max-first.result c.min-last.result x first last)
+    ∙ ap (λ b. is_member c.args.set.now x || b) (between_all c.args.shift.now c.args.interval c.max-first.result c.min-last.result x first
+    last)

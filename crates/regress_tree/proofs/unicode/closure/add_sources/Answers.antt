@@ -17,9 +17,11 @@ loop-row-init c x = rows_none backward (is_member c.args.intervals.now) x _
 
 pub loop-row-preserved : goal.loop-row-preserved
 loop-row-preserved c x =
-    rows_more backward (is_member c.args.intervals.now) c.args.rows.now c.loop-row.row-index x c.row-item.result c.backward.result _ _ _ c.loop-row-test.true c.row-item.is
+    rows_more backward (is_member c.args.intervals.now) c.args.rows.now c.loop-row.row-index x c.row-item.result c.backward.result _ _ _
+    c.loop-row-test.true c.row-item.is
     c.backward.ensures.value (c.loop-row.invariant x) (c.in_ok-add_shifted.ensures x)
 
 pub returns : goal.returns
 returns c x =
-    rows_all backward (is_member c.args.intervals.now) c.args.rows.now c.loop-row.row-index x _ _ c.loop-row-test.false (c.loop-row.invariant x)
+    rows_all backward (is_member c.args.intervals.now) c.args.rows.now c.loop-row.row-index x _ _ c.loop-row-test.false
+    (c.loop-row.invariant x)
