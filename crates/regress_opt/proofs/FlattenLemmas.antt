@@ -34,7 +34,8 @@ spliced-stand n no_trees p m = tt
 spliced-stand n (more_trees t no_trees) p m =
     subst (λ (us : Trees). RowMayStand n us (last_of p)) (sym (row_append-none (parts_of t))) (parts_of-stand n t p m)
 spliced-stand n (more_trees t (more_trees u ts)) p m =
-    RowMayStand-append n (parts_of t) (spliced (more_trees u ts)) p (parts_of-stand n t inside m.0) (spliced-stand n (more_trees u ts) p m.1)
+    let later = spliced-stand n (more_trees u ts) p m.1 in
+    RowMayStand-append n (parts_of t) (spliced (more_trees u ts)) p (parts_of-stand n t inside m.0) later
 
 -- Outcomes.
 
@@ -133,9 +134,9 @@ module _ (d : Direction) where
 lighter : (new old : Tree) → loops new ≡ loops old → weight new < weight old → IsLess new old
 lighter new old same less = record { less = inr (same, less) }
 
-changes : (removes : Tree → Bool) (exact : Bool) (d : Direction) (old left : Tree) (action : PassAction) → action ≢ Keep → removes old ≡ true →
-    Keeps d old (after action left) → IsLess (after action left) old → IsLawful removes exact d old left action
-changes removes exact d old left action other some keeps is_less = record {
+changes : (d : Direction) (old left : Tree) (action : PassAction) → action ≢ Keep → is_flattened_away old ≡ true →
+    Keeps d old (after action left) → IsLess (after action left) old → IsLawful is_flattened_away true d old left action
+changes d old left action other some keeps is_less = record {
   keeps = keeps;
   less = λ changed. is_less;
   kept = λ same. absurd (other same);
@@ -143,7 +144,7 @@ changes removes exact d old left action other some keeps is_less = record {
   exact = λ is_exact none. absurd (false≢true (sym none ∙ some));
 }
 
-pub keeps_lawful : (d : Direction) (t : Tree) → is_flattened_away t ≡ false → IsLawful is_flattened_away true d t t Keep
+keeps_lawful : (d : Direction) (t : Tree) → is_flattened_away t ≡ false → IsLawful is_flattened_away true d t t Keep
 keeps_lawful d t none = record {
   keeps = Keeps-refl d t;
   less = λ other. absurd (other refl);
@@ -158,15 +159,15 @@ flattens_lawful d Keep old new flattens =
     subst (λ (ts : Trees). IsLawful is_flattened_away true d (cat old) (cat ts) Keep) (sym flattens.1) (keeps_lawful d (cat old) flattens.0)
 flattens_lawful d Modified old new flattens =
     subst (λ (ts : Trees). IsLawful is_flattened_away true d (cat old) (cat ts) Modified) (sym flattens.1)
-    (changes is_flattened_away true d (cat old) (cat (spliced old)) Modified (λ same. cc) (or_right (is_short old) (has_cat old) flattens.0) (spliced_keeps d old)
+    (changes d (cat old) (cat (spliced old)) Modified (λ same. cc) (or_right (is_short old) (has_cat old) flattens.0) (spliced_keeps d old)
     (lighter (cat (spliced old)) (cat old) (loops-spliced old) (omega (arith, weight-less old flattens.0))))
 flattens_lawful d Remove old new flattens =
     subst (λ (ts : Trees). IsLawful is_flattened_away true d (cat ts) (cat new) Remove) (sym flattens)
-    (changes is_flattened_away true d (cat no_trees) (cat new) Remove (λ same. cc) refl (none_keeps d)
+    (changes d (cat no_trees) (cat new) Remove (λ same. cc) refl (none_keeps d)
     (lighter (leaf empty) (cat no_trees) refl (omega arith)))
 flattens_lawful d (Replace part) old new flattens =
     subst (λ (ts : Trees). IsLawful is_flattened_away true d (cat ts) (cat new) (Replace part)) (sym flattens)
-    (changes is_flattened_away true d (cat (more_trees (tree part) no_trees)) (cat new) (Replace part) (λ same. cc) refl (one_keeps d (tree part))
+    (changes d (cat (more_trees (tree part) no_trees)) (cat new) (Replace part) (λ same. cc) refl (one_keeps d (tree part))
     (lighter (tree part) (cat (more_trees (tree part) no_trees)) (omega arith) (omega arith)))
 
 pub flatten_lawful : (d : Direction) (r : Result PassAction AllocError) (was is : Trees) → IfOk r (λ action. Flattens action was is) →

@@ -1,9 +1,11 @@
 -- One level of a node.
 use Rattle.std.proofs.Common.{◌≡◌, ◌∙◌, sym, ap, ℕ, Option, Vec, Box, Global, rules}
 use Rattle.std.specs.Prelude.{String}
+use Rattle.std.specs.declared.ops.Range.{Range}
+use Rattle.regress_tree.specs.declared.ir.node.Quantifier.{Quantifier}
 use Rattle.regress_tree.specs.declared.ir.node.Node.{Node, out-Node, the_lemmas}
 use Rattle.regress_tree.specs.declared.ir.node.Node.TheOpen.{Node-F}
-use Rattle.regress_tree.specs.declared.ir.node.Node.TheVariants.{Cat, Alt, CaptureGroup}
+use Rattle.regress_tree.specs.declared.ir.node.Node.TheVariants.{Cat, Alt, CaptureGroup, Loop, Loop1CharBody}
 use Rattle.regress_tree.specs.Tree.{tree, alt}
 use Rattle.regress_tree.proofs.laws.Nodes.{tree-Alt}
 
@@ -13,6 +15,14 @@ out-Alt left right = search (rules, the_lemmas)
 pub out-CaptureGroup : (id : ℕ) (contents : Box Node Global) (name : Option (String Global)) →
     out-Node (CaptureGroup id contents name) ≡ Node-F.CaptureGroup id contents name
 out-CaptureGroup id contents name = search (rules, the_lemmas)
+
+pub out-Loop : (loopee : Box Node Global) (quantifier : Quantifier) (groups : Range ℕ) →
+    out-Node (Loop loopee quantifier groups) ≡ Node-F.Loop loopee quantifier groups
+out-Loop loopee quantifier groups = search (rules, the_lemmas)
+
+pub out-Loop1CharBody : (loopee : Box Node Global) (quantifier : Quantifier) →
+    out-Node (Loop1CharBody loopee quantifier) ≡ Node-F.Loop1CharBody loopee quantifier
+out-Loop1CharBody loopee quantifier = search (rules, the_lemmas)
 
 pub out-Cat : (parts : Vec Node Global) → out-Node (Cat parts) ≡ Node-F.Cat parts
 out-Cat parts = search (rules, the_lemmas)

@@ -11,16 +11,22 @@ use Rattle.regress_tree.specs.Shapes.{LacksShape, RowLacksShape, LacksInside}
 use Rattle.regress_tree.proofs.laws.Rows.{trees-append, units-append}
 use Rattle.regress_tree.proofs.laws.Places.{Place, among, put, LacksShape-part}
 use Rattle.regress_opt.specs.Law.{IsPart, Keeps}
-use Rattle.regress_opt.specs.Sweep.{Swept}
+use Rattle.regress_opt.specs.Sweep.{Swept, SweptOf}
 use Rattle.regress_opt.proofs.KeepsLemmas.{IsPart-kept, IsPart-part}
 use Rattle.regress_opt.proofs.SweepLemmas.{joined, Swept-put, Swept-then}
 
-RowLacksShape-append : (shape : Tree → Bool) (ts us : Trees) → RowLacksShape shape ts → RowLacksShape shape us → RowLacksShape shape (row_append ts us)
+-- what the sweep of the row `initial` has made of it when it has come to part `i`
+abbrev pub PartsSwept : (Tree → Bool) → Bool → Direction → List Node → List Node → ℕ → Result Bool AllocError → Type 0
+PartsSwept shape exact d initial now i =
+    Swept (RowLacksShape shape (trees initial)) (RowLacksShape shape (trees (take i now))) exact d (cat (trees initial)) (cat (trees now))
+
+RowLacksShape-append : (shape : Tree → Bool) (ts us : Trees) → RowLacksShape shape ts → RowLacksShape shape us →
+    RowLacksShape shape (row_append ts us)
 RowLacksShape-append shape no_trees us first second = second
 RowLacksShape-append shape (more_trees t ts) us first second = (first.0, RowLacksShape-append shape ts us first.1 second)
 
 module _ (now : List Node) (i : ℕ) (in_row : i < length now) where
-  -- where the part stands
+  -- where part `i` stands
   abbrev place : Place
   place = among (trees (take i now)) (trees (drop (suc i) now))
 
@@ -43,29 +49,32 @@ module _ (now : List Node) (i : ℕ) (in_row : i < length now) where
 
     pub units_at : (initial : List Node) → drop i now ≡ drop i initial → units (tree old) ≤ units_in_row (trees initial)
     units_at initial unvisited =
-        let rest : drop i initial ≡ old ∷ drop (suc i) now = sym unvisited ∙ drop-cons now i old in_row ∙ ap (λ n. n ∷ drop (suc i) now) (sym at) in
-        let whole : trees initial ≡ row_append (trees (take i initial)) (trees (old ∷ drop (suc i) now)) =
-        ap trees (sym (take-append-drop i initial) ∙ ap (λ nodes. take i initial ++ nodes) rest) ∙ trees-append (take i initial) (old ∷ drop (suc i) now) in
-        omega (arith, ap units_in_row whole, units-append (trees (take i initial)) (trees (old ∷ drop (suc i) now)))
+        let behind = old ∷ drop (suc i) now in
+        let rest : drop i initial ≡ behind =
+        sym unvisited ∙ drop-cons now i old in_row ∙ ap (λ n. n ∷ drop (suc i) now) (sym at) in
+        let cut : initial ≡ take i initial ++ behind = sym (take-append-drop i initial) ∙ ap (λ nodes. take i initial ++ nodes) rest in
+        let whole : trees initial ≡ row_append (trees (take i initial)) (trees behind) =
+        ap trees cut ∙ trees-append (take i initial) behind in
+        omega (arith, ap units_in_row whole, units-append (trees (take i initial)) (trees behind))
 
-    module _ (exact : Bool) (d : Direction) (shape : Tree → Bool) (initial : List Node) (changed : Bool) (answer : Result Bool AllocError) (new : Node) where
+    module _ (shape : Tree → Bool) (exact : Bool) (d : Direction) (initial : List Node) (changed : Bool) (new : Node) where
       part_lacks : RowLacksShape shape (trees initial) → cat (trees now) ≡ cat (trees initial) → LacksShape shape (tree old)
       part_lacks lacks same =
-          let lacks_now : LacksInside shape (cat (trees now)) = subst (λ (t : Tree). LacksInside shape t) (sym same) lacks in
-          LacksShape-part shape place (tree old) (subst (λ (t : Tree). LacksInside shape t) row_at lacks_now)
+          let P : Tree → Type 0 = λ t. LacksInside shape t in
+          let lacks_now : LacksInside shape (cat (trees now)) = subst P (sym same) lacks in
+          LacksShape-part shape place (tree old) (subst P row_at lacks_now)
 
-      more_lack : RowLacksShape shape (trees (take i now)) → LacksShape shape (tree new) → RowLacksShape shape (trees (take (i + 1) (set now i new)))
+      more_lack : RowLacksShape shape (trees (take i now)) → LacksShape shape (tree new) →
+          RowLacksShape shape (trees (take (i + 1) (set now i new)))
       more_lack before here =
           let one : RowLacksShape shape (trees (new ∷ [])) = (here, tt) in
           rw (take_more_set now i new in_row, trees-append (take i now) (new ∷ []))
           (RowLacksShape-append shape (trees (take i now)) (trees (new ∷ [])) before one)
 
-      pub parts_next :
-          Swept (RowLacksShape shape (trees initial)) (RowLacksShape shape (trees (take i now))) exact d (cat (trees initial)) (cat (trees now)) (Ok changed) →
-          Swept (LacksShape shape (tree old)) (LacksShape shape (tree new)) exact d (tree old) (tree new) answer →
-          Swept (RowLacksShape shape (trees initial)) (RowLacksShape shape (trees (take (i + 1) (set now i new)))) exact d
-          (cat (trees initial)) (cat (trees (set now i new))) (joined changed answer)
-      parts_next so_far here =
+      pub parts_next : (answer : Result Bool AllocError) → PartsSwept shape exact d initial now i (Ok changed) →
+          SweptOf (LacksShape shape) exact d (tree old) (tree new) answer →
+          PartsSwept shape exact d initial (set now i new) (i + 1) (joined changed answer)
+      parts_next answer so_far here =
           let there = Swept-put exact place d here in
           Swept-then exact d so_far (rw (row_at, row_set new) there) part_lacks more_lack
 

@@ -7,18 +7,12 @@ use Rattle.regress_tree.specs.Units.{units}
 use Rattle.regress_tree.specs.Shapes.{LacksShape}
 use Rattle.regress_tree.proofs.laws.Places.{left_of, right_of}
 use Rattle.regress_opt.specs.Law.{IsPart, Keeps}
-use Rattle.regress_opt.specs.Sweep.{Swept}
+use Rattle.regress_opt.specs.Sweep.{Swept, SweptOf}
 use Rattle.regress_opt.specs.Spine.{is_alt, Shifted, reattach, spine_length, LeftsLackShape}
 use Rattle.regress_opt.proofs.KeepsLemmas.{IsPart-kept, IsPart-part}
 use Rattle.regress_opt.proofs.SweepLemmas.{joined, Swept-put, Swept-then, Swept-same, LacksShape-here, LacksShape-from}
 
 -- What stands at the end of the way, and the whole.
-
-pub reattach-none : (above t : Tree) → is_alt above ≡ false → reattach above t ≡ t
-reattach-none (leaf l) t none = refl
-reattach-none (cat parts) t none = refl
-reattach-none (alt left above) t none = absurd (true≢false none)
-reattach-none (wrapped w body) t none = refl
 
 pub IsPart-reattach : (above t : Tree) → IsPart (reattach above t) → IsPart t
 IsPart-reattach (leaf l) t part = part
@@ -40,17 +34,20 @@ module _ (exact : Bool) (d : Direction) where
   Swept-reattach (alt left above) t u swept = Swept-reattach above (alt left t) (alt left u) (Swept-put exact (right_of left) d swept)
   Swept-reattach (wrapped w body) t u swept = swept
 
-  module _ (shape : Tree → Bool) (old : Tree) (changed : Bool) (answer : Result Bool AllocError) where
+  module _ (shape : Tree → Bool) (old : Tree) where
     -- what a whole that is still the old one lacks, its end lacks
     end_lacks : (above t : Tree) → LacksShape shape old → reattach above t ≡ old → LacksShape shape t
     end_lacks above t lacks same = LacksShape-reattach shape above t (subst (λ (x : Tree). LacksShape shape x) (sym same) lacks)
 
+    -- what going down has made of the old tree, with the left sides above swept
+    abbrev pub DownSwept : Tree → Tree → Result Bool AllocError → Type 0
+    DownSwept above node = Swept (LacksShape shape old) (LeftsLackShape shape above) exact d old (reattach above node)
+
     -- down: a left side is swept,
-    pub down_next : (node above rest top left left' right : Tree) → Shifted node above rest top → top ≡ alt left right →
-        Swept (LacksShape shape old) (LeftsLackShape shape above) exact d old (reattach above node) (Ok changed) →
-        Swept (LacksShape shape left) (LacksShape shape left') exact d left left' answer →
-        Swept (LacksShape shape old) (LeftsLackShape shape (alt left' right)) exact d old (reattach (alt left' right) rest) (joined changed answer)
-    down_next node above rest top left left' right shifted is so_far here =
+    pub down_next : (changed : Bool) (answer : Result Bool AllocError) (node above rest top left left' right : Tree) →
+        Shifted node above rest top → top ≡ alt left right → DownSwept above node (Ok changed) →
+        SweptOf (LacksShape shape) exact d left left' answer → DownSwept (alt left' right) rest (joined changed answer)
+    down_next changed answer node above rest top left left' right shifted is so_far here =
         let sides : alt shifted.left above ≡ alt left right = sym shifted.is ∙ is in
         let first : shifted.left ≡ left = cc in
         let second : above ≡ right = cc in
@@ -59,28 +56,32 @@ module _ (exact : Bool) (d : Direction) where
         (λ lacks same. (end_lacks right (alt left rest) lacks same).1) (λ lefts this. (this, lefts))
 
     -- and then the last alternative
-    pub down_last : (above node node' : Tree) →
-        Swept (LacksShape shape old) (LeftsLackShape shape above) exact d old (reattach above node) (Ok changed) →
-        Swept (LacksShape shape node) (LacksShape shape node') exact d node node' answer →
-        Swept (LacksShape shape old) (LacksShape shape node' × LeftsLackShape shape above) exact d old (reattach above node') (joined changed answer)
-    down_last above node node' so_far here =
+    pub down_last : (changed : Bool) (answer : Result Bool AllocError) (above node node' : Tree) → DownSwept above node (Ok changed) →
+        SweptOf (LacksShape shape) exact d node node' answer →
+        Swept (LacksShape shape old) (LacksShape shape node' × LeftsLackShape shape above) exact d old (reattach above node')
+        (joined changed answer)
+    down_last changed answer above node node' so_far here =
         Swept-then exact d so_far (Swept-reattach above node node' here) (end_lacks above node) (λ lefts this. (this, lefts))
 
+    -- what going up has made of the old tree: if it was clean at the start, what is rewritten is, and the left sides above
+    abbrev pub UpSwept : Type 0 → Tree → Tree → Result Bool AllocError → Type 0
+    UpSwept start above node =
+        Swept (LacksShape shape old) (start → LacksShape shape node × LeftsLackShape shape above) exact d old (reattach above node)
+
     -- up: the next alternative is rewritten
-    pub up_next : (start : Type 0) (above node rest here made : Tree) → Shifted above node rest here →
-        Swept (LacksShape shape old) (start → LacksShape shape node × LeftsLackShape shape above) exact d old (reattach above node) (Ok changed) →
-        Swept (shape here ≡ false) (shape made ≡ false) exact d here made answer →
-        Swept (LacksShape shape old) (start → LacksShape shape made × LeftsLackShape shape rest) exact d old (reattach rest made) (joined changed answer)
-    up_next start above node rest here made shifted so_far rewritten =
-        let left = shifted.left in
+    pub up_next : (start : Type 0) (changed : Bool) (answer : Result Bool AllocError) (above node rest here made : Tree) →
+        Shifted above node rest here → UpSwept start above node (Ok changed) →
+        SweptOf (λ t. shape t ≡ false) exact d here made answer → UpSwept start rest made (joined changed answer)
+    up_next start changed answer above node rest here made shifted so_far rewritten =
+        let next = alt shifted.left node in
         let so_far' = rw shifted.was at so_far in
         let rewritten' = rw shifted.is at rewritten in
-        Swept-then exact d so_far' (Swept-reattach rest (alt left node) made (Swept-same exact d rewritten'))
-        (λ lacks same. LacksShape-here shape (alt left node) (end_lacks rest (alt left node) lacks same))
+        Swept-then exact d so_far' (Swept-reattach rest next made (Swept-same exact d rewritten'))
+        (λ lacks same. LacksShape-here shape next (end_lacks rest next lacks same))
         (λ clean this begun.
         let parts = clean begun in
-        let next = LacksShape-from shape (alt left node) (parts.1.0, parts.0) (sym (ap shape this.1) ∙ this.0) in
-        (subst (λ (x : Tree). LacksShape shape x) (sym this.1) next, parts.1.1))
+        let lacks = LacksShape-from shape next (parts.1.0, parts.0) (sym (ap shape this.1) ∙ this.0) in
+        (subst (λ (x : Tree). LacksShape shape x) (sym this.1) lacks, parts.1.1))
 
 -- a left side on the way down, which is smaller than the whole
 module _ (node above rest top left right : Tree) (shifted : Shifted node above rest top) (is : top ≡ alt left right) where

@@ -18,7 +18,7 @@ use Rattle.regress_opt.proofs.KeepsLemmas.{Keeps-refl, Keeps-trans, Keeps-put}
 
 -- What falls.
 
-pub IsLess-trans : (t u v : Tree) → IsLess u t → IsLess v u → IsLess v t
+IsLess-trans : (t u v : Tree) → IsLess u t → IsLess v u → IsLess v t
 IsLess-trans t u v a b = record { less = by a.less b.less }
   where
     by : (loops u < loops t) ⊎ ((loops u ≡ loops t) × (weight u < weight t)) →
@@ -29,16 +29,10 @@ IsLess-trans t u v a b = record { less = by a.less b.less }
     by (inr first) (inl second) = inl (omega (arith, first.0))
     by (inr first) (inr second) = inr (omega (arith, first.0, second.0), omega (arith, first.1, second.1))
 
-pub IsLess-irrefl : (t : Tree) → IsLess t t → ⊥
-IsLess-irrefl t is_less = by is_less.less
-  where
-    by : (loops t < loops t) ⊎ ((loops t ≡ loops t) × (weight t < weight t)) → ⊥
-    by (inl fewer) = lt_irrefl _ fewer
-    by (inr lighter) = lt_irrefl _ lighter.1
-
 -- What is told of changes.
 
-TellsChange-put : (p : Place) (answer : Result Bool AllocError) (t u : Tree) → TellsChange answer t u → TellsChange answer (put p t) (put p u)
+TellsChange-put : (p : Place) (answer : Result Bool AllocError) (t u : Tree) → TellsChange answer t u →
+    TellsChange answer (put p t) (put p u)
 TellsChange-put p (Ok true) t u tells = IsLess-put p t u tells
 TellsChange-put p (Ok false) t u tells = ap (put p) tells
 TellsChange-put p (Err e) t u tells = tt
@@ -66,15 +60,6 @@ joined-false a (Err e) same = cc
 -- Sweeps.
 
 module _ (exact : Bool) where
-  -- nothing was done
-  pub Swept-none : (d : Direction) (before clean : Type 0) (t : Tree) → clean → Swept before clean exact d t t (Ok false)
-  Swept-none d before clean t is_clean = record {
-    keeps = Keeps-refl d t;
-    changed = refl;
-    removed = λ same. is_clean;
-    left = λ is_exact lacks. refl;
-  }
-
   pub Swept-put : (p : Place) (d : Direction) {before clean : Type 0} {t u : Tree} {answer : Result Bool AllocError} →
       Swept before clean exact (direction_at p d) t u answer → Swept before clean exact d (put p t) (put p u) answer
   Swept-put p d {answer = answer} swept = record {
@@ -109,7 +94,8 @@ module _ (exact : Bool) where
   }
 
   -- after an error nothing is said of what is removed
-  pub Swept-error : (d : Direction) {before clean clean' : Type 0} {t u u' : Tree} {r : Result Bool AllocError} (answer : Result Bool AllocError) → IsErr answer →
+  pub Swept-error : (d : Direction) {before clean clean' : Type 0} {t u u' : Tree} {r : Result Bool AllocError}
+      (answer : Result Bool AllocError) → IsErr answer →
       u' ≡ u → Swept before clean exact d t u r → Swept before clean' exact d t u' answer
   Swept-error d (Ok b) err same swept = absurd (false≢true err)
   Swept-error d {t = t} (Err e) err same swept = record {
@@ -132,12 +118,6 @@ LacksShape-here shape (leaf l) lacks = lacks
 LacksShape-here shape (cat parts) lacks = lacks.0
 LacksShape-here shape (alt left right) lacks = lacks.0
 LacksShape-here shape (wrapped w body) lacks = lacks.0
-
-pub LacksShape-inside : (shape : Tree → Bool) (t : Tree) → LacksShape shape t → LacksInside shape t
-LacksShape-inside shape (leaf l) lacks = tt
-LacksShape-inside shape (cat parts) lacks = lacks.1
-LacksShape-inside shape (alt left right) lacks = (lacks.1, lacks.2)
-LacksShape-inside shape (wrapped w body) lacks = lacks.1
 
 pub LacksShape-from : (shape : Tree → Bool) (t : Tree) → LacksInside shape t → shape t ≡ false → LacksShape shape t
 LacksShape-from shape (leaf l) inside here = here

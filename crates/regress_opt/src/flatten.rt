@@ -1,6 +1,6 @@
 //! Flattening of nested `Cat`s.
-ghost use Rattle.std.specs.Prelude.{◌≡◌, IfOk, OnOk, OnErr};
-ghost use Rattle.regress_tree.specs.Tree.{tree, trees};
+ghost use Rattle.std.specs.Prelude.{◌≡◌, ◌+◌, ◌≤◌, IfOk, IsOk, OnOk, OnErr, vec_len, vec_capacity};
+ghost use Rattle.regress_tree.specs.Tree.{tree, trees, row_append};
 ghost use Rattle.regress_tree.specs.Shapes.{is_cat};
 ghost use Rattle.regress_opt.specs.Splice.{parts_of, spliced, row_length, Flattens};
 
@@ -63,13 +63,24 @@ fn splice(alloc: Global, parts: &mut NodeList) -> Result<(), AllocError>
 {
     let mut flat = Vec::with_capacity(alloc, spliced_len(parts)?)?;
     // There is room: nothing fails from here on.
-    for mut part in mem::replace(parts, Vec::new(alloc)) {
-        match &mut part {
-            Node::Cat(inner) => flat.append(inner)?,
-            _ => flat.push(part)?,
-        }
+    for part in mem::replace(parts, Vec::new(alloc)) {
+        append_parts(&mut flat, part)?;
     }
     *parts = flat;
+    Ok(())
+}
+
+/// Puts what stands for a part behind the others, which does not fail where there is room.
+fn append_parts(flat: &mut NodeList, part: Node) -> Result<(), AllocError>
+    ensures ok { OnOk result (trees flat.new.items ≡ row_append (trees flat.old.items) (parts_of (tree part))) }
+    ensures capacity { OnOk result (vec_capacity flat.old ≤ vec_capacity flat.new) }
+    ensures room { vec_len flat.old + row_length (parts_of (tree part)) ≤ vec_capacity flat.old → IsOk result }
+{
+    let mut part = part;
+    match &mut part {
+        Node::Cat(inner) => flat.append(inner)?,
+        _ => flat.push(part)?,
+    }
     Ok(())
 }
 

@@ -7,7 +7,7 @@ ghost use Rattle.regress_tree.specs.WellFormed.{IsWellFormed, captures};
 ghost use Rattle.regress_tree.specs.Units.{account};
 ghost use Rattle.regress_tree.specs.Shapes.{LacksShape, LacksInside};
 ghost use Rattle.regress_opt.specs.Law.{IsPart, MeansTheSame};
-ghost use Rattle.regress_opt.specs.Sweep.{Swept};
+ghost use Rattle.regress_opt.specs.Sweep.{Swept, SweptOf};
 ghost use Rattle.regress_opt.specs.Spine.{is_alt, reattach, spine_length, LeftsLackShape};
 
 use crate::rewrite::{PassAction, Rewrite};
@@ -46,8 +46,7 @@ pub fn run_pass<R: Rewrite>(r: &mut Regex, pass: &mut R) -> Result<bool, AllocEr
 #[cycle(sweep)]
 fn sweep<R: Rewrite>(node: &mut Node, pass: &mut R, walk: &Walk) -> Result<bool, AllocError>
     requires { IsPart (tree node.old) }
-    ensures { Swept (LacksShape R.removes (tree node.old)) (LacksShape R.removes (tree node.new)) R.is_exact
-        (direction_of walk.now) (tree node.old) (tree node.new) result }
+    ensures { SweptOf (LacksShape R.removes) R.is_exact (direction_of walk.now) (tree node.old) (tree node.new) result }
 {
     let mut above = Node::Empty;
     let mut levels = 0;
@@ -123,8 +122,7 @@ fn rewrite_up<R: Rewrite>(
 fn sweep_one<R: Rewrite>(node: &mut Node, pass: &mut R, walk: &Walk) -> Result<bool, AllocError>
     requires part { IsPart (tree node.old) }
     requires other { is_alt (tree node.old) ≡ false }
-    ensures { Swept (LacksShape R.removes (tree node.old)) (LacksShape R.removes (tree node.new)) R.is_exact
-        (direction_of walk.now) (tree node.old) (tree node.new) result }
+    ensures { SweptOf (LacksShape R.removes) R.is_exact (direction_of walk.now) (tree node.old) (tree node.new) result }
 {
     let changed = sweep_inside(node, pass, &walk.inside(1))?;
     Ok(changed | rewrite(node, pass, walk)?)
@@ -135,12 +133,13 @@ fn sweep_one<R: Rewrite>(node: &mut Node, pass: &mut R, walk: &Walk) -> Result<b
 fn sweep_inside<R: Rewrite>(node: &mut Node, pass: &mut R, walk: &Walk) -> Result<bool, AllocError>
     requires part { IsPart (tree node.old) }
     requires other { is_alt (tree node.old) ≡ false }
-    ensures { Swept (LacksInside R.removes (tree node.old)) (LacksInside R.removes (tree node.new)) R.is_exact
-        (direction_of walk.now) (tree node.old) (tree node.new) result }
+    ensures { SweptOf (LacksInside R.removes) R.is_exact (direction_of walk.now) (tree node.old) (tree node.new) result }
 {
     match node {
         Node::Cat(parts) => sweep_parts(parts, pass, walk),
         Node::CaptureGroup { contents, .. } => sweep(contents, pass, walk),
+        Node::Loop { loopee, .. } => sweep(loopee, pass, walk),
+        Node::Loop1CharBody { loopee, .. } => sweep(loopee, pass, walk),
         Node::Alt(..)
         | Node::Empty
         | Node::Goal
@@ -149,7 +148,10 @@ fn sweep_inside<R: Rewrite>(node: &mut Node, pass: &mut R, walk: &Walk) -> Resul
         | Node::ByteSet(_)
         | Node::CharSet(_)
         | Node::MatchAny
-        | Node::MatchAnyExceptLineTerminator => Ok(false),
+        | Node::MatchAnyExceptLineTerminator
+        | Node::Anchor { .. }
+        | Node::WordBoundary { .. }
+        | Node::Bracket(_) => Ok(false),
     }
 }
 
@@ -161,8 +163,8 @@ fn sweep_parts<R: Rewrite>(
     walk: &Walk,
 ) -> Result<bool, AllocError>
     requires { IsPart (cat (trees parts.old.items)) }
-    ensures { Swept (LacksInside R.removes (cat (trees parts.old.items))) (LacksInside R.removes (cat (trees parts.new.items)))
-        R.is_exact (direction_of walk.now) (cat (trees parts.old.items)) (cat (trees parts.new.items)) result }
+    ensures { SweptOf (LacksInside R.removes) R.is_exact (direction_of walk.now)
+        (cat (trees parts.old.items)) (cat (trees parts.new.items)) result }
 {
     let mut changed = false;
     for i in 0..parts.len() {
@@ -174,8 +176,7 @@ fn sweep_parts<R: Rewrite>(
 /// Applies the rewrite to one node, and does what it answers.
 fn rewrite<R: Rewrite>(node: &mut Node, pass: &mut R, walk: &Walk) -> Result<bool, AllocError>
     requires { IsPart (tree node.old) }
-    ensures { Swept (R.removes (tree node.old) ≡ false) (R.removes (tree node.new) ≡ false) R.is_exact
-        (direction_of walk.now) (tree node.old) (tree node.new) result }
+    ensures { SweptOf (λ t. R.removes t ≡ false) R.is_exact (direction_of walk.now) (tree node.old) (tree node.new) result }
 {
     match pass.apply(node, walk)? {
         PassAction::Keep => return Ok(false),

@@ -95,6 +95,9 @@ fn kind(node: &Node) -> &'static str {
         Node::Empty => "Empty",
         Node::Goal => "Goal",
         Node::Char { .. } => "Char",
+        Node::ByteSequence(_) => "ByteSequence",
+        Node::ByteSet(_) => "ByteSet",
+        Node::CharSet(_) => "CharSet",
         Node::Cat(_) => "Cat",
         Node::Alt(..) => "Alt",
         Node::MatchAny => "MatchAny",
@@ -249,13 +252,13 @@ fn many_alternatives_are_rewritten(rt: HostRuntime) -> Result<(), Fail> {
         flags: Flags::default(),
     };
     optimize(rt.alloc(), &mut r)?;
-    let mut node = r.node;
+    let mut node = &r.node;
     let mut flat: usize = 0;
     while let Node::Alt(left, right) = node {
-        if matches!(Box::into_inner(left), Node::Empty) {
+        if matches!(&**left, Node::Empty) {
             flat = flat.saturating_add(1);
         }
-        node = Box::into_inner(right);
+        node = right;
     }
     assert_eq!(rt; flat, MANY);
     Ok(())

@@ -4,13 +4,14 @@ use Rattle.std.specs.Str.{chars}
 use lib.Utf8.{encode}
 use Rattle.regress_base.specs.Classes.{digits}
 use Rattle.regress_base.specs.Intervals.{is_member, is_within}
-use Rattle.regress_base.specs.declared.types.Flags.{Flags}
 use Rattle.regress_tree.specs.declared.ir.node.AnchorType.TheVariants.{StartOfLine, EndOfLine}
 use Rattle.regress_tree.specs.declared.ir.node.Quantifier.{Quantifier}
-use Rattle.regress_tree.specs.Reading.{Direction, forwards, backwards, of_characters, of_bytes, read_after, read_before, character_at}
+use Rattle.regress_tree.specs.Reading.{forwards, backwards, of_characters, read_after, read_before, character_at}
 use Rattle.regress_tree.specs.Steps.{State, Span, same_state, one_character, these_bytes, hold_at, capture}
 use Rattle.regress_tree.specs.Repetition.{unset, repeat}
 use Rattle.regress_tree.specs.Assertions.{is_word_character, at_anchor, at_boundary}
+use Rattle.regress_tree.specs.FoldRows.{image}
+use Rattle.regress_tree.specs.Table.{is_in_closure}
 use Rattle.regress_tree.specs.Matching.{Setting, matches}
 use Rattle.regress_tree.specs.SmallTable.{small_table}
 use Rattle.regress_tree.specs.Tree.{Tree, leaf, empty, char, byte_sequence, anchor, bracket, alt, wrapped, capture_group, loop, loop_one}
@@ -123,6 +124,15 @@ at_boundaries = refl
 off_boundaries : boundaries true ≡ false ∷ false ∷ true ∷ []
 unfolding is_member is_within
 off_boundaries = refl
+
+-- with `unicode_icase` U+017F and U+212A, which fold to s and k, are in the word set
+words_in_either_case : map (is_word_character small_table true) (0x17F ∷ 0x212A ∷ 0x2D ∷ []) ≡ true ∷ true ∷ false ∷ []
+unfolding is_in_closure small_table image
+words_in_either_case = refl
+
+words_as_they_stand : map (is_word_character small_table false) (0x17F ∷ 0x5F ∷ 0x2D ∷ []) ≡ false ∷ true ∷ false ∷ []
+unfolding is_member is_within
+words_as_they_stand = refl
 
 -- ---- bytes and brackets
 

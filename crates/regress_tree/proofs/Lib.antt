@@ -10,3 +10,6 @@ pub mod NamedLemmas
 pub mod TableLemmas
 pub mod SourceLemmas
 pub mod RefusalLemmas
+pub mod ShiftLemmas
+pub mod ClosureLemmas
+pub mod TableExamples

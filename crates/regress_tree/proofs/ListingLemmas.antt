@@ -73,7 +73,8 @@ ascending_within low low' (x ∷ xs) (y ∷ ys) hx hy within =
     ascending_again x xs h = grind (arith, nat_tests)
 
 -- what passes a test ascends too
-pub ascending_filter : (low : ℕ) (p : ℕ → Bool) (xs : List ℕ) → IsTrue (is_ascending_from low xs) → IsTrue (is_ascending_from low (filter p xs))
+pub ascending_filter : (low : ℕ) (p : ℕ → Bool) (xs : List ℕ) → IsTrue (is_ascending_from low xs) →
+    IsTrue (is_ascending_from low (filter p xs))
 ascending_filter low p [] h = h
 ascending_filter low p (x ∷ xs) h =
     let parts = ascending_parts low x xs h in
@@ -88,7 +89,8 @@ pub lists-filter : (p : ℕ → Bool) (xs : List ℕ) (c : ℕ) → lists (filte
 lists-filter p [] c = grind (arith, nat_tests)
 lists-filter p (x ∷ xs) c = by_test (p x) refl (x == c) refl (lists-filter p xs c)
   where
-    by_test : (b : Bool) → p x ≡ b → (t : Bool) → (x == c) ≡ t → lists (filter p xs) c ≡ (p c && lists xs c) → lists (cond b (x ∷ filter p xs) (filter p xs)) c ≡ (p c && (t || lists xs c))
+    by_test : (b : Bool) → p x ≡ b → (t : Bool) → (x == c) ≡ t → lists (filter p xs) c ≡ (p c && lists xs c) →
+        lists (cond b (x ∷ filter p xs) (filter p xs)) c ≡ (p c && (t || lists xs c))
     by_test true e true same rest = let pc : p c ≡ true = ap p (sym (eqb-true x c same)) ∙ e in rw (same, pc)
     by_test true e false other rest = rw other rest
     by_test false e true same rest = let pc : p c ≡ false = ap p (sym (eqb-true x c same)) ∙ e in rw (rest, pc)
@@ -108,7 +110,8 @@ pub length_without : (low d : ℕ) (xs : List ℕ) → IsTrue (is_ascending_from
 length_without low d [] h = omega arith
 length_without low d (x ∷ xs) h = by_test (x == d) refl (length_without (x + 1) d xs (ascending_parts low x xs h).rest)
   where
-    by_test : (b : Bool) → (x == d) ≡ b → length xs ≤ 1 + length (filter (λ y. not (y == d)) xs) → suc (length xs) ≤ 1 + length (cond (not b) (x ∷ filter (λ y. not (y == d)) xs) (filter (λ y. not (y == d)) xs))
+    by_test : (b : Bool) → (x == d) ≡ b → length xs ≤ 1 + length (filter (λ y. not (y == d)) xs) →
+        suc (length xs) ≤ 1 + length (cond (not b) (x ∷ filter (λ y. not (y == d)) xs) (filter (λ y. not (y == d)) xs))
     by_test true e rest =
         let same : x ≡ d = eqb-true x d e in
         let all = filter_all (x + 1) d xs (omega arith) (ascending_parts low x xs h).rest in
@@ -116,7 +119,8 @@ length_without low d (x ∷ xs) h = by_test (x == d) refl (length_without (x + 1
     by_test false e rest = omega (arith, rest)
 
 -- a run of numbers before others that ascend behind it
-pub ascending_append : (low start n : ℕ) (ys : List ℕ) → low ≤ start → IsTrue (is_ascending_from (start + n) ys) → IsTrue (is_ascending_from low (range_with_len start n ++ ys))
+pub ascending_append : (low start n : ℕ) (ys : List ℕ) → low ≤ start → IsTrue (is_ascending_from (start + n) ys) →
+    IsTrue (is_ascending_from low (range_with_len start n ++ ys))
 ascending_append low start zero ys le h = ascending_lower (start + 0) low ys (omega arith) h
 ascending_append low start (suc n) ys le h =
     let again : IsTrue (is_ascending_from (start + 1 + n) ys) = subst (λ (k : ℕ). IsTrue (is_ascending_from k ys)) (omega arith) h in
@@ -134,24 +138,27 @@ lists-run start (suc n) c = let rest = lists-run (start + 1) n c in grind (arith
 
 -- ---- the members of a set
 
-lists-interval : (iv : Bounds) (c : ℕ) → iv.first ≤ iv.last → lists (code_points iv) c ≡ is_within iv c
+pub lists-interval : (iv : Bounds) (c : ℕ) → lists (code_points iv) c ≡ is_within iv c
 unfolding is_within
-lists-interval iv c le = let run = lists-run iv.first (iv.last + 1 - iv.first) c in grind (arith, nat_tests, run)
+lists-interval iv c = let run = lists-run iv.first (iv.last + 1 - iv.first) c in grind (arith, nat_tests, run)
 
-pub lists-members : (low : ℕ) (set : List Bounds) (c : ℕ) → IsTrue (is_canonical_from low set) → lists (flat_map code_points set) c ≡ is_member set c
+pub lists-members : (low : ℕ) (set : List Bounds) (c : ℕ) → IsTrue (is_canonical_from low set) →
+    lists (flat_map code_points set) c ≡ is_member set c
 lists-members low [] c h = sym (is_member-nil c)
 lists-members low (iv ∷ ivs) c h =
     let parts = canonical_parts low iv ivs h in
     lists-append (code_points iv) (flat_map code_points ivs) c
-    ∙ rw (lists-interval iv c parts.interval.ordered, lists-members (iv.last + 2) ivs c parts.rest) (sym (is_member-cons iv ivs c))
+    ∙ rw (lists-interval iv c, lists-members (iv.last + 2) ivs c parts.rest) (sym (is_member-cons iv ivs c))
 
-pub ascending_members : (low : ℕ) (set : List Bounds) → IsTrue (is_canonical_from low set) → IsTrue (is_ascending_from low (flat_map code_points set))
+pub ascending_members : (low : ℕ) (set : List Bounds) → IsTrue (is_canonical_from low set) →
+    IsTrue (is_ascending_from low (flat_map code_points set))
 ascending_members low [] h = h
 ascending_members low (iv ∷ ivs) h =
     let parts = canonical_parts low iv ivs h in
     let rest = ascending_members (iv.last + 2) ivs parts.rest in
     ascending_append low iv.first (iv.last + 1 - iv.first) (flat_map code_points ivs) parts.above
-    (ascending_lower (iv.last + 2) (iv.first + (iv.last + 1 - iv.first)) (flat_map code_points ivs) (omega (arith, parts.interval.ordered)) rest)
+    (ascending_lower (iv.last + 2) (iv.first + (iv.last + 1 - iv.first)) (flat_map code_points ivs)
+    (omega (arith, parts.interval.ordered)) rest)
 
 pub listing_of_members : (set : List Bounds) → IsCanonical set → IsListing (is_member set) (flat_map code_points set)
 listing_of_members set h = record {

@@ -22,8 +22,10 @@ meets_none parts e lt = absurd (omega arith)
 -- the refusal at a place
 at_place : ℕ → TablesError
 at_place n =
-    cond (n == 0) (RangeOrder Fold) (cond (n == 1) (RangeOrder Upper) (cond (n == 2) (TargetOutOfRange Fold) (cond (n == 3) (TargetOutOfRange Upper)
-    (cond (n == 4) (NotIdempotent Fold) (cond (n == 5) (NotIdempotent Upper) (cond (n == 6) (ClassTooLarge Fold) (cond (n == 7) (ClassTooLarge Upper)
+    cond (n == 0) (RangeOrder Fold) (cond (n == 1) (RangeOrder Upper)
+    (cond (n == 2) (TargetOutOfRange Fold) (cond (n == 3) (TargetOutOfRange Upper)
+    (cond (n == 4) (NotIdempotent Fold) (cond (n == 5) (NotIdempotent Upper)
+    (cond (n == 6) (ClassTooLarge Fold) (cond (n == 7) (ClassTooLarge Upper)
     (cond (n == 8) IdentifierPunctuation (cond (n == 9) BadString (Memory alloc_error))))))))))
 
 at_its_place : (e : TablesError) → place e < 10 → at_place (place e) ≡ e
@@ -41,7 +43,8 @@ at_its_place BadString lt = refl
 at_its_place (Memory error) lt = absurd (omega arith)
 
 -- one more
-pub meets_more : (parts : Parts) (e : TablesError) → place e < 10 → MeetsBefore parts (place e) → Meets parts e → MeetsBefore parts (suc (place e))
+pub meets_more : (parts : Parts) (e : TablesError) → place e < 10 → MeetsBefore parts (place e) → Meets parts e →
+    MeetsBefore parts (suc (place e))
 meets_more parts e small before here other lt = elim (cases_lt (place other) (place e)) [
   | inl earlier ↦ before other earlier
   | inr later ↦ (
@@ -50,9 +53,11 @@ meets_more parts e small before here other lt = elim (cases_lt (place other) (pl
 ]
 
 -- what the rows of both maps meet before a refusal
-pub meets_five : (p : Parts) → Meets p (RangeOrder Fold) → Meets p (RangeOrder Upper) → Meets p (TargetOutOfRange Fold) → Meets p (TargetOutOfRange Upper) → Meets p (NotIdempotent Fold) → MeetsBefore p 5
+pub meets_five : (p : Parts) → Meets p (RangeOrder Fold) → Meets p (RangeOrder Upper) → Meets p (TargetOutOfRange Fold) →
+    Meets p (TargetOutOfRange Upper) → Meets p (NotIdempotent Fold) → MeetsBefore p 5
 meets_five p m0 m1 m2 m3 m4 =
-    meets_more p (NotIdempotent Fold) (lit< tt) (meets_more p (TargetOutOfRange Upper) (lit< tt) (meets_more p (TargetOutOfRange Fold) (lit< tt)
+    meets_more p (NotIdempotent Fold) (lit< tt) (meets_more p (TargetOutOfRange Upper) (lit< tt)
+    (meets_more p (TargetOutOfRange Fold) (lit< tt)
     (meets_more p (RangeOrder Upper) (lit< tt) (meets_more p (RangeOrder Fold) (lit< tt) (meets_none p) m0) m1) m2) m3) m4
 
 pub meets_six : (p : Parts) → MeetsBefore p 5 → Meets p (NotIdempotent Upper) → MeetsBefore p 6
@@ -62,7 +67,8 @@ pub meets_seven : (p : Parts) → MeetsBefore p 6 → Meets p (ClassTooLarge Fol
 meets_seven p before m6 = meets_more p (ClassTooLarge Fold) (lit< tt) before m6
 
 -- a refusal that is told, by its name
-pub told : (p : Parts) (e named : TablesError) → e ≡ named → place named < 8 → ¬ Meets p named → MeetsBefore p (place named) → (place e < 8) × IsFirstDue p e
+pub told : (p : Parts) (e named : TablesError) → e ≡ named → place named < 8 → ¬ Meets p named → MeetsBefore p (place named) →
+    (place e < 8) × IsFirstDue p e
 told p e named same lt due before =
     subst (λ (x : TablesError). (place x < 8) × IsFirstDue p x) (sym same) (lt, record { due = due; before = before })
 
@@ -81,7 +87,8 @@ meets_by_rows p q folds uppers BadString lt h = absurd (omega arith)
 meets_by_rows p q folds uppers (Memory error) lt h = absurd (omega arith)
 
 -- what is first due by the rows is first due by all parts
-pub first_by_rows : (p q : Parts) (e : TablesError) → p.folds ≡ q.folds → p.uppers ≡ q.uppers → place e < 8 → IsFirstDue p e → IsFirstDue q e
+pub first_by_rows : (p q : Parts) (e : TablesError) → p.folds ≡ q.folds → p.uppers ≡ q.uppers → place e < 8 → IsFirstDue p e →
+    IsFirstDue q e
 first_by_rows p q e folds uppers lt first = record {
   due = λ h. first.due (meets_by_rows q p (sym folds) (sym uppers) e lt h);
   before = λ other earlier. meets_by_rows p q folds uppers other (omega arith) (first.before other earlier);
@@ -102,13 +109,19 @@ rows_meet p folds uppers IdentifierPunctuation lt = absurd (omega arith)
 rows_meet p folds uppers BadString lt = absurd (omega arith)
 rows_meet p folds uppers (Memory error) lt = absurd (omega arith)
 
-pub identifiers_refused : (p : Parts) → AreSoundRows p.folds → AreSoundRows p.uppers → ¬ Meets p IdentifierPunctuation → IsFirstDue p IdentifierPunctuation
+pub identifiers_refused : (p : Parts) → AreSoundRows p.folds → AreSoundRows p.uppers → ¬ Meets p IdentifierPunctuation →
+    IsFirstDue p IdentifierPunctuation
 identifiers_refused p folds uppers due = record { due = due; before = rows_meet p folds uppers }
 
-pub strings_refused : (p : Parts) → AreSoundRows p.folds → AreSoundRows p.uppers → Meets p IdentifierPunctuation → ¬ Meets p BadString → IsFirstDue p BadString
-strings_refused p folds uppers identifiers due = record { due = due; before = meets_more p IdentifierPunctuation (lit< tt) (rows_meet p folds uppers) identifiers }
+pub strings_refused : (p : Parts) → AreSoundRows p.folds → AreSoundRows p.uppers → Meets p IdentifierPunctuation → ¬ Meets p BadString →
+    IsFirstDue p BadString
+strings_refused p folds uppers identifiers due = record {
+  due = due;
+  before = meets_more p IdentifierPunctuation (lit< tt) (rows_meet p folds uppers) identifiers;
+}
 
-pub all_met : (p : Parts) → AreSoundRows p.folds → AreSoundRows p.uppers → Meets p IdentifierPunctuation → Meets p BadString → (e : TablesError) → Meets p e
+pub all_met : (p : Parts) → AreSoundRows p.folds → AreSoundRows p.uppers → Meets p IdentifierPunctuation → Meets p BadString →
+    (e : TablesError) → Meets p e
 all_met p folds uppers identifiers strings (RangeOrder Fold) = folds.in_order
 all_met p folds uppers identifiers strings (RangeOrder Upper) = uppers.in_order
 all_met p folds uppers identifiers strings (TargetOutOfRange Fold) = folds.in_range
@@ -122,7 +135,9 @@ all_met p folds uppers identifiers strings BadString = strings
 all_met p folds uppers identifiers strings (Memory error) = tt
 
 -- the test of the strings, as the code makes it
-pub strings_test : (entries : List (String Global × Vec (Vec ℕ Global) Global)) → list_all (λ entry. list_all is_string entry.value) (strings_of entries) ≡ list_all (λ entry. list_all (λ string. is_string string.items) entry.1.items) entries
+pub strings_test : (entries : List (String Global × Vec (Vec ℕ Global) Global)) →
+    list_all (λ entry. list_all is_string entry.value) (strings_of entries) ≡ list_all
+    (λ entry. list_all (λ string. is_string string.items) entry.1.items) entries
 strings_test [] = refl
 strings_test (entry ∷ entries) =
     let here = list_all-map is_string (λ (string : Vec ℕ Global). string.items) entry.1.items in

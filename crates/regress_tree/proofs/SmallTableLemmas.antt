@@ -25,7 +25,8 @@ are_few rows = list_all (λ d. nat_le (count_of d (images rows)) 3) (images rows
 
 own_images : (rows : List FoldRow) → IsTrue (are_own_images rows) → IsIdempotent (image rows)
 own_images rows h =
-    idempotent_from_images rows (All-weaker (λ d. (image rows d == d) ≡ true) (λ d. image rows d ≡ d) (λ d e. eqb-true (image rows d) d e) (images rows)
+    idempotent_from_images rows (All-weaker (λ d. (image rows d == d) ≡ true) (λ d. image rows d ≡ d) (λ d e. eqb-true (image rows d) d e)
+    (images rows)
     (AllPass-from_list_all (λ d. image rows d == d) (images rows) h))
 
 few_images : (rows : List FoldRow) → IsTrue (is_in_order rows) → IsTrue (are_few rows) → HasSmallClasses (image rows)
@@ -33,7 +34,8 @@ few_images rows order h = small_from_images rows order (λ d. by_member d (lists
   where
     by_member : (d : ℕ) (b : Bool) → lists (images rows) d ≡ b → count_of d (images rows) ≤ 3
     by_member d true e =
-        let le : nat_le (count_of d (images rows)) 3 ≡ true = All-lists (λ d. nat_le (count_of d (images rows)) 3 ≡ true) (images rows) d (AllPass-from_list_all (λ d. nat_le (count_of d (images rows)) 3) (images rows) h) e in
+        let le : nat_le (count_of d (images rows)) 3 ≡ true = All-lists (λ d. nat_le (count_of d (images rows)) 3 ≡ true) (images rows) d
+        (AllPass-from_list_all (λ d. nat_le (count_of d (images rows)) 3) (images rows) h) e in
         grind (arith, nat_tests, le)
     by_member d false e = omega (arith, count_of_absent d (images rows) e)
 
@@ -61,10 +63,12 @@ word_ascii : (set : List Bounds) → IsTrue (ascii_test set) → HasWordAscii se
 word_ascii set h c lt member =
     let in_range : (nat_le 0 c && nat_lt c (0 + 0x80)) ≡ true = grind (arith, nat_tests) in
     let listed : lists (range_with_len 0 0x80) c ≡ true = lists-run 0 0x80 c ∙ in_range in
-    let pass = All-lists (λ c. (not (is_member set c) || is_member word_characters c) ≡ true) (range_with_len 0 0x80) c (AllPass-from_list_all (λ c. not (is_member set c) || is_member word_characters c) (range_with_len 0 0x80) h) listed in
+    let pass = All-lists (λ c. (not (is_member set c) || is_member word_characters c) ≡ true) (range_with_len 0 0x80) c
+    (AllPass-from_list_all (λ c. not (is_member set c) || is_member word_characters c) (range_with_len 0 0x80) h) listed in
     rw member at pass
 
-canonical_sets : (entries : List (Named (List Bounds))) → IsTrue (list_all (λ entry. is_canonical_from 0 entry.value) entries) → HasCanonicalSets entries
+canonical_sets : (entries : List (Named (List Bounds))) → IsTrue (list_all (λ entry. is_canonical_from 0 entry.value) entries) →
+    HasCanonicalSets entries
 canonical_sets entries h = AllPass-from_list_all (λ entry. is_canonical_from 0 entry.value) entries h
 
 id_start_ascii : HasWordAscii small_parts.id_start
@@ -77,8 +81,18 @@ id_continue_ascii = word_ascii small_parts.id_continue refl
 
 small_rows : AreSoundRows small_folds × AreSoundRows small_uppers
 small_rows = (
-  record { in_order = refl; in_range = refl; idempotent = own_images small_folds small_folds-own; small_classes = few_images small_folds refl small_folds-few },
-  record { in_order = refl; in_range = refl; idempotent = own_images small_uppers small_uppers-own; small_classes = few_images small_uppers refl small_uppers-few },
+  record {
+    in_order = refl;
+    in_range = refl;
+    idempotent = own_images small_folds small_folds-own;
+    small_classes = few_images small_folds refl small_folds-few;
+  },
+  record {
+    in_order = refl;
+    in_range = refl;
+    idempotent = own_images small_uppers small_uppers-own;
+    small_classes = few_images small_uppers refl small_uppers-few;
+  },
 )
 
 pub small_sound : IsSound small_parts
@@ -101,9 +115,13 @@ small_sound = record {
 }
 
 -- lists with the contents of the small table make its parts
-pub small_from : (folds uppers : List FoldRow) (id_start id_continue : List Bounds) (general_category script script_extensions binary : List (String Global × List Bounds)) (strings : List (String Global × Vec (Vec ℕ Global) Global)) →
+pub small_from : (folds uppers : List FoldRow) (id_start id_continue : List Bounds)
+    (general_category script script_extensions binary : List (String Global × List Bounds))
+    (strings : List (String Global × Vec (Vec ℕ Global) Global)) →
     folds ≡ small_folds → uppers ≡ small_uppers → id_start ≡ small_parts.id_start → id_continue ≡ small_parts.id_continue →
-    sets_of general_category ≡ small_parts.general_category → sets_of script ≡ small_parts.script → sets_of script_extensions ≡ small_parts.script_extensions →
+    sets_of general_category ≡ small_parts.general_category → sets_of script ≡ small_parts.script →
+    sets_of script_extensions ≡ small_parts.script_extensions →
     sets_of binary ≡ small_parts.binary → strings_of strings ≡ small_parts.strings →
     parts_from folds uppers id_start id_continue general_category script script_extensions binary strings ≡ small_parts
-small_from folds uppers id_start id_continue general_category script script_extensions binary strings e1 e2 e3 e4 e5 e6 e7 e8 e9 = rw (e1, e2, e3, e4, e5, e6, e7, e8, e9)
+small_from folds uppers id_start id_continue general_category script script_extensions binary strings e1 e2 e3 e4 e5 e6 e7 e8 e9 =
+    rw (e1, e2, e3, e4, e5, e6, e7, e8, e9)

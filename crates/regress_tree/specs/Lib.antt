@@ -5,6 +5,7 @@ pub mod Parts
 pub mod SmallTable
 pub mod Moves
 pub mod Refusals
+pub mod Shifts
 pub mod TableOf
 pub mod Tree
 pub mod Literal

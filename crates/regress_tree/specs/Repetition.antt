@@ -13,7 +13,7 @@ unset_from k start end (c ∷ cs) =
 abbrev pub unset : (start end : ℕ) → State → State
 unset start end s = record s { captures = unset_from 0 start end s.captures }
 
--- one turn, with these groups inside: they have captured nothing as it begins
+-- One turn, with these groups inside: they have captured nothing as it begins.
 abbrev pub turn : (start end : ℕ) → Step → Step
 turn start end f s = f (unset start end s)
 
@@ -22,18 +22,18 @@ abbrev pub turns : ℕ → Step → Step
 turns zero f = stay
 turns (suc n) f = f then_ turns n f
 
--- what moves
+-- the outcomes that have moved: a turn that matches the empty text is dropped
 abbrev pub moving : Step → Step
 moving f s = filter (λ t. not (t.place == s.place)) (f s)
 
--- At most n more turns, each of which moves: greedy with the turns first, lazy with the end first.
+-- At most n more turns, each of which moves. Greedy, another turn comes before stopping here, and lazy after it.
 abbrev pub up_to : (greedy : Bool) → ℕ → Step → Step
 up_to greedy zero f = stay
 up_to greedy (suc n) f =
     let more : Step = moving f then_ up_to greedy n f in
     if greedy then more or_ stay else stay or_ more
 
--- how many turns may follow the least number: at most `bound`, which stands for any number
+-- how many turns may follow the least number; `bound` where the quantifier has no greatest, and never more
 abbrev pub more_turns : (bound : ℕ) → Quantifier → ℕ
 more_turns bound q = after q.max
   where

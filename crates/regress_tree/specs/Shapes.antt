@@ -1,6 +1,6 @@
 -- Shapes that rewriting removes, as tests on a node.
 use Rattle.std.specs.Prelude.{◌≡◌, Bool, true, false, ◌||◌}
-use Rattle.regress_tree.specs.Tree.{Leaf, Wrapper, Tree, Trees, leaf, cat, alt, wrapped, no_trees, more_trees}
+use Rattle.regress_tree.specs.Tree.{Tree, Trees, leaf, cat, alt, wrapped, no_trees, more_trees}
 
 module _ (shape : Tree → Bool) where
   -- no node of the tree has the shape

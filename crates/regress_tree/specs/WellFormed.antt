@@ -85,7 +85,7 @@ pub record IsSmallSet (members : List ℕ) (greatest : ℕ) (p : Position) : Typ
   pub small : length members ≤ max_char_set_length
   pub some : AsOneCharacter p (members ≢ [])
 
--- the intervals of a set, of which the bracket accepts some code point at that place
+-- a bracket of canonical intervals, which accepts some code point at that place
 pub record IsBracket (invert : Bool) (intervals : List Bounds) (p : Position) : Type 0 where
   pub canonical : IsCanonical intervals
   pub some : AsOneCharacter p ((c : ℕ) × (c ≤ code_point_max) × (is_accepted invert intervals c ≡ true))
@@ -104,7 +104,7 @@ LeafMayStand (anchor kind multiline) p = NotAsOneCharacter p
 LeafMayStand (word_boundary invert unicode_icase) p = NotAsOneCharacter p
 LeafMayStand (bracket invert intervals) p = IsBracket invert intervals p
 
--- at least no more turns than at most
+-- the least number of turns is not above the greatest
 abbrev pub IsQuantifier : Quantifier → Type 0
 IsQuantifier q = IfSome q.max (λ max. q.min ≤ max)
 

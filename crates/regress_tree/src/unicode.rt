@@ -3,18 +3,21 @@ ghost use Rattle.std.proofs.Props.{props};
 ghost use Rattle.regress_tree.specs.Parts.{parts_from, IsSound};
 
 mod checks;
+mod closure;
 mod fold_range;
 mod images;
 mod listing;
 mod new;
 mod range;
 mod readers;
+mod shift;
 mod small;
 mod tables_error;
 #[cfg(test)]
 mod tests;
 mod unfold;
 
+pub use closure::add_icase_code_points;
 pub use fold_range::FoldRange;
 pub use images::{fold, uppercase};
 pub use range::CodePointRange;

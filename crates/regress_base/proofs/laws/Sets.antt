@@ -1,8 +1,8 @@
 -- Laws of sets of code points, for the crates above. What `pub use` passes on stands with its comment where it is proved.
-pub use Rattle.regress_base.proofs.MemberLemmas.{or_assoc, is_member-nil, is_member-cons, is_member-one, is_member-append}
+pub use Rattle.regress_base.proofs.MemberLemmas.{or_assoc, is_member-nil, is_member-cons, is_member-one, is_member-append, is_member-take_more}
 pub use Rattle.regress_base.proofs.CanonicalLemmas.{canonical_parts, member_above, no_member_past_end}
 pub use Rattle.regress_base.proofs.UniqueLemmas.{canonical_unique}
-use Rattle.std.proofs.Common.{◌≡◌, ℕ, zero, suc, ◌+◌, ◌<◌, ◌≤◌, ◌==◌, Bool, true, false, ◌||◌, ◌++◌, inl, inr, IsTrue, List, [], ◌∷◌, refl, sym, ap, ◌∙◌, subst, le_refl, arith}
+use Rattle.std.proofs.Common.{◌≡◌, ℕ, zero, suc, ◌+◌, ◌*◌, ◌<◌, ◌≤◌, ◌==◌, Bool, true, false, ◌||◌, ◌++◌, inl, inr, IsTrue, List, [], ◌∷◌, length, refl, sym, ap, ◌∙◌, subst, le_refl, arith}
 use Rattle.std.proofs.lemmas.Bool.{cases_eq, cases_Bool, cond-true, cond-false, or_left, eq-eqb, ne_eqb}
 use Rattle.std.proofs.lemmas.Bool.Decides.{nat_tests}
 use Rattle.regress_base.specs.Intervals.{Bounds, code_point_max, is_within, is_member, is_canonical_from, IsCanonical, put_before, intervals_from, intervals_of}
@@ -138,3 +138,17 @@ canonical_is xs p can same =
 pub intervals_of-agree : (p q : ℕ → Bool) → ((c : ℕ) → c ≤ code_point_max → p c ≡ q c) → intervals_of p ≡ intervals_of q
 intervals_of-agree p q same =
     canonical_is (intervals_of p) q (intervals_of-canonical p) (λ c h. intervals_of-member p c h ∙ same c h)
+
+-- ---- how many intervals
+
+canonical_from_length : (low : ℕ) (ivs : List Bounds) → low ≤ code_point_max + 2 → IsTrue (is_canonical_from low ivs) →
+    low + 2 * length ivs ≤ code_point_max + 2
+canonical_from_length low [] h can = omega arith
+canonical_from_length low (iv ∷ ivs) h can =
+    let p = canonical_parts low iv ivs can in
+    let rest = canonical_from_length (iv.last + 2) ivs (omega (arith, p.interval.in_range)) p.rest in
+    omega (arith, p.above, p.interval.ordered, rest)
+
+-- between two intervals a code point is missing: there are at most half as many as code points
+pub canonical_length : (ivs : List Bounds) → IsCanonical ivs → 2 * length ivs ≤ code_point_max + 2
+canonical_length ivs can = omega (arith, canonical_from_length 0 ivs (omega arith) can)

@@ -1,5 +1,5 @@
 -- Alike steps: an equivalence that each word of steps keeps in each argument.
-use Rattle.std.proofs.Common.{◌≡◌, ◌==◌, ℕ, zero, suc, ◌+◌, Bool, true, false, not, filter, refl, sym, ap, ◌∙◌}
+use Rattle.std.proofs.Common.{◌≡◌, ◌==◌, ℕ, zero, suc, Bool, true, false, not, filter, refl, sym, ap, ◌∙◌}
 use Rattle.regress_tree.specs.Steps.{State, Step, Alike, distinct, stay, ◌then_◌, ◌or_◌, capture, captured}
 use Rattle.regress_tree.specs.Repetition.{unset, turn, turns, moving, up_to, more_turns, repeat}
 use Rattle.regress_tree.specs.declared.ir.node.Quantifier.{Quantifier}

@@ -1,5 +1,5 @@
 -- Anchors and word boundaries hold over the bytes of a text where they hold over its characters.
-use Rattle.std.proofs.Common.{◌≡◌, ℕ, ◌≤◌, Bool, true, false, ◌&&◌, ◌||◌, ◌==◌, List, length, take, Option, Some, None, option_map, encode_utf8_all, refl, sym, ap, ap₂, ◌∙◌, arith}
+use Rattle.std.proofs.Common.{◌≡◌, ℕ, ◌≤◌, Bool, ◌&&◌, ◌||◌, ◌==◌, List, length, Option, Some, None, option_map, encode_utf8_all, refl, sym, ap, ap₂, ◌∙◌, arith}
 use Rattle.std.proofs.lemmas.List.{take_all}
 use Rattle.regress_tree.specs.declared.ir.node.AnchorType.{AnchorType}
 use Rattle.regress_tree.specs.declared.ir.node.AnchorType.TheVariants.{StartOfLine, EndOfLine}
@@ -11,7 +11,8 @@ use Rattle.regress_tree.proofs.laws.Characters.{byte_place-zero}
 use Rattle.regress_tree.proofs.laws.Readings.{byte_read, read_after-byte_place, read_before-byte_place}
 use Rattle.regress_tree.proofs.laws.Simulation.{Simulates, Simulates-hold_at}
 
-passes-byte_read : (text : List ℕ) (test : ℕ → Bool) (read : Option Read) → passes test (option_map (byte_read text) read) ≡ passes test read
+passes-byte_read : (text : List ℕ) (test : ℕ → Bool) (read : Option Read) →
+    passes test (option_map (byte_read text) read) ≡ passes test read
 passes-byte_read text test None = refl
 passes-byte_read text test (Some read) = refl
 

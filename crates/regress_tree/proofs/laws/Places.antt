@@ -1,5 +1,5 @@
 -- Places where a tree stands as a part of another, and what of the whole follows from what is put there.
-use Rattle.std.proofs.Common.{◌≡◌, ℕ, ◌+◌, ◌*◌, ◌<◌, ◌≤◌, ◌⊎◌, inl, inr, Bool, ◌==◌, List, ◌++◌, length, count_by, refl, ap, ◌∙◌, arith}
+use Rattle.std.proofs.Common.{◌≡◌, ℕ, ◌+◌, ◌<◌, ◌≤◌, ◌⊎◌, inl, inr, Bool, ◌==◌, List, ◌++◌, length, count_by, ap, ◌∙◌, arith}
 use Rattle.regress_tree.specs.Reading.{Direction}
 use Rattle.regress_tree.specs.Steps.{Step, Alike}
 use Rattle.regress_tree.specs.Tree.{Wrapper, capture_group, loop, loop_one, Tree, Trees, cat, alt, wrapped, no_trees, more_trees, row_append}
@@ -85,7 +85,8 @@ module _ (t u : Tree) (stands : (n : ℕ) (p : Position) → MayStand n t p → 
   RowMayStand-among n p (more_trees x no_trees) behind m = (m.0, RowMayStand-among n p no_trees behind m.1)
   RowMayStand-among n p (more_trees x (more_trees y before)) behind m = (m.0, RowMayStand-among n p (more_trees y before) behind m.1)
 
-  pub MayStand-put : captures u ≡ captures t → (place : Place) (n : ℕ) (p : Position) → MayStand n (put place t) p → MayStand n (put place u) p
+  pub MayStand-put : captures u ≡ captures t → (place : Place) (n : ℕ) (p : Position) →
+      MayStand n (put place t) p → MayStand n (put place u) p
   MayStand-put same (among before behind) n p m = (m.0, RowMayStand-among n (last_of p) before behind m.1)
   MayStand-put same (left_of right) n p m = (m.0, stands n inside m.1, m.2)
   MayStand-put same (right_of left) n p m = (m.0, m.1, stands n inside m.2)
@@ -107,7 +108,7 @@ MayStand-part (inside_of w) t n p m = (position_in w, m.2)
 
 -- How large it is.
 
-abbrev pub units_around : Place → ℕ
+abbrev units_around : Place → ℕ
 units_around (among before behind) = 1 + (units_in_row before + units_in_row behind)
 units_around (left_of right) = 1 + units right
 units_around (right_of left) = 1 + units left
@@ -119,7 +120,7 @@ units-put (left_of right) t = omega arith
 units-put (right_of left) t = omega arith
 units-put (inside_of w) t = omega arith
 
-abbrev pub loops_around : Place → ℕ
+abbrev loops_around : Place → ℕ
 loops_around (among before behind) = loops_in_row before + loops_in_row behind
 loops_around (left_of right) = loops right
 loops_around (right_of left) = loops left
@@ -131,7 +132,7 @@ loops-put (left_of right) t = omega arith
 loops-put (right_of left) t = omega arith
 loops-put (inside_of w) t = omega arith
 
-abbrev pub weight_around : Place → ℕ
+abbrev weight_around : Place → ℕ
 weight_around (among before behind) = 2 + (weight_of_row before + weight_of_row behind)
 weight_around (left_of right) = 1 + weight right
 weight_around (right_of left) = 1 + weight left
@@ -152,12 +153,14 @@ IsLess-put p t u is_less = record { less = by is_less.less }
     by : (loops u < loops t) ⊎ ((loops u ≡ loops t) × (weight u < weight t)) →
         (loops (put p u) < loops (put p t)) ⊎ ((loops (put p u) ≡ loops (put p t)) × (weight (put p u) < weight (put p t)))
     by (inl fewer) = inl (omega (arith, loops-put p t, loops-put p u))
-    by (inr lighter) = inr (omega (arith, lighter.0, loops-put p t, loops-put p u), omega (arith, lighter.1, weight-put p t, weight-put p u))
+    by (inr lighter) =
+        inr (omega (arith, lighter.0, loops-put p t, loops-put p u), omega (arith, lighter.1, weight-put p t, weight-put p u))
 
 -- Which shapes it lacks.
 
 module _ (shape : Tree → Bool) where
-  RowLacksShape-part : (before behind : Trees) (t : Tree) → RowLacksShape shape (row_append before (more_trees t behind)) → LacksShape shape t
+  RowLacksShape-part : (before behind : Trees) (t : Tree) → RowLacksShape shape (row_append before (more_trees t behind)) →
+      LacksShape shape t
   RowLacksShape-part no_trees behind t lacks = lacks.0
   RowLacksShape-part (more_trees x before) behind t lacks = RowLacksShape-part before behind t lacks.1
 

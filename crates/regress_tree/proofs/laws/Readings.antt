@@ -120,11 +120,13 @@ pub next_character-within : (text : List ℕ) (d : Direction) (k : ℕ) → k �
     IfSome (next_character d (of_characters text) k) (λ r. (r.place ≤ length text) × IsOnward d k r.place)
 next_character-within text forwards k within =
     ⊎_elim
-    (λ (h : k < length text). subst (λ o. IfSome o (λ r. (r.place ≤ length text) × (k ≤ r.place))) (sym (after_within text k h)) (omega arith, omega arith))
+    (λ (h : k < length text).
+    subst (λ o. IfSome o (λ r. (r.place ≤ length text) × (k ≤ r.place))) (sym (after_within text k h)) (omega arith, omega arith))
     (λ (h : length text ≤ k). subst (λ o. IfSome o (λ r. (r.place ≤ length text) × (k ≤ r.place))) (sym (after_end text k h)) tt)
     (cases_lt k (length text))
 next_character-within text backwards zero within = tt
 next_character-within text backwards (suc k) within =
     let next : k + 1 ≡ suc k = omega arith in
     subst (λ j. IfSome ((of_characters text).before j) (λ r. (r.place ≤ length text) × (r.place ≤ j))) next
-    (subst (λ o. IfSome o (λ r. (r.place ≤ length text) × (r.place ≤ k + 1))) (sym (before_within text k within)) (omega arith, omega arith))
+    (subst (λ o. IfSome o (λ r. (r.place ≤ length text) × (r.place ≤ k + 1))) (sym (before_within text k within))
+    (omega arith, omega arith))

@@ -1,12 +1,12 @@
 -- Repetition over the bytes of a text does what it does over its characters. How large the bound is makes no difference
 -- once it is past what is left of the text.
-use Rattle.std.proofs.Common.{◌≡◌, ◌⊎◌, inl, inr, ⊎_elim, ℕ, zero, suc, ◌+◌, ◌-◌, ◌<◌, ◌≤◌, min, nat_le, nat_lt, ◌==◌, Bool, true, false, not, ◌&&◌, cond, List, [], ◌∷◌, ◌++◌, length, map, filter, flat_map, Option, Some, None, All, encode_utf8_all, refl, sym, ap, ap₂, subst, ◌∙◌, arith}
-use Rattle.std.proofs.lemmas.Bool.{cases_eq, cases_lt, eq-eqb, false≢true}
-use Rattle.std.proofs.lemmas.List.Elements.{All-nil, All-cons, All-head, All-tail, All-filter, filter_passes}
+use Rattle.std.proofs.Common.{◌≡◌, ◌⊎◌, inl, inr, ⊎_elim, ℕ, zero, suc, ◌+◌, ◌-◌, ◌<◌, ◌≤◌, nat_le, nat_lt, ◌==◌, Bool, true, false, not, ◌&&◌, cond, List, [], ◌∷◌, ◌++◌, length, map, filter, flat_map, Option, Some, None, All, encode_utf8_all, refl, sym, ap, ap₂, subst, ◌∙◌, arith}
+use Rattle.std.proofs.lemmas.Bool.{cases_lt, eq-eqb, false≢true}
+use Rattle.std.proofs.lemmas.List.Elements.{All-cons, All-head, All-tail, All-filter, filter_passes}
 use Rattle.std.proofs.lemmas.Str.{length-le-encodes}
 use Rattle.regress_tree.specs.declared.ir.node.Quantifier.{Quantifier}
 use Rattle.regress_tree.specs.Reading.{Direction, forwards, backwards, byte_place}
-use Rattle.regress_tree.specs.Steps.{Span, State, Step, IsStateOf, IsCaptureOf, byte_state, byte_capture, stay, ◌then_◌, ◌or_◌}
+use Rattle.regress_tree.specs.Steps.{Span, State, Step, IsStateOf, IsCaptureOf, byte_state, byte_capture, stay}
 use Rattle.regress_tree.specs.Repetition.{unset_from, unset, turn, turns, moving, up_to, more_turns, repeat}
 use Rattle.regress_tree.proofs.laws.ByteStates.{eqb-byte_place, filter-byte_state}
 use Rattle.regress_tree.proofs.laws.Simulation.{IsReached, Simulates, Simulates-within, Simulates-stay, Simulates-then, Simulates-or}
@@ -63,7 +63,8 @@ less_left : (d : Direction) (text : List ℕ) (s t : State) → IsReached text d
 less_left forwards text s t r moved = omega (arith, moved, r.onward, r.state.place)
 less_left backwards text s t r moved = omega (arith, moved, r.onward)
 
-reached_further : (d : Direction) (text : List ℕ) (s t : State) → IsReached text d s t → not (t.place == s.place) ≡ true → IsFurther text d s t
+reached_further : (d : Direction) (text : List ℕ) (s t : State) → IsReached text d s t → not (t.place == s.place) ≡ true →
+    IsFurther text d s t
 reached_further d text s t r moves = record {
   state = r.state;
   less = less_left d text s t r (λ e. false≢true (sym (ap not (eq-eqb t.place s.place e)) ∙ moves));

@@ -103,7 +103,8 @@ module _ (text : List ℕ) (d : Direction) where
 module _ (text : List ℕ) (d : Direction) (test : ℕ → Bool) (s : State) (in' : IsStateOf text s) where
   -- whether or not the character passes
   cond-byte_state : (b : Bool) (k : ℕ) →
-      cond b (record (byte_state text s) { place = byte_place text k } ∷ []) [] ≡ map (byte_state text) (cond b (record s { place = k } ∷ []) [])
+      cond b (record (byte_state text s) { place = byte_place text k } ∷ []) []
+      ≡ map (byte_state text) (cond b (record s { place = k } ∷ []) [])
   cond-byte_state true k = refl
   cond-byte_state false k = refl
 
@@ -165,7 +166,8 @@ module _ (text : List ℕ) (id from : ℕ) (h : from ≤ length text) where
   captured-byte_state : (s : State) → IsStateOf text s →
       captured id (byte_place text from) (byte_state text s) ≡ byte_state text (captured id from s)
   captured-byte_state s in' =
-      let e : set (map (byte_capture text) s.captures) id (Some (min (byte_place text from) (byte_place text s.place), max (byte_place text from) (byte_place text s.place)))
+      let e : set (map (byte_capture text) s.captures) id
+      (Some (min (byte_place text from) (byte_place text s.place), max (byte_place text from) (byte_place text s.place)))
       ≡ map (byte_capture text) (set s.captures id (Some (min from s.place, max from s.place))) =
       ap₂ (λ a b. set (map (byte_capture text) s.captures) id (Some (a, b)))
       (byte_place-min text from s.place h in'.place) (byte_place-max text from s.place h in'.place)

@@ -2,7 +2,6 @@
 
 use super::node::{Node, Regex};
 use std::fmt;
-use std::ops::Range;
 
 /// How many levels are shown by dots. A deeper one is shown by its number.
 const MAX_DEPTH_DOTS: usize = 120;
@@ -95,10 +94,11 @@ fn write_node<W: fmt::Write>(node: &Node, f: &mut fmt::Formatter<W>) -> fmt::Res
             quant,
             enclosed_groups,
             ..
-        } => {
-            let Range { start, end } = enclosed_groups;
-            writeln!(f, "Loop (groups {start}..{end}) {quant:?}")
-        }
+        } => writeln!(
+            f,
+            "Loop (groups {}..{}) {quant:?}",
+            enclosed_groups.start, enclosed_groups.end
+        ),
         Node::Loop1CharBody { quant, .. } => writeln!(f, "Loop1Char {quant:?}"),
     }
 }

@@ -67,6 +67,7 @@ impl FoldRange {
     /// The first code point of the run.
     pub(super) fn first(&self) -> u32
         ensures value { result ≡ self.now.start }
+        ensures nonempty { 1 ≤ self.now.length }
         ensures low { result + self.now.length < 2 ^ 20 }
     {
         self.range.first()
@@ -75,6 +76,7 @@ impl FoldRange {
     /// The last code point of the run.
     pub(super) fn last(&self) -> u32
         ensures value { result + 1 ≡ self.now.start + self.now.length }
+        ensures nonempty { 1 ≤ self.now.length }
         ensures low { result < 2 ^ 20 - 1 }
     {
         self.range.last()

@@ -1,6 +1,13 @@
-use super::{Tables, expand_code_point, fold, unfold_char, unfold_uppercase_char, uppercase};
-use regress_base::codepointset::CodePointSet;
+ghost use Rattle.std.specs.Prelude.{◌<◌, ◌^◌};
+
+use super::{
+    CodePointRange, Tables, add_icase_code_points, expand_code_point, fold, unfold_char,
+    unfold_uppercase_char, uppercase,
+};
+use regress_base::codepointset::{CODE_POINT_MAX, CodePointSet, Interval};
 use std::test::Fail;
+
+mod refusals;
 
 #[test]
 fn folds_of_the_small_table(rt: HostRuntime) -> Result<(), Fail> {
@@ -144,5 +151,56 @@ fn keycaps_are_strings_of_the_small_table(rt: HostRuntime) -> Result<(), Fail> {
     let tables = Tables::small(rt.alloc())?;
     let keycaps = tables.strings("Emoji_Keycap_Sequence");
     assert!(rt; keycaps.is_some_and(|strings| are_keycaps(strings, b"#*0123456789")));
+    Ok(())
+}
+
+#[test]
+fn a_range_gives_back_its_ends(rt: HostRuntime) -> Result<(), Fail> {
+    let range = CodePointRange::from(0xFEFFF, 4096);
+    assert_eq!(rt; range.first(), 0xFEFFF);
+    assert_eq!(rt; range.last(), 0xFFFFE);
+    let range = CodePointRange::from(0, 1);
+    assert_eq!(rt; range.first(), 0);
+    assert_eq!(rt; range.last(), 0);
+    Ok(())
+}
+
+#[test]
+fn a_set_is_closed_under_its_folds(rt: HostRuntime) -> Result<(), Fail> {
+    let alloc = rt.alloc();
+    let tables = Tables::small(alloc)?;
+    let mut set = CodePointSet::new(alloc);
+    set.add_one(0x73)?;
+    let closure = add_icase_code_points(set, &tables)?;
+    let members = [
+        Interval::new(0x53, 0x53),
+        Interval::new(0x73, 0x73),
+        Interval::new(0x17F, 0x17F),
+    ];
+    assert!(rt; closure.intervals() == members.as_slice());
+    Ok(())
+}
+
+#[test]
+fn each_second_code_point_of_a_row_is_closed(rt: HostRuntime) -> Result<(), Fail> {
+    let alloc = rt.alloc();
+    let tables = Tables::small(alloc)?;
+    let mut set = CodePointSet::new(alloc);
+    set.add(Interval::new(0x1F7, 0x1F8))?;
+    set.add_one(0x21D)?;
+    let closure = add_icase_code_points(set, &tables)?;
+    let members = [Interval::new(0x1F7, 0x1F9), Interval::new(0x21C, 0x21D)];
+    assert!(rt; closure.intervals() == members.as_slice());
+    Ok(())
+}
+
+#[test]
+fn all_of_unicode_is_closed(rt: HostRuntime) -> Result<(), Fail> {
+    let alloc = rt.alloc();
+    let tables = Tables::small(alloc)?;
+    let mut set = CodePointSet::new(alloc);
+    set.add(Interval::new(0, CODE_POINT_MAX))?;
+    let closure = add_icase_code_points(set, &tables)?;
+    assert!(rt; closure.intervals() == [Interval::new(0, CODE_POINT_MAX)].as_slice());
     Ok(())
 }

@@ -10,7 +10,8 @@ use Rattle.regress_opt.proofs.flatten.flatten_cat.Goals as goal
 pub returns-then-not-any-clause-action : goal.returns-then-not-any-clause-action
 returns-then-not-any-clause-action c =
     let parts = c.args.parts.now in
-    let any = any_from_yields_List (λ n. is_cat (tree n)) _ _ c.any.result c.any.ensures.ran (YieldsList-from_slice parts.items (search rules)) (λ x b q k. search (rules, tests)) in
+    let any = any_from_yields_List (λ n. is_cat (tree n)) _ _ c.any.result c.any.ensures.ran
+    (YieldsList-from_slice parts.items (search rules)) (λ x b q k. search (rules, tests)) in
     let long = is_short-from_len parts.items (omega (arith, parts.ok.0, c.len.ensures)) in
     let none : has_cat (trees parts.items) ≡ false = has_cat-any parts.items ∙ sym any ∙ c.if-not-any.true in
     (ap₂ ◌||◌ long none, refl)
@@ -18,5 +19,6 @@ returns-then-not-any-clause-action c =
 pub returns-clause-action : goal.returns-clause-action
 returns-clause-action c =
     let parts = c.args.parts.now in
-    let any = any_from_yields_List (λ n. is_cat (tree n)) _ _ c.any.result c.any.ensures.ran (YieldsList-from_slice parts.items (search rules)) (λ x b q k. search (rules, tests)) in
+    let any = any_from_yields_List (λ n. is_cat (tree n)) _ _ c.any.result c.any.ensures.ran
+    (YieldsList-from_slice parts.items (search rules)) (λ x b q k. search (rules, tests)) in
     (has_cat-any parts.items ∙ sym any ∙ c.if-not-any.false, c.in_ok-splice.ensures.ok)

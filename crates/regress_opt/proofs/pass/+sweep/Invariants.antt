@@ -1,22 +1,20 @@
 -- What the sweeps so far have made of the whole.
-use Rattle.std.proofs.Common.{◌≡◌, ◌≤◌, ◌+◌, ◌*◌, Ok, length, take, drop}
-use Rattle.regress_tree.specs.Tree.{tree, trees, cat}
+use Rattle.std.proofs.Common.{◌≡◌, ◌≤◌, ◌+◌, ◌*◌, Ok, length, drop}
+use Rattle.regress_tree.specs.Tree.{tree, trees}
 use Rattle.regress_tree.specs.Walk.{direction_of}
 use Rattle.regress_tree.specs.Units.{units, units_in_row}
-use Rattle.regress_tree.specs.Shapes.{LacksShape, RowLacksShape}
-use Rattle.regress_opt.specs.Sweep.{Swept}
-use Rattle.regress_opt.specs.Spine.{reattach, spine_length, LeftsLackShape}
+use Rattle.regress_opt.specs.Spine.{spine_length}
+use Rattle.regress_opt.proofs.SpineLemmas.{DownSwept}
+use Rattle.regress_opt.proofs.PartsLemmas.{PartsSwept}
 use Rattle.regress_opt.proofs.pass.+sweep.Given as goal
 
 abbrev pub invariant-sweep_down-loop-changed : goal.invariant-sweep_down-loop-changed
 invariant-sweep_down-loop-changed g l =
-    let shape = g.R.Rewrite.removes in
     let old = tree l.initial.node in
     record {
       levels : l.levels ≡ spine_length (tree l.above);
       smaller : units (tree l.node) ≤ units old;
-      swept : Swept (LacksShape shape old) (LeftsLackShape shape (tree l.above)) g.R.Rewrite.is_exact (direction_of l.walk)
-          old (reattach (tree l.above) (tree l.node)) (Ok l.changed);
+      swept : DownSwept g.R.Rewrite.is_exact (direction_of l.walk) g.R.Rewrite.removes old (tree l.above) (tree l.node) (Ok l.changed);
     }
 
 abbrev pub decreases-sweep_down-loop-changed : goal.decreases-sweep_down-loop-changed
@@ -24,16 +22,14 @@ decreases-sweep_down-loop-changed g l = units (tree l.node)
 
 abbrev pub invariant-sweep_parts-loop-i : goal.invariant-sweep_parts-loop-i
 invariant-sweep_parts-loop-i g l =
-    let shape = g.R.Rewrite.removes in
     let old = l.initial.parts.items in
     record {
       length : length l.parts.items ≡ length old;
       unvisited : drop l.i l.parts.items ≡ drop l.i old;
-      swept : Swept (RowLacksShape shape (trees old)) (RowLacksShape shape (trees (take l.i l.parts.items))) g.R.Rewrite.is_exact
-          (direction_of l.walk) (cat (trees old)) (cat (trees l.parts.items)) (Ok l.changed);
+      swept : PartsSwept g.R.Rewrite.removes g.R.Rewrite.is_exact (direction_of l.walk) old l.parts.items l.i (Ok l.changed);
     }
 
--- each call is on a part, or one further down in this list
+-- each call is on a part, or on what is further down in this list
 
 abbrev pub decreases-sweep : goal.decreases-sweep
 decreases-sweep g l = 5 * units (tree l.node.now) + 3

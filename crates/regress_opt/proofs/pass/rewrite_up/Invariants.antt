@@ -3,20 +3,18 @@ use Rattle.std.proofs.Common.{◌≡◌, Ok}
 use Rattle.regress_tree.specs.Tree.{tree}
 use Rattle.regress_tree.specs.Walk.{direction_of}
 use Rattle.regress_tree.specs.Shapes.{LacksShape}
-use Rattle.regress_opt.specs.Sweep.{Swept}
 use Rattle.regress_opt.specs.Spine.{reattach, spine_length, LeftsLackShape}
+use Rattle.regress_opt.proofs.SpineLemmas.{UpSwept}
 use Rattle.regress_opt.proofs.pass.rewrite_up.Given as goal
 
 abbrev pub invariant-loop-levels : goal.invariant-loop-levels
 invariant-loop-levels g l =
     let shape = g.R.Rewrite.removes in
+    let start = LacksShape shape (tree l.initial.node) × LeftsLackShape shape (tree l.initial.above) in
     let old = reattach (tree l.initial.above) (tree l.initial.node) in
     record {
       levels : l.levels ≡ spine_length (tree l.above);
-      swept : Swept (LacksShape shape old)
-          ((LacksShape shape (tree l.initial.node) × LeftsLackShape shape (tree l.initial.above)) →
-          LacksShape shape (tree l.node) × LeftsLackShape shape (tree l.above))
-          g.R.Rewrite.is_exact (direction_of l.walk) old (reattach (tree l.above) (tree l.node)) (Ok l.changed);
+      swept : UpSwept g.R.Rewrite.is_exact (direction_of l.walk) shape old start (tree l.above) (tree l.node) (Ok l.changed);
     }
 
 abbrev pub decreases-loop-levels : goal.decreases-loop-levels

@@ -7,7 +7,8 @@ use Rattle.regress_opt.proofs.tests.alternatives.Goals as goal
 
 well_formed : (t : Tree) → MayStand 0 t inside → captures t ≡ [] → IsWellFormed t
 well_formed t stands none = record {
-  stands = subst (λ (n : ℕ). MayStand n t root) (sym (ap length none)) (MayStand-from_last 0 t root tt (MayStand-from_last 0 t last tt stands));
+  stands = subst (λ (n : ℕ). MayStand n t root) (sym (ap length none))
+      (MayStand-from_last 0 t root tt (MayStand-from_last 0 t last tt stands));
   ids = λ k. rw none (search rules);
 }
 

@@ -8,4 +8,6 @@ use Rattle.regress_opt.proofs.flatten.FlattenRewrite.apply.Goals as goal
 pub returns-in-Cat-clause-lawful : goal.returns-in-Cat-clause-lawful
 returns-in-Cat-clause-lawful c =
     let action = rw c.in-Cat.parts-is at c.flatten_cat.ensures.action in
-    rw (c.in-Cat.is, out-Cat) (simp tree-Cat (flatten_lawful _ c.flatten_cat.result (trees c.in-Cat.parts.items) (trees c.flatten_cat.new.parts.items) action))
+    let was = trees c.in-Cat.parts.items in
+    let is = trees c.flatten_cat.new.parts.items in
+    rw (c.in-Cat.is, out-Cat) (simp tree-Cat (flatten_lawful _ c.flatten_cat.result was is action))

@@ -43,7 +43,8 @@ invariant_of-result c =
     let folds = subst AreSoundRows c.deref.ensures.value c.in_ok-check_rows.ensures.ok.0 in
     let uppers = subst AreSoundRows c.deref-2.ensures.value c.in_ok-check_rows.ensures.ok.1 in
     let identifiers = c.have_word_ascii.ensures.0 c.if-not-have_word_ascii.false in
-    let strings = strings_test c.args.strings.items ∙ ap (list_all (λ entry. list_all (λ string. is_string string.items) entry.1.items)) (sym c.deref-3.ensures.value) ∙ sym c.have_strings.ensures ∙ c.if-not-have_strings.false in
+    let strings = strings_test c.args.strings.items ∙ ap (list_all (λ entry. list_all (λ string. is_string string.items) entry.1.items))
+    (sym c.deref-3.ensures.value) ∙ sym c.have_strings.ensures ∙ c.if-not-have_strings.false in
     record {
       sound = record {
         folds = folds;
@@ -69,6 +70,8 @@ returns-clause-accepted c refusal =
     let folds = subst AreSoundRows c.deref.ensures.value c.in_ok-check_rows.ensures.ok.0 in
     let uppers = subst AreSoundRows c.deref-2.ensures.value c.in_ok-check_rows.ensures.ok.1 in
     let identifiers = c.have_word_ascii.ensures.0 c.if-not-have_word_ascii.false in
-    let strings = strings_test c.args.strings.items ∙ ap (list_all (λ entry. list_all (λ string. is_string string.items) entry.1.items)) (sym c.deref-3.ensures.value) ∙ sym c.have_strings.ensures ∙ c.if-not-have_strings.false in
-    all_met (parts_from c.args.folds.items c.args.uppers.items c.args.id_start c.args.id_continue c.args.general_category.items c.args.script.items
+    let strings = strings_test c.args.strings.items ∙ ap (list_all (λ entry. list_all (λ string. is_string string.items) entry.1.items))
+    (sym c.deref-3.ensures.value) ∙ sym c.have_strings.ensures ∙ c.if-not-have_strings.false in
+    all_met (parts_from c.args.folds.items c.args.uppers.items c.args.id_start c.args.id_continue c.args.general_category.items
+    c.args.script.items
     c.args.script_extensions.items c.args.binary.items c.args.strings.items) folds uppers identifiers strings refusal

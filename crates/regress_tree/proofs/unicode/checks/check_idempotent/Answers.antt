@@ -7,13 +7,15 @@ use Rattle.regress_tree.proofs.unicode.checks.check_idempotent.Goals as goal
 pub returns-then-are_own_images : goal.returns-then-are_own_images
 returns-then-are_own_images c =
     idempotent_from_images c.args.rows.now
-    (subst (λ (xs : List ℕ). All (λ d. image c.args.rows.now d ≡ d) xs) c.requires.images (c.are_own_images.ensures.0 c.if-are_own_images.true))
+    (subst (λ (xs : List ℕ). All (λ d. image c.args.rows.now d ≡ d) xs) c.requires.images
+    (c.are_own_images.ensures.0 c.if-are_own_images.true))
 
 pub returns-else-are_own_images : goal.returns-else-are_own_images
 returns-else-are_own_images c = (
   refl,
   λ h.
-      (let own = subst (λ (xs : List ℕ). All (λ d. image c.args.rows.now d ≡ d) xs) (sym c.requires.images) (images_from_idempotent c.args.rows.now h) in
+      (let own = subst (λ (xs : List ℕ). All (λ d. image c.args.rows.now d ≡ d) xs) (sym c.requires.images)
+      (images_from_idempotent c.args.rows.now h) in
       let yes : c.are_own_images.result ≡ true = c.are_own_images.ensures.1 own in
       cc (yes, c.if-are_own_images.false)),
 )

@@ -14,7 +14,8 @@ pub apply-requires-clause-within : goal.apply-requires-clause-within
 unfolding place_of_row
 apply-requires-clause-within c =
     let placed = c.in-Ok.ensures.position (place_of_row c.args.c) (always_returns_same _ _ _ (λ a r f' k. search rules)) in
-    subst (λ (r : FoldRow). IsTrue (is_in_row r c.args.c)) (sym c.index-rows-place.is) (row-Equal c.args.c (get_or c.args.rows.now c.in-Ok.place c.index-rows-place.result) (placed c.index-rows-place.result))
+    subst (λ (r : FoldRow). IsTrue (is_in_row r c.args.c)) (sym c.index-rows-place.is)
+    (row-Equal c.args.c (get_or c.args.rows.now c.in-Ok.place c.index-rows-place.result) (placed c.index-rows-place.result))
 
 pub returns-in-Ok : goal.returns-in-Ok
 unfolding place_of_row
@@ -22,7 +23,8 @@ returns-in-Ok c =
     let placed = c.in-Ok.ensures.position (place_of_row c.args.c) (always_returns_same _ _ _ (λ a r f' k. search rules)) in
     c.apply.ensures
     ∙ ap (λ r. image_in_row r c.args.c) c.index-rows-place.is
-    ∙ sym (image_at 0 c.args.rows.now c.in-Ok.place c.index-rows-place.result c.args.c c.requires.in_order c.in-Ok.ensures.bound (row-Equal c.args.c (get_or c.args.rows.now c.in-Ok.place c.index-rows-place.result) (placed c.index-rows-place.result)))
+    ∙ sym (image_at 0 c.args.rows.now c.in-Ok.place c.index-rows-place.result c.args.c c.requires.in_order c.in-Ok.ensures.bound
+    (row-Equal c.args.c (get_or c.args.rows.now c.in-Ok.place c.index-rows-place.result) (placed c.index-rows-place.result)))
 
 pub returns-in-Err : goal.returns-in-Err
 unfolding place_of_row

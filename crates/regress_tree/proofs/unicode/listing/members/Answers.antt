@@ -11,6 +11,8 @@ use Rattle.regress_tree.proofs.unicode.listing.members.Goals as goal
 pub returns : goal.returns
 returns c =
     let canonical = subst IsCanonical c.intervals.ensures.value c.intervals.ensures.canonical in
-    IfOk-weaker c.code_points.result (λ (list : Vec ℕ Global). list.items ≡ flat_map code_points c.intervals.result.now) (λ (list : Vec ℕ Global). IsListing (is_member c.args.set.now) list.items)
-    (λ list e. subst (λ (xs : List ℕ). IsListing (is_member c.args.set.now) xs) (sym (e ∙ ap (flat_map code_points) c.intervals.ensures.value)) (listing_of_members c.args.set.now canonical))
+    IfOk-weaker c.code_points.result (λ (list : Vec ℕ Global). list.items ≡ flat_map code_points c.intervals.result.now)
+    (λ (list : Vec ℕ Global). IsListing (is_member c.args.set.now) list.items)
+    (λ list e. subst (λ (xs : List ℕ). IsListing (is_member c.args.set.now) xs)
+    (sym (e ∙ ap (flat_map code_points) c.intervals.ensures.value)) (listing_of_members c.args.set.now canonical))
     c.code_points.ensures

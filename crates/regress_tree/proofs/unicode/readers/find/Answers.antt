@@ -7,12 +7,14 @@ use Rattle.regress_tree.proofs.unicode.readers.find.Goals as goal
 pub returns-then-eq : goal.returns-then-eq
 returns-then-eq g c =
     let same = ap (λ bytes. bytes_eq bytes c.args.name.now) (sym c.as_str.ensures.value) ∙ sym c.eq.ensures ∙ c.if-eq.true in
-    named_found c.args.name.now c.args.entries.now c.loop-entry.entry-index c.loop-entry-item.result _ c.loop-entry-test.true c.loop-entry-item.is c.loop-entry.invariant same
+    named_found c.args.name.now c.args.entries.now c.loop-entry.entry-index c.loop-entry-item.result _ c.loop-entry-test.true
+    c.loop-entry-item.is c.loop-entry.invariant same
 
 pub loop-entry-preserved : goal.loop-entry-preserved
 loop-entry-preserved g c =
     let other = ap (λ bytes. bytes_eq bytes c.args.name.now) (sym c.as_str.ensures.value) ∙ sym c.eq.ensures ∙ c.if-eq.false in
-    named_passed c.args.name.now c.args.entries.now c.loop-entry.entry-index c.loop-entry-item.result _ c.loop-entry-test.true c.loop-entry-item.is c.loop-entry.invariant other
+    named_passed c.args.name.now c.args.entries.now c.loop-entry.entry-index c.loop-entry-item.result _ c.loop-entry-test.true
+    c.loop-entry-item.is c.loop-entry.invariant other
 
 pub returns : goal.returns
 returns g c = named_none _ _ _ _ c.loop-entry-test.false c.loop-entry.invariant

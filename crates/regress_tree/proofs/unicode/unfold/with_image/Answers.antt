@@ -22,7 +22,8 @@ pub loop-row-preserved : goal.loop-row-preserved
 loop-row-preserved c =
     elim c.match-source.branch [
       | in-Some+in_ok-add_one-2 w ↦ λ x. rw w.found-is
-          (found_source c.args.rows.now c.loop-row.row-index c.args.target x w.in-Some.source c.row-item.result _ _ c.loop-row-test.true c.row-item.is
+          (found_source c.args.rows.now c.loop-row.row-index c.args.target x w.in-Some.source c.row-item.result _ _ c.loop-row-test.true
+          c.row-item.is
           (c.loop-row.invariant x) (w.in_ok-add_one-2.ensures.members x) (w.in-Some.ensures.some x))
       | in_default w ↦ λ x. rw w.found-is
           (found_no_source c.args.rows.now c.loop-row.row-index c.args.target x c.row-item.result _ c.loop-row-test.true c.row-item.is
@@ -31,6 +32,8 @@ loop-row-preserved c =
 
 pub returns : goal.returns
 returns c =
-    IfOk-weaker c.members.result (λ (list : Vec ℕ Global). IsListing (is_member c.loop-row.found) list.items) (λ (list : Vec ℕ Global). IsListing (λ x. image c.args.rows.now x == c.args.target) list.items)
-    (λ list. listing_of_same _ _ list.items (λ x. found_all c.args.rows.now c.loop-row.row-index c.args.target x _ c.requires.in_order c.requires.own_image c.loop-row-test.false (c.loop-row.invariant x)))
+    IfOk-weaker c.members.result (λ (list : Vec ℕ Global). IsListing (is_member c.loop-row.found) list.items)
+    (λ (list : Vec ℕ Global). IsListing (λ x. image c.args.rows.now x == c.args.target) list.items)
+    (λ list. listing_of_same _ _ list.items (λ x. found_all c.args.rows.now c.loop-row.row-index c.args.target x _ c.requires.in_order
+    c.requires.own_image c.loop-row-test.false (c.loop-row.invariant x)))
     c.members.ensures

@@ -14,7 +14,8 @@ returns c =
     let four = below c.args.modulo c.requires.modulo in
     let delta = delta_of_packed c.args.delta (c.args.modulo - 1) c.requires.delta_low c.requires.delta_high four in
     let mask = mask_of_packed c.args.delta (c.args.modulo - 1) c.requires.delta_low c.requires.delta_high four in
-    let modulo : unsigned_abs (int_rem_euclid (packed c.args.delta (c.args.modulo - 1)) (pos 16)) + 1 ≡ c.args.modulo = omega (arith, mask) in
+    let modulo : unsigned_abs (int_rem_euclid (packed c.args.delta (c.args.modulo - 1)) (pos 16)) + 1 ≡ c.args.modulo = omega
+    (arith, mask) in
     let start : c.from.result.start ≡ c.args.start = ap (λ s. s.start) c.from.ensures in
     let len : c.from.result.length ≡ c.args.length = ap (λ s. s.length) c.from.ensures in
     rw (start, len, delta, modulo)
@@ -25,7 +26,8 @@ invariant_of-result c =
     let four = below c.args.modulo c.requires.modulo in
     let delta = delta_of_packed c.args.delta (c.args.modulo - 1) c.requires.delta_low c.requires.delta_high four in
     let mask = mask_of_packed c.args.delta (c.args.modulo - 1) c.requires.delta_low c.requires.delta_high four in
-    let modulo : unsigned_abs (int_rem_euclid (packed c.args.delta (c.args.modulo - 1)) (pos 16)) + 1 ≡ c.args.modulo = omega (arith, mask) in
+    let modulo : unsigned_abs (int_rem_euclid (packed c.args.delta (c.args.modulo - 1)) (pos 16)) + 1 ≡ c.args.modulo = omega
+    (arith, mask) in
     rw (c.from.ensures, delta, modulo) record {
       span = record { nonempty = c.requires.nonempty; short = c.requires.short; low = c.requires.low };
       delta_low = c.requires.delta_low;
