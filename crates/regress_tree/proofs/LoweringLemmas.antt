@@ -96,7 +96,8 @@ module _ (table : Table) (icase unicode : Bool) (setting : Setting) (text : List
       ∙ nothing_then setting (encode_utf8_all text) (over_bytes setting (encode_utf8_all text) table icase unicode cs) s)
       (literals_simulate cs)
 
-pub lowered-mean : (table : Table) (icase unicode : Bool) (cs : List ℕ) → MeanLiterals table icase unicode cs (lowered table icase unicode cs)
+pub lowered-mean : (table : Table) (icase unicode : Bool) (cs : List ℕ) →
+    MeanLiterals table icase unicode cs (lowered table icase unicode cs)
 lowered-mean table icase unicode cs setting text s is_text in' = (lowered_simulates table icase unicode setting text is_text cs).same s in'
 
 -- ---- that they stand apart
@@ -156,18 +157,26 @@ module _ (table : Table) (icase unicode : Bool) where
 
   -- ---- one literal more
 
-  pub lowered-character : (written : List ℕ) (c ch : ℕ) (cs : List ℕ) → class_of table icase unicode c ≡ ch ∷ [] → is_character (ch ∷ []) ≡ true →
+  lowered-character : (written : List ℕ) (c ch : ℕ) (cs : List ℕ) → class_of table icase unicode c ≡ ch ∷ [] →
+      is_character (ch ∷ []) ≡ true →
       lowered_behind table icase unicode written (c ∷ cs) ≡ lowered_behind table icase unicode (written ++ encode_utf8 ch) cs
   lowered-character written c ch cs one h =
       cond-true _ _ _ (ap is_character one ∙ h)
       ∙ ap (λ bytes. lowered_behind table icase unicode (written ++ bytes) cs) (ap encode_utf8_all one ∙ append-nil (encode_utf8 ch))
 
-  pub lowered-piece : (written : List ℕ) (c : ℕ) (cs : List ℕ) → is_character (class_of table icase unicode c) ≡ false →
+  lowered-piece : (written : List ℕ) (c : ℕ) (cs : List ℕ) → is_character (class_of table icase unicode c) ≡ false →
       lowered_behind table icase unicode written (c ∷ cs)
       ≡ bytes_piece written ++ piece_of (class_of table icase unicode c) ∷ lowered_behind table icase unicode [] cs
   lowered-piece written c cs h = cond-false _ _ _ h
 
-  module _ (found : List Leaf) (written cps : List ℕ) (i : ℕ) (so_far : found ++ lowered_behind table icase unicode written (drop i cps) ≡ lowered table icase unicode cps) (within : i < length cps) (class : List ℕ) (listing : IsListing (stands_for table icase unicode (slice_index cps i)) class) where
+  -- the pieces found, and those of the literals from i on behind these bytes, are the pieces of all
+  abbrev pub AreFound : List Leaf → List ℕ → List ℕ → ℕ → Type 0
+  AreFound found written cps i = found ++ lowered_behind table icase unicode written (drop i cps) ≡ lowered table icase unicode cps
+
+  module _
+      (found : List Leaf) (written cps : List ℕ) (i : ℕ) (so_far : AreFound found written cps i) (within : i < length cps)
+      (class : List ℕ) (listing : IsListing (stands_for table icase unicode (slice_index cps i)) class)
+      where
     at_place : found ++ lowered_behind table icase unicode written (slice_index cps i ∷ drop (i + 1) cps) ≡ lowered table icase unicode cps
     at_place = ap (λ rest. found ++ lowered_behind table icase unicode written rest) (sym (drop_more cps i 0 within)) ∙ so_far
 
@@ -175,15 +184,14 @@ module _ (table : Table) (icase unicode : Bool) where
     its_class = listing_is_listed (stands_for table icase unicode (slice_index cps i)) class listing
 
     pub step_character : (ch : ℕ) → class ≡ ch ∷ [] → is_character class ≡ true →
-        found ++ lowered_behind table icase unicode (written ++ encode_utf8 ch) (drop (i + 1) cps) ≡ lowered table icase unicode cps
+        AreFound found (written ++ encode_utf8 ch) cps (i + 1)
     step_character ch one h =
         ap (λ leaves. found ++ leaves)
         (sym (lowered-character written (slice_index cps i) ch (drop (i + 1) cps) (sym its_class ∙ one) (ap is_character (sym one) ∙ h)))
         ∙ at_place
 
     pub step_piece : is_character class ≡ false →
-        ((found ++ bytes_piece written) ++ piece_of class ∷ []) ++ lowered_behind table icase unicode [] (drop (i + 1) cps)
-        ≡ lowered table icase unicode cps
+        AreFound ((found ++ bytes_piece written) ++ piece_of class ∷ []) [] cps (i + 1)
     step_piece h =
         let rest = lowered_behind table icase unicode [] (drop (i + 1) cps) in
         append_assoc (found ++ bytes_piece written) (piece_of class ∷ []) rest

@@ -14,19 +14,14 @@ use Rattle.regress_tree.specs.Steps.{State, one_character}
 use Rattle.regress_tree.specs.Table.{Table, canon, stands_for}
 use Rattle.regress_tree.specs.Tree.{leaf, char, byte_set, char_set}
 use Rattle.regress_tree.proofs.ListingLemmas.{ascending_parts, ascending_above, ascending_append, ascending_filter, lists-head, lists-tail, lists-past, lists-filter, lists-run}
-use Rattle.regress_tree.proofs.laws.ByteSequences.{one_character-agree}
+use Rattle.regress_tree.proofs.laws.ByteSequences.{same_tests, one_character-agree}
 use Rattle.regress_tree.proofs.laws.Simulation.{Simulates, Simulates-same_right, Simulates-one_character}
 
 -- ---- listings
 
-same_tests : (a b : Bool) → (a ≡ true → b ≡ true) → (b ≡ true → a ≡ true) → a ≡ b
-same_tests true b to from = sym (to refl)
-same_tests false true to from = from refl
-same_tests false false to from = refl
-
 -- what stands behind the same first number is the same
-same_behind : (x : ℕ) (xs ys : List ℕ) → IsTrue (is_ascending_from (x + 1) xs) → ((c : ℕ) → lists (x ∷ xs) c ≡ true → lists (x ∷ ys) c ≡ true) →
-    (c : ℕ) → lists xs c ≡ true → lists ys c ≡ true
+same_behind : (x : ℕ) (xs ys : List ℕ) → IsTrue (is_ascending_from (x + 1) xs) →
+    ((c : ℕ) → lists (x ∷ xs) c ≡ true → lists (x ∷ ys) c ≡ true) → (c : ℕ) → lists xs c ≡ true → lists ys c ≡ true
 same_behind x xs ys h within c e =
     let above = ascending_above (x + 1) xs c h e in
     let other : x ≢ c = omega (arith, above) in
@@ -120,7 +115,8 @@ module _ (table : Table) (icase unicode : Bool) (c : ℕ) where
   pub class_of-some : c ≤ code_point_max → class_of table icase unicode c ≢ []
   class_of-some h none =
       false≢true
-      (ap (λ xs. lists xs c) (sym none) ∙ lists-class_of c ∙ and_from _ _ (le-leb c code_point_max h) (stands_for-itself table icase unicode c))
+      (ap (λ xs. lists xs c) (sym none) ∙ lists-class_of c
+      ∙ and_from _ _ (le-leb c code_point_max h) (stands_for-itself table icase unicode c))
 
   -- of the Unicode scalar values the class has those that the literal stands for
   pub lists-class_of-scalar : (x : ℕ) → IsScalar x → lists (class_of table icase unicode c) x ≡ stands_for table icase unicode c x
@@ -168,5 +164,6 @@ module _ (setting : Setting) (text : List ℕ) (is_text : IsText text) (d : Dire
       (steps setting (encode_utf8_all text) d (leaf (char x)))
   char_simulates x one =
       Simulates-same_right text d _ _ _
-      (λ s. char-steps setting (encode_utf8_all text) d x s ∙ ap (λ xs. one_character d (of_bytes (encode_utf8_all text)) (lists xs) s) (sym one))
+      (λ s. char-steps setting (encode_utf8_all text) d x s
+      ∙ ap (λ xs. one_character d (of_bytes (encode_utf8_all text)) (lists xs) s) (sym one))
       class_simulates
