@@ -13,3 +13,4 @@ pub mod RefusalLemmas
 pub mod ShiftLemmas
 pub mod ClosureLemmas
 pub mod TableExamples
+mod LiteralExamples

@@ -1,5 +1,5 @@
 -- The pieces of literals in a row match what the literals do, and stand apart.
-use Rattle.std.proofs.Common.{◌≡◌, ◌≢◌, ℕ, ◌+◌, ◌<◌, ◌≤◌, Bool, true, false, cond, List, [], ◌∷◌, ◌++◌, length, drop, slice_index, map, flat_map, encode_utf8_all, refl, sym, ap, ◌∙◌, ⊎_elim, append-nil, append_assoc}
+use Rattle.std.proofs.Common.{◌≡◌, ◌≢◌, ℕ, ◌+◌, ◌<◌, ◌≤◌, Bool, true, false, cond, List, [], ◌∷◌, ◌++◌, length, drop, slice_index, map, flat_map, encode_utf8_all, sym, ap, ◌∙◌, ⊎_elim, append-nil, append_assoc}
 use mathlib.Core.Path.{fun_ext}
 use Rattle.std.proofs.lemmas.Bool.{false≢true, cond-true, cond-false, cond_both, cases_Bool}
 use Rattle.std.proofs.lemmas.List.{drop_more}
@@ -11,7 +11,7 @@ use Rattle.regress_tree.specs.Matching.{Setting, leaf_steps, steps_in_row}
 use Rattle.regress_tree.specs.Reading.{forwards, IsText, of_bytes}
 use Rattle.regress_tree.specs.Steps.{State, Step, stay, ◌then_◌, one_character, these_bytes}
 use Rattle.regress_tree.specs.Table.{Table, stands_for}
-use Rattle.regress_tree.specs.Tree.{Leaf, char, byte_sequence, byte_set, char_set, leaf, row}
+use Rattle.regress_tree.specs.Tree.{Leaf, byte_sequence, byte_set, char_set, leaf, row}
 use Rattle.regress_tree.proofs.laws.ByteSequences.{these_bytes-nil, these_bytes-append, these_bytes-one}
 use Rattle.regress_tree.proofs.laws.Literals.{listing_is_listed, class_of-some, char-steps, piece_of-steps, class_of-steps}
 use Rattle.regress_tree.proofs.laws.Outcomes.{flat_map-stay, flat_map-then}
@@ -176,30 +176,30 @@ module _ (table : Table) (icase unicode : Bool) where
   module _
       (found : List Leaf) (written cps : List ℕ) (i : ℕ) (so_far : AreFound found written cps i) (within : i < length cps)
       (class : List ℕ) (listing : IsListing (stands_for table icase unicode (slice_index cps i)) class)
-      where
-    at_place : found ++ lowered_behind table icase unicode written (slice_index cps i ∷ drop (i + 1) cps) ≡ lowered table icase unicode cps
-    at_place = ap (λ rest. found ++ lowered_behind table icase unicode written rest) (sym (drop_more cps i 0 within)) ∙ so_far
+    where
+      at_place : found ++ lowered_behind table icase unicode written (slice_index cps i ∷ drop (i + 1) cps) ≡ lowered table icase unicode cps
+      at_place = ap (λ rest. found ++ lowered_behind table icase unicode written rest) (sym (drop_more cps i 0 within)) ∙ so_far
 
-    its_class : class ≡ class_of table icase unicode (slice_index cps i)
-    its_class = listing_is_listed (stands_for table icase unicode (slice_index cps i)) class listing
+      its_class : class ≡ class_of table icase unicode (slice_index cps i)
+      its_class = listing_is_listed (stands_for table icase unicode (slice_index cps i)) class listing
 
-    pub step_character : (ch : ℕ) → class ≡ ch ∷ [] → is_character class ≡ true →
-        AreFound found (written ++ encode_utf8 ch) cps (i + 1)
-    step_character ch one h =
-        ap (λ leaves. found ++ leaves)
-        (sym (lowered-character written (slice_index cps i) ch (drop (i + 1) cps) (sym its_class ∙ one) (ap is_character (sym one) ∙ h)))
-        ∙ at_place
+      pub step_character : (ch : ℕ) → class ≡ ch ∷ [] → is_character class ≡ true →
+          AreFound found (written ++ encode_utf8 ch) cps (i + 1)
+      step_character ch one h =
+          ap (λ leaves. found ++ leaves)
+          (sym (lowered-character written (slice_index cps i) ch (drop (i + 1) cps) (sym its_class ∙ one) (ap is_character (sym one) ∙ h)))
+          ∙ at_place
 
-    pub step_piece : is_character class ≡ false →
-        AreFound ((found ++ bytes_piece written) ++ piece_of class ∷ []) [] cps (i + 1)
-    step_piece h =
-        let rest = lowered_behind table icase unicode [] (drop (i + 1) cps) in
-        append_assoc (found ++ bytes_piece written) (piece_of class ∷ []) rest
-        ∙ append_assoc found (bytes_piece written) (piece_of class ∷ rest)
-        ∙ ap (λ members. found ++ (bytes_piece written ++ piece_of members ∷ rest)) its_class
-        ∙ ap (λ leaves. found ++ leaves)
-        (sym (lowered-piece written (slice_index cps i) (drop (i + 1) cps) (ap is_character (sym its_class) ∙ h)))
-        ∙ at_place
+      pub step_piece : is_character class ≡ false →
+          AreFound ((found ++ bytes_piece written) ++ piece_of class ∷ []) [] cps (i + 1)
+      step_piece h =
+          let rest = lowered_behind table icase unicode [] (drop (i + 1) cps) in
+          append_assoc (found ++ bytes_piece written) (piece_of class ∷ []) rest
+          ∙ append_assoc found (bytes_piece written) (piece_of class ∷ rest)
+          ∙ ap (λ members. found ++ (bytes_piece written ++ piece_of members ∷ rest)) its_class
+          ∙ ap (λ leaves. found ++ leaves)
+          (sym (lowered-piece written (slice_index cps i) (drop (i + 1) cps) (ap is_character (sym its_class) ∙ h)))
+          ∙ at_place
 
-    pub class-some : slice_index cps i ≤ code_point_max → class ≢ []
-    class-some h none = class_of-some table icase unicode (slice_index cps i) h (sym its_class ∙ none)
+      pub class-some : slice_index cps i ≤ code_point_max → class ≢ []
+      class-some h none = class_of-some table icase unicode (slice_index cps i) h (sym its_class ∙ none)

@@ -1,5 +1,5 @@
 -- What stands for literals in a tree.
-use Rattle.std.specs.Prelude.{◌≡◌, ◌≢◌, ℕ, ◌+◌, Bool, true, false, nat_le, List, [], ◌∷◌, ◌++◌, filter, map, if◌then◌else◌, encode_utf8_all}
+use Rattle.std.specs.Prelude.{◌≡◌, ◌≢◌, ℕ, ◌+◌, Bool, false, nat_le, List, [], ◌∷◌, ◌++◌, filter, map, if◌then◌else◌, encode_utf8_all}
 use Rattle.std.specs.List.{list_all, range_with_len}
 use lib.Utf8.{scalar}
 use Rattle.regress_base.specs.Intervals.{code_point_max}

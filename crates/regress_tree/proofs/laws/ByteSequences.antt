@@ -1,5 +1,5 @@
 -- What bytes in a row match: characters one after another where they are the UTF-8 of these.
-use Rattle.std.proofs.Common.{◌≡◌, ℕ, ◌+◌, ◌-◌, ◌==◌, Bool, true, false, cond, ◌&&◌, List, [], ◌∷◌, ◌++◌, length, drop, flat_map, Option, Some, None, option_map, option_and_then, IfSome, ◌⊎◌, inl, inr, ◌≤◌, All, encode_utf8_all, nat_le, refl, sym, ap, ◌∙◌, subst, ⊎_elim, arith, append-nil, append_assoc, nat_eq}
+use Rattle.std.proofs.Common.{◌≡◌, ℕ, ◌+◌, ◌-◌, ◌==◌, Bool, true, false, cond, ◌&&◌, List, [], ◌∷◌, ◌++◌, length, drop, flat_map, Option, Some, None, option_map, option_and_then, IfSome, ◌⊎◌, inl, inr, All, encode_utf8_all, nat_le, refl, sym, ap, ◌∙◌, subst, ⊎_elim, arith, append-nil, append_assoc, nat_eq}
 use mathlib.Core.Path.{fun_ext}
 use Rattle.std.proofs.lemmas.List.{length-append, drop-drop, drop_at}
 use Rattle.std.proofs.lemmas.List.Elements.{All-head, All-tail}
@@ -7,14 +7,13 @@ use Rattle.std.proofs.lemmas.Bool.{false≢true, leb-true, le-leb, and_parts, an
 use Rattle.std.proofs.lemmas.Bool.Decides.{Decides-eqb}
 use Rattle.std.proofs.lemmas.Option.{cond_some}
 use Rattle.std.proofs.lemmas.Slice.Eq.{starts_is}
-use Rattle.std.proofs.lemmas.Str.{length-encode, encodes-append}
+use Rattle.std.proofs.lemmas.Str.{length-encode}
 use Rattle.std.specs.Char.{IsScalar, len_utf8, encode_utf8}
 use Rattle.std.specs.List.{starts_with}
 use Rattle.std.specs.Option.{option_or}
 use Rattle.regress_tree.specs.Reading.{Direction, forwards, backwards, Read, next_character, of_bytes, character_at, read_after, read_before_by, read_before}
 use Rattle.regress_tree.specs.Steps.{State, Step, stay, ◌then_◌, moved, one_character, these_bytes}
 use Rattle.regress_tree.proofs.laws.Characters.{character_at_from, character_at_parts}
-use Rattle.regress_tree.proofs.laws.Outcomes.{flat_map-then}
 use Rattle.regress_tree.proofs.laws.Readings.{read_before-behind}
 
 -- the bytes stand at that place
@@ -255,8 +254,8 @@ before_by_read bytes n k = by_test (nat_le n k)
     by_test : (b : Bool) →
         IfSome
         (cond b
-          (option_and_then (λ c. cond (len_utf8 c == n) (Some (record { character = c; place = k - n })) None) (character_at bytes (k - n)))
-          None)
+        (option_and_then (λ c. cond (len_utf8 c == n) (Some (record { character = c; place = k - n })) None) (character_at bytes (k - n)))
+        None)
         IsRead
     by_test true = before_read bytes n (k - n) (character_at bytes (k - n)) refl
     by_test false = tt

@@ -1,7 +1,6 @@
 -- Each literal goes on with the text, or ends it and is a piece of its own.
 use Rattle.std.proofs.Common.{◌≡◌, ℕ, ◌+◌, ◌++◌, [], ◌∷◌, Bool, List, map, string_bytes, refl, sym, ap, ap₂, subst, ◌∙◌}
 use Rattle.std.proofs.lemmas.List.{at_drop_all, map-append}
-use Rattle.std.specs.Char.{encode_utf8}
 use Rattle.regress_tree.specs.Literal.{piece, piece_of, bytes_piece, is_character, lowered_behind, AreApart, MeanLiterals}
 use Rattle.regress_tree.specs.Table.{Table}
 use Rattle.regress_tree.specs.TableOf.{table_of}

@@ -1,12 +1,12 @@
 -- The chain gives a node for each piece.
-use Rattle.std.proofs.Common.{◌≡◌, ℕ, List, map, Vec, Global, refl, ap, ◌∙◌, rules}
+use Rattle.std.proofs.Common.{◌≡◌, map, Vec, Global, refl, ap, ◌∙◌, rules}
 use Rattle.std.proofs.lemmas.Iterator.{YieldsList-from_map_by, items_from_drains}
 use Rattle.std.proofs.lemmas.Iterator.Adapters.{YieldsList-from_vec}
 use Rattle.std.proofs.lemmas.Result.{IfOk-weaker}
 use Rattle.regress_tree.specs.declared.literal.Piece.{Piece}
 use Rattle.regress_tree.specs.declared.ir.node.Node.{Node}
 use Rattle.regress_tree.specs.Literal.{piece}
-use Rattle.regress_tree.specs.Tree.{Tree, leaf, row, tree, trees}
+use Rattle.regress_tree.specs.Tree.{leaf, row, tree, trees}
 use Rattle.regress_tree.proofs.literal.Piece.into_nodes.Goals as goal
 
 pub returns : goal.returns
