@@ -61,7 +61,8 @@ AreApart leaves =
     (front behind : List Leaf) (bytes next : List ℕ) → leaves ≢ front ++ byte_sequence bytes ∷ byte_sequence next ∷ behind
 
 module _ (table : Table) (icase unicode : Bool) where
-  -- the pieces of literals in a row behind these bytes: characters go on with the bytes, and all else is a piece of its own
+  -- The pieces of literals in a row behind these bytes: characters go on with the bytes, and all else is a piece of its
+  -- own (this project's profile).
   abbrev pub lowered_behind : List ℕ → List ℕ → List Leaf
   lowered_behind bytes [] = bytes_piece bytes
   lowered_behind bytes (c ∷ cs) =

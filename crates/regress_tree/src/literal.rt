@@ -67,9 +67,10 @@ impl From<Piece> for Node {
     }
 }
 
-/// The pieces of literals in a row. Where a code point stands for one character, its UTF-8 goes to a
-/// byte sequence, joined with one directly before it. What it stands for is one surrogate, or a set of two to four:
-/// that is a piece of its own. Linear in the code points, each of which takes a pass over the table's rows with `icase`.
+/// The pieces of literals in a row, which are code points. Where one stands for a single character, the UTF-8
+/// of that goes to a byte sequence, joined with the one directly before it. Where it stands for a single surrogate,
+/// or for two to four code points, it is a piece of its own. Linear in the literals, each of which takes a pass
+/// over the table's rows with `icase`.
 pub fn lower_code_point_sequence(
     alloc: Global,
     cps: &[u32],

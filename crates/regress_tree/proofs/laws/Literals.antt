@@ -1,6 +1,6 @@
 -- What a literal stands for, as a list, and what its class matches.
-use Rattle.std.proofs.Common.{◌≡◌, ◌≢◌, ℕ, ◌+◌, ◌≤◌, ◌==◌, Bool, true, false, cond, ◌&&◌, nat_le, nat_lt, IsTrue, List, [], ◌∷◌, encode_utf8_all, inl, inr, refl, sym, ap, subst, ◌∙◌, arith, append-nil}
-use Rattle.std.proofs.lemmas.Bool.{eq-eqb, false≢true, and_from, le-leb}
+use Rattle.std.proofs.Common.{◌≡◌, ◌≢◌, ℕ, ◌+◌, ◌≤◌, ◌==◌, Bool, true, false, cond, ◌&&◌, nat_le, nat_lt, IsTrue, List, [], ◌∷◌, encode_utf8_all, inl, inr, refl, sym, ap, subst, ◌∙◌, arith, append-nil, length, All}
+use Rattle.std.proofs.lemmas.Bool.{eq-eqb, false≢true, and_from, le-leb, leb-true, and_parts}
 use Rattle.std.proofs.lemmas.Bool.Decides.{nat_tests}
 use Rattle.std.proofs.Math.Utf8.{scalar_cases}
 use Rattle.std.specs.Char.{IsScalar}
@@ -11,9 +11,9 @@ use Rattle.regress_tree.specs.Literal.{listed_below, listed, class_of, is_ascii,
 use Rattle.regress_tree.specs.Matching.{Setting, leaf_steps, steps}
 use Rattle.regress_tree.specs.Reading.{Direction, IsText, of_characters, of_bytes}
 use Rattle.regress_tree.specs.Steps.{State, one_character}
-use Rattle.regress_tree.specs.Table.{Table, canon, stands_for}
+use Rattle.regress_tree.specs.Table.{Table, IsLawful, canon, stands_for}
 use Rattle.regress_tree.specs.Tree.{leaf, char, byte_set, char_set}
-use Rattle.regress_tree.proofs.ListingLemmas.{ascending_parts, ascending_above, ascending_append, ascending_filter, lists-head, lists-tail, lists-past, lists-filter, lists-run}
+use Rattle.regress_tree.proofs.ListingLemmas.{All-from_lists, few_of_image, ascending_parts, ascending_above, ascending_append, ascending_filter, lists-head, lists-tail, lists-past, lists-filter, lists-run}
 use Rattle.regress_tree.proofs.laws.ByteSequences.{same_tests, one_character-agree}
 use Rattle.regress_tree.proofs.laws.Simulation.{Simulates, Simulates-same_right, Simulates-one_character}
 
@@ -122,6 +122,24 @@ module _ (table : Table) (icase unicode : Bool) (c : ℕ) where
   pub lists-class_of-scalar : (x : ℕ) → IsScalar x → lists (class_of table icase unicode c) x ≡ stands_for table icase unicode c x
   lists-class_of-scalar x s =
       lists-class_of x ∙ ap (λ b. b && stands_for table icase unicode c x) (le-leb x code_point_max (scalar_in_range x s))
+
+  -- the members of a class are code points
+  pub class_of-bounded : All (λ x. x ≤ code_point_max) (class_of table icase unicode c)
+  class_of-bounded =
+      All-from_lists (λ x. x ≤ code_point_max) (class_of table icase unicode c)
+      (λ x listed. leb-true x code_point_max (and_parts _ _ (sym (lists-class_of x) ∙ listed)).0)
+
+-- under a lawful table they are four at most
+pub class_of-few : (table : Table) (icase unicode : Bool) (c : ℕ) → IsLawful table → c ≤ code_point_max →
+    length (class_of table icase unicode c) ≤ 4
+class_of-few table true true c lawful h =
+    few_of_image table.fold (table.fold c) (class_of table true true c) lawful.fold.small_classes
+    (IsListing-listed (stands_for table true true c))
+class_of-few table true false c lawful h =
+    few_of_image table.uppercase (table.uppercase c) (class_of table true false c) lawful.uppercase.small_classes
+    (IsListing-listed (stands_for table true false c))
+class_of-few table false unicode c lawful h =
+    let one = ap length (class_of-itself table unicode c h) in omega (arith, one)
 
 -- ---- what a class matches
 
