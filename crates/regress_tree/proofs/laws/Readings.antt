@@ -79,7 +79,8 @@ none_before bytes n k j e is =
     ∙ ap (option_and_then (λ x. cond (len_utf8 x == n) (Some (record { character = x; place = k })) None)) e
 
 before_next : (text : List ℕ) → IsText text → (k : ℕ) → k < length text →
-    read_before (encode_utf8_all text) (byte_place text (k + 1)) ≡ Some (record { character = slice_index text k; place = byte_place text k })
+    read_before (encode_utf8_all text) (byte_place text (k + 1))
+    ≡ Some (record { character = slice_index text k; place = byte_place text k })
 unfolding read_before
 before_next text is_text k h =
     let bytes = encode_utf8_all text in
@@ -106,7 +107,8 @@ read_before-byte_place text is_text (suc k) within =
 
 -- Over the bytes of a text the next character is the one that comes over its characters, and its place answers that one's.
 pub next_character-byte_place : (text : List ℕ) → IsText text → (d : Direction) (k : ℕ) → k ≤ length text →
-    next_character d (of_bytes (encode_utf8_all text)) (byte_place text k) ≡ option_map (byte_read text) (next_character d (of_characters text) k)
+    next_character d (of_bytes (encode_utf8_all text)) (byte_place text k)
+    ≡ option_map (byte_read text) (next_character d (of_characters text) k)
 next_character-byte_place text is_text forwards k within = read_after-byte_place text is_text k within
 next_character-byte_place text is_text backwards k within = read_before-byte_place text is_text k within
 
