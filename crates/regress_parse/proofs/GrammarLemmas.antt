@@ -26,7 +26,8 @@ closed-sound kind x y e =
     let p = cond_some (is_at closing x.1) (group kind x.0, drop 1 x.1) y e in
     (ap (λ (z : Item × Source). z.0) p.1, at_this closing x.1 p.0 ∙ ap (λ (z : Item × Source). closing ∷ z.1) p.1)
 
-behind-sound : (inner : Context → Source → Found Pattern) → IsSound inner → (ctx : Context) (t : Source) (x : Head × Source) (y : Item × Source) →
+behind-sound : (inner : Context → Source → Found Pattern) → IsSound inner →
+    (ctx : Context) (t : Source) (x : Head × Source) (y : Item × Source) →
     head_at ctx t ≡ Some x → item_behind inner ctx x ≡ Some y → IsItem ctx y.0 t y.1
 behind-sound inner h ctx t (single a, rest) y front e =
     subst (λ (z : Item × Source). IsItem ctx z.0 t z.1) (same_Some (atom a, rest) y e) front
@@ -57,7 +58,8 @@ mutual
       let times = found_then (times_at ctx first.0.1) (λ (q : Option Quantifier × Source). Some ((first.0.0, q.0), q.1)) term.0 first.2 in
       let others = found_then (read_terms n ctx term.0.1) _ y term.2 in
       let same : ((first.0.0, times.0.0), times.0.1) ≡ term.0 = same_Some _ term.0 times.2 in
-      let rest = subst (λ (z : Term × Source). (ts : Terms) (u : Source) → AreTerms ctx ts z.1 u → AreTerms ctx (more_terms z.0.0 z.0.1 ts) t u) same
+      let rest = subst (λ (z : Term × Source). (ts : Terms) (u : Source) → AreTerms ctx ts z.1 u →
+          AreTerms ctx (more_terms z.0.0 z.0.1 ts) t u) same
       (λ ts u others. (
         first.0.1,
         times.0.1,
@@ -65,7 +67,8 @@ mutual
         times.1,
         others,
       )) in
-      subst (λ (z : Terms × Source). AreTerms ctx z.0 t z.1) (same_Some (more_terms term.0.0.0 term.0.0.1 others.0.0, others.0.1) y others.2)
+      subst (λ (z : Terms × Source). AreTerms ctx z.0 t z.1)
+          (same_Some (more_terms term.0.0.0 term.0.0.1 others.0.0, others.0.1) y others.2)
       (rest others.0.0 others.0.1 (read_terms-sound n ctx term.0.1 others.0 others.1)))
       (chosen (ends_alternative t) _ _ _ e)
 

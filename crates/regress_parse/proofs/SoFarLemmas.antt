@@ -116,8 +116,10 @@ module _ (table : Table) (d : Direction) where
           counts =
               counts
               ∙ ap₂ (λ (g l : ℕ). record { groups = g; loops = l })
-              (let e : now.groups + (counts_of_term x.0 x.1).groups ≡ before.groups + (counts_of_terms all).groups = omega (arith, now_groups, groups) in e)
-              (let e : now.loops + (counts_of_term x.0 x.1).loops ≡ before.loops + (counts_of_terms all).loops = omega (arith, now_loops, loops) in e);
+              (let e : now.groups + (counts_of_term x.0 x.1).groups ≡ before.groups + (counts_of_terms all).groups
+                  = omega (arith, now_groups, groups) in e)
+              (let e : now.loops + (counts_of_term x.0 x.1).loops ≡ before.loops + (counts_of_terms all).loops
+                  = omega (arith, now_loops, loops) in e);
           fits = record {
             groups = omega (arith, fits.groups, now_groups, groups);
             loops = omega (arith, fits.loops, now_loops, loops);
@@ -143,7 +145,8 @@ module _ (table : Table) (d : Direction) where
         let read = found_then (terms_at ctx t) (behind h.terms) x (sym h.reads ∙ found) in
         let whole = found_then (term_at ctx t) (more_of ctx) read.0
         (sym (cond-false (ends_alternative t) _ _ goes_on) ∙ sym (terms_at-is ctx t) ∙ read.1) in
-        let others = found_then (terms_at ctx whole.0.1) (λ (y : Terms × Source). Some (more_terms whole.0.0.0 whole.0.0.1 y.0, y.1)) read.0 whole.2 in
+        let others = found_then (terms_at ctx whole.0.1) (λ (y : Terms × Source). Some (more_terms whole.0.0.0 whole.0.0.1 y.0, y.1))
+            read.0 whole.2 in
         let first : more_terms whole.0.0.0 whole.0.0.1 others.0.0 ≡ read.0.0 = ap (λ (z : Terms × Source). z.0) (same_Some _ _ others.2) in
         let all : append h.terms read.0.0 ≡ x.0 = ap (λ (z : Terms × Source). z.0) (same_Some _ _ read.2) in
         let now_groups = ap (λ (c : Counts). c.groups) h.counts in
