@@ -1,5 +1,5 @@
 -- The way down the right sides of alternatives, and up again.
-use Rattle.std.proofs.Common.{◌≡◌, ℕ, ◌+◌, ◌-◌, ◌<◌, Bool, true, false, Result, Ok, Err, true≢false, refl, sym, ap, subst, ◌∙◌, arith}
+use Rattle.std.proofs.Common.{◌≡◌, ℕ, ◌+◌, ◌-◌, ◌<◌, Bool, false, Result, Ok, sym, ap, subst, ◌∙◌, arith}
 use Rattle.std.specs.declared.alloc.AllocError.{AllocError}
 use Rattle.regress_tree.specs.Reading.{Direction}
 use Rattle.regress_tree.specs.Tree.{Tree, leaf, cat, alt, wrapped}
@@ -8,7 +8,7 @@ use Rattle.regress_tree.specs.Shapes.{LacksShape}
 use Rattle.regress_tree.proofs.laws.Places.{left_of, right_of}
 use Rattle.regress_opt.specs.Law.{IsPart, Keeps}
 use Rattle.regress_opt.specs.Sweep.{Swept, SweptOf}
-use Rattle.regress_opt.specs.Spine.{is_alt, Shifted, reattach, spine_length, LeftsLackShape}
+use Rattle.regress_opt.specs.Spine.{Shifted, reattach, spine_length, LeftsLackShape}
 use Rattle.regress_opt.proofs.KeepsLemmas.{IsPart-kept, IsPart-part}
 use Rattle.regress_opt.proofs.SweepLemmas.{joined, Swept-put, Swept-then, Swept-same, LacksShape-here, LacksShape-from}
 

@@ -1,5 +1,5 @@
 -- Rows of nodes, and what splicing makes of them.
-use Rattle.std.proofs.Common.{◌≡◌, ℕ, ◌+◌, ◌<◌, ◌≤◌, true, false, ◌||◌, List, [], ◌∷◌, ◌++◌, map, length, get_or, take, drop, true≢false, Vec, Global, vec_len, refl, sym, ap, ap₂, ◌∙◌, arith}
+use Rattle.std.proofs.Common.{◌≡◌, ℕ, ◌+◌, ◌<◌, ◌≤◌, false, ◌||◌, List, [], ◌∷◌, ◌++◌, map, length, get_or, take, drop, true≢false, Vec, Global, vec_len, refl, sym, ap, ap₂, ◌∙◌, arith}
 use Rattle.std.specs.List.{list_any}
 use Rattle.std.proofs.lemmas.List.{length-map, take_more, length_push, take-append-drop}
 use Rattle.regress_tree.specs.declared.ir.node.Node.{Node}

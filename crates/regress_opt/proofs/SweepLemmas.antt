@@ -1,5 +1,5 @@
 -- What a sweep answers, composed: of a part in the whole, and one after another.
-use Rattle.std.proofs.Common.{◌≡◌, ◌≢◌, ◌<◌, ◌⊎◌, inl, inr, Bool, true, false, ◌||◌, Result, Ok, Err, IsTrue, refl, sym, ap, subst, ◌∙◌, arith, lt_irrefl}
+use Rattle.std.proofs.Common.{◌≡◌, ◌<◌, ◌⊎◌, inl, inr, Bool, true, false, ◌||◌, Result, Ok, Err, sym, ap, subst, ◌∙◌, arith}
 use Rattle.std.specs.declared.alloc.AllocError.{AllocError}
 use Rattle.std.specs.Result.{IsErr}
 use Rattle.std.proofs.lemmas.Bool.{or_parts, false≢true}
@@ -10,11 +10,9 @@ use Rattle.regress_tree.specs.Tree.{Tree, leaf, cat, alt, wrapped}
 use Rattle.regress_tree.specs.Units.{loops, weight, IsLess}
 use Rattle.regress_tree.specs.Shapes.{LacksShape, LacksInside}
 use Rattle.regress_tree.proofs.laws.Places.{Place, put, direction_at, IsLess-put}
-use Rattle.regress_opt.specs.declared.rewrite.PassAction.{PassAction}
-use Rattle.regress_opt.specs.declared.rewrite.PassAction.TheVariants.{Keep}
-use Rattle.regress_opt.specs.Law.{Keeps, after, IsLawful}
+use Rattle.regress_opt.specs.Law.{Keeps}
 use Rattle.regress_opt.specs.Sweep.{TellsChange, Swept}
-use Rattle.regress_opt.proofs.KeepsLemmas.{Keeps-refl, Keeps-trans, Keeps-put}
+use Rattle.regress_opt.proofs.KeepsLemmas.{Keeps-trans, Keeps-put}
 
 -- What falls.
 

@@ -1,5 +1,5 @@
 //! From the text of a pattern to its tree in normal form.
-ghost use Rattle.std.specs.Prelude.{◌≡◌, ◌≤◌, ◌+◌, ◌*◌, All, IfOk, OnOk};
+ghost use Rattle.std.specs.Prelude.{◌≡◌, ◌≤◌, ◌+◌, ◌*◌, All, IfOk, OnOk, IsOkAnd, MatchResult};
 ghost use Rattle.regress_base.specs.Intervals.{code_point_max};
 ghost use Rattle.regress_tree.specs.TableOf.{table_of, setting_of};
 ghost use Rattle.regress_tree.specs.Tree.{tree};
@@ -10,6 +10,7 @@ ghost use Rattle.regress_syntax.specs.Fault.{RefusedOnlyIf};
 ghost use Rattle.regress_syntax.specs.Syntax.{Pattern};
 ghost use Rattle.regress_parse.specs.TreeOf.{tree_of};
 ghost use Rattle.regress_parse.specs.Accepted.{IsAccepted, NoneIsAccepted, OneIsDerived, OfAccepted, Means};
+ghost use Rattle.regress_opt.specs.Optimized.{IsOptimized};
 
 use crate::optimizer::optimize;
 use regress_base::types::Flags;
@@ -54,9 +55,24 @@ pub fn parse_and_optimize(
         (λ p. captures (tree r.0.node) ≡ captures (tree_of (table_of tables.now) p))) }
     ensures units { IfOk result (λ r. OfAccepted (setting_of flags tables.now) pattern.now
         (λ p. let parsed = tree_of (table_of tables.now) p in
-            units (tree r.0.node) ≤ units parsed + unrolling * loops parsed)) }
+        units (tree r.0.node) ≤ units parsed + unrolling * loops parsed)) }
 {
-    let mut regex = try_parse(alloc, pattern, flags, tables)?;
-    let optimized = optimize(alloc, &mut regex);
-    Ok((regex, optimized))
+    optimize_parsed(alloc, try_parse(alloc, pattern, flags, tables))
+}
+
+/// Optimizes what was parsed. Whatever memory there is, no tree is lost.
+fn optimize_parsed(
+    alloc: Global,
+    parsed: Result<Regex, ParseFault>,
+) -> Result<(Regex, Result<(), AllocError>), ParseFault>
+    requires { IfOk parsed (λ regex. IsWellFormed (tree regex.node)) }
+    ensures { MatchResult parsed (λ regex. IsOkAnd result (IsOptimized regex)) (λ fault. result ≡ Err fault) }
+{
+    match parsed {
+        Ok(mut regex) => {
+            let optimized = optimize(alloc, &mut regex);
+            Ok((regex, optimized))
+        }
+        Err(fault) => Err(fault),
+    }
 }

@@ -102,7 +102,12 @@ fn kind(node: &Node) -> &'static str {
         Node::Alt(..) => "Alt",
         Node::MatchAny => "MatchAny",
         Node::MatchAnyExceptLineTerminator => "MatchAnyExceptLineTerminator",
+        Node::Anchor { .. } => "Anchor",
+        Node::WordBoundary { .. } => "WordBoundary",
         Node::CaptureGroup { .. } => "CaptureGroup",
+        Node::Bracket(_) => "Bracket",
+        Node::Loop { .. } => "Loop",
+        Node::Loop1CharBody { .. } => "Loop1CharBody",
     }
 }
 

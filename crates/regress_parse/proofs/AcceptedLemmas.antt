@@ -35,7 +35,8 @@ mutual
   in_any_context a b same (either ts p) t rest h =
       (h.0, terms_in_any_context a b same ts t _ h.1, in_any_context a b same p h.0 rest h.2)
 
-  terms_in_any_context : (a b : Context) → a.setting ≡ b.setting → (ts : Terms) (t rest : Source) → AreTerms a ts t rest → AreTerms b ts t rest
+  terms_in_any_context : (a b : Context) → a.setting ≡ b.setting → (ts : Terms) (t rest : Source) →
+      AreTerms a ts t rest → AreTerms b ts t rest
   terms_in_any_context a b same no_terms t rest h = h
   terms_in_any_context a b same (more_terms x q xs) t rest h = (
     h.0,

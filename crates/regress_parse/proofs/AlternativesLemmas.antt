@@ -1,5 +1,5 @@
 -- What the parser's loop over alternatives has read so far.
-use Rattle.std.proofs.Common.{◌≡◌, ℕ, ◌+◌, ◌-◌, ◌≤◌, ⊎_elim, true, false, List, [], ◌∷◌, ◌++◌, length, drop, map, Option, Some, None, refl, sym, ap, ap₂, ◌∙◌, arith, length-drop}
+use Rattle.std.proofs.Common.{◌≡◌, ℕ, ◌+◌, ◌-◌, ◌≤◌, ⊎_elim, true, false, List, [], ◌∷◌, ◌++◌, length, drop, map, Some, None, refl, sym, ap, ap₂, ◌∙◌, arith, length-drop}
 use Rattle.std.specs.Option.{IfSome}
 use Rattle.std.proofs.lemmas.Option.{same_Some}
 use Rattle.std.proofs.lemmas.Bool.{cond-true, cond-false}
@@ -141,19 +141,20 @@ module _ (table : Table) (d : Direction) (ctx : Context) (depth : ℕ) (t0 : Sou
     groups : now.groups ≡ before.groups + groups_of_all tss
     loops : now.loops ≡ before.loops + loops_of_all tss
 
-  here : (t : Source) (now : Counts) (nodes : List Node) (final : Node) (h : AlternativesSoFar t now nodes final) → Here now (h.done ++ h.last ∷ [])
+  here : (t : Source) (now : Counts) (nodes : List Node) (final : Node) (h : AlternativesSoFar t now nodes final) →
+      Here now (h.done ++ h.last ∷ [])
   here t now nodes final h = record {
     groups = omega (
-        arith,
-        ap (λ (c : Counts). c.groups) h.counts,
-        groups-eithers h.done (one h.last),
-        groups_of_all-push h.done h.last,
+      arith,
+      ap (λ (c : Counts). c.groups) h.counts,
+      groups-eithers h.done (one h.last),
+      groups_of_all-push h.done h.last,
     );
     loops = omega (
-        arith,
-        ap (λ (c : Counts). c.loops) h.counts,
-        loops-eithers h.done (one h.last),
-        loops_of_all-push h.done h.last,
+      arith,
+      ap (λ (c : Counts). c.loops) h.counts,
+      loops-eithers h.done (one h.last),
+      loops_of_all-push h.done h.last,
     );
   }
 
@@ -192,14 +193,17 @@ module _ (table : Table) (d : Direction) (ctx : Context) (depth : ℕ) (t0 : Sou
         counts =
             count
             ∙ ap₂ (λ (g l : ℕ). record { groups = g; loops = l })
-            (let e : now.groups + (counts_of_terms ts).groups ≡ before.groups + (counts (eithers all (one ts))).groups = omega (arith, at.groups, g) in e)
-            (let e : now.loops + (counts_of_terms ts).loops ≡ before.loops + (counts (eithers all (one ts))).loops = omega (arith, at.loops, l) in e);
+            (let e : now.groups + (counts_of_terms ts).groups ≡ before.groups + (counts (eithers all (one ts))).groups =
+            omega (arith, at.groups, g) in e)
+            (let e : now.loops + (counts_of_terms ts).loops ≡ before.loops + (counts (eithers all (one ts))).loops =
+            omega (arith, at.loops, l) in e);
         fits = record {
           groups = omega (arith, fits.groups, at.groups, g);
           loops = omega (arith, fits.loops, at.loops, l);
           levels =
               let last : levels (eithers h.done (one h.last)) + depth ≤ max_nesting_depth = omega (arith, h.fits.levels) in
-              let both = levels-eithers h.done h.last (one ts) (max_nesting_depth - depth) (omega (arith, last)) (omega (arith, fits.levels)) in
+              let both = levels-eithers h.done h.last (one ts) (max_nesting_depth - depth)
+              (omega (arith, last)) (omega (arith, fits.levels)) in
               omega (arith, ap levels (eithers-push h.done h.last (one ts)), both, fits.levels);
         };
         shorter = omega (arith, h.shorter, terms_at-shortens ctx (drop 1 t) (ts, rest) found, length-drop 1 t);
@@ -236,7 +240,8 @@ alternatives-fail table d ctx depth t0 before t now nodes final h more refused =
     let all = h.done ++ h.last ∷ [] in
     let at = here table d ctx depth t0 before t now nodes final h in
     from_each (pattern_at ctx t0) _ (λ x found fits.
-    let rest = found_then (pattern_at ctx (drop 1 t)) (behind_all all) x (sym (reads_on table d ctx depth t0 before t now nodes final h more) ∙ found) in
+    let rest = found_then (pattern_at ctx (drop 1 t)) (behind_all all) x
+    (sym (reads_on table d ctx depth t0 before t now nodes final h more) ∙ found) in
     let same = ap (λ (z : Pattern × Source). z.0) (same_Some (eithers all rest.0.0, rest.0.1) x rest.2) in
     to_each (pattern_at ctx (drop 1 t)) _ (first-fail table ctx depth (drop 1 t) now refused) rest.0 rest.1
     (Fits-inside before now depth depth (pattern_part table x.0) (pattern_part table rest.0.0)

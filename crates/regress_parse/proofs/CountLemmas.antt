@@ -1,7 +1,6 @@
 -- What is counted, and what keeps the limits.
-use Rattle.std.proofs.Common.{◌≡◌, ℕ, ◌+◌, ◌<◌, ◌≤◌, max, refl, ap₂, add_assoc, arith}
+use Rattle.std.proofs.Common.{◌≡◌, ℕ, ◌+◌, ◌≤◌, ap₂, arith}
 use Rattle.regress_syntax.specs.Syntax.{Counts, added, nothing_counted}
-use Rattle.regress_base.specs.Limits.{max_nesting_depth}
 use Rattle.regress_parse.specs.Parsing.{Part, Fits}
 
 pub added-assoc : (a b c : Counts) → added (added a b) c ≡ added a (added b c)

@@ -1,5 +1,5 @@
 -- The reading function reads what the grammar relates, and nothing else. So a source stands for one syntax tree at most.
-use Rattle.std.proofs.Common.{◌≡◌, ℕ, zero, suc, ⊎_elim, true, false, ◌==◌, [], ◌∷◌, drop, Option, Some, None, refl, sym, ap, ◌∙◌, subst, eqb-true}
+use Rattle.std.proofs.Common.{◌≡◌, ℕ, zero, suc, ⊎_elim, true, false, [], ◌∷◌, drop, Option, Some, refl, sym, ap, ◌∙◌, subst, eqb-true}
 use Rattle.std.proofs.lemmas.Option.{none-some, same_Some, cond_some}
 use Rattle.std.proofs.lemmas.Bool.{cond-true, cond-false, cases_Bool}
 use Rattle.regress_syntax.specs.Source.{Source, Found, ◌>>=◌, closing, bar, is_at, ends_alternative}
@@ -26,7 +26,8 @@ closed-sound kind x y e =
     let p = cond_some (is_at closing x.1) (group kind x.0, drop 1 x.1) y e in
     (ap (λ (z : Item × Source). z.0) p.1, at_this closing x.1 p.0 ∙ ap (λ (z : Item × Source). closing ∷ z.1) p.1)
 
-behind-sound : (inner : Context → Source → Found Pattern) → IsSound inner → (ctx : Context) (t : Source) (x : Head × Source) (y : Item × Source) →
+behind-sound : (inner : Context → Source → Found Pattern) → IsSound inner →
+    (ctx : Context) (t : Source) (x : Head × Source) (y : Item × Source) →
     head_at ctx t ≡ Some x → item_behind inner ctx x ≡ Some y → IsItem ctx y.0 t y.1
 behind-sound inner h ctx t (single a, rest) y front e =
     subst (λ (z : Item × Source). IsItem ctx z.0 t z.1) (same_Some (atom a, rest) y e) front
@@ -57,7 +58,8 @@ mutual
       let times = found_then (times_at ctx first.0.1) (λ (q : Option Quantifier × Source). Some ((first.0.0, q.0), q.1)) term.0 first.2 in
       let others = found_then (read_terms n ctx term.0.1) _ y term.2 in
       let same : ((first.0.0, times.0.0), times.0.1) ≡ term.0 = same_Some _ term.0 times.2 in
-      let rest = subst (λ (z : Term × Source). (ts : Terms) (u : Source) → AreTerms ctx ts z.1 u → AreTerms ctx (more_terms z.0.0 z.0.1 ts) t u) same
+      let rest = subst (λ (z : Term × Source). (ts : Terms) (u : Source) →
+      AreTerms ctx ts z.1 u → AreTerms ctx (more_terms z.0.0 z.0.1 ts) t u) same
       (λ ts u others. (
         first.0.1,
         times.0.1,
@@ -65,7 +67,8 @@ mutual
         times.1,
         others,
       )) in
-      subst (λ (z : Terms × Source). AreTerms ctx z.0 t z.1) (same_Some (more_terms term.0.0.0 term.0.0.1 others.0.0, others.0.1) y others.2)
+      subst (λ (z : Terms × Source). AreTerms ctx z.0 t z.1)
+      (same_Some (more_terms term.0.0.0 term.0.0.1 others.0.0, others.0.1) y others.2)
       (rest others.0.0 others.0.1 (read_terms-sound n ctx term.0.1 others.0 others.1)))
       (chosen (ends_alternative t) _ _ _ e)
 
@@ -77,9 +80,11 @@ mutual
       ⊎_elim
       (λ (more : (is_at bar first.0.1 ≡ true) × (_ ≡ Some y)).
       let others = found_then (read_pattern n ctx (drop 1 first.0.1)) _ y more.1 in
-      subst (λ (z : Pattern × Source). IsPattern ctx z.0 t z.1) (same_Some (either first.0.0 others.0.0, others.0.1) y others.2)
-      (drop 1 first.0.1, subst (λ u. AreTerms ctx first.0.0 t u) (at_this bar first.0.1 more.0) terms,
-      read_pattern-sound n ctx (drop 1 first.0.1) others.0 others.1))
+      subst (λ (z : Pattern × Source). IsPattern ctx z.0 t z.1) (same_Some (either first.0.0 others.0.0, others.0.1) y others.2) (
+        drop 1 first.0.1,
+        subst (λ u. AreTerms ctx first.0.0 t u) (at_this bar first.0.1 more.0) terms,
+        read_pattern-sound n ctx (drop 1 first.0.1) others.0 others.1,
+      ))
       (λ (last : (is_at bar first.0.1 ≡ false) × (_ ≡ Some y)).
       subst (λ (z : Pattern × Source). IsPattern ctx z.0 t z.1) (same_Some (one first.0.0, first.0.1) y last.1) (terms, last.0))
       (chosen (is_at bar first.0.1) _ _ _ first.2)

@@ -1,5 +1,5 @@
 -- What a call of the parser builds, from what it answers.
-use Rattle.std.proofs.Common.{◌≡◌, ℕ, Some, refl, sym, ap, ◌∙◌, subst, Result, arith}
+use Rattle.std.proofs.Common.{◌≡◌, ℕ, Some, subst, Result}
 use Rattle.std.specs.Option.{IsSomeAnd}
 use Rattle.regress_tree.specs.declared.ir.node.Node.{Node}
 use Rattle.regress_tree.specs.Reading.{Direction}

@@ -1,14 +1,14 @@
 -- What the parser's loop over terms has read so far, as facts on sources, syntax trees and lists of nodes.
-use Rattle.std.proofs.Common.{◌≡◌, ℕ, ◌+◌, ◌≤◌, max, true, false, List, [], ◌∷◌, ◌++◌, length, Option, Some, None, refl, sym, ap, ap₂, ◌∙◌, arith, add_assoc}
+use Rattle.std.proofs.Common.{◌≡◌, ℕ, ◌+◌, ◌≤◌, max, true, false, List, [], ◌∷◌, ◌++◌, length, Some, None, refl, sym, ap, ap₂, ◌∙◌, arith, add_assoc}
 use Rattle.std.specs.Option.{IfSome}
 use Rattle.std.proofs.lemmas.Option.{same_Some}
 use Rattle.std.proofs.lemmas.Bool.{cond-true, cond-false}
 use Rattle.regress_tree.specs.declared.ir.node.Node.{Node}
 use Rattle.regress_tree.specs.Reading.{Direction}
 use Rattle.regress_tree.specs.Table.{Table}
-use Rattle.regress_tree.specs.Tree.{row_append, Tree, Trees, tree, trees, no_trees, more_trees}
+use Rattle.regress_tree.specs.Tree.{row_append, tree, trees, no_trees, more_trees}
 use Rattle.regress_syntax.specs.Source.{Source, Found, ◌>>=◌, ends_alternative}
-use Rattle.regress_syntax.specs.Syntax.{Terms, no_terms, more_terms, Counts, added, nothing_counted, counts_of_terms, counts_of_term, levels_of_terms}
+use Rattle.regress_syntax.specs.Syntax.{Terms, no_terms, more_terms, Counts, added, counts_of_terms, counts_of_term, levels_of_terms}
 use Rattle.regress_syntax.specs.Rows.{Context}
 use Rattle.regress_syntax.proofs.laws.Sources.{found_then, to_each, from_each}
 use Rattle.regress_parse.specs.Reader.{Term, terms_at, term_at}
@@ -16,7 +16,7 @@ use Rattle.regress_parse.specs.TreeOf.{trees_of_terms}
 use Rattle.regress_parse.specs.Parsing.{Fits, terms_part, term_part}
 use Rattle.regress_parse.proofs.BuildLemmas.{trees-push}
 use Rattle.regress_parse.proofs.ReaderLemmas.{terms_at-is, term_at-shortens, more_of}
-use Rattle.regress_parse.proofs.CountLemmas.{added-assoc, added-nothing}
+use Rattle.regress_parse.proofs.CountLemmas.{added-nothing}
 
 -- terms before others
 abbrev pub append : Terms → Terms → Terms
@@ -116,8 +116,10 @@ module _ (table : Table) (d : Direction) where
           counts =
               counts
               ∙ ap₂ (λ (g l : ℕ). record { groups = g; loops = l })
-              (let e : now.groups + (counts_of_term x.0 x.1).groups ≡ before.groups + (counts_of_terms all).groups = omega (arith, now_groups, groups) in e)
-              (let e : now.loops + (counts_of_term x.0 x.1).loops ≡ before.loops + (counts_of_terms all).loops = omega (arith, now_loops, loops) in e);
+              (let e : now.groups + (counts_of_term x.0 x.1).groups ≡ before.groups + (counts_of_terms all).groups =
+              omega (arith, now_groups, groups) in e)
+              (let e : now.loops + (counts_of_term x.0 x.1).loops ≡ before.loops + (counts_of_terms all).loops =
+              omega (arith, now_loops, loops) in e);
           fits = record {
             groups = omega (arith, fits.groups, now_groups, groups);
             loops = omega (arith, fits.loops, now_loops, loops);
@@ -143,7 +145,8 @@ module _ (table : Table) (d : Direction) where
         let read = found_then (terms_at ctx t) (behind h.terms) x (sym h.reads ∙ found) in
         let whole = found_then (term_at ctx t) (more_of ctx) read.0
         (sym (cond-false (ends_alternative t) _ _ goes_on) ∙ sym (terms_at-is ctx t) ∙ read.1) in
-        let others = found_then (terms_at ctx whole.0.1) (λ (y : Terms × Source). Some (more_terms whole.0.0.0 whole.0.0.1 y.0, y.1)) read.0 whole.2 in
+        let others = found_then (terms_at ctx whole.0.1)
+        (λ (y : Terms × Source). Some (more_terms whole.0.0.0 whole.0.0.1 y.0, y.1)) read.0 whole.2 in
         let first : more_terms whole.0.0.0 whole.0.0.1 others.0.0 ≡ read.0.0 = ap (λ (z : Terms × Source). z.0) (same_Some _ _ others.2) in
         let all : append h.terms read.0.0 ≡ x.0 = ap (λ (z : Terms × Source). z.0) (same_Some _ _ read.2) in
         let now_groups = ap (λ (c : Counts). c.groups) h.counts in

@@ -51,4 +51,5 @@ OfAccepted setting source P = (p : Pattern) → IsAccepted setting source p → 
 -- On every text and from every state the tree's outcomes are the pattern's, place for byte place, in their order.
 abbrev pub Means : Setting → Tree → Pattern → Type 0
 Means setting tree p = (text : List ℕ) (s : State) → IsText text → IsStateOf text s →
-    matches setting (encode_utf8_all text) forwards tree (byte_state text s) ≡ map (byte_state text) (meaning setting.table text forwards p s)
+    matches setting (encode_utf8_all text) forwards tree (byte_state text s)
+    ≡ map (byte_state text) (meaning setting.table text forwards p s)

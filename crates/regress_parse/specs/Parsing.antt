@@ -96,7 +96,8 @@ YieldsWhole setting t (Ok node) =
     (p : Pattern) × (pattern_at (context setting) t ≡ Some (p, [])) × Fits nothing_counted 0 (pattern_part setting.table p)
     × (tree node ≡ tree_of_pattern setting.table forwards 0 p)
 YieldsWhole setting t (Err fault) =
-    OnSyntax fault ((p : Pattern) → pattern_at (context setting) t ≡ Some (p, []) → Fits nothing_counted 0 (pattern_part setting.table p) → ⊥)
+    OnSyntax fault ((p : Pattern) → pattern_at (context setting) t ≡ Some (p, []) →
+        Fits nothing_counted 0 (pattern_part setting.table p) → ⊥)
 
 -- alternatives before a last one
 abbrev pub alternatives : List Tree → Tree → Tree

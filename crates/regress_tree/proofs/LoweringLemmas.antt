@@ -187,7 +187,8 @@ module _ (table : Table) (icase unicode : Bool) where
           AreFound found (written ++ encode_utf8 ch) cps (i + 1)
       step_character ch one h =
           ap (λ leaves. found ++ leaves)
-          (sym (lowered-character written (slice_index cps i) ch (drop (i + 1) cps) (sym its_class ∙ one) (ap is_character (sym one) ∙ h)))
+          (sym (lowered-character written (slice_index cps i) ch (drop (i + 1) cps) (sym its_class ∙ one)
+          (ap is_character (sym one) ∙ h)))
           ∙ at_place
 
       pub step_piece : is_character class ≡ false →

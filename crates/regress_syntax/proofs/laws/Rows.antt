@@ -3,7 +3,7 @@ use Rattle.std.proofs.Common.{◌≡◌, ℕ, ◌<◌, ◌≤◌, ⊎_elim, true
 use Rattle.std.proofs.lemmas.Bool.{or_cases}
 use Rattle.std.proofs.lemmas.Option.{none-some, same_Some, cond_some}
 use Rattle.regress_syntax.specs.Source.{Source, opening, closing, full_stop, colon, question_mark, bar, is_at, is_plain, ends_alternative}
-use Rattle.regress_syntax.specs.Syntax.{literal, dot, grouping, capture, Quantifier}
+use Rattle.regress_syntax.specs.Syntax.{literal, grouping, capture, Quantifier}
 use Rattle.regress_syntax.specs.Rows.{Context, Head, single, opens, group_at, head_by, head_at, begins_quantifier, times_at}
 use Rattle.regress_syntax.proofs.laws.Sources.{chosen, Shortens}
 

@@ -36,13 +36,15 @@ module _ (text : List ℕ) where
       (same_captures-byte_capture as' bs (All-tail (IsCaptureOf text) a as' ha) (All-tail (IsCaptureOf text) b bs hb))
 
   -- two states of the text are one state exactly if they are in places of the UTF-8
-  pub same_state-byte_state : (s t : State) → IsStateOf text s → IsStateOf text t → same_state (byte_state text s) (byte_state text t) ≡ same_state s t
+  pub same_state-byte_state : (s t : State) → IsStateOf text s → IsStateOf text t →
+      same_state (byte_state text s) (byte_state text t) ≡ same_state s t
   unfolding same_state
   same_state-byte_state s t hs ht =
       ap₂ (λ x y. x && y) (eqb-byte_place s.place t.place hs.place ht.place)
       (same_captures-byte_capture s.captures t.captures hs.captures ht.captures)
 
-  cond-map : (b : Bool) (xs ys : List State) → cond b (map (byte_state text) xs) (map (byte_state text) ys) ≡ map (byte_state text) (cond b xs ys)
+  cond-map : (b : Bool) (xs ys : List State) →
+      cond b (map (byte_state text) xs) (map (byte_state text) ys) ≡ map (byte_state text) (cond b xs ys)
   cond-map true xs ys = refl
   cond-map false xs ys = refl
 

@@ -157,7 +157,8 @@ behind_first first bs (suc n) all low high = all n 0 (omega arith)
 continuation : (c n : ℕ) → 0 < n → n < len_utf8 c → IsContinuation (slice_index (encode_utf8 c) n)
 continuation c n low high =
     let fits : n < length (encode_utf8 c) = omega (arith, length-encode c) in
-    let of : (first : ℕ) (bs : List ℕ) → All IsContinuation bs → encode_utf8 c ≡ first ∷ bs → IsContinuation (slice_index (encode_utf8 c) n) =
+    let of : (first : ℕ) (bs : List ℕ) → All IsContinuation bs → encode_utf8 c ≡ first ∷ bs →
+    IsContinuation (slice_index (encode_utf8 c) n) =
     λ first bs all e.
     subst (λ l. IsContinuation (slice_index l n)) (sym e) (behind_first first bs n all low (subst (λ l. n < length l) e fits)) in
     let one = one_more c [] (All-nil IsContinuation) in

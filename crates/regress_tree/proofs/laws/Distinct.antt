@@ -58,7 +58,8 @@ filter-swap p q (x ∷ l) =
     ]
 
 -- what passes p passes q
-filter-absorb : {X : Type 0} (p q : X → Bool) (implies : (x : X) → p x ≡ true → q x ≡ true) (l : List X) → filter p (filter q l) ≡ filter p l
+filter-absorb : {X : Type 0} (p q : X → Bool) (implies : (x : X) → p x ≡ true → q x ≡ true) (l : List X) →
+    filter p (filter q l) ≡ filter p l
 filter-absorb p q implies [] = refl
 filter-absorb p q implies (x ∷ l) =
     let ih = filter-absorb p q implies l in
@@ -122,8 +123,10 @@ distinct-append [] ys = sym (filter_true (distinct ys))
 distinct-append (s ∷ xs) ys =
     let ih = distinct-append xs ys in
     let later : except s (without xs (distinct ys)) ≡ without (s ∷ xs) (distinct ys) =
-    filter-swap _ _ (distinct ys) ∙ filter-filter _ _ (distinct ys) ∙ filter_agree _ _ (λ t. not-or (same_state s t) (among t xs)) (distinct ys) in
-    ap (λ r. s ∷ except s r) ih ∙ ap (λ r. s ∷ r) (filter-append _ (distinct xs) (without xs (distinct ys)) ∙ ap (λ r. except s (distinct xs) ++ r) later)
+    filter-swap _ _ (distinct ys) ∙ filter-filter _ _ (distinct ys)
+    ∙ filter_agree _ _ (λ t. not-or (same_state s t) (among t xs)) (distinct ys) in
+    ap (λ r. s ∷ except s r) ih
+    ∙ ap (λ r. s ∷ r) (filter-append _ (distinct xs) (without xs (distinct ys)) ∙ ap (λ r. except s (distinct xs) ++ r) later)
 
 among-distinct : (t : State) (l : List State) → among t (distinct l) ≡ among t l
 among-distinct t [] = refl
@@ -152,9 +155,11 @@ without-distinct xs l = filter_agree _ _ (λ t. ap not (among-distinct t xs)) l
 without-alike : (xs ys l : List State) → distinct xs ≡ distinct ys → without xs l ≡ without ys l
 without-alike xs ys l e = sym (without-distinct xs l) ∙ ap (λ zs. without zs l) e ∙ without-distinct ys l
 
-pub distinct-append-alike : (xs xs' ys ys' : List State) → distinct xs ≡ distinct xs' → distinct ys ≡ distinct ys' → distinct (xs ++ ys) ≡ distinct (xs' ++ ys')
+pub distinct-append-alike : (xs xs' ys ys' : List State) → distinct xs ≡ distinct xs' → distinct ys ≡ distinct ys' →
+    distinct (xs ++ ys) ≡ distinct (xs' ++ ys')
 distinct-append-alike xs xs' ys ys' first second =
-    distinct-append xs ys ∙ ap₂ ◌++◌ first (ap (without xs) second ∙ without-alike xs xs' (distinct ys') first) ∙ sym (distinct-append xs' ys')
+    distinct-append xs ys ∙ ap₂ ◌++◌ first (ap (without xs) second ∙ without-alike xs xs' (distinct ys') first)
+    ∙ sym (distinct-append xs' ys')
 
 -- nothing is left of a list without what is in another that covers it
 without-covered : (xs l : List State) → ((t : State) → among t l ≡ true → among t xs ≡ true) → without xs l ≡ []
@@ -180,37 +185,47 @@ module _ (f : State → List State) where
   without-flat_map zs t l = ap (without zs) (distinct-append (f t) (flat_map f l)) ∙ filter-append _ (distinct (f t)) _
 
   -- what a state gives once it gives no more a second time
-  flat_map-except : (s : State) (l : List State) → without (f s) (distinct (flat_map f l)) ≡ without (f s) (distinct (flat_map f (except s l)))
+  flat_map-except : (s : State) (l : List State) →
+      without (f s) (distinct (flat_map f l)) ≡ without (f s) (distinct (flat_map f (except s l)))
   flat_map-except s [] = refl
   flat_map-except s (t ∷ l) =
       let ih = flat_map-except s l in
       elim (cases_Bool (same_state s t)) [
         | inl same ↦
-            let nothing : without (f s) (distinct (f t)) ≡ [] = ap (λ x. without (f s) (distinct (f x))) (sym (same_state-true s t same)) ∙ without-itself (f s) in
+            let nothing : without (f s) (distinct (f t)) ≡ [] =
+            ap (λ x. without (f s) (distinct (f x))) (sym (same_state-true s t same)) ∙ without-itself (f s) in
             let once : without (f s) (without (f t) (distinct (flat_map f l))) ≡ without (f s) (distinct (flat_map f l)) =
             ap (λ x. without (f s) (without (f x) (distinct (flat_map f l)))) (sym (same_state-true s t same)) ∙ without-without (f s) _ in
             simp same (without-flat_map (f s) t l ∙ ap₂ ◌++◌ nothing once ∙ ih)
         | inr other ↦
-            let later : without (f s) (without (f t) (distinct (flat_map f l))) ≡ without (f s) (without (f t) (distinct (flat_map f (except s l)))) =
+            let later : without (f s) (without (f t) (distinct (flat_map f l)))
+            ≡ without (f s) (without (f t) (distinct (flat_map f (except s l)))) =
             without-swap (f s) (f t) _ ∙ ap (without (f t)) ih ∙ without-swap (f t) (f s) _ in
-            simp other (without-flat_map (f s) t l ∙ ap (λ r. without (f s) (distinct (f t)) ++ r) later ∙ sym (without-flat_map (f s) t (except s l)))
+            simp other
+            (without-flat_map (f s) t l ∙ ap (λ r. without (f s) (distinct (f t)) ++ r) later
+            ∙ sym (without-flat_map (f s) t (except s l)))
       ]
 
   distinct-flat_map : (l : List State) → distinct (flat_map f l) ≡ distinct (flat_map f (distinct l))
   distinct-flat_map [] = refl
   distinct-flat_map (s ∷ l) =
-      distinct-append (f s) (flat_map f l) ∙ ap (λ r. distinct (f s) ++ r) (ap (without (f s)) (distinct-flat_map l) ∙ flat_map-except s (distinct l))
+      distinct-append (f s) (flat_map f l)
+      ∙ ap (λ r. distinct (f s) ++ r) (ap (without (f s)) (distinct-flat_map l) ∙ flat_map-except s (distinct l))
       ∙ sym (distinct-append (f s) (flat_map f (except s (distinct l))))
 
-distinct-flat_map-each : (f g : State → List State) → ((s : State) → distinct (f s) ≡ distinct (g s)) → (l : List State) → distinct (flat_map f l) ≡ distinct (flat_map g l)
+distinct-flat_map-each : (f g : State → List State) → ((s : State) → distinct (f s) ≡ distinct (g s)) → (l : List State) →
+    distinct (flat_map f l) ≡ distinct (flat_map g l)
 distinct-flat_map-each f g each [] = refl
 distinct-flat_map-each f g each (s ∷ l) =
     distinct-append-alike (f s) (g s) (flat_map f l) (flat_map g l) (each s) (distinct-flat_map-each f g each l)
 
-pub distinct-flat_map-alike : (f g : State → List State) (xs ys : List State) → ((s : State) → distinct (f s) ≡ distinct (g s)) → distinct xs ≡ distinct ys → distinct (flat_map f xs) ≡ distinct (flat_map g ys)
+pub distinct-flat_map-alike : (f g : State → List State) (xs ys : List State) → ((s : State) → distinct (f s) ≡ distinct (g s)) →
+    distinct xs ≡ distinct ys → distinct (flat_map f xs) ≡ distinct (flat_map g ys)
 distinct-flat_map-alike f g xs ys each same =
     distinct-flat_map-each f g each xs ∙ distinct-flat_map g xs ∙ ap (λ l. distinct (flat_map g l)) same ∙ sym (distinct-flat_map g ys)
 
 pub distinct-map-alike : (g : State → State) (xs ys : List State) → distinct xs ≡ distinct ys → distinct (map g xs) ≡ distinct (map g ys)
 distinct-map-alike g xs ys same =
-    ap distinct (sym (flat_map_single g xs)) ∙ distinct-flat_map-alike (λ s. g s ∷ []) (λ s. g s ∷ []) xs ys (λ s. refl) same ∙ ap distinct (flat_map_single g ys)
+    ap distinct (sym (flat_map_single g xs))
+    ∙ distinct-flat_map-alike (λ s. g s ∷ []) (λ s. g s ∷ []) xs ys (λ s. refl) same
+    ∙ ap distinct (flat_map_single g ys)

@@ -92,7 +92,8 @@ read_before-behind bytes k c rest scalar_value here =
     (before_of_len bytes (len_utf8 c) k c (character_at_from bytes k c rest scalar_value here) refl)
 
 before_next : (text : List ℕ) → IsText text → (k : ℕ) → k < length text →
-    read_before (encode_utf8_all text) (byte_place text (k + 1)) ≡ Some (record { character = slice_index text k; place = byte_place text k })
+    read_before (encode_utf8_all text) (byte_place text (k + 1))
+    ≡ Some (record { character = slice_index text k; place = byte_place text k })
 before_next text is_text k h =
     ap (read_before (encode_utf8_all text)) (byte_place-add-one text k h)
     ∙ read_before-behind (encode_utf8_all text) (byte_place text k) (slice_index text k) (encode_utf8_all (drop (k + 1) text))
@@ -111,7 +112,8 @@ read_before-byte_place text is_text (suc k) within =
 
 -- Over the bytes of a text the next character is the one that comes over its characters, and its place answers that one's.
 pub next_character-byte_place : (text : List ℕ) → IsText text → (d : Direction) (k : ℕ) → k ≤ length text →
-    next_character d (of_bytes (encode_utf8_all text)) (byte_place text k) ≡ option_map (byte_read text) (next_character d (of_characters text) k)
+    next_character d (of_bytes (encode_utf8_all text)) (byte_place text k)
+    ≡ option_map (byte_read text) (next_character d (of_characters text) k)
 next_character-byte_place text is_text forwards k within = read_after-byte_place text is_text k within
 next_character-byte_place text is_text backwards k within = read_before-byte_place text is_text k within
 

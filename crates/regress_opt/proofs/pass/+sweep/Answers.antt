@@ -1,5 +1,5 @@
 -- Each answer is a lemma on plain trees, at the values of the call.
-use Rattle.std.proofs.Common.{rules, arith, ◌≡◌, ◌∙◌, sym, ap, subst, refl, length-set}
+use Rattle.std.proofs.Common.{rules, arith, ◌∙◌, sym, ap, subst, refl, length-set}
 use Rattle.std.specs.Prelude.{option_map, string_bytes}
 use Rattle.regress_tree.specs.Tree.{Tree, tree, capture_group, loop, loop_one}
 use Rattle.regress_tree.specs.Units.{units}

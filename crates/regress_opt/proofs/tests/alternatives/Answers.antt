@@ -1,5 +1,5 @@
 -- A tree without groups, in which no part is a goal, is well formed.
-use Rattle.std.proofs.Common.{◌≡◌, ℕ, ◌<◌, [], length, rules, arith, sym, ap, subst}
+use Rattle.std.proofs.Common.{◌≡◌, ℕ, [], length, rules, sym, ap, subst}
 use Rattle.regress_tree.specs.Tree.{Tree, tree}
 use Rattle.regress_tree.specs.WellFormed.{inside, last, root, MayStand, captures, IsWellFormed}
 use Rattle.regress_tree.proofs.laws.Rows.{MayStand-from_last}

@@ -1,7 +1,7 @@
 use Rattle.std.proofs.Common.{◌≡◌, true, sym, ap, ap₂, ◌∙◌, subst, arith}
 use Rattle.std.proofs.lemmas.Result.{err_from_is_err_and}
 use Rattle.regress_tree.specs.Tree.{Tree, trees, cat, more_trees, no_trees}
-use Rattle.regress_tree.specs.TableOf.{table_of, setting_of}
+use Rattle.regress_tree.specs.TableOf.{setting_of}
 use Rattle.regress_tree.specs.WellFormed.{IsWellFormed}
 use Rattle.regress_tree.proofs.laws.Nodes.{tree-Cat, tree-Goal}
 use Rattle.regress_syntax.proofs.laws.Sources.{on_syntax_then}
