@@ -3,6 +3,7 @@ mod Examples
 pub mod PackingLemmas
 pub mod RowLemmas
 pub mod ListingLemmas
+pub mod LoweringLemmas
 pub mod CaseMapLemmas
 pub mod SmallTableLemmas
 pub mod NamedLemmas
@@ -12,3 +13,4 @@ pub mod RefusalLemmas
 pub mod ShiftLemmas
 pub mod ClosureLemmas
 pub mod TableExamples
+mod LiteralExamples

@@ -1,24 +1,35 @@
 -- What stands for literals in a tree.
-use Rattle.std.specs.Prelude.{ℕ, Bool, true, false, nat_le, List, [], ◌∷◌, ◌++◌, filter, if◌then◌else◌, encode_utf8_all, ◌+◌}
+use Rattle.std.specs.Prelude.{◌≡◌, ◌≢◌, ℕ, ◌+◌, Bool, false, nat_le, List, [], ◌∷◌, ◌++◌, filter, map, if◌then◌else◌, encode_utf8_all}
 use Rattle.std.specs.List.{list_all, range_with_len}
 use lib.Utf8.{scalar}
 use Rattle.regress_base.specs.Intervals.{code_point_max}
-use Rattle.regress_tree.specs.Reading.{forwards, of_characters}
-use Rattle.regress_tree.specs.Steps.{Step, stay, ◌then_◌, one_character}
+use Rattle.regress_tree.specs.declared.literal.Piece.{Piece}
+use Rattle.regress_tree.specs.declared.literal.Piece.TheVariants.{Char, ByteSequence, ByteSet, CharSet}
+use Rattle.regress_tree.specs.Matching.{Setting, steps_in_row}
+use Rattle.regress_tree.specs.Reading.{forwards, IsText, of_characters}
+use Rattle.regress_tree.specs.Steps.{State, Step, IsStateOf, byte_state, stay, ◌then_◌, one_character}
 use Rattle.regress_tree.specs.Table.{Table, stands_for}
-use Rattle.regress_tree.specs.Tree.{Leaf, char, byte_sequence, byte_set, char_set}
+use Rattle.regress_tree.specs.Tree.{Leaf, char, byte_sequence, byte_set, char_set, leaf, row}
+
+-- the numbers below a bound that pass a test, ascending
+unfoldable pub listed_below : ℕ → (ℕ → Bool) → List ℕ
+listed_below bound test = filter test (range_with_len 0 bound)
 
 -- the code points that pass a test, ascending
-unfoldable pub listed : (ℕ → Bool) → List ℕ
-listed test = filter test (range_with_len 0 (code_point_max + 1))
+abbrev pub listed : (ℕ → Bool) → List ℕ
+listed = listed_below (code_point_max + 1)
 
 -- the code points that a literal c stands for
 abbrev pub class_of : Table → (icase unicode : Bool) → ℕ → List ℕ
 class_of table icase unicode c = listed (stands_for table icase unicode c)
 
+-- whether all are ASCII
+abbrev pub is_ascii : List ℕ → Bool
+is_ascii members = list_all (λ x. nat_le x 127) members
+
 -- the set of several code points
 abbrev pub set_of : List ℕ → Leaf
-set_of members = if list_all (λ x. nat_le x 127) members then byte_set members else char_set members
+set_of members = if is_ascii members then byte_set members else char_set members
 
 -- what a class becomes that is no single character: a code point without a UTF-8 of its own, or a set
 abbrev pub piece_of : List ℕ → Leaf
@@ -37,8 +48,21 @@ abbrev pub bytes_piece : List ℕ → List Leaf
 bytes_piece [] = []
 bytes_piece (b ∷ bytes) = byte_sequence (b ∷ bytes) ∷ []
 
+-- the leaf of a piece
+abbrev pub piece : Piece → Leaf
+piece (Char c) = char c
+piece (ByteSequence bytes) = byte_sequence bytes.items
+piece (ByteSet bytes) = byte_set bytes.items
+piece (CharSet characters) = char_set characters.items
+
+-- no two neighbours are byte sequences
+abbrev pub AreApart : List Leaf → Type 0
+AreApart leaves =
+    (front behind : List Leaf) (bytes next : List ℕ) → leaves ≢ front ++ byte_sequence bytes ∷ byte_sequence next ∷ behind
+
 module _ (table : Table) (icase unicode : Bool) where
-  -- the pieces of literals in a row behind these bytes: characters go on with the bytes, and all else is a piece of its own
+  -- The pieces of literals in a row behind these bytes: characters go on with the bytes, and all else is a piece of its
+  -- own (this project's profile).
   abbrev pub lowered_behind : List ℕ → List ℕ → List Leaf
   lowered_behind bytes [] = bytes_piece bytes
   lowered_behind bytes (c ∷ cs) =
@@ -54,3 +78,9 @@ module _ (table : Table) (icase unicode : Bool) where
   literal_steps text [] = stay
   literal_steps text (c ∷ cs) =
       one_character forwards (of_characters text) (stands_for table icase unicode c) then_ literal_steps text cs
+
+  -- On every text and from every state the leaves in a row match forwards what the literals do, place for byte place.
+  abbrev pub MeanLiterals : List ℕ → List Leaf → Type 0
+  MeanLiterals literals leaves = (setting : Setting) (text : List ℕ) (s : State) → IsText text → IsStateOf text s →
+      steps_in_row setting (encode_utf8_all text) forwards (row (map leaf leaves)) (byte_state text s)
+      ≡ map (byte_state text) (literal_steps text literals s)

@@ -2,4 +2,5 @@
 #![tactic(auto)]
 
 pub mod ir;
+pub mod literal;
 pub mod unicode;

@@ -187,19 +187,15 @@ byte_of bytes front rest k n e h =
     sym (get_or-drop k bytes n 0) ∙ ap (λ bs. slice_index bs n) e ∙ get_or_append_left front rest 0 n h
 
 -- so none begins within another
-pub character_at-within : (text : List ℕ) → IsText text → (k n : ℕ) → k < length text → 0 < n → n < len_utf8 (slice_index text k) →
-    character_at (encode_utf8_all text) (byte_place text k + n) ≡ None
-character_at-within text is_text k n h low high =
+pub character_at-inside : (bytes : List ℕ) (k c n : ℕ) (rest : List ℕ) → drop k bytes ≡ encode_utf8 c ++ rest → 0 < n → n < len_utf8 c →
+    character_at bytes (k + n) ≡ None
+character_at-inside bytes k c n rest here low high =
     no_character _ (λ d e.
-    let bytes = encode_utf8_all text in
-    let c = slice_index text k in
-    let parts = character_at_parts bytes (byte_place text k + n) d e in
-    let here : drop (byte_place text k) bytes ≡ encode_utf8 c ++ encode_utf8_all (drop (k + 1) text) =
-    drop-byte_place text k ∙ ap encode_utf8_all (drop_more text k 0 h) in
-    let in_place : byte_place text k + n + 0 ≡ byte_place text k + n = omega arith in
-    let as_first : slice_index bytes (byte_place text k + n) ≡ slice_index (encode_utf8 d) 0 =
+    let parts = character_at_parts bytes (k + n) d e in
+    let in_place : k + n + 0 ≡ k + n = omega arith in
+    let as_first : slice_index bytes (k + n) ≡ slice_index (encode_utf8 d) 0 =
     ap (slice_index bytes) (sym in_place)
-    ∙ byte_of bytes (encode_utf8 d) parts.1.0 (byte_place text k + n) 0 parts.1.1 (omega (arith, length-encode d, len_utf8_bounds d)) in
-    let as_later : slice_index bytes (byte_place text k + n) ≡ slice_index (encode_utf8 c) n =
-    byte_of bytes (encode_utf8 c) _ (byte_place text k) n here (omega (arith, length-encode c)) in
+    ∙ byte_of bytes (encode_utf8 d) parts.1.0 (k + n) 0 parts.1.1 (omega (arith, length-encode d, len_utf8_bounds d)) in
+    let as_later : slice_index bytes (k + n) ≡ slice_index (encode_utf8 c) n =
+    byte_of bytes (encode_utf8 c) rest k n here (omega (arith, length-encode c)) in
     no_continuation d parts.0 (subst IsContinuation (sym as_later ∙ as_first) (continuation c n low high)))

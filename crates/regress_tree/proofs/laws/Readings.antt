@@ -1,12 +1,13 @@
 -- Reading a text by its characters and by the bytes of its UTF-8 gives the same characters, at places that answer each other.
-use Rattle.std.proofs.Common.{◌≡◌, ℕ, zero, suc, ◌+◌, ◌-◌, ◌<◌, ◌≤◌, cond, ◌==◌, ⊎_elim, List, length, Option, Some, None, option_map, option_and_then, slice_get, slice_index, IfSome, encode_utf8_all, refl, sym, ap, ◌∙◌, subst, arith}
+use Rattle.std.proofs.Common.{◌≡◌, ℕ, zero, suc, ◌+◌, ◌-◌, ◌<◌, ◌≤◌, cond, ◌==◌, ⊎_elim, List, length, Option, Some, None, option_map, option_and_then, slice_get, slice_index, IfSome, encode_utf8_all, refl, sym, ap, ◌∙◌, subst, arith, ◌++◌, drop}
+use Rattle.std.proofs.lemmas.List.{drop_more}
 use Rattle.std.proofs.lemmas.Bool.{cond-true, cond-false, le-leb, eq-eqb, ne_eqb, cases_lt}
 use Rattle.std.proofs.lemmas.Option.{slice_get-get_or, slice_get_past}
 use Rattle.std.proofs.lemmas.Str.{len_utf8_bounds}
-use Rattle.std.specs.Char.{len_utf8}
+use Rattle.std.specs.Char.{IsScalar, len_utf8, encode_utf8}
 use Rattle.std.specs.Option.{option_or}
 use Rattle.regress_tree.specs.Reading.{Direction, forwards, backwards, Read, next_character, IsText, of_characters, character_at, read_after, read_before_by, read_before, of_bytes, byte_place}
-use Rattle.regress_tree.proofs.laws.Characters.{byte_place-zero, byte_place-add-one, character_at-byte_place, character_at-end, character_at-within}
+use Rattle.regress_tree.proofs.laws.Characters.{byte_place-zero, byte_place-add-one, drop-byte_place, character_at_from, character_at-byte_place, character_at-end, character_at-inside}
 
 -- a character read, in places of the UTF-8
 abbrev pub byte_read : List ℕ → Read → Read
@@ -78,21 +79,25 @@ none_before bytes n k j e is =
     ∙ ap (λ i. option_and_then (λ x. cond (len_utf8 x == n) (Some (record { character = x; place = i })) None) (character_at bytes i)) back
     ∙ ap (option_and_then (λ x. cond (len_utf8 x == n) (Some (record { character = x; place = k })) None)) e
 
+-- behind the UTF-8 of a character that character ends
+pub read_before-behind : (bytes : List ℕ) (k c : ℕ) (rest : List ℕ) → IsScalar c → drop k bytes ≡ encode_utf8 c ++ rest →
+    read_before bytes (k + len_utf8 c) ≡ Some (record { character = c; place = k })
+unfolding read_before
+read_before-behind bytes k c rest scalar_value here =
+    let bounds = len_utf8_bounds c in
+    first_found (λ n. read_before_by bytes n (k + len_utf8 c)) (len_utf8 c) _ (omega arith) (omega arith)
+    (λ n low high.
+    none_before bytes n (k + (len_utf8 c - n)) (k + len_utf8 c)
+    (character_at-inside bytes k c (len_utf8 c - n) rest here (omega arith) (omega arith)) (omega arith))
+    (before_of_len bytes (len_utf8 c) k c (character_at_from bytes k c rest scalar_value here) refl)
+
 before_next : (text : List ℕ) → IsText text → (k : ℕ) → k < length text →
     read_before (encode_utf8_all text) (byte_place text (k + 1))
     ≡ Some (record { character = slice_index text k; place = byte_place text k })
-unfolding read_before
 before_next text is_text k h =
-    let bytes = encode_utf8_all text in
-    let c = slice_index text k in
-    let bounds = len_utf8_bounds c in
-    let next = byte_place-add-one text k h in
-    first_found (λ n. read_before_by bytes n (byte_place text (k + 1))) (len_utf8 c) _ (omega arith) (omega arith)
-    (λ n low high.
-    none_before bytes n (byte_place text k + (len_utf8 c - n)) (byte_place text (k + 1))
-    (character_at-within text is_text k (len_utf8 c - n) h (omega arith) (omega arith)) (omega arith))
-    (ap (read_before_by bytes (len_utf8 c)) next
-    ∙ before_of_len bytes (len_utf8 c) (byte_place text k) c (character_at-byte_place text is_text k h) refl)
+    ap (read_before (encode_utf8_all text)) (byte_place-add-one text k h)
+    ∙ read_before-behind (encode_utf8_all text) (byte_place text k) (slice_index text k) (encode_utf8_all (drop (k + 1) text))
+    (is_text k 0 h) (drop-byte_place text k ∙ ap encode_utf8_all (drop_more text k 0 h))
 
 pub read_before-byte_place : (text : List ℕ) → IsText text → (k : ℕ) → k ≤ length text →
     read_before (encode_utf8_all text) (byte_place text k) ≡ option_map (byte_read text) ((of_characters text).before k)

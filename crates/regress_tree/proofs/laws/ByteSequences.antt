@@ -1,0 +1,304 @@
+-- What bytes in a row match: characters one after another where they are the UTF-8 of these.
+use Rattle.std.proofs.Common.{◌≡◌, ℕ, ◌+◌, ◌-◌, ◌==◌, Bool, true, false, cond, ◌&&◌, List, [], ◌∷◌, ◌++◌, length, drop, flat_map, Option, Some, None, option_map, option_and_then, IfSome, ◌⊎◌, inl, inr, All, encode_utf8_all, nat_le, refl, sym, ap, ◌∙◌, subst, ⊎_elim, arith, append-nil, append_assoc, nat_eq}
+use mathlib.Core.Path.{fun_ext}
+use Rattle.std.proofs.lemmas.List.{length-append, drop-drop, drop_at}
+use Rattle.std.proofs.lemmas.List.Elements.{All-head, All-tail}
+use Rattle.std.proofs.lemmas.Bool.{false≢true, leb-true, le-leb, and_parts, and_from, cond-true, cond-false, cases_Bool, eq-eqb, eqb-true, ne_eqb}
+use Rattle.std.proofs.lemmas.Bool.Decides.{Decides-eqb}
+use Rattle.std.proofs.lemmas.Option.{cond_some}
+use Rattle.std.proofs.lemmas.Slice.Eq.{starts_is}
+use Rattle.std.proofs.lemmas.Str.{length-encode}
+use Rattle.std.specs.Char.{IsScalar, len_utf8, encode_utf8}
+use Rattle.std.specs.List.{starts_with}
+use Rattle.std.specs.Option.{option_or}
+use Rattle.regress_tree.specs.Reading.{Direction, forwards, backwards, Read, next_character, of_bytes, character_at, read_after, read_before_by, read_before}
+use Rattle.regress_tree.specs.Steps.{State, Step, stay, ◌then_◌, moved, one_character, these_bytes}
+use Rattle.regress_tree.proofs.laws.Characters.{character_at_from, character_at_parts}
+use Rattle.regress_tree.proofs.laws.Readings.{read_before-behind}
+
+-- the bytes stand at that place
+abbrev stands : List ℕ → ℕ → List ℕ → Bool
+stands bytes k written = starts_with nat_eq (drop k bytes) written
+
+stands_parts : (bytes : List ℕ) (k : ℕ) (written : List ℕ) → stands bytes k written ≡ true →
+    drop k bytes ≡ written ++ drop (length written) (drop k bytes)
+stands_parts bytes k written h = (starts_is Decides-eqb (drop k bytes) written _ refl).0 h
+
+stands_from : (bytes : List ℕ) (k : ℕ) (written rest : List ℕ) → drop k bytes ≡ written ++ rest → stands bytes k written ≡ true
+stands_from bytes k written rest e = (starts_is Decides-eqb (drop k bytes) written _ refl).1 rest e
+
+-- tests that pass together are one
+pub same_tests : (a b : Bool) → (a ≡ true → b ≡ true) → (b ≡ true → a ≡ true) → a ≡ b
+same_tests true b to from = sym (to refl)
+same_tests false true to from = from refl
+same_tests false false to from = refl
+
+-- what stands behind bytes that stand there
+behind : (bytes : List ℕ) (k : ℕ) (written rest : List ℕ) → drop k bytes ≡ written ++ rest → drop (k + length written) bytes ≡ rest
+behind bytes k written rest e =
+    sym (drop-drop (length written) k bytes) ∙ ap (drop (length written)) e ∙ drop_at written rest (length written) refl
+
+stands-append : (bytes : List ℕ) (k : ℕ) (first second : List ℕ) →
+    stands bytes k (first ++ second) ≡ (stands bytes k first && stands bytes (k + length first) second)
+stands-append bytes k first second =
+    same_tests _ _
+    (λ h.
+    let rest = drop (length (first ++ second)) (drop k bytes) in
+    let e : drop k bytes ≡ first ++ (second ++ rest) = stands_parts bytes k (first ++ second) h ∙ append_assoc first second rest in
+    and_from _ _ (stands_from bytes k first (second ++ rest) e)
+    (stands_from bytes (k + length first) second rest (behind bytes k first (second ++ rest) e)))
+    (λ h.
+    let both = and_parts _ _ h in
+    let rest = drop (length second) (drop (k + length first) bytes) in
+    let first_stands = stands_parts bytes k first both.0 in
+    let second_stands = stands_parts bytes (k + length first) second both.1 in
+    stands_from bytes k (first ++ second) rest
+    (first_stands
+    ∙ ap (λ xs. first ++ xs) (drop-drop (length first) k bytes ∙ second_stands)
+    ∙ sym (append_assoc first second rest)))
+
+-- ---- forwards
+
+both_forwards : (s : State) (a b : Bool) (k j i : ℕ) → i ≡ j →
+    cond (a && b) (record s { place = i } ∷ []) []
+    ≡ flat_map (λ t. cond b (record t { place = j } ∷ []) []) (cond a (record s { place = k } ∷ []) [])
+both_forwards s true true k j i e = ap (λ p. record s { place = p } ∷ []) e
+both_forwards s true false k j i e = refl
+both_forwards s false b k j i e = refl
+
+module _ (bytes : List ℕ) where
+  pub these_bytes-nil : (s : State) → these_bytes forwards bytes [] s ≡ stay s
+  unfolding these_bytes
+  these_bytes-nil s = let e : s.place + 0 ≡ s.place = omega arith in ap (λ p. record s { place = p } ∷ []) e
+
+  -- bytes behind bytes
+  pub these_bytes-append : (first second : List ℕ) (s : State) →
+      these_bytes forwards bytes (first ++ second) s ≡ (these_bytes forwards bytes first then_ these_bytes forwards bytes second) s
+  unfolding these_bytes
+  these_bytes-append first second s =
+      let far : s.place + length (first ++ second) ≡ s.place + length first + length second = omega (arith, length-append first second) in
+      ap (λ b. cond b (record s { place = s.place + length (first ++ second) } ∷ []) []) (stands-append bytes s.place first second)
+      ∙ by_test (stands bytes s.place first) far
+    where
+      by_test : (a : Bool) → s.place + length (first ++ second) ≡ s.place + length first + length second →
+          cond (a && stands bytes (s.place + length first) second) (record s { place = s.place + length (first ++ second) } ∷ []) []
+          ≡ flat_map (these_bytes forwards bytes second) (cond a (record s { place = s.place + length first } ∷ []) [])
+      by_test true far =
+          ap (λ p. cond (stands bytes (s.place + length first) second) (record s { place = p } ∷ []) []) far ∙ sym (append-nil _)
+      by_test false far = refl
+
+  -- the UTF-8 of one character
+  module _ (c : ℕ) (scalar_value : IsScalar c) (s : State) where
+    no_move : (read : Option ℕ) → character_at bytes s.place ≡ read → stands bytes s.place (encode_utf8 c) ≡ false →
+        moved (λ x. x == c) s (option_map (λ d. record { character = d; place = s.place + len_utf8 d }) read) ≡ []
+    no_move None e h = refl
+    no_move (Some d) e h =
+        cond-false _ _ _ (ne_eqb d c (λ same.
+        let parts = character_at_parts bytes s.place d e in
+        false≢true (sym h ∙ stands_from bytes s.place (encode_utf8 c) parts.1.0 (parts.1.1 ∙ ap (λ x. encode_utf8 x ++ parts.1.0) same))))
+
+    pub these_bytes-one : these_bytes forwards bytes (encode_utf8 c) s ≡ one_character forwards (of_bytes bytes) (λ x. x == c) s
+    unfolding these_bytes one_character read_after
+    these_bytes-one =
+        ⊎_elim
+        (λ (h : stands bytes s.place (encode_utf8 c) ≡ true).
+        cond-true _ _ _ h
+        ∙ ap (λ n. record s { place = s.place + n } ∷ []) (length-encode c)
+        ∙ sym (cond-true (c == c) _ _ (eq-eqb c c refl))
+        ∙ ap (λ o. moved (λ x. x == c) s (option_map (λ d. record { character = d; place = s.place + len_utf8 d }) o))
+        (sym (character_at_from bytes s.place c _ scalar_value (stands_parts bytes s.place (encode_utf8 c) h))))
+        (λ (h : stands bytes s.place (encode_utf8 c) ≡ false).
+        cond-false _ _ _ h ∙ sym (no_move (character_at bytes s.place) refl h))
+        (cases_Bool (stands bytes s.place (encode_utf8 c)))
+
+-- ---- backwards
+
+-- the bytes end at that place
+abbrev ends : List ℕ → ℕ → List ℕ → Bool
+ends bytes k written = nat_le (length written) k && stands bytes (k - length written) written
+
+ends-append : (bytes : List ℕ) (k : ℕ) (first second : List ℕ) →
+    ends bytes k (first ++ second) ≡ (ends bytes k second && ends bytes (k - length second) first)
+ends-append bytes k first second =
+    let both = length-append first second in
+    let start = k - length (first ++ second) in
+    same_tests _ _
+    (λ h.
+    let parts = and_parts _ _ h in
+    let fits = leb-true (length (first ++ second)) k parts.0 in
+    let stand = and_parts _ _ (sym (stands-append bytes start first second) ∙ parts.1) in
+    let to_second : start + length first ≡ k - length second = omega (arith, both, fits) in
+    let to_first : start ≡ k - length second - length first = omega (arith, both, fits) in
+    and_from _ _
+    (and_from _ _ (le-leb (length second) k (omega (arith, both, fits))) (subst (λ j. stands bytes j second ≡ true) to_second stand.1))
+    (and_from _ _ (le-leb (length first) (k - length second) (omega (arith, both, fits)))
+    (subst (λ j. stands bytes j first ≡ true) to_first stand.0)))
+    (λ h.
+    let parts = and_parts _ _ h in
+    let later = and_parts _ _ parts.0 in
+    let earlier = and_parts _ _ parts.1 in
+    let fits_second = leb-true (length second) k later.0 in
+    let fits_first = leb-true (length first) (k - length second) earlier.0 in
+    let to_second : k - length second ≡ start + length first = omega (arith, both, fits_first, fits_second) in
+    let to_first : k - length second - length first ≡ start = omega (arith, both, fits_first, fits_second) in
+    and_from _ _ (le-leb (length (first ++ second)) k (omega (arith, both, fits_first, fits_second)))
+    (stands-append bytes start first second
+    ∙ and_from _ _ (subst (λ j. stands bytes j first ≡ true) to_first earlier.1)
+    (subst (λ j. stands bytes j second ≡ true) to_second later.1)))
+
+-- what is read before a place is a character that ends there
+record IsBefore (bytes : List ℕ) (k : ℕ) (r : Read) : Type 0 where
+  stands_there : character_at bytes r.place ≡ Some r.character
+  ends_there : r.place + len_utf8 r.character ≡ k
+
+before_by_parts : (bytes : List ℕ) (n k : ℕ) (r : Read) → read_before_by bytes n k ≡ Some r → IsBefore bytes k r
+before_by_parts bytes n k r = by_test (nat_le n k) refl (character_at bytes (k - n)) refl
+  where
+    by_test : (b : Bool) → nat_le n k ≡ b → (o : Option ℕ) → character_at bytes (k - n) ≡ o →
+        cond b (option_and_then (λ c. cond (len_utf8 c == n) (Some (record { character = c; place = k - n })) None) o) None ≡ Some r →
+        IsBefore bytes k r
+    by_test false fits o e h = cc
+    by_test true fits None e h = cc
+    by_test true fits (Some c) e h =
+        let found = cond_some (len_utf8 c == n) _ r h in
+        let long : len_utf8 c ≡ n = eqb-true (len_utf8 c) n found.0 in
+        let within = leb-true n k fits in
+        subst (IsBefore bytes k) found.1 (record { stands_there = e; ends_there = omega (arith, long, within) })
+
+or_parts : (o p : Option Read) (r : Read) → option_or o p ≡ Some r → (o ≡ Some r) ⊎ (p ≡ Some r)
+or_parts None p r e = inr e
+or_parts (Some x) p r e = inl e
+
+before_parts : (bytes : List ℕ) (k : ℕ) (r : Read) → read_before bytes k ≡ Some r → IsBefore bytes k r
+unfolding read_before
+before_parts bytes k r e =
+    ⊎_elim (before_by_parts bytes 1 k r)
+    (λ e₂. ⊎_elim (before_by_parts bytes 2 k r)
+    (λ e₃. ⊎_elim (before_by_parts bytes 3 k r) (before_by_parts bytes 4 k r)
+    (or_parts _ _ r e₃)) (or_parts _ _ r e₂)) (or_parts _ _ r e)
+
+module _ (bytes : List ℕ) where
+  -- bytes before bytes: the last ones first
+  pub these_bytes_before-append : (first second : List ℕ) (s : State) →
+      these_bytes backwards bytes (first ++ second) s ≡ (these_bytes backwards bytes second then_ these_bytes backwards bytes first) s
+  unfolding these_bytes
+  these_bytes_before-append first second s =
+      let far : s.place - length (first ++ second) ≡ s.place - length second - length first = omega (arith, length-append first second) in
+      ap (λ b. cond b (record s { place = s.place - length (first ++ second) } ∷ []) []) (ends-append bytes s.place first second)
+      ∙ by_test (ends bytes s.place second) far
+    where
+      by_test : (a : Bool) → s.place - length (first ++ second) ≡ s.place - length second - length first →
+          cond (a && ends bytes (s.place - length second) first) (record s { place = s.place - length (first ++ second) } ∷ []) []
+          ≡ flat_map (these_bytes backwards bytes first) (cond a (record s { place = s.place - length second } ∷ []) [])
+      by_test true far =
+          ap (λ p. cond (ends bytes (s.place - length second) first) (record s { place = p } ∷ []) []) far ∙ sym (append-nil _)
+      by_test false far = refl
+
+  module _ (c : ℕ) (scalar_value : IsScalar c) (s : State) where
+    ends_before : (r : Read) → IsBefore bytes s.place r → r.character ≡ c → ends bytes s.place (encode_utf8 c) ≡ true
+    ends_before r is same =
+        let parts = character_at_parts bytes r.place r.character is.stands_there in
+        let long : length (encode_utf8 c) ≡ len_utf8 r.character = length-encode c ∙ ap len_utf8 (sym same) in
+        let start : r.place ≡ s.place - length (encode_utf8 c) = omega (arith, long, is.ends_there) in
+        and_from _ _ (le-leb (length (encode_utf8 c)) s.place (omega (arith, long, is.ends_there)))
+        (subst (λ j. stands bytes j (encode_utf8 c) ≡ true) start
+        (stands_from bytes r.place (encode_utf8 c) parts.1.0 (parts.1.1 ∙ ap (λ x. encode_utf8 x ++ parts.1.0) same)))
+
+    no_move_before : (o : Option Read) → read_before bytes s.place ≡ o → ends bytes s.place (encode_utf8 c) ≡ false →
+        moved (λ x. x == c) s o ≡ []
+    no_move_before None e h = refl
+    no_move_before (Some r) e h =
+        cond-false _ _ _ (ne_eqb r.character c (λ same. false≢true (sym h ∙ ends_before r (before_parts bytes s.place r e) same)))
+
+    pub these_bytes_before-one : these_bytes backwards bytes (encode_utf8 c) s ≡ one_character backwards (of_bytes bytes) (λ x. x == c) s
+    unfolding these_bytes one_character
+    these_bytes_before-one =
+        ⊎_elim
+        (λ (h : ends bytes s.place (encode_utf8 c) ≡ true).
+        let parts = and_parts _ _ h in
+        let fits = leb-true (length (encode_utf8 c)) s.place parts.0 in
+        let start = s.place - length (encode_utf8 c) in
+        let place : start + len_utf8 c ≡ s.place = omega (arith, length-encode c, fits) in
+        cond-true _ _ _ h
+        ∙ sym (cond-true (c == c) _ _ (eq-eqb c c refl))
+        ∙ ap (moved (λ x. x == c) s)
+        (sym (ap (read_before bytes) (sym place)
+        ∙ read_before-behind bytes start c _ scalar_value (stands_parts bytes start (encode_utf8 c) parts.1))))
+        (λ (h : ends bytes s.place (encode_utf8 c) ≡ false).
+        cond-false _ _ _ h ∙ sym (no_move_before (read_before bytes s.place) refl h))
+        (cases_Bool (ends bytes s.place (encode_utf8 c)))
+
+-- ---- tests that agree on characters
+
+-- whether what is read is a character
+abbrev IsRead : Read → Type 0
+IsRead r = IsScalar r.character
+
+after_read : (bytes : List ℕ) (k : ℕ) (o : Option ℕ) → character_at bytes k ≡ o →
+    IfSome (option_map (λ c. record { character = c; place = k + len_utf8 c }) o) IsRead
+after_read bytes k None e = tt
+after_read bytes k (Some c) e = (character_at_parts bytes k c e).0
+
+before_read : (bytes : List ℕ) (n k : ℕ) (o : Option ℕ) → character_at bytes k ≡ o →
+    IfSome (option_and_then (λ c. cond (len_utf8 c == n) (Some (record { character = c; place = k })) None) o) IsRead
+before_read bytes n k None e = tt
+before_read bytes n k (Some c) e = by_test (len_utf8 c == n) (character_at_parts bytes k c e).0
+  where
+    by_test : (b : Bool) → IsScalar c → IfSome (cond b (Some (record { character = c; place = k })) None) IsRead
+    by_test true h = h
+    by_test false h = tt
+
+before_by_read : (bytes : List ℕ) (n k : ℕ) → IfSome (read_before_by bytes n k) IsRead
+before_by_read bytes n k = by_test (nat_le n k)
+  where
+    by_test : (b : Bool) →
+        IfSome
+        (cond b
+        (option_and_then (λ c. cond (len_utf8 c == n) (Some (record { character = c; place = k - n })) None) (character_at bytes (k - n)))
+        None)
+        IsRead
+    by_test true = before_read bytes n (k - n) (character_at bytes (k - n)) refl
+    by_test false = tt
+
+either_read : (o p : Option Read) → IfSome o IsRead → IfSome p IsRead → IfSome (option_or o p) IsRead
+either_read None p first second = second
+either_read (Some r) p first second = first
+
+-- what is read from bytes is a Unicode scalar value
+pub next_character-scalar : (d : Direction) (bytes : List ℕ) (k : ℕ) →
+    IfSome (next_character d (of_bytes bytes) k) (λ r. IsScalar r.character)
+unfolding read_after read_before
+next_character-scalar forwards bytes k = after_read bytes k (character_at bytes k) refl
+next_character-scalar backwards bytes k =
+    either_read _ _ (before_by_read bytes 1 k)
+    (either_read _ _ (before_by_read bytes 2 k) (either_read _ _ (before_by_read bytes 3 k) (before_by_read bytes 4 k)))
+
+moved-agree : (p q : ℕ → Bool) (s : State) (read : Option Read) → ((c : ℕ) → IsScalar c → p c ≡ q c) → IfSome read IsRead →
+    moved p s read ≡ moved q s read
+moved-agree p q s None agree h = refl
+moved-agree p q s (Some r) agree h = ap (λ b. cond b (record s { place = r.place } ∷ []) []) (agree r.character h)
+
+-- tests that agree on the Unicode scalar values take the same characters
+pub one_character-agree : (d : Direction) (bytes : List ℕ) (p q : ℕ → Bool) → ((c : ℕ) → IsScalar c → p c ≡ q c) → (s : State) →
+    one_character d (of_bytes bytes) p s ≡ one_character d (of_bytes bytes) q s
+unfolding one_character
+one_character-agree d bytes p q agree s =
+    moved-agree p q s (next_character d (of_bytes bytes) s.place) agree (next_character-scalar d bytes s.place)
+
+-- ---- characters in a row
+
+module _ (bytes : List ℕ) where
+  -- these characters, one after another
+  abbrev pub these_characters : List ℕ → Step
+  these_characters [] = stay
+  these_characters (c ∷ cs) = one_character forwards (of_bytes bytes) (λ x. x == c) then_ these_characters cs
+
+  -- the UTF-8 of characters matches them one after another
+  pub these_bytes-characters : (cs : List ℕ) → All IsScalar cs → (s : State) →
+      these_bytes forwards bytes (encode_utf8_all cs) s ≡ these_characters cs s
+  these_bytes-characters [] all s = these_bytes-nil bytes s
+  these_bytes-characters (c ∷ cs) all s =
+      these_bytes-append bytes (encode_utf8 c) (encode_utf8_all cs) s
+      ∙ ap (flat_map (these_bytes forwards bytes (encode_utf8_all cs))) (these_bytes-one bytes c (All-head IsScalar c cs all) s)
+      ∙ ap (λ f. flat_map f (one_character forwards (of_bytes bytes) (λ x. x == c) s))
+      (fun_ext (these_bytes-characters cs (All-tail IsScalar c cs all)))
