@@ -1,5 +1,5 @@
 -- What a tree matches, over the bytes of a text.
-use Rattle.std.specs.Prelude.{ℕ, ◌+◌, Bool, true, not, ◌==◌, List, length}
+use Rattle.std.specs.Prelude.{ℕ, ◌+◌, true, not, ◌==◌, List, length}
 use Rattle.regress_base.specs.Brackets.{is_accepted}
 use Rattle.regress_base.specs.declared.types.Flags.{Flags}
 use Rattle.regress_tree.specs.Listing.{lists}
