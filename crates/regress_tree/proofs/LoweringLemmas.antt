@@ -177,7 +177,8 @@ module _ (table : Table) (icase unicode : Bool) where
       (found : List Leaf) (written cps : List ℕ) (i : ℕ) (so_far : AreFound found written cps i) (within : i < length cps)
       (class : List ℕ) (listing : IsListing (stands_for table icase unicode (slice_index cps i)) class)
     where
-      at_place : found ++ lowered_behind table icase unicode written (slice_index cps i ∷ drop (i + 1) cps) ≡ lowered table icase unicode cps
+      at_place : found ++ lowered_behind table icase unicode written (slice_index cps i ∷ drop (i + 1) cps)
+          ≡ lowered table icase unicode cps
       at_place = ap (λ rest. found ++ lowered_behind table icase unicode written rest) (sym (drop_more cps i 0 within)) ∙ so_far
 
       its_class : class ≡ class_of table icase unicode (slice_index cps i)
