@@ -3,7 +3,7 @@
 #![tactic(auto)]
 
 pub use regress_base::{bytesearch, charclasses, codepointset, types, util};
-pub use regress_tree::{ir, unicode};
+pub use regress_tree::{ir, literal, unicode};
 
 /// From the text of a pattern to its tree.
 pub mod parse {
