@@ -97,7 +97,7 @@ YieldsWhole setting t (Ok node) =
     × (tree node ≡ tree_of_pattern setting.table forwards 0 p)
 YieldsWhole setting t (Err fault) =
     OnSyntax fault ((p : Pattern) → pattern_at (context setting) t ≡ Some (p, []) →
-        Fits nothing_counted 0 (pattern_part setting.table p) → ⊥)
+    Fits nothing_counted 0 (pattern_part setting.table p) → ⊥)
 
 -- alternatives before a last one
 abbrev pub alternatives : List Tree → Tree → Tree

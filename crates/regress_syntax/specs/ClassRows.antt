@@ -118,7 +118,7 @@ class_parts_by zero unicode t = None
 class_parts_by (suc n) unicode t =
     if is_at 93 t then Some ([], drop 1 t)
     else class_part_at unicode t >>= λ (members, rest).
-        (class_parts_by n unicode rest >>= λ (others, behind). Some (members ++ others, behind))
+    (class_parts_by n unicode rest >>= λ (others, behind). Some (members ++ others, behind))
 
 -- what stands behind `[`: whether it is inverted, and what it holds
 unfoldable pub class_at : Bool → Source → Found (Bool × List Bounds)

@@ -62,7 +62,7 @@ consume_alternative-returns t c =
     let l = c.loop-parts in
     let h = l.invariant in
     let end = terms-end _ _ _ _ _ _ (text l.self) (counted l.self) l.parts.items h
-        (sym c.ends_alternative.ensures ∙ c.loop-parts-test.false) in
+    (sym c.ends_alternative.ensures ∙ c.loop-parts-test.false) in
     record {
       value = rw end (record {
         node = c.make_cat.ensures ∙ ap (joined (direction_of c.args.around.now)) h.nodes;
@@ -150,13 +150,13 @@ consume_item-returns-in_err-head t c =
     record {
       value = rw (p.1, p.2) (on_syntax_then c.in_err-head.field-0.0
           (λ none. rw (no_item (table_in c.args.around.now) (context_in c.args.around.now) (text c.args.self.now)
-              none) tt) c.in_err-head.ensures);
+          none) tt) c.in_err-head.ensures);
     }
 
 pub consume_item-consume_group-requires : goal.consume_item-consume_group-requires
 consume_item-consume_group-requires t c =
     let head : head_at (context_in c.args.around.now) (text c.args.self.now)
-        ≡ Some (opens (group_of c.in-Opens.kind), source c.read_head.new.cursor) =
+    ≡ Some (opens (group_of c.in-Opens.kind), source c.read_head.new.cursor) =
     rw c.in-Opens.is at c.in_ok-head.ensures in
     omega (arith, head_at-shortens (context_in c.args.around.now) (text c.args.self.now) _ head)
 
@@ -166,7 +166,7 @@ consume_item-returns-in-Atom t c =
     let old = c.args.self.now in
     let a = atom_of around.scope.flags c.in-Atom.atom in
     let head : head_at (context_in around) (text old)
-        ≡ Some (single a, source c.read_head.new.cursor) = rw c.in-Atom.is at c.in_ok-head.ensures in
+    ≡ Some (single a, source c.read_head.new.cursor) = rw c.in-Atom.is at c.in_ok-head.ensures in
     record {
       value = rw (item_from_head (table_in around) (context_in around) (text old) (single a, source c.read_head.new.cursor) head) (record {
         node = c.make_atom.ensures;
