@@ -21,7 +21,8 @@ module _ (ctx : Context) where
   head_by-shortens c t y e =
       ⊎_elim
       (λ (is_dot : (c == full_stop ≡ true) × (_ ≡ Some y)). omega (arith, ap (λ (z : Head × Source). length z.1) (same_Some _ _ is_dot.1)))
-      (λ (no_dot : (c == full_stop ≡ false) × (cond (c == opening) (group_at t) (cond (is_plain c) (Some (single (literal ctx.setting.flags c), t)) None) ≡ Some y)).
+      (λ (no_dot : (c == full_stop ≡ false) × (cond (c == opening) (group_at t)
+      (cond (is_plain c) (Some (single (literal ctx.setting.flags c), t)) None) ≡ Some y)).
       ⊎_elim
       (λ (opened : (c == opening ≡ true) × (group_at t ≡ Some y)). group_at-shortens t y opened.1)
       (λ (other : (c == opening ≡ false) × (_ ≡ Some y)).
