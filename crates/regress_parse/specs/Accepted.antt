@@ -1,5 +1,5 @@
 -- Which patterns are accepted, and what it is for a tree to mean what its pattern does.
-use Rattle.std.specs.Prelude.{◌≡◌, ℕ, ◌≤◌, Bool, not, ◌||◌, IsTrue, List, [], map, encode_utf8_all}
+use Rattle.std.specs.Prelude.{◌≡◌, ℕ, ◌≤◌, Bool, not, IsTrue, List, [], map, encode_utf8_all}
 use Rattle.regress_base.specs.Limits.{max_capture_groups, max_loops, max_nesting_depth}
 use Rattle.regress_base.specs.declared.types.Flags.{Flags}
 use Rattle.regress_tree.specs.Reading.{IsText, forwards}
@@ -12,9 +12,9 @@ use Rattle.regress_syntax.specs.Meaning.{meaning}
 use Rattle.regress_syntax.specs.Rows.{Context}
 use Rattle.regress_parse.specs.Grammar.{IsPattern}
 
--- The rows of the grammar that are served hold for the flag s alone.
+-- The flag v, which asks for other classes, is not served yet.
 abbrev pub is_served : Flags → Bool
-is_served flags = not (flags.icase || flags.multiline || flags.unicode || flags.unicode_sets)
+is_served flags = not flags.unicode_sets
 
 -- the context of a whole pattern: its own groups and names
 abbrev pub own_context : Setting → Pattern → Context

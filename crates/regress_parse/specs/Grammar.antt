@@ -3,7 +3,7 @@
 use Rattle.std.specs.Prelude.{◌≡◌, true, false, ◌∷◌, Some}
 use Rattle.regress_syntax.specs.Source.{Source, closing, bar, is_at, ends_alternative}
 use Rattle.regress_syntax.specs.Syntax.{Pattern, Terms, Item, one, either, no_terms, more_terms, atom, group}
-use Rattle.regress_syntax.specs.Rows.{Context, inside, single, opens, head_at, times_at}
+use Rattle.regress_syntax.specs.Rows.{Context, inside, single, opens, head_of_item, allows, head_at, times_at}
 
 -- The source begins with what the syntax tree stands for, and goes on with `rest`.
 abbrev mutual
@@ -15,7 +15,8 @@ abbrev mutual
   pub AreTerms : Context → Terms → Source → Source → Type 0
   AreTerms ctx no_terms t rest = (ends_alternative t ≡ true) × (t ≡ rest)
   AreTerms ctx (more_terms x q xs) t rest =
-      (mid : Source) × (behind : Source) × IsItem ctx x t mid × (times_at ctx mid ≡ Some (q, behind)) × AreTerms ctx xs behind rest
+      (mid : Source) × (behind : Source) × IsItem ctx x t mid
+      × (times_at ctx (allows (head_of_item x)) mid ≡ Some (q, behind)) × AreTerms ctx xs behind rest
 
   -- all of it at once, or what opens a group, a pattern and `)`
   pub IsItem : Context → Item → Source → Source → Type 0

@@ -38,7 +38,7 @@ module _ (table : Table) where
 
   abbrev pub term_part : Term → Part
   term_part (x, q) = record {
-    node = λ d n. tree_of_times q (tree_of_item table d n x);
+    node = λ d n. tree_of_times q n (n + (counts_of_item x).groups) (tree_of_item table d n x);
     counts = counts_of_term x q;
     levels = levels_of_item x;
   }

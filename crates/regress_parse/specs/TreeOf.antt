@@ -1,10 +1,16 @@
 -- The tree of a syntax tree.
-use Rattle.std.specs.Prelude.{ℕ, ◌+◌, Option, Some, None, option_map, if◌then◌else◌, encode_utf8_all}
+use Rattle.std.specs.Prelude.{ℕ, ◌+◌, Bool, true, false, ◌&&◌, List, [], ◌∷◌, Option, Some, None, option_map, if◌then◌else◌, encode_utf8_all}
+use Rattle.regress_base.specs.Intervals.{intervals_of}
+use Rattle.regress_base.specs.declared.types.Flags.{Flags}
+use Rattle.regress_tree.specs.declared.ir.node.Quantifier.{Quantifier}
 use Rattle.regress_tree.specs.Reading.{Direction, forwards, backwards}
+use Rattle.regress_tree.specs.Literal.{class_of}
 use Rattle.regress_tree.specs.Table.{Table}
-use Rattle.regress_tree.specs.Tree.{Leaf, empty, goal, char, match_any, match_any_except_line_terminator, Tree, Trees, leaf, cat, alt, wrapped, capture_group, no_trees, more_trees, row_reverse}
-use Rattle.regress_syntax.specs.Syntax.{Atom, literal, dot, Group, grouping, capture, Quantifier, Pattern, Terms, Item, one, either, no_terms, more_terms, atom, group, opened_by, counts_of_terms, counts_of_term}
-use Rattle.regress_syntax.specs.Meaning.{direction_of_group}
+use Rattle.regress_tree.specs.Tree.{Leaf, empty, goal, char, char_set, match_any, match_any_except_line_terminator, word_boundary, bracket, Tree, Trees, leaf, cat, alt, wrapped, capture_group, loop, no_trees, more_trees, row_reverse}
+use Rattle.regress_tree.specs.Tree as tree
+use Rattle.regress_syntax.specs.ClassRows.{members_of}
+use Rattle.regress_syntax.specs.Syntax.{Atom, literal, dot, anchor, boundary, class_escape, class, Group, grouping, capture, Pattern, Terms, Item, one, either, no_terms, more_terms, atom, group, opened_by, counts_of_item, counts_of_terms, counts_of_term}
+use Rattle.regress_syntax.specs.Meaning.{is_in_class, direction_of_group}
 
 -- Where matching runs backwards the parts stand turned: the last one first.
 abbrev pub turned : Direction → Trees → Trees
@@ -22,15 +28,31 @@ abbrev pub tree_of_group : ℕ → Group → Tree → Tree
 tree_of_group n grouping body = body
 tree_of_group n (capture name) body = wrapped (capture_group n (option_map encode_utf8_all name)) body
 
--- an item, as often as the quantifier says
-abbrev pub tree_of_times : Option Quantifier → Tree → Tree
-tree_of_times None body = body
-tree_of_times (Some q) body = elim q [ ]
+-- an item of the groups start to end - 1, as often as the quantifier says
+abbrev pub tree_of_times : Option Quantifier → (start end : ℕ) → Tree → Tree
+tree_of_times None start end body = body
+tree_of_times (Some q) start end body = wrapped (loop q start end) body
+
+-- what stands for one of these characters
+abbrev pub leaf_of_members : List ℕ → Leaf
+leaf_of_members [] = char_set []
+leaf_of_members (c ∷ []) = char c
+leaf_of_members (c ∷ d ∷ rest) = char_set (c ∷ d ∷ rest)
 
 module _ (table : Table) where
+  -- with the flag i a literal stands for its class
+  abbrev pub leaf_of_literal : Flags → ℕ → Leaf
+  leaf_of_literal flags c = if flags.icase then leaf_of_members (class_of table true flags.unicode c) else char c
+
   abbrev pub leaf_of_atom : Atom → Leaf
-  leaf_of_atom (literal flags c) = char c
+  leaf_of_atom (literal flags c) = leaf_of_literal flags c
   leaf_of_atom (dot flags) = if flags.dot_all then match_any else match_any_except_line_terminator
+  leaf_of_atom (anchor flags kind) = tree.anchor kind flags.multiline
+  leaf_of_atom (boundary flags inverted) = word_boundary inverted (flags.unicode && flags.icase)
+  -- the complement is in the set
+  leaf_of_atom (class_escape flags kind negated) =
+      bracket false (intervals_of (is_in_class table flags negated (members_of kind)))
+  leaf_of_atom (class flags inverted members) = bracket inverted (intervals_of (is_in_class table flags false members))
 
   -- the tree, in a direction, of what stands behind n opened groups
   abbrev mutual
@@ -42,7 +64,8 @@ module _ (table : Table) where
     pub trees_of_terms : Direction → ℕ → Terms → Trees
     trees_of_terms d n no_terms = no_trees
     trees_of_terms d n (more_terms x q xs) =
-        more_trees (tree_of_times q (tree_of_item d n x)) (trees_of_terms d (n + (counts_of_term x q).groups) xs)
+        more_trees (tree_of_times q n (n + (counts_of_item x).groups) (tree_of_item d n x))
+        (trees_of_terms d (n + (counts_of_term x q).groups) xs)
 
     pub tree_of_item : Direction → ℕ → Item → Tree
     tree_of_item d n (atom a) = leaf (leaf_of_atom a)

@@ -4,7 +4,7 @@ use Rattle.regress_base.specs.declared.charclasses.CharacterClassType.{Character
 use Rattle.regress_base.specs.declared.charclasses.CharacterClassType.TheVariants.{Digits, Spaces, Words}
 use Rattle.regress_base.specs.Classes.{digits, white_space, line_terminators, word_characters}
 use Rattle.regress_base.specs.Intervals.{Bounds, is_member, intervals_of}
-use Rattle.regress_syntax.specs.Source.{Source, Found, ◌>>=◌, is_at}
+use Rattle.regress_syntax.specs.Source.{Source, Found, ◌>>=◌, found_map, is_at}
 use Rattle.regress_syntax.specs.Digits.{is_decimal, is_letter, control}
 use Rattle.regress_syntax.specs.Escapes.{escape_at}
 
@@ -46,9 +46,6 @@ abbrev pub atom_members : ClassAtom → List Bounds
 atom_members (point c) = one_point c
 atom_members (class kind negated) = class_members (kind, negated)
 
-abbrev pub found_point : Found ℕ → Found ClassAtom
-found_point found = found >>= λ (c, t). Some (point c, t)
-
 -- `\c` without the flag u: a letter, or a digit or `_`, for its low five bits; else the backslash alone
 abbrev pub class_control_at : Source → Found ClassAtom
 class_control_at [] = Some (point 92, 99 ∷ [])
@@ -66,7 +63,7 @@ class_escape_by unicode c t =
           else if c == 45 && unicode then Some (point 45, t)
           else if c == 99 && not unicode then class_control_at t
           else if (c == 112 || c == 80) && unicode then None
-          else found_point (escape_at unicode (c ∷ t))
+          else found_map point (escape_at unicode (c ∷ t))
     ]
 
 abbrev pub class_escape_at : Bool → Source → Found ClassAtom

@@ -41,9 +41,9 @@ abbrev pub or_itself : Bool → ℕ → Source → Found ℕ → Found ℕ
 or_itself unicode c t None = if unicode then None else Some (c, t)
 or_itself unicode c t (Some x) = Some x
 
--- the octal digits that are read: three at most behind 0 to 3, else two
+-- the octal digits that are read: of the first three behind 0 to 3, else of the first two, those before any other
 abbrev pub octal_digits : ℕ → Source → Source
-octal_digits c t = take (if nat_le c 51 then 3 else 2) (front is_octal (c ∷ t))
+octal_digits c t = front is_octal (take (if nat_le c 51 then 3 else 2) (c ∷ t))
 
 -- the code points that stand for themselves behind a backslash: those of the grammar, and `/`
 abbrev pub is_syntax_character : ℕ → Bool
@@ -62,6 +62,10 @@ letter_escape c =
 abbrev pub begins_with_digit : Source → Bool
 begins_with_digit [] = false
 begins_with_digit (d ∷ t) = is_decimal d
+
+abbrev pub begins_with_letter : Source → Bool
+begins_with_letter [] = false
+begins_with_letter (d ∷ t) = is_letter d
 
 -- a letter behind `c`, for its code modulo 32
 abbrev pub control_at : Source → Found ℕ

@@ -1,19 +1,33 @@
 -- What a pattern matches, over the characters of a text (ECMA-262, CompileSubpattern).
-use Rattle.std.specs.Prelude.{ℕ, ◌+◌, Bool, not, ◌||◌, ◌==◌, List, Option, Some, None}
+use Rattle.std.specs.Prelude.{ℕ, ◌+◌, Bool, not, ◌&&◌, ◌||◌, ◌==◌, List, length, Option, Some, None, if◌then◌else◌}
+use Rattle.regress_base.specs.Intervals.{Bounds, is_member}
 use Rattle.regress_base.specs.declared.types.Flags.{Flags}
+use Rattle.regress_tree.specs.declared.ir.node.Quantifier.{Quantifier}
 use Rattle.regress_tree.specs.Reading.{Direction, forwards, backwards, of_characters}
-use Rattle.regress_tree.specs.Steps.{Step, distinct, stay, ◌then_◌, ◌or_◌, one_character, capture as captures}
-use Rattle.regress_tree.specs.Table.{Table}
-use Rattle.regress_tree.specs.Assertions.{is_line_terminator}
-use Rattle.regress_syntax.specs.Syntax.{Atom, literal, dot, Group, grouping, capture, Quantifier, Pattern, Terms, Item, one, either, no_terms, more_terms, atom, group, opened_by, counts_of_terms, counts_of_term}
+use Rattle.regress_tree.specs.Steps.{Step, distinct, stay, ◌then_◌, ◌or_◌, one_character, hold_at, capture as captures}
+use Rattle.regress_tree.specs.Table.{Table, stands_for, is_in_closure}
+use Rattle.regress_tree.specs.Assertions.{is_line_terminator, is_word_character, at_anchor, differ, at_boundary}
+use Rattle.regress_tree.specs.Repetition.{repeat}
+use Rattle.regress_syntax.specs.ClassRows.{members_of}
+use Rattle.regress_syntax.specs.Syntax.{Atom, literal, dot, anchor, boundary, class_escape, class, Group, grouping, capture, Pattern, Terms, Item, one, either, no_terms, more_terms, atom, group, opened_by, counts_of_item, counts_of_terms, counts_of_term}
 
--- a character matches the literal c: without the flag i, it is c
+-- a character matches the literal c: with the flag i where both have one image (ECMA-262, Canonicalize)
 abbrev pub is_literal : Table → Flags → ℕ → ℕ → Bool
-is_literal table flags c x = x == c
+is_literal table flags = stands_for table flags.icase flags.unicode
 
 -- `.` stands for the character: a line terminator only with the flag s
 abbrev pub is_any : Flags → ℕ → Bool
 is_any flags x = flags.dot_all || not (is_line_terminator x)
+
+-- the word set of `\b`, which the flags u and i together close (ECMA-262, WordCharacters)
+abbrev pub is_in_word : Table → Flags → ℕ → Bool
+is_in_word table flags = is_word_character table (flags.unicode && flags.icase)
+
+-- A class holds these members, which the flag i closes, also without the flag u (this project's profile). Inversion comes
+-- last.
+abbrev pub is_in_class : Table → Flags → (inverted : Bool) → List Bounds → ℕ → Bool
+is_in_class table flags inverted members x =
+    differ inverted (if flags.icase then is_in_closure table members x else is_member members x)
 
 -- the first part and then the others, or the other way round where matching runs backwards
 abbrev pub in_order : Direction → Step → Step → Step
@@ -30,15 +44,20 @@ abbrev pub group_steps : ℕ → Group → Step → Step
 group_steps n grouping body = body
 group_steps n (capture name) body = captures n body
 
--- an item, as often as the quantifier says
-abbrev pub times_steps : Option Quantifier → Step → Step
-times_steps None body = body
-times_steps (Some q) body = elim q [ ]
+-- An item of the groups start to end - 1, as often as the quantifier says. In a text of this length no more turns can move.
+abbrev pub times_steps : (length : ℕ) → Option Quantifier → (start end : ℕ) → Step → Step
+times_steps length None start end body = body
+times_steps length (Some q) start end body = repeat (length + 1) q start end body
 
 module _ (table : Table) (text : List ℕ) where
   abbrev pub atom_steps : Direction → Atom → Step
   atom_steps d (literal flags c) = one_character d (of_characters text) (is_literal table flags c)
   atom_steps d (dot flags) = one_character d (of_characters text) (is_any flags)
+  atom_steps d (anchor flags kind) = hold_at (at_anchor (of_characters text) kind flags.multiline)
+  atom_steps d (boundary flags inverted) = hold_at (at_boundary (of_characters text) (is_in_word table flags) inverted)
+  atom_steps d (class_escape flags kind negated) =
+      one_character d (of_characters text) (is_in_class table flags negated (members_of kind))
+  atom_steps d (class flags inverted members) = one_character d (of_characters text) (is_in_class table flags inverted members)
 
   -- the outcomes, with repeats, of what stands behind n opened groups
   abbrev mutual
@@ -49,7 +68,8 @@ module _ (table : Table) (text : List ℕ) where
     pub terms_steps : Direction → ℕ → Terms → Step
     terms_steps d n no_terms = stay
     terms_steps d n (more_terms x q xs) =
-        in_order d (times_steps q (item_steps d n x)) (terms_steps d (n + (counts_of_term x q).groups) xs)
+        in_order d (times_steps (length text) q n (n + (counts_of_item x).groups) (item_steps d n x))
+        (terms_steps d (n + (counts_of_term x q).groups) xs)
 
     pub item_steps : Direction → ℕ → Item → Step
     item_steps d n (atom a) = atom_steps d a

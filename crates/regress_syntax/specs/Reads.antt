@@ -8,3 +8,8 @@ use Rattle.regress_syntax.specs.Source.{Source, Found}
 abbrev pub Reads : {A B : Type 0} → (A → B) → Source → Result A ParseFault → Found B → Type 0
 Reads view new (Ok a) found = found ≡ Some (view a, new)
 Reads view new (Err fault) found = OnSyntax fault (found ≡ None)
+
+-- The same, where several values may stand for one that is found.
+abbrev pub ReadsAs : {A B : Type 0} → (A → B → Type 0) → Source → Result A ParseFault → Found B → Type 0
+ReadsAs {A} {B} StandsFor new (Ok a) found = (b : B) × (found ≡ Some (b, new)) × StandsFor a b
+ReadsAs StandsFor new (Err fault) found = OnSyntax fault (found ≡ None)

@@ -1,6 +1,7 @@
 -- The text of a pattern, and reading from its front.
-use Rattle.std.specs.Prelude.{ℕ, Bool, true, false, not, ◌||◌, List, [], ◌∷◌, Option, ◌==◌, codes, option_and_then}
+use Rattle.std.specs.Prelude.{ℕ, ◌≤◌, Bool, true, false, not, ◌||◌, List, [], ◌∷◌, Option, Some, ◌==◌, codes, option_and_then}
 use Rattle.std.specs.List.{list_any}
+use Rattle.regress_base.specs.Intervals.{code_point_max}
 
 -- the code points that are still to read
 abbrev pub Source : Type 0
@@ -14,6 +15,14 @@ Found A = Option (A × Source)
 infixl 10 ◌>>=◌
 abbrev pub ◌>>=◌ : {A B : Type 0} → Found A → (A × Source → Found B) → Found B
 found >>= next = option_and_then next found
+
+-- the same, of what was found
+abbrev pub found_map : {A B : Type 0} → (A → B) → Found A → Found B
+found_map f found = found >>= λ (x, t). Some (f x, t)
+
+-- a pattern is made of these, surrogates among them
+abbrev pub IsCodePoint : ℕ → Type 0
+IsCodePoint c = c ≤ code_point_max
 
 -- the code points that the rows name: `(`, `)`, `.`, `:`, `?` and `|`
 abbrev pub opening : ℕ

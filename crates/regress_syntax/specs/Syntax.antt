@@ -1,6 +1,10 @@
 -- The syntax tree of a pattern.
-use Rattle.std.specs.Prelude.{ℕ, ◌+◌, max, List, [], ◌∷◌, ◌++◌, Option, Some, None}
+use Rattle.std.specs.Prelude.{ℕ, ◌+◌, max, Bool, List, [], ◌∷◌, ◌++◌, Option, Some, None}
+use Rattle.regress_base.specs.Intervals.{Bounds}
+use Rattle.regress_base.specs.declared.charclasses.CharacterClassType.{CharacterClassType}
 use Rattle.regress_base.specs.declared.types.Flags.{Flags}
+use Rattle.regress_tree.specs.declared.ir.node.AnchorType.{AnchorType}
+use Rattle.regress_tree.specs.declared.ir.node.Quantifier.{Quantifier}
 
 -- a name, by its characters
 abbrev pub Name : Type 0
@@ -10,14 +14,17 @@ Name = List ℕ
 pub data Atom : Type 0 where
   literal : (flags : Flags) (c : ℕ) → Atom
   dot : (flags : Flags) → Atom
+  anchor : (flags : Flags) (kind : AnchorType) → Atom
+  boundary : (flags : Flags) (inverted : Bool) → Atom
+  -- a class by an escape, or the complement of one
+  class_escape : (flags : Flags) (kind : CharacterClassType) (negated : Bool) → Atom
+  -- what stands between brackets, of which some may overlap
+  class : (flags : Flags) (inverted : Bool) (members : List Bounds) → Atom
 
 -- What a parenthesis opens. A group has no number: that counts the parentheses opened before it.
 pub data Group : Type 0 where
   grouping : Group
   capture : (name : Option Name) → Group
-
--- How often an item is matched. None is read yet.
-pub data Quantifier : Type 0 where
 
 mutual
   -- one or more alternatives (ECMA-262, Disjunction)
@@ -25,7 +32,8 @@ mutual
     one : (terms : Terms) → Pattern
     either : (terms : Terms) (others : Pattern) → Pattern
 
-  -- terms in a row, each an item and perhaps the quantifier behind it (ECMA-262, Alternative and Term)
+  -- terms in a row, each an item and perhaps the quantifier behind it, which says how often (ECMA-262, Alternative and
+  -- Term)
   pub data Terms : Type 0 where
     no_terms : Terms
     more_terms : (first : Item) (times : Option Quantifier) (rest : Terms) → Terms

@@ -1,18 +1,21 @@
 -- What the values of the code stand for.
-use Rattle.std.specs.Prelude.{[], None, Option}
+use Rattle.std.specs.Prelude.{◌≡◌, Bool, List, [], None}
+use Rattle.regress_base.specs.Intervals.{Bounds, is_member, intervals_of}
 use Rattle.regress_base.specs.declared.types.Flags.{Flags}
 use Rattle.regress_tree.specs.TableOf.{setting_of}
 use Rattle.regress_syntax.specs.declared.cursor.Cursor.{Cursor}
 use Rattle.regress_syntax.specs.declared.scope.Scope.{Scope}
-use Rattle.regress_syntax.specs.declared.head as code
+use Rattle.regress_syntax.specs.declared.atom.Atom.{Atom as CodeAtom}
+use Rattle.regress_syntax.specs.declared.atom.Atom.TheVariants as atoms
+use Rattle.regress_syntax.specs.declared.class_atom.ClassAtom.{ClassAtom as CodeClassAtom}
+use Rattle.regress_syntax.specs.declared.class_atom.ClassAtom.TheVariants as class_atoms
 use Rattle.regress_syntax.specs.declared.head.Head.{Head as CodeHead}
 use Rattle.regress_syntax.specs.declared.head.Head.TheVariants as heads
-use Rattle.regress_syntax.specs.declared.head.Atom.{Atom as CodeAtom}
-use Rattle.regress_syntax.specs.declared.head.Atom.TheVariants as atoms
 use Rattle.regress_syntax.specs.declared.head.Group.{Group as CodeGroup}
 use Rattle.regress_syntax.specs.declared.head.Group.TheVariants as groups
-use Rattle.regress_syntax.specs.Source.{Source}
-use Rattle.regress_syntax.specs.Syntax.{Atom, literal, dot, Group, grouping, capture}
+use Rattle.regress_syntax.specs.ClassRows.{ClassAtom, point, class as class_of}
+use Rattle.regress_syntax.specs.Source.{Source, IsCodePoint}
+use Rattle.regress_syntax.specs.Syntax.{Atom, literal, dot, anchor, boundary, class_escape, class, Group, grouping, capture}
 use Rattle.regress_syntax.specs.Rows.{Context, Head, single, opens}
 
 -- what is still to read
@@ -23,14 +26,33 @@ source cursor = cursor.rest.now
 abbrev pub context_of : Scope → Context
 context_of scope = record { setting = setting_of scope.flags scope.tables.now; groups = 0; names = [] }
 
-abbrev pub atom_of : Flags → CodeAtom → Atom
-atom_of flags (atoms.Literal c) = literal flags c
-atom_of flags atoms.Dot = dot flags
+-- an atom of a class
+abbrev pub class_atom_of : CodeClassAtom → ClassAtom
+class_atom_of (class_atoms.Point c) = point c
+class_atom_of (class_atoms.Class kind negated) = class_of kind negated
+
+-- The set has these members: the code keeps a set as it is, not how it was written.
+abbrev pub HasMembers : List Bounds → List Bounds → Type 0
+HasMembers members set = set ≡ intervals_of (is_member members)
+
+-- a class of the code, and what it is under the flags
+abbrev pub IsClass : Flags → (inverted : Bool) → List Bounds → Atom → Type 0
+IsClass flags inverted set a = (members : List Bounds) × (a ≡ class flags inverted members) × HasMembers members set
+
+-- the atom of the code is this one under the flags
+abbrev pub IsAtom : Flags → CodeAtom → Atom → Type 0
+IsAtom flags (atoms.Literal c) a = (a ≡ literal flags c) × IsCodePoint c
+IsAtom flags atoms.Dot a = a ≡ dot flags
+IsAtom flags (atoms.Anchor kind) a = a ≡ anchor flags kind
+IsAtom flags (atoms.WordBoundary inverted) a = a ≡ boundary flags inverted
+IsAtom flags (atoms.ClassEscape kind negated) a = a ≡ class_escape flags kind negated
+IsAtom flags (atoms.Class inverted set) a = IsClass flags inverted set a
 
 abbrev pub group_of : CodeGroup → Group
 group_of groups.Grouping = grouping
 group_of groups.Capture = capture None
 
-abbrev pub head_of : Flags → CodeHead → Head
-head_of flags (heads.Atom a) = single (atom_of flags a)
-head_of flags (heads.Opens kind) = opens (group_of kind)
+-- what an item begins with in the code is this
+abbrev pub IsHead : Flags → CodeHead → Head → Type 0
+IsHead flags (heads.Atom atom) head = (a : Atom) × (head ≡ single a) × IsAtom flags atom a
+IsHead flags (heads.Opens kind) head = head ≡ opens (group_of kind)
