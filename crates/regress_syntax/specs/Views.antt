@@ -7,6 +7,7 @@ use Rattle.regress_syntax.specs.declared.cursor.Cursor.{Cursor}
 use Rattle.regress_syntax.specs.declared.scope.Scope.{Scope}
 use Rattle.regress_syntax.specs.declared.atom.Atom.{Atom as CodeAtom}
 use Rattle.regress_syntax.specs.declared.atom.Atom.TheVariants as atoms
+use Rattle.regress_syntax.specs.declared.class.Class.{Class as CodeClass}
 use Rattle.regress_syntax.specs.declared.class_atom.ClassAtom.{ClassAtom as CodeClassAtom}
 use Rattle.regress_syntax.specs.declared.class_atom.ClassAtom.TheVariants as class_atoms
 use Rattle.regress_syntax.specs.declared.head.Head.{Head as CodeHead}
@@ -31,6 +32,10 @@ abbrev pub class_atom_of : CodeClassAtom → ClassAtom
 class_atom_of (class_atoms.Point c) = point c
 class_atom_of (class_atoms.Class kind negated) = class_of kind negated
 
+abbrev pub IsClassAtomInRange : CodeClassAtom → Type 0
+IsClassAtomInRange (class_atoms.Point c) = IsCodePoint c
+IsClassAtomInRange (class_atoms.Class kind negated) = Unit {0}
+
 -- The set has these members: the code keeps a set as it is, not how it was written.
 abbrev pub HasMembers : List Bounds → List Bounds → Type 0
 HasMembers members set = set ≡ intervals_of (is_member members)
@@ -38,6 +43,10 @@ HasMembers members set = set ≡ intervals_of (is_member members)
 -- a class of the code, and what it is under the flags
 abbrev pub IsClass : Flags → (inverted : Bool) → List Bounds → Atom → Type 0
 IsClass flags inverted set a = (members : List Bounds) × (a ≡ class flags inverted members) × HasMembers members set
+
+-- what is read between brackets
+abbrev pub IsClassRead : CodeClass → Bool × List Bounds → Type 0
+IsClassRead class' (inverted, members) = (class'.inverted ≡ inverted) × HasMembers members class'.set
 
 -- the atom of the code is this one under the flags
 abbrev pub IsAtom : Flags → CodeAtom → Atom → Type 0

@@ -1,8 +1,7 @@
 //! A place in the source of a pattern.
-ghost use Rattle.std.specs.Prelude.{◌≡◌, [], ◌∷◌, drop, if◌then◌else◌, IfSome, IfNone, OnOk, false};
-ghost use Rattle.regress_syntax.specs.Fault.{RefusedOnlyIf};
-ghost use Rattle.regress_syntax.specs.Source.{is_at, ends_alternative, is_plain, closing};
-ghost use Rattle.regress_syntax.specs.Views.{source};
+ghost use Rattle.std.specs.Prelude.{◌≡◌, All};
+ghost use Rattle.std.proofs.Props.{props};
+ghost use Rattle.regress_syntax.specs.Source.{IsCodePoint, is_plain};
 
 use crate::fault::{ParseFault, UNBALANCED, syntax};
 use std::alloc::Global;
@@ -38,9 +37,15 @@ pub struct Cursor<'a> {
     pub rest: &'a [u32],
     /// Where the texts of faults find memory.
     pub alloc: Global,
+    pub ghost in_range: { All IsCodePoint rest.now } by { Prim.hlevel props },
 }
 
 impl Cursor<'_> {
+    ghost use Rattle.std.specs.Prelude.{◌≡◌, [], ◌∷◌, drop, if◌then◌else◌, IfSome, IfNone, OnOk, false};
+    ghost use Rattle.regress_syntax.specs.Fault.{RefusedOnlyIf};
+    ghost use Rattle.regress_syntax.specs.Source.{is_at, ends_alternative, closing};
+    ghost use Rattle.regress_syntax.specs.Views.{source};
+
     /// Whether `c` comes next.
     pub fn is_at(&self, c: char) -> bool
         ensures { result ≡ is_at c (source self.now) }

@@ -63,6 +63,43 @@ pub const TOO_DEEP: &str = "Regular expression is too deeply nested";
 /// More groups than `MAX_CAPTURE_GROUPS`.
 pub const TOO_MANY_GROUPS: &str = "Capture group count limit exceeded";
 
+/// More loops than `MAX_LOOPS`.
+pub const TOO_MANY_LOOPS: &str = "Loop count limit exceeded";
+
+/// A backslash at the end, outside a class.
+pub const INCOMPLETE_ESCAPE: &str = "Incomplete escape";
+
+/// A backslash at the end, in a class.
+pub const UNTERMINATED_ESCAPE: &str = "Unterminated escape";
+
+/// No escape of a character.
+pub const INVALID_ESCAPE: &str = "Invalid character escape";
+
+/// With the flag u, `\u` that gives no code point.
+pub const INVALID_UNICODE_ESCAPE: &str = "Invalid unicode escape";
+
+/// Without the flag u, a quantifier in braces where an item is due.
+pub const INVALID_BRACED_QUANTIFIER: &str = "Invalid braced quantifier";
+
+/// Another quantifier where an item is due, or with the flag u a brace or `]`.
+pub const INVALID_ATOM: &str = "Invalid atom character";
+
+/// A quantifier behind an item that takes none.
+pub const NO_QUANTIFIER: &str = "Quantifier not allowed here";
+
+/// More turns at least than at most, or with the flag u a `{` that begins no quantifier.
+pub const INVALID_QUANTIFIER: &str = "Invalid quantifier";
+
+/// No `]`.
+pub const UNBALANCED_BRACKET: &str = "Unbalanced bracket";
+
+/// A range that ends before it begins.
+pub const REVERSED_RANGE: &str =
+    "Range values reversed, start char code is greater than end char code.";
+
+/// With the flag u, a class as an end of a range.
+pub const INVALID_RANGE: &str = "Invalid character range";
+
 /// A fault of the pattern. Where its text finds no memory, that is the fault.
 pub fn syntax(alloc: Global, text: &str) -> ParseFault {
     match String::from_str(alloc, text) {

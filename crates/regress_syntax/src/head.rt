@@ -1,22 +1,15 @@
 //! What an item begins with.
-ghost use Rattle.regress_syntax.specs.Reads.{Reads};
-ghost use Rattle.std.specs.Prelude.{None};
-ghost use Rattle.regress_syntax.specs.Rows.{group_at, head_at, times_at};
-ghost use Rattle.regress_syntax.specs.Views.{source, context_of, head_of};
+ghost use Rattle.std.specs.Prelude.{◌≡◌};
+ghost use Rattle.regress_syntax.specs.Reads.{Reads, ReadsAs};
+ghost use Rattle.regress_syntax.specs.Rows.{opens, group_at, head_at, times_at};
+ghost use Rattle.regress_syntax.specs.Views.{source, context_of, group_of, IsHead};
 
-use crate::cursor::{Cursor, is_plain};
-use crate::fault::{ParseFault, UNSUPPORTED, syntax};
+use crate::atom::{Atom, read_atom};
+use crate::cursor::Cursor;
+use crate::fault::{INVALID_QUANTIFIER, NO_QUANTIFIER, ParseFault, UNSUPPORTED, syntax};
+use crate::quantifier::{is_ordered, read_quantifier};
 use crate::scope::Scope;
-use regress_base::types::Flags;
-
-/// An item that holds no pattern.
-#[derive(Drop)]
-pub enum Atom {
-    /// A character.
-    Literal(u32),
-    /// `.`.
-    Dot,
-}
+use regress_tree::ir::Quantifier;
 
 /// What a parenthesis opens.
 #[derive(Clone, Copy)]
@@ -34,46 +27,72 @@ pub enum Head {
     Opens(Group),
 }
 
+impl Head {
+    ghost use Rattle.std.specs.Prelude.{◌≡◌};
+    ghost use Rattle.regress_base.specs.declared.types.Flags.{Flags};
+    ghost use Rattle.regress_syntax.specs.Rows.{Head as Written, allows};
+    ghost use Rattle.regress_syntax.specs.Views.{IsHead};
+
+    /// Whether a quantifier may stand behind an item that begins so.
+    pub fn allows_quantifier(&self) -> bool
+        ensures { (flags : Flags) (written : Written) → IsHead flags self.now written → result ≡ allows written }
+    {
+        match self {
+            Head::Atom(Atom::Anchor(_)) => false,
+            Head::Atom(_) | Head::Opens(_) => true,
+        }
+    }
+}
+
 /// Reads what the next item begins with. The fault comes where no row applies that is served.
 #[tactic(auto, unfolding(crate::specs::Rows::head_at))]
 pub fn read_head(cursor: &mut Cursor, scope: &Scope) -> Result<Head, ParseFault>
-    ensures { Reads (head_of scope.now.flags) (source cursor.new) result (head_at (context_of scope.now) (source cursor.old)) }
+    ensures { ReadsAs (IsHead scope.now.flags) (source cursor.new) result (head_at (context_of scope.now) (source cursor.old)) }
 {
     let Some(c) = cursor.next() else {
         return Err(syntax(cursor.alloc, UNSUPPORTED));
     };
-    if c == u32::from('.') {
-        Ok(Head::Atom(Atom::Dot))
-    } else if c == u32::from('(') {
-        read_group(cursor, scope.flags)
-    } else if is_plain(c) {
-        Ok(Head::Atom(Atom::Literal(c)))
+    if c == u32::from('(') {
+        Ok(Head::Opens(read_group(cursor)?))
     } else {
-        Err(syntax(cursor.alloc, UNSUPPORTED))
+        Ok(Head::Atom(read_atom(cursor, scope, c)?))
     }
 }
 
 /// Reads what a parenthesis opens, behind it.
-fn read_group(cursor: &mut Cursor, flags: Flags) -> Result<Head, ParseFault>
-    ensures { Reads (head_of flags) (source cursor.new) result (group_at (source cursor.old)) }
+fn read_group(cursor: &mut Cursor) -> Result<Group, ParseFault>
+    ensures { Reads (λ kind. opens (group_of kind)) (source cursor.new) result (group_at (source cursor.old)) }
 {
     if !cursor.try_consume('?') {
-        return Ok(Head::Opens(Group::Capture));
+        return Ok(Group::Capture);
     }
     if cursor.try_consume(':') {
-        return Ok(Head::Opens(Group::Grouping));
+        return Ok(Group::Grouping);
     }
     Err(syntax(cursor.alloc, UNSUPPORTED))
 }
 
-/// Moves past the quantifier behind an item, if one begins there. The fault comes where one does: none
-/// is served.
-#[tactic(auto, unfolding(crate::specs::Rows::times_at))]
-pub fn read_times(cursor: &mut Cursor, _scope: &Scope) -> Result<(), ParseFault>
-    ensures { Reads (λ _. None) (source cursor.new) result (times_at (context_of _scope.now) (source cursor.old)) }
+/// Reads the quantifier behind an item, if one begins there. The fault comes where none may stand, where it asks
+/// for more turns at least than at most, and with the flag u at a `{` that begins none.
+pub fn read_times(
+    cursor: &mut Cursor,
+    scope: &Scope,
+    allowed: bool,
+) -> Result<Option<Quantifier>, ParseFault>
+    ensures { Reads (λ q. q) (source cursor.new) result (times_at (context_of scope.now) allowed (source cursor.old)) }
 {
-    if cursor.is_at('*') || cursor.is_at('+') || cursor.is_at('?') || cursor.is_at('{') {
-        return Err(syntax(cursor.alloc, UNSUPPORTED));
+    let Some((quantifier, rest)) = read_quantifier(cursor.rest) else {
+        if scope.flags.unicode && cursor.is_at('{') {
+            return Err(syntax(cursor.alloc, INVALID_QUANTIFIER));
+        }
+        return Ok(None);
+    };
+    if !allowed {
+        return Err(syntax(cursor.alloc, NO_QUANTIFIER));
     }
-    Ok(())
+    if !is_ordered(quantifier) {
+        return Err(syntax(cursor.alloc, INVALID_QUANTIFIER));
+    }
+    cursor.rest = rest;
+    Ok(Some(quantifier))
 }

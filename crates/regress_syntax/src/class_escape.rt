@@ -1,0 +1,55 @@
+//! Classes by an escape.
+ghost use Rattle.std.specs.Prelude.{◌≡◌, IfOk};
+ghost use Rattle.regress_base.specs.Intervals.{is_member, intervals_of};
+ghost use Rattle.regress_syntax.specs.ClassRows.{class_letter, members_of, class_members};
+ghost use Rattle.regress_syntax.specs.Views.{HasMembers};
+
+use regress_base::charclasses::{
+    CharacterClassType, digit_intervals, line_terminator_intervals, white_space_intervals,
+    word_intervals,
+};
+use regress_base::codepointset::{CodePointSet, Interval};
+use std::alloc::{AllocError, Global};
+
+/// The class that a letter names behind a backslash, and whether the letter is a capital, which takes the
+/// complement (ECMA-262, CharacterClassEscape).
+pub(crate) fn class_letter(c: u32) -> Option<(CharacterClassType, bool)>
+    ensures { result ≡ class_letter c }
+{
+    match c {
+        100 => Some((CharacterClassType::Digits, false)),
+        68 => Some((CharacterClassType::Digits, true)),
+        115 => Some((CharacterClassType::Spaces, false)),
+        83 => Some((CharacterClassType::Spaces, true)),
+        119 => Some((CharacterClassType::Words, false)),
+        87 => Some((CharacterClassType::Words, true)),
+        _ => None,
+    }
+}
+
+/// The members of a class by an escape.
+pub fn class_set(alloc: Global, kind: CharacterClassType) -> Result<CodePointSet, AllocError>
+    ensures { IfOk result (HasMembers (members_of kind)) }
+{
+    let mut set = CodePointSet::new(alloc);
+    match kind {
+        CharacterClassType::Digits => add_intervals(&mut set, &digit_intervals())?,
+        CharacterClassType::Spaces => {
+            add_intervals(&mut set, &white_space_intervals())?;
+            add_intervals(&mut set, &line_terminator_intervals())?;
+        }
+        CharacterClassType::Words => add_intervals(&mut set, &word_intervals())?,
+    }
+    Ok(set)
+}
+
+/// Adds the intervals one by one.
+pub(crate) fn add_intervals(
+    set: &mut CodePointSet,
+    intervals: &[Interval],
+) -> Result<(), AllocError> {
+    for interval in intervals {
+        set.add(*interval)?;
+    }
+    Ok(())
+}

@@ -1,0 +1,18 @@
+//! Escapes of one character.
+ghost use Rattle.std.specs.Prelude.{◌≡◌, option_map, All, IfSome};
+ghost use Rattle.regress_syntax.specs.Escapes.{escape_at};
+ghost use Rattle.regress_syntax.specs.Source.{IsCodePoint};
+
+use crate::digits::Read;
+
+/// What an escape stands for, behind its backslash (ECMA-262, CharacterEscape with annex B).
+pub(crate) fn read_escape<'a>(text: &'a [u32], unicode: bool) -> Read<'a, u32>
+    ensures value { option_map (λ found. (found.0, found.1.now)) result ≡ escape_at unicode text.now }
+    ensures in_range { All IsCodePoint text.now → IfSome result (λ found. IsCodePoint found.0) }
+{
+    let (c, rest) = text.split_first()?;
+    if unicode {
+        return None;
+    }
+    Some((*c, rest))
+}
