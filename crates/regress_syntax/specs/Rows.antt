@@ -57,13 +57,16 @@ abbrev pub allows : Head → Bool
 allows (single a) = atom_allows a
 allows (opens kind) = group_allows kind
 
+-- an escape that is not served yet: a reference, or with the flag u a property
+abbrev pub is_unserved : (unicode : Bool) → ℕ → Bool
+is_unserved unicode c = is_between 49 57 c || c == 107 || (unicode && (c == 112 || c == 80))
+
 module _ (ctx : Context) where
-  -- the escape of one character. References, names and, with the flag u, properties are not served yet.
+  -- the escape of one character
   abbrev pub character_at : ℕ → Source → Found Atom
   character_at c t =
-      let unicode = ctx.setting.flags.unicode in
-      if is_between 49 57 c || c == 107 || (unicode && (c == 112 || c == 80)) then None
-      else found_map (literal ctx.setting.flags) (escape_at unicode (c ∷ t))
+      if is_unserved ctx.setting.flags.unicode c then None
+      else found_map (literal ctx.setting.flags) (escape_at ctx.setting.flags.unicode (c ∷ t))
 
   -- an escape that begins with c, behind its backslash
   abbrev pub escaped_by : ℕ → Source → Found Atom

@@ -1,12 +1,20 @@
 //! Items that hold no pattern.
-ghost use Rattle.std.specs.Prelude.{◌≡◌};
+ghost use Rattle.std.specs.Prelude.{◌≡◌, ◌∷◌, drop, is_some};
+ghost use Rattle.regress_syntax.specs.Escapes.{begins_with_letter};
+ghost use Rattle.regress_syntax.specs.Quantifiers.{quantifier_at};
 ghost use Rattle.regress_syntax.specs.Reads.{ReadsAs};
-ghost use Rattle.regress_syntax.specs.Rows.{atom_by, escaped_at};
+ghost use Rattle.regress_syntax.specs.Rows.{atom_by, brace_by, escaped_at, character_at, is_unserved};
 ghost use Rattle.regress_syntax.specs.Source.{IsCodePoint};
 ghost use Rattle.regress_syntax.specs.Views.{source, context_of, IsAtom};
 
+use crate::class::read_class;
+use crate::class_escape::class_letter;
 use crate::cursor::{Cursor, is_plain};
-use crate::fault::{ParseFault, UNSUPPORTED, syntax};
+use crate::digits::is_letter;
+use crate::escape::{escape_fault, read_escape};
+use crate::fault::{
+    INCOMPLETE_ESCAPE, INVALID_ATOM, INVALID_BRACED_QUANTIFIER, ParseFault, UNSUPPORTED, syntax,
+};
 use crate::scope::Scope;
 use regress_base::charclasses::CharacterClassType;
 use regress_base::codepointset::CodePointSet;
@@ -37,17 +45,117 @@ pub enum Atom {
     },
 }
 
-/// Reads an item that holds no pattern, behind its first code point.
-pub(crate) fn read_atom(cursor: &mut Cursor, scope: &Scope, c: u32) -> Result<Atom, ParseFault>
-    requires { IsCodePoint c }
+/// Reads an item that holds no pattern, behind its first code point `c`. The fault comes where there is none.
+pub(crate) fn read_atom(
+    cursor: &mut Cursor,
+    scope: &Scope,
+    c: u32,
+    begins_quantifier: bool,
+) -> Result<Atom, ParseFault>
+    requires code_point { IsCodePoint c }
+    requires quantifier { begins_quantifier ≡ is_some (quantifier_at (c ∷ source cursor.now)) }
     ensures { ReadsAs (IsAtom scope.now.flags) (source cursor.new) result (atom_by (context_of scope.now) c (source cursor.old)) }
 {
     if c == u32::from('.') {
         Ok(Atom::Dot)
+    } else if c == u32::from('^') {
+        Ok(Atom::Anchor(AnchorType::StartOfLine))
+    } else if c == u32::from('$') {
+        Ok(Atom::Anchor(AnchorType::EndOfLine))
+    } else if c == u32::from('\\') {
+        read_escaped(cursor, scope)
+    } else if c == u32::from('[') {
+        let class = read_class(cursor, scope.flags.unicode)?;
+        Ok(Atom::Class {
+            inverted: class.inverted,
+            set: class.set,
+        })
+    } else if c == u32::from('{') || c == u32::from(']') || c == u32::from('}') {
+        read_brace(cursor, scope, c, begins_quantifier)
     } else if is_plain(c) {
         Ok(Atom::Literal(c))
     } else {
-        let _ = scope;
-        Err(syntax(cursor.alloc, UNSUPPORTED))
+        Err(syntax(cursor.alloc, INVALID_ATOM))
     }
+}
+
+/// A brace or `]` that stands for itself.
+fn read_brace(
+    cursor: &mut Cursor,
+    scope: &Scope,
+    c: u32,
+    begins_quantifier: bool,
+) -> Result<Atom, ParseFault>
+    requires code_point { IsCodePoint c }
+    requires quantifier { begins_quantifier ≡ is_some (quantifier_at (c ∷ source cursor.now)) }
+    ensures { ReadsAs (IsAtom scope.now.flags) (source cursor.new) result (brace_by (context_of scope.now) c (source cursor.old)) }
+{
+    if scope.flags.unicode {
+        Err(syntax(cursor.alloc, INVALID_ATOM))
+    } else if begins_quantifier {
+        Err(syntax(cursor.alloc, INVALID_BRACED_QUANTIFIER))
+    } else {
+        Ok(Atom::Literal(c))
+    }
+}
+
+/// Reads an escape, behind its backslash.
+fn read_escaped(cursor: &mut Cursor, scope: &Scope) -> Result<Atom, ParseFault>
+    ensures { ReadsAs (IsAtom scope.now.flags) (source cursor.new) result (escaped_at (context_of scope.now) (source cursor.old)) }
+{
+    let Some(c) = cursor.rest.first().copied() else {
+        return Err(syntax(cursor.alloc, INCOMPLETE_ESCAPE));
+    };
+    let rest = &cursor.rest[1..];
+    if let Some((kind, negated)) = class_letter(c) {
+        cursor.rest = rest;
+        Ok(Atom::ClassEscape { kind, negated })
+    } else if c == u32::from('b') || c == u32::from('B') {
+        cursor.rest = rest;
+        Ok(Atom::WordBoundary {
+            inverted: c == u32::from('B'),
+        })
+    } else if c == u32::from('c') && !scope.flags.unicode && !begins_with_letter(rest) {
+        // The `c` is an item of its own.
+        Ok(Atom::Literal(u32::from('\\')))
+    } else {
+        read_character(cursor, scope, c)
+    }
+}
+
+/// Whether a letter comes next.
+fn begins_with_letter(text: &[u32]) -> bool
+    ensures { result ≡ begins_with_letter text.now }
+{
+    match text {
+        [c, ..] => is_letter(*c),
+        [] => false,
+    }
+}
+
+/// Reads the escape of one character, which begins with `c`.
+fn read_character(cursor: &mut Cursor, scope: &Scope, c: u32) -> Result<Atom, ParseFault>
+    requires { source cursor.now ≡ c ∷ drop 1 (source cursor.now) }
+    ensures { ReadsAs (IsAtom scope.now.flags) (source cursor.new) result
+        (character_at (context_of scope.now) c (drop 1 (source cursor.old))) }
+{
+    if is_unserved(c, scope.flags.unicode) {
+        return Err(syntax(cursor.alloc, UNSUPPORTED));
+    }
+    match read_escape(cursor.rest, scope.flags.unicode) {
+        Some((found, rest)) => {
+            cursor.rest = rest;
+            Ok(Atom::Literal(found))
+        }
+        None => Err(syntax(cursor.alloc, escape_fault(cursor.rest))),
+    }
+}
+
+/// Whether the escape is a reference, or with the flag u a property.
+fn is_unserved(c: u32, unicode: bool) -> bool
+    ensures { result ≡ is_unserved unicode c }
+{
+    (0x31 <= c && c <= 0x39)
+        || c == u32::from('k')
+        || (unicode && (c == u32::from('p') || c == u32::from('P')))
 }

@@ -4,6 +4,7 @@ ghost use Rattle.regress_syntax.specs.Escapes.{escape_at};
 ghost use Rattle.regress_syntax.specs.Source.{IsCodePoint};
 
 use crate::digits::Read;
+use crate::fault::{INVALID_ESCAPE, INVALID_UNICODE_ESCAPE};
 
 /// What an escape stands for, behind its backslash (ECMA-262, CharacterEscape with annex B).
 pub(crate) fn read_escape<'a>(text: &'a [u32], unicode: bool) -> Read<'a, u32>
@@ -15,4 +16,12 @@ pub(crate) fn read_escape<'a>(text: &'a [u32], unicode: bool) -> Read<'a, u32>
         return None;
     }
     Some((*c, rest))
+}
+
+/// What is told where no escape can be read.
+pub(crate) fn escape_fault(text: &[u32]) -> &'static str {
+    match text {
+        [0x75, ..] => INVALID_UNICODE_ESCAPE,
+        _ => INVALID_ESCAPE,
+    }
 }

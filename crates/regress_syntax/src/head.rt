@@ -6,7 +6,9 @@ ghost use Rattle.regress_syntax.specs.Views.{source, context_of, group_of, IsHea
 
 use crate::atom::{Atom, read_atom};
 use crate::cursor::Cursor;
-use crate::fault::{INVALID_QUANTIFIER, NO_QUANTIFIER, ParseFault, UNSUPPORTED, syntax};
+use crate::fault::{
+    INVALID_ATOM, INVALID_QUANTIFIER, NO_QUANTIFIER, ParseFault, UNSUPPORTED, syntax,
+};
 use crate::quantifier::{is_ordered, read_quantifier};
 use crate::scope::Scope;
 use regress_tree::ir::Quantifier;
@@ -49,13 +51,14 @@ impl Head {
 pub fn read_head(cursor: &mut Cursor, scope: &Scope) -> Result<Head, ParseFault>
     ensures { ReadsAs (IsHead scope.now.flags) (source cursor.new) result (head_at (context_of scope.now) (source cursor.old)) }
 {
+    let begins_quantifier = read_quantifier(cursor.rest).is_some();
     let Some(c) = cursor.next() else {
-        return Err(syntax(cursor.alloc, UNSUPPORTED));
+        return Err(syntax(cursor.alloc, INVALID_ATOM));
     };
     if c == u32::from('(') {
         Ok(Head::Opens(read_group(cursor)?))
     } else {
-        Ok(Head::Atom(read_atom(cursor, scope, c)?))
+        Ok(Head::Atom(read_atom(cursor, scope, c, begins_quantifier)?))
     }
 }
 
@@ -74,6 +77,7 @@ fn read_group(cursor: &mut Cursor) -> Result<Group, ParseFault>
 
 /// Reads the quantifier behind an item, if one begins there. The fault comes where none may stand, where it asks
 /// for more turns at least than at most, and with the flag u at a `{` that begins none.
+#[tactic(auto, unfolding(crate::specs::Rows::times_at))]
 pub fn read_times(
     cursor: &mut Cursor,
     scope: &Scope,
