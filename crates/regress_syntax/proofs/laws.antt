@@ -1,3 +1,5 @@
 -- Laws of this crate's definitions, which the crates above may cite.
 pub mod Sources
 pub mod Behind
+pub mod Pieces
+pub mod Rows

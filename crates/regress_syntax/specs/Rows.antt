@@ -61,6 +61,10 @@ allows (opens kind) = group_allows kind
 abbrev pub is_unserved : (unicode : Bool) → ℕ → Bool
 is_unserved unicode c = is_between 49 57 c || c == 107 || (unicode && (c == 112 || c == 80))
 
+-- without the flag u, before `c` and no letter, the backslash stands alone, and the `c` is read next
+abbrev pub is_lone_backslash : (unicode : Bool) → ℕ → Source → Bool
+is_lone_backslash unicode c t = c == 99 && not unicode && not (begins_with_letter t)
+
 module _ (ctx : Context) where
   -- the escape of one character
   abbrev pub character_at : ℕ → Source → Found Atom
@@ -76,9 +80,7 @@ module _ (ctx : Context) where
         | None ↦
             if c == 98 then Some (boundary ctx.setting.flags false, t)
             else if c == 66 then Some (boundary ctx.setting.flags true, t)
-            -- without the flag u, and before no letter, the backslash alone
-            else if c == 99 && not ctx.setting.flags.unicode && not (begins_with_letter t)
-            then Some (literal ctx.setting.flags 92, 99 ∷ t)
+            else if is_lone_backslash ctx.setting.flags.unicode c t then Some (literal ctx.setting.flags 92, 99 ∷ t)
             else character_at c t
       ]
 

@@ -3,7 +3,7 @@ ghost use Rattle.std.specs.Prelude.{◌≡◌, ◌∷◌, drop, is_some};
 ghost use Rattle.regress_syntax.specs.Escapes.{begins_with_letter};
 ghost use Rattle.regress_syntax.specs.Quantifiers.{quantifier_at};
 ghost use Rattle.regress_syntax.specs.Reads.{ReadsAs};
-ghost use Rattle.regress_syntax.specs.Rows.{atom_by, brace_by, escaped_at, character_at, is_unserved};
+ghost use Rattle.regress_syntax.specs.Rows.{atom_by, brace_by, is_lone_backslash, escaped_at, character_at, is_unserved};
 ghost use Rattle.regress_syntax.specs.Source.{IsCodePoint};
 ghost use Rattle.regress_syntax.specs.Views.{source, context_of, IsAtom};
 
@@ -110,17 +110,25 @@ fn read_escaped(cursor: &mut Cursor, scope: &Scope) -> Result<Atom, ParseFault>
     if let Some((kind, negated)) = class_letter(c) {
         cursor.rest = rest;
         Ok(Atom::ClassEscape { kind, negated })
-    } else if c == u32::from('b') || c == u32::from('B') {
+    } else if c == u32::from('b') {
         cursor.rest = rest;
-        Ok(Atom::WordBoundary {
-            inverted: c == u32::from('B'),
-        })
-    } else if c == u32::from('c') && !scope.flags.unicode && !begins_with_letter(rest) {
+        Ok(Atom::WordBoundary { inverted: false })
+    } else if c == u32::from('B') {
+        cursor.rest = rest;
+        Ok(Atom::WordBoundary { inverted: true })
+    } else if is_lone_backslash(c, rest, scope.flags.unicode) {
         // The `c` is an item of its own.
         Ok(Atom::Literal(u32::from('\\')))
     } else {
         read_character(cursor, scope, c)
     }
+}
+
+/// Whether the escape is a `c` that no letter follows, without the flag u: the backslash stands alone.
+fn is_lone_backslash(c: u32, rest: &[u32], unicode: bool) -> bool
+    ensures { result ≡ is_lone_backslash unicode c rest.now }
+{
+    c == u32::from('c') && !unicode && !begins_with_letter(rest)
 }
 
 /// Whether a letter comes next.

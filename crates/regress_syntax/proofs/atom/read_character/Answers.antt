@@ -1,12 +1,11 @@
-use Rattle.std.proofs.Common.{rules, ◌≡◌, ◌∷◌, drop, is_some, ℕ, ◌+◌, ◌-◌, ◌*◌, ◌<◌, ◌≤◌, length, ◌/◌, ◌%◌, Bool, true, false, nat_eq, nat_lt, List, [], ◌++◌, slice_index_or, slice_set, bit_and, bit_or, Fits, w8, w32, w64, Bor, MutBor}
-use Rattle.regress_syntax.specs.Escapes.{begins_with_letter}
-use Rattle.regress_syntax.specs.Quantifiers.{quantifier_at}
-use Rattle.regress_syntax.specs.Reads.{ReadsAs}
-use Rattle.regress_syntax.specs.Rows.{atom_by, brace_by, escaped_at, character_at, is_unserved}
-use Rattle.regress_syntax.specs.Source.{IsCodePoint}
-use Rattle.regress_syntax.specs.Views.{source, context_of, IsAtom}
+use Rattle.std.proofs.Common.{sym}
+use Rattle.regress_syntax.proofs.laws.Behind.{behind_all, escape_at-ends}
 use Rattle.regress_syntax.proofs.atom.read_character.Goals as goal
 
--- src/atom.rt:147:13
 pub invariant_of-cursor : goal.invariant_of-cursor
-invariant_of-cursor c = ?
+invariant_of-cursor c = record {
+  in_range = behind_all _ _
+      ((escape_at-ends c.args.scope.now.flags.unicode c.args.cursor.now.rest.now).each
+      (c.in-Some.found, c.in-Some.rest.now) (sym c.in-Some.ensures.value))
+      c.args.cursor.now.in_range;
+}

@@ -1,0 +1,10 @@
+use Rattle.std.proofs.Common.{sym}
+use Rattle.regress_syntax.proofs.laws.Behind.{behind_all, quantifier_at-ends}
+use Rattle.regress_syntax.proofs.head.read_times.Goals as goal
+
+pub invariant_of-cursor : goal.invariant_of-cursor
+invariant_of-cursor c = record {
+  in_range = behind_all _ _
+      ((quantifier_at-ends c.args.cursor.now.rest.now).each (c.in-Some.quantifier, c.in-Some.rest.now) (sym c.in-Some.ensures))
+      c.args.cursor.now.in_range;
+}

@@ -1,0 +1,144 @@
+-- What a row reads ends behind the front of the source.
+use Rattle.std.proofs.Common.{◌≡◌, ℕ, ◌<◌, ◌≤◌, Bool, true, false, not, cond, ◌&&◌, ◌||◌, ◌==◌, ⊎_elim, [], ◌∷◌, length, drop, Option, Some, None, is_some, refl, sym, ap, ◌∙◌, subst, arith, eqb-true}
+use Rattle.std.proofs.lemmas.Bool.{or_cases, and_parts}
+use Rattle.std.proofs.lemmas.Option.{none-some, same_Some, cond_some}
+use Rattle.regress_base.specs.declared.charclasses.CharacterClassType.{CharacterClassType}
+use Rattle.regress_tree.specs.declared.ir.node.Quantifier.{Quantifier}
+use Rattle.regress_syntax.specs.Source.{Source, Found, found_map, opening, closing, full_stop, colon, question_mark, bar, is_at, is_plain, ends_alternative}
+use Rattle.regress_syntax.specs.Syntax.{Atom, literal, boundary, class_escape}
+use Rattle.regress_syntax.specs.Escapes.{begins_with_letter, escape_at}
+use Rattle.regress_syntax.specs.Quantifiers.{quantifier_at, is_ordered}
+use Rattle.regress_syntax.specs.ClassRows.{class_letter, class_at}
+use Rattle.regress_syntax.specs.Rows.{Context, Head, single, opens, group_at, is_unserved, is_lone_backslash, character_at, escaped_by, escaped_at, brace_by, atom_by, head_by, head_at, no_quantifier_at, this_quantifier, times_at}
+use Rattle.regress_syntax.proofs.laws.Behind.{IsBehind, behind_same, behind_more, behind_drop, behind_shorter, Ends, ends_none, ends_some, ends_more, ends_map, ends_cond, escape_at-ends, quantifier_at-ends}
+use Rattle.regress_syntax.proofs.laws.Pieces.{class_at-ends}
+use Rattle.regress_syntax.proofs.laws.Sources.{Shortens, chosen}
+
+-- what is found leaves the source from its first code point on, or from its second
+this-ends : {A : Type 0} (x : A) (t : Source) → Ends (Some (x, t)) t
+this-ends x t = ends_some (x, t) t (behind_same t)
+
+next-ends : {A : Type 0} (x : A) (c : ℕ) (t : Source) → Ends (Some (x, t)) (c ∷ t)
+next-ends x c t = ends_some (x, t) (c ∷ t) (behind_drop 1 (c ∷ t))
+
+group_at-ends : (t : Source) → Ends (group_at t) t
+group_at-ends t =
+    ends_cond (is_at question_mark t) _ _ t
+    (ends_cond (is_at colon (drop 1 t)) _ _ t (ends_some _ t (behind_drop 2 t)) (ends_none t))
+    (this-ends _ t)
+
+module _ (ctx : Context) where
+  character_at-ends : (c : ℕ) (t : Source) → Ends (character_at ctx c t) (c ∷ t)
+  character_at-ends c t =
+      ends_cond (is_unserved ctx.setting.flags.unicode c) _ _ (c ∷ t) (ends_none (c ∷ t))
+      (ends_map _ _ (c ∷ t) (escape_at-ends ctx.setting.flags.unicode (c ∷ t)))
+
+  -- the backslash alone leaves the `c`
+  backslash-ends : (unicode : Bool) (c : ℕ) (t : Source) (x : Atom) (other : Found Atom) → Ends other (c ∷ t) →
+      Ends (cond (is_lone_backslash unicode c t) (Some (x, 99 ∷ t)) other) (c ∷ t)
+  backslash-ends unicode c t x other h = by (c == 99) refl
+    where
+      by : (b : Bool) → (c == 99) ≡ b → Ends (cond (b && not unicode && not (begins_with_letter t)) (Some (x, 99 ∷ t)) other) (c ∷ t)
+      by true e =
+          ends_cond (not unicode && not (begins_with_letter t)) _ _ (c ∷ t)
+          (subst (λ d. Ends (Some (x, 99 ∷ t)) (d ∷ t)) (sym (eqb-true c 99 e)) (this-ends x (99 ∷ t))) h
+      by false e = h
+
+  escaped_by-ends : (c : ℕ) (t : Source) → Ends (escaped_by ctx c t) (c ∷ t)
+  escaped_by-ends c t = by (class_letter c)
+    where
+      by : (letter : Option (CharacterClassType × Bool)) →
+          Ends (elim letter as (λ _. Found Atom) [
+            | Some named ↦ Some (class_escape ctx.setting.flags named.0 named.1, t)
+            | None ↦
+                cond (c == 98) (Some (boundary ctx.setting.flags false, t))
+                (cond (c == 66) (Some (boundary ctx.setting.flags true, t))
+                (cond (is_lone_backslash ctx.setting.flags.unicode c t) (Some (literal ctx.setting.flags 92, 99 ∷ t))
+                (character_at ctx c t)))
+          ]) (c ∷ t)
+      by (Some named) = next-ends _ c t
+      by None =
+          ends_cond (c == 98) _ _ (c ∷ t) (next-ends _ c t)
+          (ends_cond (c == 66) _ _ (c ∷ t) (next-ends _ c t)
+          (backslash-ends ctx.setting.flags.unicode c t _ _ (character_at-ends c t)))
+
+  escaped_at-ends : (t : Source) → Ends (escaped_at ctx t) t
+  escaped_at-ends [] = ends_none []
+  escaped_at-ends (c ∷ t) = escaped_by-ends c t
+
+  brace_by-ends : (c : ℕ) (t : Source) → Ends (brace_by ctx c t) t
+  brace_by-ends c t =
+      ends_cond (ctx.setting.flags.unicode || is_some (quantifier_at (c ∷ t))) _ _ t (ends_none t) (this-ends _ t)
+
+  atom_by-ends : (c : ℕ) (t : Source) → Ends (atom_by ctx c t) t
+  atom_by-ends c t =
+      ends_cond (c == full_stop) _ _ t (this-ends _ t)
+      (ends_cond (c == 94) _ _ t (this-ends _ t)
+      (ends_cond (c == 36) _ _ t (this-ends _ t)
+      (ends_cond (c == 92) _ _ t (escaped_at-ends t)
+      (ends_cond (c == 91) _ _ t (ends_map _ _ t (class_at-ends ctx.setting.flags.unicode t))
+      (ends_cond (c == 123 || c == 93 || c == 125) _ _ t (brace_by-ends c t)
+      (ends_cond (is_plain c) _ _ t (this-ends _ t) (ends_none t)))))))
+
+  head_by-ends : (c : ℕ) (t : Source) → Ends (head_by ctx c t) t
+  head_by-ends c t = ends_cond (c == opening) _ _ t (group_at-ends t) (ends_map single _ t (atom_by-ends c t))
+
+  pub head_at-ends : (t : Source) → Ends (head_at ctx t) t
+  unfolding head_at
+  head_at-ends [] = ends_none []
+  head_at-ends (c ∷ t) = ends_more _ c t (head_by-ends c t)
+
+  -- an item takes a code point at least
+  pub head_at-shortens : (t : Source) (y : Head × Source) → head_at ctx t ≡ Some y → length y.1 < length t
+  unfolding head_at
+  head_at-shortens [] y e = absurd (none-some y e)
+  head_at-shortens (c ∷ t) y e = omega (arith, behind_shorter t y.1 ((head_by-ends c t).each y e))
+
+  no_quantifier_at-ends : (t : Source) → Ends (no_quantifier_at ctx t) t
+  no_quantifier_at-ends t = ends_cond (ctx.setting.flags.unicode && is_at 123 t) _ _ t (ends_none t) (this-ends None t)
+
+  pub times_at-ends : (allowed : Bool) (t : Source) → Ends (times_at ctx allowed t) t
+  unfolding times_at
+  times_at-ends allowed t = by (quantifier_at t) (quantifier_at-ends t)
+    where
+      by : (found : Found Quantifier) → Ends found t →
+          Ends (elim found as (λ _. Found (Option Quantifier)) [
+            | None ↦ no_quantifier_at ctx t
+            | Some x ↦ this_quantifier ctx allowed x
+          ]) t
+      by None h = no_quantifier_at-ends t
+      by (Some x) h = ends_cond (allowed && is_ordered x.0) _ _ t (ends_some _ t (h.each x refl)) (ends_none t)
+
+  pub times_at-shortens : (allowed : Bool) → Shortens (times_at ctx allowed)
+  times_at-shortens allowed t y e = behind_shorter t y.1 ((times_at-ends allowed t).each y e)
+
+  -- a quantifier that is read may stand there, and is ordered
+  pub times_at-ordered : (allowed : Bool) (t : Source) (q : Quantifier) (rest : Source) → times_at ctx allowed t ≡ Some (Some q, rest) →
+      (allowed ≡ true) × (is_ordered q ≡ true)
+  unfolding times_at
+  times_at-ordered allowed t q rest e = by (quantifier_at t) e
+    where
+      by : (found : Found Quantifier) →
+          elim found as (λ _. Found (Option Quantifier)) [
+            | None ↦ no_quantifier_at ctx t
+            | Some x ↦ this_quantifier ctx allowed x
+          ] ≡ Some (Some q, rest) → (allowed ≡ true) × (is_ordered q ≡ true)
+      by None h =
+          ⊎_elim (λ (brace : _ × (None ≡ Some (Some q, rest))). absurd (none-some (Some q, rest) brace.1))
+          (λ (none : _ × (Some (None, t) ≡ Some (Some q, rest))).
+          absurd (none-some q (ap (λ (z : Option Quantifier × Source). z.0) (same_Some (None, t) (Some q, rest) none.1))))
+          (chosen (ctx.setting.flags.unicode && is_at 123 t) _ _ _ h)
+      by (Some x) h =
+          let found = cond_some (allowed && is_ordered x.0) (Some x.0, x.1) (Some q, rest) h in
+          let both = and_parts allowed (is_ordered x.0) found.0 in
+          (both.0, subst (λ r. is_ordered r ≡ true) (same_Some x.0 q (ap (λ (z : Option Quantifier × Source). z.0) found.1)) both.1)
+
+  -- no item begins where the alternative ends
+  pub no_head_at_end : (t : Source) → ends_alternative t ≡ true → head_at ctx t ≡ None
+  unfolding head_at
+  no_head_at_end [] e = refl
+  no_head_at_end (c ∷ t) e =
+      ⊎_elim
+      (λ (h : c == closing ≡ true). subst (λ d. head_by ctx d t ≡ None) (sym (eqb-true c closing h)) refl)
+      (λ (h : c == bar ≡ true). subst (λ d. head_by ctx d t ≡ None) (sym (eqb-true c bar h)) refl)
+      (or_cases (c == closing) (c == bar) e)
