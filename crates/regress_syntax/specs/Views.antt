@@ -1,6 +1,6 @@
 -- What the values of the code stand for.
-use Rattle.std.specs.Prelude.{◌≡◌, Bool, List, [], None}
-use Rattle.regress_base.specs.Intervals.{Bounds, is_member, intervals_of}
+use Rattle.std.specs.Prelude.{◌≡◌, ℕ, Bool, List, [], None}
+use Rattle.regress_base.specs.Intervals.{Bounds, is_member, IsCanonical}
 use Rattle.regress_base.specs.declared.types.Flags.{Flags}
 use Rattle.regress_tree.specs.TableOf.{setting_of}
 use Rattle.regress_syntax.specs.declared.cursor.Cursor.{Cursor}
@@ -36,9 +36,10 @@ abbrev pub IsClassAtomInRange : CodeClassAtom → Type 0
 IsClassAtomInRange (class_atoms.Point c) = IsCodePoint c
 IsClassAtomInRange (class_atoms.Class kind negated) = Unit {0}
 
--- The set has these members: the code keeps a set as it is, not how it was written.
-abbrev pub HasMembers : List Bounds → List Bounds → Type 0
-HasMembers members set = set ≡ intervals_of (is_member members)
+-- The set has these members: the code keeps a set by its canonical intervals, not as it was written.
+pub record HasMembers (members set : List Bounds) : Type 0 where
+  pub canonical : IsCanonical set
+  pub each : (c : ℕ) → is_member set c ≡ is_member members c
 
 -- a class of the code, and what it is under the flags
 abbrev pub IsClass : Flags → (inverted : Bool) → List Bounds → Atom → Type 0
@@ -61,7 +62,15 @@ abbrev pub group_of : CodeGroup → Group
 group_of groups.Grouping = grouping
 group_of groups.Capture = capture None
 
+-- the atom of the code stands for one
+abbrev pub IsSomeAtom : Flags → CodeAtom → Type 0
+IsSomeAtom flags atom = (a : Atom) × IsAtom flags atom a
+
 -- what an item begins with in the code is this
 abbrev pub IsHead : Flags → CodeHead → Head → Type 0
 IsHead flags (heads.Atom atom) head = (a : Atom) × (head ≡ single a) × IsAtom flags atom a
 IsHead flags (heads.Opens kind) head = head ≡ opens (group_of kind)
+
+-- what an item begins with in the code stands for something
+abbrev pub IsSomeHead : Flags → CodeHead → Type 0
+IsSomeHead flags head = (written : Head) × IsHead flags head written

@@ -337,7 +337,7 @@ closed_from rows set folded closed m c over member same =
       | inr other ↦ over.sources c ∙ rw (rows_backward_from rows folded c over.good other there) (or-true (folded c))
     ]
 
-same_truth : (a b : Bool) → (a ≡ true → b ≡ true) → (b ≡ true → a ≡ true) → a ≡ b
+pub same_truth : (a b : Bool) → (a ≡ true → b ≡ true) → (b ≡ true → a ≡ true) → a ≡ b
 same_truth true b there back = sym (there refl)
 same_truth false true there back = back refl
 same_truth false false there back = refl
