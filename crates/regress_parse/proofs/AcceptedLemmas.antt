@@ -1,10 +1,10 @@
 -- What the reading function finds in a whole source is what the source stands for.
-use Rattle.std.proofs.Common.{◌≡◌, true, [], ◌∷◌, Some, refl, sym, ap, ◌∙◌, arith}
+use Rattle.std.proofs.Common.{◌≡◌, Bool, true, [], ◌∷◌, Some, refl, sym, ap, ◌∙◌, arith}
 use Rattle.std.proofs.lemmas.Option.{same_Some}
 use Rattle.regress_tree.specs.Matching.{Setting}
 use Rattle.regress_syntax.specs.Source.{Source}
 use Rattle.regress_syntax.specs.Syntax.{Group, grouping, capture, Pattern, Terms, Item, one, either, no_terms, more_terms, atom, group, nothing_counted}
-use Rattle.regress_syntax.specs.Rows.{Context, inside, head_at, times_at}
+use Rattle.regress_syntax.specs.Rows.{Context, inside, head_of_item, allows, head_at, times_at}
 use Rattle.regress_parse.specs.Grammar.{IsPattern, AreTerms, IsItem}
 use Rattle.regress_parse.specs.Reader.{pattern_at}
 use Rattle.regress_parse.specs.Parsing.{context, Fits, pattern_part}
@@ -21,9 +21,9 @@ unfolding head_at with_setting
 head_at-same a b same [] = refl
 head_at-same a b same (c ∷ t) = ap (λ setting. head_at (with_setting b setting) (c ∷ t)) same
 
-times_at-same : (a b : Context) (t : Source) → times_at a t ≡ times_at b t
-unfolding times_at
-times_at-same a b t = refl
+times_at-same : (a b : Context) → a.setting ≡ b.setting → (allowed : Bool) (t : Source) → times_at a allowed t ≡ times_at b allowed t
+unfolding times_at with_setting
+times_at-same a b same allowed t = ap (λ setting. times_at (with_setting b setting) allowed t) same
 
 inside-same : (kind : Group) (a b : Context) → a.setting ≡ b.setting → (inside kind a).setting ≡ (inside kind b).setting
 inside-same grouping a b same = same
@@ -42,7 +42,7 @@ mutual
     h.0,
     h.1,
     item_in_any_context a b same x t h.0 h.2,
-    times_at-same b a h.0 ∙ h.3,
+    times_at-same b a (sym same) (allows (head_of_item x)) h.0 ∙ h.3,
     terms_in_any_context a b same xs h.1 rest h.4,
   )
 

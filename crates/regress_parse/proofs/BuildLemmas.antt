@@ -1,9 +1,17 @@
 -- Lists of nodes as trees.
-use Rattle.std.proofs.Common.{◌≡◌, ◌<◌, List, [], ◌∷◌, ◌++◌, length, map, reverse, refl, ap, ◌∙◌, arith}
+use Rattle.std.proofs.Common.{◌≡◌, ℕ, ◌<◌, Bool, true, false, cond, not, List, [], ◌∷◌, ◌++◌, length, map, reverse, Result, Ok, Err, refl, sym, ap, ◌∙◌, arith}
+use Rattle.std.specs.Result.{IfOk}
 use Rattle.std.proofs.lemmas.Grind.{reverse_onto}
+use Rattle.regress_base.specs.declared.types.Flags.{Flags}
+use Rattle.regress_base.specs.Intervals.{Bounds, is_member, IsCanonical, IsComplement, intervals_of}
+use Rattle.regress_base.proofs.laws.Sets.{canonical_is, intervals_of-member}
 use Rattle.regress_tree.specs.declared.ir.node.Node.{Node}
 use Rattle.regress_tree.specs.Reading.{Direction}
+use Rattle.regress_tree.specs.Table.{Table, is_in_closure}
+use Rattle.regress_tree.proofs.laws.Closures.{closure_same}
 use Rattle.regress_tree.specs.Tree.{Tree, tree, trees, alt, cat, row_append, row_reverse, no_trees, more_trees}
+use Rattle.regress_syntax.specs.Meaning.{is_in_class}
+use Rattle.regress_syntax.specs.Views.{HasMembers}
 use Rattle.regress_parse.specs.TreeOf.{turned, joined}
 use Rattle.regress_parse.specs.Parsing.{alternatives}
 
@@ -29,3 +37,33 @@ trees-reverse (n ∷ nodes) =
     ap trees (reverse_onto nodes n [])
     ∙ trees-push (reverse nodes) n
     ∙ ap (λ r. row_append r (more_trees (tree n) no_trees)) (trees-reverse nodes)
+
+-- ---- sets of classes
+
+-- what follows for each value from two facts follows for an answer
+pub ok_from_both : {X E : Type 0} (r : Result X E) (P Q R : X → Type 0) → ((x : X) → P x → Q x → R x) → IfOk r P → IfOk r Q → IfOk r R
+ok_from_both (Ok x) P Q R h p q = h x p q
+ok_from_both (Err e) P Q R h p q = tt
+
+-- the closure of a set is that of the members that it was written with
+pub closed_is : (table : Table) (flags : Flags) (members set closed : List Bounds) → flags.icase ≡ true →
+    ((c : ℕ) → is_member closed c ≡ is_in_closure table set c) → IsCanonical closed → HasMembers members set →
+    closed ≡ intervals_of (is_in_class table flags false members)
+closed_is table flags members set closed icase closes canonical has =
+    canonical_is closed _ canonical (λ c in_range.
+    closes c
+    ∙ closure_same table set members has.each c
+    ∙ ap (λ b. cond b (is_in_closure table members c) (is_member members c)) (sym icase))
+
+-- without the flag i it stays
+pub unclosed_is : (table : Table) (flags : Flags) (members set : List Bounds) → flags.icase ≡ false → HasMembers members set →
+    set ≡ intervals_of (is_in_class table flags false members)
+unclosed_is table flags members set icase has =
+    canonical_is set _ has.canonical (λ c in_range.
+    has.each c ∙ ap (λ b. cond b (is_in_closure table members c) (is_member members c)) (sym icase))
+
+pub complement_is : (set other : List Bounds) (test : ℕ → Bool) → IsComplement set other → IsCanonical other → set ≡ intervals_of test →
+    other ≡ intervals_of (λ c. not (test c))
+complement_is set other test complement canonical same =
+    canonical_is other _ canonical (λ c in_range.
+    complement c in_range ∙ ap (λ ivs. not (is_member ivs c)) same ∙ ap not (intervals_of-member test c in_range))

@@ -1,9 +1,10 @@
 -- The reading function: it needs no more calls than the source allows, and its equations.
 use Rattle.std.proofs.Common.{◌≡◌, ℕ, zero, suc, ◌+◌, ◌*◌, ◌<◌, ◌≤◌, ⊎_elim, true, false, cond, length, drop, Option, Some, None, refl, sym, ap, ◌∙◌, arith, length-drop}
 use Rattle.std.proofs.lemmas.Option.{none-some, same_Some, cond_some}
+use Rattle.regress_tree.specs.declared.ir.node.Quantifier.{Quantifier}
 use Rattle.regress_syntax.specs.Source.{Source, Found, ◌>>=◌, closing, bar, is_at, ends_alternative}
-use Rattle.regress_syntax.specs.Syntax.{Group, Quantifier, Pattern, Terms, Item, one, either, no_terms, more_terms, atom}
-use Rattle.regress_syntax.specs.Rows.{Context, inside, Head, single, opens, head_at, times_at}
+use Rattle.regress_syntax.specs.Syntax.{Group, Pattern, Terms, Item, one, either, no_terms, more_terms, atom}
+use Rattle.regress_syntax.specs.Rows.{Context, inside, Head, single, opens, head_of_item, allows, head_at, times_at}
 use Rattle.regress_syntax.proofs.laws.Sources.{found_then, then_same, chosen, cond_same, at_front, Shortens}
 use Rattle.regress_syntax.proofs.laws.Rows.{head_at-shortens, times_at-shortens}
 use Rattle.regress_parse.specs.Reader.{Term, closed, item_behind, item_by, quantified, term_by, read_terms, read_pattern, enough, pattern_at, terms_at, item_at, term_at}
@@ -39,8 +40,9 @@ item_by-shortens inner h ctx t y e =
 
 quantified-shortens : (ctx : Context) (x : Item × Source) (y : Term × Source) → quantified ctx x ≡ Some y → length y.1 ≤ length x.1
 quantified-shortens ctx x y e =
-    let found = found_then (times_at ctx x.1) (λ (q : Option Quantifier × Source). Some ((x.0, q.0), q.1)) y e in
-    omega (arith, times_at-shortens ctx x.1 found.0 found.1, ap (λ (z : Term × Source). length z.1) (same_Some _ y found.2))
+    let allowed = allows (head_of_item x.0) in
+    let found = found_then (times_at ctx allowed x.1) (λ (q : Option Quantifier × Source). Some ((x.0, q.0), q.1)) y e in
+    omega (arith, times_at-shortens ctx allowed x.1 found.0 found.1, ap (λ (z : Term × Source). length z.1) (same_Some _ y found.2))
 
 term_by-shortens : (inner : Inner) → InnerShortens inner → (ctx : Context) (t : Source) (y : Term × Source) →
     term_by inner ctx t ≡ Some y → length y.1 < length t

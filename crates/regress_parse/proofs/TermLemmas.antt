@@ -1,15 +1,16 @@
 -- An item, its quantifier, and the group that an item may be, from what is read of them.
-use Rattle.std.proofs.Common.{◌≡◌, ℕ, ◌+◌, ◌<◌, ◌≤◌, true, false, ◌∷◌, drop, length, Option, Some, None, refl, sym, ap, ◌∙◌, subst, arith}
+use Rattle.std.proofs.Common.{◌≡◌, ℕ, ◌+◌, ◌<◌, ◌≤◌, Bool, true, false, ◌∷◌, drop, length, Option, Some, None, refl, sym, ap, ◌∙◌, subst, arith}
 use Rattle.std.specs.Option.{IfSome}
 use Rattle.std.proofs.lemmas.Option.{same_Some, cond_some}
 use Rattle.std.proofs.lemmas.Bool.{cond-true, cond-false}
 use Rattle.regress_tree.specs.Table.{Table}
-use Rattle.regress_syntax.specs.Source.{Source, Found, ◌>>=◌, closing, is_at}
-use Rattle.regress_syntax.specs.Syntax.{Atom, Group, Quantifier, Pattern, Item, one, either, atom, group, Counts, added, counts_of_group, opened_by, levels}
-use Rattle.regress_syntax.specs.Rows.{Context, inside, Head, single, opens, head_at, times_at}
+use Rattle.regress_tree.specs.declared.ir.node.Quantifier.{Quantifier}
+use Rattle.regress_syntax.specs.Source.{Source, Found, ◌>>=◌, found_map, closing, is_at}
+use Rattle.regress_syntax.specs.Syntax.{Group, Pattern, Item, one, either, atom, group, Counts, counts_of_item, opened_by, levels}
+use Rattle.regress_syntax.specs.Rows.{Context, inside, Head, single, opens, head_of_item, allows, head_at, times_at}
 use Rattle.regress_syntax.proofs.laws.Sources.{found_then, from_each, to_each}
 use Rattle.regress_parse.specs.Reader.{Term, closed, item_behind, quantified, pattern_at, item_at, term_at}
-use Rattle.regress_base.specs.Limits.{max_capture_groups, max_nesting_depth}
+use Rattle.regress_base.specs.Limits.{max_capture_groups, max_loops, max_nesting_depth}
 use Rattle.regress_parse.specs.Parsing.{Fits, pattern_part, term_part, item_part}
 use Rattle.regress_parse.proofs.CountLemmas.{Fits-inside}
 use Rattle.regress_parse.proofs.ReaderLemmas.{item_at-is, term_at-is}
@@ -24,41 +25,60 @@ module _ (table : Table) (ctx : Context) where
       IfSome found (λ x. Fits before depth (pattern_part table x.0) → ⊥)
   too_deep before depth found full = from_each found _ (λ x _ fits. omega (arith, fits.levels, levels-positive x.0))
 
+  -- ---- an item, behind what it begins with
+
+  item_from_head : (t : Source) (x : Head × Source) → head_at ctx t ≡ Some x → item_at ctx t ≡ item_behind pattern_at ctx x
+  item_from_head t x head = item_at-is ctx t ∙ ap (λ found. found >>= item_behind pattern_at ctx) head
+
+  closed_same : (kind : Group) (x : Pattern × Source) (y : Item × Source) → closed kind x ≡ Some y → group kind x.0 ≡ y.0
+  closed_same kind x y e = ap (λ (z : Item × Source). z.0) (cond_some (is_at closing x.1) (group kind x.0, drop 1 x.1) y e).1
+
+  head-same : (x : Head × Source) (y : Item × Source) → item_behind pattern_at ctx x ≡ Some y → head_of_item y.0 ≡ x.0
+  head-same (single a, t) y e = sym (ap (λ (z : Item × Source). head_of_item z.0) (same_Some (atom a, t) y e))
+  head-same (opens kind, t) y e =
+      let body = found_then (pattern_at (inside kind ctx) t) (closed kind) y e in
+      sym (ap head_of_item (closed_same kind body.0 y body.2))
+
   -- ---- a term
 
-  pub term_read : (t mid rest : Source) (x : Item) (q : Option Quantifier) → item_at ctx t ≡ Some (x, mid) →
-      times_at ctx mid ≡ Some (q, rest) → term_at ctx t ≡ Some ((x, q), rest)
-  term_read t mid rest x q item times =
+  -- an item, and what is read of its quantifier
+  pub term_read : (t : Source) (head : Head × Source) (x : Item × Source) (allowed : Bool) (times : Found (Option Quantifier)) →
+      head_at ctx t ≡ Some head → item_behind pattern_at ctx head ≡ Some x → allowed ≡ allows head.0 →
+      times_at ctx allowed x.1 ≡ times → term_at ctx t ≡ found_map (λ q. (x.0, q)) times
+  term_read t head x allowed times front item allowed_is found =
+      let same : allows (head_of_item x.0) ≡ allowed = ap allows (head-same head x item) ∙ sym allowed_is in
       term_at-is ctx t
-      ∙ ap (λ found. found >>= quantified ctx) item
-      ∙ ap (λ found. found >>= λ (q : Option Quantifier × Source). Some ((x, q.0), q.1)) times
+      ∙ ap (λ found. found >>= quantified ctx) (item_from_head t head front ∙ item)
+      ∙ ap (λ b. found_map (λ (q : Option Quantifier). (x.0, q)) (times_at ctx b x.1)) same
+      ∙ ap (found_map (λ (q : Option Quantifier). (x.0, q))) found
 
-  pub no_term : (t mid : Source) (x : Item) → item_at ctx t ≡ Some (x, mid) → times_at ctx mid ≡ None → term_at ctx t ≡ None
-  no_term t mid x item times =
+  -- no head, no term
+  pub no_term : (t : Source) → head_at ctx t ≡ None → term_at ctx t ≡ None
+  no_term t front =
       term_at-is ctx t
-      ∙ ap (λ found. found >>= quantified ctx) item
-      ∙ ap (λ found. found >>= λ (q : Option Quantifier × Source). Some ((x, q.0), q.1)) times
+      ∙ ap (λ found. found >>= quantified ctx) (item_at-is ctx t ∙ ap (λ found. found >>= item_behind pattern_at ctx) front)
 
   -- an item that is none, or too much, is so for the term
-  pub term-fail : (t : Source) (before : Counts) (depth : ℕ) → IfSome (item_at ctx t) (λ x. Fits before depth (item_part table x.0) → ⊥) →
+  pub term-fail : (t : Source) (head : Head × Source) (before : Counts) (depth : ℕ) → head_at ctx t ≡ Some head →
+      IfSome (item_behind pattern_at ctx head) (λ x. Fits before depth (item_part table x.0) → ⊥) →
       IfSome (term_at ctx t) (λ x. Fits before depth (term_part table x.0) → ⊥)
-  term-fail t before depth refused =
+  term-fail t head before depth front refused =
       from_each (term_at ctx t) _ (λ x found fits.
       let item = found_then (item_at ctx t) (quantified ctx) x (sym (term_at-is ctx t) ∙ found) in
-      let times = found_then (times_at ctx item.0.1) (λ (q : Option Quantifier × Source). Some ((item.0.0, q.0), q.1)) x item.2 in
+      let times = found_then (times_at ctx (allows (head_of_item item.0.0)) item.0.1)
+      (λ (q : Option Quantifier × Source). Some ((item.0.0, q.0), q.1)) x item.2 in
       let same : (item.0.0, times.0.0) ≡ x.0 = ap (λ (z : Term × Source). z.0) (same_Some _ x times.2) in
       let whole = subst (λ (z : Term). Fits before depth (term_part table z)) (sym same) fits in
-      to_each (item_at ctx t) _ refused item.0 item.1
+      to_each (item_behind pattern_at ctx head) _ refused item.0 (sym (item_from_head t head front) ∙ item.1)
       (Fits-inside before before depth depth (term_part table (item.0.0, times.0.0)) (item_part table item.0.0)
       (omega arith) (omega arith) (omega arith) whole))
 
-  -- ---- an item
-
-  pub item_from_head : (t : Source) (x : Head × Source) → head_at ctx t ≡ Some x → item_at ctx t ≡ item_behind pattern_at ctx x
-  item_from_head t x head = item_at-is ctx t ∙ ap (λ found. found >>= item_behind pattern_at ctx) head
-
-  pub no_item : (t : Source) → head_at ctx t ≡ None → item_at ctx t ≡ None
-  no_item t head = item_at-is ctx t ∙ ap (λ found. found >>= item_behind pattern_at ctx) head
+  -- one loop too many is too many for the term
+  pub term-too_many : (t rest : Source) (x : Item) (q : Quantifier) (before : Counts) (depth : ℕ) → term_at ctx t ≡ Some ((x, Some q), rest) →
+      max_loops < before.loops + (counts_of_item x).loops + 1 → IfSome (term_at ctx t) (λ x. Fits before depth (term_part table x.0) → ⊥)
+  term-too_many t rest x q before depth found many =
+      subst (λ found. IfSome found (λ x. Fits before depth (term_part table x.0) → ⊥)) (sym found)
+      (λ (fits : Fits before depth (term_part table (x, Some q))). omega (arith, fits.loops, many))
 
   -- ---- a group
 
@@ -71,6 +91,3 @@ module _ (table : Table) (ctx : Context) where
       let same = closed_same kind body.0 x body.2 in
       let whole = subst (λ (y : Item). Fits before depth (item_part table y)) (sym same) fits in
       omega (arith, whole.groups, many))
-    where
-      closed_same : (kind : Group) (x : Pattern × Source) (y : Item × Source) → closed kind x ≡ Some y → group kind x.0 ≡ y.0
-      closed_same kind x y e = ap (λ (z : Item × Source). z.0) (cond_some (is_at closing x.1) (group kind x.0, drop 1 x.1) y e).1

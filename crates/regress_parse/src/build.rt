@@ -1,25 +1,125 @@
 //! Trees from parts.
-ghost use Rattle.std.specs.Prelude.{◌≡◌, IfOk, map};
+ghost use Rattle.std.specs.Prelude.{◌≡◌, ℕ, Bool, false, List, Some, IfOk, map};
+ghost use Rattle.regress_tree.specs.Assertions.{differ};
+ghost use Rattle.regress_base.specs.Intervals.{Bounds, intervals_of};
 ghost use Rattle.regress_tree.specs.Tree.{tree, trees, leaf};
 ghost use Rattle.regress_tree.specs.TableOf.{table_of};
-ghost use Rattle.regress_syntax.specs.Views.{atom_of, group_of};
-ghost use Rattle.regress_parse.specs.TreeOf.{turned, joined, leaf_of_atom, tree_of_group};
+ghost use Rattle.regress_syntax.specs.Meaning.{is_in_class};
+ghost use Rattle.regress_syntax.specs.Source.{IsCodePoint};
+ghost use Rattle.regress_syntax.specs.Syntax.{Atom as Written, class_escape};
+ghost use Rattle.regress_syntax.specs.Views.{IsAtom, IsSomeAtom, HasMembers, group_of};
+ghost use Rattle.regress_parse.specs.TreeOf.{turned, joined, leaf_of_members, leaf_of_literal, leaf_of_atom, tree_of_group, tree_of_times};
 ghost use Rattle.regress_parse.specs.Parsing.{alternatives, direction};
 
-use regress_base::types::CaptureGroupID;
-use regress_syntax::{Atom, Group, Scope};
-use regress_tree::ir::{Node, NodeList};
+use regress_base::charclasses::CharacterClassType;
+use regress_base::codepointset::CodePointSet;
+use regress_base::types::{BracketContents, CaptureGroupID};
+use regress_syntax::{Atom, Group, Scope, class_set};
+use regress_tree::ir::{Node, NodeList, Quantifier};
+use regress_tree::unicode::{add_icase_code_points, expand_code_point};
 use std::alloc::{AllocError, Global};
+use std::ops::Range;
 
 /// The node of an item that holds no pattern.
-pub(crate) fn make_atom(atom: Atom, scope: &Scope) -> Node
-    ensures { tree result ≡ leaf (leaf_of_atom (table_of scope.now.tables.now) (atom_of scope.now.flags atom)) }
+pub(crate) fn make_atom(alloc: Global, atom: Atom, scope: &Scope) -> Result<Node, AllocError>
+    requires { IsSomeAtom scope.now.flags atom }
+    ensures { (a : Written) → IsAtom scope.now.flags atom a →
+        IfOk result (λ node. tree node ≡ leaf (leaf_of_atom (table_of scope.now.tables.now) a)) }
 {
-    match atom {
-        Atom::Literal(c) => Node::Char { c },
+    Ok(match atom {
+        Atom::Literal(c) => make_literal(alloc, c, scope)?,
         Atom::Dot if scope.flags.dot_all => Node::MatchAny,
         Atom::Dot => Node::MatchAnyExceptLineTerminator,
+        Atom::Anchor(anchor_type) => Node::Anchor {
+            anchor_type,
+            multiline: scope.flags.multiline,
+        },
+        Atom::WordBoundary { inverted } => Node::WordBoundary {
+            invert: inverted,
+            unicode_icase: scope.flags.unicode && scope.flags.icase,
+        },
+        Atom::ClassEscape { kind, negated } => make_class_escape(alloc, kind, negated, scope)?,
+        Atom::Class { inverted, set } => Node::Bracket(BracketContents {
+            invert: inverted,
+            cps: close(set, scope)?,
+        }),
+    })
+}
+
+/// The node of a literal: with the flag i all that it stands for.
+fn make_literal(alloc: Global, c: u32, scope: &Scope) -> Result<Node, AllocError>
+    requires { IsCodePoint c }
+    ensures { IfOk result (λ node. tree node ≡ leaf (leaf_of_literal (table_of scope.now.tables.now) scope.now.flags c)) }
+{
+    if !scope.flags.icase {
+        return Ok(Node::Char { c });
     }
+    let members = expand_code_point(alloc, c, true, scope.flags.unicode, scope.tables)?;
+    Ok(make_members(members))
+}
+
+/// The node of one of these characters.
+fn make_members(members: Vec<u32>) -> Node
+    ensures { tree result ≡ leaf (leaf_of_members members.items) }
+{
+    match members.as_slice() {
+        [c] => Node::Char { c: *c },
+        _ => Node::CharSet(members),
+    }
+}
+
+/// The node of a class by an escape, whose complement is taken once it is closed.
+fn make_class_escape(
+    alloc: Global,
+    kind: CharacterClassType,
+    negated: bool,
+    scope: &Scope,
+) -> Result<Node, AllocError>
+    ensures { IfOk result (λ node. tree node ≡
+        leaf (leaf_of_atom (table_of scope.now.tables.now) (class_escape scope.now.flags kind negated))) }
+{
+    let closed = close(class_set(alloc, kind)?, scope)?;
+    Ok(Node::Bracket(BracketContents {
+        invert: false,
+        cps: complement_if(closed, negated)?,
+    }))
+}
+
+/// The set, or its complement.
+fn complement_if(set: CodePointSet, negated: bool) -> Result<CodePointSet, AllocError>
+    ensures { IfOk result (λ other. (test : ℕ → Bool) → set ≡ intervals_of test →
+        other ≡ intervals_of (λ c. differ negated (test c))) }
+{
+    if negated { set.inverted() } else { Ok(set) }
+}
+
+/// The set, closed under fold with the flag i.
+fn close(set: CodePointSet, scope: &Scope) -> Result<CodePointSet, AllocError>
+    ensures { IfOk result (λ closed. (members : List Bounds) → HasMembers members set →
+        closed ≡ intervals_of (is_in_class (table_of scope.now.tables.now) scope.now.flags false members)) }
+{
+    if scope.flags.icase {
+        add_icase_code_points(set, scope.tables)
+    } else {
+        Ok(set)
+    }
+}
+
+/// The node of an item of these groups, matched as often as the quantifier says.
+pub(crate) fn make_loop(
+    alloc: Global,
+    item: Node,
+    quant: Quantifier,
+    enclosed_groups: Range<CaptureGroupID>,
+) -> Result<Node, AllocError>
+    ensures { IfOk result (λ node. tree node ≡
+        tree_of_times (Some quant) enclosed_groups.start enclosed_groups.end (tree item)) }
+{
+    Ok(Node::Loop {
+        loopee: Box::new(alloc, item)?,
+        quant,
+        enclosed_groups,
+    })
 }
 
 /// The node of a group, whose number is `id` if it captures.

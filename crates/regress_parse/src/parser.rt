@@ -2,8 +2,8 @@
 ghost use Rattle.std.specs.Prelude.{◌≤◌};
 ghost use Rattle.regress_base.specs.Limits.{max_capture_groups, max_loops};
 
-use regress_base::types::{CaptureGroupID, LoopID, MAX_CAPTURE_GROUPS};
-use regress_syntax::fault::{TOO_MANY_GROUPS, syntax};
+use regress_base::types::{CaptureGroupID, LoopID, MAX_CAPTURE_GROUPS, MAX_LOOPS};
+use regress_syntax::fault::{TOO_MANY_GROUPS, TOO_MANY_LOOPS, syntax};
 use regress_syntax::{Cursor, Group, ParseFault, Scope};
 
 /// What is still to read, and how many groups and loops were counted before it.
@@ -29,7 +29,7 @@ pub(crate) struct Around<'a> {
 impl Parser<'_> {
     ghost use Rattle.std.specs.Prelude.{◌≡◌, ◌+◌, ◌<◌, OnOk};
     ghost use Rattle.regress_syntax.specs.Fault.{RefusedOnlyIf};
-    ghost use Rattle.regress_syntax.specs.Syntax.{added, opened_by, counts_of_group};
+    ghost use Rattle.regress_syntax.specs.Syntax.{added, one_loop, opened_by, counts_of_group};
     ghost use Rattle.regress_syntax.specs.Views.{group_of};
     ghost use Rattle.regress_parse.specs.Parsing.{text, counted};
 
@@ -45,6 +45,19 @@ impl Parser<'_> {
             }
             self.group_count += 1;
         }
+        Ok(())
+    }
+
+    /// Counts a loop. The fault comes where it is one too many.
+    pub(crate) fn count_loop(&mut self) -> Result<(), ParseFault>
+        ensures ok { OnOk result (counted self.new ≡ added (counted self.old) one_loop) }
+        ensures err { RefusedOnlyIf result (max_loops < self.old.loop_count + 1) }
+        ensures text { text self.new ≡ text self.old }
+    {
+        if usize::from(self.loop_count) >= MAX_LOOPS {
+            return Err(syntax(self.cursor.alloc, TOO_MANY_LOOPS));
+        }
+        self.loop_count += 1;
         Ok(())
     }
 }

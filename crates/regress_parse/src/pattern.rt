@@ -1,10 +1,10 @@
 //! From a whole pattern to its tree.
-ghost use Rattle.std.specs.Prelude.{◌≡◌, ◌≤◌, All, IfOk};
-ghost use Rattle.regress_base.specs.Intervals.{code_point_max};
+ghost use Rattle.std.specs.Prelude.{◌≡◌, All, IfOk};
 ghost use Rattle.regress_tree.specs.TableOf.{table_of, setting_of};
 ghost use Rattle.regress_tree.specs.Tree.{tree};
 ghost use Rattle.regress_tree.specs.WellFormed.{IsWellFormed};
 ghost use Rattle.regress_syntax.specs.Fault.{RefusedOnlyIf};
+ghost use Rattle.regress_syntax.specs.Source.{IsCodePoint};
 ghost use Rattle.regress_syntax.specs.Syntax.{Pattern};
 ghost use Rattle.regress_parse.specs.TreeOf.{tree_of};
 ghost use Rattle.regress_parse.specs.Accepted.{is_served, IsAccepted, NoneIsAccepted, OneIsDerived, OfAccepted, Means};
@@ -37,7 +37,7 @@ pub fn try_parse(
     flags: Flags,
     tables: &Tables,
 ) -> Result<Regex, ParseFault>
-    requires { All (λ c. c ≤ code_point_max) pattern.now }
+    requires { All IsCodePoint pattern.now }
 
     // Whatever memory there is: a tree only where the grammar and the limits have one, and a fault
     // of the pattern only where they have none.
@@ -68,11 +68,12 @@ pub fn try_parse(
 fn is_served(flags: Flags) -> bool
     ensures { result ≡ is_served flags }
 {
-    !(flags.icase || flags.multiline || flags.unicode || flags.unicode_sets)
+    !flags.unicode_sets
 }
 
 /// Parses the whole source, up to its end.
 fn parse_body(alloc: Global, pattern: &[u32], scope: &Scope) -> Result<Node, ParseFault>
+    requires { All IsCodePoint pattern.now }
     ensures { YieldsWhole (setting_of scope.now.flags scope.now.tables.now) pattern.now result }
 {
     let mut parser = Parser {

@@ -1,12 +1,12 @@
 //! The grammar, form by form.
 ghost use Rattle.std.specs.Prelude.{◌<◌, ◌≤◌, OnOk, length};
-ghost use Rattle.regress_syntax.specs.Views.{group_of};
-ghost use Rattle.regress_syntax.specs.Rows.{opens};
+ghost use Rattle.regress_syntax.specs.Views.{group_of, IsHead, IsSomeHead};
+ghost use Rattle.regress_syntax.specs.Rows.{Head as Written, opens};
 ghost use Rattle.regress_base.specs.Limits.{max_nesting_depth};
-ghost use Rattle.regress_parse.specs.Reader.{pattern_at, terms_at, term_at, item_at, item_behind};
+ghost use Rattle.regress_parse.specs.Reader.{pattern_at, terms_at, term_at, item_behind};
 ghost use Rattle.regress_parse.specs.Parsing.{text, counted, direction_of, context_in, table_in, pattern_part, terms_part, term_part, item_part, Yields};
 
-use crate::build::{make_alt, make_atom, make_cat, make_group};
+use crate::build::{make_alt, make_atom, make_cat, make_group, make_loop};
 use crate::parser::{Around, Parser};
 use regress_base::types::MAX_NESTING_DEPTH;
 use regress_syntax::fault::{TOO_DEEP, syntax};
@@ -57,21 +57,34 @@ impl Parser<'_> {
         ensures value { Yields (term_part (table_in around.now)) (direction_of around.now) around.now.depth (counted self.old) self.new result
             (term_at (context_in around.now) (text self.old)) }
     {
-        let node = self.consume_item(around)?;
-        read_times(&mut self.cursor, &around.scope)?;
-        Ok(node)
+        let groups_before = self.group_count;
+        let head = read_head(&mut self.cursor, &around.scope)?;
+        let allowed = head.allows_quantifier();
+        let item = self.consume_item(head, around)?;
+        let times = read_times(&mut self.cursor, &around.scope, allowed)?;
+        let Some(quantifier) = times else {
+            return Ok(item);
+        };
+        self.count_loop()?;
+        Ok(make_loop(
+            self.cursor.alloc,
+            item,
+            quantifier,
+            groups_before..self.group_count,
+        )?)
     }
 
-    /// Reads one item (ECMA-262, Atom and Assertion).
+    /// Reads an item, behind what it begins with (ECMA-262, Atom and Assertion).
     #[cycle(parser)]
-    fn consume_item(&mut self, around: &Around) -> Result<Node, ParseFault>
-        requires { around.now.depth ≤ max_nesting_depth }
-        ensures value { Yields (item_part (table_in around.now)) (direction_of around.now) around.now.depth (counted self.old) self.new result
-            (item_at (context_in around.now) (text self.old)) }
+    fn consume_item(&mut self, head: Head, around: &Around) -> Result<Node, ParseFault>
+        requires depth { around.now.depth ≤ max_nesting_depth }
+        requires head { IsSomeHead around.now.scope.flags head }
+        ensures value { (written : Written) → IsHead around.now.scope.flags head written →
+            Yields (item_part (table_in around.now)) (direction_of around.now) around.now.depth (counted self.old) self.new result
+            (item_behind pattern_at (context_in around.now) (written, text self.old)) }
     {
-        let head = read_head(&mut self.cursor, &around.scope)?;
         match head {
-            Head::Atom(atom) => Ok(make_atom(atom, &around.scope)),
+            Head::Atom(atom) => Ok(make_atom(self.cursor.alloc, atom, &around.scope)?),
             Head::Opens(kind) => self.consume_group(kind, around),
         }
     }

@@ -61,9 +61,12 @@ opened_by (capture name) = 1
 abbrev pub counts_of_group : Group → Counts
 counts_of_group kind = record { groups = opened_by kind; loops = 0 }
 
+abbrev pub one_loop : Counts
+one_loop = record { groups = 0; loops = 1 }
+
 abbrev pub counts_of_times : Option Quantifier → Counts
 counts_of_times None = nothing_counted
-counts_of_times (Some q) = record { groups = 0; loops = 1 }
+counts_of_times (Some q) = one_loop
 
 abbrev mutual
   pub counts : Pattern → Counts

@@ -54,4 +54,4 @@ returns-clause-well_formed c =
     let setting = setting_of c.args.flags c.args.tables.now in
     let found = returns-clause-accepted c in
     subst (λ (t : Tree). IsWellFormed t) (sym found.2)
-    (tree_of-well_formed setting c.args.pattern.now found.0 c.requires found.1.derived)
+    (tree_of-well_formed setting c.args.pattern.now found.0 c.args.tables.now.sound.lawful c.requires found.1.derived)

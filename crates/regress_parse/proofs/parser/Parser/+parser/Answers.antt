@@ -1,22 +1,23 @@
 -- Each answer is a lemma on what was read, at the values of the call.
-use Rattle.std.proofs.Common.{◌≡◌, ◌+◌, ◌<◌, true, false, Some, None, length, drop, refl, sym, ap, ◌∙◌, subst, arith, length-drop}
+use Rattle.std.proofs.Common.{◌≡◌, ◌+◌, ◌<◌, true, false, Some, None, length, drop, refl, sym, ap, ap₂, ◌∙◌, subst, arith, length-drop}
 use Rattle.std.specs.Option.{IfSome, IsSomeAnd}
 use Rattle.std.proofs.lemmas.Result.{err_from_is_err_and}
+use Rattle.regress_base.specs.Limits.{max_loops}
 use Rattle.regress_tree.specs.Tree.{tree}
 use Rattle.regress_syntax.specs.Source.{Source, ends_alternative, bar as the_bar}
-use Rattle.regress_syntax.specs.Syntax.{added}
-use Rattle.regress_syntax.specs.Rows.{Head, head_at, single, opens}
-use Rattle.regress_syntax.specs.Views.{source, atom_of, group_of}
+use Rattle.regress_syntax.specs.Syntax.{Counts, added, one_loop, counts_of_item}
+use Rattle.regress_syntax.specs.Rows.{Head}
+use Rattle.regress_syntax.specs.Views.{source, group_of}
 use Rattle.regress_syntax.proofs.laws.Sources.{at_front, on_syntax, on_syntax_then}
 use Rattle.regress_syntax.proofs.laws.Rows.{head_at-shortens}
-use Rattle.regress_parse.specs.TreeOf.{joined}
-use Rattle.regress_parse.specs.Reader.{pattern_at, terms_at, term_at, item_at}
+use Rattle.regress_parse.specs.TreeOf.{joined, tree_of_times}
+use Rattle.regress_parse.specs.Reader.{item_behind, pattern_at, terms_at, term_at}
 use Rattle.regress_parse.specs.Parsing.{text, counted, context_in, table_in, direction_of, terms_part, term_part, item_part}
-use Rattle.regress_parse.proofs.CountLemmas.{added-nothing, Fits-inside}
+use Rattle.regress_parse.proofs.CountLemmas.{added-assoc, added-nothing, Fits-inside}
 use Rattle.regress_parse.proofs.ReaderLemmas.{terms_at-shortens, term_at-shortens}
 use Rattle.regress_parse.proofs.SoFarLemmas.{terms-start, terms-step, terms-end, terms-fail}
 use Rattle.regress_parse.proofs.AlternativesLemmas.{alternatives-start, alternatives-step, first-fail, alternatives-fail}
-use Rattle.regress_parse.proofs.TermLemmas.{too_deep, term_read, no_term, term-fail, item_from_head, no_item}
+use Rattle.regress_parse.proofs.TermLemmas.{too_deep, term_read, no_term, term-fail, term-too_many}
 use Rattle.regress_parse.proofs.ParserLemmas.{built}
 use Rattle.regress_parse.proofs.parser.Parser.+parser.Goals as goal
 
@@ -144,78 +145,68 @@ consume_disjunction-loop-inside-preserved t c =
     (counted c.consume_alternative-in-loop-inside.new.self) l.invariant (sym past.found)
     (subst (λ u. terms_at (context_in around) u ≡ Some found.0) past.moves found.1) b.node b.counts b.fits)
 
-pub consume_item-returns-in_err-head : goal.consume_item-returns-in_err-head
-consume_item-returns-in_err-head t c =
-    let p = err_from_is_err_and c.from_residual.result c.from_residual.ensures.1 in
-    record {
-      value = rw (p.1, p.2) (on_syntax_then c.in_err-head.field-0.0
-          (λ none. rw (no_item (table_in c.args.around.now) (context_in c.args.around.now) (text c.args.self.now)
-          none) tt) c.in_err-head.ensures);
-    }
 
 pub consume_item-consume_group-requires : goal.consume_item-consume_group-requires
-consume_item-consume_group-requires t c =
-    let head : head_at (context_in c.args.around.now) (text c.args.self.now)
-    ≡ Some (opens (group_of c.in-Opens.kind), source c.read_head.new.cursor) =
-    rw c.in-Opens.is at c.in_ok-head.ensures in
-    omega (arith, head_at-shortens (context_in c.args.around.now) (text c.args.self.now) _ head)
+consume_item-consume_group-requires t c = omega arith
 
-pub consume_item-returns-in-Atom : goal.consume_item-returns-in-Atom
-consume_item-returns-in-Atom t c =
-    let around = c.args.around.now in
-    let old = c.args.self.now in
-    let a = atom_of around.scope.flags c.in-Atom.atom in
-    let head : head_at (context_in around) (text old)
-    ≡ Some (single a, source c.read_head.new.cursor) = rw c.in-Atom.is at c.in_ok-head.ensures in
-    record {
-      value = rw (item_from_head (table_in around) (context_in around) (text old) (single a, source c.read_head.new.cursor) head) (record {
-        node = c.make_atom.ensures;
-        fits = record { groups = omega (arith, old.groups_within); loops = omega (arith, old.loops_within); levels = omega arith };
-        counts = sym (added-nothing (counted old));
-        rest = refl;
-      });
-    }
-
-pub consume_item-returns-in-Opens : goal.consume_item-returns-in-Opens
-consume_item-returns-in-Opens t c =
-    let around = c.args.around.now in
-    let old = c.args.self.now in
-    let behind : Head × Source = (opens (group_of c.in-Opens.kind), source c.read_head.new.cursor) in
-    let head : head_at (context_in around) (text old) ≡ Some behind = rw c.in-Opens.is at c.in_ok-head.ensures in
-    record { value = rw (item_from_head (table_in around) (context_in around) (text old) behind head) c.consume_group.ensures.value }
-
-pub consume_term-returns-in_err-node : goal.consume_term-returns-in_err-node
-consume_term-returns-in_err-node t c =
+pub consume_term-returns-in_err-head : goal.consume_term-returns-in_err-head
+consume_term-returns-in_err-head t c =
     let p = err_from_is_err_and c.from_residual.result c.from_residual.ensures.1 in
     let around = c.args.around.now in
     record {
-      value = rw (p.1, p.2) (on_syntax_then c.in_err-node.field-0.0
-          (term-fail (table_in around) (context_in around) (text c.args.self.now) (counted c.args.self.now) around.depth)
-          c.in_err-node.ensures.value);
+      value = rw (p.1, p.2) (on_syntax_then c.in_err-head.field-0.0
+          (λ none. rw (no_term (table_in around) (context_in around) (text c.args.self.now) none) tt) c.in_err-head.ensures);
     }
 
-pub consume_term-returns-in_err-read_times : goal.consume_term-returns-in_err-read_times
-consume_term-returns-in_err-read_times t c =
-    let p = err_from_is_err_and c.from_residual-in_err-read_times.result c.from_residual-in_err-read_times.ensures.1 in
+pub consume_term-consume_item-requires : goal.consume_term-consume_item-requires
+consume_term-consume_item-requires t c =
+    let head = c.in_ok-head.ensures in (
+      omega (arith, head_at-shortens (context_in c.args.around.now) (text c.args.self.now) _ head.1),
+      (c.requires, (head.0, head.2)),
+    )
+
+pub consume_term-returns-in_err-item : goal.consume_term-returns-in_err-item
+consume_term-returns-in_err-item t c =
+    let p = err_from_is_err_and c.from_residual-in_err-item.result c.from_residual-in_err-item.ensures.1 in
     let around = c.args.around.now in
-    let old = c.args.self.now in
-    let found = built (item_part (table_in around)) (direction_of around) around.depth (counted old) c.consume_item.new.self
-    (item_at (context_in around) (text old)) c.in_ok-node.node c.in_ok-node.ensures.value in
+    let head = c.in_ok-head.ensures in
     record {
-      value = rw (p.1, p.2) (on_syntax_then c.in_err-read_times.field-0.0
-          (λ none. rw (no_term (table_in around) (context_in around) (text old) found.0.1 found.0.0 found.1 (rw found.2.rest at none)) tt)
-          c.in_err-read_times.ensures);
+      value = rw (p.1, p.2) (on_syntax_then c.in_err-item.field-0.0
+          (term-fail (table_in around) (context_in around) (text c.args.self.now) (head.0, source c.read_head.new.cursor)
+          (counted c.args.self.now) around.depth head.1)
+          (c.in_err-item.ensures.value head.0 head.2));
     }
 
-pub consume_term-returns : goal.consume_term-returns
-consume_term-returns t c =
+pub consume_term-returns-in_err-times : goal.consume_term-returns-in_err-times
+consume_term-returns-in_err-times t c =
+    let p = err_from_is_err_and c.from_residual-in_err-times.result c.from_residual-in_err-times.ensures.1 in
     let around = c.args.around.now in
     let old = c.args.self.now in
+    let head = c.in_ok-head.ensures in
+    let behind : Head × Source = (head.0, source c.read_head.new.cursor) in
     let found = built (item_part (table_in around)) (direction_of around) around.depth (counted old) c.consume_item.new.self
-    (item_at (context_in around) (text old)) c.in_ok-node.node c.in_ok-node.ensures.value in
+    (item_behind pattern_at (context_in around) behind) c.in_ok-item.item (c.in_ok-item.ensures.value head.0 head.2) in
+    let allowed = c.allows_quantifier-allowed.ensures around.scope.flags head.0 head.2 in
+    record {
+      value = rw (p.1, p.2) (on_syntax_then c.in_err-times.field-0.0
+          (λ none. rw (term_read (table_in around) (context_in around) (text old) behind found.0 c.allows_quantifier-allowed.result
+          None head.1 found.1 allowed (rw found.2.rest at none)) tt)
+          c.in_err-times.ensures);
+    }
+
+pub consume_term-returns-in_default : goal.consume_term-returns-in_default
+consume_term-returns-in_default t c =
+    let around = c.args.around.now in
+    let old = c.args.self.now in
+    let head = c.in_ok-head.ensures in
+    let behind : Head × Source = (head.0, source c.read_head.new.cursor) in
+    let found = built (item_part (table_in around)) (direction_of around) around.depth (counted old) c.consume_item.new.self
+    (item_behind pattern_at (context_in around) behind) c.in_ok-item.item (c.in_ok-item.ensures.value head.0 head.2) in
     let b = found.2 in
-    let read = term_read (table_in around) (context_in around) (text old) found.0.1 (source c.read_times.new.cursor) found.0.0 None found.1
-    (rw b.rest at c.in_ok-read_times.ensures) in
+    let allowed = c.allows_quantifier-allowed.ensures around.scope.flags head.0 head.2 in
+    let read = term_read (table_in around) (context_in around) (text old) behind found.0 c.allows_quantifier-allowed.result
+    (Some (None, source c.read_times.new.cursor)) head.1 found.1 allowed
+    (rw (sym b.rest) (c.in_ok-times.ensures ∙ ap (λ q. Some (q, source c.read_times.new.cursor)) c.in_default.is)) in
     record {
       value = rw read (record {
         node = b.node;
@@ -223,5 +214,57 @@ consume_term-returns t c =
             (term_part (table_in around) (found.0.0, None)) (omega arith) (omega arith) (omega arith) b.fits;
         counts = b.counts ∙ ap (added (counted old)) (sym (added-nothing (item_part (table_in around) found.0.0).counts));
         rest = refl;
+      });
+    }
+
+pub consume_term-returns-in_err-count_loop : goal.consume_term-returns-in_err-count_loop
+consume_term-returns-in_err-count_loop t c =
+    let p = err_from_is_err_and c.from_residual-in_err-count_loop.result c.from_residual-in_err-count_loop.ensures.1 in
+    let around = c.args.around.now in
+    let old = c.args.self.now in
+    let head = c.in_ok-head.ensures in
+    let behind : Head × Source = (head.0, source c.read_head.new.cursor) in
+    let found = built (item_part (table_in around)) (direction_of around) around.depth (counted old) c.consume_item.new.self
+    (item_behind pattern_at (context_in around) behind) c.in_ok-item.item (c.in_ok-item.ensures.value head.0 head.2) in
+    let b = found.2 in
+    let allowed = c.allows_quantifier-allowed.ensures around.scope.flags head.0 head.2 in
+    let read = term_read (table_in around) (context_in around) (text old) behind found.0 c.allows_quantifier-allowed.result
+    (Some (Some c.in-Some.quantifier, source c.read_times.new.cursor)) head.1 found.1 allowed
+    (rw (sym b.rest) (c.in_ok-times.ensures ∙ ap (λ q. Some (q, source c.read_times.new.cursor)) c.in-Some.is)) in
+    record {
+      value = rw (p.1, p.2) (on_syntax_then c.in_err-count_loop.field-0.0
+          (λ (many : max_loops < c.consume_item.new.self.loop_count + 1).
+          term-too_many (table_in around) (context_in around) (text old) _ found.0.0 c.in-Some.quantifier (counted old)
+          around.depth read (omega (arith, ap (λ (n : Counts). n.loops) b.counts, many)))
+          c.in_err-count_loop.ensures.err);
+    }
+
+pub consume_term-returns : goal.consume_term-returns
+consume_term-returns t c =
+    let around = c.args.around.now in
+    let old = c.args.self.now in
+    let head = c.in_ok-head.ensures in
+    let behind : Head × Source = (head.0, source c.read_head.new.cursor) in
+    let found = built (item_part (table_in around)) (direction_of around) around.depth (counted old) c.consume_item.new.self
+    (item_behind pattern_at (context_in around) behind) c.in_ok-item.item (c.in_ok-item.ensures.value head.0 head.2) in
+    let b = found.2 in
+    let allowed = c.allows_quantifier-allowed.ensures around.scope.flags head.0 head.2 in
+    let read = term_read (table_in around) (context_in around) (text old) behind found.0 c.allows_quantifier-allowed.result
+    (Some (Some c.in-Some.quantifier, source c.read_times.new.cursor)) head.1 found.1 allowed
+    (rw (sym b.rest) (c.in_ok-times.ensures ∙ ap (λ q. Some (q, source c.read_times.new.cursor)) c.in-Some.is)) in
+    let counts = c.in_ok-count_loop.ensures.ok ∙ ap (λ n. added n one_loop) b.counts ∙ added-assoc (counted old) _ one_loop in
+    let groups : c.count_loop.new.self.group_count ≡ old.group_count + (counts_of_item found.0.0).groups =
+    omega (arith, ap (λ (n : Counts). n.groups) counts) in
+    record {
+      value = rw read (record {
+        node = c.in_ok-make_loop.ensures
+            ∙ ap₂ (λ end body. tree_of_times (Some c.in-Some.quantifier) old.group_count end body) groups b.node;
+        fits = record {
+          groups = omega (arith, b.fits.groups);
+          loops = omega (arith, ap (λ (n : Counts). n.loops) counts, c.count_loop.new.self.loops_within);
+          levels = b.fits.levels;
+        };
+        counts = counts;
+        rest = c.in_ok-count_loop.ensures.text;
       });
     }

@@ -4,7 +4,7 @@ use Rattle.regress_parse.proofs.SoFarLemmas.{TermsSoFar}
 use Rattle.regress_parse.proofs.AlternativesLemmas.{AlternativesSoFar}
 use Rattle.regress_parse.proofs.parser.Parser.+parser.Given as goal
 
--- Each parenthesis takes a code point. Between two of them the calls go from a group to an item.
+-- What an item begins with takes a code point. Between two of them the calls go from an item to a term.
 abbrev pub decreases-consume_group : goal.decreases-consume_group
 decreases-consume_group l = 8 * length (text l.self.now) + 5
 
@@ -18,7 +18,7 @@ abbrev pub decreases-consume_term : goal.decreases-consume_term
 decreases-consume_term l = 8 * length (text l.self.now) + 2
 
 abbrev pub decreases-consume_item : goal.decreases-consume_item
-decreases-consume_item l = 8 * length (text l.self.now) + 1
+decreases-consume_item l = 8 * length (text l.self.now) + 6
 
 abbrev pub invariant-consume_alternative-loop-parts : goal.invariant-consume_alternative-loop-parts
 invariant-consume_alternative-loop-parts l =

@@ -1,0 +1,10 @@
+use Rattle.std.proofs.Common.{ap, ◌∙◌, false}
+use Rattle.regress_tree.specs.Tree.{leaf, bracket}
+use Rattle.regress_tree.proofs.laws.Nodes.{tree-Bracket}
+use Rattle.regress_syntax.specs.ClassRows.{members_of}
+use Rattle.regress_parse.proofs.build.make_class_escape.Goals as goal
+
+pub returns : goal.returns
+returns c =
+    let closed = c.in_ok-closed.ensures (members_of c.args.kind) c.in_ok-class_set.ensures.value in
+    tree-Bracket _ ∙ ap (λ ivs. leaf (bracket false ivs)) (c.in_ok-complement_if.ensures _ closed)
