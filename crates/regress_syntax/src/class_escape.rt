@@ -1,7 +1,7 @@
 //! Classes by an escape.
-ghost use Rattle.std.specs.Prelude.{◌≡◌, IfOk};
-ghost use Rattle.regress_base.specs.Intervals.{is_member, intervals_of};
-ghost use Rattle.regress_syntax.specs.ClassRows.{class_letter, members_of, class_members};
+ghost use Rattle.std.specs.Prelude.{◌≡◌, ◌||◌, ℕ, IfOk, OnOk};
+ghost use Rattle.regress_base.specs.Intervals.{is_member, IsCanonical};
+ghost use Rattle.regress_syntax.specs.ClassRows.{class_letter, members_of};
 ghost use Rattle.regress_syntax.specs.Views.{HasMembers};
 
 use regress_base::charclasses::{
@@ -29,7 +29,8 @@ pub(crate) fn class_letter(c: u32) -> Option<(CharacterClassType, bool)>
 
 /// The members of a class by an escape.
 pub fn class_set(alloc: Global, kind: CharacterClassType) -> Result<CodePointSet, AllocError>
-    ensures { IfOk result (HasMembers (members_of kind)) }
+    ensures value { IfOk result (HasMembers (members_of kind)) }
+    ensures members { IfOk result (λ set. (c : ℕ) → is_member set c ≡ is_member (members_of kind) c) }
 {
     let mut set = CodePointSet::new(alloc);
     match kind {
@@ -40,6 +41,7 @@ pub fn class_set(alloc: Global, kind: CharacterClassType) -> Result<CodePointSet
         }
         CharacterClassType::Words => add_intervals(&mut set, &word_intervals())?,
     }
+    set_is_canonical(&set);
     Ok(set)
 }
 
@@ -47,9 +49,19 @@ pub fn class_set(alloc: Global, kind: CharacterClassType) -> Result<CodePointSet
 pub(crate) fn add_intervals(
     set: &mut CodePointSet,
     intervals: &[Interval],
-) -> Result<(), AllocError> {
+) -> Result<(), AllocError>
+    ensures { OnOk result ((c : ℕ) →
+        is_member set.new c ≡ (is_member set.old c || is_member intervals.now c)) }
+{
     for interval in intervals {
         set.add(*interval)?;
     }
     Ok(())
+}
+
+/// What the type of a set says of it, for a proof that needs it. It does nothing else.
+pub(crate) fn set_is_canonical(set: &CodePointSet)
+    ensures { IsCanonical set.now }
+{
+    let _ = set.intervals();
 }
