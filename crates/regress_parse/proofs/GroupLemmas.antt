@@ -1,5 +1,5 @@
 -- The capture groups of a pattern's tree are the pattern's, numbered as they open.
-use Rattle.std.proofs.Common.{◌≡◌, ℕ, ◌+◌, cond, ◌==◌, nat_lt, List, [], ◌∷◌, ◌++◌, length, Option, Some, None, option_map, count_by, encode_utf8_all, refl, sym, ap, ap₂, subst, ◌∙◌, arith, append-nil}
+use Rattle.std.proofs.Common.{◌≡◌, ℕ, ◌+◌, cond, ◌&&◌, ◌==◌, nat_le, nat_lt, List, [], ◌∷◌, ◌++◌, length, Option, Some, None, option_map, count_by, encode_utf8_all, refl, sym, ap, ap₂, subst, ◌∙◌, arith, append-nil}
 use Rattle.std.specs.List.Sorted.{IsPermutation}
 use Rattle.std.proofs.lemmas.List.{length-append}
 use Rattle.std.proofs.lemmas.List.Sums.{sum_by-cons}
@@ -7,10 +7,11 @@ use Rattle.std.proofs.lemmas.List.Sorted.{IsPermutation-refl, IsPermutation-tran
 use Rattle.std.proofs.lemmas.Bool.Decides.{nat_tests}
 use Rattle.regress_tree.specs.Reading.{Direction, forwards, backwards}
 use Rattle.regress_tree.specs.Table.{Table}
+use Rattle.regress_tree.specs.declared.ir.node.Quantifier.{Quantifier}
 use Rattle.regress_tree.specs.Tree.{Tree, Trees, no_trees, more_trees}
-use Rattle.regress_tree.specs.WellFormed.{Capture, captures, captures_in_row}
+use Rattle.regress_tree.specs.WellFormed.{Capture, captures, captures_in_row, HasGroups}
 use Rattle.regress_tree.proofs.laws.Turned.{captures-row_reverse}
-use Rattle.regress_syntax.specs.Syntax.{Name, Group, grouping, capture, Quantifier, Pattern, Terms, Item, one, either, no_terms, more_terms, atom, group, opened_by, counts, counts_of_times, counts_of_terms, counts_of_term, counts_of_item, names, names_of_group, names_of_terms, names_of_item}
+use Rattle.regress_syntax.specs.Syntax.{Name, Group, grouping, capture, Pattern, Terms, Item, one, either, no_terms, more_terms, atom, group, opened_by, counts, counts_of_times, counts_of_terms, counts_of_term, counts_of_item, names, names_of_group, names_of_terms, names_of_item}
 use Rattle.regress_syntax.specs.Meaning.{direction_of_group}
 use Rattle.regress_parse.specs.TreeOf.{turned, joined, tree_of_group, tree_of_times, tree_of_pattern, trees_of_terms, tree_of_item, tree_of}
 
@@ -73,9 +74,9 @@ captures-tree_of_group : (n : ℕ) (kind : Group) (body : Tree) →
 captures-tree_of_group n grouping body = refl
 captures-tree_of_group n (capture name) body = refl
 
-captures-tree_of_times : (q : Option Quantifier) (body : Tree) → captures (tree_of_times q body) ≡ captures body
-captures-tree_of_times None body = refl
-captures-tree_of_times (Some q) body = elim q [ ]
+captures-tree_of_times : (q : Option Quantifier) (start end : ℕ) (body : Tree) → captures (tree_of_times q start end body) ≡ captures body
+captures-tree_of_times None start end body = refl
+captures-tree_of_times (Some q) start end body = refl
 
 -- ---- in either direction a tree has the groups of its pattern
 
@@ -115,7 +116,7 @@ module _ (table : Table) where
     permuted-trees_of_terms d n no_terms = IsPermutation-refl []
     permuted-trees_of_terms d n (more_terms x q xs) =
         both_permuted n _ _ _ _ _ (length-names_of_term x q)
-        (subst (IsPermutation _) (sym (captures-tree_of_times q (tree_of_item table d n x))) (permuted-tree_of_item d n x))
+        (subst (IsPermutation _) (sym (captures-tree_of_times q n (n + (counts_of_item x).groups) (tree_of_item table d n x))) (permuted-tree_of_item d n x))
         (permuted-trees_of_terms d (n + (counts_of_term x q).groups) xs)
 
     permuted-tree_of_item : (d : Direction) (n : ℕ) (x : Item) →
@@ -152,15 +153,28 @@ count_id-numbered k n (x ∷ xs) =
     let first = sum_by-cons (λ c. cond (c.id == k) 1 0) (record { id = n; name = option_map encode_utf8_all x }) (numbered (n + 1) xs) in
     omega (arith, first, below-add-one k n, count_id-numbered k (n + 1) xs, ap (below k) same)
 
--- the ids behind n opened groups are those from n on, each once
-pub count_id-tree_of_pattern : (table : Table) (d : Direction) (k n : ℕ) (p : Pattern) →
-    below k n + count_id k (captures (tree_of_pattern table d n p)) ≡ below k (n + (counts p).groups)
-count_id-tree_of_pattern table d k n p =
+-- the ids of groups behind n opened ones are those from n on, each once
+count_id-permuted : (k n m : ℕ) (xs : List (Option Name)) (cs : List Capture) → length xs ≡ m → IsPermutation (numbered n xs) cs →
+    below k n + count_id k cs ≡ below k (n + m)
+count_id-permuted k n m xs cs e permuted =
     omega (
       arith,
-      sum_by-IsPermutation (λ c. cond (c.id == k) 1 0) _ _ (permuted-tree_of_pattern table d n p),
-      count_id-numbered k n (names p),
-      ap (λ m. below k (n + m)) (length-names p),
+      sum_by-IsPermutation (λ c. cond (c.id == k) 1 0) (numbered n xs) cs permuted,
+      count_id-numbered k n xs,
+      ap (λ j. below k (n + j)) e,
+    )
+
+between : (k n m : ℕ) → below k n + cond (nat_le n k && nat_lt k (n + m)) 1 0 ≡ below k (n + m)
+between k n m = grind (arith, nat_tests)
+
+-- those of an item lie inside the loop around it
+pub HasGroups-tree_of_item : (table : Table) (d : Direction) (n : ℕ) (x : Item) →
+    HasGroups n (n + (counts_of_item x).groups) (tree_of_item table d n x)
+HasGroups-tree_of_item table d n x k =
+    omega (
+      arith,
+      count_id-permuted k n _ _ _ (length-names_of_item x) (permuted-tree_of_item table d n x),
+      between k n (counts_of_item x).groups,
     )
 
 -- ---- forwards, in their order
@@ -193,7 +207,7 @@ module _ (table : Table) where
     captures-trees_of_terms n no_terms = refl
     captures-trees_of_terms n (more_terms x q xs) =
         both_in_order n _ _ _ _ _ (length-names_of_term x q)
-        (captures-tree_of_times q (tree_of_item table forwards n x) ∙ captures-tree_of_item n x)
+        (captures-tree_of_times q n (n + (counts_of_item x).groups) (tree_of_item table forwards n x) ∙ captures-tree_of_item n x)
         (captures-trees_of_terms (n + (counts_of_term x q).groups) xs)
 
     captures-tree_of_item : (n : ℕ) (x : Item) → captures (tree_of_item table forwards n x) ≡ numbered n (names_of_item x)
@@ -221,4 +235,5 @@ pub count_id-tree_of : (table : Table) (p : Pattern) (k : ℕ) →
 count_id-tree_of table p k =
     let none : below k 0 ≡ 0 = grind (arith, nat_tests) in
     let same : 0 + (counts p).groups ≡ length (captures (tree_of table p)) = omega (arith, length-captures-tree_of table p) in
-    omega (arith, none, ap (count_id k) (captures-of_whole table p), count_id-tree_of_pattern table forwards k 0 p, ap (below k) same)
+    let ids = count_id-permuted k 0 _ _ _ (length-names p) (permuted-tree_of_pattern table forwards 0 p) in
+    omega (arith, none, ap (count_id k) (captures-of_whole table p), ids, ap (below k) same)

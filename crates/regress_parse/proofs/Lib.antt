@@ -9,6 +9,7 @@ pub mod ParserLemmas
 pub mod AcceptedLemmas
 pub mod MeaningLemmas
 pub mod GroupLemmas
+pub mod CodePointLemmas
 pub mod WellFormedLemmas
 pub mod Meanings
 pub mod Examples

@@ -1,14 +1,24 @@
 -- The tree of a pattern means what the pattern does.
-use Rattle.std.proofs.Common.{◌≡◌, ℕ, ◌+◌, Bool, true, false, cond, not, ◌||◌, ◌==◌, List, Option, Some, None, encode_utf8_all, refl, sym, ap, ◌∙◌}
+use Rattle.std.proofs.Common.{◌≡◌, ℕ, ◌+◌, Bool, true, false, cond, not, ◌&&◌, ◌||◌, ◌==◌, List, [], ◌∷◌, length, Option, Some, None, encode_utf8_all, refl, sym, ap, subst, ◌∙◌}
+use Rattle.regress_base.specs.Brackets.{is_accepted}
+use Rattle.regress_base.specs.Intervals.{intervals_of}
 use Rattle.regress_tree.specs.Reading.{Direction, forwards, backwards, IsText, of_characters}
 use Rattle.regress_tree.specs.Steps.{State, Step, byte_state, distinct, stay, one_character}
 use Rattle.regress_tree.specs.Matching.{Setting, steps, steps_in_row}
-use Rattle.regress_tree.specs.Assertions.{is_line_terminator}
-use Rattle.regress_tree.specs.Tree.{Tree, Trees, leaf, no_trees, more_trees, match_any, match_any_except_line_terminator}
-use Rattle.regress_syntax.specs.Syntax.{Atom, literal, dot, Group, grouping, capture, Quantifier, Pattern, Terms, Item, one, either, no_terms, more_terms, atom, group, opened_by, counts_of_term, counts_of_terms}
-use Rattle.regress_syntax.specs.Meaning.{in_order, direction_of_group, group_steps, times_steps, atom_steps, pattern_steps, terms_steps, item_steps}
-use Rattle.regress_parse.specs.TreeOf.{turned, joined, tree_of_group, tree_of_times, leaf_of_atom, tree_of_pattern, trees_of_terms, tree_of_item, tree_of}
+use Rattle.regress_tree.specs.Assertions.{is_line_terminator, is_word_character, differ}
+use Rattle.regress_tree.specs.declared.ir.node.Quantifier.{Quantifier}
+use Rattle.regress_tree.specs.Literal.{class_of}
+use Rattle.regress_tree.specs.Table.{stands_for}
+use Rattle.regress_tree.specs.Tree.{Tree, Trees, leaf, no_trees, more_trees, match_any, match_any_except_line_terminator, char, char_set, bracket}
+use Rattle.regress_syntax.specs.Syntax.{Atom, literal, dot, anchor, boundary, class_escape, class, Group, grouping, capture, Pattern, Terms, Item, one, either, no_terms, more_terms, atom, group, opened_by, counts_of_item, counts_of_term, counts_of_terms}
+use Rattle.regress_syntax.specs.Meaning.{is_in_class, in_order, direction_of_group, group_steps, times_steps, atom_steps, pattern_steps, terms_steps, item_steps}
+use Rattle.regress_syntax.specs.ClassRows.{members_of}
+use Rattle.regress_parse.specs.TreeOf.{turned, joined, tree_of_group, tree_of_times, leaf_of_members, leaf_of_atom, tree_of_pattern, trees_of_terms, tree_of_item, tree_of}
 use Rattle.regress_parse.specs.Accepted.{Means}
+use Rattle.regress_tree.proofs.laws.Assertions.{Simulates-anchor, Simulates-boundary}
+use Rattle.regress_tree.proofs.laws.Classes.{agreeing_simulates, is_accepted-scalar}
+use Rattle.regress_tree.proofs.laws.Literals.{class_simulates, char_simulates}
+use Rattle.regress_tree.proofs.laws.Repetition.{Simulates-repeat}
 use Rattle.regress_tree.proofs.laws.ByteStates.{distinct-byte_state}
 use Rattle.regress_tree.proofs.laws.Outcomes.{flat_map-stay}
 use Rattle.regress_tree.proofs.laws.Simulation.{Simulates, Simulates-within, Simulates-same_right, Simulates-stay, Simulates-then, Simulates-or, Simulates-one_character, Simulates-capture}
@@ -69,10 +79,10 @@ module _ (setting : Setting) (text : List ℕ) where
   group_simulates d n grouping f body sim = sim
   group_simulates d n (capture name) f body sim = Simulates-capture text d n _ _ sim
 
-  times_simulate : (d : Direction) (q : Option Quantifier) (f : Step) (body : Tree) → TreeSimulates d f body →
-      TreeSimulates d (times_steps q f) (tree_of_times q body)
-  times_simulate d None f body sim = sim
-  times_simulate d (Some q) f body sim = elim q [ ]
+  times_simulate : (d : Direction) (q : Option Quantifier) (start end : ℕ) (f : Step) (body : Tree) → TreeSimulates d f body →
+      TreeSimulates d (times_steps (length text) q start end f) (tree_of_times q start end body)
+  times_simulate d None start end f body sim = sim
+  times_simulate d (Some q) start end f body sim = Simulates-repeat text d q start end _ _ sim
 
 module _ (setting : Setting) (text : List ℕ) (is_text : IsText text) where
   dot_simulates : (d : Direction) (dot_all : Bool) →
@@ -81,10 +91,48 @@ module _ (setting : Setting) (text : List ℕ) (is_text : IsText text) where
   dot_simulates d true = Simulates-one_character text is_text d (λ x. true)
   dot_simulates d false = Simulates-one_character text is_text d (λ x. not (is_line_terminator x))
 
+  -- the class of a literal, whatever it has
+  module _ (d : Direction) (icase unicode : Bool) (c : ℕ) where
+    set_simulates : (members : List ℕ) → class_of setting.table icase unicode c ≡ members →
+        TreeSimulates setting text d (one_character d (of_characters text) (stands_for setting.table icase unicode c))
+        (leaf (char_set members))
+    set_simulates members e =
+        subst
+        (λ xs.
+        TreeSimulates setting text d (one_character d (of_characters text) (stands_for setting.table icase unicode c)) (leaf (char_set xs)))
+        e (class_simulates setting text is_text d setting.table icase unicode c)
+
+    members_simulate : (members : List ℕ) → class_of setting.table icase unicode c ≡ members →
+        TreeSimulates setting text d (one_character d (of_characters text) (stands_for setting.table icase unicode c))
+        (leaf (leaf_of_members members))
+    members_simulate [] e = set_simulates [] e
+    members_simulate (x ∷ []) e = char_simulates setting text is_text d setting.table icase unicode c x e
+    members_simulate (x ∷ y ∷ rest) e = set_simulates (x ∷ y ∷ rest) e
+
+  literal_simulates : (d : Direction) (icase unicode : Bool) (c : ℕ) →
+      TreeSimulates setting text d (one_character d (of_characters text) (stands_for setting.table icase unicode c))
+      (leaf (cond icase (leaf_of_members (class_of setting.table true unicode c)) (char c)))
+  literal_simulates d true unicode c = members_simulate d true unicode c (class_of setting.table true unicode c) refl
+  literal_simulates d false unicode c = Simulates-one_character text is_text d (λ x. x == c)
+
+  -- a set, inverted or not
+  bracket_simulates : (d : Direction) (inverted : Bool) (p q : ℕ → Bool) → ((x : ℕ) → q x ≡ differ inverted (p x)) →
+      TreeSimulates setting text d (one_character d (of_characters text) q) (leaf (bracket inverted (intervals_of p)))
+  bracket_simulates d inverted p q e =
+      agreeing_simulates text is_text d q (is_accepted inverted (intervals_of p))
+      (λ x scalar_value. is_accepted-scalar inverted p x scalar_value ∙ sym (e x))
+
   atom_simulates : (d : Direction) (a : Atom) →
       TreeSimulates setting text d (atom_steps setting.table text d a) (leaf (leaf_of_atom setting.table a))
-  atom_simulates d (literal flags c) = Simulates-one_character text is_text d (λ x. x == c)
+  atom_simulates d (literal flags c) = literal_simulates d flags.icase flags.unicode c
   atom_simulates d (dot flags) = dot_simulates d flags.dot_all
+  atom_simulates d (anchor flags kind) = Simulates-anchor text is_text d kind flags.multiline
+  atom_simulates d (boundary flags inverted) =
+      Simulates-boundary text is_text d (is_word_character setting.table (flags.unicode && flags.icase)) inverted
+  atom_simulates d (class_escape flags kind negated) =
+      bracket_simulates d false (is_in_class setting.table flags negated (members_of kind)) _ (λ x. refl)
+  atom_simulates d (class flags inverted members) =
+      bracket_simulates d inverted (is_in_class setting.table flags false members) _ (λ x. refl)
 
   mutual
     -- equal with repeats, whatever stands before
@@ -99,9 +147,9 @@ module _ (setting : Setting) (text : List ℕ) (is_text : IsText text) where
         RowSimulates setting text d (terms_steps setting.table text d n ts) (trees_of_terms setting.table d n ts)
     terms_simulate d n no_terms = none_simulate setting text d
     terms_simulate d n (more_terms x q xs) =
-        more_simulate setting text d _ _ (tree_of_times q (tree_of_item setting.table d n x))
+        more_simulate setting text d _ _ (tree_of_times q n (n + (counts_of_item x).groups) (tree_of_item setting.table d n x))
         (trees_of_terms setting.table d (n + (counts_of_term x q).groups) xs)
-        (times_simulate setting text d q _ (tree_of_item setting.table d n x) (item_simulates d n x))
+        (times_simulate setting text d q n (n + (counts_of_item x).groups) _ (tree_of_item setting.table d n x) (item_simulates d n x))
         (terms_simulate d (n + (counts_of_term x q).groups) xs)
 
     item_simulates : (d : Direction) (n : ℕ) (x : Item) →

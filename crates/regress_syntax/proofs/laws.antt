@@ -3,3 +3,4 @@ pub mod Sources
 pub mod Behind
 pub mod Pieces
 pub mod Rows
+pub mod Values

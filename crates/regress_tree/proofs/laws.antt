@@ -4,6 +4,7 @@ pub mod Assertions
 pub mod ByteSequences
 pub mod ByteStates
 pub mod Characters
+pub mod Classes
 pub mod Closures
 pub mod Distinct
 pub mod Literals

@@ -103,7 +103,7 @@ class_of-itself table unicode c h =
     within : (x : ℕ) → (x == c) ≡ (nat_le x code_point_max && (x == c))
     within x = grind (arith, nat_tests)
 
-scalar_in_range : (x : ℕ) → IsScalar x → x ≤ code_point_max
+pub scalar_in_range : (x : ℕ) → IsScalar x → x ≤ code_point_max
 scalar_in_range x s = elim (scalar_cases x s) [ inl low ↦ omega arith | inr high ↦ omega arith ]
 
 module _ (table : Table) (icase unicode : Bool) (c : ℕ) where
