@@ -11,4 +11,7 @@ pub mod MeaningLemmas
 pub mod GroupLemmas
 pub mod WellFormedLemmas
 pub mod Meanings
+pub mod LoopMeanings
+pub mod AssertionMeanings
+pub mod CharacterMeanings
 pub mod Examples
