@@ -1,6 +1,5 @@
 -- The definitions at worked patterns, by computation.
 use Rattle.std.proofs.Common.{◌≡◌, ℕ, ◌-◌, ◌^◌, false, true, List, [], ◌∷◌, Option, Some, None, refl, codes}
-use Rattle.regress_base.specs.Intervals.{Bounds}
 use Rattle.regress_tree.specs.declared.ir.node.Quantifier.{Quantifier}
 use Rattle.regress_tree.specs.Reading.{forwards, backwards}
 use Rattle.regress_tree.specs.Shapes.{is_flattened_away}
@@ -13,7 +12,7 @@ use Rattle.regress_syntax.specs.Syntax.{Pattern, Terms, Item, one, either, no_te
 use Rattle.regress_parse.specs.Reader.{pattern_at}
 use Rattle.regress_parse.specs.TreeOf.{tree_of, tree_of_pattern}
 use Rattle.regress_parse.specs.Parsing.{context}
-use Rattle.regress_parse.proofs.Meanings.{no_flags, empty_table, plain, unicode, pattern_of}
+use Rattle.regress_parse.proofs.Meanings.{no_flags, empty_table, plain, unicode, pattern_of, run}
 
 abbrev letter : ℕ → Item
 letter c = atom (literal no_flags c)
@@ -95,10 +94,10 @@ abbrev letters : List ℕ → Terms
 letters [] = no_terms
 letters (c ∷ cs) = more_terms (letter c) None (letters cs)
 
--- `(a)*b(c){2}`
 abbrev captured_letter : ℕ → Item
 captured_letter c = group (capture None) (one (word (letter c)))
 
+-- `(a)*b(c){2}`
 abbrev looped_pattern : Pattern
 looped_pattern =
     one (more_terms (captured_letter 97) (Some (quantifier 0 None))
@@ -155,9 +154,6 @@ unfolding pattern_of
 great_numbers = refl
 
 -- ---- escapes and classes
-
-abbrev run : ℕ → ℕ → Bounds
-run first last = record { first = first; last = last }
 
 -- a class is no end of a range, so that all three parts are members
 hyphen_behind_a_class : pattern_of plain (codes "[\\d-z]")

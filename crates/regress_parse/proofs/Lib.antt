@@ -13,5 +13,6 @@ pub mod WellFormedLemmas
 pub mod Meanings
 pub mod LoopMeanings
 pub mod AssertionMeanings
+pub mod CharacterSets
 pub mod CharacterMeanings
 pub mod Examples

@@ -140,7 +140,8 @@ unfolding Gives
 a_group_of_zero_turns_is_unset = (refl, refl)
 
 each_turn_captures_anew : Gives plain (codes "(?:(a?)b?){3}") (codes "ab")
-    (from 0 (at 2 (span 2 2 ∷ []) ∷ at 2 (span 1 1 ∷ []) ∷ at 1 (span 1 1 ∷ []) ∷ at 2 (span 0 1 ∷ []) ∷ at 1 (span 0 1 ∷ []) ∷ at 0 (span 0 0 ∷ []) ∷ []) ∷
+    (from 0 (at 2 (span 2 2 ∷ []) ∷ at 2 (span 1 1 ∷ []) ∷ at 1 (span 1 1 ∷ []) ∷ at 2 (span 0 1 ∷ []) ∷
+    at 1 (span 0 1 ∷ []) ∷ at 0 (span 0 0 ∷ []) ∷ []) ∷
     from 1 (at 2 (span 2 2 ∷ []) ∷ at 2 (span 1 1 ∷ []) ∷ at 1 (span 1 1 ∷ []) ∷ []) ∷
     from 2 (at 2 (span 2 2 ∷ []) ∷ []) ∷ [])
 unfolding Gives
@@ -165,15 +166,18 @@ a_lazy_turn_forgets_too : Gives plain (codes "((a)|b)*?c") (codes "abc")
 unfolding Gives
 a_lazy_turn_forgets_too = (refl, refl)
 
-a_turn_forgets_no_group_outside : Gives plain (codes "(a)|(?:b(c)?)+") (codes "bcb")
+the_last_turn_may_pass_its_group_by : Gives plain (codes "(a)|(?:b(c)?)+") (codes "bcb")
     (from 0 (at 3 (unset ∷ unset ∷ []) ∷ at 2 (unset ∷ span 1 2 ∷ []) ∷ at 1 (unset ∷ unset ∷ []) ∷ []) ∷
     from 1 [] ∷
     from 3 [] ∷ [])
 unfolding Gives
-a_turn_forgets_no_group_outside = (refl, refl)
+the_last_turn_may_pass_its_group_by = (refl, refl)
 
 each_turn_begins_with_all_groups_inside_unset : Gives plain (codes "(z)((a+)?(b+)?(c))*") (codes "zaacbbbcac")
-    (from 0 (at 10 (span 0 1 ∷ span 8 10 ∷ span 8 9 ∷ unset ∷ span 9 10 ∷ []) ∷ at 8 (span 0 1 ∷ span 4 8 ∷ unset ∷ span 4 7 ∷ span 7 8 ∷ []) ∷ at 4 (span 0 1 ∷ span 1 4 ∷ span 1 3 ∷ unset ∷ span 3 4 ∷ []) ∷ at 1 (span 0 1 ∷ unset ∷ unset ∷ unset ∷ unset ∷ []) ∷ []) ∷
+    (from 0 (at 10 (span 0 1 ∷ span 8 10 ∷ span 8 9 ∷ unset ∷ span 9 10 ∷ []) ∷
+    at 8 (span 0 1 ∷ span 4 8 ∷ unset ∷ span 4 7 ∷ span 7 8 ∷ []) ∷
+    at 4 (span 0 1 ∷ span 1 4 ∷ span 1 3 ∷ unset ∷ span 3 4 ∷ []) ∷
+    at 1 (span 0 1 ∷ unset ∷ unset ∷ unset ∷ unset ∷ []) ∷ []) ∷
     from 5 [] ∷
     from 10 [] ∷ [])
 unfolding Gives

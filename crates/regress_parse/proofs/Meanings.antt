@@ -1,11 +1,12 @@
 -- What patterns match on texts, by computation of the definitions. The first outcomes are what V8 11.3 answers to a sticky
--- match from the place; the others, and what matches characters past U+FFFF, follow from the rules of ECMA-262.
+-- match from the place; the others, and what matches characters past U+FFFF, follow from the rules of ECMA-262. The same stands
+-- for the worked meanings in the files beside this one.
 use Rattle.std.proofs.Common.{◌≡◌, ℕ, false, true, List, [], ◌∷◌, map, Option, Some, None, option_map, encode_utf8_all, refl, codes}
 use Rattle.std.specs.Char.{encode_utf8}
 use Rattle.std.specs.Str.{chars}
 use Rattle.std.proofs.Math.ListN.{replicate}
 use Rattle.regress_base.specs.declared.types.Flags.{Flags}
-use Rattle.regress_base.specs.Intervals.{is_member, is_within}
+use Rattle.regress_base.specs.Intervals.{Bounds, is_member, is_within}
 use Rattle.regress_tree.specs.FoldRows.{image}
 use Rattle.regress_tree.specs.Reading.{forwards, byte_place, character_at, read_after, read_before}
 use Rattle.regress_tree.specs.Repetition.{repeat}
@@ -101,11 +102,6 @@ Gives setting source text rows =
     (outcomes setting source text (map (λ r. r.0) rows) ≡ Some (map (λ r. r.1) rows))
     × (tree_outcomes setting source text (map (λ r. r.0) rows) ≡ Some (map (λ r. map (byte_state text) r.1) rows))
 
--- The same of the pattern alone.
-unfoldable pub GivesAsPattern : Setting → Source → List ℕ → List Row → Type 0
-unfolding outcomes
-GivesAsPattern setting source text rows = outcomes setting source text (map (λ r. r.0) rows) ≡ Some (map (λ r. r.1) rows)
-
 -- rows and outcomes in few words: a place, and what each group has captured
 abbrev pub from : ℕ → List State → Row
 from place states = (place, states)
@@ -118,6 +114,9 @@ unset = None
 
 abbrev pub span : ℕ → ℕ → Option Span
 span first last = Some (first, last)
+
+abbrev pub run : ℕ → ℕ → Bounds
+run first last = record { first = first; last = last }
 
 -- ---- alternatives, groups and `.`
 
