@@ -12,4 +12,8 @@ pub mod GroupLemmas
 pub mod CodePointLemmas
 pub mod WellFormedLemmas
 pub mod Meanings
+pub mod LoopMeanings
+pub mod AssertionMeanings
+pub mod CharacterSets
+pub mod CharacterMeanings
 pub mod Examples

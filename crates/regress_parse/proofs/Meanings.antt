@@ -1,16 +1,24 @@
 -- What patterns match on texts, by computation of the definitions. The first outcomes are what V8 11.3 answers to a sticky
--- match from the place; the others, and what matches characters past U+FFFF, follow from the rules of ECMA-262.
+-- match from the place; the others, and what matches characters past U+FFFF, follow from the rules of ECMA-262. The same stands
+-- for the worked meanings in the files beside this one.
 use Rattle.std.proofs.Common.{◌≡◌, ℕ, false, true, List, [], ◌∷◌, map, Option, Some, None, option_map, encode_utf8_all, refl, codes}
 use Rattle.std.specs.Char.{encode_utf8}
 use Rattle.std.specs.Str.{chars}
 use Rattle.std.proofs.Math.ListN.{replicate}
 use Rattle.regress_base.specs.declared.types.Flags.{Flags}
-use Rattle.regress_base.specs.Intervals.{is_member, is_within}
-use Rattle.regress_tree.specs.Reading.{forwards, byte_place, character_at, read_after}
-use Rattle.regress_tree.specs.Steps.{Span, State, byte_state, one_character, capture as captures, same_state}
-use Rattle.regress_tree.specs.Table.{Table}
+use Rattle.regress_base.specs.Intervals.{Bounds, is_member, is_within}
+use Rattle.regress_tree.specs.FoldRows.{image}
+use Rattle.regress_tree.specs.Reading.{forwards, byte_place, character_at, read_after, read_before}
+use Rattle.regress_tree.specs.Repetition.{repeat}
+use Rattle.regress_tree.specs.SmallTable.{small_table}
+use Rattle.regress_tree.specs.Steps.{Span, State, byte_state, one_character, hold_at, capture as captures, same_state}
+use Rattle.regress_tree.specs.Table.{Table, is_in_closure}
 use Rattle.regress_tree.specs.Matching.{Setting, matches}
+use Rattle.regress_syntax.specs.ClassRows.{class_at, class_parts_by}
+use Rattle.regress_syntax.specs.Digits.{front, behind}
+use Rattle.regress_syntax.specs.Escapes.{escape_at, unicode_at}
 use Rattle.regress_syntax.specs.Meaning.{meaning}
+use Rattle.regress_syntax.specs.Quantifiers.{quantifier_at}
 use Rattle.regress_syntax.specs.Rows.{head_at, times_at}
 use Rattle.regress_syntax.specs.Source.{Source, Found}
 use Rattle.regress_syntax.specs.Syntax.{Pattern, counts}
@@ -35,14 +43,35 @@ empty_table = record {
   strings = [];
 }
 
+-- settings by their flags
 abbrev pub plain : Setting
 plain = record { flags = no_flags; table = empty_table }
 
--- the pattern that the whole source is
-abbrev pub whole : Found Pattern → Option Pattern
+abbrev pub dot_all : Setting
+dot_all = record plain { flags = record no_flags { dot_all = true } }
+
+abbrev pub multiline : Setting
+multiline = record plain { flags = record no_flags { multiline = true } }
+
+-- with the small table's letters
+abbrev pub unicode : Setting
+unicode = record { flags = record no_flags { unicode = true }; table = small_table }
+
+abbrev pub icase : Setting
+icase = record { flags = record no_flags { icase = true }; table = small_table }
+
+abbrev pub icase_unicode : Setting
+icase_unicode = record { flags = record no_flags { icase = true; unicode = true }; table = small_table }
+
+abbrev whole : Found Pattern → Option Pattern
 whole None = None
 whole (Some (p, [])) = Some p
 whole (Some (p, c ∷ rest)) = None
+
+-- the pattern that the whole source is
+unfoldable pub pattern_of : Setting → Source → Option Pattern
+unfolding pattern_at read_terms head_at times_at quantifier_at front behind escape_at unicode_at class_at class_parts_by
+pattern_of setting source = whole (pattern_at (context setting) source)
 
 -- at a place, where no group of the pattern has captured
 abbrev pub start : Pattern → ℕ → State
@@ -50,17 +79,17 @@ start p place = record { place = place; captures = replicate (counts p).groups N
 
 -- the pattern's outcomes on the text from each of the places
 unfoldable pub outcomes : Setting → Source → List ℕ → List ℕ → Option (List (List State))
-unfolding pattern_at read_terms head_at times_at one_character captures same_state is_member is_within
+unfolding pattern_of one_character hold_at captures repeat same_state is_member is_within is_in_closure image small_table
 outcomes setting source text places =
-    option_map (λ p. map (λ k. meaning setting.table text forwards p (start p k)) places) (whole (pattern_at (context setting) source))
+    option_map (λ p. map (λ k. meaning setting.table text forwards p (start p k)) places) (pattern_of setting source)
 
 -- its tree's over the bytes of the text, from the same places
 unfoldable pub tree_outcomes : Setting → Source → List ℕ → List ℕ → Option (List (List State))
-unfolding outcomes chars encode_utf8 character_at read_after byte_place
+unfolding outcomes chars encode_utf8 character_at read_after read_before byte_place
 tree_outcomes setting source text places =
     option_map
     (λ p. map (λ k. matches setting (encode_utf8_all text) forwards (tree_of setting.table p) (byte_state text (start p k))) places)
-    (whole (pattern_at (context setting) source))
+    (pattern_of setting source)
 
 -- a place, and the outcomes from there
 abbrev pub Row : Type 0
@@ -86,10 +115,10 @@ unset = None
 abbrev pub span : ℕ → ℕ → Option Span
 span first last = Some (first, last)
 
--- ---- without flags, and with s
+abbrev pub run : ℕ → ℕ → Bounds
+run first last = record { first = first; last = last }
 
-abbrev dot_all : Setting
-dot_all = record plain { flags = record no_flags { dot_all = true } }
+-- ---- alternatives, groups and `.`
 
 the_empty_pattern_matches_at_each_place : Gives plain [] (codes "ab")
     (from 0 (at 0 [] ∷ []) ∷ from 1 (at 1 [] ∷ []) ∷ from 2 (at 2 [] ∷ []) ∷ [])
