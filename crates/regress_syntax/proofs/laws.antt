@@ -1,3 +1,4 @@
 -- Laws of this crate's definitions, which the crates above may cite.
 pub mod Sources
 pub mod Behind
+pub mod InRange
