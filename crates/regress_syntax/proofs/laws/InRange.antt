@@ -34,9 +34,9 @@ finds_then P Q (Some x) next h k = k x (h.each x refl)
 hex_at-in_range : (n : ℕ) (t : Source) → n ≤ 4 → Finds (λ x. x < 0x10000) (hex_at n t)
 hex_at-in_range n t few =
     finds_cond _ (length (take n t) == n && list_all is_hex (take n t)) _ _
-      (λ e. finds_some _ (number 16 (take n t), drop n t)
-        (hex_fits (take n t) (omega (arith, length-take n t)) (and_both _ _ e).1))
-      (λ e. finds_none _)
+    (λ e. finds_some _ (number 16 (take n t), drop n t)
+    (hex_fits (take n t) (omega (arith, length-take n t)) (and_both _ _ e).1))
+    (λ e. finds_none _)
 
 hex_at-code_point : (n : ℕ) (t : Source) → n ≤ 4 → Finds IsCodePoint (hex_at n t)
 hex_at-code_point n t few = record { each = λ x e. let small = (hex_at-in_range n t few).each x e in omega arith }
@@ -44,15 +44,15 @@ hex_at-code_point n t few = record { each = λ x e. let small = (hex_at-in_range
 braced_hex_at-in_range : (t : Source) → Finds IsCodePoint (braced_hex_at t)
 braced_hex_at-in_range t =
     finds_cond _ (not (length (front is_hex t) == 0) && is_at 125 (behind is_hex t) && nat_le (number 16 (front is_hex t)) code_point_max) _ _
-      (λ e. finds_some _ (number 16 (front is_hex t), _) (leb-true _ _ (and_both _ _ e).1))
-      (λ e. finds_none _)
+    (λ e. finds_some _ (number 16 (front is_hex t), _) (leb-true _ _ (and_both _ _ e).1))
+    (λ e. finds_none _)
 
 second_half_at-in_range : (t : Source) → Finds (λ low. low ≤ 0xDFFF) (second_half_at t)
 second_half_at-in_range t =
     finds_cond _ (is_at 92 t && is_at 117 (drop 1 t)) _ _
-      (λ _. finds_then _ _ (hex_at 4 (drop 2 t)) _ (hex_at-in_range 4 (drop 2 t) (omega arith))
-        (λ x _. finds_cond _ (is_between 0xDC00 0xDFFF x.0) _ _ (λ e. finds_some _ x (leb-true _ _ (and_both _ _ e).1)) (λ e. finds_none _)))
-      (λ _. finds_none _)
+    (λ _. finds_then _ _ (hex_at 4 (drop 2 t)) _ (hex_at-in_range 4 (drop 2 t) (omega arith))
+    (λ x _. finds_cond _ (is_between 0xDC00 0xDFFF x.0) _ _ (λ e. finds_some _ x (leb-true _ _ (and_both _ _ e).1)) (λ e. finds_none _)))
+    (λ _. finds_none _)
 
 -- the two halves
 paired_in_range : (high low : ℕ) → high ≤ 0xDBFF → low ≤ 0xDFFF → paired high low ≤ code_point_max
@@ -66,15 +66,15 @@ halves_in_range high t (Some low) small h = finds_some _ (paired high low.0, low
 with_second_half-in_range : (x : ℕ × Source) → x.0 < 0x10000 → Finds IsCodePoint (with_second_half x)
 with_second_half-in_range (high, t) small =
     finds_cond _ (is_between 0xD800 0xDBFF high) _ _
-      (λ e. halves_in_range high t (second_half_at t) (leb-true _ _ (and_both _ _ e).1) (second_half_at-in_range t))
-      (λ e. finds_some _ (high, t) (omega arith))
+    (λ e. halves_in_range high t (second_half_at t) (leb-true _ _ (and_both _ _ e).1) (second_half_at-in_range t))
+    (λ e. finds_some _ (high, t) (omega arith))
 
 unicode_at-in_range : (t : Source) → Finds IsCodePoint (unicode_at t)
 unfolding unicode_at
 unicode_at-in_range t =
     finds_cond _ (is_at 123 t) _ _
-      (λ _. braced_hex_at-in_range (drop 1 t))
-      (λ _. finds_then _ _ (hex_at 4 t) with_second_half (hex_at-in_range 4 t (omega arith)) with_second_half-in_range)
+    (λ _. braced_hex_at-in_range (drop 1 t))
+    (λ _. finds_then _ _ (hex_at 4 t) with_second_half (hex_at-in_range 4 t (omega arith)) with_second_half-in_range)
 
 or_itself-in_range : (unicode : Bool) (c : ℕ) (t : Source) (found : Found ℕ) → IsCodePoint c → Finds IsCodePoint found →
     Finds IsCodePoint (or_itself unicode c t found)
@@ -89,12 +89,12 @@ control_at-in_range (d ∷ t) =
 other_escape-in_range : (unicode : Bool) (c : ℕ) (t : Source) → IsCodePoint c → Finds IsCodePoint (other_escape unicode c t)
 other_escape-in_range unicode c t c_in =
     finds_cond _ (c == 99) _ _ (λ _. control_at-in_range t)
-      (λ _. finds_cond _ (c == 48 && not (begins_with_digit t)) _ _ (λ _. finds_some _ (0, t) (omega arith))
-        (λ _. finds_cond _ (c == 120) _ _ (λ _. or_itself-in_range unicode c t (hex_at 2 t) c_in (hex_at-code_point 2 t (omega arith)))
-          (λ _. finds_cond _ (c == 117) _ _ (λ _. or_itself-in_range unicode c t (unicode_at t) c_in (unicode_at-in_range t))
-            (λ _. finds_cond _ (not unicode && is_octal c) _ _
-              (λ _. finds_some _ (number 8 (octal_digits c t), _) (let small = octal_number_fits c t in omega arith))
-              (λ _. finds_cond _ (is_syntax_character c || not unicode) _ _ (λ _. finds_some _ (c, t) c_in) (λ _. finds_none _))))))
+    (λ _. finds_cond _ (c == 48 && not (begins_with_digit t)) _ _ (λ _. finds_some _ (0, t) (omega arith))
+    (λ _. finds_cond _ (c == 120) _ _ (λ _. or_itself-in_range unicode c t (hex_at 2 t) c_in (hex_at-code_point 2 t (omega arith)))
+    (λ _. finds_cond _ (c == 117) _ _ (λ _. or_itself-in_range unicode c t (unicode_at t) c_in (unicode_at-in_range t))
+    (λ _. finds_cond _ (not unicode && is_octal c) _ _
+    (λ _. finds_some _ (number 8 (octal_digits c t), _) (let small = octal_number_fits c t in omega arith))
+    (λ _. finds_cond _ (is_syntax_character c || not unicode) _ _ (λ _. finds_some _ (c, t) c_in) (λ _. finds_none _))))))
 
 some_cond : (P : ℕ → Type 0) (b : Bool) (x : ℕ) (o : Option ℕ) → P x → IfSome o P → IfSome (cond b (Some x) o) P
 some_cond P true x o h k = h
@@ -103,9 +103,9 @@ some_cond P false x o h k = k
 letter_escape-in_range : (c : ℕ) → IfSome (letter_escape c) IsCodePoint
 letter_escape-in_range c =
     some_cond IsCodePoint (c == 102) 0xC _ (omega arith)
-      (some_cond IsCodePoint (c == 110) 0xA _ (omega arith)
-        (some_cond IsCodePoint (c == 114) 0xD _ (omega arith)
-          (some_cond IsCodePoint (c == 116) 0x9 _ (omega arith) (some_cond IsCodePoint (c == 118) 0xB None (omega arith) tt))))
+    (some_cond IsCodePoint (c == 110) 0xA _ (omega arith)
+    (some_cond IsCodePoint (c == 114) 0xD _ (omega arith)
+    (some_cond IsCodePoint (c == 116) 0x9 _ (omega arith) (some_cond IsCodePoint (c == 118) 0xB None (omega arith) tt))))
 
 escape_by-in_range : (unicode : Bool) (c : ℕ) (t : Source) (letter : Option ℕ) → IfSome letter IsCodePoint → IsCodePoint c →
     Finds IsCodePoint (elim letter as (λ _. Found ℕ) [ None ↦ other_escape unicode c t | Some x ↦ Some (x, t) ])
