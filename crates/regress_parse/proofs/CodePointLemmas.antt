@@ -16,7 +16,7 @@ use Rattle.regress_syntax.specs.Syntax.{Atom, literal, dot, anchor, boundary, cl
 use Rattle.regress_syntax.proofs.laws.Behind.{IsBehind, behind_all, behind_drop, Ends, escape_at-ends, quantifier_at-ends}
 use Rattle.regress_syntax.proofs.laws.Pieces.{class_at-ends}
 use Rattle.regress_syntax.proofs.laws.Sources.{from_each}
-use Rattle.regress_syntax.proofs.laws.Values.{escape_at-in_range}
+use Rattle.regress_syntax.proofs.laws.InRange.{escape_at-in_range}
 
 -- the source is made of code points
 pub record AreCodePoints (t : Source) : Type 0 where
@@ -89,7 +89,7 @@ module _ (ctx : Context) where
       good_cond IsGoodAtom (is_between 49 57 c || c == 107 || (unicode && (c == 112 || c == 80))) None _ tt
       (good_map IsCodePoint IsGoodAtom (literal ctx.setting.flags) (escape_at unicode (c ∷ t)) (λ d h. h)
       (good_ends IsCodePoint (c ∷ t) (escape_at unicode (c ∷ t)) all (escape_at-ends unicode (c ∷ t))
-      (escape_at-in_range unicode (c ∷ t) all.each)))
+      (from_each (escape_at unicode (c ∷ t)) _ (escape_at-in_range unicode (c ∷ t) all.each).each)))
 
   escaped_by-good : (c : ℕ) (t : Source) → AreCodePoints (c ∷ t) → IsGood IsGoodAtom (escaped_by ctx c t)
   escaped_by-good c t all = by_letter (class_letter c)

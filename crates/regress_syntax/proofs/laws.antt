@@ -1,6 +1,6 @@
 -- Laws of this crate's definitions, which the crates above may cite.
 pub mod Sources
 pub mod Behind
+pub mod InRange
 pub mod Pieces
 pub mod Rows
-pub mod Values
