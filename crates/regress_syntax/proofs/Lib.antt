@@ -1,1 +1,2 @@
 pub mod laws
+mod ClassLemmas

@@ -1,6 +1,6 @@
 -- What the values of the code stand for.
-use Rattle.std.specs.Prelude.{◌≡◌, Bool, List, [], None}
-use Rattle.regress_base.specs.Intervals.{Bounds, is_member, intervals_of}
+use Rattle.std.specs.Prelude.{◌≡◌, ℕ, ◌≤◌, Bool, ◌||◌, List, [], None}
+use Rattle.regress_base.specs.Intervals.{Bounds, code_point_max, is_member, intervals_of}
 use Rattle.regress_base.specs.declared.types.Flags.{Flags}
 use Rattle.regress_tree.specs.TableOf.{setting_of}
 use Rattle.regress_syntax.specs.declared.cursor.Cursor.{Cursor}
@@ -39,6 +39,10 @@ IsClassAtomInRange (class_atoms.Class kind negated) = Unit {0}
 -- The set has these members: the code keeps a set as it is, not how it was written.
 abbrev pub HasMembers : List Bounds → List Bounds → Type 0
 HasMembers members set = set ≡ intervals_of (is_member members)
+
+-- The new set has these members too.
+abbrev pub Adds : List Bounds → (old new : List Bounds) → Type 0
+Adds members old new = (c : ℕ) → c ≤ code_point_max → is_member new c ≡ (is_member old c || is_member members c)
 
 -- a class of the code, and what it is under the flags
 abbrev pub IsClass : Flags → (inverted : Bool) → List Bounds → Atom → Type 0
