@@ -5,7 +5,7 @@ use Rattle.regress_base.specs.Intervals.{Bounds, code_point_max, is_within, is_m
 use Rattle.regress_base.proofs.laws.Sets.{or_assoc, is_member-nil, is_member-one, is_member-append, canonical_is, intervals_of-member}
 use Rattle.regress_base.specs.declared.charclasses.CharacterClassType.{CharacterClassType}
 use Rattle.regress_syntax.specs.Source.{Source, Found, ◌>>=◌, is_at}
-use Rattle.regress_syntax.specs.ClassRows.{ClassAtom, atom_members, class_atom_at, begins_range, range_at, members_of, class_members, class_part_at, class_parts_by}
+use Rattle.regress_syntax.specs.ClassRows.{ClassAtom, atom_members, class_atom_at, begins_range, range_at, members_of, class_members, class_part_at, class_parts_by, class_at}
 use Rattle.regress_syntax.specs.Views.{HasMembers, Adds}
 use Rattle.regress_syntax.proofs.laws.Pieces.{more_parts, parts_closed, parts_go_on}
 
@@ -83,3 +83,10 @@ none_behind unicode t rest set so_far goes_on none =
     ∙ ap (more_parts so_far.members)
       (parts_go_on unicode rest goes_on
       ∙ ap (λ (part : Found (List Bounds)). part >>= λ (x : List Bounds × Source). more_parts x.0 (class_parts_by (length x.1 + 1) unicode x.1)) none)
+
+-- a class is its parts, behind `^` where that stands there
+pub class_is : (unicode inverted : Bool) (t inside : Source) (parts : Found (List Bounds)) → inverted ≡ is_at 94 t →
+    inside ≡ cond inverted (drop 1 t) t → class_parts_by (length inside + 1) unicode inside ≡ parts →
+    class_at unicode t ≡ parts >>= λ (x : List Bounds × Source). Some ((inverted, x.0), x.1)
+unfolding class_at
+class_is unicode inverted t inside parts found moves e = rw (← found, ← moves, e) refl
