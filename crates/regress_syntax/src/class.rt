@@ -13,6 +13,9 @@ use crate::fault::{INVALID_RANGE, ParseFault, REVERSED_RANGE, syntax};
 use regress_base::codepointset::{CodePointSet, Interval};
 use std::alloc::{AllocError, Global};
 
+#[cfg(test)]
+mod tests;
+
 /// A class: what stands between its brackets, and whether it is inverted.
 #[derive(Drop)]
 pub(crate) struct Class {

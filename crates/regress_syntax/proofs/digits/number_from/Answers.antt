@@ -1,0 +1,13 @@
+use Rattle.std.proofs.Common.{refl, ◌≡◌, ◌≤◌, ◌<◌, ◌-◌, ◌+◌, ◌*◌, ◌^◌, ℕ, min, take, drop, length, get_or, ap, arith, sym, ◌∙◌}
+use Rattle.std.proofs.lemmas.Grind.{common_steps}
+use Rattle.regress_syntax.specs.Digits.{is_decimal, is_octal, is_hex, digit, number_from, front, behind}
+use Rattle.regress_syntax.proofs.DigitLemmas.{number_from-more, saturates}
+use Rattle.regress_syntax.proofs.digits.number_from.Goals as goal
+
+pub loop-c-preserved : goal.loop-c-preserved
+loop-c-preserved c =
+    let i = c.loop-c.c-index in
+    let t = c.args.digits.now in
+    let step = saturates c.args.base (number_from c.args.base c.args.first (take i t)) (digit (get_or t i 0)) (2 ^ 64 - 1) c.requires in
+    let more = number_from-more c.args.base c.args.first t i 0 c.loop-c-test.true in
+    rw more (rw (← step, c.saturating_add-number.ensures, c.saturating_mul.ensures, c.digit.ensures, c.loop-c.invariant) refl)
