@@ -30,7 +30,7 @@ pub alone_read : (unicode : Bool) (t rest : Source) (atom : ClassAtom) → class
     begins_range rest ≡ false → class_part_at unicode t ≡ Some (atom_members atom, rest)
 alone_read unicode t rest atom found alone =
     ap (λ (first : Found ClassAtom). first >>= λ (x : ClassAtom × Source).
-      cond (begins_range x.1) (range_at unicode x.0 (drop 1 x.1)) (Some (atom_members x.0, x.1))) found
+    cond (begins_range x.1) (range_at unicode x.0 (drop 1 x.1)) (Some (atom_members x.0, x.1))) found
     ∙ cond-false _ _ _ alone
 
 -- ---- the parts so far
@@ -62,27 +62,28 @@ one_more_read unicode t rest behind set new members so_far goes_on found adds = 
   members = so_far.members ++ members;
   whole = so_far.whole
       ∙ ap (more_parts so_far.members)
-        (parts_go_on unicode rest goes_on
-        ∙ ap (λ (part : Found (List Bounds)). part >>= λ (x : List Bounds × Source). more_parts x.0 (class_parts_by (length x.1 + 1) unicode x.1)) found)
+      (parts_go_on unicode rest goes_on
+      ∙ ap (λ (part : Found (List Bounds)). part >>= λ (x : List Bounds × Source). more_parts x.0 (class_parts_by (length x.1 + 1) unicode x.1)) found)
       ∙ more_parts-more so_far.members members (class_parts_by (length behind + 1) unicode behind);
   held = λ c h. adds c h ∙ ap (λ b. b || is_member members c) (so_far.held c h) ∙ sym (is_member-append so_far.members members c);
 }
 
 pub all_read : (unicode : Bool) (t rest : Source) (set : List Bounds) → ReadUpTo unicode t rest set → is_at 93 rest ≡ true →
     IsCanonical set → (members : List Bounds) × (class_parts_by (length t + 1) unicode t ≡ Some (members, drop 1 rest)) × HasMembers members set
-all_read unicode t rest set so_far closes canonical =
-    (so_far.members,
-    so_far.whole ∙ ap (more_parts so_far.members) (parts_closed unicode rest closes)
-    ∙ ap (λ (l : List Bounds). Some (l, drop 1 rest)) (append-nil so_far.members),
-    canonical_is set (is_member so_far.members) canonical so_far.held)
+all_read unicode t rest set so_far closes canonical = (
+  so_far.members,
+  so_far.whole ∙ ap (more_parts so_far.members) (parts_closed unicode rest closes)
+      ∙ ap (λ (l : List Bounds). Some (l, drop 1 rest)) (append-nil so_far.members),
+  canonical_is set (is_member so_far.members) canonical so_far.held,
+)
 
 pub none_behind : (unicode : Bool) (t rest : Source) (set : List Bounds) → ReadUpTo unicode t rest set → is_at 93 rest ≡ false →
     class_part_at unicode rest ≡ None → class_parts_by (length t + 1) unicode t ≡ None
 none_behind unicode t rest set so_far goes_on none =
     so_far.whole
     ∙ ap (more_parts so_far.members)
-      (parts_go_on unicode rest goes_on
-      ∙ ap (λ (part : Found (List Bounds)). part >>= λ (x : List Bounds × Source). more_parts x.0 (class_parts_by (length x.1 + 1) unicode x.1)) none)
+    (parts_go_on unicode rest goes_on
+    ∙ ap (λ (part : Found (List Bounds)). part >>= λ (x : List Bounds × Source). more_parts x.0 (class_parts_by (length x.1 + 1) unicode x.1)) none)
 
 -- a class is its parts, behind `^` where that stands there
 pub class_is : (unicode inverted : Bool) (t inside : Source) (parts : Found (List Bounds)) → inverted ≡ is_at 94 t →

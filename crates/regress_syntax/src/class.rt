@@ -47,11 +47,7 @@ fn read_parts(cursor: &mut Cursor, unicode: bool) -> Result<CodePointSet, ParseF
 }
 
 /// Reads an atom or a range, and adds what it holds.
-fn read_part(
-    cursor: &mut Cursor,
-    unicode: bool,
-    set: &mut CodePointSet,
-) -> Result<(), ParseFault>
+fn read_part(cursor: &mut Cursor, unicode: bool, set: &mut CodePointSet) -> Result<(), ParseFault>
     ensures { ReadsAs (λ _ members. Adds members set.old set.new) (source cursor.new) result (class_part_at unicode (source cursor.old)) }
 {
     let first = read_class_atom(cursor, unicode)?;

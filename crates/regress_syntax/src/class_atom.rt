@@ -9,10 +9,7 @@ use crate::class_escape::class_letter;
 use crate::cursor::Cursor;
 use crate::digits::{Read, control, is_decimal, is_letter};
 use crate::escape::{escape_fault, read_escape};
-use crate::fault::{
-    ParseFault, UNBALANCED_BRACKET, UNSUPPORTED,
-    UNTERMINATED_ESCAPE, syntax,
-};
+use crate::fault::{ParseFault, UNBALANCED_BRACKET, UNSUPPORTED, UNTERMINATED_ESCAPE, syntax};
 use regress_base::charclasses::CharacterClassType;
 
 /// An atom of a class.

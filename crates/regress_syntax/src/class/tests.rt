@@ -34,10 +34,8 @@ fn read(alloc: Global, text: &str, unicode: bool) -> Result<(Class, usize), Pars
 fn has(set: &CodePointSet, ends: Ends) -> bool {
     let intervals = set.intervals();
     intervals.len() == ends.len()
-        && intervals
-            .iter()
-            .zip(ends)
-            .all(|(interval, (first, last))| interval.first() == *first && interval.last() == *last)
+        && intervals.iter().zip(ends).all(|(interval, (first, last))| interval.first() == *first
+            && interval.last() == *last)
 }
 
 #[test]
@@ -54,18 +52,21 @@ fn classes_hold_their_parts(rt: HostRuntime) -> Result<(), Fail> {
         ("---]", &[(0x2D, 0x2D)]),
         ("\\b]", &[(8, 8)]),
         ("\\D]", &[(0, 0x2F), (0x3A, 0x10FFFF)]),
-        ("\\s]", &[
-            (0x9, 0xD),
-            (0x20, 0x20),
-            (0xA0, 0xA0),
-            (0x1680, 0x1680),
-            (0x2000, 0x200A),
-            (0x2028, 0x2029),
-            (0x202F, 0x202F),
-            (0x205F, 0x205F),
-            (0x3000, 0x3000),
-            (0xFEFF, 0xFEFF),
-        ]),
+        (
+            "\\s]",
+            &[
+                (0x9, 0xD),
+                (0x20, 0x20),
+                (0xA0, 0xA0),
+                (0x1680, 0x1680),
+                (0x2000, 0x200A),
+                (0x2028, 0x2029),
+                (0x202F, 0x202F),
+                (0x205F, 0x205F),
+                (0x3000, 0x3000),
+                (0xFEFF, 0xFEFF),
+            ],
+        ),
         ("\\x41-\\x5A]", &[(0x41, 0x5A)]),
         ("z-za^]", &[(0x5E, 0x5E), (0x61, 0x61), (0x7A, 0x7A)]),
     ];

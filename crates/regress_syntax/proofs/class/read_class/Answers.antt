@@ -11,14 +11,15 @@ returns-in_err-set c =
     let p = err_from_is_err_and c.from_residual.result c.from_residual.ensures.1 in
     let caret = c.try_consume-inverted in
     rw (p.1, p.2) (on_syntax_then c.in_err-set.field-0.0
-        (class_is c.args.unicode caret.result (source c.args.cursor.now) (source caret.new.self) None caret.ensures.found caret.ensures.moves)
-        c.in_err-set.ensures)
+    (class_is c.args.unicode caret.result (source c.args.cursor.now) (source caret.new.self) None caret.ensures.found caret.ensures.moves)
+    c.in_err-set.ensures)
 
 pub returns : goal.returns
 returns c =
     let caret = c.try_consume-inverted in
-    let found = c.in_ok-set.ensures in
-    ((caret.result, found.0),
-    class_is c.args.unicode caret.result (source c.args.cursor.now) (source caret.new.self) (Some (found.0, source c.read_parts.new.cursor))
-    caret.ensures.found caret.ensures.moves found.1,
-    (refl, found.2))
+    let found = c.in_ok-set.ensures in (
+      (caret.result, found.0),
+      class_is c.args.unicode caret.result (source c.args.cursor.now) (source caret.new.self) (Some (found.0, source c.read_parts.new.cursor))
+          caret.ensures.found caret.ensures.moves found.1,
+      (refl, found.2),
+    )

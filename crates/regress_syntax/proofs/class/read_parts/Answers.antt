@@ -24,13 +24,15 @@ pub returns-in_err-read_part : goal.returns-in_err-read_part
 returns-in_err-read_part c =
     let p = err_from_is_err_and c.from_residual.result c.from_residual.ensures.1 in
     rw (p.1, p.2) (on_syntax_then c.in_err-read_part.field-0.0
-      (none_behind c.args.unicode _ (source c.loop-cursor.cursor) c.loop-cursor.set c.loop-cursor.invariant
-      (sym c.is_at.ensures ∙ c.loop-cursor-test.true))
-      c.in_err-read_part.ensures)
+    (none_behind c.args.unicode _ (source c.loop-cursor.cursor) c.loop-cursor.set c.loop-cursor.invariant
+    (sym c.is_at.ensures ∙ c.loop-cursor-test.true))
+    c.in_err-read_part.ensures)
 
 pub returns : goal.returns
 returns c =
     let closes : is_at 93 (source c.loop-cursor.cursor) ≡ true = sym c.is_at.ensures ∙ c.loop-cursor-test.false in
-    let all = all_read c.args.unicode _ (source c.loop-cursor.cursor) c.loop-cursor.set c.loop-cursor.invariant closes c.set_is_canonical.ensures in
-    (all.0, all.1 ∙ ap (λ (rest : Source). Some (all.0, rest)) (sym (c.try_consume.ensures.moves ∙ cond-true _ _ _ (c.try_consume.ensures.found ∙ closes))),
-    all.2)
+    let all = all_read c.args.unicode _ (source c.loop-cursor.cursor) c.loop-cursor.set c.loop-cursor.invariant closes c.set_is_canonical.ensures in (
+      all.0,
+      all.1 ∙ ap (λ (rest : Source). Some (all.0, rest)) (sym (c.try_consume.ensures.moves ∙ cond-true _ _ _ (c.try_consume.ensures.found ∙ closes))),
+      all.2,
+    )

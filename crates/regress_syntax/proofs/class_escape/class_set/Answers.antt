@@ -26,19 +26,19 @@ returns-clause-members c n =
       | in-Digits+in_ok-add_intervals-in-Digits w ↦
           ap (λ (l : List Bounds). is_member l n) w.set-is
           ∙ once w.add_intervals.new.set c.new-set.result w.digit_intervals.result digits n c.new-set.ensures w.digit_intervals.ensures.value
-            (w.in_ok-add_intervals-in-Digits.ensures n)
+          (w.in_ok-add_intervals-in-Digits.ensures n)
           ∙ ap (λ kind. is_member (members_of kind) n) (sym w.in-Digits.is)
       | in-Spaces+in_ok-add_intervals-in-Spaces+in_ok-add_intervals-in-Spaces-2 w ↦
           ap (λ (l : List Bounds). is_member l n) w.set-is
           ∙ twice w.add_intervals-in-Spaces-2.new.set w.add_intervals-in-Spaces.new.set c.new-set.result w.white_space_intervals.result
-            w.line_terminator_intervals.result white_space line_terminators n c.new-set.ensures w.white_space_intervals.ensures.value
-            w.line_terminator_intervals.ensures.value (w.in_ok-add_intervals-in-Spaces.ensures n)
-            (w.in_ok-add_intervals-in-Spaces-2.ensures n)
+          w.line_terminator_intervals.result white_space line_terminators n c.new-set.ensures w.white_space_intervals.ensures.value
+          w.line_terminator_intervals.ensures.value (w.in_ok-add_intervals-in-Spaces.ensures n)
+          (w.in_ok-add_intervals-in-Spaces-2.ensures n)
           ∙ ap (λ kind. is_member (members_of kind) n) (sym w.in-Spaces.is)
       | in-Words+in_ok-add_intervals-in-Words w ↦
           ap (λ (l : List Bounds). is_member l n) w.set-is
           ∙ once w.add_intervals-in-Words.new.set c.new-set.result w.word_intervals.result word_characters n c.new-set.ensures
-            w.word_intervals.ensures.value (w.in_ok-add_intervals-in-Words.ensures n)
+          w.word_intervals.ensures.value (w.in_ok-add_intervals-in-Words.ensures n)
           ∙ ap (λ kind. is_member (members_of kind) n) (sym w.in-Words.is)
     ]
 
