@@ -1,6 +1,5 @@
 -- Lists of nodes as trees.
-use Rattle.std.proofs.Common.{◌≡◌, ℕ, ◌<◌, Bool, true, false, cond, not, List, [], ◌∷◌, ◌++◌, length, map, reverse, Result, Ok, Err, refl, sym, ap, ◌∙◌, arith}
-use Rattle.std.specs.Result.{IfOk}
+use Rattle.std.proofs.Common.{◌≡◌, ℕ, ◌<◌, Bool, true, false, cond, not, List, [], ◌∷◌, ◌++◌, length, map, reverse, refl, sym, ap, ◌∙◌, arith}
 use Rattle.std.proofs.lemmas.Grind.{reverse_onto}
 use Rattle.regress_base.specs.declared.types.Flags.{Flags}
 use Rattle.regress_base.specs.Intervals.{Bounds, is_member, IsCanonical, IsComplement, intervals_of}
@@ -39,11 +38,6 @@ trees-reverse (n ∷ nodes) =
     ∙ ap (λ r. row_append r (more_trees (tree n) no_trees)) (trees-reverse nodes)
 
 -- ---- sets of classes
-
--- what follows for each value from two facts follows for an answer
-pub ok_from_both : {X E : Type 0} (r : Result X E) (P Q R : X → Type 0) → ((x : X) → P x → Q x → R x) → IfOk r P → IfOk r Q → IfOk r R
-ok_from_both (Ok x) P Q R h p q = h x p q
-ok_from_both (Err e) P Q R h p q = tt
 
 -- the closure of a set is that of the members that it was written with
 pub closed_is : (table : Table) (flags : Flags) (members set closed : List Bounds) → flags.icase ≡ true →

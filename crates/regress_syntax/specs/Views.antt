@@ -1,5 +1,5 @@
 -- What the values of the code stand for.
-use Rattle.std.specs.Prelude.{◌≡◌, ℕ, Bool, List, [], None}
+use Rattle.std.specs.Prelude.{◌≡◌, ℕ, Bool, ◌||◌, List, [], None}
 use Rattle.regress_base.specs.Intervals.{Bounds, is_member, IsCanonical}
 use Rattle.regress_base.specs.declared.types.Flags.{Flags}
 use Rattle.regress_tree.specs.TableOf.{setting_of}
@@ -40,6 +40,10 @@ IsClassAtomInRange (class_atoms.Class kind negated) = Unit {0}
 pub record HasMembers (members set : List Bounds) : Type 0 where
   pub canonical : IsCanonical set
   pub each : (c : ℕ) → is_member set c ≡ is_member members c
+
+-- The new set has these members too.
+abbrev pub Adds : List Bounds → (old new : List Bounds) → Type 0
+Adds members old new = (c : ℕ) → is_member new c ≡ (is_member old c || is_member members c)
 
 -- a class of the code, and what it is under the flags
 abbrev pub IsClass : Flags → (inverted : Bool) → List Bounds → Atom → Type 0

@@ -7,12 +7,9 @@ ghost use Rattle.regress_syntax.specs.Views.{source, class_atom_of, IsClassAtomI
 
 use crate::class_escape::class_letter;
 use crate::cursor::Cursor;
-use crate::digits::{Read, is_decimal, is_letter};
-use crate::escape::read_escape;
-use crate::fault::{
-    INVALID_ESCAPE, INVALID_UNICODE_ESCAPE, ParseFault, UNBALANCED_BRACKET, UNSUPPORTED,
-    UNTERMINATED_ESCAPE, syntax,
-};
+use crate::digits::{Read, control, is_decimal, is_letter};
+use crate::escape::{escape_fault, read_escape};
+use crate::fault::{ParseFault, UNBALANCED_BRACKET, UNSUPPORTED, UNTERMINATED_ESCAPE, syntax};
 use regress_base::charclasses::CharacterClassType;
 
 /// An atom of a class.
@@ -82,7 +79,7 @@ fn class_control<'a>(text: &'a [u32], rest: &'a [u32]) -> (ClassAtom, &'a [u32])
 {
     match rest.split_first() {
         Some((d, behind)) if is_letter(*d) || is_decimal(*d) || *d == u32::from('_') => {
-            (ClassAtom::Point(*d % 32), behind)
+            (ClassAtom::Point(control(*d)), behind)
         }
         _ => (ClassAtom::Point(u32::from('\\')), text),
     }
@@ -93,7 +90,6 @@ fn class_escape_fault(text: &[u32]) -> &'static str {
     match text.first() {
         None => UNTERMINATED_ESCAPE,
         Some(c) if *c == u32::from('p') || *c == u32::from('P') => UNSUPPORTED,
-        Some(c) if *c == u32::from('u') => INVALID_UNICODE_ESCAPE,
-        Some(_) => INVALID_ESCAPE,
+        Some(_) => escape_fault(text),
     }
 }

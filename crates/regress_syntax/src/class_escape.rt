@@ -1,7 +1,7 @@
 //! Classes by an escape.
 ghost use Rattle.std.specs.Prelude.{◌≡◌, ◌||◌, ℕ, IfOk, OnOk};
 ghost use Rattle.regress_base.specs.Intervals.{is_member, IsCanonical};
-ghost use Rattle.regress_syntax.specs.ClassRows.{class_letter, members_of};
+ghost use Rattle.regress_syntax.specs.ClassRows.{class_letter, members_of, class_members};
 ghost use Rattle.regress_syntax.specs.Views.{HasMembers};
 
 use regress_base::charclasses::{
@@ -29,8 +29,7 @@ pub(crate) fn class_letter(c: u32) -> Option<(CharacterClassType, bool)>
 
 /// The members of a class by an escape.
 pub fn class_set(alloc: Global, kind: CharacterClassType) -> Result<CodePointSet, AllocError>
-    ensures value { IfOk result (HasMembers (members_of kind)) }
-    ensures members { IfOk result (λ set. (c : ℕ) → is_member set c ≡ is_member (members_of kind) c) }
+    ensures { IfOk result (HasMembers (members_of kind)) }
 {
     let mut set = CodePointSet::new(alloc);
     match kind {
@@ -43,6 +42,18 @@ pub fn class_set(alloc: Global, kind: CharacterClassType) -> Result<CodePointSet
     }
     set_is_canonical(&set);
     Ok(set)
+}
+
+/// The members of a class by an escape, or of its complement.
+pub(crate) fn class_members(
+    alloc: Global,
+    kind: CharacterClassType,
+    negated: bool,
+) -> Result<CodePointSet, AllocError>
+    ensures { IfOk result (λ set. (c : ℕ) → is_member set c ≡ is_member (class_members (kind, negated)) c) }
+{
+    let set = class_set(alloc, kind)?;
+    if negated { set.inverted() } else { Ok(set) }
 }
 
 /// Adds the intervals one by one.

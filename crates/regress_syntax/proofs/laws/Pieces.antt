@@ -1,7 +1,7 @@
 -- Classes, read from the front of a source.
-use Rattle.std.proofs.Common.{◌≡◌, inl, inr, ℕ, zero, suc, ◌+◌, ◌<◌, ◌≤◌, Bool, true, false, not, ◌&&◌, ◌||◌, ◌==◌, cond, List, [], ◌∷◌, ◌++◌, length, drop, Option, Some, None, refl, sym, ap, ◌∙◌, subst, arith, length-drop}
+use Rattle.std.proofs.Common.{◌≡◌, inl, inr, ℕ, zero, suc, ◌+◌, ◌<◌, ◌≤◌, Bool, true, false, not, ◌&&◌, ◌||◌, ◌==◌, cond, List, [], ◌∷◌, ◌++◌, length, drop, Option, Some, None, refl, sym, ap, ◌∙◌, subst, add-one, arith, length-drop}
 use Rattle.std.proofs.lemmas.Option.{none-some, same_Some}
-use Rattle.std.proofs.lemmas.Bool.{cases_eq, ne_eqb}
+use Rattle.std.proofs.lemmas.Bool.{cases_eq, ne_eqb, cond-true, cond-false}
 use Rattle.regress_base.specs.declared.charclasses.CharacterClassType.{CharacterClassType}
 use Rattle.regress_base.specs.Intervals.{Bounds}
 use Rattle.regress_syntax.specs.Source.{Source, Found, ◌>>=◌, found_map, is_at}
@@ -128,3 +128,23 @@ class_parts_by-same (suc n) (suc m) unicode t h k =
     (λ x found. ap (λ (others : Found (List Bounds)). others >>= λ (y : List Bounds × Source). Some (x.0 ++ y.0, y.1))
     (let shorter = class_part_at-shortens unicode t x found in
     class_parts_by-same n m unicode x.1 (omega arith) (omega arith))))
+
+-- what stands behind members that were read already
+abbrev pub more_parts : List Bounds → Found (List Bounds) → Found (List Bounds)
+more_parts members others = others >>= λ (y : List Bounds × Source). Some (members ++ y.0, y.1)
+
+pub parts_closed : (unicode : Bool) (t : Source) → is_at 93 t ≡ true → class_parts_by (length t + 1) unicode t ≡ Some ([], drop 1 t)
+unfolding class_parts_by
+parts_closed unicode t closes = ap (λ n. class_parts_by n unicode t) (add-one (length t)) ∙ cond-true _ _ _ closes
+
+pub parts_go_on : (unicode : Bool) (t : Source) → is_at 93 t ≡ false →
+    class_parts_by (length t + 1) unicode t
+    ≡ class_part_at unicode t >>= λ (x : List Bounds × Source). more_parts x.0 (class_parts_by (length x.1 + 1) unicode x.1)
+unfolding class_parts_by
+parts_go_on unicode t goes_on =
+    ap (λ n. class_parts_by n unicode t) (add-one (length t))
+    ∙ cond-false _ _ _ goes_on
+    ∙ then_same (class_part_at unicode t) _ _
+    (λ x found. ap (more_parts x.0)
+    (let shorter = class_part_at-shortens unicode t x found in
+    class_parts_by-same (length t) (length x.1 + 1) unicode x.1 shorter (omega arith)))

@@ -1,6 +1,7 @@
 -- Reading from the front of a source.
-use Rattle.std.proofs.Common.{◌≡◌, ℕ, ◌<◌, ◌≤◌, ◌⊎◌, inl, inr, Bool, true, false, cond, [], ◌∷◌, length, Option, Some, None, refl, arith}
+use Rattle.std.proofs.Common.{◌≡◌, ℕ, ◌<◌, ◌≤◌, ◌⊎◌, inl, inr, Bool, true, false, cond, [], ◌∷◌, length, Option, Some, None, Result, Ok, Err, refl, arith}
 use Rattle.std.specs.Option.{IfSome, IsSomeAnd}
+use Rattle.std.specs.Result.{IfOk}
 use Rattle.std.proofs.Common.{subst}
 use Rattle.std.proofs.lemmas.Option.{none-some, same_Some}
 use Rattle.regress_syntax.specs.declared.fault.ParseFault.{ParseFault}
@@ -62,3 +63,8 @@ on_syntax (Memory e) h = tt
 pub on_syntax_then : {P Q : Type 0} (fault : ParseFault) → (P → Q) → OnSyntax fault P → OnSyntax fault Q
 on_syntax_then (Syntax e) f h = f h
 on_syntax_then (Memory e) f h = tt
+
+-- what follows for each value from two facts follows for an answer
+pub ok_from_both : {X E : Type 0} (r : Result X E) (P Q R : X → Type 0) → ((x : X) → P x → Q x → R x) → IfOk r P → IfOk r Q → IfOk r R
+ok_from_both (Ok x) P Q R h p q = h x p q
+ok_from_both (Err e) P Q R h p q = tt

@@ -1,5 +1,6 @@
 use Rattle.regress_tree.specs.TableOf.{table_of}
-use Rattle.regress_parse.proofs.BuildLemmas.{ok_from_both, closed_is, unclosed_is}
+use Rattle.regress_syntax.proofs.laws.Sources.{ok_from_both}
+use Rattle.regress_parse.proofs.BuildLemmas.{closed_is, unclosed_is}
 use Rattle.regress_parse.proofs.build.close.Goals as goal
 
 pub returns-then-scope : goal.returns-then-scope

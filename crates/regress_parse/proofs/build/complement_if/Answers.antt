@@ -1,4 +1,5 @@
-use Rattle.regress_parse.proofs.BuildLemmas.{ok_from_both, complement_is}
+use Rattle.regress_syntax.proofs.laws.Sources.{ok_from_both}
+use Rattle.regress_parse.proofs.BuildLemmas.{complement_is}
 use Rattle.regress_parse.proofs.build.complement_if.Goals as goal
 
 pub returns-then-negated : goal.returns-then-negated

@@ -19,4 +19,4 @@ loop-interval-preserved c n =
     ∙ sym (or_assoc old taken (is_within c.interval-item.result n))
     ∙ ap (λ iv. old || (taken || is_within iv n)) c.interval-item.is
     ∙ ap (λ b. old || b)
-      (sym (is_member-take_more c.args.intervals.now c.loop-interval.interval-index n c.interval-item.result c.loop-interval-test.true))
+    (sym (is_member-take_more c.args.intervals.now c.loop-interval.interval-index n c.interval-item.result c.loop-interval-test.true))

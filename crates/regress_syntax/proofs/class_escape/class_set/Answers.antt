@@ -2,7 +2,7 @@
 use Rattle.std.proofs.Common.{◌≡◌, ℕ, ◌||◌, ◌∙◌, ap, sym, List, [], ◌++◌}
 use Rattle.regress_base.specs.Classes.{digits, white_space, line_terminators, word_characters}
 use Rattle.regress_base.specs.Intervals.{Bounds, is_member}
-use Rattle.regress_base.proofs.laws.Sets.{is_member-nil, is_member-append, canonical_is}
+use Rattle.regress_base.proofs.laws.Sets.{is_member-nil, is_member-append}
 use Rattle.regress_syntax.specs.ClassRows.{members_of}
 use Rattle.regress_syntax.proofs.class_escape.class_set.Goals as goal
 use Rattle.regress_syntax.proofs.class_escape.class_set.Goals.{in-Digits+in_ok-add_intervals-in-Digits, in-Spaces+in_ok-add_intervals-in-Spaces+in_ok-add_intervals-in-Spaces-2, in-Words+in_ok-add_intervals-in-Words}
@@ -20,28 +20,26 @@ twice set between old first second xs ys n none is_first is_second e f =
     f ∙ ap (λ b. b || is_member second n) (once between old first xs n none is_first e)
     ∙ ap (λ (l : List Bounds). is_member xs n || is_member l n) is_second ∙ sym (is_member-append xs ys n)
 
-pub returns-clause-members : goal.returns-clause-members
-returns-clause-members c n =
-    elim c.match-kind.branch [
-      | in-Digits+in_ok-add_intervals-in-Digits w ↦
-          ap (λ (l : List Bounds). is_member l n) w.set-is
-          ∙ once w.add_intervals.new.set c.new-set.result w.digit_intervals.result digits n c.new-set.ensures w.digit_intervals.ensures.value
-            (w.in_ok-add_intervals-in-Digits.ensures n)
-          ∙ ap (λ kind. is_member (members_of kind) n) (sym w.in-Digits.is)
-      | in-Spaces+in_ok-add_intervals-in-Spaces+in_ok-add_intervals-in-Spaces-2 w ↦
-          ap (λ (l : List Bounds). is_member l n) w.set-is
-          ∙ twice w.add_intervals-in-Spaces-2.new.set w.add_intervals-in-Spaces.new.set c.new-set.result w.white_space_intervals.result
-            w.line_terminator_intervals.result white_space line_terminators n c.new-set.ensures w.white_space_intervals.ensures.value
-            w.line_terminator_intervals.ensures.value (w.in_ok-add_intervals-in-Spaces.ensures n)
-            (w.in_ok-add_intervals-in-Spaces-2.ensures n)
-          ∙ ap (λ kind. is_member (members_of kind) n) (sym w.in-Spaces.is)
-      | in-Words+in_ok-add_intervals-in-Words w ↦
-          ap (λ (l : List Bounds). is_member l n) w.set-is
-          ∙ once w.add_intervals-in-Words.new.set c.new-set.result w.word_intervals.result word_characters n c.new-set.ensures
-            w.word_intervals.ensures.value (w.in_ok-add_intervals-in-Words.ensures n)
-          ∙ ap (λ kind. is_member (members_of kind) n) (sym w.in-Words.is)
-    ]
-
-pub returns-clause-value : goal.returns-clause-value
-returns-clause-value c =
-    canonical_is c.match-kind.set (is_member (members_of c.args.kind)) c.set_is_canonical.ensures (λ n h. returns-clause-members c n)
+pub returns : goal.returns
+returns c = record {
+  canonical = c.set_is_canonical.ensures;
+  each = λ n. elim c.match-kind.branch [
+    | in-Digits+in_ok-add_intervals-in-Digits w ↦
+        ap (λ (l : List Bounds). is_member l n) w.set-is
+        ∙ once w.add_intervals.new.set c.new-set.result w.digit_intervals.result digits n c.new-set.ensures w.digit_intervals.ensures.value
+        (w.in_ok-add_intervals-in-Digits.ensures n)
+        ∙ ap (λ kind. is_member (members_of kind) n) (sym w.in-Digits.is)
+    | in-Spaces+in_ok-add_intervals-in-Spaces+in_ok-add_intervals-in-Spaces-2 w ↦
+        ap (λ (l : List Bounds). is_member l n) w.set-is
+        ∙ twice w.add_intervals-in-Spaces-2.new.set w.add_intervals-in-Spaces.new.set c.new-set.result w.white_space_intervals.result
+        w.line_terminator_intervals.result white_space line_terminators n c.new-set.ensures w.white_space_intervals.ensures.value
+        w.line_terminator_intervals.ensures.value (w.in_ok-add_intervals-in-Spaces.ensures n)
+        (w.in_ok-add_intervals-in-Spaces-2.ensures n)
+        ∙ ap (λ kind. is_member (members_of kind) n) (sym w.in-Spaces.is)
+    | in-Words+in_ok-add_intervals-in-Words w ↦
+        ap (λ (l : List Bounds). is_member l n) w.set-is
+        ∙ once w.add_intervals-in-Words.new.set c.new-set.result w.word_intervals.result word_characters n c.new-set.ensures
+        w.word_intervals.ensures.value (w.in_ok-add_intervals-in-Words.ensures n)
+        ∙ ap (λ kind. is_member (members_of kind) n) (sym w.in-Words.is)
+  ];
+}

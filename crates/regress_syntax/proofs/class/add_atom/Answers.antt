@@ -1,0 +1,15 @@
+-- A code point is an interval.
+use Rattle.std.proofs.Common.{List, sym, subst, ap, ◌∙◌, ◌||◌}
+use Rattle.std.proofs.lemmas.Result.{on_ok_weaker}
+use Rattle.regress_base.specs.Intervals.{Bounds, is_within, is_member}
+use Rattle.regress_syntax.specs.ClassRows.{atom_members}
+use Rattle.regress_syntax.specs.Views.{Adds, class_atom_of}
+use Rattle.regress_syntax.proofs.ClassLemmas.{adds_one}
+use Rattle.regress_syntax.proofs.class.add_atom.Goals as goal
+
+pub returns-in-Point : goal.returns-in-Point
+returns-in-Point c =
+    on_ok_weaker c.add.result
+    (λ members. subst (λ atom. Adds (atom_members (class_atom_of atom)) c.args.set.now c.add.new.self) (sym c.in-Point.is)
+    (adds_one _ c.args.set.now c.add.new.self (λ n. members n ∙ ap (λ iv. is_member c.args.set.now n || is_within iv n) c.new.ensures)))
+    c.add.ensures.members
