@@ -1,18 +1,24 @@
 -- The rows of the grammar that need no recursion, as functions of the source: where two could apply, the earlier one is
 -- the one (ECMA-262, Patterns).
-use Rattle.std.specs.Prelude.{ℕ, Bool, true, false, not, ◌&&◌, ◌||◌, [], ◌∷◌, drop, List, Option, Some, None, is_some, if◌then◌else◌, ◌==◌}
+use Rattle.std.specs.Prelude.{ℕ, Bool, true, false, not, ◌&&◌, ◌||◌, [], ◌∷◌, drop, List, Option, Some, None, is_some, if◌then◌else◌, nat_le, ◌==◌}
+use Rattle.std.specs.List.{list_any}
+use Rattle.std.specs.Str.{bytes_eq}
 use Rattle.regress_tree.specs.declared.ir.node.AnchorType.TheVariants.{StartOfLine, EndOfLine}
 use Rattle.regress_tree.specs.declared.ir.node.Quantifier.{Quantifier}
 use Rattle.regress_tree.specs.Matching.{Setting}
+use Rattle.regress_tree.specs.Reading.{forwards, backwards}
+use Rattle.regress_tree.specs.Table.{Table}
 use Rattle.regress_syntax.specs.Source.{Source, Found, ◌>>=◌, found_map, opening, full_stop, colon, question_mark, is_at, is_plain}
-use Rattle.regress_syntax.specs.Digits.{is_between}
+use Rattle.regress_syntax.specs.Digits.{is_between, is_decimal, number, front, behind}
 use Rattle.regress_syntax.specs.Escapes.{begins_with_letter, escape_at}
 use Rattle.regress_syntax.specs.Quantifiers.{quantifier_at, is_ordered}
 use Rattle.regress_syntax.specs.ClassRows.{class_letter, class_at}
-use Rattle.regress_syntax.specs.Syntax.{Name, Atom, literal, dot, anchor, boundary, class_escape, class, Group, grouping, capture, Item, atom, group}
+use Rattle.regress_syntax.specs.Modifiers.{changed, modifiers_at}
+use Rattle.regress_syntax.specs.Names.{name_at, group_name_at}
+use Rattle.regress_syntax.specs.Syntax.{Name, by_number, by_name, Atom, literal, dot, anchor, boundary, class_escape, class, back_reference, Group, grouping, modified, capture, look, Item, atom, group}
 
 -- What the rows look at beside the source: the flags in force and the table, and how many capture groups the whole
--- pattern has and which names. No row that is served looks at the groups yet.
+-- pattern has and which names, `None` where a group has none.
 pub record Context : Type 0 where
   pub setting : Setting
   pub groups : ℕ
@@ -21,7 +27,9 @@ pub record Context : Type 0 where
 -- the context of what stands inside a group
 abbrev pub inside : Group → Context → Context
 inside grouping ctx = ctx
+inside (modified change) ctx = record ctx { setting = record ctx.setting { flags = changed change ctx.setting.flags } }
 inside (capture name) ctx = ctx
+inside (look negate direction) ctx = ctx
 
 -- what an item begins with: all of it, or what its parenthesis opens
 pub data Head : Type 0 where
@@ -32,12 +40,25 @@ abbrev pub head_of_item : Item → Head
 head_of_item (atom a) = single a
 head_of_item (group kind p) = opens kind
 
--- what a parenthesis opens, behind it: `?:`, or no `?`
-abbrev pub group_at : Source → Found Head
-group_at t =
-    if is_at question_mark t
-    then (if is_at colon (drop 1 t) then Some (opens grouping, drop 2 t) else None)
-    else Some (opens (capture None), t)
+-- behind `(?<`: a lookbehind, or a named group
+abbrev pub behind_angle_at : Table → Source → Found Head
+behind_angle_at table t =
+    if is_at 61 t then Some (opens (look false backwards), drop 1 t)
+    else if is_at 33 t then Some (opens (look true backwards), drop 1 t)
+    else found_map (λ name. opens (capture (Some name))) (name_at table t)
+
+-- behind `(?`
+abbrev pub behind_mark_at : Table → Source → Found Head
+behind_mark_at table t =
+    if is_at colon t then Some (opens grouping, drop 1 t)
+    else if is_at 61 t then Some (opens (look false forwards), drop 1 t)
+    else if is_at 33 t then Some (opens (look true forwards), drop 1 t)
+    else if is_at 60 t then behind_angle_at table (drop 1 t)
+    else found_map (λ change. opens (modified change)) (modifiers_at t)
+
+-- what a parenthesis opens, behind it: without `?` a group that captures and has no name
+abbrev pub group_at : Table → Source → Found Head
+group_at table t = if is_at question_mark t then behind_mark_at table (drop 1 t) else Some (opens (capture None), t)
 
 -- a quantifier may stand behind all but `^` and `$`
 abbrev pub atom_allows : Atom → Bool
@@ -47,19 +68,31 @@ atom_allows (anchor flags kind) = false
 atom_allows (boundary flags inverted) = true
 atom_allows (class_escape flags kind negated) = true
 atom_allows (class flags inverted members) = true
+atom_allows (back_reference flags to) = true
 
-abbrev pub group_allows : Group → Bool
-group_allows grouping = true
-group_allows (capture name) = true
+-- behind a lookahead without the flag u, and behind no lookbehind
+abbrev pub group_allows : (unicode : Bool) → Group → Bool
+group_allows unicode grouping = true
+group_allows unicode (modified change) = true
+group_allows unicode (capture name) = true
+group_allows unicode (look negate forwards) = not unicode
+group_allows unicode (look negate backwards) = false
 
 -- whether a quantifier may stand behind an item that begins so
-abbrev pub allows : Head → Bool
-allows (single a) = atom_allows a
-allows (opens kind) = group_allows kind
+abbrev pub allows : (unicode : Bool) → Head → Bool
+allows unicode (single a) = atom_allows a
+allows unicode (opens kind) = group_allows unicode kind
 
--- an escape that is not served yet: a reference, or with the flag u a property
+-- a property is not served yet
 abbrev pub is_unserved : (unicode : Bool) → ℕ → Bool
-is_unserved unicode c = is_between 49 57 c || c == 107 || (unicode && (c == 112 || c == 80))
+is_unserved unicode c = unicode && (c == 112 || c == 80)
+
+-- whether some group has a name, and whether one has this name
+abbrev pub has_names : List (Option Name) → Bool
+has_names names = list_any is_some names
+
+abbrev pub has_name : Name → List (Option Name) → Bool
+has_name name names = list_any (λ other. elim other [ None ↦ false | Some n ↦ bytes_eq n name ]) names
 
 -- without the flag u, before `c` and no letter, the backslash stands alone, and the `c` is read next
 abbrev pub is_lone_backslash : (unicode : Bool) → ℕ → Source → Bool
@@ -72,6 +105,22 @@ module _ (ctx : Context) where
       if is_unserved ctx.setting.flags.unicode c then None
       else found_map (literal ctx.setting.flags) (escape_at ctx.setting.flags.unicode (c ∷ t))
 
+  -- A number, by the whole run of its digits: a reference where there are so many groups. Else it is refused with the flag
+  -- u, and without it the escape of a character.
+  abbrev pub numbered_at : ℕ → Source → Found Atom
+  numbered_at c t =
+      let group = number 10 (front is_decimal (c ∷ t)) in
+      if nat_le group ctx.groups
+      then Some (back_reference ctx.setting.flags (by_number group), behind is_decimal (c ∷ t))
+      else if ctx.setting.flags.unicode then None
+      else character_at c t
+
+  -- behind `\k`: a name that some group has
+  abbrev pub named_at : Source → Found Atom
+  named_at t =
+      group_name_at ctx.setting.table t >>= λ (name, rest).
+      if has_name name ctx.names then Some (back_reference ctx.setting.flags (by_name name), rest) else None
+
   -- an escape that begins with c, behind its backslash
   abbrev pub escaped_by : ℕ → Source → Found Atom
   escaped_by c t =
@@ -81,6 +130,9 @@ module _ (ctx : Context) where
             if c == 98 then Some (boundary ctx.setting.flags false, t)
             else if c == 66 then Some (boundary ctx.setting.flags true, t)
             else if is_lone_backslash ctx.setting.flags.unicode c t then Some (literal ctx.setting.flags 92, 99 ∷ t)
+            else if is_between 49 57 c then numbered_at c t
+            -- without the flag u and without names, `\k` is the escape of a character
+            else if c == 107 && (ctx.setting.flags.unicode || has_names ctx.names) then named_at t
             else character_at c t
       ]
 
@@ -108,7 +160,7 @@ module _ (ctx : Context) where
 
   -- what an item begins with whose first code point is c
   abbrev pub head_by : ℕ → Source → Found Head
-  head_by c t = if c == opening then group_at t else found_map single (atom_by c t)
+  head_by c t = if c == opening then group_at ctx.setting.table t else found_map single (atom_by c t)
 
   -- what the item at the front begins with
   unfoldable pub head_at : Source → Found Head

@@ -5,10 +5,17 @@ use Rattle.regress_base.specs.declared.charclasses.CharacterClassType.{Character
 use Rattle.regress_base.specs.declared.types.Flags.{Flags}
 use Rattle.regress_tree.specs.declared.ir.node.AnchorType.{AnchorType}
 use Rattle.regress_tree.specs.declared.ir.node.Quantifier.{Quantifier}
+use Rattle.regress_tree.specs.Reading.{Direction}
+use Rattle.regress_syntax.specs.Modifiers.{Change}
 
 -- a name, by its characters
 abbrev pub Name : Type 0
 Name = List ℕ
+
+-- what a reference names: a group by its number, from 1, or all groups of a name
+pub data Target : Type 0 where
+  by_number : (number : ℕ) → Target
+  by_name : (name : Name) → Target
 
 -- An item that holds no pattern. Each keeps the flags that are in force where it stands.
 pub data Atom : Type 0 where
@@ -20,11 +27,15 @@ pub data Atom : Type 0 where
   class_escape : (flags : Flags) (kind : CharacterClassType) (negated : Bool) → Atom
   -- what stands between brackets, of which some may overlap
   class : (flags : Flags) (inverted : Bool) (members : List Bounds) → Atom
+  back_reference : (flags : Flags) (to : Target) → Atom
 
 -- What a parenthesis opens. A group has no number: that counts the parentheses opened before it.
 pub data Group : Type 0 where
   grouping : Group
+  modified : (change : Change) → Group
   capture : (name : Option Name) → Group
+  -- a lookahead matches forwards and a lookbehind backwards
+  look : (negate : Bool) (direction : Direction) → Group
 
 mutual
   -- one or more alternatives (ECMA-262, Disjunction)
@@ -56,7 +67,9 @@ added a b = record { groups = a.groups + b.groups; loops = a.loops + b.loops }
 -- how many groups a parenthesis opens that capture
 abbrev pub opened_by : Group → ℕ
 opened_by grouping = 0
+opened_by (modified change) = 0
 opened_by (capture name) = 1
+opened_by (look negate direction) = 0
 
 abbrev pub counts_of_group : Group → Counts
 counts_of_group kind = record { groups = opened_by kind; loops = 0 }
@@ -87,7 +100,9 @@ counts_of_term x q = added (counts_of_item x) (counts_of_times q)
 -- the name of a capture group, or none; nothing for what captures nothing
 abbrev pub names_of_group : Group → List (Option Name)
 names_of_group grouping = []
+names_of_group (modified change) = []
 names_of_group (capture name) = name ∷ []
+names_of_group (look negate direction) = []
 
 -- the name of each capture group, by the order of opening parentheses
 abbrev mutual
