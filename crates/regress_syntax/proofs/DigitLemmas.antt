@@ -1,12 +1,15 @@
 -- Digits at the front of a source, and the numbers that they write.
-use Rattle.std.proofs.Common.{◌≡◌, ℕ, zero, suc, ◌+◌, ◌*◌, ◌-◌, ◌^◌, ◌<◌, ◌≤◌, min, ◌⊎◌, ⊎_elim, Bool, true, false, ◌&&◌, cond, List, [], ◌∷◌, map, length, get_or, take, drop, refl, sym, ap, ◌∙◌, subst, arith}
+use Rattle.std.proofs.Common.{◌≡◌, ℕ, zero, suc, ◌+◌, ◌*◌, ◌-◌, ◌^◌, ◌<◌, ◌≤◌, min, ◌⊎◌, ⊎_elim, nat_le, Bool, true, false, ◌&&◌, cond, List, [], ◌∷◌, map, length, get_or, take, drop, refl, sym, ap, ◌∙◌, subst, arith}
 use native.Mathlib.Numerals.{unary_clauses}
 use Rattle.std.proofs.lemmas.Bool.Decides.{nat_tests}
 use Rattle.std.proofs.lemmas.Bool.{cases_lt, false≢true}
-use Rattle.std.proofs.Math.Nat.{mul-le-mul_left, pow-le-pow_right}
+use Rattle.std.proofs.Math.Nat.{min_comm, mul-le-mul_left, pow-le-pow_right}
 use Rattle.std.proofs.lemmas.List.{length-map}
 use Rattle.std.proofs.lemmas.Int.Digits.{number_after_lt}
 use Rattle.std.specs.Int.Digits.{number_from_digits_after, AllBelowBase}
+use Rattle.std.proofs.lemmas.List.{take_min, length-take, take-take}
+use Rattle.std.proofs.lemmas.List.Sums.{prefix_len-le-length}
+use Rattle.regress_syntax.specs.Escapes.{octal_digits}
 use Rattle.std.specs.List.{prefix_len, list_all}
 use Rattle.regress_syntax.specs.Source.{Source}
 use Rattle.regress_syntax.specs.Digits.{is_between, is_decimal, is_octal, is_hex, digit, number_from, number, front, behind}
@@ -55,7 +58,7 @@ saturates base n d limit h =
     (λ (le : n ≤ limit). let e : min n limit ≡ n = omega arith in rw e (omega arith))
     (cases_lt limit n)
 
-and_both : (a b : Bool) → (a && b) ≡ true → (a ≡ true) × (b ≡ true)
+pub and_both : (a b : Bool) → (a && b) ≡ true → (a ≡ true) × (b ≡ true)
 and_both true b e = (refl, e)
 and_both false b e = absurd (false≢true e)
 
@@ -83,6 +86,10 @@ front_passes : (p : ℕ → Bool) (t : Source) → list_all p (front p t) ≡ tr
 unfolding front
 front_passes p [] = refl
 front_passes p (c ∷ t) = passes_more p c (front p t) (front_passes p t) (p c) refl
+
+octal_length : (b : Bool) (t : Source) → length (take (cond b 3 2) t) ≤ 3
+octal_length true t = omega (arith, length-take 3 t)
+octal_length false t = omega (arith, length-take 2 t)
 
 pub front_shorter : (p : ℕ → Bool) (t : Source) → length (front p t) ≤ length t
 unfolding front
@@ -116,3 +123,21 @@ pub drop_one_more : (t : Source) → drop 1 (drop 1 t) ≡ drop 2 t
 drop_one_more [] = refl
 drop_one_more (c ∷ []) = refl
 drop_one_more (c ∷ d ∷ t) = refl
+
+-- the octal digits of an escape, as those behind its first one are counted
+pub octal_digits_counted : (c most n : ℕ) (t : Source) → is_octal c ≡ true → most + 1 ≡ cond (nat_le c 51) 3 2 →
+    n ≡ prefix_len is_octal (take (min (length t) most) t) → octal_digits c t ≡ c ∷ take n t
+unfolding front
+octal_digits_counted c most n t octal e counted =
+    let short : take (min (length t) most) t ≡ take most t = rw (min_comm (length t) most) (take_min most t) in
+    let same : n ≡ prefix_len is_octal (take most t) = subst (λ (u : Source). n ≡ prefix_len is_octal u) short counted in
+    let few : n ≤ most = omega (arith, same, prefix_len-le-length is_octal (take most t), length-take most t) in
+    let front_is : front is_octal (take most t) ≡ take n t = rw (front_taken is_octal (take most t), ← same) (take-take n most t few) in
+    let more : suc most ≡ cond (nat_le c 51) 3 2 = omega (arith, e) in
+    rw (← more, octal) (ap (λ (u : Source). c ∷ u) front_is)
+
+pub octal_number_fits : (c : ℕ) (t : Source) → number 8 (octal_digits c t) < 512
+octal_number_fits c t = octal_fits (take (cond (nat_le c 51) 3 2) (c ∷ t)) (octal_length (nat_le c 51) (c ∷ t))
+
+pub number_behind : (base c d : ℕ) (cs : List ℕ) → d ≡ digit c → number base (c ∷ cs) ≡ number_from base d cs
+number_behind base c d cs e = ap (λ n. number_from base n cs) (omega (arith, e))

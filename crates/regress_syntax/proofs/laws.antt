@@ -2,3 +2,4 @@
 pub mod Sources
 pub mod Behind
 pub mod Pieces
+pub mod InRange

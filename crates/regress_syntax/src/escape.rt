@@ -1,5 +1,5 @@
 //! Escapes of one character.
-ghost use Rattle.std.specs.Prelude.{◌≡◌, ◌≤◌, ℕ, true, ◌∷◌, length, drop, Some, None, option_map, All, IfSome};
+ghost use Rattle.std.specs.Prelude.{◌≡◌, ◌≤◌, ℕ, true, ◌∷◌, length, drop, Some, None, option_map, if◌then◌else◌, ◌&&◌, ◌+◌, nat_le, All, IfSome};
 ghost use Rattle.regress_syntax.specs.Escapes.{
   braced_hex_at,
   second_half_at,
@@ -14,8 +14,11 @@ ghost use Rattle.regress_syntax.specs.Escapes.{
   other_escape,
   escape_at,
 };
-ghost use Rattle.regress_syntax.specs.Source.{IsCodePoint};
+ghost use Rattle.regress_syntax.specs.Source.{IsCodePoint, is_at};
 ghost use Rattle.regress_syntax.specs.Digits as digits_spec;
+
+#[cfg(test)]
+mod tests;
 
 use crate::digits::{
     Read, after, control, digit, hex_length, is_decimal, is_letter, is_octal, number_from,
@@ -64,14 +67,20 @@ fn read_braced_hex<'a>(text: &'a [u32]) -> Read<'a, u32>
 }
 
 #[tactic(auto, using(crate::proofs::DigitLemmas::drop_one_more))]
-/// The second half of a surrogate pair, written as `\u` and four digits.
+/// `\u` and four digits.
+fn read_unit<'a>(text: &'a [u32]) -> Read<'a, u32>
+    ensures { option_map (λ found. (found.0, found.1.now)) result ≡ (if is_at 92 text.now && is_at 117 (drop 1 text.now) then digits_spec.hex_at 4 (drop 2 text.now) else None) }
+{
+    read_hex(after(after(text, '\\')?, 'u')?, 4)
+}
+
+/// The second half of a surrogate pair.
 fn read_second_half<'a>(text: &'a [u32]) -> Read<'a, u32>
     ensures value { option_map (λ found. (found.0, found.1.now)) result ≡ second_half_at text.now }
     ensures first { IfSome result (λ found. 0xDC00 ≤ found.0) }
     ensures last { IfSome result (λ found. found.0 ≤ 0xDFFF) }
 {
-    let rest = after(text, '\\')?;
-    let (low, rest) = read_hex(after(rest, 'u')?, 4)?;
+    let (low, rest) = read_unit(text)?;
     if low < 0xDC00 || 0xDFFF < low {
         return None;
     }
@@ -113,14 +122,20 @@ fn itself<'a>(c: u32, text: &'a [u32], unicode: bool) -> Read<'a, u32>
     Some((c, text))
 }
 
+/// How many octal digits may stand behind the first one, so that the number stays below 256.
+fn octal_room(first: u32) -> usize
+    ensures { result + 1 ≡ (if nat_le first 51 then 3 else 2) }
+{
+    if first <= u32::from('3') { 2 } else { 1 }
+}
+
 /// A number of up to three octal digits, of which `c` is the first: of two, where three would pass 255.
 fn read_octal(c: u32, text: &[u32]) -> (u32, &[u32])
     requires { digits_spec.is_octal c ≡ true }
     ensures value { result.0 ≡ digits_spec.number 8 (octal_digits c text.now) }
     ensures rest { result.1.now ≡ drop (length (octal_digits c text.now)) (c ∷ text.now) }
 {
-    let most = if c <= u32::from('3') { 2 } else { 1 };
-    let (digits, rest) = text.split_at(octal_length(&text[..text.len().min(most)]));
+    let (digits, rest) = text.split_at(octal_length(&text[..text.len().min(octal_room(c))]));
     (number_from(8, digit(c) as usize, digits) as u32, rest)
 }
 

@@ -1,5 +1,5 @@
 -- The complement of the members.
-use Rattle.std.proofs.Common.{ℕ, ◌≡◌, ◌≤◌, ap, sym, ◌∙◌}
+use Rattle.std.proofs.Common.{ap, sym, ◌∙◌}
 use Rattle.std.proofs.lemmas.Result.{IfOk-weaker}
 use Rattle.regress_base.specs.Intervals.{is_member}
 use Rattle.regress_syntax.specs.ClassRows.{class_members}
