@@ -1,5 +1,5 @@
 -- Digits at the front of a source, and the numbers that they write.
-use Rattle.std.proofs.Common.{◌≡◌, ℕ, zero, suc, ◌+◌, ◌*◌, ◌-◌, ◌^◌, ◌<◌, ◌≤◌, min, ◌⊎◌, ⊎_elim, nat_le, Bool, true, false, ◌&&◌, cond, List, [], ◌∷◌, map, length, get_or, take, drop, refl, ap, subst, arith}
+use Rattle.std.proofs.Common.{◌≡◌, ℕ, zero, suc, ◌+◌, ◌*◌, ◌^◌, ◌<◌, ◌≤◌, min, ⊎_elim, nat_le, Bool, true, false, ◌&&◌, cond, List, [], ◌∷◌, map, length, get_or, take, drop, refl, ap, subst, arith}
 use Rattle.std.proofs.lemmas.Bool.Decides.{nat_tests}
 use Rattle.std.proofs.lemmas.Bool.{cases_lt, false≢true}
 use Rattle.std.proofs.Math.Nat.{min_comm, mul-le-mul_left, pow-le-pow_right}

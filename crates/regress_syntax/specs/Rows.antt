@@ -4,7 +4,7 @@ use Rattle.std.specs.Prelude.{ℕ, Bool, true, false, not, ◌&&◌, ◌||◌, [
 use Rattle.regress_tree.specs.declared.ir.node.AnchorType.TheVariants.{StartOfLine, EndOfLine}
 use Rattle.regress_tree.specs.declared.ir.node.Quantifier.{Quantifier}
 use Rattle.regress_tree.specs.Matching.{Setting}
-use Rattle.regress_syntax.specs.Source.{Source, Found, ◌>>=◌, found_map, opening, full_stop, colon, question_mark, is_at, is_plain}
+use Rattle.regress_syntax.specs.Source.{Source, Found, found_map, opening, full_stop, colon, question_mark, is_at, is_plain}
 use Rattle.regress_syntax.specs.Digits.{is_between}
 use Rattle.regress_syntax.specs.Escapes.{begins_with_letter, escape_at}
 use Rattle.regress_syntax.specs.Quantifiers.{quantifier_at, is_ordered}
