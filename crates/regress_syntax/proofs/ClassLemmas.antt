@@ -1,8 +1,8 @@
 -- What a class holds, part by part.
-use Rattle.std.proofs.Common.{◌≡◌, ℕ, ◌+◌, ◌≤◌, Bool, true, false, cond, not, ◌||◌, List, [], ◌∷◌, ◌++◌, length, drop, Option, Some, None, refl, sym, ap, ◌∙◌, append_assoc, append-nil}
+use Rattle.std.proofs.Common.{◌≡◌, ℕ, ◌+◌, Bool, true, false, cond, not, ◌||◌, List, [], ◌∷◌, ◌++◌, length, drop, Some, None, refl, sym, ap, ◌∙◌, append_assoc, append-nil}
 use Rattle.std.proofs.lemmas.Bool.{cond-false}
 use Rattle.regress_base.specs.Intervals.{Bounds, is_within, is_member, IsCanonical, IsComplement}
-use Rattle.regress_base.proofs.laws.Sets.{or_assoc, is_member-nil, is_member-one, is_member-append, canonical_is}
+use Rattle.regress_base.proofs.laws.Sets.{or_assoc, is_member-one, is_member-append, canonical_is}
 use Rattle.regress_base.specs.declared.charclasses.CharacterClassType.{CharacterClassType}
 use Rattle.regress_syntax.specs.Source.{Source, Found, ◌>>=◌, is_at}
 use Rattle.regress_syntax.specs.ClassRows.{ClassAtom, atom_members, class_atom_at, begins_range, range_at, members_of, class_members, class_part_at, class_parts_by, class_at}

@@ -1,18 +1,16 @@
 -- Digits at the front of a source, and the numbers that they write.
-use Rattle.std.proofs.Common.{◌≡◌, ℕ, zero, suc, ◌+◌, ◌*◌, ◌-◌, ◌^◌, ◌<◌, ◌≤◌, min, ◌⊎◌, ⊎_elim, nat_le, Bool, true, false, ◌&&◌, cond, List, [], ◌∷◌, map, length, get_or, take, drop, refl, sym, ap, ◌∙◌, subst, arith}
-use native.Mathlib.Numerals.{unary_clauses}
+use Rattle.std.proofs.Common.{◌≡◌, ℕ, zero, suc, ◌+◌, ◌*◌, ◌^◌, ◌<◌, ◌≤◌, min, ⊎_elim, nat_le, Bool, true, false, ◌&&◌, cond, List, [], ◌∷◌, map, length, get_or, take, drop, refl, ap, subst, arith}
 use Rattle.std.proofs.lemmas.Bool.Decides.{nat_tests}
 use Rattle.std.proofs.lemmas.Bool.{cases_lt, false≢true}
 use Rattle.std.proofs.Math.Nat.{min_comm, mul-le-mul_left, pow-le-pow_right}
-use Rattle.std.proofs.lemmas.List.{length-map}
 use Rattle.std.proofs.lemmas.Int.Digits.{number_after_lt}
 use Rattle.std.specs.Int.Digits.{number_from_digits_after, AllBelowBase}
-use Rattle.std.proofs.lemmas.List.{take_min, length-take, take-take}
+use Rattle.std.proofs.lemmas.List.{length-map, length-take, take-take, take_min}
 use Rattle.std.proofs.lemmas.List.Sums.{prefix_len-le-length}
 use Rattle.regress_syntax.specs.Escapes.{octal_digits}
 use Rattle.std.specs.List.{prefix_len, list_all}
 use Rattle.regress_syntax.specs.Source.{Source}
-use Rattle.regress_syntax.specs.Digits.{is_between, is_decimal, is_octal, is_hex, digit, number_from, number, front, behind}
+use Rattle.regress_syntax.specs.Digits.{is_octal, is_hex, digit, number_from, number, front, behind}
 
 -- a front that passes, by its length
 front_cons : (p : ℕ → Bool) (c : ℕ) (t : Source) (n : ℕ) (b : Bool) → front p t ≡ take n t →

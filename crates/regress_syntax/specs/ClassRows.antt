@@ -1,5 +1,5 @@
 -- What stands between brackets, without the flag v (ECMA-262, CharacterClass with annex B).
-use Rattle.std.specs.Prelude.{ℕ, zero, suc, ◌+◌, ◌%◌, Bool, true, false, not, ◌&&◌, ◌||◌, List, [], ◌∷◌, ◌++◌, length, drop, Option, Some, None, if◌then◌else◌, nat_le, ◌==◌}
+use Rattle.std.specs.Prelude.{ℕ, zero, suc, ◌+◌, Bool, true, false, not, ◌&&◌, ◌||◌, List, [], ◌∷◌, ◌++◌, length, drop, Option, Some, None, if◌then◌else◌, nat_le, ◌==◌}
 use Rattle.regress_base.specs.declared.charclasses.CharacterClassType.{CharacterClassType}
 use Rattle.regress_base.specs.declared.charclasses.CharacterClassType.TheVariants.{Digits, Spaces, Words}
 use Rattle.regress_base.specs.Classes.{digits, white_space, line_terminators, word_characters}

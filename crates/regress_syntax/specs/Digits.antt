@@ -1,5 +1,5 @@
 -- Digits at the front of a source, and letters.
-use Rattle.std.specs.Prelude.{ℕ, ◌+◌, ◌-◌, ◌*◌, ◌%◌, Bool, ◌&&◌, ◌||◌, List, [], ◌∷◌, length, take, drop, Option, Some, None, if◌then◌else◌, nat_le, ◌==◌}
+use Rattle.std.specs.Prelude.{ℕ, ◌+◌, ◌-◌, ◌*◌, ◌%◌, Bool, ◌&&◌, ◌||◌, List, [], ◌∷◌, length, take, drop, Some, None, if◌then◌else◌, nat_le, ◌==◌}
 use Rattle.std.specs.List.{list_all}
 use Rattle.regress_syntax.specs.Source.{Source, Found}
 

@@ -1,5 +1,5 @@
 -- What an escape of one character stands for, behind its backslash, row by row (ECMA-262, CharacterEscape with annex B).
-use Rattle.std.specs.Prelude.{ℕ, ◌+◌, ◌-◌, ◌*◌, Bool, true, false, not, ◌&&◌, ◌||◌, List, [], ◌∷◌, length, take, drop, Option, Some, None, if◌then◌else◌, nat_le, ◌==◌, codes}
+use Rattle.std.specs.Prelude.{ℕ, ◌+◌, ◌-◌, ◌*◌, Bool, false, not, ◌&&◌, ◌||◌, [], ◌∷◌, length, take, drop, Option, Some, None, if◌then◌else◌, nat_le, ◌==◌, codes}
 use Rattle.std.specs.List.{list_any}
 use Rattle.regress_base.specs.Intervals.{code_point_max}
 use Rattle.regress_syntax.specs.Source.{Source, Found, ◌>>=◌, is_at}

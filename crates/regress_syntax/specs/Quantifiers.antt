@@ -1,5 +1,5 @@
 -- The quantifier at the front of a source (ECMA-262, Quantifier).
-use Rattle.std.specs.Prelude.{ℕ, ◌-◌, ◌^◌, Bool, true, false, not, ◌&&◌, min, List, [], ◌∷◌, length, drop, Option, Some, None, if◌then◌else◌, nat_le, ◌==◌}
+use Rattle.std.specs.Prelude.{ℕ, ◌-◌, ◌^◌, Bool, true, not, min, [], ◌∷◌, length, drop, Option, Some, None, if◌then◌else◌, nat_le, ◌==◌}
 use Rattle.regress_tree.specs.declared.ir.node.Quantifier.{Quantifier}
 use Rattle.regress_syntax.specs.Source.{Source, Found, ◌>>=◌, is_at, question_mark}
 use Rattle.regress_syntax.specs.Digits.{is_decimal, number, front, behind}

@@ -1,5 +1,5 @@
 -- What a call that reads answers: what the source has at its front, or a fault where it has nothing.
-use Rattle.std.specs.Prelude.{◌≡◌, Option, Some, None, Result, Ok, Err}
+use Rattle.std.specs.Prelude.{◌≡◌, Some, None, Result, Ok, Err}
 use Rattle.regress_syntax.specs.declared.fault.ParseFault.{ParseFault}
 use Rattle.regress_syntax.specs.Fault.{OnSyntax}
 use Rattle.regress_syntax.specs.Source.{Source, Found}

@@ -1,5 +1,5 @@
 //! Digits at the front of a source, and letters.
-ghost use Rattle.std.specs.Prelude.{◌≡◌, ◌≤◌, ◌-◌, ◌^◌, ℕ, min, length, drop, Some, None, option_map, if◌then◌else◌};
+ghost use Rattle.std.specs.Prelude.{◌≡◌, ◌≤◌, ◌-◌, ◌^◌, min, length, drop, Some, None, option_map, if◌then◌else◌};
 ghost use Rattle.std.specs.List.{prefix_len, list_all};
 ghost use Rattle.regress_syntax.specs.Source.{is_at};
 ghost use Rattle.regress_syntax.specs.Digits.{is_decimal, is_octal, is_letter, is_hex, digit, control, number_from, hex_at};
@@ -104,8 +104,8 @@ pub(crate) fn octal_length(text: &[u32]) -> usize
     text.iter().take_while(|c| is_octal(**c)).count()
 }
 
-#[tactic(auto, using(crate::proofs::DigitLemmas::front_taken, crate::proofs::DigitLemmas::behind_dropped))]
 /// A decimal number, which saturates once all its digits are read.
+#[tactic(auto, using(crate::proofs::DigitLemmas::front_taken, crate::proofs::DigitLemmas::behind_dropped))]
 pub(crate) fn read_count<'a>(text: &'a [u32]) -> Read<'a, usize>
     ensures { option_map (λ found. (found.0, found.1.now)) result ≡ count_at text.now }
 {
@@ -123,8 +123,8 @@ fn all_hex(digits: &[u32]) -> bool
     digits.iter().all(|c| is_hex(*c))
 }
 
-#[tactic(auto, using(crate::proofs::DigitLemmas::hex_fits))]
 /// Exactly so many hexadecimal digits.
+#[tactic(auto, using(crate::proofs::DigitLemmas::hex_fits))]
 pub(crate) fn read_hex<'a>(text: &'a [u32], count: usize) -> Read<'a, u32>
     requires { count ≤ 4 }
     ensures { option_map (λ found. (found.0, found.1.now)) result ≡ hex_at count text.now }

@@ -1,5 +1,5 @@
 //! Escapes of one character.
-ghost use Rattle.std.specs.Prelude.{◌≡◌, ◌≤◌, ℕ, true, ◌∷◌, length, drop, Some, None, option_map, if◌then◌else◌, ◌&&◌, ◌+◌, nat_le, All, IfSome};
+ghost use Rattle.std.specs.Prelude.{◌≡◌, ◌≤◌, true, ◌∷◌, length, drop, Some, None, option_map, if◌then◌else◌, ◌&&◌, ◌+◌, nat_le, All, IfSome};
 ghost use Rattle.regress_syntax.specs.Escapes.{
   braced_hex_at,
   second_half_at,
@@ -52,8 +52,8 @@ fn is_syntax_character(c: u32) -> bool
     SYNTAX_CHARACTERS.contains(&c)
 }
 
-#[tactic(auto, using(crate::proofs::DigitLemmas::front_taken, crate::proofs::DigitLemmas::behind_dropped))]
 /// Hexadecimal digits, one at least, and `}`, for a code point.
+#[tactic(auto, using(crate::proofs::DigitLemmas::front_taken, crate::proofs::DigitLemmas::behind_dropped))]
 fn read_braced_hex<'a>(text: &'a [u32]) -> Read<'a, u32>
     ensures { option_map (λ found. (found.0, found.1.now)) result ≡ braced_hex_at text.now }
 {
@@ -66,8 +66,8 @@ fn read_braced_hex<'a>(text: &'a [u32]) -> Read<'a, u32>
     Some((number as u32, rest))
 }
 
-#[tactic(auto, using(crate::proofs::DigitLemmas::drop_one_more))]
 /// `\u` and four digits.
+#[tactic(auto, using(crate::proofs::DigitLemmas::drop_one_more))]
 fn read_unit<'a>(text: &'a [u32]) -> Read<'a, u32>
     ensures { option_map (λ found. (found.0, found.1.now)) result ≡ (if is_at 92 text.now && is_at 117 (drop 1 text.now) then digits_spec.hex_at 4 (drop 2 text.now) else None) }
 {
@@ -100,8 +100,8 @@ fn with_second_half(high: u32, text: &[u32]) -> (u32, &[u32])
     }
 }
 
-#[tactic(auto, unfolding(crate::specs::Escapes::unicode_at))]
 /// The forms of `\u`, behind the u.
+#[tactic(auto, unfolding(crate::specs::Escapes::unicode_at))]
 fn read_unicode<'a>(text: &'a [u32]) -> Read<'a, u32>
     ensures { option_map (λ found. (found.0, found.1.now)) result ≡ unicode_at text.now }
 {
@@ -193,8 +193,8 @@ fn read_other<'a>(c: u32, text: &'a [u32], unicode: bool) -> Read<'a, u32>
     }
 }
 
-#[tactic(auto, unfolding(crate::specs::Escapes::escape_at))]
 /// What an escape stands for, behind its backslash (ECMA-262, CharacterEscape with annex B).
+#[tactic(auto, unfolding(crate::specs::Escapes::escape_at))]
 pub(crate) fn read_escape<'a>(text: &'a [u32], unicode: bool) -> Read<'a, u32>
     ensures value { option_map (λ found. (found.0, found.1.now)) result ≡ escape_at unicode text.now }
     ensures in_range { All IsCodePoint text.now → IfSome result (λ found. IsCodePoint found.0) }

@@ -43,8 +43,8 @@ fn read_times<'a>(c: u32, text: &'a [u32]) -> Read<'a, Times>
     }
 }
 
-#[tactic(auto, unfolding(crate::specs::Quantifiers::quantifier_at))]
 /// Reads a quantifier (ECMA-262, Quantifier).
+#[tactic(auto, unfolding(crate::specs::Quantifiers::quantifier_at))]
 pub(crate) fn read_quantifier<'a>(text: &'a [u32]) -> Read<'a, Quantifier>
     ensures { option_map (λ found. (found.0, found.1.now)) result ≡ quantifier_at text.now }
 {

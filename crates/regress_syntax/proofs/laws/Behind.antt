@@ -1,13 +1,11 @@
 -- What a reader leaves stands at the end of the source that it was given.
-use Rattle.std.proofs.Common.{◌≡◌, ℕ, zero, suc, ◌+◌, ◌*◌, ◌-◌, ◌<◌, ◌≤◌, Bool, true, false, not, cond, ◌&&◌, ◌||◌, ◌==◌, List, [], ◌∷◌, length, take, drop, Option, Some, None, refl, sym, ap, ◌∙◌, subst, arith, length-drop}
+use Rattle.std.proofs.Common.{◌≡◌, ℕ, suc, ◌+◌, ◌≤◌, Bool, true, false, not, cond, ◌&&◌, ◌||◌, ◌==◌, [], ◌∷◌, length, drop, Option, Some, None, refl, sym, ap, ◌∙◌, subst, arith, length-drop}
 use Rattle.std.proofs.lemmas.Option.{none-some, same_Some}
 use Rattle.std.proofs.lemmas.List.{drop-drop}
 use Rattle.std.proofs.lemmas.List.Elements.{All-drop}
 use Rattle.std.specs.List.{All}
-use Rattle.std.specs.Option.{IfSome}
-use Rattle.regress_tree.specs.declared.ir.node.Quantifier.{Quantifier}
 use Rattle.regress_syntax.specs.Source.{Source, Found, ◌>>=◌, found_map, IsCodePoint, is_at, question_mark}
-use Rattle.regress_syntax.specs.Digits.{is_decimal, is_octal, is_letter, is_hex, number, front, behind, hex_at}
+use Rattle.regress_syntax.specs.Digits.{is_decimal, is_octal, is_hex, number, behind, hex_at}
 use Rattle.regress_syntax.specs.Escapes.{braced_hex_at, second_half_at, paired, with_second_half, unicode_at, or_itself, octal_digits, letter_escape, begins_with_digit, is_syntax_character, control_at, other_escape, escape_at}
 use Rattle.regress_syntax.specs.Quantifiers.{Times, count_at, closed_brace, most_at, times_by, greedy_or_lazy, quantifier_at}
 

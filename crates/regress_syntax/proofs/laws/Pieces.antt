@@ -1,15 +1,14 @@
 -- Classes, read from the front of a source.
-use Rattle.std.proofs.Common.{◌≡◌, inl, inr, ℕ, zero, suc, ◌+◌, ◌<◌, ◌≤◌, Bool, true, false, not, ◌&&◌, ◌||◌, ◌==◌, cond, List, [], ◌∷◌, ◌++◌, length, drop, Option, Some, None, refl, sym, ap, ◌∙◌, subst, add-one, arith, length-drop}
-use Rattle.std.proofs.lemmas.Option.{none-some, same_Some}
+use Rattle.std.proofs.Common.{◌≡◌, inl, inr, ℕ, zero, suc, ◌+◌, ◌<◌, Bool, true, false, not, ◌&&◌, ◌||◌, ◌==◌, cond, List, [], ◌∷◌, ◌++◌, length, drop, Option, Some, None, refl, sym, ap, ◌∙◌, subst, add-one, arith}
+use Rattle.std.proofs.lemmas.Option.{none-some}
 use Rattle.std.proofs.lemmas.Bool.{cases_eq, ne_eqb, cond-true, cond-false}
-use Rattle.regress_base.specs.declared.charclasses.CharacterClassType.{CharacterClassType}
 use Rattle.regress_base.specs.Intervals.{Bounds}
 use Rattle.regress_syntax.specs.Source.{Source, Found, ◌>>=◌, found_map, is_at}
 use Rattle.regress_syntax.specs.Digits.{is_decimal, is_letter}
 use Rattle.regress_syntax.specs.Escapes.{escape_at}
 use Rattle.regress_syntax.specs.ClassRows.{ClassAtom, point, class, class_letter, class_control_at, class_escape_by, class_escape_at, class_atom_at, range_of, range_at, begins_range, class_part_at, class_parts_by, class_at, atom_members}
-use Rattle.regress_syntax.proofs.laws.Sources.{found_then, then_same, cond_same}
-use Rattle.regress_syntax.proofs.laws.Behind.{IsBehind, behind_same, behind_behind, behind_more, behind_drop, behind_shorter, Ends, ends_none, ends_some, ends_behind, ends_more, ends_then, ends_map, ends_cond, escape_at-ends}
+use Rattle.regress_syntax.proofs.laws.Sources.{then_same, cond_same}
+use Rattle.regress_syntax.proofs.laws.Behind.{IsBehind, behind_same, behind_drop, behind_shorter, Ends, ends_none, ends_some, ends_behind, ends_then, ends_map, ends_cond, escape_at-ends}
 
 -- ---- what stands behind a class
 

@@ -1,16 +1,16 @@
 -- What a row reads ends behind the front of the source.
-use Rattle.std.proofs.Common.{◌≡◌, ℕ, ◌<◌, ◌≤◌, Bool, true, false, not, cond, ◌&&◌, ◌||◌, ◌==◌, ⊎_elim, [], ◌∷◌, length, drop, Option, Some, None, is_some, refl, sym, ap, ◌∙◌, subst, arith, eqb-true}
+use Rattle.std.proofs.Common.{◌≡◌, ℕ, ◌<◌, Bool, true, false, not, cond, ◌&&◌, ◌||◌, ◌==◌, ⊎_elim, [], ◌∷◌, length, drop, Option, Some, None, is_some, refl, sym, ap, subst, arith, eqb-true}
 use Rattle.std.proofs.lemmas.Bool.{or_cases, and_parts}
 use Rattle.std.proofs.lemmas.Option.{none-some, same_Some, cond_some}
 use Rattle.regress_base.specs.declared.charclasses.CharacterClassType.{CharacterClassType}
 use Rattle.regress_tree.specs.declared.ir.node.Quantifier.{Quantifier}
-use Rattle.regress_syntax.specs.Source.{Source, Found, found_map, opening, closing, full_stop, colon, question_mark, bar, is_at, is_plain, ends_alternative}
+use Rattle.regress_syntax.specs.Source.{Source, Found, opening, closing, full_stop, colon, question_mark, bar, is_at, is_plain, ends_alternative}
 use Rattle.regress_syntax.specs.Syntax.{Atom, literal, boundary, class_escape}
-use Rattle.regress_syntax.specs.Escapes.{begins_with_letter, escape_at}
+use Rattle.regress_syntax.specs.Escapes.{begins_with_letter}
 use Rattle.regress_syntax.specs.Quantifiers.{quantifier_at, is_ordered}
-use Rattle.regress_syntax.specs.ClassRows.{class_letter, class_at}
-use Rattle.regress_syntax.specs.Rows.{Context, Head, single, opens, group_at, is_unserved, is_lone_backslash, character_at, escaped_by, escaped_at, brace_by, atom_by, head_by, head_at, no_quantifier_at, this_quantifier, times_at}
-use Rattle.regress_syntax.proofs.laws.Behind.{IsBehind, behind_same, behind_more, behind_drop, behind_shorter, Ends, ends_none, ends_some, ends_more, ends_map, ends_cond, escape_at-ends, quantifier_at-ends}
+use Rattle.regress_syntax.specs.ClassRows.{class_letter}
+use Rattle.regress_syntax.specs.Rows.{Context, Head, single, group_at, is_unserved, is_lone_backslash, character_at, escaped_by, escaped_at, brace_by, atom_by, head_by, head_at, no_quantifier_at, this_quantifier, times_at}
+use Rattle.regress_syntax.proofs.laws.Behind.{behind_same, behind_drop, behind_shorter, Ends, ends_none, ends_some, ends_more, ends_map, ends_cond, escape_at-ends, quantifier_at-ends}
 use Rattle.regress_syntax.proofs.laws.Pieces.{class_at-ends}
 use Rattle.regress_syntax.proofs.laws.Sources.{Shortens, chosen}
 

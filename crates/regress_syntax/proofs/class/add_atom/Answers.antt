@@ -1,7 +1,7 @@
 -- A code point is an interval.
-use Rattle.std.proofs.Common.{List, sym, subst, ap, ◌∙◌, ◌||◌}
+use Rattle.std.proofs.Common.{sym, subst, ap, ◌∙◌, ◌||◌}
 use Rattle.std.proofs.lemmas.Result.{on_ok_weaker}
-use Rattle.regress_base.specs.Intervals.{Bounds, is_within, is_member}
+use Rattle.regress_base.specs.Intervals.{is_within, is_member}
 use Rattle.regress_syntax.specs.ClassRows.{atom_members}
 use Rattle.regress_syntax.specs.Views.{Adds, class_atom_of}
 use Rattle.regress_syntax.proofs.ClassLemmas.{adds_one}

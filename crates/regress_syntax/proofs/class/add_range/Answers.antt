@@ -1,7 +1,7 @@
 -- A range is an interval, and else all three parts are members.
-use Rattle.std.proofs.Common.{◌≡◌, ◌++◌, ◌∙◌, ◌||◌, List, [], ◌∷◌, Some, ℕ, ap, subst, rules}
+use Rattle.std.proofs.Common.{◌++◌, ◌∙◌, ◌||◌, List, [], ◌∷◌, ℕ, ap, subst, rules}
 use Rattle.regress_base.specs.Intervals.{Bounds, is_within, is_member}
-use Rattle.regress_syntax.specs.ClassRows.{range_of, atom_members, one_point}
+use Rattle.regress_syntax.specs.ClassRows.{atom_members, one_point}
 use Rattle.regress_syntax.specs.Views.{class_atom_of, Adds}
 use Rattle.regress_syntax.proofs.ClassLemmas.{adds_one, adds_both}
 use Rattle.regress_syntax.proofs.class.add_range.Goals as goal

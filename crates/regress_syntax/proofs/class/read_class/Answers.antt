@@ -1,5 +1,5 @@
 -- The parts, and whether they are inverted.
-use Rattle.std.proofs.Common.{◌≡◌, None, Some, refl}
+use Rattle.std.proofs.Common.{None, Some, refl}
 use Rattle.std.proofs.lemmas.Result.{err_from_is_err_and}
 use Rattle.regress_syntax.specs.Views.{source}
 use Rattle.regress_syntax.proofs.laws.Sources.{on_syntax_then}

@@ -1,7 +1,5 @@
 -- An atom that begins no range.
-use Rattle.std.proofs.Common.{◌≡◌, List, Some, sym, ap, ◌∙◌}
-use Rattle.std.proofs.lemmas.Bool.{cond-false}
-use Rattle.regress_base.specs.Intervals.{Bounds}
+use Rattle.std.proofs.Common.{Some, sym, ap, ◌∙◌}
 use Rattle.regress_syntax.specs.Source.{Source}
 use Rattle.regress_syntax.specs.ClassRows.{atom_members}
 use Rattle.regress_syntax.specs.Views.{source, class_atom_of}

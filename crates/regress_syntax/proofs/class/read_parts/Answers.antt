@@ -1,9 +1,9 @@
 -- A turn reads one part more.
-use Rattle.std.proofs.Common.{◌≡◌, Bool, true, false, Some, sym, ap, ◌∙◌, subst, arith}
+use Rattle.std.proofs.Common.{◌≡◌, true, Some, sym, ap, ◌∙◌}
 use Rattle.std.proofs.lemmas.Bool.{cond-true}
 use Rattle.std.proofs.lemmas.Result.{err_from_is_err_and}
 use Rattle.regress_syntax.specs.Source.{Source, is_at}
-use Rattle.regress_syntax.specs.Views.{source, HasMembers}
+use Rattle.regress_syntax.specs.Views.{source}
 use Rattle.regress_syntax.proofs.laws.Sources.{on_syntax_then}
 use Rattle.regress_syntax.proofs.laws.Pieces.{class_part_at-shortens}
 use Rattle.regress_syntax.proofs.ClassLemmas.{one_more_read, all_read, none_behind}

@@ -1,7 +1,6 @@
 -- Each turn adds one interval.
-use Rattle.std.proofs.Common.{◌≡◌, ℕ, ◌||◌, ◌+◌, ◌∙◌, ap, sym, take}
+use Rattle.std.proofs.Common.{◌||◌, ◌∙◌, ap, sym, take}
 use Rattle.std.proofs.Math.Bool.{or-false}
-use Rattle.std.proofs.lemmas.List.{take_all}
 use Rattle.regress_base.specs.Intervals.{is_member, is_within}
 use Rattle.regress_base.proofs.laws.Sets.{is_member-nil, is_member-take_more, or_assoc}
 use Rattle.regress_syntax.proofs.class_escape.add_intervals.Goals as goal

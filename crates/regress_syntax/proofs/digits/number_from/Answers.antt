@@ -1,6 +1,5 @@
-use Rattle.std.proofs.Common.{refl, ◌≡◌, ◌≤◌, ◌<◌, ◌-◌, ◌+◌, ◌*◌, ◌^◌, ℕ, min, take, drop, length, get_or, ap, arith, sym, ◌∙◌}
-use Rattle.std.proofs.lemmas.Grind.{common_steps}
-use Rattle.regress_syntax.specs.Digits.{is_decimal, is_octal, is_hex, digit, number_from, front, behind}
+use Rattle.std.proofs.Common.{refl, ◌-◌, ◌^◌, take, get_or}
+use Rattle.regress_syntax.specs.Digits.{digit, number_from}
 use Rattle.regress_syntax.proofs.DigitLemmas.{number_from-more, saturates}
 use Rattle.regress_syntax.proofs.digits.number_from.Goals as goal
 

@@ -1,5 +1,4 @@
-use Rattle.std.proofs.Common.{rules, ◌≡◌, ◌<◌, ◌^◌, ◌-◌, ℕ, min, ◌∷◌, List, length, drop, refl, ap, arith, sym, ◌∙◌, length-take-le}
-use Rattle.std.proofs.lemmas.Grind.{common_steps}
+use Rattle.std.proofs.Common.{◌≡◌, ◌∷◌, arith}
 use Rattle.regress_syntax.specs.Escapes.{octal_digits}
 use Rattle.regress_syntax.specs.Digits.{number, number_from}
 use Rattle.regress_syntax.proofs.DigitLemmas.{octal_digits_counted, octal_number_fits, number_behind}

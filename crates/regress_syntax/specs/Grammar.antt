@@ -1,5 +1,4 @@
--- Which source a syntax tree stands for (ECMA-262, Patterns). The rows that need no recursion are functions of the source,
--- in `regress_syntax`.
+-- Which source a syntax tree stands for (ECMA-262, Patterns). The rows that need no recursion are functions of the source.
 use Rattle.std.specs.Prelude.{◌≡◌, true, false, ◌∷◌, Some}
 use Rattle.regress_syntax.specs.Source.{Source, closing, bar, is_at, ends_alternative}
 use Rattle.regress_syntax.specs.Syntax.{Pattern, Terms, Item, one, either, no_terms, more_terms, atom, group}
@@ -16,7 +15,7 @@ abbrev mutual
   AreTerms ctx no_terms t rest = (ends_alternative t ≡ true) × (t ≡ rest)
   AreTerms ctx (more_terms x q xs) t rest =
       (mid : Source) × (behind : Source) × IsItem ctx x t mid
-      × (times_at ctx (allows (head_of_item x)) mid ≡ Some (q, behind)) × AreTerms ctx xs behind rest
+      × (times_at ctx (allows ctx.setting.flags.unicode (head_of_item x)) mid ≡ Some (q, behind)) × AreTerms ctx xs behind rest
 
   -- all of it at once, or what opens a group, a pattern and `)`
   pub IsItem : Context → Item → Source → Source → Type 0
