@@ -19,7 +19,7 @@ pub record Placed : Type 0 where
 -- the next alternative of the innermost level
 abbrev pub next_alternative : Path → Path
 next_alternative [] = []
-next_alternative (k ∷ path) = k + 1 ∷ path
+next_alternative (k ∷ path) = (k + 1) ∷ path
 
 -- the path outside the innermost level; the whole pattern is never left
 abbrev pub outside : Path → Path
