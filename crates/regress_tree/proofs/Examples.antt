@@ -9,12 +9,14 @@ use Rattle.regress_tree.specs.declared.ir.node.Quantifier.{Quantifier}
 use Rattle.regress_tree.specs.Reading.{forwards, backwards, of_characters, read_after, read_before, character_at}
 use Rattle.regress_tree.specs.Steps.{State, Span, same_state, one_character, these_bytes, hold_at, capture}
 use Rattle.regress_tree.specs.Repetition.{unset, repeat}
+use Rattle.regress_tree.specs.Lookaround.{look}
+use Rattle.regress_tree.specs.References.{back_reference}
 use Rattle.regress_tree.specs.Assertions.{is_word_character, at_anchor, at_boundary}
 use Rattle.regress_tree.specs.FoldRows.{image}
 use Rattle.regress_tree.specs.Table.{is_in_closure}
 use Rattle.regress_tree.specs.Matching.{Setting, matches}
 use Rattle.regress_tree.specs.SmallTable.{small_table}
-use Rattle.regress_tree.specs.Tree.{Tree, leaf, empty, char, byte_sequence, anchor, bracket, alt, wrapped, capture_group, loop, loop_one}
+use Rattle.regress_tree.specs.Tree.{Tree, leaf, empty, char, byte_sequence, anchor, bracket, back_ref, cat, alt, wrapped, no_trees, more_trees, capture_group, loop, loop_one, lookaround}
 use Rattle.regress_tree.specs.Units.{loops, account, weight}
 
 abbrev plain : Setting
@@ -133,6 +135,82 @@ words_in_either_case = refl
 words_as_they_stand : map (is_word_character small_table false) (0x17F ∷ 0x5F ∷ 0x2D ∷ []) ≡ false ∷ true ∷ false ∷ []
 unfolding is_member is_within
 words_as_they_stand = refl
+
+-- ---- lookarounds
+
+-- `(?=(a))` in "ab": the place stays, and what the group has captured
+a_look_captures : matches plain (codes "ab") forwards (wrapped (lookaround false false 0 1) (wrapped (capture_group 0 None) a)) (with_group 0 None)
+    ≡ with_group 0 (Some (0, 1)) ∷ []
+unfolding one_character chars encode character_at read_after capture look same_state
+a_look_captures = refl
+
+-- `(?=a*)` in "aa" gives the first outcome of its body alone
+one_outcome : matches plain (codes "aa") forwards (wrapped (lookaround false false 0 0) (wrapped (loop star 0 0) a)) (at 0) ≡ at 0 ∷ []
+unfolding one_character chars encode character_at read_after repeat look same_state
+one_outcome = refl
+
+-- `(?!b)` in "ab"
+no_b_ahead : matches plain (codes "ab") forwards (wrapped (lookaround true false 0 0) b) (at 0) ≡ at 0 ∷ []
+unfolding one_character chars encode character_at read_after look same_state
+no_b_ahead = refl
+
+b_ahead : matches plain (codes "ab") forwards (wrapped (lookaround true false 0 0) b) (at 1) ≡ []
+unfolding one_character chars encode character_at read_after look
+b_ahead = refl
+
+-- `(?<=ab)` behind "ab": the parts of its body stand turned, and it looks backwards where the whole goes forwards
+abbrev behind_ab : Tree
+behind_ab = wrapped (lookaround false true 0 0) (cat (more_trees b (more_trees a no_trees)))
+
+ab_behind : matches plain (codes "ab") forwards behind_ab (at 2) ≡ at 2 ∷ []
+unfolding one_character chars encode character_at read_before look same_state
+ab_behind = refl
+
+no_ab_behind : matches plain (codes "ab") forwards behind_ab (at 1) ≡ []
+unfolding one_character chars encode character_at read_before look
+no_ab_behind = refl
+
+-- `(?=a)` looks forwards, also where the whole goes backwards
+ahead_in_a_lookbehind : matches plain (codes "ab") backwards (wrapped (lookaround false false 0 0) a) (at 0) ≡ at 0 ∷ []
+unfolding one_character chars encode character_at read_after look same_state
+ahead_in_a_lookbehind = refl
+
+-- ---- references
+
+-- `\1` where the group has captured nothing, or there is none
+unset_group : matches plain (codes "a") forwards (leaf (back_ref 1 false)) (with_group 0 None) ≡ with_group 0 None ∷ []
+unfolding back_reference same_state
+unset_group = refl
+
+no_such_group : matches plain (codes "a") backwards (leaf (back_ref 2 false)) (with_group 1 (Some (0, 1))) ≡ with_group 1 (Some (0, 1)) ∷ []
+unfolding back_reference same_state
+no_such_group = refl
+
+-- U+E9 and U+1F600 twice, of two bytes and of four
+abbrev two_twice : List ℕ
+two_twice = 0xC3 ∷ 0xA9 ∷ 0xF0 ∷ 0x9F ∷ 0x98 ∷ 0x80 ∷ 0xC3 ∷ 0xA9 ∷ 0xF0 ∷ 0x9F ∷ 0x98 ∷ 0x80 ∷ []
+
+two_behind : matches plain two_twice forwards (leaf (back_ref 1 false)) (with_group 6 (Some (0, 6))) ≡ with_group 12 (Some (0, 6)) ∷ []
+unfolding one_character chars encode character_at read_after back_reference same_state
+two_behind = refl
+
+two_before : matches plain two_twice backwards (leaf (back_ref 1 false)) (with_group 6 (Some (6, 12))) ≡ with_group 0 (Some (6, 12)) ∷ []
+unfolding one_character chars encode character_at read_after read_before back_reference same_state
+two_before = refl
+
+-- from another place, other characters stand there
+others_behind : matches plain two_twice forwards (leaf (back_ref 1 false)) (with_group 2 (Some (0, 6))) ≡ []
+unfolding one_character chars encode character_at read_after back_reference
+others_behind = refl
+
+-- with `icase` a letter in its other case
+in_either_case : matches plain (codes "aA") forwards (leaf (back_ref 1 true)) (with_group 1 (Some (0, 1))) ≡ with_group 2 (Some (0, 1)) ∷ []
+unfolding one_character chars encode character_at read_after back_reference same_state small_table image
+in_either_case = refl
+
+in_one_case : matches plain (codes "aA") forwards (leaf (back_ref 1 false)) (with_group 1 (Some (0, 1))) ≡ []
+unfolding one_character chars encode character_at read_after back_reference
+in_one_case = refl
 
 -- ---- bytes and brackets
 

@@ -12,6 +12,7 @@ pub mod Nodes
 pub mod Outcomes
 pub mod Places
 pub mod Readings
+pub mod References
 pub mod Repetition
 pub mod Rows
 pub mod Simulation

@@ -13,6 +13,8 @@ pub mod Reading
 pub mod Steps
 pub mod Assertions
 pub mod Repetition
+pub mod Lookaround
+pub mod References
 pub mod Matching
 pub mod Walk
 pub mod WellFormed

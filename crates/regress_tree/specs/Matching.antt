@@ -1,14 +1,16 @@
 -- What a tree matches, over the bytes of a text.
-use Rattle.std.specs.Prelude.{ℕ, ◌+◌, true, not, ◌==◌, List, length}
+use Rattle.std.specs.Prelude.{ℕ, ◌+◌, ◌-◌, true, not, ◌==◌, List, length, if◌then◌else◌}
 use Rattle.regress_base.specs.Brackets.{is_accepted}
 use Rattle.regress_base.specs.declared.types.Flags.{Flags}
 use Rattle.regress_tree.specs.Listing.{lists}
-use Rattle.regress_tree.specs.Table.{Table}
-use Rattle.regress_tree.specs.Reading.{Direction, of_bytes}
+use Rattle.regress_tree.specs.Table.{Table, stands_for}
+use Rattle.regress_tree.specs.Reading.{Direction, forwards, backwards, of_bytes}
 use Rattle.regress_tree.specs.Steps.{Step, distinct, stay, ◌then_◌, ◌or_◌, one_character, these_bytes, hold_at, capture}
 use Rattle.regress_tree.specs.Assertions.{is_line_terminator, is_word_character, at_anchor, at_boundary}
 use Rattle.regress_tree.specs.Repetition.{repeat}
-use Rattle.regress_tree.specs.Tree.{Leaf, empty, goal, char, byte_sequence, byte_set, char_set, match_any, match_any_except_line_terminator, anchor, word_boundary, bracket, Wrapper, capture_group, loop, loop_one, Tree, Trees, leaf, cat, alt, wrapped, no_trees, more_trees}
+use Rattle.regress_tree.specs.Lookaround.{look}
+use Rattle.regress_tree.specs.References.{back_reference}
+use Rattle.regress_tree.specs.Tree.{Leaf, empty, goal, char, byte_sequence, byte_set, char_set, match_any, match_any_except_line_terminator, anchor, word_boundary, bracket, back_ref, Wrapper, capture_group, loop, loop_one, lookaround, Tree, Trees, leaf, cat, alt, wrapped, no_trees, more_trees}
 
 -- what a tree is made with, and matching depends on, beside the pattern and the text: the flags and the table
 pub record Setting : Type 0 where
@@ -20,6 +22,7 @@ abbrev pub direction_in : Wrapper → Direction → Direction
 direction_in (capture_group id name) d = d
 direction_in (loop quantifier start end) d = d
 direction_in (loop_one quantifier) d = d
+direction_in (lookaround negate looks_back start end) d = if looks_back then backwards else forwards
 
 module _ (setting : Setting) (bytes : List ℕ) where
   -- the outcomes of a leaf
@@ -36,12 +39,15 @@ module _ (setting : Setting) (bytes : List ℕ) where
   leaf_steps d (word_boundary invert unicode_icase) =
       hold_at (at_boundary (of_bytes bytes) (is_word_character setting.table unicode_icase) invert)
   leaf_steps d (bracket invert intervals) = one_character d (of_bytes bytes) (is_accepted invert intervals)
+  leaf_steps d (back_ref group icase) =
+      back_reference d (of_bytes bytes) (stands_for setting.table icase setting.flags.unicode) (group - 1)
 
   -- the outcomes of a wrapper around what has these
   abbrev pub wrapper_steps : Wrapper → Step → Step
   wrapper_steps (capture_group id name) body = capture id body
   wrapper_steps (loop quantifier start end) body = repeat (length bytes + 1) quantifier start end body
   wrapper_steps (loop_one quantifier) body = repeat (length bytes + 1) quantifier 0 0 body
+  wrapper_steps (lookaround negate looks_back start end) body = look negate body
 
   -- the outcomes of a tree, with repeats
   abbrev mutual

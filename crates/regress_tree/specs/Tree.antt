@@ -19,6 +19,8 @@ pub data Leaf : Type 0 where
   anchor : (kind : AnchorType) (multiline : Bool) → Leaf
   word_boundary : (invert unicode_icase : Bool) → Leaf
   bracket : (invert : Bool) (intervals : List Bounds) → Leaf
+  -- groups are numbered from 1: group 1 is the one with id 0
+  back_ref : (group : ℕ) (icase : Bool) → Leaf
 
 -- the kinds that hold one node, without it
 pub data Wrapper : Type 0 where
@@ -27,6 +29,8 @@ pub data Wrapper : Type 0 where
   -- the groups start to end - 1 lie inside
   loop : (quantifier : Quantifier) (start end : ℕ) → Wrapper
   loop_one : (quantifier : Quantifier) → Wrapper
+  -- the groups start to end - 1 lie inside
+  lookaround : (negate backwards : Bool) (start end : ℕ) → Wrapper
 
 mutual
   pub data Tree : Type 0 where
@@ -73,6 +77,9 @@ tree_of_level (Node-F.CaptureGroup id contents name) = wrapped (capture_group id
 tree_of_level (Node-F.Bracket contents) = leaf (bracket contents.invert contents.cps)
 tree_of_level (Node-F.Loop loopee quantifier groups) = wrapped (loop quantifier groups.start groups.end) loopee.value
 tree_of_level (Node-F.Loop1CharBody loopee quantifier) = wrapped (loop_one quantifier) loopee.value
+tree_of_level (Node-F.LookaroundAssertion negate backwards start end contents) =
+    wrapped (lookaround negate backwards start end) contents.value
+tree_of_level (Node-F.BackRef group icase) = leaf (back_ref group icase)
 
 -- the tree of a node
 abbrev pub tree : Node → Tree

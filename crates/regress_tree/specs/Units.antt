@@ -1,6 +1,6 @@
 -- How large a tree is, and what falls with every rewriting.
 use Rattle.std.specs.Prelude.{◌≡◌, ℕ, ◌+◌, ◌*◌, ◌<◌, ◌⊎◌, [], ◌∷◌, length, if◌then◌else◌, ◌==◌}
-use Rattle.regress_tree.specs.Tree.{Leaf, empty, goal, char, byte_sequence, byte_set, char_set, match_any, match_any_except_line_terminator, anchor, word_boundary, bracket, Wrapper, capture_group, loop, loop_one, Tree, Trees, leaf, cat, alt, wrapped, no_trees, more_trees}
+use Rattle.regress_tree.specs.Tree.{Leaf, empty, goal, char, byte_sequence, byte_set, char_set, match_any, match_any_except_line_terminator, anchor, word_boundary, bracket, back_ref, Wrapper, capture_group, loop, loop_one, lookaround, Tree, Trees, leaf, cat, alt, wrapped, no_trees, more_trees}
 
 -- One for a node, and one more for each byte of a `ByteSequence`; five for a `Char`, whose UTF-8 would be a node and at
 -- most four bytes.
@@ -16,6 +16,7 @@ units_of_leaf match_any_except_line_terminator = 1
 units_of_leaf (anchor kind multiline) = 1
 units_of_leaf (word_boundary invert unicode_icase) = 1
 units_of_leaf (bracket invert intervals) = 1
+units_of_leaf (back_ref group icase) = 1
 
 abbrev mutual
   pub units : Tree → ℕ
@@ -33,6 +34,7 @@ abbrev pub unrollable : Wrapper → ℕ
 unrollable (capture_group id name) = 0
 unrollable (loop quantifier start end) = if quantifier.min == 0 then 0 else 1
 unrollable (loop_one quantifier) = 0
+unrollable (lookaround negate backwards start end) = 0
 
 -- how many loops may be unrolled
 abbrev mutual
@@ -68,11 +70,13 @@ weight_of_leaf match_any_except_line_terminator = 1
 weight_of_leaf (anchor kind multiline) = 1
 weight_of_leaf (word_boundary invert unicode_icase) = 1
 weight_of_leaf (bracket invert intervals) = 4 + length intervals
+weight_of_leaf (back_ref group icase) = 1
 
 abbrev pub weight_of_wrapper : Wrapper → ℕ
 weight_of_wrapper (capture_group id name) = 1
 weight_of_wrapper (loop quantifier start end) = 3
 weight_of_wrapper (loop_one quantifier) = 2
+weight_of_wrapper (lookaround negate backwards start end) = 1
 
 abbrev mutual
   pub weight : Tree → ℕ

@@ -5,7 +5,7 @@ use Rattle.regress_base.specs.Limits.{max_char_set_length}
 use Rattle.regress_base.specs.Intervals.{Bounds, code_point_max, IsCanonical}
 use Rattle.regress_tree.specs.declared.ir.node.Quantifier.{Quantifier}
 use Rattle.regress_tree.specs.Reading.{IsText}
-use Rattle.regress_tree.specs.Tree.{Leaf, empty, goal, char, byte_sequence, byte_set, char_set, match_any, match_any_except_line_terminator, anchor, word_boundary, bracket, Wrapper, capture_group, loop, loop_one, Tree, Trees, leaf, cat, alt, wrapped, no_trees, more_trees}
+use Rattle.regress_tree.specs.Tree.{Leaf, empty, goal, char, byte_sequence, byte_set, char_set, match_any, match_any_except_line_terminator, anchor, word_boundary, bracket, back_ref, Wrapper, capture_group, loop, loop_one, lookaround, Tree, Trees, leaf, cat, alt, wrapped, no_trees, more_trees}
 
 -- a capture group: its id, and its name as UTF-8
 pub record Capture : Type 0 where
@@ -17,6 +17,7 @@ abbrev pub captures_of_wrapper : Wrapper → List Capture
 captures_of_wrapper (capture_group id name) = record { id = id; name = name } ∷ []
 captures_of_wrapper (loop quantifier start end) = []
 captures_of_wrapper (loop_one quantifier) = []
+captures_of_wrapper (lookaround negate backwards start end) = []
 
 -- the capture groups of a tree, each before those inside it
 abbrev mutual
@@ -64,6 +65,7 @@ abbrev pub position_in : Wrapper → Position
 position_in (capture_group id name) = inside
 position_in (loop quantifier start end) = inside
 position_in (loop_one quantifier) = one_character
+position_in (lookaround negate backwards start end) = inside
 
 -- what may be the body of a loop over one character only if this holds
 abbrev pub AsOneCharacter : Position → Type 0 → Type 0
@@ -90,19 +92,26 @@ pub record IsBracket (invert : Bool) (intervals : List Bounds) (p : Position) : 
   pub canonical : IsCanonical intervals
   pub some : AsOneCharacter p ((c : ℕ) × (c ≤ code_point_max) × (is_accepted invert intervals c ≡ true))
 
--- the leaf may stand there
-abbrev pub LeafMayStand : Leaf → Position → Type 0
-LeafMayStand empty p = NotAsOneCharacter p
-LeafMayStand goal p = GoalMayStand p
-LeafMayStand (char c) p = c ≤ code_point_max
-LeafMayStand (byte_sequence bytes) p = AreUtf8 bytes p
-LeafMayStand (byte_set bytes) p = IsSmallSet bytes 127 p
-LeafMayStand (char_set characters) p = IsSmallSet characters code_point_max p
-LeafMayStand match_any p = Unit {0}
-LeafMayStand match_any_except_line_terminator p = Unit {0}
-LeafMayStand (anchor kind multiline) p = NotAsOneCharacter p
-LeafMayStand (word_boundary invert unicode_icase) p = NotAsOneCharacter p
-LeafMayStand (bracket invert intervals) p = IsBracket invert intervals p
+-- a reference to one of n capture groups, which are numbered from 1
+pub record IsReference (n group : ℕ) (p : Position) : Type 0 where
+  pub free : NotAsOneCharacter p
+  pub low : 1 ≤ group
+  pub high : group ≤ n
+
+-- the leaf may stand there, where there are n capture groups
+abbrev pub LeafMayStand : ℕ → Leaf → Position → Type 0
+LeafMayStand n empty p = NotAsOneCharacter p
+LeafMayStand n goal p = GoalMayStand p
+LeafMayStand n (char c) p = c ≤ code_point_max
+LeafMayStand n (byte_sequence bytes) p = AreUtf8 bytes p
+LeafMayStand n (byte_set bytes) p = IsSmallSet bytes 127 p
+LeafMayStand n (char_set characters) p = IsSmallSet characters code_point_max p
+LeafMayStand n match_any p = Unit {0}
+LeafMayStand n match_any_except_line_terminator p = Unit {0}
+LeafMayStand n (anchor kind multiline) p = NotAsOneCharacter p
+LeafMayStand n (word_boundary invert unicode_icase) p = NotAsOneCharacter p
+LeafMayStand n (bracket invert intervals) p = IsBracket invert intervals p
+LeafMayStand n (back_ref group icase) p = IsReference n group p
 
 -- the least number of turns is not above the greatest
 abbrev pub IsQuantifier : Quantifier → Type 0
@@ -118,11 +127,12 @@ abbrev pub WrapperMayStand : ℕ → Wrapper → Tree → Type 0
 WrapperMayStand n (capture_group id name) body = (id < n) × IfSome name (λ bytes. bytes ≢ [])
 WrapperMayStand n (loop quantifier start end) body = IsQuantifier quantifier × HasGroups start end body
 WrapperMayStand n (loop_one quantifier) body = IsQuantifier quantifier
+WrapperMayStand n (lookaround negate backwards start end) body = HasGroups start end body
 
 -- the tree may stand there in a well formed tree of n capture groups
 abbrev mutual
   pub MayStand : ℕ → Tree → Position → Type 0
-  MayStand n (leaf l) p = LeafMayStand l p
+  MayStand n (leaf l) p = LeafMayStand n l p
   MayStand n (cat parts) p = NotAsOneCharacter p × RowMayStand n parts (last_of p)
   MayStand n (alt left right) p = NotAsOneCharacter p × MayStand n left inside × MayStand n right inside
   MayStand n (wrapped w body) p = NotAsOneCharacter p × WrapperMayStand n w body × MayStand n body (position_in w)

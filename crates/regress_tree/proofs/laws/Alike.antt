@@ -1,6 +1,7 @@
 -- Alike steps: an equivalence that each word of steps keeps in each argument.
-use Rattle.std.proofs.Common.{◌≡◌, ◌==◌, ℕ, zero, suc, Bool, true, false, not, filter, refl, sym, ap, ◌∙◌}
+use Rattle.std.proofs.Common.{◌≡◌, ◌==◌, ℕ, zero, suc, Bool, true, false, not, List, [], ◌∷◌, filter, refl, sym, ap, ◌∙◌}
 use Rattle.regress_tree.specs.Steps.{State, Step, Alike, distinct, stay, ◌then_◌, ◌or_◌, capture, captured}
+use Rattle.regress_tree.specs.Lookaround.{looked, look}
 use Rattle.regress_tree.specs.Repetition.{unset, turn, turns, moving, up_to, more_turns, repeat}
 use Rattle.regress_tree.specs.declared.ir.node.Quantifier.{Quantifier}
 use Rattle.regress_tree.proofs.laws.Distinct.{distinct-append-alike, distinct-filter, distinct-flat_map-alike, distinct-map-alike}
@@ -27,6 +28,20 @@ Alike-or f f' g g' a b = record { same = λ s. distinct-append-alike (f s) (f' s
 pub Alike-capture : (id : ℕ) (f f' : Step) → Alike f f' → Alike (capture id f) (capture id f')
 unfolding capture
 Alike-capture id f f' a = record { same = λ s. distinct-map-alike (captured id s.place) (f s) (f' s) (a.same s) }
+
+-- ---- lookarounds
+
+-- looking asks only which outcome is the first
+looked-distinct : (negate : Bool) (s : State) (states : List State) → looked negate s (distinct states) ≡ looked negate s states
+looked-distinct false s [] = refl
+looked-distinct false s (t ∷ states) = refl
+looked-distinct true s [] = refl
+looked-distinct true s (t ∷ states) = refl
+
+pub Alike-look : (negate : Bool) (f f' : Step) → Alike f f' → Alike (look negate f) (look negate f')
+unfolding look
+Alike-look negate f f' a = Alike-from_same (λ s.
+    sym (looked-distinct negate s (f s)) ∙ ap (looked negate s) (a.same s) ∙ looked-distinct negate s (f' s))
 
 -- ---- repetition
 

@@ -2,12 +2,12 @@
 use Rattle.std.specs.Prelude.{◌≡◌, ℕ, Bool, Option, option_map, string_bytes, String}
 use Rattle.std.proofs.Common.{Vec, Box, Global, sym, ap, ◌∙◌}
 use Rattle.regress_tree.specs.declared.ir.node.Node.{Node, Node-F, fold-roll-Node}
-use Rattle.regress_tree.specs.declared.ir.node.Node.TheVariants.{Empty, Goal, Char, ByteSequence, ByteSet, CharSet, Cat, Alt, MatchAny, MatchAnyExceptLineTerminator, Anchor, WordBoundary, CaptureGroup, Bracket, Loop, Loop1CharBody, rolls-Empty, rolls-Goal, rolls-Char, rolls-ByteSequence, rolls-ByteSet, rolls-CharSet, rolls-Cat, rolls-Alt, rolls-MatchAny, rolls-MatchAnyExceptLineTerminator, rolls-Anchor, rolls-WordBoundary, rolls-CaptureGroup, rolls-Bracket, rolls-Loop, rolls-Loop1CharBody}
+use Rattle.regress_tree.specs.declared.ir.node.Node.TheVariants.{Empty, Goal, Char, ByteSequence, ByteSet, CharSet, Cat, Alt, MatchAny, MatchAnyExceptLineTerminator, Anchor, WordBoundary, CaptureGroup, Bracket, Loop, Loop1CharBody, LookaroundAssertion, BackRef, rolls-Empty, rolls-Goal, rolls-Char, rolls-ByteSequence, rolls-ByteSet, rolls-CharSet, rolls-Cat, rolls-Alt, rolls-MatchAny, rolls-MatchAnyExceptLineTerminator, rolls-Anchor, rolls-WordBoundary, rolls-CaptureGroup, rolls-Bracket, rolls-Loop, rolls-Loop1CharBody, rolls-LookaroundAssertion, rolls-BackRef}
 use Rattle.regress_tree.specs.declared.ir.node.AnchorType.{AnchorType}
 use Rattle.regress_tree.specs.declared.ir.node.Quantifier.{Quantifier}
 use Rattle.regress_base.specs.declared.types.bracket.BracketContents.{BracketContents}
 use Rattle.std.specs.declared.ops.Range.{Range}
-use Rattle.regress_tree.specs.Tree.{Tree, tree, trees, tree_of_level, leaf, empty, goal, char, byte_sequence, byte_set, char_set, cat, alt, match_any, match_any_except_line_terminator, anchor, word_boundary, bracket, wrapped, capture_group, loop, loop_one}
+use Rattle.regress_tree.specs.Tree.{Tree, tree, trees, tree_of_level, leaf, empty, goal, char, byte_sequence, byte_set, char_set, cat, alt, match_any, match_any_except_line_terminator, anchor, word_boundary, bracket, back_ref, wrapped, capture_group, loop, loop_one, lookaround}
 
 pub tree-Empty : tree Empty ≡ leaf empty
 tree-Empty = ap tree (sym rolls-Empty) ∙ fold-roll-Node Tree tree_of_level Node-F.Empty
@@ -65,3 +65,12 @@ pub tree-Loop1CharBody : (loopee : Box Node Global) (quantifier : Quantifier) �
     tree (Loop1CharBody loopee quantifier) ≡ wrapped (loop_one quantifier) (tree loopee.value)
 tree-Loop1CharBody loopee quantifier =
     ap tree (sym (rolls-Loop1CharBody loopee quantifier)) ∙ fold-roll-Node Tree tree_of_level (Node-F.Loop1CharBody loopee quantifier)
+
+pub tree-LookaroundAssertion : (negate backwards : Bool) (start end : ℕ) (contents : Box Node Global) →
+    tree (LookaroundAssertion negate backwards start end contents) ≡ wrapped (lookaround negate backwards start end) (tree contents.value)
+tree-LookaroundAssertion negate backwards start end contents =
+    ap tree (sym (rolls-LookaroundAssertion negate backwards start end contents))
+    ∙ fold-roll-Node Tree tree_of_level (Node-F.LookaroundAssertion negate backwards start end contents)
+
+pub tree-BackRef : (group : ℕ) (icase : Bool) → tree (BackRef group icase) ≡ leaf (back_ref group icase)
+tree-BackRef group icase = ap tree (sym (rolls-BackRef group icase)) ∙ fold-roll-Node Tree tree_of_level (Node-F.BackRef group icase)

@@ -2,12 +2,12 @@
 use Rattle.std.proofs.Common.{◌≡◌, ℕ, ◌+◌, ◌<◌, ◌≤◌, ◌⊎◌, inl, inr, Bool, ◌==◌, List, ◌++◌, length, count_by, ap, ◌∙◌, arith}
 use Rattle.regress_tree.specs.Reading.{Direction}
 use Rattle.regress_tree.specs.Steps.{Step, Alike}
-use Rattle.regress_tree.specs.Tree.{Wrapper, capture_group, loop, loop_one, Tree, Trees, cat, alt, wrapped, no_trees, more_trees, row_append}
+use Rattle.regress_tree.specs.Tree.{Wrapper, capture_group, loop, loop_one, lookaround, Tree, Trees, cat, alt, wrapped, no_trees, more_trees, row_append}
 use Rattle.regress_tree.specs.Matching.{Setting, direction_in, wrapper_steps, steps, steps_in_row}
-use Rattle.regress_tree.specs.WellFormed.{captures, captures_in_row, captures_of_wrapper, Position, inside, last_of, position_in, WrapperMayStand, MayStand, RowMayStand}
+use Rattle.regress_tree.specs.WellFormed.{captures, captures_in_row, captures_of_wrapper, Position, inside, last_of, position_in, HasGroups, WrapperMayStand, MayStand, RowMayStand}
 use Rattle.regress_tree.specs.Units.{units, units_in_row, loops, loops_in_row, unrollable, account, weight, weight_of_row, weight_of_wrapper, IsLess}
 use Rattle.regress_tree.specs.Shapes.{LacksShape, RowLacksShape, LacksInside}
-use Rattle.regress_tree.proofs.laws.Alike.{Alike-refl, Alike-then, Alike-or, Alike-capture, Alike-repeat}
+use Rattle.regress_tree.proofs.laws.Alike.{Alike-refl, Alike-then, Alike-or, Alike-capture, Alike-repeat, Alike-look}
 use Rattle.regress_tree.proofs.laws.Rows.{units-append, loops-append, weight-append}
 
 pub data Place : Type 0 where
@@ -40,6 +40,7 @@ module _ (setting : Setting) (bytes : List ℕ) where
   Alike-wrapper (capture_group id name) f g alike = Alike-capture id f g alike
   Alike-wrapper (loop quantifier start end) f g alike = Alike-repeat (length bytes + 1) quantifier start end f g alike
   Alike-wrapper (loop_one quantifier) f g alike = Alike-repeat (length bytes + 1) quantifier 0 0 f g alike
+  Alike-wrapper (lookaround negate backwards start end) f g alike = Alike-look negate f g alike
 
   Alike-among : (d : Direction) (before behind : Trees) (t u : Tree) → Alike (steps setting bytes d t) (steps setting bytes d u) →
       Alike (steps_in_row setting bytes d (row_append before (more_trees t behind)))
@@ -70,12 +71,16 @@ captures-put (inside_of w) t u same = ap (λ cs. captures_of_wrapper w ++ cs) sa
 
 -- Where it may stand.
 
+HasGroups-around : (start end : ℕ) (t u : Tree) → captures u ≡ captures t → HasGroups start end t → HasGroups start end u
+HasGroups-around start end t u same has k = ap (count_by (λ c. c.id == k)) same ∙ has k
+
 -- the wrapper asks no more of a body than its groups
 WrapperMayStand-around : (n : ℕ) (w : Wrapper) (t u : Tree) → captures u ≡ captures t → WrapperMayStand n w t → WrapperMayStand n w u
 WrapperMayStand-around n (capture_group id name) t u same m = m
 WrapperMayStand-around n (loop quantifier start end) t u same m =
-    (m.0, λ k. ap (count_by (λ c. c.id == k)) same ∙ m.1 k)
+    (m.0, HasGroups-around start end t u same m.1)
 WrapperMayStand-around n (loop_one quantifier) t u same m = m
+WrapperMayStand-around n (lookaround negate backwards start end) t u same m = HasGroups-around start end t u same m
 
 module _ (t u : Tree) (stands : (n : ℕ) (p : Position) → MayStand n t p → MayStand n u p) where
   RowMayStand-among : (n : ℕ) (p : Position) (before behind : Trees) → RowMayStand n (row_append before (more_trees t behind)) p →

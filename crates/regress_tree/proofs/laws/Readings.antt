@@ -14,7 +14,7 @@ abbrev pub byte_read : List ℕ → Read → Read
 byte_read text r = record { character = r.character; place = byte_place text r.place }
 
 -- both readings over the characters, and neither at its end
-after_within : (text : List ℕ) (k : ℕ) → k < length text →
+pub after_within : (text : List ℕ) (k : ℕ) → k < length text →
     (of_characters text).after k ≡ Some (record { character = slice_index text k; place = k + 1 })
 after_within text k h = ap (option_map (λ c. record { character = c; place = k + 1 })) (slice_get-get_or text k 0 h)
 

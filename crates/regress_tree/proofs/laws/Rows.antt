@@ -5,7 +5,7 @@ use Rattle.std.proofs.lemmas.List.{map-append}
 use Rattle.regress_tree.specs.declared.ir.node.Node.{Node}
 use Rattle.regress_tree.specs.Reading.{Direction}
 use Rattle.regress_tree.specs.Steps.{State}
-use Rattle.regress_tree.specs.Tree.{Leaf, empty, goal, char, byte_sequence, byte_set, char_set, match_any, match_any_except_line_terminator, anchor, word_boundary, bracket, Tree, Trees, leaf, cat, alt, wrapped, no_trees, more_trees, row, row_append, tree, trees}
+use Rattle.regress_tree.specs.Tree.{Leaf, empty, goal, char, byte_sequence, byte_set, char_set, match_any, match_any_except_line_terminator, anchor, word_boundary, bracket, back_ref, Tree, Trees, leaf, cat, alt, wrapped, no_trees, more_trees, row, row_append, tree, trees}
 use Rattle.regress_tree.specs.Matching.{Setting, steps, steps_in_row}
 use Rattle.regress_tree.specs.WellFormed.{captures, captures_in_row, Position, one_character, inside, last, root, NotAsOneCharacter, AsOneCharacter, GoalMayStand, last_of, LeafMayStand, MayStand, RowMayStand}
 use Rattle.regress_tree.specs.Units.{units_in_row, loops_in_row, weight_of_row}
@@ -60,27 +60,28 @@ not_as_one inside P free = tt
 not_as_one last P free = tt
 not_as_one root P free = tt
 
-LeafMayStand-wider : (p q : Position) → NotAsOneCharacter q → (GoalMayStand p → GoalMayStand q) →
-    (l : Leaf) → LeafMayStand l p → LeafMayStand l q
-LeafMayStand-wider p q free ends empty m = free
-LeafMayStand-wider p q free ends goal m = ends m
-LeafMayStand-wider p q free ends (char c) m = m
-LeafMayStand-wider p q free ends (byte_sequence bytes) m = record {
+LeafMayStand-wider : (n : ℕ) (p q : Position) → NotAsOneCharacter q → (GoalMayStand p → GoalMayStand q) →
+    (l : Leaf) → LeafMayStand n l p → LeafMayStand n l q
+LeafMayStand-wider n p q free ends empty m = free
+LeafMayStand-wider n p q free ends goal m = ends m
+LeafMayStand-wider n p q free ends (char c) m = m
+LeafMayStand-wider n p q free ends (byte_sequence bytes) m = record {
   characters = m.characters;
   are_scalar = m.are_scalar;
   encoded = m.encoded;
   one = not_as_one q _ free;
 }
-LeafMayStand-wider p q free ends (byte_set bytes) m = record { bounded = m.bounded; small = m.small; some = not_as_one q _ free }
-LeafMayStand-wider p q free ends (char_set characters) m = record { bounded = m.bounded; small = m.small; some = not_as_one q _ free }
-LeafMayStand-wider p q free ends match_any m = tt
-LeafMayStand-wider p q free ends match_any_except_line_terminator m = tt
-LeafMayStand-wider p q free ends (anchor kind multiline) m = free
-LeafMayStand-wider p q free ends (word_boundary invert unicode_icase) m = free
-LeafMayStand-wider p q free ends (bracket invert intervals) m = record { canonical = m.canonical; some = not_as_one q _ free }
+LeafMayStand-wider n p q free ends (byte_set bytes) m = record { bounded = m.bounded; small = m.small; some = not_as_one q _ free }
+LeafMayStand-wider n p q free ends (char_set characters) m = record { bounded = m.bounded; small = m.small; some = not_as_one q _ free }
+LeafMayStand-wider n p q free ends match_any m = tt
+LeafMayStand-wider n p q free ends match_any_except_line_terminator m = tt
+LeafMayStand-wider n p q free ends (anchor kind multiline) m = free
+LeafMayStand-wider n p q free ends (word_boundary invert unicode_icase) m = free
+LeafMayStand-wider n p q free ends (bracket invert intervals) m = record { canonical = m.canonical; some = not_as_one q _ free }
+LeafMayStand-wider n p q free ends (back_ref group icase) m = record { free = free; low = m.low; high = m.high }
 
 MayStand-last : (n : ℕ) (t : Tree) → MayStand n t inside → MayStand n t last
-MayStand-last n (leaf l) m = LeafMayStand-wider inside last tt (λ none. absurd none) l m
+MayStand-last n (leaf l) m = LeafMayStand-wider n inside last tt (λ none. absurd none) l m
 MayStand-last n (cat parts) m = m
 MayStand-last n (alt left right) m = m
 MayStand-last n (wrapped w body) m = m
@@ -91,7 +92,7 @@ RowMayStand-last n (more_trees t no_trees) m = MayStand-last n t m
 RowMayStand-last n (more_trees t (more_trees u ts)) m = (m.0, RowMayStand-last n (more_trees u ts) m.1)
 
 MayStand-root : (n : ℕ) (t : Tree) → MayStand n t last → MayStand n t root
-MayStand-root n (leaf l) m = LeafMayStand-wider last root tt (λ ends. tt) l m
+MayStand-root n (leaf l) m = LeafMayStand-wider n last root tt (λ ends. tt) l m
 MayStand-root n (cat parts) m = (tt, RowMayStand-last n parts m.1)
 MayStand-root n (alt left right) m = m
 MayStand-root n (wrapped w body) m = m

@@ -5,6 +5,7 @@ use Rattle.std.proofs.lemmas.List.Elements.{All-nil, All-cons, All-head, All-tai
 use Rattle.std.proofs.lemmas.Bool.{cases_lt}
 use Rattle.regress_tree.specs.Reading.{Direction, forwards, backwards, Read, next_character, IsText, of_characters, of_bytes, byte_place}
 use Rattle.regress_tree.specs.Steps.{State, Step, IsStateOf, IsCaptureOf, byte_state, byte_capture, stay, ◌then_◌, ◌or_◌, moved, one_character, hold_at, captured, capture}
+use Rattle.regress_tree.specs.Lookaround.{looked, look}
 use Rattle.regress_tree.proofs.laws.Characters.{byte_place-le}
 use Rattle.regress_tree.proofs.laws.Readings.{byte_read, IsOnward, next_character-byte_place, next_character-within}
 
@@ -199,4 +200,34 @@ Simulates-capture text d id f g sim = record {
       All-map (IsReached text d s) (captured id s.place) (f s)
       (All-weaker (IsReached text d s) (λ t. IsReached text d s (captured id s.place t))
       (λ t r. record { state = captured-within text id s.place in'.place t r.state; onward = r.onward }) (f s) (sim.reached s in'));
+}
+
+-- ---- lookarounds
+
+module _ (text : List ℕ) (d e : Direction) (s : State) (in' : IsStateOf text s) where
+  looked-byte_state : (negate : Bool) (states : List State) →
+      looked negate (byte_state text s) (map (byte_state text) states) ≡ map (byte_state text) (looked negate s states)
+  looked-byte_state false [] = refl
+  looked-byte_state false (t ∷ states) = refl
+  looked-byte_state true [] = refl
+  looked-byte_state true (t ∷ states) = refl
+
+  -- the place stays, in whatever direction the outcomes lie
+  looked-reached : (negate : Bool) (states : List State) → All (IsReached text e s) states → All (IsReached text d s) (looked negate s states)
+  looked-reached false [] all = All-nil (IsReached text d s)
+  looked-reached false (t ∷ states) all =
+      let first = All-head (IsReached text e s) t states all in
+      All-cons (IsReached text d s) _ []
+      (record { state = record { place = in'.place; captures = first.state.captures }; onward = IsOnward-refl d s.place })
+      (All-nil (IsReached text d s))
+  looked-reached true [] all = reached_itself text d s in'
+  looked-reached true (t ∷ states) all = All-nil (IsReached text d s)
+
+-- what is looked at lies in a direction of its own
+pub Simulates-look : (text : List ℕ) (d e : Direction) (negate : Bool) (f g : Step) → Simulates text e f g →
+    Simulates text d (look negate f) (look negate g)
+unfolding look
+Simulates-look text d e negate f g sim = record {
+  same = λ s in'. ap (looked negate (byte_state text s)) (sim.same s in') ∙ looked-byte_state text d e s in' negate (f s);
+  reached = λ s in'. looked-reached text d e s in' negate (f s) (sim.reached s in');
 }

@@ -32,13 +32,16 @@ fn write_tree<W: fmt::Write>(node: &Node, depth: usize, f: &mut fmt::Formatter<W
             | Node::MatchAnyExceptLineTerminator
             | Node::Anchor { .. }
             | Node::WordBoundary { .. }
-            | Node::Bracket(_) => return Ok(()),
+            | Node::Bracket(_)
+            | Node::BackRef { .. } => return Ok(()),
             Node::Cat(parts) => return write_trees(parts, depth, f),
             Node::Alt(left, right) => {
                 write_tree(left, depth, f)?;
                 node = right;
             }
-            Node::CaptureGroup { contents, .. } => node = contents,
+            Node::CaptureGroup { contents, .. } | Node::LookaroundAssertion { contents, .. } => {
+                node = contents;
+            }
             Node::Loop { loopee, .. } | Node::Loop1CharBody { loopee, .. } => node = loopee,
         }
     }
@@ -100,6 +103,21 @@ fn write_node<W: fmt::Write>(node: &Node, f: &mut fmt::Formatter<W>) -> fmt::Res
             enclosed_groups.start, enclosed_groups.end
         ),
         Node::Loop1CharBody { quant, .. } => writeln!(f, "Loop1Char {quant:?}"),
+        Node::LookaroundAssertion {
+            negate,
+            backwards,
+            start_group,
+            end_group,
+            ..
+        } => {
+            let sense = if *negate { "negative" } else { "positive" };
+            let direction = if *backwards { "backwards" } else { "forwards" };
+            writeln!(
+                f,
+                "LookaroundAssertion {sense} {direction} {start_group} {end_group}"
+            )
+        }
+        Node::BackRef { group, .. } => writeln!(f, "BackRef {group} "),
     }
 }
 

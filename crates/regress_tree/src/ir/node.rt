@@ -84,6 +84,21 @@ pub enum Node {
         loopee: Box<Node>,
         quant: Quantifier,
     },
+    /// A place from which the body matches, whose groups have these ids from the first on, up to the second without it.
+    /// With `negate` a place from which it does not. With `backwards` the body is matched before the place, as a lookbehind.
+    LookaroundAssertion {
+        negate: bool,
+        backwards: bool,
+        start_group: CaptureGroupID,
+        end_group: CaptureGroupID,
+        contents: Box<Node>,
+    },
+    /// What a group has captured, once more, and the empty text if it has captured nothing. The groups count from 1:
+    /// group 1 is the one with the id 0. With `icase` a character may stand for another with the same image.
+    BackRef {
+        group: u32,
+        icase: bool,
+    },
 }
 
 impl Drop for Node {
@@ -106,6 +121,13 @@ impl Drop for Node {
                     enclosed_groups: _enclosed_groups,
                 } => Box::into_inner(loopee),
                 Node::Loop1CharBody { loopee, quant: _ } => Box::into_inner(loopee),
+                Node::LookaroundAssertion {
+                    negate: _,
+                    backwards: _,
+                    start_group: _,
+                    end_group: _,
+                    contents,
+                } => Box::into_inner(contents),
                 Node::Bracket(_contents) => return,
                 Node::Empty
                 | Node::Goal
@@ -119,7 +141,8 @@ impl Drop for Node {
                 | Node::WordBoundary {
                     invert: _,
                     unicode_icase: _,
-                } => return,
+                }
+                | Node::BackRef { group: _, icase: _ } => return,
             };
         }
     }

@@ -100,6 +100,13 @@ fn each_leaf_is_one_line(rt: HostRuntime) -> Result<(), Fail> {
             Node::Bracket(bracket(alloc, false)?),
             "Bracket BracketContents { invert: false, cps: CodePointSet { ivs: [U+0026-U+0026, U+0061-U+0062] } }\n",
         ),
+        (
+            Node::BackRef {
+                group: 1,
+                icase: true,
+            },
+            "BackRef 1 \n",
+        ),
     ];
     for (node, line) in rows {
         assert_eq!(rt; printed(alloc, node)?.as_str(), line);
@@ -140,5 +147,35 @@ fn a_loop_stands_above_its_body(rt: HostRuntime) -> Result<(), Fail> {
         printed(alloc, node)?.as_str(),
         "Loop1Char Quantifier { min: 0, max: None, greedy: false }\n..MatchAny\n"
     );
+    Ok(())
+}
+
+#[test]
+fn a_lookaround_stands_above_its_body(rt: HostRuntime) -> Result<(), Fail> {
+    let alloc = rt.alloc();
+    let rows = [
+        (
+            false,
+            true,
+            0,
+            "LookaroundAssertion positive backwards 0 0\n..'97'\n",
+        ),
+        (
+            true,
+            false,
+            1,
+            "LookaroundAssertion negative forwards 0 1\n..'97'\n",
+        ),
+    ];
+    for (negate, backwards, end_group, lines) in rows {
+        let node = Node::LookaroundAssertion {
+            negate,
+            backwards,
+            start_group: 0,
+            end_group,
+            contents: Box::new(alloc, Node::Char { c: 97 })?,
+        };
+        assert_eq!(rt; printed(alloc, node)?.as_str(), lines);
+    }
     Ok(())
 }

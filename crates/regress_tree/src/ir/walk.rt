@@ -44,4 +44,19 @@ impl Walk {
             unicode: self.unicode,
         }
     }
+
+    /// The walk at the same depth in a lookaround, whatever lies around it.
+    pub fn looking(&self, backwards: bool) -> Walk
+        ensures children { result.skip_children ≡ false }
+        ensures depth { result.depth ≡ self.now.depth }
+        ensures direction { result.in_lookbehind ≡ backwards }
+        ensures unicode { result.unicode ≡ self.now.unicode }
+    {
+        Walk {
+            skip_children: false,
+            depth: self.depth,
+            in_lookbehind: backwards,
+            unicode: self.unicode,
+        }
+    }
 }
