@@ -1,15 +1,18 @@
 -- What a pattern matches, over the characters of a text (ECMA-262, CompileSubpattern).
-use Rattle.std.specs.Prelude.{ℕ, ◌+◌, Bool, not, ◌&&◌, ◌||◌, List, length, Option, Some, None, if◌then◌else◌}
+use Rattle.std.specs.Prelude.{ℕ, ◌+◌, ◌-◌, Bool, not, ◌&&◌, ◌||◌, List, [], ◌∷◌, length, Option, Some, None, if◌then◌else◌}
 use Rattle.regress_base.specs.Intervals.{Bounds, is_member}
 use Rattle.regress_base.specs.declared.types.Flags.{Flags}
 use Rattle.regress_tree.specs.declared.ir.node.Quantifier.{Quantifier}
 use Rattle.regress_tree.specs.Reading.{Direction, forwards, backwards, of_characters}
-use Rattle.regress_tree.specs.Steps.{Step, distinct, stay, ◌then_◌, ◌or_◌, one_character, hold_at, capture as captures}
+use Rattle.regress_tree.specs.Steps.{Step, distinct, stay, fail, ◌then_◌, ◌or_◌, one_character, hold_at, capture as captures}
+use Rattle.regress_tree.specs.Lookaround.{look as looks}
+use Rattle.regress_tree.specs.References.{back_reference as refers}
+use Rattle.regress_tree.specs.Matching.{Setting}
 use Rattle.regress_tree.specs.Table.{Table, stands_for, is_in_closure}
 use Rattle.regress_tree.specs.Assertions.{is_line_terminator, is_word_character, at_anchor, differ, at_boundary}
 use Rattle.regress_tree.specs.Repetition.{repeat}
 use Rattle.regress_syntax.specs.ClassRows.{members_of}
-use Rattle.regress_syntax.specs.Syntax.{Atom, literal, dot, anchor, boundary, class_escape, class, Group, grouping, capture, Pattern, Terms, Item, one, either, no_terms, more_terms, atom, group, opened_by, counts_of_item, counts_of_terms, counts_of_term}
+use Rattle.regress_syntax.specs.Syntax.{Name, is_named, Target, by_number, by_name, Atom, literal, dot, anchor, boundary, class_escape, class, back_reference, Group, grouping, modified, capture, look, Pattern, Terms, Item, one, either, no_terms, more_terms, atom, group, opened_by, counts_of_item, counts_of_terms, counts_of_term, names}
 
 -- a character matches the literal c: with the flag i where both have one image (ECMA-262, Canonicalize)
 abbrev pub is_literal : Table → Flags → ℕ → ℕ → Bool
@@ -37,27 +40,53 @@ in_order backwards f g = g then_ f
 -- the direction in which what a group holds is matched
 abbrev pub direction_of_group : Group → Direction → Direction
 direction_of_group grouping d = d
+direction_of_group (modified change) d = d
 direction_of_group (capture name) d = d
+direction_of_group (look negate direction) d = direction
 
 -- a group behind n opened ones, around what has these outcomes
 abbrev pub group_steps : ℕ → Group → Step → Step
 group_steps n grouping body = body
+group_steps n (modified change) body = body
 group_steps n (capture name) body = captures n body
+group_steps n (look negate direction) body = looks negate body
+
+-- the groups with this name, of those of a list whose first one has number n
+abbrev pub groups_named : Name → ℕ → List (Option Name) → List ℕ
+groups_named name n [] = []
+groups_named name n (other ∷ names) =
+    if is_named name other then n ∷ groups_named name (n + 1) names else groups_named name (n + 1) names
+
+-- the groups that a reference stands for, in their order, where these are the names of all groups; groups are numbered from 1
+abbrev pub referred : List (Option Name) → Target → List ℕ
+referred all (by_number k) = k ∷ []
+referred all (by_name name) = groups_named name 1 all
+
+-- references to these groups, one after the other as alternatives are
+abbrev pub any_reference : (ℕ → Step) → List ℕ → Step
+any_reference refer [] = fail
+any_reference refer (k ∷ []) = refer k
+any_reference refer (k ∷ next ∷ ks) = refer k or_ any_reference refer (next ∷ ks)
 
 -- An item of the groups start to end - 1, as often as the quantifier says. In a text of this length no more turns can move.
 abbrev pub times_steps : (length : ℕ) → Option Quantifier → (start end : ℕ) → Step → Step
 times_steps length None start end body = body
 times_steps length (Some q) start end body = repeat (length + 1) q start end body
 
-module _ (table : Table) (text : List ℕ) where
+-- the names are those of all groups of the whole pattern
+module _ (setting : Setting) (names : List (Option Name)) (text : List ℕ) where
   abbrev pub atom_steps : Direction → Atom → Step
-  atom_steps d (literal flags c) = one_character d (of_characters text) (is_literal table flags c)
+  atom_steps d (literal flags c) = one_character d (of_characters text) (is_literal setting.table flags c)
   atom_steps d (dot flags) = one_character d (of_characters text) (is_any flags)
   atom_steps d (anchor flags kind) = hold_at (at_anchor (of_characters text) kind flags.multiline)
-  atom_steps d (boundary flags inverted) = hold_at (at_boundary (of_characters text) (is_in_word table flags) inverted)
+  atom_steps d (boundary flags inverted) = hold_at (at_boundary (of_characters text) (is_in_word setting.table flags) inverted)
   atom_steps d (class_escape flags kind negated) =
-      one_character d (of_characters text) (is_in_class table flags negated (members_of kind))
-  atom_steps d (class flags inverted members) = one_character d (of_characters text) (is_in_class table flags inverted members)
+      one_character d (of_characters text) (is_in_class setting.table flags negated (members_of kind))
+  atom_steps d (class flags inverted members) =
+      one_character d (of_characters text) (is_in_class setting.table flags inverted members)
+  atom_steps d (back_reference flags to) =
+      any_reference (λ k. refers d (of_characters text) (stands_for setting.table flags.icase setting.flags.unicode) (k - 1))
+      (referred names to)
 
   -- the outcomes, with repeats, of what stands behind n opened groups
   abbrev mutual
@@ -75,6 +104,6 @@ module _ (table : Table) (text : List ℕ) where
     item_steps d n (atom a) = atom_steps d a
     item_steps d n (group kind p) = group_steps n kind (pattern_steps (direction_of_group kind d) (n + opened_by kind) p)
 
-  -- what a pattern matches: its distinct outcomes in their order
-  abbrev pub meaning : Direction → Pattern → Step
-  meaning d p s = distinct (pattern_steps d 0 p s)
+-- what a pattern matches: its distinct outcomes in their order
+abbrev pub meaning : Setting → List ℕ → Direction → Pattern → Step
+meaning setting text d p s = distinct (pattern_steps setting (names p) text d 0 p s)

@@ -2,7 +2,6 @@
 -- the one (ECMA-262, Patterns).
 use Rattle.std.specs.Prelude.{ℕ, Bool, true, false, not, ◌&&◌, ◌||◌, [], ◌∷◌, drop, List, Option, Some, None, is_some, if◌then◌else◌, nat_le, ◌==◌}
 use Rattle.std.specs.List.{list_any}
-use Rattle.std.specs.Str.{bytes_eq}
 use Rattle.regress_tree.specs.declared.ir.node.AnchorType.TheVariants.{StartOfLine, EndOfLine}
 use Rattle.regress_tree.specs.declared.ir.node.Quantifier.{Quantifier}
 use Rattle.regress_tree.specs.Matching.{Setting}
@@ -14,8 +13,8 @@ use Rattle.regress_syntax.specs.Escapes.{begins_with_letter, escape_at}
 use Rattle.regress_syntax.specs.Quantifiers.{quantifier_at, is_ordered}
 use Rattle.regress_syntax.specs.ClassRows.{class_letter, class_at}
 use Rattle.regress_syntax.specs.Modifiers.{changed, modifiers_at}
-use Rattle.regress_syntax.specs.Names.{name_at, group_name_at}
-use Rattle.regress_syntax.specs.Syntax.{Name, by_number, by_name, Atom, literal, dot, anchor, boundary, class_escape, class, back_reference, Group, grouping, modified, capture, look, Item, atom, group}
+use Rattle.regress_syntax.specs.Names.{group_name_at}
+use Rattle.regress_syntax.specs.Syntax.{Name, is_named, by_number, by_name, Atom, literal, dot, anchor, boundary, class_escape, class, back_reference, Group, grouping, modified, capture, look, Item, atom, group}
 
 -- What the rows look at beside the source: the flags in force and the table, and how many capture groups the whole
 -- pattern has and which names, `None` where a group has none.
@@ -40,12 +39,19 @@ abbrev pub head_of_item : Item → Head
 head_of_item (atom a) = single a
 head_of_item (group kind p) = opens kind
 
--- behind `(?<`: a lookbehind, or a named group
-abbrev pub behind_angle_at : Table → Source → Found Head
-behind_angle_at table t =
-    if is_at 61 t then Some (opens (look false backwards), drop 1 t)
-    else if is_at 33 t then Some (opens (look true backwards), drop 1 t)
-    else found_map (λ name. opens (capture (Some name))) (name_at table t)
+-- a named group, from its `<` on
+abbrev pub named_group_at : Table → Source → Found Head
+named_group_at table t = found_map (λ name. opens (capture (Some name))) (group_name_at table t)
+
+-- from `<` on: a lookbehind, or a named group
+abbrev pub angle_at : Table → Source → Found Head
+angle_at table t =
+    if is_at 61 (drop 1 t) then Some (opens (look false backwards), drop 2 t)
+    else if is_at 33 (drop 1 t) then Some (opens (look true backwards), drop 2 t)
+    else named_group_at table t
+
+abbrev pub modified_at : Source → Found Head
+modified_at t = found_map (λ change. opens (modified change)) (modifiers_at t)
 
 -- behind `(?`
 abbrev pub behind_mark_at : Table → Source → Found Head
@@ -53,8 +59,8 @@ behind_mark_at table t =
     if is_at colon t then Some (opens grouping, drop 1 t)
     else if is_at 61 t then Some (opens (look false forwards), drop 1 t)
     else if is_at 33 t then Some (opens (look true forwards), drop 1 t)
-    else if is_at 60 t then behind_angle_at table (drop 1 t)
-    else found_map (λ change. opens (modified change)) (modifiers_at t)
+    else if is_at 60 t then angle_at table t
+    else modified_at t
 
 -- what a parenthesis opens, behind it: without `?` a group that captures and has no name
 abbrev pub group_at : Table → Source → Found Head
@@ -92,7 +98,7 @@ abbrev pub has_names : List (Option Name) → Bool
 has_names names = list_any is_some names
 
 abbrev pub has_name : Name → List (Option Name) → Bool
-has_name name names = list_any (λ other. elim other [ None ↦ false | Some n ↦ bytes_eq n name ]) names
+has_name name names = list_any (is_named name) names
 
 -- without the flag u, before `c` and no letter, the backslash stands alone, and the `c` is read next
 abbrev pub is_lone_backslash : (unicode : Bool) → ℕ → Source → Bool

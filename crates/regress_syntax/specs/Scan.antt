@@ -1,11 +1,101 @@
--- Where the capture groups of a pattern stand, by a scan of its code points that knows no grammar, and by its syntax tree.
-use Rattle.std.specs.Prelude.{ℕ, ◌+◌, Bool, true, false, not, ◌&&◌, ◌||◌, List, [], ◌∷◌, ◌++◌, map, length, drop, reverse, Option, Some, None, if◌then◌else◌, ◌==◌, IsTrue}
+-- The parentheses and bars of a pattern, by a scan of its code points that knows no grammar, and by its syntax tree.
+use Rattle.std.specs.Prelude.{◌≡◌, ◌⊎◌, ◌<◌, ℕ, ◌+◌, ◌-◌, max, Bool, true, false, not, ◌&&◌, ◌||◌, List, [], ◌∷◌, ◌++◌, map, length, drop, reverse, Option, Some, None, if◌then◌else◌, ◌==◌}
 use Rattle.std.specs.List.{list_all}
-use Rattle.std.specs.Str.{bytes_eq}
+use Rattle.regress_base.specs.Limits.{max_nesting_depth}
 use Rattle.regress_tree.specs.Table.{Table}
 use Rattle.regress_syntax.specs.Source.{Source, opening, closing, bar, question_mark, is_at}
 use Rattle.regress_syntax.specs.Names.{group_name_at}
-use Rattle.regress_syntax.specs.Syntax.{Name, Group, grouping, modified, capture, look, Pattern, Terms, Item, one, either, no_terms, more_terms, atom, group}
+use Rattle.regress_syntax.specs.Syntax.{Name, is_named, Group, grouping, modified, capture, look, Pattern, Terms, Item, one, either, no_terms, more_terms, atom, group}
+use Rattle.regress_syntax.specs.Rows.{Context}
+use Rattle.regress_syntax.specs.Grammar.{IsPattern}
+
+-- what tells the groups of a pattern apart
+pub data Mark : Type 0 where
+  -- a parenthesis that opens no capture group
+  opens : Mark
+  -- one that opens a capture group
+  captures : (name : Option Name) → Mark
+  closes : Mark
+  -- `|`
+  next : Mark
+
+-- ---- by the syntax tree
+
+abbrev pub mark_of_group : Group → Mark
+mark_of_group grouping = opens
+mark_of_group (modified change) = opens
+mark_of_group (capture name) = captures name
+mark_of_group (look negate direction) = opens
+
+abbrev mutual
+  pub marks_of : Pattern → List Mark
+  marks_of (one ts) = marks_of_terms ts
+  marks_of (either ts p) = marks_of_terms ts ++ next ∷ marks_of p
+
+  pub marks_of_terms : Terms → List Mark
+  marks_of_terms no_terms = []
+  marks_of_terms (more_terms x q xs) = marks_of_item x ++ marks_of_terms xs
+
+  pub marks_of_item : Item → List Mark
+  marks_of_item (atom a) = []
+  marks_of_item (group kind p) = mark_of_group kind ∷ marks_of p ++ closes ∷ []
+
+-- ---- by the code points
+
+-- what a scan stands in: plain text, a class, or behind the backslash of an escape in one of these
+pub data Mode : Type 0 where
+  plain : Mode
+  escape : Mode
+  class : Mode
+  class_escape : Mode
+
+-- behind a parenthesis that opens: a capture group has no `?`, or a name
+abbrev pub opened_at : Table → Source → Mark
+opened_at table t =
+    if is_at question_mark t
+    then elim (group_name_at table (drop 1 t)) [ None ↦ opens | Some found ↦ captures (Some found.0) ]
+    else captures None
+
+-- the marks of a source, from a mode on
+unfoldable pub marks : Table → Mode → Source → List Mark
+marks table mode [] = []
+marks table escape (c ∷ t) = marks table plain t
+marks table class_escape (c ∷ t) = marks table class t
+marks table class (c ∷ t) =
+    if c == 92 then marks table class_escape t
+    else if c == 93 then marks table plain t
+    else marks table class t
+marks table plain (c ∷ t) =
+    if c == 92 then marks table escape t
+    else if c == 91 then marks table class t
+    else if c == opening then opened_at table t ∷ marks table plain t
+    else if c == closing then closes ∷ marks table plain t
+    else if c == bar then next ∷ marks table plain t
+    else marks table plain t
+
+-- What a scan is good for: whatever the rows were told of groups and names, a syntax tree that the grammar derives has
+-- the source's marks.
+abbrev pub GivesMarks : Table → Source → Type 0
+GivesMarks table t =
+    (ctx : Context) (p : Pattern) → ctx.setting.table ≡ table → IsPattern ctx p t [] → marks_of p ≡ marks table plain t
+
+-- ---- what the marks say
+
+-- the name of each capture group, in order
+abbrev pub named_by : List Mark → List (Option Name)
+named_by [] = []
+named_by (opens ∷ ms) = named_by ms
+named_by (captures name ∷ ms) = name ∷ named_by ms
+named_by (closes ∷ ms) = named_by ms
+named_by (next ∷ ms) = named_by ms
+
+-- how many levels are open at most, where so many are open before
+abbrev pub deepest : ℕ → List Mark → ℕ
+deepest n [] = n
+deepest n (opens ∷ ms) = max n (deepest (n + 1) ms)
+deepest n (captures name ∷ ms) = max n (deepest (n + 1) ms)
+deepest n (closes ∷ ms) = max n (deepest (n - 1) ms)
+deepest n (next ∷ ms) = max n (deepest n ms)
 
 -- The path of a place: for each level open there, the number of the alternative in which it stands, the innermost first.
 abbrev pub Path : Type 0
@@ -21,75 +111,22 @@ abbrev pub next_alternative : Path → Path
 next_alternative [] = []
 next_alternative (k ∷ path) = (k + 1) ∷ path
 
--- the path outside the innermost level; the whole pattern is never left
+-- the path outside the innermost level
 abbrev pub outside : Path → Path
 outside [] = []
-outside (k ∷ []) = k ∷ []
-outside (k ∷ j ∷ path) = j ∷ path
+outside (k ∷ path) = path
 
--- ---- by the syntax tree
-
--- the group itself, if it captures
-abbrev pub placed_group : Path → Group → List Placed
-placed_group path grouping = []
-placed_group path (modified change) = []
-placed_group path (capture name) = record { path = path; name = name } ∷ []
-placed_group path (look negate direction) = []
-
--- the capture groups in the order of their parentheses
-abbrev mutual
-  pub placed : Path → Pattern → List Placed
-  placed path (one ts) = placed_in_terms path ts
-  placed path (either ts p) = placed_in_terms path ts ++ placed (next_alternative path) p
-
-  pub placed_in_terms : Path → Terms → List Placed
-  placed_in_terms path no_terms = []
-  placed_in_terms path (more_terms x q xs) = placed_in_item path x ++ placed_in_terms path xs
-
-  pub placed_in_item : Path → Item → List Placed
-  placed_in_item path (atom a) = []
-  placed_in_item path (group kind p) = placed_group path kind ++ placed (0 ∷ path) p
+-- the capture groups, in order
+abbrev pub placed_by : Path → List Mark → List Placed
+placed_by path [] = []
+placed_by path (opens ∷ ms) = placed_by (0 ∷ path) ms
+placed_by path (captures name ∷ ms) = record { path = path; name = name } ∷ placed_by (0 ∷ path) ms
+placed_by path (closes ∷ ms) = placed_by (outside path) ms
+placed_by path (next ∷ ms) = placed_by (next_alternative path) ms
 
 -- the path of a whole pattern: one level, its first alternative
 abbrev pub at_the_start : Path
 at_the_start = 0 ∷ []
-
--- ---- by the code points
-
--- what a scan stands in: plain text, a class, or behind the backslash of an escape in one of these
-pub data Mode : Type 0 where
-  plain : Mode
-  escape : Mode
-  class : Mode
-  class_escape : Mode
-
--- a group that captures, behind its parenthesis: without a `?`, or with a name
-abbrev pub opened_at : Table → Path → Source → List Placed
-opened_at table path t =
-    if is_at question_mark t
-    then elim (group_name_at table (drop 1 t)) [ None ↦ [] | Some found ↦ record { path = path; name = Some found.0 } ∷ [] ]
-    else record { path = path; name = None } ∷ []
-
--- the capture groups that the source opens, from a mode and a path on
-unfoldable pub scan : Table → Mode → Path → Source → List Placed
-scan table mode path [] = []
-scan table escape path (c ∷ t) = scan table plain path t
-scan table class_escape path (c ∷ t) = scan table class path t
-scan table class path (c ∷ t) =
-    if c == 92 then scan table class_escape path t
-    else if c == 93 then scan table plain path t
-    else scan table class path t
-scan table plain path (c ∷ t) =
-    if c == 92 then scan table escape path t
-    else if c == 91 then scan table class path t
-    else if c == opening then opened_at table path t ++ scan table plain (0 ∷ path) t
-    else if c == closing then scan table plain (outside path) t
-    else if c == bar then scan table plain (next_alternative path) t
-    else scan table plain path t
-
--- the capture groups of a whole source
-abbrev pub scanned : Table → Source → List Placed
-scanned table t = scan table plain at_the_start t
 
 -- ---- groups of one name
 
@@ -101,8 +138,7 @@ agree (k ∷ path) (j ∷ other) = k == j && agree path other
 
 abbrev pub same_name : Option Name → Option Name → Bool
 same_name None other = false
-same_name (Some a) None = false
-same_name (Some a) (Some b) = bytes_eq a b
+same_name (Some name) other = is_named name other
 
 -- Two groups of one name conflict where their paths agree: neither stands in another alternative of a level that both have
 -- (this project's profile).
@@ -113,3 +149,11 @@ conflict a b = same_name a.name b.name && agree (reverse a.path) (reverse b.path
 abbrev pub are_apart : List Placed → Bool
 are_apart [] = true
 are_apart (g ∷ gs) = list_all (λ other. not (conflict g other)) gs && are_apart gs
+
+-- the names of a pattern's groups conflict nowhere
+abbrev pub has_apart_names : Pattern → Bool
+has_apart_names p = are_apart (placed_by at_the_start (marks_of p))
+
+-- Two groups conflict, or the levels are more than the limit.
+abbrev pub IsRefusedByMarks : List Mark → Type 0
+IsRefusedByMarks ms = (are_apart (placed_by at_the_start ms) ≡ false) ⊎ (max_nesting_depth < deepest 1 ms)

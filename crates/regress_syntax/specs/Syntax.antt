@@ -1,5 +1,6 @@
 -- The syntax tree of a pattern.
-use Rattle.std.specs.Prelude.{ℕ, ◌+◌, max, Bool, List, [], ◌∷◌, ◌++◌, Option, Some, None}
+use Rattle.std.specs.Prelude.{ℕ, ◌+◌, max, Bool, false, List, [], ◌∷◌, ◌++◌, Option, Some, None}
+use Rattle.std.specs.Str.{bytes_eq}
 use Rattle.regress_base.specs.Intervals.{Bounds}
 use Rattle.regress_base.specs.declared.charclasses.CharacterClassType.{CharacterClassType}
 use Rattle.regress_base.specs.declared.types.Flags.{Flags}
@@ -11,6 +12,11 @@ use Rattle.regress_syntax.specs.Modifiers.{Change}
 -- a name, by its characters
 abbrev pub Name : Type 0
 Name = List ℕ
+
+-- whether a group has this name
+abbrev pub is_named : Name → Option Name → Bool
+is_named name None = false
+is_named name (Some other) = bytes_eq other name
 
 -- what a reference names: a group by its number, from 1, or all groups of a name
 pub data Target : Type 0 where

@@ -1,7 +1,8 @@
 -- What the values of the code stand for.
-use Rattle.std.specs.Prelude.{◌≡◌, ℕ, Bool, ◌||◌, List, [], None}
+use Rattle.std.specs.Prelude.{◌≡◌, ◌≢◌, ℕ, Bool, ◌||◌, List, [], map, Option, option_map, if◌then◌else◌}
 use Rattle.regress_base.specs.Intervals.{Bounds, is_member, IsCanonical}
 use Rattle.regress_base.specs.declared.types.Flags.{Flags}
+use Rattle.regress_tree.specs.Reading.{Direction, forwards, backwards}
 use Rattle.regress_tree.specs.TableOf.{setting_of}
 use Rattle.regress_syntax.specs.declared.cursor.Cursor.{Cursor}
 use Rattle.regress_syntax.specs.declared.scope.Scope.{Scope}
@@ -12,20 +13,35 @@ use Rattle.regress_syntax.specs.declared.class_atom.ClassAtom.{ClassAtom as Code
 use Rattle.regress_syntax.specs.declared.class_atom.ClassAtom.TheVariants as class_atoms
 use Rattle.regress_syntax.specs.declared.head.Head.{Head as CodeHead}
 use Rattle.regress_syntax.specs.declared.head.Head.TheVariants as heads
-use Rattle.regress_syntax.specs.declared.head.Group.{Group as CodeGroup}
-use Rattle.regress_syntax.specs.declared.head.Group.TheVariants as groups
+use Rattle.regress_syntax.specs.declared.group.Group.{Group as CodeGroup}
+use Rattle.regress_syntax.specs.declared.group.Group.TheVariants as groups
+use Rattle.regress_syntax.specs.declared.groups.Groups.{Groups}
+use Rattle.regress_syntax.specs.declared.modifiers.Change.{Change as CodeChange}
+use Rattle.regress_syntax.specs.Modifiers.{Change}
+use Rattle.regress_syntax.specs.Meaning.{referred}
 use Rattle.regress_syntax.specs.ClassRows.{ClassAtom, point, class as class_of}
 use Rattle.regress_syntax.specs.Source.{Source, IsCodePoint}
-use Rattle.regress_syntax.specs.Syntax.{Atom, literal, dot, anchor, boundary, class_escape, class, Group, grouping, capture}
+use Rattle.regress_syntax.specs.Syntax.{Name, Target, Atom, literal, dot, anchor, boundary, class_escape, class, back_reference, Group, grouping, modified, capture, look}
 use Rattle.regress_syntax.specs.Rows.{Context, Head, single, opens}
 
 -- what is still to read
 abbrev pub source : Cursor → Source
 source cursor = cursor.rest.now
 
--- No row that is served looks at the groups.
+-- the name of each group
+abbrev pub names_in : Groups → List (Option Name)
+names_in groups = map (option_map (λ name. name.items)) groups.names.items
+
 abbrev pub context_of : Scope → Context
-context_of scope = record { setting = setting_of scope.flags scope.tables.now; groups = 0; names = [] }
+context_of scope = record {
+  setting = setting_of scope.flags scope.tables.now;
+  groups = scope.groups.now.count;
+  names = names_in scope.groups.now;
+}
+
+-- what a group switches
+abbrev pub change_of : CodeChange → Change
+change_of change = record { icase = change.icase; multiline = change.multiline; dot_all = change.dot_all }
 
 -- an atom of a class
 abbrev pub class_atom_of : CodeClassAtom → ClassAtom
@@ -53,28 +69,39 @@ IsClass flags inverted set a = (members : List Bounds) × (a ≡ class flags inv
 abbrev pub IsClassRead : CodeClass → Bool × List Bounds → Type 0
 IsClassRead class' (inverted, members) = (class'.inverted ≡ inverted) × HasMembers members class'.set
 
--- the atom of the code is this one under the flags
-abbrev pub IsAtom : Flags → CodeAtom → Atom → Type 0
-IsAtom flags (atoms.Literal c) a = (a ≡ literal flags c) × IsCodePoint c
-IsAtom flags atoms.Dot a = a ≡ dot flags
-IsAtom flags (atoms.Anchor kind) a = a ≡ anchor flags kind
-IsAtom flags (atoms.WordBoundary inverted) a = a ≡ boundary flags inverted
-IsAtom flags (atoms.ClassEscape kind negated) a = a ≡ class_escape flags kind negated
-IsAtom flags (atoms.Class inverted set) a = IsClass flags inverted set a
+-- references to these groups, and what they are there
+abbrev pub AreReferences : Context → List ℕ → Atom → Type 0
+AreReferences ctx numbers a =
+    (to : Target) × (a ≡ back_reference ctx.setting.flags to) × (numbers ≡ referred ctx.names to) × (numbers ≢ [])
+
+-- the atom of the code is this one there
+abbrev pub IsAtom : Context → CodeAtom → Atom → Type 0
+IsAtom ctx (atoms.Literal c) a = (a ≡ literal ctx.setting.flags c) × IsCodePoint c
+IsAtom ctx atoms.Dot a = a ≡ dot ctx.setting.flags
+IsAtom ctx (atoms.Anchor kind) a = a ≡ anchor ctx.setting.flags kind
+IsAtom ctx (atoms.WordBoundary inverted) a = a ≡ boundary ctx.setting.flags inverted
+IsAtom ctx (atoms.ClassEscape kind negated) a = a ≡ class_escape ctx.setting.flags kind negated
+IsAtom ctx (atoms.Class inverted set) a = IsClass ctx.setting.flags inverted set a
+IsAtom ctx (atoms.BackReferences numbers) a = AreReferences ctx numbers.items a
+
+abbrev pub direction_of : (backwards : Bool) → Direction
+direction_of backwards' = if backwards' then backwards else forwards
 
 abbrev pub group_of : CodeGroup → Group
 group_of groups.Grouping = grouping
-group_of groups.Capture = capture None
+group_of (groups.Modified change) = modified (change_of change)
+group_of (groups.Capture name) = capture (option_map (λ name. name.items) name)
+group_of (groups.Look negate backwards') = look negate (direction_of backwards')
 
 -- the atom of the code stands for one
-abbrev pub IsSomeAtom : Flags → CodeAtom → Type 0
-IsSomeAtom flags atom = (a : Atom) × IsAtom flags atom a
+abbrev pub IsSomeAtom : Context → CodeAtom → Type 0
+IsSomeAtom ctx atom = (a : Atom) × IsAtom ctx atom a
 
 -- what an item begins with in the code is this
-abbrev pub IsHead : Flags → CodeHead → Head → Type 0
-IsHead flags (heads.Atom atom) head = (a : Atom) × (head ≡ single a) × IsAtom flags atom a
-IsHead flags (heads.Opens kind) head = head ≡ opens (group_of kind)
+abbrev pub IsHead : Context → CodeHead → Head → Type 0
+IsHead ctx (heads.Atom atom) head = (a : Atom) × (head ≡ single a) × IsAtom ctx atom a
+IsHead ctx (heads.Opens kind) head = head ≡ opens (group_of kind)
 
 -- what an item begins with in the code stands for something
-abbrev pub IsSomeHead : Flags → CodeHead → Type 0
-IsSomeHead flags head = (written : Head) × IsHead flags head written
+abbrev pub IsSomeHead : Context → CodeHead → Type 0
+IsSomeHead ctx head = (written : Head) × IsHead ctx head written

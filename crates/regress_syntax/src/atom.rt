@@ -1,24 +1,28 @@
 //! Items that hold no pattern.
-ghost use Rattle.std.specs.Prelude.{◌≡◌, ◌∷◌, drop, is_some};
+ghost use Rattle.std.specs.Prelude.{◌≡◌, ◌∷◌, true, drop, is_some};
+ghost use Rattle.regress_syntax.specs.Digits.{is_between};
 ghost use Rattle.regress_syntax.specs.Escapes.{begins_with_letter};
 ghost use Rattle.regress_syntax.specs.Quantifiers.{quantifier_at};
 ghost use Rattle.regress_syntax.specs.Reads.{ReadsAs};
-ghost use Rattle.regress_syntax.specs.Rows.{atom_by, brace_by, is_lone_backslash, escaped_at, character_at, is_unserved};
+ghost use Rattle.regress_syntax.specs.Rows.{atom_by, brace_by, is_lone_backslash, escaped_at, numbered_at, named_at, character_at, is_unserved};
 ghost use Rattle.regress_syntax.specs.Source.{IsCodePoint};
 ghost use Rattle.regress_syntax.specs.Views.{source, context_of, IsAtom};
 
 use crate::class::read_class;
 use crate::class_escape::class_letter;
 use crate::cursor::{Cursor, is_plain};
-use crate::digits::is_letter;
+use crate::digits::{is_letter, read_count};
 use crate::escape::{escape_fault, read_escape};
 use crate::fault::{
-    INCOMPLETE_ESCAPE, INVALID_ATOM, INVALID_BRACED_QUANTIFIER, ParseFault, UNSUPPORTED, syntax,
+    Error, INCOMPLETE_ESCAPE, INVALID_ATOM, INVALID_BRACED_QUANTIFIER, INVALID_ESCAPE,
+    INVALID_REFERENCE, ParseFault, UNKNOWN_NAME, UNSUPPORTED, syntax,
 };
+use crate::names::read_group_name;
 use crate::scope::Scope;
 use regress_base::charclasses::CharacterClassType;
 use regress_base::codepointset::CodePointSet;
 use regress_tree::ir::AnchorType;
+use std::alloc::{AllocError, Global};
 
 /// An item that holds no pattern.
 #[derive(Drop)]
@@ -43,6 +47,8 @@ pub enum Atom {
         inverted: bool,
         set: CodePointSet,
     },
+    /// References to these groups, at least one, by their numbers from 1: tried one after the other.
+    BackReferences(Vec<u32>),
 }
 
 /// Reads an item that holds no pattern, behind its first code point `c`. The fault comes where there is none.
@@ -54,7 +60,7 @@ pub(crate) fn read_atom(
 ) -> Result<Atom, ParseFault>
     requires code_point { IsCodePoint c }
     requires quantifier { begins_quantifier ≡ is_some (quantifier_at (c ∷ source cursor.now)) }
-    ensures { ReadsAs (IsAtom scope.now.flags) (source cursor.new) result (atom_by (context_of scope.now) c (source cursor.old)) }
+    ensures { ReadsAs (IsAtom (context_of scope.now)) (source cursor.new) result (atom_by (context_of scope.now) c (source cursor.old)) }
 {
     if c == u32::from('.') {
         Ok(Atom::Dot)
@@ -88,7 +94,7 @@ fn read_brace(
 ) -> Result<Atom, ParseFault>
     requires code_point { IsCodePoint c }
     requires quantifier { begins_quantifier ≡ is_some (quantifier_at (c ∷ source cursor.now)) }
-    ensures { ReadsAs (IsAtom scope.now.flags) (source cursor.new) result (brace_by (context_of scope.now) c (source cursor.old)) }
+    ensures { ReadsAs (IsAtom (context_of scope.now)) (source cursor.new) result (brace_by (context_of scope.now) c (source cursor.old)) }
 {
     if scope.flags.unicode {
         Err(syntax(cursor.alloc, INVALID_ATOM))
@@ -101,7 +107,7 @@ fn read_brace(
 
 /// Reads an escape, behind its backslash.
 fn read_escaped(cursor: &mut Cursor, scope: &Scope) -> Result<Atom, ParseFault>
-    ensures { ReadsAs (IsAtom scope.now.flags) (source cursor.new) result (escaped_at (context_of scope.now) (source cursor.old)) }
+    ensures { ReadsAs (IsAtom (context_of scope.now)) (source cursor.new) result (escaped_at (context_of scope.now) (source cursor.old)) }
 {
     let Some(c) = cursor.rest.first().copied() else {
         return Err(syntax(cursor.alloc, INCOMPLETE_ESCAPE));
@@ -119,9 +125,72 @@ fn read_escaped(cursor: &mut Cursor, scope: &Scope) -> Result<Atom, ParseFault>
     } else if is_lone_backslash(c, rest, scope.flags.unicode) {
         // The `c` is an item of its own.
         Ok(Atom::Literal(u32::from('\\')))
+    } else if is_between_one_and_nine(c) {
+        read_numbered(cursor, scope, c)
+    } else if c == u32::from('k') && (scope.flags.unicode || scope.groups.has_names()) {
+        cursor.rest = rest;
+        read_reference(cursor, scope)
     } else {
         read_character(cursor, scope, c)
     }
+}
+
+/// 1 to 9.
+fn is_between_one_and_nine(c: u32) -> bool
+    ensures { result ≡ is_between 49 57 c }
+{
+    0x31 <= c && c <= 0x39
+}
+
+/// Reads a reference by number, which begins with `c`, or where there are not so many groups the escape of a character.
+fn read_numbered(cursor: &mut Cursor, scope: &Scope, c: u32) -> Result<Atom, ParseFault>
+    requires front { source cursor.now ≡ c ∷ drop 1 (source cursor.now) }
+    requires digit { is_between 49 57 c ≡ true }
+    ensures { ReadsAs (IsAtom (context_of scope.now)) (source cursor.new) result
+        (numbered_at (context_of scope.now) c (drop 1 (source cursor.old))) }
+{
+    if let Some((number, rest)) = read_count(cursor.rest) {
+        if number <= usize::from(scope.groups.count()) {
+            cursor.rest = rest;
+            return Ok(Atom::BackReferences(vec![in cursor.alloc; number as u32]?));
+        }
+    }
+    if scope.flags.unicode {
+        return Err(syntax(cursor.alloc, INVALID_ESCAPE));
+    }
+    read_character(cursor, scope, c)
+}
+
+/// Reads a reference by name, behind `\k`.
+fn read_reference(cursor: &mut Cursor, scope: &Scope) -> Result<Atom, ParseFault>
+    ensures { ReadsAs (IsAtom (context_of scope.now)) (source cursor.new) result (named_at (context_of scope.now) (source cursor.old)) }
+{
+    let Some((name, rest)) = read_group_name(cursor.alloc, cursor.rest, scope.tables)? else {
+        return Err(syntax(cursor.alloc, INVALID_REFERENCE));
+    };
+    let numbers = scope.groups.numbers_of(&name);
+    if numbers.is_empty() {
+        return Err(unknown_name(cursor.alloc, &name));
+    }
+    let numbers = Vec::from_slice(cursor.alloc, numbers)?;
+    cursor.rest = rest;
+    Ok(Atom::BackReferences(numbers))
+}
+
+/// No group has this name.
+fn unknown_name(alloc: Global, name: &[char]) -> ParseFault {
+    match unknown_name_text(alloc, name) {
+        Ok(text) => ParseFault::Syntax(Error { text }),
+        Err(fault) => ParseFault::Memory(fault),
+    }
+}
+
+fn unknown_name_text(alloc: Global, name: &[char]) -> Result<String, AllocError> {
+    let mut text = String::from_str(alloc, UNKNOWN_NAME)?;
+    for c in name {
+        text.push(*c)?;
+    }
+    Ok(text)
 }
 
 /// Whether the escape is a `c` that no letter follows, without the flag u: the backslash stands alone.
@@ -144,7 +213,7 @@ fn begins_with_letter(text: &[u32]) -> bool
 /// Reads the escape of one character, which begins with `c`.
 fn read_character(cursor: &mut Cursor, scope: &Scope, c: u32) -> Result<Atom, ParseFault>
     requires { source cursor.now ≡ c ∷ drop 1 (source cursor.now) }
-    ensures { ReadsAs (IsAtom scope.now.flags) (source cursor.new) result
+    ensures { ReadsAs (IsAtom (context_of scope.now)) (source cursor.new) result
         (character_at (context_of scope.now) c (drop 1 (source cursor.old))) }
 {
     if is_unserved(c, scope.flags.unicode) {
@@ -159,11 +228,9 @@ fn read_character(cursor: &mut Cursor, scope: &Scope, c: u32) -> Result<Atom, Pa
     }
 }
 
-/// Whether the escape is a reference, or with the flag u a property.
+/// Whether the escape is, with the flag u, a property.
 fn is_unserved(c: u32, unicode: bool) -> bool
     ensures { result ≡ is_unserved unicode c }
 {
-    (0x31 <= c && c <= 0x39)
-        || c == u32::from('k')
-        || (unicode && (c == u32::from('p') || c == u32::from('P')))
+    unicode && (c == u32::from('p') || c == u32::from('P'))
 }

@@ -100,6 +100,21 @@ pub const REVERSED_RANGE: &str =
 /// With the flag u, a class as an end of a range.
 pub const INVALID_RANGE: &str = "Invalid character range";
 
+/// `(?` at the end, or `(?<` that is no lookbehind and has no name.
+pub const INVALID_GROUP_NAME: &str = "Invalid token at named capture group identifier";
+
+/// `(?` before any other character but `:`, `=`, `!` and `<`, where no modifiers stand.
+pub const INVALID_MODIFIER: &str = "Invalid group modifier";
+
+/// `\k` without a name.
+pub const INVALID_REFERENCE: &str = "Invalid named backreference syntax";
+
+/// Before the name, where no group has it.
+pub const UNKNOWN_NAME: &str = "Backreference to invalid named capture group: ";
+
+/// Two groups of one name conflict.
+pub const DUPLICATE_NAME: &str = "Duplicate capture group name";
+
 /// A fault of the pattern. Where its text finds no memory, that is the fault.
 pub fn syntax(alloc: Global, text: &str) -> ParseFault {
     match String::from_str(alloc, text) {

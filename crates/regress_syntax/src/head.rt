@@ -1,26 +1,16 @@
 //! What an item begins with.
 ghost use Rattle.std.specs.Prelude.{◌≡◌};
 ghost use Rattle.regress_syntax.specs.Reads.{Reads, ReadsAs};
-ghost use Rattle.regress_syntax.specs.Rows.{opens, group_at, head_at, times_at};
-ghost use Rattle.regress_syntax.specs.Views.{source, context_of, group_of, IsHead};
+ghost use Rattle.regress_syntax.specs.Rows.{head_at, times_at};
+ghost use Rattle.regress_syntax.specs.Views.{source, context_of, IsHead};
 
 use crate::atom::{Atom, read_atom};
 use crate::cursor::Cursor;
-use crate::fault::{
-    INVALID_ATOM, INVALID_QUANTIFIER, NO_QUANTIFIER, ParseFault, UNSUPPORTED, syntax,
-};
+use crate::fault::{INVALID_ATOM, INVALID_QUANTIFIER, NO_QUANTIFIER, ParseFault, syntax};
+use crate::group::{Group, read_group};
 use crate::quantifier::{is_ordered, read_quantifier};
 use crate::scope::Scope;
 use regress_tree::ir::Quantifier;
-
-/// What a parenthesis opens.
-#[derive(Clone, Copy)]
-pub enum Group {
-    /// `(?:`.
-    Grouping,
-    /// `(`, a capture group without a name.
-    Capture,
-}
 
 /// What an item begins with: all of it, or what its parenthesis opens.
 #[derive(Drop)]
@@ -31,16 +21,16 @@ pub enum Head {
 
 impl Head {
     ghost use Rattle.std.specs.Prelude.{◌≡◌};
-    ghost use Rattle.regress_base.specs.declared.types.Flags.{Flags};
-    ghost use Rattle.regress_syntax.specs.Rows.{Head as Written, allows};
+    ghost use Rattle.regress_syntax.specs.Rows.{Context, Head as Written, allows};
     ghost use Rattle.regress_syntax.specs.Views.{IsHead};
 
     /// Whether a quantifier may stand behind an item that begins so.
-    pub fn allows_quantifier(&self) -> bool
-        ensures { (flags : Flags) (written : Written) → IsHead flags self.now written → result ≡ allows written }
+    pub fn allows_quantifier(&self, unicode: bool) -> bool
+        ensures { (ctx : Context) (written : Written) → IsHead ctx self.now written → result ≡ allows unicode written }
     {
         match self {
             Head::Atom(Atom::Anchor(_)) => false,
+            Head::Opens(Group::Look { backwards, .. }) => !*backwards && !unicode,
             Head::Atom(_) | Head::Opens(_) => true,
         }
     }
@@ -49,30 +39,17 @@ impl Head {
 /// Reads what the next item begins with. The fault comes where no row applies that is served.
 #[tactic(auto, unfolding(crate::specs::Rows::head_at))]
 pub fn read_head(cursor: &mut Cursor, scope: &Scope) -> Result<Head, ParseFault>
-    ensures { ReadsAs (IsHead scope.now.flags) (source cursor.new) result (head_at (context_of scope.now) (source cursor.old)) }
+    ensures { ReadsAs (IsHead (context_of scope.now)) (source cursor.new) result (head_at (context_of scope.now) (source cursor.old)) }
 {
     let begins_quantifier = read_quantifier(cursor.rest).is_some();
     let Some(c) = cursor.next() else {
         return Err(syntax(cursor.alloc, INVALID_ATOM));
     };
     if c == u32::from('(') {
-        Ok(Head::Opens(read_group(cursor)?))
+        Ok(Head::Opens(read_group(cursor, scope.tables)?))
     } else {
         Ok(Head::Atom(read_atom(cursor, scope, c, begins_quantifier)?))
     }
-}
-
-/// Reads what a parenthesis opens, behind it.
-fn read_group(cursor: &mut Cursor) -> Result<Group, ParseFault>
-    ensures { Reads (λ kind. opens (group_of kind)) (source cursor.new) result (group_at (source cursor.old)) }
-{
-    if !cursor.try_consume('?') {
-        return Ok(Group::Capture);
-    }
-    if cursor.try_consume(':') {
-        return Ok(Group::Grouping);
-    }
-    Err(syntax(cursor.alloc, UNSUPPORTED))
 }
 
 /// Reads the quantifier behind an item, if one begins there. The fault comes where none may stand, where it asks

@@ -1,5 +1,6 @@
 //! What the rows of the grammar look at beside the source.
 
+use crate::groups::Groups;
 use regress_base::types::Flags;
 use regress_tree::unicode::Tables;
 
@@ -10,4 +11,6 @@ pub struct Scope<'a> {
     pub flags: Flags,
     /// What the pattern may ask of Unicode.
     pub tables: &'a Tables,
+    /// The capture groups of the whole pattern.
+    pub groups: &'a Groups,
 }

