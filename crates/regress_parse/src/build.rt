@@ -9,7 +9,7 @@ ghost use Rattle.regress_syntax.specs.Source.{IsCodePoint};
 ghost use Rattle.regress_syntax.specs.Syntax.{Atom as Written, class_escape};
 ghost use Rattle.regress_syntax.specs.Views.{IsAtom, IsSomeAtom, HasMembers, group_of};
 ghost use Rattle.regress_parse.specs.TreeOf.{turned, joined, leaf_of_members, leaf_of_literal, leaf_of_atom, tree_of_group, tree_of_times};
-ghost use Rattle.regress_parse.specs.Parsing.{alternatives, direction};
+ghost use Rattle.regress_parse.specs.Parsing.{alternatives};
 
 use regress_base::charclasses::CharacterClassType;
 use regress_base::codepointset::CodePointSet;
@@ -144,7 +144,7 @@ pub(crate) fn make_group(
 /// The node of an alternative: no part is `Empty`, one part is that part. Where matching runs backwards,
 /// the parts stand turned.
 pub(crate) fn make_cat(mut parts: NodeList, backwards: bool) -> Node
-    ensures { tree result ≡ joined (direction backwards) (trees parts.items) }
+    ensures { tree result ≡ joined (direction_of backwards) (trees parts.items) }
 {
     if parts.len() > 1 {
         turn(&mut parts, backwards);
@@ -155,7 +155,7 @@ pub(crate) fn make_cat(mut parts: NodeList, backwards: bool) -> Node
 
 /// Turns the parts where matching runs backwards.
 fn turn(parts: &mut NodeList, backwards: bool)
-    ensures { trees parts.new.items ≡ turned (direction backwards) (trees parts.old.items) }
+    ensures { trees parts.new.items ≡ turned (direction_of backwards) (trees parts.old.items) }
 {
     if backwards {
         parts.reverse();
