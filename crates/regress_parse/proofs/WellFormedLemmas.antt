@@ -27,38 +27,38 @@ use Rattle.regress_parse.proofs.GroupLemmas.{HasGroups-tree_of_item, length-capt
 
 -- ---- what stands for an item
 
-dot_may_stand : (dot_all : Bool) → LeafMayStand (cond dot_all match_any match_any_except_line_terminator) inside
-dot_may_stand true = tt
-dot_may_stand false = tt
+dot_may_stand : (m : ℕ) (dot_all : Bool) → LeafMayStand m (cond dot_all match_any match_any_except_line_terminator) inside
+dot_may_stand m true = tt
+dot_may_stand m false = tt
 
-members_may_stand : (members : List ℕ) → All IsCodePoint members → length members ≤ max_char_set_length →
-    LeafMayStand (leaf_of_members members) inside
-members_may_stand [] bounded small = record { bounded = bounded; small = small; some = tt }
-members_may_stand (c ∷ []) bounded small = All-head IsCodePoint c [] bounded
-members_may_stand (c ∷ d ∷ rest) bounded small = record { bounded = bounded; small = small; some = tt }
+members_may_stand : (m : ℕ) (members : List ℕ) → All IsCodePoint members → length members ≤ max_char_set_length →
+    LeafMayStand m (leaf_of_members members) inside
+members_may_stand m [] bounded small = record { bounded = bounded; small = small; some = tt }
+members_may_stand m (c ∷ []) bounded small = All-head IsCodePoint c [] bounded
+members_may_stand m (c ∷ d ∷ rest) bounded small = record { bounded = bounded; small = small; some = tt }
 
-bracket_may_stand : (inverted : Bool) (p : ℕ → Bool) → LeafMayStand (bracket inverted (intervals_of p)) inside
-bracket_may_stand inverted p = record { canonical = intervals_of-canonical p; some = tt }
+bracket_may_stand : (m : ℕ) (inverted : Bool) (p : ℕ → Bool) → LeafMayStand m (bracket inverted (intervals_of p)) inside
+bracket_may_stand m inverted p = record { canonical = intervals_of-canonical p; some = tt }
 
 ordered_times : (least : ℕ) (most : Option ℕ) → IsTrue (elim most as (λ _. Bool) [ None ↦ true | Some m ↦ nat_le least m ]) →
     IfSome most (λ m. least ≤ m)
 ordered_times least None h = tt
 ordered_times least (Some most) h = leb-true least most h
 
-module _ (table : Table) (lawful : IsLawful table) where
+module _ (table : Table) (lawful : IsLawful table) (m : ℕ) where
   literal_may_stand : (icase unicode : Bool) (c : ℕ) → IsCodePoint c →
-      LeafMayStand (cond icase (leaf_of_members (class_of table true unicode c)) (char c)) inside
+      LeafMayStand m (cond icase (leaf_of_members (class_of table true unicode c)) (char c)) inside
   literal_may_stand true unicode c h =
-      members_may_stand (class_of table true unicode c) (class_of-bounded table true unicode c) (class_of-few table true unicode c lawful h)
+      members_may_stand m (class_of table true unicode c) (class_of-bounded table true unicode c) (class_of-few table true unicode c lawful h)
   literal_may_stand false unicode c h = h
 
-  atom_may_stand : (a : Atom) → IsGoodAtom a → LeafMayStand (leaf_of_atom table a) inside
+  atom_may_stand : (a : Atom) → IsGoodAtom a → LeafMayStand m (leaf_of_atom table a) inside
   atom_may_stand (literal flags c) h = literal_may_stand flags.icase flags.unicode c h
-  atom_may_stand (dot flags) h = dot_may_stand flags.dot_all
+  atom_may_stand (dot flags) h = dot_may_stand m flags.dot_all
   atom_may_stand (anchor flags kind) h = tt
   atom_may_stand (boundary flags inverted) h = tt
-  atom_may_stand (class_escape flags kind negated) h = bracket_may_stand false (is_in_class table flags negated (members_of kind))
-  atom_may_stand (class flags inverted members) h = bracket_may_stand inverted (is_in_class table flags false members)
+  atom_may_stand (class_escape flags kind negated) h = bracket_may_stand m false (is_in_class table flags negated (members_of kind))
+  atom_may_stand (class flags inverted members) h = bracket_may_stand m inverted (is_in_class table flags false members)
 
 -- ---- what a tree of m groups is made of may stand
 
@@ -117,7 +117,7 @@ module _ (table : Table) (lawful : IsLawful table) (m : ℕ) where
         AreCodePoints t → IsItem ctx x t rest → MayStand m (tree_of_item table d n x) inside × AreCodePoints rest
     item_stands ctx d n (atom a) t rest h all derived =
         let head = subst (IsGood IsGoodHead) derived (head_at-good ctx t all) in
-        (atom_may_stand table lawful a head.0, head.1)
+        (atom_may_stand table lawful m a head.0, head.1)
     item_stands ctx d n (group kind p) t rest h all derived =
         let head = subst (IsGood IsGoodHead) derived.1 (head_at-good ctx t all) in
         let tree = tree_of_pattern table (direction_of_group kind d) (n + opened_by kind) p in
