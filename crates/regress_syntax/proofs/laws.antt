@@ -2,5 +2,6 @@
 pub mod Sources
 pub mod Behind
 pub mod InRange
+pub mod NameEnds
 pub mod Pieces
 pub mod Rows
