@@ -1,5 +1,6 @@
 -- What stands behind a name and behind modifiers, and what a name is made of.
-use Rattle.std.proofs.Common.{◌≡◌, ◌≢◌, ℕ, zero, suc, ◌+◌, Bool, true, false, cond, ◌&&◌, ◌||◌, ◌==◌, [], ◌∷◌, length, drop, Some, None, refl}
+use Rattle.std.proofs.Common.{◌≡◌, ◌≢◌, ℕ, zero, suc, ◌+◌, ◌<◌, Bool, true, false, cond, ◌&&◌, ◌||◌, ◌==◌, [], ◌∷◌, length, drop, Some, None, arith}
+use Rattle.std.proofs.lemmas.Option.{none-some}
 use Rattle.std.specs.Char.{IsScalar}
 use Rattle.std.proofs.lemmas.List.Elements.{All-nil, All-cons}
 use Rattle.regress_tree.specs.Table.{Table}
@@ -12,20 +13,27 @@ use Rattle.regress_syntax.specs.Names.{begins_name, continues_name, written_at, 
 use Rattle.regress_syntax.specs.Modifiers.{is_modifier, behind_letters_off, modifiers_at}
 use Rattle.regress_syntax.proofs.DigitLemmas.{and_both}
 use Rattle.regress_syntax.proofs.laws.InRange.{Finds, finds_none, finds_some, finds_cond, finds_then}
-use Rattle.regress_syntax.proofs.laws.Behind.{IsBehind, behind_same, behind_behind, behind_drop, behind_front, Ends, ends_none, ends_some, ends_behind, ends_more, ends_then, ends_map, ends_cond, unicode_at-ends}
+use Rattle.regress_syntax.proofs.laws.Behind.{IsBehind, behind_same, behind_behind, behind_drop, behind_front, behind_shorter, Ends, ends_none, ends_some, ends_behind, ends_more, ends_then, ends_map, ends_cond, unicode_at-ends}
 
-written_at-ends : (t : Source) → Ends (written_at t) t
-written_at-ends [] = ends_none []
-written_at-ends (c ∷ t) =
-    ends_cond (c == 92) _ _ (c ∷ t)
-    (ends_more _ c t
-    (ends_cond (is_at 117 t) _ _ t (ends_behind _ t (drop 1 t) (behind_drop 1 t) (unicode_at-ends (drop 1 t))) (ends_none t)))
-    (ends_some (c, t) (c ∷ t) (behind_drop 1 (c ∷ t)))
+-- What is read of a character takes one code point at least.
+written_behind-ends : (c : ℕ) (t : Source) → Ends (written_at (c ∷ t)) t
+written_behind-ends c t =
+    ends_cond (c == 92) _ _ t
+    (ends_cond (is_at 117 t) _ _ t (ends_behind _ t (drop 1 t) (behind_drop 1 t) (unicode_at-ends (drop 1 t))) (ends_none t))
+    (ends_some (c, t) t (behind_same t))
 
-pub name_character_at-ends : (p : ℕ → Bool) (t : Source) → Ends (name_character_at p t) t
-name_character_at-ends p t =
-    ends_then (written_at t) _ t (written_at-ends t)
+character_behind-ends : (p : ℕ → Bool) (c : ℕ) (t : Source) → Ends (name_character_at p (c ∷ t)) t
+character_behind-ends p c t =
+    ends_then (written_at (c ∷ t)) _ t (written_behind-ends c t)
     (λ x. ends_cond (p x.0) _ _ x.1 (ends_some x x.1 (behind_same x.1)) (ends_none x.1))
+
+name_character_at-ends : (p : ℕ → Bool) (t : Source) → Ends (name_character_at p t) t
+name_character_at-ends p [] = ends_none []
+name_character_at-ends p (c ∷ t) = ends_more _ c t (character_behind-ends p c t)
+
+pub name_character_at-shortens : (p : ℕ → Bool) (t : Source) (x : ℕ × Source) → name_character_at p t ≡ Some x → length x.1 < length t
+name_character_at-shortens p [] x e = absurd (none-some x e)
+name_character_at-shortens p (c ∷ t) x e = omega (arith, behind_shorter t x.1 ((character_behind-ends p c t).each x e))
 
 rest_of_name_by-ends : (n : ℕ) (table : Table) (t : Source) → Ends (rest_of_name_by n table t) t
 unfolding rest_of_name_by
