@@ -1,3 +1,5 @@
 pub mod laws
 mod ClassLemmas
 mod DigitLemmas
+mod ModifierLemmas
+mod NameLemmas
