@@ -3,3 +3,4 @@ mod ClassLemmas
 mod DigitLemmas
 mod ModifierLemmas
 mod NameLemmas
+mod ReferenceLemmas
