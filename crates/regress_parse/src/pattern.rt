@@ -6,6 +6,7 @@ ghost use Rattle.regress_tree.specs.WellFormed.{IsWellFormed};
 ghost use Rattle.regress_syntax.specs.Fault.{RefusedOnlyIf};
 ghost use Rattle.regress_syntax.specs.Source.{IsCodePoint};
 ghost use Rattle.regress_syntax.specs.Syntax.{Pattern};
+ghost use Rattle.regress_syntax.specs.Views.{context_of};
 ghost use Rattle.regress_parse.specs.TreeOf.{tree_of};
 ghost use Rattle.regress_parse.specs.Accepted.{is_served, IsAccepted, NoneIsAccepted, OneIsDerived, OfAccepted, Means};
 ghost use Rattle.regress_parse.specs.Parsing.{YieldsWhole};
@@ -13,7 +14,7 @@ ghost use Rattle.regress_parse.specs.Parsing.{YieldsWhole};
 use crate::parser::{Around, Parser};
 use regress_base::types::Flags;
 use regress_syntax::fault::{UNBALANCED, UNSUPPORTED, syntax};
-use regress_syntax::{Cursor, ParseFault, Scope};
+use regress_syntax::{Cursor, ParseFault, Scope, scan_groups};
 use regress_tree::ir::{Node, Regex};
 use regress_tree::unicode::Tables;
 use std::alloc::Global;
@@ -52,10 +53,15 @@ pub fn try_parse(
     ensures well_formed { IfOk result (λ r. IsWellFormed (tree r.node)) }
     ensures flags { IfOk result (λ r. r.flags ≡ flags) }
 {
-    let scope = Scope { flags, tables };
     if !is_served(flags) {
         return Err(syntax(alloc, UNSUPPORTED));
     }
+    let groups = scan_groups(alloc, pattern, tables)?;
+    let scope = Scope {
+        flags,
+        tables,
+        groups: &groups,
+    };
     let body = parse_body(alloc, pattern, &scope)?;
     let parts = vec![in alloc; body, Node::Goal]?;
     Ok(Regex {
@@ -74,7 +80,7 @@ fn is_served(flags: Flags) -> bool
 /// Parses the whole source, up to its end.
 fn parse_body(alloc: Global, pattern: &[u32], scope: &Scope) -> Result<Node, ParseFault>
     requires { All IsCodePoint pattern.now }
-    ensures { YieldsWhole (setting_of scope.now.flags scope.now.tables.now) pattern.now result }
+    ensures { YieldsWhole (context_of scope.now) pattern.now result }
 {
     let mut parser = Parser {
         cursor: Cursor {
