@@ -92,6 +92,7 @@ fn read_rest<'a>(
 }
 
 /// Reads a name in angle brackets (ECMA-262, GroupName).
+#[tactic(auto, unfolding(crate::specs::Names::name_at))]
 pub(crate) fn read_group_name<'a>(
     alloc: Global,
     text: &'a [u32],
