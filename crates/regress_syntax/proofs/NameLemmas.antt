@@ -1,5 +1,5 @@
 -- What is left to read of a name.
-use Rattle.std.proofs.Common.{◌≡◌, ℕ, zero, suc, ◌+◌, ◌<◌, Bool, true, false, List, [], ◌∷◌, ◌++◌, length, drop, Option, Some, None, refl, sym, ap, ◌∙◌, append_assoc, append-nil, add-one, arith}
+use Rattle.std.proofs.Common.{◌≡◌, ℕ, zero, suc, ◌+◌, ◌<◌, Bool, true, false, cond, List, [], ◌∷◌, ◌++◌, length, drop, Option, Some, None, refl, sym, ap, ◌∙◌, append_assoc, append-nil, add-one, arith}
 use Rattle.std.proofs.lemmas.Bool.{cond-true, cond-false}
 use Rattle.regress_tree.specs.Table.{Table}
 use Rattle.regress_syntax.specs.Source.{Source, Found, ◌>>=◌, found_map, is_at}
@@ -50,23 +50,38 @@ behind_one_more : (read : Name) (c : ℕ) (left : Found Name) →
 behind_one_more read c None = refl
 behind_one_more read c (Some x) = ap (λ (cs : Name). Some (cs, x.1)) (sym (append_assoc read (c ∷ []) x.0))
 
-pub all_of_name : (table : Table) (t : Source) (read : Name) → is_at 62 t ≡ true →
-    behind_read read (left_of_name table t) ≡ Some (read, drop 1 t)
-all_of_name table t read closes =
-    ap (behind_read read) (name_closed table t closes) ∙ ap (λ (cs : Name). Some (cs, drop 1 t)) (append-nil read)
+-- the next character, and what is left behind it
+next_left : (table : Table) (t : Source) (read : Name) (next : Found ℕ) → is_at 62 t ≡ false →
+    next ≡ name_character_at (continues_name table) t →
+    behind_read read (left_of_name table t)
+    ≡ behind_read read (next >>= λ (x : ℕ × Source). found_map (λ cs. x.0 ∷ cs) (left_of_name table x.1))
+next_left table t read next goes_on found =
+    ap (behind_read read)
+    (name_goes_on table t goes_on
+    ∙ ap (λ (next : Found ℕ). next >>= λ (x : ℕ × Source). found_map (λ cs. x.0 ∷ cs) (left_of_name table x.1)) (sym found))
 
-pub one_more_of_name : (table : Table) (t rest : Source) (c : ℕ) (read : Name) → is_at 62 t ≡ false →
-    name_character_at (continues_name table) t ≡ Some (c, rest) →
+some_closes : (b : Bool) (x y : Source) → Some y ≡ cond b (Some x) None → (b ≡ true) × (y ≡ x)
+some_closes true x y e = (refl, cc)
+some_closes false x y e = absurd cc
+
+none_closes : (b : Bool) (x : Source) → None ≡ cond b (Some x) None → b ≡ false
+none_closes true x e = absurd cc
+none_closes false x e = refl
+
+-- The turns of the loop, by what the code knows of each: what stands behind a `>` here, if it stands here.
+pub all_of_name : (table : Table) (t rest : Source) (read : Name) → Some rest ≡ cond (is_at 62 t) (Some (drop 1 t)) None →
+    behind_read read (left_of_name table t) ≡ Some (read, rest)
+all_of_name table t rest read e =
+    let closes = some_closes (is_at 62 t) (drop 1 t) rest e in
+    ap (behind_read read) (name_closed table t closes.0)
+    ∙ rw (append-nil, closes.1) refl
+
+pub one_more_of_name : (table : Table) (t rest : Source) (c : ℕ) (read : Name) → None ≡ cond (is_at 62 t) (Some (drop 1 t)) None →
+    Some (c, rest) ≡ name_character_at (continues_name table) t →
     behind_read read (left_of_name table t) ≡ behind_read (read ++ c ∷ []) (left_of_name table rest)
-one_more_of_name table t rest c read goes_on found =
-    ap (behind_read read)
-    (name_goes_on table t goes_on
-    ∙ ap (λ (next : Found ℕ). next >>= λ (x : ℕ × Source). found_map (λ cs. x.0 ∷ cs) (left_of_name table x.1)) found)
-    ∙ behind_one_more read c (left_of_name table rest)
+one_more_of_name table t rest c read e found =
+    next_left table t read (Some (c, rest)) (none_closes _ _ e) found ∙ behind_one_more read c (left_of_name table rest)
 
-pub none_of_name : (table : Table) (t : Source) (read : Name) → is_at 62 t ≡ false →
-    name_character_at (continues_name table) t ≡ None → behind_read read (left_of_name table t) ≡ None
-none_of_name table t read goes_on none =
-    ap (behind_read read)
-    (name_goes_on table t goes_on
-    ∙ ap (λ (next : Found ℕ). next >>= λ (x : ℕ × Source). found_map (λ cs. x.0 ∷ cs) (left_of_name table x.1)) none)
+pub none_of_name : (table : Table) (t : Source) (read : Name) → None ≡ cond (is_at 62 t) (Some (drop 1 t)) None →
+    None ≡ name_character_at (continues_name table) t → behind_read read (left_of_name table t) ≡ None
+none_of_name table t read e none = next_left table t read None (none_closes _ _ e) none

@@ -4,6 +4,9 @@ ghost use Rattle.regress_syntax.specs.Source.{found_map};
 ghost use Rattle.regress_syntax.specs.Names.{is_sign, begins_name, continues_name, written_at, name_character_at, rest_of_name_by, name_at, group_name_at};
 ghost use Rattle.regress_tree.specs.TableOf.{table_of};
 
+#[cfg(test)]
+mod tests;
+
 use crate::digits::{Read, after};
 use crate::escape::read_unicode;
 use regress_tree::unicode::Tables;
@@ -92,6 +95,7 @@ fn read_rest<'a>(
 }
 
 /// Reads a name in angle brackets (ECMA-262, GroupName).
+#[tactic(auto, unfolding(crate::specs::Names::name_at))]
 pub(crate) fn read_group_name<'a>(
     alloc: Global,
     text: &'a [u32],
