@@ -1,5 +1,5 @@
 -- What the parser's loop over alternatives has read so far.
-use Rattle.std.proofs.Common.{◌≡◌, ℕ, ◌+◌, ◌-◌, ◌≤◌, ⊎_elim, true, false, List, [], ◌∷◌, ◌++◌, length, drop, map, Some, None, refl, sym, ap, ap₂, ◌∙◌, arith, length-drop}
+use Rattle.std.proofs.Common.{◌≡◌, ℕ, ◌+◌, ◌-◌, ◌≤◌, ⊎_elim, true, false, List, [], ◌∷◌, ◌++◌, length, drop, map, Some, None, refl, sym, ap, ap₂, ◌∙◌, arith, length-drop, Option}
 use Rattle.std.specs.Option.{IfSome}
 use Rattle.std.proofs.lemmas.Option.{same_Some}
 use Rattle.std.proofs.lemmas.Bool.{cond-true, cond-false}
@@ -220,10 +220,10 @@ module _ (table : Table) (names : List (Option Name)) (d : Direction) (ctx : Con
   alternatives-node t now nodes final h = ap (alternatives (map tree nodes)) h.node ∙ h.nodes (one h.last)
 
 -- a first alternative that is none, or too much, is so for the pattern
-pub first-fail : (table : Table) (ctx : Context) (depth : ℕ) (t : Source) (before : Counts) →
+pub first-fail : (table : Table) (names : List (Option Name)) (ctx : Context) (depth : ℕ) (t : Source) (before : Counts) →
     IfSome (terms_at ctx t) (λ x. Fits before (depth + 1) (terms_part table names x.0) → ⊥) →
     IfSome (pattern_at ctx t) (λ x. Fits before depth (pattern_part table names x.0) → ⊥)
-first-fail table ctx depth t before refused =
+first-fail table names ctx depth t before refused =
     from_each (pattern_at ctx t) _ (λ x found fits.
     let first = found_then (terms_at ctx t) (others_of ctx) x (sym (pattern_at-is ctx t) ∙ found) in
     let less = first_terms ctx first.0.0 first.0.1 x first.2 in
@@ -232,18 +232,18 @@ first-fail table ctx depth t before refused =
     (omega (arith, less.groups)) (omega (arith, less.loops)) (omega (arith, less.levels)) fits))
 
 -- so is a later one
-pub alternatives-fail : (table : Table) (d : Direction) (ctx : Context) (depth : ℕ) (t0 : Source) (before : Counts)
-    (t : Source) (now : Counts) (nodes : List Node) (final : Node) → AlternativesSoFar table d ctx depth t0 before t now nodes final →
+pub alternatives-fail : (table : Table) (names : List (Option Name)) (d : Direction) (ctx : Context) (depth : ℕ) (t0 : Source) (before : Counts)
+    (t : Source) (now : Counts) (nodes : List Node) (final : Node) → AlternativesSoFar table names d ctx depth t0 before t now nodes final →
     is_at bar t ≡ true → IfSome (terms_at ctx (drop 1 t)) (λ x. Fits now (depth + 1) (terms_part table names x.0) → ⊥) →
     IfSome (pattern_at ctx t0) (λ x. Fits before depth (pattern_part table names x.0) → ⊥)
-alternatives-fail table d ctx depth t0 before t now nodes final h more refused =
+alternatives-fail table names d ctx depth t0 before t now nodes final h more refused =
     let all = h.done ++ h.last ∷ [] in
-    let at = here table d ctx depth t0 before t now nodes final h in
+    let at = here table names d ctx depth t0 before t now nodes final h in
     from_each (pattern_at ctx t0) _ (λ x found fits.
     let rest = found_then (pattern_at ctx (drop 1 t)) (behind_all all) x
-    (sym (reads_on table d ctx depth t0 before t now nodes final h more) ∙ found) in
+    (sym (reads_on table names d ctx depth t0 before t now nodes final h more) ∙ found) in
     let same = ap (λ (z : Pattern × Source). z.0) (same_Some (eithers all rest.0.0, rest.0.1) x rest.2) in
-    to_each (pattern_at ctx (drop 1 t)) _ (first-fail table ctx depth (drop 1 t) now refused) rest.0 rest.1
+    to_each (pattern_at ctx (drop 1 t)) _ (first-fail table names ctx depth (drop 1 t) now refused) rest.0 rest.1
     (Fits-inside before now depth depth (pattern_part table names x.0) (pattern_part table names rest.0.0)
     (omega (arith, at.groups, ap (λ p. (counts p).groups) same, groups-eithers all rest.0.0))
     (omega (arith, at.loops, ap (λ p. (counts p).loops) same, loops-eithers all rest.0.0))

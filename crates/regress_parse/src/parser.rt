@@ -39,13 +39,20 @@ impl<'a> Around<'a> {
         ensures direction { direction_of result ≡ direction_of_group (group_of kind.now) (direction_of self.now) }
         ensures depth { result.depth ≡ self.now.depth }
     {
-        let mut around = *self;
         match kind {
-            Group::Grouping | Group::Capture(_) => {}
-            Group::Modified(change) => around.scope.flags = change.apply(self.scope.flags),
-            Group::Look { backwards, .. } => around.backwards = *backwards,
+            Group::Grouping | Group::Capture(_) => *self,
+            Group::Modified(change) => Around {
+                scope: Scope {
+                    flags: change.apply(self.scope.flags),
+                    ..self.scope
+                },
+                ..*self
+            },
+            Group::Look { backwards, .. } => Around {
+                backwards: *backwards,
+                ..*self
+            },
         }
-        around
     }
 }
 
