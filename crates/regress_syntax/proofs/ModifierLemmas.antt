@@ -1,6 +1,6 @@
 -- Letters that switch on and letters that switch off.
-use Rattle.std.proofs.Common.{◌≡◌, ℕ, Bool, true, false, not, ◌&&◌, ◌||◌, ◌==◌, List, [], ◌∷◌, ◌++◌, refl, sym, ap, ◌∙◌}
-use Rattle.std.specs.List.{list_any, list_all}
+use Rattle.std.proofs.Common.{◌≡◌, ℕ, Bool, true, false, not, ◌&&◌, ◌||◌, ◌==◌, List, [], ◌∷◌, ◌++◌, refl, sym}
+use Rattle.std.specs.List.{list_all}
 use Rattle.regress_syntax.specs.Modifiers.{stands_in, are_different}
 
 stands_in-append : (c : ℕ) (xs ys : List ℕ) → stands_in c (xs ++ ys) ≡ (stands_in c xs || stands_in c ys)

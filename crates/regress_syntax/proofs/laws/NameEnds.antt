@@ -1,13 +1,12 @@
 -- What stands behind a name and behind modifiers, and what a name is made of.
-use Rattle.std.proofs.Common.{◌≡◌, ◌≢◌, ℕ, zero, suc, ◌+◌, ◌<◌, Bool, true, false, cond, ◌&&◌, ◌||◌, ◌==◌, [], ◌∷◌, length, drop, Some, None, arith}
+use Rattle.std.proofs.Common.{◌≡◌, ◌≢◌, ℕ, zero, suc, ◌+◌, ◌<◌, Bool, true, false, cond, ◌==◌, [], ◌∷◌, length, drop, Some, arith}
 use Rattle.std.proofs.lemmas.Option.{none-some}
 use Rattle.std.specs.Char.{IsScalar}
 use Rattle.std.proofs.lemmas.List.Elements.{All-nil, All-cons}
 use Rattle.regress_tree.specs.Table.{Table}
 use Rattle.regress_tree.specs.Reading.{IsText}
-use Rattle.regress_syntax.specs.Source.{Source, Found, ◌>>=◌, found_map, is_at}
+use Rattle.regress_syntax.specs.Source.{Source, Found, found_map, is_at}
 use Rattle.regress_syntax.specs.Digits.{behind}
-use Rattle.regress_syntax.specs.Escapes.{unicode_at}
 use Rattle.regress_syntax.specs.Syntax.{Name}
 use Rattle.regress_syntax.specs.Names.{begins_name, continues_name, written_at, name_character_at, rest_of_name_by, name_at, group_name_at}
 use Rattle.regress_syntax.specs.Modifiers.{is_modifier, behind_letters_off, modifiers_at}
