@@ -1,3 +1,4 @@
 pub mod laws
 mod ClassLemmas
 mod DigitLemmas
+mod ScanLemmas
