@@ -4,9 +4,10 @@ use Rattle.std.proofs.lemmas.Bool.{false≢true}
 use Rattle.std.proofs.lemmas.Bool.Decides.{nat_tests}
 use Rattle.std.proofs.lemmas.Option.{none-some, same_Some}
 use Rattle.std.specs.List.{list_all}
+use Rattle.regress_base.specs.Intervals.{code_point_max}
 use Rattle.regress_tree.specs.Table.{Table}
 use Rattle.regress_syntax.specs.Source.{Source, Found, ◌>>=◌, found_map, opening, closing, bar, question_mark, is_at, is_plain}
-use Rattle.regress_syntax.specs.Digits.{is_between, is_decimal, is_letter, is_octal, is_hex, number, front, behind, hex_at}
+use Rattle.regress_syntax.specs.Digits.{is_between, is_decimal, is_letter, is_octal, is_hex, control, number, front, behind, hex_at}
 use Rattle.regress_syntax.specs.Escapes.{braced_hex_at, second_half_at, paired, with_second_half, unicode_at, or_itself, octal_digits, letter_escape, begins_with_digit, is_syntax_character, control_at, other_escape, escape_at}
 use Rattle.regress_syntax.specs.Quantifiers.{Times, count_at, closed_brace, most_at, times_by, greedy_or_lazy, quantifier_at}
 use Rattle.regress_syntax.specs.Scan.{Mode, plain, escape, class, class_escape, marks}
@@ -134,11 +135,12 @@ module _ (table : Table) where
       Passes table (home b) t (home b) (behind p t)
   unfolding behind
   pass_behind b p quiet [] = passes_same (home b) []
-  pass_behind b p quiet (c ∷ t) = by (p c) refl
+  pass_behind b p quiet (c ∷ t) = by (p c) refl (pass_behind b p quiet t)
     where
-      by : (q : Bool) → p c ≡ q → Passes table (home b) (c ∷ t) (home b) (cond q (behind p t) (c ∷ t))
-      by true e = passes_then (pass_quiet b c t (quiet c e)) (pass_behind b p quiet t)
-      by false e = passes_same (home b) (c ∷ t)
+      by : (q : Bool) → p c ≡ q → Passes table (home b) t (home b) (behind p t) →
+          Passes table (home b) (c ∷ t) (home b) (cond q (behind p t) (c ∷ t))
+      by true e more = passes_then (pass_quiet b c t (quiet c e)) more
+      by false e more = passes_same (home b) (c ∷ t)
 
   -- those of the first n that pass
   pub pass_front : (b : Bool) (p : ℕ → Bool) → ((c : ℕ) → p c ≡ true → is_quiet c ≡ true) → (n : ℕ) (t : Source) →
@@ -146,9 +148,142 @@ module _ (table : Table) where
   unfolding front
   pass_front b p quiet zero t = passes_same (home b) t
   pass_front b p quiet (suc n) [] = passes_same (home b) []
-  pass_front b p quiet (suc n) (c ∷ t) = by (p c) refl
+  pass_front b p quiet (suc n) (c ∷ t) = by (p c) refl (pass_front b p quiet n t)
     where
-      by : (q : Bool) → p c ≡ q →
+      by : (q : Bool) → p c ≡ q → Passes table (home b) t (home b) (drop (length (front p (take n t))) t) →
           Passes table (home b) (c ∷ t) (home b) (drop (length (cond q (c ∷ front p (take n t)) [])) (c ∷ t))
-      by true e = passes_then (pass_quiet b c t (quiet c e)) (pass_front b p quiet n t)
-      by false e = passes_same (home b) (c ∷ t)
+      by true e more = passes_then (pass_quiet b c t (quiet c e)) more
+      by false e more = passes_same (home b) (c ∷ t)
+
+  -- ---- escapes
+
+  lead_hex_at : (b : Bool) (n : ℕ) (t : Source) → Leads table (home b) t (home b) (hex_at n t)
+  lead_hex_at b n t =
+      leads_cond (length (take n t) == n && list_all is_hex (take n t)) _ _
+      (λ e. leads_some (number 16 (take n t), drop n t) (pass_taken b is_hex quiet_hex n t (and_both _ _ e).1))
+      (λ _. leads_none (home b) t (home b))
+
+  lead_braced_hex_at : (b : Bool) (t : Source) → Leads table (home b) t (home b) (braced_hex_at t)
+  lead_braced_hex_at b t =
+      leads_cond (not (length (front is_hex t) == 0) && is_at 125 (behind is_hex t) && nat_le (number 16 (front is_hex t)) code_point_max) _ _
+      (λ e. leads_some (number 16 (front is_hex t), drop 1 (behind is_hex t))
+      (passes_then (pass_behind b is_hex quiet_hex t) (pass_at b 125 (behind is_hex t) refl (and_both _ _ (and_both _ _ e).0).1)))
+      (λ _. leads_none (home b) t (home b))
+
+  -- `\u`
+  pass_unicode : (b : Bool) (t : Source) → is_at 92 t ≡ true → is_at 117 (drop 1 t) ≡ true → Passes table (home b) t (home b) (drop 2 t)
+  pass_unicode b [] e k = absurd (false≢true e)
+  pass_unicode b (c ∷ []) e k = absurd (false≢true k)
+  pass_unicode b (c ∷ d ∷ t) e k =
+      subst (λ x. Passes table (home b) (x ∷ d ∷ t) (home b) t) (sym (eqb-true c 92 e))
+      (passes_then (pass_backslash b (d ∷ t)) (pass_escaped b d t))
+
+  lead_second_half_at : (b : Bool) (t : Source) → Leads table (home b) t (home b) (second_half_at t)
+  lead_second_half_at b t =
+      leads_cond (is_at 92 t && is_at 117 (drop 1 t)) _ _
+      (λ e. let both = and_both _ _ e in
+      leads_behind (pass_unicode b t both.0 both.1)
+      (leads_then (hex_at 4 (drop 2 t)) _ (lead_hex_at b 4 (drop 2 t))
+      (λ x. leads_cond (is_between 0xDC00 0xDFFF x.0) _ _ (λ _. leads_some x (passes_same (home b) x.1)) (λ _. leads_none (home b) x.1 (home b)))))
+      (λ _. leads_none (home b) t (home b))
+
+  lead_halves : (b : Bool) (high : ℕ) (t : Source) (second : Found ℕ) → Leads table (home b) t (home b) second →
+      Leads table (home b) t (home b) (elim second as (λ _. Found ℕ) [ None ↦ Some (high, t) | Some low ↦ Some (paired high low.0, low.1) ])
+  lead_halves b high t None h = leads_some (high, t) (passes_same (home b) t)
+  lead_halves b high t (Some low) h = leads_some (paired high low.0, low.1) (h.each low refl)
+
+  lead_with_second_half : (b : Bool) (x : ℕ × Source) → Leads table (home b) x.1 (home b) (with_second_half x)
+  lead_with_second_half b (high, t) =
+      leads_cond (is_between 0xD800 0xDBFF high) _ _
+      (λ _. lead_halves b high t (second_half_at t) (lead_second_half_at b t))
+      (λ _. leads_some (high, t) (passes_same (home b) t))
+
+  pub lead_unicode_at : (b : Bool) (t : Source) → Leads table (home b) t (home b) (unicode_at t)
+  unfolding unicode_at
+  lead_unicode_at b t =
+      leads_cond (is_at 123 t) _ _
+      (λ e. leads_behind (pass_at b 123 t refl e) (lead_braced_hex_at b (drop 1 t)))
+      (λ _. leads_then (hex_at 4 t) with_second_half (lead_hex_at b 4 t) (lead_with_second_half b))
+
+  lead_or_itself : (b unicode : Bool) (c : ℕ) (t : Source) (found : Found ℕ) → Leads table (home b) t (home b) found →
+      Leads table (home b) t (home b) (or_itself unicode c t found)
+  lead_or_itself b unicode c t None h =
+      leads_cond unicode _ _ (λ _. leads_none (home b) t (home b)) (λ _. leads_some (c, t) (passes_same (home b) t))
+  lead_or_itself b unicode c t (Some x) h = h
+
+  lead_control_at : (b : Bool) (t : Source) → Leads table (home b) t (home b) (control_at t)
+  lead_control_at b [] = leads_none (home b) [] (home b)
+  lead_control_at b (d ∷ t) =
+      leads_cond (is_letter d) _ _ (λ e. leads_some (control d, t) (pass_quiet b d t (quiet_letter d e))) (λ _. leads_none (home b) (d ∷ t) (home b))
+
+  pass_octal_digits : (b : Bool) (c : ℕ) (t : Source) → is_octal c ≡ true →
+      Passes table (home b) t (home b) (drop (length (octal_digits c t)) (c ∷ t))
+  unfolding front
+  pass_octal_digits b c t octal = by (nat_le c 51)
+    where
+      by : (q : Bool) → Passes table (home b) t (home b) (drop (length (front is_octal (take (cond q 3 2) (c ∷ t)))) (c ∷ t))
+      by true = rw octal (pass_front b is_octal quiet_octal 2 t)
+      by false = rw octal (pass_front b is_octal quiet_octal 1 t)
+
+  -- behind the first code point
+  lead_other_escape : (b unicode : Bool) (c : ℕ) (t : Source) → Leads table (home b) t (home b) (other_escape unicode c t)
+  lead_other_escape b unicode c t =
+      leads_cond (c == 99) _ _ (λ _. lead_control_at b t)
+      (λ _. leads_cond (c == 48 && not (begins_with_digit t)) _ _ (λ _. leads_some (0, t) (passes_same (home b) t))
+      (λ _. leads_cond (c == 120) _ _ (λ _. lead_or_itself b unicode c t (hex_at 2 t) (lead_hex_at b 2 t))
+      (λ _. leads_cond (c == 117) _ _ (λ _. lead_or_itself b unicode c t (unicode_at t) (lead_unicode_at b t))
+      (λ _. leads_cond (not unicode && is_octal c) _ _
+      (λ e. leads_some (number 8 (octal_digits c t), drop (length (octal_digits c t)) (c ∷ t)) (pass_octal_digits b c t (and_both _ _ e).1))
+      (λ _. leads_cond (is_syntax_character c || not unicode) _ _ (λ _. leads_some (c, t) (passes_same (home b) t))
+      (λ _. leads_none (home b) t (home b)))))))
+
+  lead_escape_by : (b unicode : Bool) (c : ℕ) (t : Source) (letter : Option ℕ) →
+      Leads table (home b) t (home b) (elim letter as (λ _. Found ℕ) [ None ↦ other_escape unicode c t | Some x ↦ Some (x, t) ])
+  lead_escape_by b unicode c t None = lead_other_escape b unicode c t
+  lead_escape_by b unicode c t (Some x) = leads_some (x, t) (passes_same (home b) t)
+
+  pub lead_escape_at : (b unicode : Bool) (t : Source) → Leads table (behind_backslash b) t (home b) (escape_at unicode t)
+  unfolding escape_at
+  lead_escape_at b unicode [] = leads_none (behind_backslash b) [] (home b)
+  lead_escape_at b unicode (c ∷ t) = leads_behind (pass_escaped b c t) (lead_escape_by b unicode c t (letter_escape c))
+
+  -- ---- quantifiers, outside a class
+
+  lead_count_at : (t : Source) → Leads table plain t plain (count_at t)
+  lead_count_at t =
+      leads_cond (length (front is_decimal t) == 0) _ _ (λ _. leads_none plain t plain)
+      (λ _. leads_some (_, behind is_decimal t) (pass_behind false is_decimal quiet_decimal t))
+
+  lead_closed_brace : (times : Times) (t : Source) → Leads table plain t plain (closed_brace times t)
+  lead_closed_brace times t =
+      leads_cond (is_at 125 t) _ _ (λ e. leads_some (times, drop 1 t) (pass_at false 125 t refl e)) (λ _. leads_none plain t plain)
+
+  lead_most_at : (x : ℕ × Source) → Leads table plain x.1 plain (most_at x)
+  lead_most_at (least, t) =
+      leads_cond (is_at 44 t) _ _
+      (λ e. leads_behind (pass_at false 44 t refl e)
+      (leads_cond (is_at 125 (drop 1 t)) _ _ (λ _. lead_closed_brace (least, None) (drop 1 t))
+      (λ _. leads_then (count_at (drop 1 t)) (λ x. closed_brace (least, Some x.0) x.1) (lead_count_at (drop 1 t))
+      (λ x. lead_closed_brace (least, Some x.0) x.1))))
+      (λ _. lead_closed_brace (least, Some least) t)
+
+  lead_times_by : (c : ℕ) (t : Source) → Leads table plain (c ∷ t) plain (times_by c t)
+  lead_times_by c t =
+      leads_cond (c == 42) _ _ (λ e. leads_some ((0, None), t) (pass_at false 42 (c ∷ t) refl e))
+      (λ _. leads_cond (c == 43) _ _ (λ e. leads_some ((1, None), t) (pass_at false 43 (c ∷ t) refl e))
+      (λ _. leads_cond (c == question_mark) _ _ (λ e. leads_some ((0, Some 1), t) (pass_at false 63 (c ∷ t) refl e))
+      (λ _. leads_cond (c == 123) _ _
+      (λ e. leads_behind (pass_at false 123 (c ∷ t) refl e) (leads_then (count_at t) most_at (lead_count_at t) lead_most_at))
+      (λ _. leads_none plain (c ∷ t) plain))))
+
+  lead_greedy_or_lazy : (x : Times × Source) → Leads table plain x.1 plain (greedy_or_lazy x)
+  lead_greedy_or_lazy (times, t) = leads_some (_, cond (is_at question_mark t) (drop 1 t) t) (by (is_at question_mark t) refl)
+    where
+      by : (q : Bool) → is_at question_mark t ≡ q → Passes table plain t plain (cond q (drop 1 t) t)
+      by true e = pass_at false 63 t refl e
+      by false e = passes_same plain t
+
+  pub lead_quantifier_at : (t : Source) → Leads table plain t plain (quantifier_at t)
+  unfolding quantifier_at
+  lead_quantifier_at [] = leads_none plain [] plain
+  lead_quantifier_at (c ∷ t) = leads_then (times_by c t) greedy_or_lazy (lead_times_by c t) lead_greedy_or_lazy
