@@ -2,3 +2,4 @@ pub mod laws
 mod ClassLemmas
 mod DigitLemmas
 mod ScanLemmas
+mod ScanRows
