@@ -1,5 +1,5 @@
 -- What a scan gives of the rows of the grammar.
-use Rattle.std.proofs.Common.{◌≡◌, ℕ, zero, suc, ◌+◌, ◌<◌, ◌≤◌, Bool, true, false, not, cond, ◌&&◌, ◌||◌, ◌==◌, nat_le, List, [], ◌∷◌, ◌++◌, length, take, drop, Option, Some, None, is_some, IsTrue, ◌⊎◌, inl, inr, ⊎_elim, refl, sym, ap, ap₂, ◌∙◌, subst, arith, eqb-true}
+use Rattle.std.proofs.Common.{◌≡◌, ℕ, zero, suc, ◌+◌, ◌<◌, ◌≤◌, Bool, true, false, not, cond, ◌&&◌, ◌||◌, ◌==◌, nat_le, List, [], ◌∷◌, ◌++◌, length, drop, Option, Some, None, is_some, ⊎_elim, refl, sym, ap, ap₂, ◌∙◌, subst, arith, eqb-true}
 use Rattle.std.proofs.lemmas.Bool.{cases_lt, cond-false, false≢true}
 use Rattle.std.proofs.lemmas.Bool.Decides.{nat_tests}
 use Rattle.std.proofs.lemmas.Option.{none-some, same_Some}
@@ -10,20 +10,20 @@ use Rattle.regress_base.specs.declared.charclasses.CharacterClassType.{Character
 use Rattle.regress_tree.specs.Table.{Table, HasWordAscii, IsLawful}
 use Rattle.regress_syntax.specs.Source.{Source, Found, ◌>>=◌, found_map, opening, closing, colon, bar, full_stop, question_mark, is_at, is_plain}
 use Rattle.regress_syntax.specs.Digits.{is_between, is_decimal, is_letter, control, number, front, behind}
-use Rattle.regress_syntax.specs.Escapes.{unicode_at, escape_at, begins_with_letter}
+use Rattle.regress_syntax.specs.Escapes.{unicode_at, escape_at}
 use Rattle.regress_tree.specs.declared.ir.node.Quantifier.{Quantifier}
 use Rattle.regress_syntax.specs.Quantifiers.{quantifier_at, is_ordered}
 use Rattle.regress_syntax.specs.ClassRows.{ClassAtom, point, class_letter, class_control_at, class_escape_by, class_escape_at, class_atom_at, atom_members, begins_range, range_of, range_at, class_part_at, class_parts_by, class_at}
 use Rattle.regress_syntax.specs.ClassRows as ClassRows
-use Rattle.regress_syntax.specs.Modifiers.{Change, is_modifier, change_of, letters_off, behind_letters_off, are_different, modifiers_at}
-use Rattle.regress_syntax.specs.Names.{is_sign, begins_name, continues_name, written_at, name_character_at, rest_of_name_by, name_at, group_name_at}
-use Rattle.regress_syntax.specs.Syntax.{Name, Atom, literal, dot, anchor, boundary, back_reference, Group, grouping, modified, capture, look}
+use Rattle.regress_syntax.specs.Modifiers.{is_modifier, letters_off, behind_letters_off, are_different, modifiers_at}
+use Rattle.regress_syntax.specs.Names.{is_sign, begins_name, continues_name, name_character_at, rest_of_name_by, name_at, group_name_at}
+use Rattle.regress_syntax.specs.Syntax.{Name, Atom, literal, boundary, Group, modified, capture}
 use Rattle.regress_syntax.specs.Syntax as Syntax
-use Rattle.regress_syntax.specs.Rows.{Context, Head, single, opens, named_group_at, angle_at, modified_at, behind_mark_at, group_at, is_unserved, has_names, has_name, is_lone_backslash, character_at, numbered_at, named_at, escaped_by, escaped_at, brace_by, atom_by, head_by, head_at, no_quantifier_at, this_quantifier, times_at}
-use Rattle.regress_syntax.specs.Scan.{Mark, captures, mark_of_group, Mode, plain, escape, class, class_escape, opened_at, marks}
+use Rattle.regress_syntax.specs.Rows.{Context, Head, single, opens, angle_at, modified_at, behind_mark_at, group_at, is_unserved, has_names, has_name, is_lone_backslash, character_at, numbered_at, named_at, escaped_by, escaped_at, brace_by, atom_by, head_at, no_quantifier_at, this_quantifier, times_at}
+use Rattle.regress_syntax.specs.Scan.{Mark, captures, mark_of_group, plain, escape, class, class_escape, opened_at, marks}
 use Rattle.regress_syntax.specs.Scan as Scan
 use Rattle.regress_syntax.proofs.DigitLemmas.{and_both, drop_one_more}
-use Rattle.regress_syntax.proofs.ScanLemmas.{is_quiet, quiet_decimal, quiet_letter, quiet_plain, Passes, Leads, home, behind_backslash, passes_same, passes_then, leads_none, leads_some, leads_behind, leads_then, leads_map, leads_cond, pass_quiet, pass_at, pass_backslash, pass_escaped, pass_behind, lead_unicode_at, lead_escape_at, lead_quantifier_at}
+use Rattle.regress_syntax.proofs.ScanLemmas.{is_quiet, quiet_decimal, quiet_plain, Passes, Leads, passes_same, passes_then, leads_none, leads_some, leads_behind, leads_then, leads_map, leads_cond, pass_quiet, pass_at, pass_backslash, pass_escaped, pass_behind, lead_unicode_at, lead_escape_at, lead_quantifier_at}
 
 -- ---- names
 
