@@ -4,3 +4,5 @@ mod DigitLemmas
 mod ModifierLemmas
 mod NameLemmas
 mod ReferenceLemmas
+mod ScanLemmas
+mod ScanRows

@@ -5,3 +5,4 @@ pub mod InRange
 pub mod NameEnds
 pub mod Pieces
 pub mod Rows
+pub mod Scan
