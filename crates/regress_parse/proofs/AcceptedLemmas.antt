@@ -1,6 +1,6 @@
 -- What the reading function finds in a whole source is what the source stands for, since a scan finds the groups and names
 -- of every pattern that the grammar derives.
-use Rattle.std.proofs.Common.{◌≡◌, ◌<◌, ℕ, min, Bool, true, false, List, [], length, Option, Some, IsTrue, inl, inr, refl, sym, ap, ap₂, ◌∙◌, subst, arith}
+use Rattle.std.proofs.Common.{◌≡◌, ◌+◌, ◌<◌, ℕ, min, Bool, true, false, List, [], length, Option, Some, IsTrue, inl, inr, refl, sym, ap, ap₂, ◌∙◌, subst, arith}
 use Rattle.std.proofs.lemmas.Option.{same_Some}
 use Rattle.std.proofs.lemmas.Bool.{false≢true}
 use Rattle.regress_base.specs.Limits.{max_capture_groups, max_nesting_depth}
@@ -19,7 +19,7 @@ use Rattle.regress_parse.proofs.GroupLemmas.{length-names}
 
 module _ (setting : Setting) (t : Source) (gives : GivesMarks setting.table t) where
   -- the names of all groups, as the scan finds them
-  abbrev found_names : List (Option Name)
+  abbrev pub found_names : List (Option Name)
   found_names = named_by (marks setting.table plain t)
 
   -- the context of these names and so many groups
@@ -27,7 +27,7 @@ module _ (setting : Setting) (t : Source) (gives : GivesMarks setting.table t) w
   scanned groups = record { setting = setting; groups = groups; names = found_names }
 
   module _ (ctx : Context) (p : Pattern) (same : ctx.setting.table ≡ setting.table) (h : IsPattern ctx p t []) where
-    names_found : names p ≡ found_names
+    pub names_found : names p ≡ found_names
     names_found = sym (named_by-pattern p) ∙ ap named_by (gives ctx p same h)
 
     groups_found : (counts p).groups ≡ length found_names
@@ -37,8 +37,15 @@ module _ (setting : Setting) (t : Source) (gives : GivesMarks setting.table t) w
     own_is groups e =
         ap₂ (λ (n : ℕ) (ns : List (Option Name)). record { setting = setting; groups = n; names = ns }) e names_found
 
-  abbrev most : ℕ
+  abbrev pub most : ℕ
   most = min (length found_names) max_capture_groups
+
+  -- the context that the parser has of what the scan answered
+  pub scanned-is : (groups : ℕ) (ns : List (Option Name)) → ns ≡ found_names → groups ≡ min (length ns) max_capture_groups →
+      record { setting = setting; groups = groups; names = ns } ≡ scanned most
+  scanned-is groups ns same e =
+      ap₂ (λ (n : ℕ) (ns : List (Option Name)). record { setting = setting; groups = n; names = ns })
+      (e ∙ ap (λ ns. min (length ns) max_capture_groups) same) same
 
   pub reads_derived : (p : Pattern) → IsDerived setting t p → IsWithinLimits p → pattern_at (scanned most) t ≡ Some (p, [])
   reads_derived p h limits =
