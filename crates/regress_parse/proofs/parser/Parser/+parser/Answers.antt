@@ -145,7 +145,6 @@ consume_disjunction-loop-inside-preserved t c =
     (counted c.consume_alternative-in-loop-inside.new.self) l.invariant (sym past.found)
     (subst (λ u. terms_at (context_in around) u ≡ Some found.0) past.moves found.1) b.node b.counts b.fits)
 
-
 pub consume_item-consume_group-requires : goal.consume_item-consume_group-requires
 consume_item-consume_group-requires t c = omega arith
 
