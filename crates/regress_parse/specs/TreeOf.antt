@@ -39,7 +39,7 @@ abbrev pub tree_of_times : Option Quantifier → (start end : ℕ) → Tree → 
 tree_of_times None start end body = body
 tree_of_times (Some q) start end body = wrapped (loop q start end) body
 
--- what stands for one of these characters
+-- what stands for one of these characters; a literal stands for one at least, itself
 abbrev pub leaf_of_members : List ℕ → Leaf
 leaf_of_members [] = char_set []
 leaf_of_members (c ∷ []) = char c
