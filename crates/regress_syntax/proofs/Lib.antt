@@ -1,3 +1,4 @@
+mod ConflictLemmas
 pub mod laws
 mod ClassLemmas
 mod DigitLemmas
