@@ -123,28 +123,28 @@ module _ {X : Type 0} (r : X → X → Bool) (both_ways : (x y : X) → r x y �
       let g = λ (k : ℕ). get_or (swap xs a b) k d in
       elim (came_from f g a b i s) [
         | inl p ↦ elim (came_from f g a b j s) [
-            | inl q ↦ absurd (ne (p.0 ∙ sym q.0))
-            | inr q ↦ elim q [
-                | inl q ↦ rw (p.1, q.1) (h b a d (λ e. ne (p.0 ∙ sym e ∙ sym q.0)) lb la)
-                | inr q ↦ rw (p.1, q.2) (h b j d (λ e. q.1 (sym e)) lb lj)
-              ]
+          | inl q ↦ absurd (ne (p.0 ∙ sym q.0))
+          | inr q ↦ elim q [
+            | inl q ↦ rw (p.1, q.1) (h b a d (λ e. ne (p.0 ∙ sym e ∙ sym q.0)) lb la)
+            | inr q ↦ rw (p.1, q.2) (h b j d (λ e. q.1 (sym e)) lb lj)
           ]
+        ]
         | inr p ↦ elim p [
-            | inl p ↦ elim (came_from f g a b j s) [
-                | inl q ↦ rw (p.1, q.1) (h a b d (λ e. ne (p.0 ∙ sym e ∙ sym q.0)) la lb)
-                | inr q ↦ elim q [
-                    | inl q ↦ absurd (ne (p.0 ∙ sym q.0))
-                    | inr q ↦ rw (p.1, q.2) (h a j d (λ e. q.0 (sym e)) la lj)
-                  ]
-              ]
-            | inr p ↦ elim (came_from f g a b j s) [
-                | inl q ↦ rw (p.2, q.1) (h i b d p.1 li lb)
-                | inr q ↦ elim q [
-                    | inl q ↦ rw (p.2, q.1) (h i a d p.0 li la)
-                    | inr q ↦ rw (p.2, q.2) (h i j d ne li lj)
-                  ]
-              ]
+          | inl p ↦ elim (came_from f g a b j s) [
+            | inl q ↦ rw (p.1, q.1) (h a b d (λ e. ne (p.0 ∙ sym e ∙ sym q.0)) la lb)
+            | inr q ↦ elim q [
+              | inl q ↦ absurd (ne (p.0 ∙ sym q.0))
+              | inr q ↦ rw (p.1, q.2) (h a j d (λ e. q.0 (sym e)) la lj)
+            ]
           ]
+          | inr p ↦ elim (came_from f g a b j s) [
+            | inl q ↦ rw (p.2, q.1) (h i b d p.1 li lb)
+            | inr q ↦ elim q [
+              | inl q ↦ rw (p.2, q.1) (h i a d p.0 li la)
+              | inr q ↦ rw (p.2, q.2) (h i j d ne li lj)
+            ]
+          ]
+        ]
       ]
 
   pub apart_shuffled : (xs ys : List X) → IsPermutation xs ys → apart r xs ≡ true → apart r ys ≡ true
@@ -170,4 +170,3 @@ module _ {X : Type 0} (r : X → X → Bool) (both_ways : (x y : X) → r x y �
   pub not_apart : (xs : List X) (k : ℕ) (d : X) → k + 1 < length xs → r (get_or xs k d) (get_or xs (k + 1) d) ≡ true → apart r xs ≡ false
   not_apart xs k d l e =
       false_from_ne_true _ (λ h. true≢false (sym e ∙ no_two_from_apart xs h k (k + 1) d (omega arith) (omega arith) l))
-

@@ -6,9 +6,16 @@ ghost use Rattle.regress_syntax.specs.Fault.{RefusedOnlyIf};
 ghost use Rattle.regress_syntax.specs.Scan.{GivesMarks, plain, marks, named_by, deepest, at_the_start, placed_by, are_apart, IsRefusedByMarks};
 ghost use Rattle.regress_syntax.specs.Views.{names_in};
 
-use crate::fault::{ParseFault, UNSUPPORTED, syntax};
+mod mark;
+mod scanner;
+#[cfg(test)]
+mod tests;
+
+use crate::fault::ParseFault;
 use crate::groups::Groups;
+use mark::{Mode, read_mark};
 use regress_tree::unicode::Tables;
+use scanner::Scanner;
 use std::alloc::Global;
 
 /// Finds the capture groups of a pattern and their names, without parsing it. The fault comes where two groups of one
@@ -20,7 +27,15 @@ pub fn scan(alloc: Global, pattern: &[u32], tables: &Tables) -> Result<Groups, P
     ensures refused { RefusedOnlyIf result (IsRefusedByMarks (marks (table_of tables.now) plain pattern.now)) }
     ensures whole { GivesMarks (table_of tables.now) pattern.now }
 {
-    let _ = tables.id_start();
-    let _ = pattern.len();
-    Err(syntax(alloc, UNSUPPORTED))
+    let mut scanner = Scanner::new(alloc)?;
+    let mut mode = Mode::Plain;
+    let mut rest = pattern;
+    while let [c, behind @ ..] = rest {
+        if let Some(mark) = read_mark(alloc, mode, *c, behind, tables)? {
+            scanner.pass(mark)?;
+        }
+        mode = mode.behind(*c);
+        rest = behind;
+    }
+    Ok(Groups::new(alloc, scanner.finish()?)?)
 }
