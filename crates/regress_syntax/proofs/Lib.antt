@@ -1,3 +1,5 @@
+mod ScanLemmas
+mod GroupLemmas
 mod ConflictLemmas
 pub mod laws
 mod ClassLemmas

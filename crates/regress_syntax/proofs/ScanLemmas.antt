@@ -1,0 +1,88 @@
+-- The state of a scan, and the marks that it passes.
+use Rattle.std.proofs.Common.{◌≡◌, ℕ, zero, suc, ◌+◌, ◌-◌, ◌<◌, ◌≤◌, max, Bool, true, false, cond, not, ◌==◌, ◌&&◌, List, [], ◌∷◌, ◌++◌, map, reverse, length, Option, Some, None, option_map, Vec, filter, is_some, ap₂, true≢false, refl, sym, ap, ◌∙◌, subst, arith, append_assoc, append-nil}
+use Rattle.std.specs.List.{list_all, zip}
+use Rattle.std.specs.declared.alloc.Global.{Global}
+use Rattle.std.proofs.lemmas.Bool.{and_left}
+use Rattle.std.proofs.lemmas.List.{map-append, reverse-append, length-reverse}
+use Rattle.regress_syntax.specs.Scan.{Mark, opens, captures, closes, next, agree, named_by, deepest, Path, Placed, placed_by, at_the_start, outside, next_alternative, same_name, conflict, are_apart}
+use Rattle.regress_syntax.specs.Scanning.{has_name, placed_of, Behind}
+use Rattle.regress_syntax.specs.declared.scan.scanner.Scanner.{Scanner}
+use Rattle.regress_syntax.specs.declared.scan.scanner.NamedGroup.{NamedGroup}
+
+pub agree_in_pairs : (path other : List ℕ) → list_all (λ (pair : ℕ × ℕ). pair.0 == pair.1) (zip path other) ≡ agree path other
+agree_in_pairs [] other = refl
+agree_in_pairs (k ∷ path) [] = refl
+agree_in_pairs (k ∷ path) (j ∷ other) = ap (λ b. k == j && b) (agree_in_pairs path other)
+
+-- ---- marks
+
+deepest_above : (n : ℕ) (ms : List Mark) → n ≤ deepest n ms
+deepest_above n [] = omega arith
+deepest_above n (opens ∷ ms) = omega arith
+deepest_above n (captures name ∷ ms) = omega arith
+deepest_above n (closes ∷ ms) = omega arith
+deepest_above n (next ∷ ms) = omega arith
+
+-- a level more is open behind a parenthesis
+pub opened_above : (n : ℕ) (ms : List Mark) → n + 1 ≤ deepest n (opens ∷ ms)
+opened_above n ms = omega (arith, deepest_above (n + 1) ms)
+
+-- ---- groups without names conflict with none
+
+same_name-none : (a b : Option (List ℕ)) → is_some b ≡ false → same_name a b ≡ false
+same_name-none None b e = refl
+same_name-none (Some a) None e = refl
+same_name-none (Some a) (Some b) e = absurd (true≢false e)
+
+none-same_name : (a b : Option (List ℕ)) → is_some a ≡ false → same_name a b ≡ false
+none-same_name None b e = refl
+none-same_name (Some a) b e = absurd (true≢false e)
+
+conflict-none : (g other : Placed) → has_name other ≡ false → conflict g other ≡ false
+conflict-none g other e = and_left _ _ (same_name-none g.name other.name e)
+
+none-conflict : (g other : Placed) → has_name g ≡ false → conflict g other ≡ false
+none-conflict g other e = and_left _ _ (none-same_name g.name other.name e)
+
+abbrev is_apart_from : Placed → List Placed → Bool
+is_apart_from g gs = list_all (λ other. not (conflict g other)) gs
+
+apart_from_named : (g : Placed) (gs : List Placed) → is_apart_from g gs ≡ is_apart_from g (filter has_name gs)
+apart_from_named g [] = refl
+apart_from_named g (other ∷ gs) = by_test (apart_from_named g gs) (has_name other) refl
+  where
+    by_test : is_apart_from g gs ≡ is_apart_from g (filter has_name gs) → (b : Bool) → has_name other ≡ b →
+        is_apart_from g (other ∷ gs) ≡ is_apart_from g (cond b (other ∷ filter has_name gs) (filter has_name gs))
+    by_test same true e = ap (λ b. not (conflict g other) && b) same
+    by_test same false e = ap (λ b. not b && is_apart_from g gs) (conflict-none g other e) ∙ same
+
+none_is_apart : (g : Placed) (gs : List Placed) → has_name g ≡ false → is_apart_from g gs ≡ true
+none_is_apart g [] e = refl
+none_is_apart g (other ∷ gs) e = ap (λ b. not b && is_apart_from g gs) (none-conflict g other e) ∙ none_is_apart g gs e
+
+pub are_apart-named : (gs : List Placed) → are_apart gs ≡ are_apart (filter has_name gs)
+are_apart-named [] = refl
+are_apart-named (g ∷ gs) = by_test (are_apart-named gs) (has_name g) refl
+  where
+    by_test : are_apart gs ≡ are_apart (filter has_name gs) → (b : Bool) → has_name g ≡ b →
+        are_apart (g ∷ gs) ≡ are_apart (cond b (g ∷ filter has_name gs) (filter has_name gs))
+    by_test same true e = ap₂ (λ a b. a && b) (apart_from_named g gs) same
+    by_test same false e = ap (λ b. b && are_apart gs) (none_is_apart g gs e) ∙ same
+
+-- ---- what is added
+
+pub named_added : (old new : List NamedGroup) (group : NamedGroup) (name : Vec ℕ Global) (path : List ℕ) (given : Option (Vec ℕ Global)) →
+    given ≡ Some name → group.name.items ≡ name.items → group.path.items ≡ path → new ≡ old ++ group ∷ [] →
+    map placed_of new ≡ map placed_of old ++ filter has_name (record { path = reverse path; name = option_map (λ name. name.items) given } ∷ [])
+named_added old new group name path given e names paths pushed =
+    rw (e, ← names, ← paths, pushed) (map-append placed_of old (group ∷ []))
+
+pub none_added : (old new : List NamedGroup) (path : Path) (given : Option (Vec ℕ Global)) → given ≡ None → new ≡ old →
+    map placed_of new ≡ map placed_of old ++ filter has_name (record { path = path; name = option_map (λ name. name.items) given } ∷ [])
+none_added old new path given e same = rw (e, same) (sym (append-nil (map placed_of old)))
+
+-- at the end of a pattern
+pub apart_behind : (all : List Mark) (scanner : Scanner) → Behind all [] scanner →
+    are_apart (placed_by at_the_start all) ≡ are_apart (map placed_of scanner.named.items)
+apart_behind all scanner behind =
+    are_apart-named (placed_by at_the_start all) ∙ ap are_apart (behind.named ∙ append-nil (map placed_of scanner.named.items))
