@@ -1,11 +1,14 @@
 -- The state of a scan, and the marks that it passes.
-use Rattle.std.proofs.Common.{◌≡◌, ℕ, zero, suc, ◌+◌, ◌-◌, ◌<◌, ◌≤◌, max, Bool, true, false, cond, not, ◌==◌, ◌&&◌, List, [], ◌∷◌, ◌++◌, map, reverse, length, Option, Some, None, option_map, Vec, filter, is_some, ap₂, true≢false, refl, sym, ap, ◌∙◌, subst, arith, append_assoc, append-nil}
+use Rattle.std.proofs.Common.{◌≡◌, ℕ, zero, suc, ◌+◌, ◌-◌, ◌<◌, ◌≤◌, max, Bool, true, false, cond, not, ◌==◌, ◌&&◌, Result, Ok, Err, List, [], ◌∷◌, ◌++◌, map, reverse, length, Option, Some, None, option_map, Vec, filter, is_some, ap₂, true≢false, refl, sym, ap, ◌∙◌, subst, arith, append_assoc, append-nil}
 use Rattle.std.specs.List.{list_all, zip}
 use Rattle.std.specs.declared.alloc.Global.{Global}
 use Rattle.std.proofs.lemmas.Bool.{and_left}
 use Rattle.std.proofs.lemmas.List.{map-append, reverse-append, length-reverse}
 use Rattle.regress_syntax.specs.Scan.{Mark, opens, captures, closes, next, agree, named_by, deepest, Path, Placed, placed_by, at_the_start, outside, next_alternative, same_name, conflict, are_apart}
-use Rattle.regress_syntax.specs.Scanning.{has_name, placed_of, Behind}
+use Rattle.regress_syntax.specs.Scanning.{has_name, placed_of, path_of, Behind}
+use Rattle.regress_syntax.specs.Fault.{RefusedOnlyIf}
+use Rattle.regress_syntax.specs.declared.fault.ParseFault.{ParseFault}
+use Rattle.regress_syntax.proofs.laws.Sources.{on_syntax_then}
 use Rattle.regress_syntax.specs.declared.scan.scanner.Scanner.{Scanner}
 use Rattle.regress_syntax.specs.declared.scan.scanner.NamedGroup.{NamedGroup}
 
@@ -22,10 +25,6 @@ deepest_above n (opens ∷ ms) = omega arith
 deepest_above n (captures name ∷ ms) = omega arith
 deepest_above n (closes ∷ ms) = omega arith
 deepest_above n (next ∷ ms) = omega arith
-
--- a level more is open behind a parenthesis
-pub opened_above : (n : ℕ) (ms : List Mark) → n + 1 ≤ deepest n (opens ∷ ms)
-opened_above n ms = omega (arith, deepest_above (n + 1) ms)
 
 -- ---- groups without names conflict with none
 
@@ -86,3 +85,17 @@ pub apart_behind : (all : List Mark) (scanner : Scanner) → Behind all [] scann
     are_apart (placed_by at_the_start all) ≡ are_apart (map placed_of scanner.named.items)
 apart_behind all scanner behind =
     are_apart-named (placed_by at_the_start all) ∙ ap are_apart (behind.named ∙ append-nil (map placed_of scanner.named.items))
+
+-- ---- levels
+
+pub refused_then : {X P Q : Type 0} (answer : Result X ParseFault) → (P → Q) → RefusedOnlyIf answer P → RefusedOnlyIf answer Q
+refused_then (Ok x) f h = tt
+refused_then (Err fault) f h = on_syntax_then fault f h
+
+-- a level more than before the parenthesis is open behind it
+pub deeper_behind_opens : (all rest : List Mark) (scanner : Scanner) → Behind all (opens ∷ rest) scanner → length (path_of scanner) + 1 ≤ deepest 1 all
+deeper_behind_opens all rest scanner behind = omega (arith, behind.depth, deepest_above (length (path_of scanner) + 1) rest)
+
+pub deeper_behind_captures : (all rest : List Mark) (scanner : Scanner) (name : Option (List ℕ)) →
+    Behind all (captures name ∷ rest) scanner → length (path_of scanner) + 1 ≤ deepest 1 all
+deeper_behind_captures all rest scanner name behind = omega (arith, behind.depth, deepest_above (length (path_of scanner) + 1) rest)
