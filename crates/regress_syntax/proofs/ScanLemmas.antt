@@ -1,11 +1,13 @@
 -- The state of a scan, and the marks that it passes.
-use Rattle.std.proofs.Common.{◌≡◌, ℕ, zero, suc, ◌+◌, ◌-◌, ◌<◌, ◌≤◌, max, Bool, true, false, cond, not, ◌==◌, ◌&&◌, Result, Ok, Err, List, [], ◌∷◌, ◌++◌, map, reverse, length, Option, Some, None, option_map, Vec, filter, is_some, ap₂, true≢false, refl, sym, ap, ◌∙◌, subst, arith, append_assoc, append-nil}
+use Rattle.std.proofs.Common.{◌≡◌, ℕ, zero, suc, ◌+◌, ◌-◌, ◌<◌, ◌≤◌, max, Bool, true, false, cond, not, ◌==◌, ◌&&◌, Result, Ok, Err, List, [], ◌∷◌, ◌++◌, map, reverse, length, Option, Some, None, option_map, Vec, filter, is_some, ap₂, true≢false, refl, sym, ap, ◌∙◌, subst, arith, ◌≢◌, ⊎_elim, option_to_list, append-nil}
 use Rattle.std.specs.List.{list_all, zip}
 use Rattle.std.specs.declared.alloc.Global.{Global}
-use Rattle.std.proofs.lemmas.Bool.{and_left}
+use Rattle.std.proofs.lemmas.Bool.{and_left, cases_eq, ne_eqb}
 use Rattle.std.proofs.lemmas.List.{map-append, reverse-append, length-reverse}
-use Rattle.regress_syntax.specs.Scan.{Mark, opens, captures, closes, next, agree, named_by, deepest, Path, Placed, placed_by, at_the_start, outside, next_alternative, same_name, conflict, are_apart}
-use Rattle.regress_syntax.specs.Scanning.{has_name, placed_of, path_of, Behind}
+use Rattle.regress_tree.specs.Table.{Table}
+use Rattle.regress_syntax.specs.Source.{Source, opening, closing, bar}
+use Rattle.regress_syntax.specs.Scan.{Mode, plain, escape, class, class_escape, marks, opened_at, Mark, opens, captures, closes, next, agree, named_by, deepest, Path, Placed, placed_by, at_the_start, outside, next_alternative, same_name, conflict, are_apart}
+use Rattle.regress_syntax.specs.Scanning.{mode_behind, mark_at, has_name, placed_of, path_of, Behind}
 use Rattle.regress_syntax.specs.Fault.{RefusedOnlyIf}
 use Rattle.regress_syntax.specs.declared.fault.ParseFault.{ParseFault}
 use Rattle.regress_syntax.proofs.laws.Sources.{on_syntax_then}
@@ -99,3 +101,67 @@ deeper_behind_opens all rest scanner behind = omega (arith, behind.depth, deepes
 pub deeper_behind_captures : (all rest : List Mark) (scanner : Scanner) (name : Option (List ℕ)) →
     Behind all (captures name ∷ rest) scanner → length (path_of scanner) + 1 ≤ deepest 1 all
 deeper_behind_captures all rest scanner name behind = omega (arith, behind.depth, deepest_above (length (path_of scanner) + 1) rest)
+
+-- ---- from one code point to the next
+
+class_behind : (table : Table) (c : ℕ) (t : Source) (backslash bracket : Bool) →
+    cond backslash (marks table class_escape t) (cond bracket (marks table plain t) (marks table class t)) ≡
+    marks table (cond backslash class_escape (cond bracket plain class)) t
+class_behind table c t true bracket = refl
+class_behind table c t false true = refl
+class_behind table c t false false = refl
+
+plain_behind : (table : Table) (c : ℕ) (t : Source) →
+    marks table plain (c ∷ t) ≡ option_to_list (mark_at table plain c t) ++ marks table (mode_behind plain c) t
+unfolding marks
+plain_behind table c t =
+    ⊎_elim (λ (e : c ≡ 92). subst (λ (k : ℕ). marks table plain (k ∷ t) ≡ option_to_list (mark_at table plain k t) ++ marks table (mode_behind plain k) t) (sym e) refl)
+    (λ (not92 : c ≢ 92).
+    ⊎_elim (λ (e : c ≡ 91). subst (λ (k : ℕ). marks table plain (k ∷ t) ≡ option_to_list (mark_at table plain k t) ++ marks table (mode_behind plain k) t) (sym e) refl)
+    (λ (not91 : c ≢ 91).
+    rw (ne_eqb c 92 not92, ne_eqb c 91 not91) (other (c == opening) (c == closing) (c == bar)))
+    (cases_eq c 91))
+    (cases_eq c 92)
+  where
+    other : (opens closes' bars : Bool) →
+        cond opens (opened_at table t ∷ marks table plain t) (cond closes' (closes ∷ marks table plain t) (cond bars (next ∷ marks table plain t) (marks table plain t))) ≡
+        option_to_list (cond opens (Some (opened_at table t)) (cond closes' (Some closes) (cond bars (Some next) None))) ++ marks table plain t
+    other true closes' bars = refl
+    other false true bars = refl
+    other false false true = refl
+    other false false false = refl
+
+marks_behind : (table : Table) (mode : Mode) (c : ℕ) (t : Source) →
+    marks table mode (c ∷ t) ≡ option_to_list (mark_at table mode c t) ++ marks table (mode_behind mode c) t
+unfolding marks
+marks_behind table plain c t = plain_behind table c t
+marks_behind table escape c t = refl
+marks_behind table class c t = class_behind table c t (c == 92) (c == 93)
+marks_behind table class_escape c t = refl
+
+-- what stands at a mark
+pub at_mark : (table : Table) (mode : Mode) (c : ℕ) (rest t : Source) (all : List Mark) (mark : Mark) (scanner : Scanner) →
+    rest ≡ c ∷ t → mark_at table mode c t ≡ Some mark →
+    Behind all (marks table mode rest) scanner → Behind all (mark ∷ marks table (mode_behind mode c) t) scanner
+at_mark table mode c rest t all mark scanner split marked behind =
+    let whole : marks table mode rest ≡ mark ∷ marks table (mode_behind mode c) t =
+    ap (marks table mode) split ∙ marks_behind table mode c t
+    ∙ ap (λ (found : Option Mark). option_to_list found ++ marks table (mode_behind mode c) t) marked in
+    subst (λ (ms : List Mark). Behind all ms scanner) whole behind
+
+-- what stands at a code point that is no mark
+pub at_no_mark : (table : Table) (mode : Mode) (c : ℕ) (rest t : Source) (all : List Mark) (scanner : Scanner) →
+    rest ≡ c ∷ t → mark_at table mode c t ≡ None →
+    Behind all (marks table mode rest) scanner → Behind all (marks table (mode_behind mode c) t) scanner
+at_no_mark table mode c rest t all scanner split marked behind =
+    let whole : marks table mode rest ≡ marks table (mode_behind mode c) t =
+    ap (marks table mode) split ∙ marks_behind table mode c t
+    ∙ ap (λ (found : Option Mark). option_to_list found ++ marks table (mode_behind mode c) t) marked in
+    subst (λ (ms : List Mark). Behind all ms scanner) whole behind
+
+-- nothing is left
+pub all_passed : (table : Table) (mode : Mode) (rest : Source) (all : List Mark) (scanner : Scanner) → length rest ≡ 0 →
+    Behind all (marks table mode rest) scanner → Behind all [] scanner
+unfolding marks
+all_passed table mode [] all scanner e behind = behind
+all_passed table mode (c ∷ t) all scanner e behind = absurd (omega arith)
