@@ -9,6 +9,8 @@ pub mod Syntax
 pub mod Rows
 pub mod Grammar
 pub mod Scan
+pub mod Numbering
+pub mod Scanning
 pub mod Meaning
 pub mod Fault
 pub mod Reads

@@ -1,6 +1,12 @@
 //! The capture groups of a pattern.
+ghost use Rattle.std.specs.Prelude.{◌≡◌, ℕ, List};
+ghost use Rattle.regress_syntax.specs.Meaning.{groups_named};
+ghost use Rattle.regress_syntax.specs.Numbering.{names_of, numbers_in};
+
+mod named;
 
 use crate::names::Name;
+use std::collections::BTreeMap;
 
 /// The capture groups of a whole pattern.
 #[derive(Drop)]
@@ -9,33 +15,16 @@ pub struct Groups {
     pub(crate) count: u16,
     /// The name of each, in the order of their parentheses.
     pub(crate) names: Vec<Option<Name>>,
+    /// The groups of each name, by their numbers from 1, ascending.
+    numbers: BTreeMap<Name, Vec<u32>>,
+    ghost numbered: { (name : List ℕ) → numbers_in numbers name ≡ groups_named name 1 (names_of names.items) },
 }
 
 impl Groups {
-    ghost use Rattle.std.specs.Prelude.{◌≡◌};
-    ghost use Rattle.regress_syntax.specs.Meaning.{groups_named};
-    ghost use Rattle.regress_syntax.specs.Rows.{has_names};
-    ghost use Rattle.regress_syntax.specs.Views.{names_in};
-
     /// How many there are, and `u16::MAX` where there are more.
     pub fn count(&self) -> u16
         ensures { result ≡ self.now.count }
     {
         self.count
-    }
-
-    /// Whether some group has a name.
-    pub(crate) fn has_names(&self) -> bool
-        ensures { result ≡ has_names (names_in self.now) }
-    {
-        self.names.iter().any(|name| name.is_some())
-    }
-
-    /// The groups of that name, by their numbers from 1, ascending.
-    pub(crate) fn numbers_of(&self, name: &[char]) -> &[u32]
-        ensures { result.now ≡ groups_named name.now 1 (names_in self.now) }
-    {
-        let _ = name.len();
-        &[]
     }
 }

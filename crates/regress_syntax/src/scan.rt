@@ -3,12 +3,21 @@ ghost use Rattle.std.specs.Prelude.{◌≡◌, ◌≤◌, true, false, min, leng
 ghost use Rattle.regress_base.specs.Limits.{max_capture_groups, max_nesting_depth};
 ghost use Rattle.regress_tree.specs.TableOf.{table_of};
 ghost use Rattle.regress_syntax.specs.Fault.{RefusedOnlyIf};
+ghost use Rattle.regress_syntax.specs.Numbering.{names_of};
 ghost use Rattle.regress_syntax.specs.Scan.{GivesMarks, plain, marks, named_by, deepest, at_the_start, placed_by, are_apart, IsRefusedByMarks};
 ghost use Rattle.regress_syntax.specs.Views.{names_in};
 
-use crate::fault::{ParseFault, UNSUPPORTED, syntax};
+mod mark;
+mod scanner;
+#[cfg(test)]
+mod tests;
+
+use crate::fault::ParseFault;
 use crate::groups::Groups;
+use crate::names::Name;
+use mark::{Mode, read_mark};
 use regress_tree::unicode::Tables;
+use scanner::Scanner;
 use std::alloc::Global;
 
 /// Finds the capture groups of a pattern and their names, without parsing it. The fault comes where two groups of one
@@ -20,7 +29,29 @@ pub fn scan(alloc: Global, pattern: &[u32], tables: &Tables) -> Result<Groups, P
     ensures refused { RefusedOnlyIf result (IsRefusedByMarks (marks (table_of tables.now) plain pattern.now)) }
     ensures whole { GivesMarks (table_of tables.now) pattern.now }
 {
-    let _ = tables.id_start();
-    let _ = pattern.len();
-    Err(syntax(alloc, UNSUPPORTED))
+    let names = find_names(alloc, pattern, tables)?;
+    Ok(Groups::new(alloc, names)?)
+}
+
+/// The name of each capture group, with the same faults.
+fn find_names(
+    alloc: Global,
+    pattern: &[u32],
+    tables: &Tables,
+) -> Result<Vec<Option<Name>>, ParseFault>
+    ensures names { IfOk result (λ names. names_of names.items ≡ named_by (marks (table_of tables.now) plain pattern.now)) }
+    ensures apart { IfOk result (λ names. IsTrue (are_apart (placed_by at_the_start (marks (table_of tables.now) plain pattern.now)))) }
+    ensures refused { RefusedOnlyIf result (IsRefusedByMarks (marks (table_of tables.now) plain pattern.now)) }
+{
+    let mut scanner = Scanner::new(alloc)?;
+    let mut mode = Mode::Plain;
+    let mut rest = pattern;
+    while let Some((c, behind)) = rest.split_first() {
+        if let Some(mark) = read_mark(alloc, mode, *c, behind, tables)? {
+            scanner.pass(mark)?;
+        }
+        mode = mode.behind(*c);
+        rest = behind;
+    }
+    scanner.finish()
 }

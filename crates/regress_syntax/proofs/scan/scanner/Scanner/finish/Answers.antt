@@ -1,0 +1,19 @@
+use Rattle.std.proofs.Common.{sym, subst, ◌∙◌}
+use Rattle.regress_syntax.proofs.laws.Sources.{on_syntax}
+use Rattle.regress_syntax.proofs.ConflictLemmas.{apart_in_any_order, conflict_in_any_order}
+use Rattle.regress_syntax.proofs.MarkLemmas.{apart_behind}
+use Rattle.regress_syntax.proofs.scan.scanner.Scanner.finish.Goals as goal
+
+pub returns-then-not-are_neighbours_apart-clause-refused : goal.returns-then-not-are_neighbours_apart-clause-refused
+returns-then-not-are_neighbours_apart-clause-refused c = λ all behind.
+    let near = c.if-not-are_neighbours_apart.ensures in
+    let here = rw c.deref.ensures.value at near in
+    on_syntax c.syntax.result
+    (apart_behind all c.args.self behind ∙ conflict_in_any_order c.args.self.named.items c.sort.new.self.items c.in_ok-sort.ensures.permutation here)
+
+pub returns-clause-apart : goal.returns-clause-apart
+returns-clause-apart c = λ all behind.
+    let near = c.if-not-are_neighbours_apart.ensures in
+    let here = rw c.deref.ensures.value at near in
+    apart_behind all c.args.self behind
+    ∙ apart_in_any_order c.args.self.named.items c.sort.new.self.items c.in_ok-sort.ensures.permutation c.in_ok-sort.ensures.sorted here

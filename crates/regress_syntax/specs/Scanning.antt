@@ -1,0 +1,63 @@
+-- What the state of the scan stands for.
+use Rattle.std.specs.Prelude.{◌≡◌, ℕ, ◌≤◌, Bool, List, [], ◌∷◌, ◌++◌, map, length, reverse, Option, Some, None, option_map, is_some, filter, if◌then◌else◌, ◌==◌}
+use Rattle.regress_tree.specs.Table.{Table}
+use Rattle.regress_syntax.specs.Source.{Source, opening, closing, bar}
+use Rattle.regress_syntax.specs.Numbering.{names_of}
+use Rattle.regress_syntax.specs.Scan.{Mark, opens, captures, closes, next, Mode, plain, escape, class, class_escape, opened_at, named_by, deepest, Path, Placed, placed_by, at_the_start}
+use Rattle.regress_syntax.specs.declared.scan.mark.Mode.{Mode as CodeMode}
+use Rattle.regress_syntax.specs.declared.scan.mark.Mode.TheVariants as modes
+use Rattle.regress_syntax.specs.declared.scan.mark.Mark.{Mark as CodeMark}
+use Rattle.regress_syntax.specs.declared.scan.mark.Mark.TheVariants as code_marks
+use Rattle.regress_syntax.specs.declared.scan.scanner.Scanner.{Scanner}
+use Rattle.regress_syntax.specs.declared.scan.scanner.NamedGroup.{NamedGroup}
+
+-- ---- marks
+
+abbrev pub mode_of : CodeMode → Mode
+mode_of modes.Plain = plain
+mode_of modes.Escape = escape
+mode_of modes.Class = class
+mode_of modes.ClassEscape = class_escape
+
+abbrev pub mark_of : CodeMark → Mark
+mark_of code_marks.Opens = opens
+mark_of (code_marks.Captures name) = captures (option_map (λ name. name.items) name)
+mark_of code_marks.Closes = closes
+mark_of code_marks.Next = next
+
+-- the mode behind a code point
+abbrev pub mode_behind : Mode → ℕ → Mode
+mode_behind plain c = if c == 92 then escape else if c == 91 then class else plain
+mode_behind escape c = plain
+mode_behind class c = if c == 92 then class_escape else if c == 93 then plain else class
+mode_behind class_escape c = class
+
+-- the mark that a code point is, if any, with the source behind it
+abbrev pub mark_at : Table → Mode → ℕ → Source → Option Mark
+mark_at table plain c t =
+    if c == opening then Some (opened_at table t)
+    else if c == closing then Some closes
+    else if c == bar then Some next
+    else None
+mark_at table escape c t = None
+mark_at table class c t = None
+mark_at table class_escape c t = None
+
+-- ---- groups
+
+-- a group that has a name
+abbrev pub placed_of : NamedGroup → Placed
+placed_of group = record { path = reverse group.path.items; name = Some group.name.items }
+
+abbrev pub has_name : Placed → Bool
+has_name group = is_some group.name
+
+-- the path of the place, the innermost level first
+abbrev pub path_of : Scanner → Path
+path_of scanner = reverse scanner.path.items
+
+-- What was found, and what the rest gives, is what all marks give.
+pub record Behind (all rest : List Mark) (scanner : Scanner) : Type 0 where
+  pub names : named_by all ≡ names_of scanner.names.items ++ named_by rest
+  pub named : filter has_name (placed_by at_the_start all) ≡ map placed_of scanner.named.items ++ filter has_name (placed_by (path_of scanner) rest)
+  pub depth : deepest (length (path_of scanner)) rest ≤ deepest 1 all

@@ -1,0 +1,76 @@
+//! The names of the groups, and the numbers of those that have one.
+ghost use Rattle.std.specs.Prelude.{◌≡◌, ◌+◌, ◌++◌, ◌∷◌, [], List, ℕ, min, length, IfOk, OnOk, if◌then◌else◌, bytes_eq};
+ghost use Rattle.regress_base.specs.Limits.{max_capture_groups};
+ghost use Rattle.regress_syntax.specs.Meaning.{groups_named};
+ghost use Rattle.regress_syntax.specs.Numbering.{names_of, numbers_in};
+ghost use Rattle.regress_syntax.specs.Rows.{has_names};
+ghost use Rattle.regress_syntax.specs.Views.{names_in};
+
+use crate::groups::Groups;
+use crate::names::Name;
+use std::alloc::{AllocError, Global};
+use std::collections::BTreeMap;
+
+impl Groups {
+    /// The groups with these names.
+    pub(crate) fn new(alloc: Global, names: Vec<Option<Name>>) -> Result<Groups, AllocError>
+        ensures names { IfOk result (λ groups. names_in groups ≡ names_of names.items) }
+        ensures count { IfOk result (λ groups. groups.count ≡ min (length names.items) max_capture_groups) }
+    {
+        let numbers = number(alloc, &names)?;
+        Ok(Groups {
+            count: u16::try_from(names.len()).unwrap_or(u16::MAX),
+            names,
+            numbers,
+        })
+    }
+
+    /// Whether some group has a name.
+    pub(crate) fn has_names(&self) -> bool
+        ensures { result ≡ has_names (names_in self.now) }
+    {
+        self.names.iter().any(|name| name.is_some())
+    }
+
+    /// The groups of that name, by their numbers from 1, ascending.
+    pub(crate) fn numbers_of(&self, name: &[char]) -> &[u32]
+        ensures { result.now ≡ groups_named name.now 1 (names_in self.now) }
+    {
+        match self.numbers.get(name) {
+            Some(numbers) => numbers,
+            None => &[],
+        }
+    }
+}
+
+/// The numbers of the groups of each name. A number that is too large for its type would take a pattern too large for
+/// memory.
+fn number(alloc: Global, names: &[Option<Name>]) -> Result<BTreeMap<Name, Vec<u32>>, AllocError>
+    ensures { IfOk result (λ numbers. (name : List ℕ) → numbers_in numbers name ≡ groups_named name 1 (names_of names.now)) }
+{
+    let mut numbers = BTreeMap::new(alloc);
+    let mut number = 0u32;
+    for name in names {
+        number = number.checked_add(1).ok_or(AllocError)?;
+        if let Some(name) = name {
+            add_number(alloc, &mut numbers, name, number)?;
+        }
+    }
+    Ok(numbers)
+}
+
+/// Adds a number to those of a name.
+fn add_number(
+    alloc: Global,
+    numbers: &mut BTreeMap<Name, Vec<u32>>,
+    name: &Name,
+    number: u32,
+) -> Result<(), AllocError>
+    ensures { OnOk result ((other : List ℕ) → numbers_in numbers.new other ≡
+        (if bytes_eq name.now.items other then numbers_in numbers.old other ++ number ∷ [] else numbers_in numbers.old other)) }
+{
+    let mut found = numbers.remove(name.as_slice()).unwrap_or(Vec::new(alloc));
+    found.push(number)?;
+    numbers.insert(name.clone()?, found)?;
+    Ok(())
+}
