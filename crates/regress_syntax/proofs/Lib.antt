@@ -1,5 +1,5 @@
-mod ScanLemmas
-mod GroupLemmas
+mod ScannerLemmas
+mod NumberingLemmas
 mod ConflictLemmas
 pub mod laws
 mod ClassLemmas
