@@ -4,3 +4,5 @@ mod ConflictLemmas
 pub mod laws
 mod ClassLemmas
 mod DigitLemmas
+mod ScanLemmas
+mod ScanRows

@@ -4,3 +4,4 @@ pub mod Behind
 pub mod InRange
 pub mod Pieces
 pub mod Rows
+pub mod Scan

@@ -1,0 +1,169 @@
+-- A scan that knows no grammar gives the marks of each syntax tree that the grammar derives, and what they say of it.
+use Rattle.std.proofs.Common.{◌≡◌, ℕ, ◌+◌, ◌-◌, ◌≤◌, max, List, [], ◌∷◌, ◌++◌, refl, sym, ap, ap₂, ◌∙◌, subst, arith, append_assoc, append-nil}
+use Rattle.regress_tree.specs.Table.{Table, IsLawful}
+use Rattle.regress_syntax.specs.Source.{Source, closing, bar}
+use Rattle.regress_syntax.specs.Syntax.{Group, grouping, modified, capture, look, Pattern, Terms, Item, one, either, no_terms, more_terms, atom, group, names, names_of_group, names_of_terms, names_of_item, levels, levels_of_terms, levels_of_item}
+use Rattle.regress_syntax.specs.Rows.{Context, inside, single, opens, head_of_item, allows}
+use Rattle.regress_syntax.specs.Grammar.{IsPattern, AreTerms, IsItem}
+use Rattle.regress_syntax.specs.Scan.{Mark, captures, closes, next, mark_of_group, marks_of, marks_of_terms, marks_of_item, plain, marks, GivesMarks, named_by, deepest}
+use Rattle.regress_syntax.specs.Scan as Scan
+use Rattle.regress_syntax.proofs.ScanRows.{gives_head_at, lead_times_at}
+
+-- ---- by the grammar
+
+-- a group changes flags alone
+same_table : (kind : Group) (ctx : Context) → (inside kind ctx).setting.table ≡ ctx.setting.table
+same_table grouping ctx = refl
+same_table (modified change) ctx = refl
+same_table (capture name) ctx = refl
+same_table (look negate direction) ctx = refl
+
+marks_behind_bar : (table : Table) (t : Source) → marks table plain (bar ∷ t) ≡ next ∷ marks table plain t
+unfolding marks
+marks_behind_bar table t = refl
+
+marks_behind_closing : (table : Table) (t : Source) → marks table plain (closing ∷ t) ≡ closes ∷ marks table plain t
+unfolding marks
+marks_behind_closing table t = refl
+
+-- the marks of two parts in a row
+joined : (xs ys rest : List Mark) {all behind : List Mark} → all ≡ xs ++ behind → behind ≡ ys ++ rest →
+    all ≡ (xs ++ ys) ++ rest
+joined xs ys rest h k = h ∙ ap (λ zs. xs ++ zs) k ∙ sym (append_assoc xs ys rest)
+
+module _ (table : Table) (lawful : IsLawful table) where
+  lawful_at : (ctx : Context) → ctx.setting.table ≡ table → IsLawful ctx.setting.table
+  lawful_at ctx same = subst IsLawful (sym same) lawful
+
+  mutual
+    pub marks_of_pattern : (ctx : Context) (p : Pattern) (t rest : Source) → ctx.setting.table ≡ table → IsPattern ctx p t rest →
+        marks table plain t ≡ marks_of p ++ marks table plain rest
+    marks_of_pattern ctx (one ts) t rest same h = marks_of_all ctx ts t rest same h.0
+    marks_of_pattern ctx (either ts p) t rest same (mid, first, others) =
+        joined (marks_of_terms ts) (next ∷ marks_of p) _ (marks_of_all ctx ts t (bar ∷ mid) same first)
+        (marks_behind_bar table mid ∙ ap (λ ms. next ∷ ms) (marks_of_pattern ctx p mid rest same others))
+
+    marks_of_all : (ctx : Context) (ts : Terms) (t rest : Source) → ctx.setting.table ≡ table → AreTerms ctx ts t rest →
+        marks table plain t ≡ marks_of_terms ts ++ marks table plain rest
+    marks_of_all ctx no_terms t rest same h = ap (marks table plain) h.1
+    marks_of_all ctx (more_terms x q xs) t rest same (mid, behind, first, times, others) =
+        joined (marks_of_item x) (marks_of_terms xs) _ (marks_of_one ctx x t mid same first)
+        (subst (λ u. marks u plain mid ≡ marks u plain behind) same
+        (((lead_times_at ctx (lawful_at ctx same) (allows ctx.setting.flags.unicode (head_of_item x)) mid).each (q, behind) times).same)
+        ∙ marks_of_all ctx xs behind rest same others)
+
+    marks_of_one : (ctx : Context) (x : Item) (t rest : Source) → ctx.setting.table ≡ table → IsItem ctx x t rest →
+        marks table plain t ≡ marks_of_item x ++ marks table plain rest
+    marks_of_one ctx (atom a) t rest same h =
+        subst (λ u. marks u plain t ≡ marks u plain rest) same
+        ((gives_head_at ctx (lawful_at ctx same) t).each (single a, rest) h)
+    marks_of_one ctx (group kind p) t rest same (mid, head, body) =
+        subst (λ u. marks u plain t ≡ mark_of_group kind ∷ marks u plain mid) same
+        ((gives_head_at ctx (lawful_at ctx same) t).each (opens kind, mid) head)
+        ∙ ap (λ ms. mark_of_group kind ∷ ms)
+        (joined (marks_of p) (closes ∷ []) _ (marks_of_pattern (inside kind ctx) p mid (closing ∷ rest) (same_table kind ctx ∙ same) body)
+        (marks_behind_closing table rest))
+
+nothing_behind : (table : Table) → marks table plain [] ≡ []
+unfolding marks
+nothing_behind table = refl
+
+-- whatever the rows were told of groups and names
+pub gives_marks : (table : Table) (t : Source) → IsLawful table → GivesMarks table t
+gives_marks table t lawful ctx p same h =
+    sym (marks_of_pattern table lawful ctx p t [] same h ∙ ap (λ ms. marks_of p ++ ms) (nothing_behind table) ∙ append-nil (marks_of p))
+
+-- ---- by the syntax tree
+
+named_by-append : (xs ys : List Mark) → named_by (xs ++ ys) ≡ named_by xs ++ named_by ys
+named_by-append [] ys = refl
+named_by-append (Scan.opens ∷ xs) ys = named_by-append xs ys
+named_by-append (captures name ∷ xs) ys = ap (λ zs. name ∷ zs) (named_by-append xs ys)
+named_by-append (closes ∷ xs) ys = named_by-append xs ys
+named_by-append (next ∷ xs) ys = named_by-append xs ys
+
+named_by-group : (kind : Group) (ms : List Mark) → named_by (mark_of_group kind ∷ ms) ≡ names_of_group kind ++ named_by ms
+named_by-group grouping ms = refl
+named_by-group (modified change) ms = refl
+named_by-group (capture name) ms = refl
+named_by-group (look negate direction) ms = refl
+
+mutual
+  -- the marks have the pattern's names
+  pub named_by-pattern : (p : Pattern) → named_by (marks_of p) ≡ names p
+  named_by-pattern (one ts) = named_by-terms ts
+  named_by-pattern (either ts p) =
+      named_by-append (marks_of_terms ts) (next ∷ marks_of p) ∙ ap₂ (λ xs ys. xs ++ ys) (named_by-terms ts) (named_by-pattern p)
+
+  named_by-terms : (ts : Terms) → named_by (marks_of_terms ts) ≡ names_of_terms ts
+  named_by-terms no_terms = refl
+  named_by-terms (more_terms x q xs) =
+      named_by-append (marks_of_item x) (marks_of_terms xs) ∙ ap₂ (λ ys zs. ys ++ zs) (named_by-item x) (named_by-terms xs)
+
+  named_by-item : (x : Item) → named_by (marks_of_item x) ≡ names_of_item x
+  named_by-item (atom a) = refl
+  named_by-item (group kind p) =
+      named_by-group kind (marks_of p ++ closes ∷ [])
+      ∙ ap (λ zs. names_of_group kind ++ zs)
+      (named_by-append (marks_of p) (closes ∷ []) ∙ append-nil (named_by (marks_of p)) ∙ named_by-pattern p)
+
+-- as many levels are open at least as before
+deepest-least : (n : ℕ) (ms : List Mark) → n ≤ deepest n ms
+deepest-least n [] = omega arith
+deepest-least n (Scan.opens ∷ ms) = omega arith
+deepest-least n (captures name ∷ ms) = omega arith
+deepest-least n (closes ∷ ms) = omega arith
+deepest-least n (next ∷ ms) = omega arith
+
+deepest-group : (n : ℕ) (kind : Group) (ms : List Mark) → deepest n (mark_of_group kind ∷ ms) ≡ max n (deepest (n + 1) ms)
+deepest-group n grouping ms = refl
+deepest-group n (modified change) ms = refl
+deepest-group n (capture name) ms = refl
+deepest-group n (look negate direction) ms = refl
+
+one_level : (p : Pattern) → 1 ≤ levels p
+one_level (one ts) = omega arith
+one_level (either ts p) = omega arith
+
+mutual
+  -- where n levels are open, of which the pattern is one
+  deepest-pattern : (n : ℕ) (p : Pattern) (ms : List Mark) → 1 ≤ n → deepest n (marks_of p ++ ms) ≡ max (n - 1 + levels p) (deepest n ms)
+  deepest-pattern n (one ts) ms h = omega (arith, deepest-terms n ts ms h)
+  deepest-pattern n (either ts p) ms h =
+      omega (
+        arith,
+        ap (deepest n) (append_assoc (marks_of_terms ts) (next ∷ marks_of p) ms),
+        deepest-terms n ts (next ∷ marks_of p ++ ms) h,
+        deepest-pattern n p ms h,
+      )
+
+  deepest-terms : (n : ℕ) (ts : Terms) (ms : List Mark) → 1 ≤ n →
+      deepest n (marks_of_terms ts ++ ms) ≡ max (n + levels_of_terms ts) (deepest n ms)
+  deepest-terms n no_terms ms h = omega (arith, deepest-least n ms)
+  deepest-terms n (more_terms x q xs) ms h =
+      omega (
+        arith,
+        ap (deepest n) (append_assoc (marks_of_item x) (marks_of_terms xs) ms),
+        deepest-item n x (marks_of_terms xs ++ ms) h,
+        deepest-terms n xs ms h,
+      )
+
+  deepest-item : (n : ℕ) (x : Item) (ms : List Mark) → 1 ≤ n →
+      deepest n (marks_of_item x ++ ms) ≡ max (n + levels_of_item x) (deepest n ms)
+  deepest-item n (atom a) ms h = omega (arith, deepest-least n ms)
+  deepest-item n (group kind p) ms h =
+      let back : n + 1 - 1 ≡ n = omega arith in
+      omega (
+        arith,
+        deepest-group n kind ((marks_of p ++ closes ∷ []) ++ ms),
+        ap (deepest (n + 1)) (append_assoc (marks_of p) (closes ∷ []) ms),
+        deepest-pattern (n + 1) p (closes ∷ ms) (omega arith),
+        ap (λ k. deepest k ms) back,
+        deepest-least n ms,
+        one_level p,
+      )
+
+-- the marks nest as deep as the pattern
+pub deepest-whole : (p : Pattern) → deepest 1 (marks_of p) ≡ levels p
+deepest-whole p =
+    omega (arith, ap (deepest 1) (append-nil (marks_of p)), deepest-pattern 1 p [] (omega arith), one_level p)
