@@ -121,7 +121,7 @@ const UNSUPPORTED: &str = "error: Unsupported syntax\n";
 fn each_status_comes_with_its_output(rt: HostRuntime) -> Result<(), Fail> {
     let alloc = rt.alloc();
     let any = "Cat\n..MatchAny\n..Goal\n--\nCat\n..MatchAny\n..Goal\n";
-    let rows: [(&[&str], u8, &str, &str); 14] = [
+    let rows: [(&[&str], u8, &str, &str); 15] = [
         (&[FIRST_PATTERN], 0, FIRST_OUTPUT, ""),
         (&[".", "s"], 0, any, ""),
         (
@@ -131,8 +131,14 @@ fn each_status_comes_with_its_output(rt: HostRuntime) -> Result<(), Fail> {
             "",
         ),
         (&["a)"], 1, "", "error: Unbalanced parenthesis\n"),
-        (&["a*"], 1, "", UNSUPPORTED),
-        (&["a", "i"], 1, "", UNSUPPORTED),
+        (
+            &["k", "ui"],
+            0,
+            "Cat\n..CharSet 0x4b, 0x6b, 0x212a\n..Goal\n--\nCat\n..CharSet 0x4b, 0x6b, 0x212a\n..Goal\n",
+            "",
+        ),
+        (&["\\x4", "u"], 1, "", "error: Invalid character escape\n"),
+        (&["(?=a)"], 1, "", UNSUPPORTED),
         (&["a", "musv"], 1, "", UNSUPPORTED),
         (&[], 2, "", USAGE),
         (&["a", "s", "s"], 2, "", USAGE),

@@ -1,6 +1,13 @@
 //! Rows from the text of a pattern to its trees, through every crate.
 
+mod anchors;
 mod caller;
+mod classes;
+mod escapes;
+mod faults;
+mod literals;
+mod quantifiers;
+mod scale;
 
 use crate::codepointset::CODE_POINT_MAX;
 use crate::optimizer::{optimize, parse_and_optimize};
@@ -60,8 +67,41 @@ fn answer_to(alloc: Global, points: &[u32], flags: Flags) -> Result<Answer, Fail
     Ok(Answer::Trees(parsed, format!(in alloc; "{regex}")?))
 }
 
-fn fault_of(alloc: Global, points: &[u32]) -> Result<String, Fail> {
-    match answer_to(alloc, points, Flags::default())? {
+/// The flags of these letters.
+fn flags_of(letters: &str) -> Flags {
+    let has = |letter: char| letters.chars().any(|c| c == letter);
+    Flags {
+        icase: has('i'),
+        multiline: has('m'),
+        dot_all: has('s'),
+        unicode: has('u'),
+        unicode_sets: has('v'),
+    }
+}
+
+/// The parsed tree as it prints, or the text of the fault.
+fn parsed(alloc: Global, pattern: &str, letters: &str) -> Result<String, Fail> {
+    let points = code_points(alloc, pattern)?;
+    match answer_to(alloc, &points, flags_of(letters))? {
+        Answer::Trees(parsed, _) => Ok(parsed),
+        Answer::Fault(text) => Ok(format!(in alloc; "error: {text}")?),
+    }
+}
+
+/// How a tree prints whose body prints so.
+fn whole(alloc: Global, body: &str) -> Result<String, Fail> {
+    Ok(format!(in alloc; "Cat\n{body}..Goal\n")?)
+}
+
+/// How a tree prints whose body is a bracket of these intervals.
+fn bracket(alloc: Global, invert: bool, intervals: &str) -> Result<String, Fail> {
+    Ok(format!(in alloc;
+        "Cat\n..Bracket BracketContents {{ invert: {invert}, cps: CodePointSet {{ ivs: [{intervals}] }} }}\n..Goal\n"
+    )?)
+}
+
+fn fault_of(alloc: Global, points: &[u32], flags: Flags) -> Result<String, Fail> {
+    match answer_to(alloc, points, flags)? {
         Answer::Fault(text) => Ok(text),
         Answer::Trees(..) => Ok(String::from_str(alloc, "accepted")?),
     }
@@ -204,81 +244,6 @@ fn answers_are_those_of_the_rust_crate(rt: HostRuntime) -> Result<(), Fail> {
         };
         assert_eq!(rt; found.as_str(), want, "{pattern}");
     }
-    Ok(())
-}
-
-#[test]
-fn faults_have_their_texts(rt: HostRuntime) -> Result<(), Fail> {
-    let rows = [
-        ("a)", "Unbalanced parenthesis"),
-        ("(a", "Unbalanced parenthesis"),
-        ("(?:a", "Unbalanced parenthesis"),
-        (")", "Unbalanced parenthesis"),
-        ("a*", "Unsupported syntax"),
-        ("\\d", "Unsupported syntax"),
-        ("[a]", "Unsupported syntax"),
-        ("(?<a>x)", "Unsupported syntax"),
-        ("(?", "Unsupported syntax"),
-    ];
-    for (pattern, want) in rows {
-        let points = code_points(rt.alloc(), pattern)?;
-        assert_eq!(rt; fault_of(rt.alloc(), &points)?.as_str(), want, "{pattern}");
-    }
-    Ok(())
-}
-
-#[test]
-fn flags_other_than_s_are_not_served(rt: HostRuntime) -> Result<(), Fail> {
-    let none = Flags::default();
-    let all = [
-        Flags {
-            icase: true,
-            ..none
-        },
-        Flags {
-            multiline: true,
-            ..none
-        },
-        Flags {
-            unicode: true,
-            ..none
-        },
-        Flags {
-            unicode_sets: true,
-            ..none
-        },
-    ];
-    for flags in all {
-        let Answer::Fault(text) = answer_to(rt.alloc(), &[u32::from(b'a')], flags)? else {
-            assert!(rt; false, "a flag is served");
-            return Ok(());
-        };
-        assert_eq!(rt; text.as_str(), "Unsupported syntax");
-    }
-    Ok(())
-}
-
-#[test]
-fn levels_and_groups_have_their_limits(rt: HostRuntime) -> Result<(), Fail> {
-    let alloc = rt.alloc();
-    let deep = "Regular expression is too deeply nested";
-    let many = "Capture group count limit exceeded";
-    assert_eq!(rt;
-        fault_of(alloc, &repeated(alloc, "(?:", "a", ")", 255)?)?.as_str(),
-        "accepted"
-    );
-    assert_eq!(rt;
-        fault_of(alloc, &repeated(alloc, "(?:", "a", ")", 256)?)?.as_str(),
-        deep
-    );
-    assert_eq!(rt;
-        fault_of(alloc, &repeated(alloc, "()", "", "", 65535)?)?.as_str(),
-        "accepted"
-    );
-    assert_eq!(rt;
-        fault_of(alloc, &repeated(alloc, "()", "", "", 65536)?)?.as_str(),
-        many
-    );
     Ok(())
 }
 

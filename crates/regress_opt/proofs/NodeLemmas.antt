@@ -1,11 +1,11 @@
 -- One level of a node.
-use Rattle.std.proofs.Common.{◌≡◌, ◌∙◌, sym, ap, ℕ, Option, Vec, Box, Global, rules}
+use Rattle.std.proofs.Common.{◌≡◌, ◌∙◌, sym, ap, ℕ, Bool, Option, Vec, Box, Global, rules}
 use Rattle.std.specs.Prelude.{String}
 use Rattle.std.specs.declared.ops.Range.{Range}
 use Rattle.regress_tree.specs.declared.ir.node.Quantifier.{Quantifier}
 use Rattle.regress_tree.specs.declared.ir.node.Node.{Node, out-Node, the_lemmas}
 use Rattle.regress_tree.specs.declared.ir.node.Node.TheOpen.{Node-F}
-use Rattle.regress_tree.specs.declared.ir.node.Node.TheVariants.{Cat, Alt, CaptureGroup, Loop, Loop1CharBody}
+use Rattle.regress_tree.specs.declared.ir.node.Node.TheVariants.{Cat, Alt, CaptureGroup, Loop, Loop1CharBody, LookaroundAssertion}
 use Rattle.regress_tree.specs.Tree.{tree, alt}
 use Rattle.regress_tree.proofs.laws.Nodes.{tree-Alt}
 
@@ -23,6 +23,10 @@ out-Loop loopee quantifier groups = search (rules, the_lemmas)
 pub out-Loop1CharBody : (loopee : Box Node Global) (quantifier : Quantifier) →
     out-Node (Loop1CharBody loopee quantifier) ≡ Node-F.Loop1CharBody loopee quantifier
 out-Loop1CharBody loopee quantifier = search (rules, the_lemmas)
+
+pub out-LookaroundAssertion : (negate backwards : Bool) (start end : ℕ) (contents : Box Node Global) →
+    out-Node (LookaroundAssertion negate backwards start end contents) ≡ Node-F.LookaroundAssertion negate backwards start end contents
+out-LookaroundAssertion negate backwards start end contents = search (rules, the_lemmas)
 
 pub out-Cat : (parts : Vec Node Global) → out-Node (Cat parts) ≡ Node-F.Cat parts
 out-Cat parts = search (rules, the_lemmas)

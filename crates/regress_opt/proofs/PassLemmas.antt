@@ -1,7 +1,7 @@
 -- A pass ends.
 use Rattle.std.proofs.Common.{◌≡◌, ℕ, ◌+◌, ◌*◌, ◌<◌, ◌≤◌, ◌⊎◌, [], ◌∷◌, inl, inr, ap, arith}
 use Rattle.std.proofs.Math.Nat.{mul-le-mul_left}
-use Rattle.regress_tree.specs.Tree.{Leaf, empty, goal, char, byte_sequence, byte_set, char_set, match_any, match_any_except_line_terminator, anchor, word_boundary, bracket, Wrapper, capture_group, loop, loop_one, Tree, Trees, leaf, cat, alt, wrapped, no_trees, more_trees}
+use Rattle.regress_tree.specs.Tree.{Leaf, empty, goal, char, byte_sequence, byte_set, char_set, match_any, match_any_except_line_terminator, anchor, word_boundary, bracket, back_ref, Wrapper, capture_group, loop, loop_one, lookaround, Tree, Trees, leaf, cat, alt, wrapped, no_trees, more_trees}
 use Rattle.regress_base.proofs.laws.Sets.{canonical_length}
 use Rattle.regress_tree.specs.WellFormed.{Position, inside, last_of, position_in, LeafMayStand, MayStand, RowMayStand}
 use Rattle.regress_opt.specs.Law.{IsPart}
@@ -11,28 +11,30 @@ use Rattle.regress_tree.specs.Units.{units_of_leaf, units, units_in_row, loops, 
 abbrev heaviest : ℕ
 heaviest = 557061
 
-leaf_weight-le : (l : Leaf) (p : Position) → LeafMayStand l p → weight_of_leaf l ≤ heaviest * units_of_leaf l
-leaf_weight-le empty p m = omega arith
-leaf_weight-le goal p m = omega arith
-leaf_weight-le (char c) p m = omega arith
-leaf_weight-le (byte_sequence []) p m = omega arith
-leaf_weight-le (byte_sequence (b ∷ bytes)) p m = omega arith
-leaf_weight-le (byte_set bytes) p m = omega arith
-leaf_weight-le (char_set characters) p m = omega arith
-leaf_weight-le match_any p m = omega arith
-leaf_weight-le match_any_except_line_terminator p m = omega arith
-leaf_weight-le (anchor kind multiline) p m = omega arith
-leaf_weight-le (word_boundary invert unicode_icase) p m = omega arith
-leaf_weight-le (bracket invert intervals) p m = omega (arith, canonical_length intervals m.canonical)
+leaf_weight-le : (n : ℕ) (l : Leaf) (p : Position) → LeafMayStand n l p → weight_of_leaf l ≤ heaviest * units_of_leaf l
+leaf_weight-le n empty p m = omega arith
+leaf_weight-le n goal p m = omega arith
+leaf_weight-le n (char c) p m = omega arith
+leaf_weight-le n (byte_sequence []) p m = omega arith
+leaf_weight-le n (byte_sequence (b ∷ bytes)) p m = omega arith
+leaf_weight-le n (byte_set bytes) p m = omega arith
+leaf_weight-le n (char_set characters) p m = omega arith
+leaf_weight-le n match_any p m = omega arith
+leaf_weight-le n match_any_except_line_terminator p m = omega arith
+leaf_weight-le n (anchor kind multiline) p m = omega arith
+leaf_weight-le n (word_boundary invert unicode_icase) p m = omega arith
+leaf_weight-le n (bracket invert intervals) p m = omega (arith, canonical_length intervals m.canonical)
+leaf_weight-le n (back_ref group icase) p m = omega arith
 
 wrapper_weight-le : (w : Wrapper) → weight_of_wrapper w ≤ heaviest
 wrapper_weight-le (capture_group id name) = omega arith
 wrapper_weight-le (loop quantifier start end) = omega arith
 wrapper_weight-le (loop_one quantifier) = omega arith
+wrapper_weight-le (lookaround negate backwards start end) = omega arith
 
 mutual
   weight-le : (n : ℕ) (t : Tree) (p : Position) → MayStand n t p → weight t ≤ heaviest * units t
-  weight-le n (leaf l) p m = leaf_weight-le l p m
+  weight-le n (leaf l) p m = leaf_weight-le n l p m
   weight-le n (cat parts) p m = omega (arith, row_weight-le n parts (last_of p) m.1)
   weight-le n (alt left right) p m = omega (arith, weight-le n left inside m.1, weight-le n right inside m.2)
   weight-le n (wrapped w body) p m = omega (arith, wrapper_weight-le w, weight-le n body (position_in w) m.2)

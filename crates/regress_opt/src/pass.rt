@@ -140,6 +140,11 @@ fn sweep_inside<R: Rewrite>(node: &mut Node, pass: &mut R, walk: &Walk) -> Resul
         Node::CaptureGroup { contents, .. } => sweep(contents, pass, walk),
         Node::Loop { loopee, .. } => sweep(loopee, pass, walk),
         Node::Loop1CharBody { loopee, .. } => sweep(loopee, pass, walk),
+        Node::LookaroundAssertion {
+            backwards,
+            contents,
+            ..
+        } => sweep(contents, pass, &walk.looking(*backwards)),
         Node::Alt(..)
         | Node::Empty
         | Node::Goal
@@ -151,7 +156,8 @@ fn sweep_inside<R: Rewrite>(node: &mut Node, pass: &mut R, walk: &Walk) -> Resul
         | Node::MatchAnyExceptLineTerminator
         | Node::Anchor { .. }
         | Node::WordBoundary { .. }
-        | Node::Bracket(_) => Ok(false),
+        | Node::Bracket(_)
+        | Node::BackRef { .. } => Ok(false),
     }
 }
 

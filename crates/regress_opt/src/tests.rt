@@ -1,5 +1,5 @@
 ghost use Rattle.std.specs.Prelude.{◌≡◌, IfOk, Bool, true, false};
-ghost use Rattle.regress_tree.specs.Tree.{tree, leaf, goal, char, cat, alt, no_trees, more_trees};
+ghost use Rattle.regress_tree.specs.Tree.{tree, leaf, goal, char, cat, alt, wrapped, lookaround, no_trees, more_trees};
 ghost use Rattle.regress_tree.specs.WellFormed.{IsWellFormed};
 
 use crate::flatten::Flatten;
@@ -55,6 +55,15 @@ Alt at 1, forwards, no unicode
 Alt at 0, forwards, no unicode
 ";
 
+/// How the tree of `(?<=a(?=b))` without the last `Goal` is.
+const VISITS_OF_LOOKAROUNDS: &str = "\
+Char at 3, forwards, no unicode
+LookaroundAssertion at 2, backwards, no unicode
+Char at 2, backwards, no unicode
+Cat at 1, backwards, no unicode
+LookaroundAssertion at 0, forwards, no unicode
+";
+
 /// Leaves each node as it is, and writes down where it was met.
 #[derive(Drop)]
 struct Visits {
@@ -108,6 +117,8 @@ fn kind(node: &Node) -> &'static str {
         Node::Bracket(_) => "Bracket",
         Node::Loop { .. } => "Loop",
         Node::Loop1CharBody { .. } => "Loop1CharBody",
+        Node::LookaroundAssertion { .. } => "LookaroundAssertion",
+        Node::BackRef { .. } => "BackRef",
     }
 }
 
@@ -146,6 +157,19 @@ fn either(alloc: Global, left: Node, right: Node) -> Result<Node, AllocError>
     ensures { IfOk result (λ node. tree node ≡ alt (tree left) (tree right)) }
 {
     Ok(Node::Alt(Box::new(alloc, left)?, Box::new(alloc, right)?))
+}
+
+/// A lookaround without groups.
+fn look(alloc: Global, backwards: bool, contents: Node) -> Result<Node, AllocError>
+    ensures { IfOk result (λ node. tree node ≡ wrapped (lookaround false backwards 0 0) (tree contents)) }
+{
+    Ok(Node::LookaroundAssertion {
+        negate: false,
+        backwards,
+        start_group: 0,
+        end_group: 0,
+        contents: Box::new(alloc, contents)?,
+    })
 }
 
 /// The tree of `(?:a|bc)d` as it is parsed.
@@ -244,6 +268,22 @@ fn alternatives_are_visited_from_the_left_and_then_upwards(rt: HostRuntime) -> R
     };
     run_pass(&mut r, &mut visits)?;
     assert_eq!(rt; visits.seen.as_str(), VISITS_OF_ALTERNATIVES);
+    Ok(())
+}
+
+#[test]
+fn what_a_lookaround_holds_is_visited_in_its_own_direction(rt: HostRuntime) -> Result<(), Fail> {
+    let ahead = look(rt.alloc(), false, Node::Char { c: 98 })?;
+    let turned = pair(rt.alloc(), ahead, Node::Char { c: 97 })?;
+    let mut r = Regex {
+        node: look(rt.alloc(), true, turned)?,
+        flags: Flags::default(),
+    };
+    let mut visits = Visits {
+        seen: String::new(rt.alloc()),
+    };
+    run_pass(&mut r, &mut visits)?;
+    assert_eq!(rt; visits.seen.as_str(), VISITS_OF_LOOKAROUNDS);
     Ok(())
 }
 

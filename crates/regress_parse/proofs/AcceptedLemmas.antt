@@ -1,79 +1,94 @@
--- What the reading function finds in a whole source is what the source stands for.
-use Rattle.std.proofs.Common.{◌≡◌, Bool, true, [], ◌∷◌, Some, refl, sym, ap, ◌∙◌, arith}
+-- What the reading function finds in a whole source is what the source stands for, since a scan finds the groups and names
+-- of every pattern that the grammar derives.
+use Rattle.std.proofs.Common.{◌≡◌, ◌+◌, ◌<◌, ℕ, min, Bool, true, false, List, [], length, Option, Some, IsTrue, inl, inr, refl, sym, ap, ap₂, ◌∙◌, subst, arith}
 use Rattle.std.proofs.lemmas.Option.{same_Some}
+use Rattle.std.proofs.lemmas.Bool.{false≢true}
+use Rattle.regress_base.specs.Limits.{max_capture_groups, max_nesting_depth}
 use Rattle.regress_tree.specs.Matching.{Setting}
 use Rattle.regress_syntax.specs.Source.{Source}
-use Rattle.regress_syntax.specs.Syntax.{Group, grouping, capture, Pattern, Terms, Item, one, either, no_terms, more_terms, atom, group, nothing_counted}
-use Rattle.regress_syntax.specs.Rows.{Context, inside, head_of_item, allows, head_at, times_at}
-use Rattle.regress_parse.specs.Grammar.{IsPattern, AreTerms, IsItem}
+use Rattle.regress_syntax.specs.Syntax.{Name, Pattern, nothing_counted, counts, names, levels}
+use Rattle.regress_syntax.specs.Rows.{Context}
+use Rattle.regress_syntax.specs.Grammar.{IsPattern}
+use Rattle.regress_syntax.specs.Scan.{GivesMarks, Mark, marks_of, plain, marks, named_by, deepest, at_the_start, placed_by, are_apart, has_apart_names, IsRefusedByMarks}
+use Rattle.regress_syntax.proofs.laws.Scan.{named_by-pattern, deepest-whole}
 use Rattle.regress_parse.specs.Reader.{pattern_at}
-use Rattle.regress_parse.specs.Parsing.{context, Fits, pattern_part}
-use Rattle.regress_parse.specs.Accepted.{is_served, own_context, IsDerived, IsWithinLimits}
+use Rattle.regress_parse.specs.Parsing.{Fits, pattern_part}
+use Rattle.regress_parse.specs.Accepted.{is_served, own_context, IsDerived, IsWithinLimits, IsAccepted}
 use Rattle.regress_parse.proofs.GrammarLemmas.{pattern_at-sound, pattern_at-complete}
+use Rattle.regress_parse.proofs.GroupLemmas.{length-names}
 
--- ---- the rows that are served look at the setting alone
+module _ (setting : Setting) (t : Source) (gives : GivesMarks setting.table t) where
+  -- the names of all groups, as the scan finds them
+  abbrev pub found_names : List (Option Name)
+  found_names = named_by (marks setting.table plain t)
 
-with_setting : Context → Setting → Context
-with_setting ctx setting = record ctx { setting = setting }
+  -- the context of these names and so many groups
+  abbrev pub scanned : ℕ → Context
+  scanned groups = record { setting = setting; groups = groups; names = found_names }
 
-head_at-same : (a b : Context) → a.setting ≡ b.setting → (t : Source) → head_at a t ≡ head_at b t
-unfolding head_at with_setting
-head_at-same a b same [] = refl
-head_at-same a b same (c ∷ t) = ap (λ setting. head_at (with_setting b setting) (c ∷ t)) same
+  module _ (ctx : Context) (p : Pattern) (same : ctx.setting.table ≡ setting.table) (h : IsPattern ctx p t []) where
+    pub names_found : names p ≡ found_names
+    names_found = sym (named_by-pattern p) ∙ ap named_by (gives ctx p same h)
 
-times_at-same : (a b : Context) → a.setting ≡ b.setting → (allowed : Bool) (t : Source) → times_at a allowed t ≡ times_at b allowed t
-unfolding times_at with_setting
-times_at-same a b same allowed t = ap (λ setting. times_at (with_setting b setting) allowed t) same
+    groups_found : (counts p).groups ≡ length found_names
+    groups_found = sym (length-names p) ∙ ap length names_found
 
-inside-same : (kind : Group) (a b : Context) → a.setting ≡ b.setting → (inside kind a).setting ≡ (inside kind b).setting
-inside-same grouping a b same = same
-inside-same (capture name) a b same = same
+    own_is : (groups : ℕ) → (counts p).groups ≡ groups → own_context setting p ≡ scanned groups
+    own_is groups e =
+        ap₂ (λ (n : ℕ) (ns : List (Option Name)). record { setting = setting; groups = n; names = ns }) e names_found
 
-mutual
-  in_any_context : (a b : Context) → a.setting ≡ b.setting → (p : Pattern) (t rest : Source) → IsPattern a p t rest → IsPattern b p t rest
-  in_any_context a b same (one ts) t rest h = (terms_in_any_context a b same ts t rest h.0, h.1)
-  in_any_context a b same (either ts p) t rest h =
-      (h.0, terms_in_any_context a b same ts t _ h.1, in_any_context a b same p h.0 rest h.2)
+  abbrev pub most : ℕ
+  most = min (length found_names) max_capture_groups
 
-  terms_in_any_context : (a b : Context) → a.setting ≡ b.setting → (ts : Terms) (t rest : Source) →
-      AreTerms a ts t rest → AreTerms b ts t rest
-  terms_in_any_context a b same no_terms t rest h = h
-  terms_in_any_context a b same (more_terms x q xs) t rest h = (
-    h.0,
-    h.1,
-    item_in_any_context a b same x t h.0 h.2,
-    times_at-same b a (sym same) (allows (head_of_item x)) h.0 ∙ h.3,
-    terms_in_any_context a b same xs h.1 rest h.4,
-  )
+  -- the context that the parser has of what the scan answered
+  pub scanned-is : (groups : ℕ) (ns : List (Option Name)) → ns ≡ found_names → groups ≡ min (length ns) max_capture_groups →
+      record { setting = setting; groups = groups; names = ns } ≡ scanned most
+  scanned-is groups ns same e =
+      ap₂ (λ (n : ℕ) (ns : List (Option Name)). record { setting = setting; groups = n; names = ns })
+      (e ∙ ap (λ ns. min (length ns) max_capture_groups) same) same
 
-  item_in_any_context : (a b : Context) → a.setting ≡ b.setting → (x : Item) (t rest : Source) → IsItem a x t rest → IsItem b x t rest
-  item_in_any_context a b same (atom x) t rest h = head_at-same b a (sym same) t ∙ h
-  item_in_any_context a b same (group kind p) t rest h = (
-    h.0,
-    head_at-same b a (sym same) t ∙ h.1,
-    in_any_context (inside kind a) (inside kind b) (inside-same kind a b same) p h.0 _ h.2,
-  )
+  pub reads_derived : (p : Pattern) → IsDerived setting t p → IsWithinLimits p → pattern_at (scanned most) t ≡ Some (p, [])
+  reads_derived p h limits =
+      let groups : (counts p).groups ≡ most = omega (arith, groups_found (own_context setting p) p refl h.whole, limits.groups) in
+      pattern_at-complete (scanned most) p t []
+      (subst (λ ctx. IsPattern ctx p t []) (own_is (own_context setting p) p refl h.whole most groups) h.whole)
 
--- ---- a whole source
+  pub derived_reads : (p : Pattern) → is_served setting.flags ≡ true → pattern_at (scanned most) t ≡ Some (p, []) →
+      (counts p).groups < max_capture_groups + 1 → IsDerived setting t p
+  derived_reads p served found few =
+      let h = pattern_at-sound (scanned most) t (p, []) found in
+      let groups : (counts p).groups ≡ most = omega (arith, groups_found (scanned most) p refl h, few) in
+      record { served = served; whole = subst (λ ctx. IsPattern ctx p t []) (sym (own_is (scanned most) p refl h most groups)) h }
 
-pub reads_derived : (setting : Setting) (t : Source) (p : Pattern) → IsDerived setting t p → pattern_at (context setting) t ≡ Some (p, [])
-reads_derived setting t p h =
-    pattern_at-complete (context setting) p t [] (in_any_context (own_context setting p) (context setting) refl p t [] h.whole)
+  -- at most one
+  pub same_derived : (p q : Pattern) → IsDerived setting t p → IsDerived setting t q → p ≡ q
+  same_derived p q h k =
+      let all = length found_names in
+      let read : (r : Pattern) → IsDerived setting t r → pattern_at (scanned all) t ≡ Some (r, []) =
+      λ r d.
+      pattern_at-complete (scanned all) r t []
+      (subst (λ ctx. IsPattern ctx r t [])
+      (own_is (own_context setting r) r refl d.whole all (groups_found (own_context setting r) r refl d.whole)) d.whole) in
+      ap (λ (x : Pattern × Source). x.0) (same_Some (p, []) (q, []) (sym (read p h) ∙ read q k))
 
-pub derived_reads : (setting : Setting) (t : Source) (p : Pattern) → is_served setting.flags ≡ true →
-    pattern_at (context setting) t ≡ Some (p, []) → IsDerived setting t p
-derived_reads setting t p served found = record {
-  served = served;
-  whole = in_any_context (context setting) (own_context setting p) refl p t [] (pattern_at-sound (context setting) t (p, []) found);
-}
+  -- what the scan refuses is accepted nowhere
+  pub marks-refuse : IsRefusedByMarks (marks setting.table plain t) → (p : Pattern) → IsAccepted setting t p → ⊥
+  marks-refuse (inl conflicts) p h =
+      let same = gives (own_context setting p) p refl h.derived.whole in
+      false≢true (sym conflicts ∙ ap (λ ms. are_apart (placed_by at_the_start ms)) (sym same) ∙ h.names)
+  marks-refuse (inr deep) p h =
+      let same = gives (own_context setting p) p refl h.derived.whole in
+      omega (arith, deep, ap (deepest 1) same, deepest-whole p, h.limits.levels)
 
--- at most one
-pub same_derived : (setting : Setting) (t : Source) (p q : Pattern) → IsDerived setting t p → IsDerived setting t q → p ≡ q
-same_derived setting t p q h k =
-    ap (λ (x : Pattern × Source). x.0) (same_Some (p, []) (q, []) (sym (reads_derived setting t p h) ∙ reads_derived setting t q k))
+  -- the names of a pattern that is read are apart where the scan's are
+  pub marks-apart : (p : Pattern) → IsTrue (are_apart (placed_by at_the_start (marks setting.table plain t))) → IsDerived setting t p →
+      IsTrue (has_apart_names p)
+  marks-apart p apart h =
+      subst (λ ms. IsTrue (are_apart (placed_by at_the_start ms))) (sym (gives (own_context setting p) p refl h.whole)) apart
 
-pub limits-fit : (setting : Setting) (p : Pattern) → IsWithinLimits p → Fits nothing_counted 0 (pattern_part setting.table p)
-limits-fit setting p h = record { groups = omega (arith, h.groups); loops = omega (arith, h.loops); levels = omega (arith, h.levels) }
+module _ (setting : Setting) (names : List (Option Name)) where
+  pub limits-fit : (p : Pattern) → IsWithinLimits p → Fits nothing_counted 0 (pattern_part setting.table names p)
+  limits-fit p h = record { groups = omega (arith, h.groups); loops = omega (arith, h.loops); levels = omega (arith, h.levels) }
 
-pub fit-limits : (setting : Setting) (p : Pattern) → Fits nothing_counted 0 (pattern_part setting.table p) → IsWithinLimits p
-fit-limits setting p h = record { groups = omega (arith, h.groups); loops = omega (arith, h.loops); levels = omega (arith, h.levels) }
+  pub fit-limits : (p : Pattern) → Fits nothing_counted 0 (pattern_part setting.table names p) → IsWithinLimits p
+  fit-limits p h = record { groups = omega (arith, h.groups); loops = omega (arith, h.loops); levels = omega (arith, h.levels) }

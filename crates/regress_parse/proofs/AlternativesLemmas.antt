@@ -1,5 +1,5 @@
 -- What the parser's loop over alternatives has read so far.
-use Rattle.std.proofs.Common.{◌≡◌, ℕ, ◌+◌, ◌-◌, ◌≤◌, ⊎_elim, true, false, List, [], ◌∷◌, ◌++◌, length, drop, map, Some, None, refl, sym, ap, ap₂, ◌∙◌, arith, length-drop}
+use Rattle.std.proofs.Common.{◌≡◌, ℕ, ◌+◌, ◌-◌, ◌≤◌, ⊎_elim, true, false, List, [], ◌∷◌, ◌++◌, length, drop, map, Some, None, refl, sym, ap, ap₂, ◌∙◌, arith, length-drop, Option}
 use Rattle.std.specs.Option.{IfSome}
 use Rattle.std.proofs.lemmas.Option.{same_Some}
 use Rattle.std.proofs.lemmas.Bool.{cond-true, cond-false}
@@ -8,7 +8,7 @@ use Rattle.regress_tree.specs.Reading.{Direction}
 use Rattle.regress_tree.specs.Table.{Table}
 use Rattle.regress_tree.specs.Tree.{Tree, tree, alt}
 use Rattle.regress_syntax.specs.Source.{Source, Found, ◌>>=◌, bar, is_at}
-use Rattle.regress_syntax.specs.Syntax.{Pattern, Terms, one, either, Counts, added, counts, counts_of_terms, levels, levels_of_terms}
+use Rattle.regress_syntax.specs.Syntax.{Name, Pattern, Terms, one, either, Counts, added, counts, counts_of_terms, levels, levels_of_terms}
 use Rattle.regress_syntax.specs.Rows.{Context}
 use Rattle.regress_syntax.proofs.laws.Sources.{found_then, chosen, to_each, from_each}
 use Rattle.regress_parse.specs.Reader.{pattern_at, terms_at}
@@ -101,9 +101,9 @@ first_terms ctx ts mid x e =
       levels = omega (arith, ap levels same);
     }
 
-module _ (table : Table) (d : Direction) (ctx : Context) (depth : ℕ) (t0 : Source) (before : Counts) where
+module _ (table : Table) (names : List (Option Name)) (d : Direction) (ctx : Context) (depth : ℕ) (t0 : Source) (before : Counts) where
   abbrev part : Terms → Tree
-  part ts = joined d (trees_of_terms table d before.groups ts)
+  part ts = joined d (trees_of_terms table names d before.groups ts)
 
   -- From t0, behind what was counted before, alternatives were read, and a last one that ends at t. These are their nodes.
   pub record AlternativesSoFar (t : Source) (now : Counts) (done_nodes : List Node) (final : Node) : Type 0 where
@@ -111,16 +111,16 @@ module _ (table : Table) (d : Direction) (ctx : Context) (depth : ℕ) (t0 : Sou
     pub last : Terms
     pub reads : pattern_at ctx t0 ≡ others_of ctx (last, t) >>= behind_all done
     pub nodes : (p : Pattern) →
-        alternatives (map tree done_nodes) (tree_of_pattern table d (before.groups + groups_of_all done) p)
-        ≡ tree_of_pattern table d before.groups (eithers done p)
-    pub node : tree final ≡ joined d (trees_of_terms table d (before.groups + groups_of_all done) last)
+        alternatives (map tree done_nodes) (tree_of_pattern table names d (before.groups + groups_of_all done) p)
+        ≡ tree_of_pattern table names d before.groups (eithers done p)
+    pub node : tree final ≡ joined d (trees_of_terms table names d (before.groups + groups_of_all done) last)
     pub counts : now ≡ added before (counts (eithers done (one last)))
-    pub fits : Fits before depth (pattern_part table (eithers done (one last)))
+    pub fits : Fits before depth (pattern_part table names (eithers done (one last)))
     pub shorter : length t ≤ length t0
 
   -- the first alternative
   pub alternatives-start : (t : Source) (now : Counts) (node : Node) (ts : Terms) → terms_at ctx t0 ≡ Some (ts, t) →
-      tree node ≡ part ts → now ≡ added before (counts_of_terms ts) → Fits before (depth + 1) (terms_part table ts) →
+      tree node ≡ part ts → now ≡ added before (counts_of_terms ts) → Fits before (depth + 1) (terms_part table names ts) →
       AlternativesSoFar t now [] node
   alternatives-start t now node ts found built count fits =
       let none : before.groups ≡ before.groups + 0 = omega arith in
@@ -128,10 +128,10 @@ module _ (table : Table) (d : Direction) (ctx : Context) (depth : ℕ) (t0 : Sou
         done = [];
         last = ts;
         reads = pattern_at-is ctx t0 ∙ ap (λ found. found >>= others_of ctx) found ∙ behind_none (others_of ctx (ts, t));
-        nodes = λ p. ap (λ k. tree_of_pattern table d k p) (sym none);
-        node = built ∙ ap (λ k. joined d (trees_of_terms table d k ts)) none;
+        nodes = λ p. ap (λ k. tree_of_pattern table names d k p) (sym none);
+        node = built ∙ ap (λ k. joined d (trees_of_terms table names d k ts)) none;
         counts = count;
-        fits = Fits-inside before before (depth + 1) depth (terms_part table ts) (pattern_part table (one ts))
+        fits = Fits-inside before before (depth + 1) depth (terms_part table names ts) (pattern_part table names (one ts))
             (omega arith) (omega arith) (omega arith) fits;
         shorter = terms_at-shortens ctx t0 (ts, t) found;
       }
@@ -169,8 +169,8 @@ module _ (table : Table) (d : Direction) (ctx : Context) (depth : ℕ) (t0 : Sou
   -- one more alternative
   pub alternatives-step : (t : Source) (now : Counts) (nodes : List Node) (final node : Node) (ts : Terms) (rest : Source) (new : Counts) →
       AlternativesSoFar t now nodes final → is_at bar t ≡ true → terms_at ctx (drop 1 t) ≡ Some (ts, rest) →
-      tree node ≡ joined d (trees_of_terms table d now.groups ts) → new ≡ added now (counts_of_terms ts) →
-      Fits now (depth + 1) (terms_part table ts) → AlternativesSoFar rest new (nodes ++ final ∷ []) node
+      tree node ≡ joined d (trees_of_terms table names d now.groups ts) → new ≡ added now (counts_of_terms ts) →
+      Fits now (depth + 1) (terms_part table names ts) → AlternativesSoFar rest new (nodes ++ final ∷ []) node
   alternatives-step t now nodes final node ts rest new h more found built count fits =
       let all = h.done ++ h.last ∷ [] in
       let at = here t now nodes final h in
@@ -184,12 +184,12 @@ module _ (table : Table) (d : Direction) (ctx : Context) (depth : ℕ) (t0 : Sou
         nodes = λ p.
             let k = (before.groups + groups_of_all h.done) + (counts_of_terms h.last).groups in
             let place : before.groups + groups_of_all all ≡ k = omega (arith, groups_of_all-push h.done h.last) in
-            ap (λ k. alternatives (map tree (nodes ++ final ∷ [])) (tree_of_pattern table d k p)) place
-            ∙ alternatives-push nodes final (tree_of_pattern table d k p)
-            ∙ ap (λ u. alternatives (map tree nodes) (alt u (tree_of_pattern table d k p))) h.node
+            ap (λ k. alternatives (map tree (nodes ++ final ∷ [])) (tree_of_pattern table names d k p)) place
+            ∙ alternatives-push nodes final (tree_of_pattern table names d k p)
+            ∙ ap (λ u. alternatives (map tree nodes) (alt u (tree_of_pattern table names d k p))) h.node
             ∙ h.nodes (either h.last p)
-            ∙ ap (tree_of_pattern table d before.groups) (sym (eithers-push h.done h.last p));
-        node = built ∙ ap (λ k. joined d (trees_of_terms table d k ts)) at.groups;
+            ∙ ap (tree_of_pattern table names d before.groups) (sym (eithers-push h.done h.last p));
+        node = built ∙ ap (λ k. joined d (trees_of_terms table names d k ts)) at.groups;
         counts =
             count
             ∙ ap₂ (λ (g l : ℕ). record { groups = g; loops = l })
@@ -216,35 +216,35 @@ module _ (table : Table) (d : Direction) (ctx : Context) (depth : ℕ) (t0 : Sou
 
   -- the node of all alternatives
   pub alternatives-node : (t : Source) (now : Counts) (nodes : List Node) (final : Node) (h : AlternativesSoFar t now nodes final) →
-      alternatives (map tree nodes) (tree final) ≡ tree_of_pattern table d before.groups (eithers h.done (one h.last))
+      alternatives (map tree nodes) (tree final) ≡ tree_of_pattern table names d before.groups (eithers h.done (one h.last))
   alternatives-node t now nodes final h = ap (alternatives (map tree nodes)) h.node ∙ h.nodes (one h.last)
 
 -- a first alternative that is none, or too much, is so for the pattern
-pub first-fail : (table : Table) (ctx : Context) (depth : ℕ) (t : Source) (before : Counts) →
-    IfSome (terms_at ctx t) (λ x. Fits before (depth + 1) (terms_part table x.0) → ⊥) →
-    IfSome (pattern_at ctx t) (λ x. Fits before depth (pattern_part table x.0) → ⊥)
-first-fail table ctx depth t before refused =
+pub first-fail : (table : Table) (names : List (Option Name)) (ctx : Context) (depth : ℕ) (t : Source) (before : Counts) →
+    IfSome (terms_at ctx t) (λ x. Fits before (depth + 1) (terms_part table names x.0) → ⊥) →
+    IfSome (pattern_at ctx t) (λ x. Fits before depth (pattern_part table names x.0) → ⊥)
+first-fail table names ctx depth t before refused =
     from_each (pattern_at ctx t) _ (λ x found fits.
     let first = found_then (terms_at ctx t) (others_of ctx) x (sym (pattern_at-is ctx t) ∙ found) in
     let less = first_terms ctx first.0.0 first.0.1 x first.2 in
     to_each (terms_at ctx t) _ refused first.0 first.1
-    (Fits-inside before before depth (depth + 1) (pattern_part table x.0) (terms_part table first.0.0)
+    (Fits-inside before before depth (depth + 1) (pattern_part table names x.0) (terms_part table names first.0.0)
     (omega (arith, less.groups)) (omega (arith, less.loops)) (omega (arith, less.levels)) fits))
 
 -- so is a later one
-pub alternatives-fail : (table : Table) (d : Direction) (ctx : Context) (depth : ℕ) (t0 : Source) (before : Counts)
-    (t : Source) (now : Counts) (nodes : List Node) (final : Node) → AlternativesSoFar table d ctx depth t0 before t now nodes final →
-    is_at bar t ≡ true → IfSome (terms_at ctx (drop 1 t)) (λ x. Fits now (depth + 1) (terms_part table x.0) → ⊥) →
-    IfSome (pattern_at ctx t0) (λ x. Fits before depth (pattern_part table x.0) → ⊥)
-alternatives-fail table d ctx depth t0 before t now nodes final h more refused =
+pub alternatives-fail : (table : Table) (names : List (Option Name)) (d : Direction) (ctx : Context) (depth : ℕ) (t0 : Source) (before : Counts)
+    (t : Source) (now : Counts) (nodes : List Node) (final : Node) → AlternativesSoFar table names d ctx depth t0 before t now nodes final →
+    is_at bar t ≡ true → IfSome (terms_at ctx (drop 1 t)) (λ x. Fits now (depth + 1) (terms_part table names x.0) → ⊥) →
+    IfSome (pattern_at ctx t0) (λ x. Fits before depth (pattern_part table names x.0) → ⊥)
+alternatives-fail table names d ctx depth t0 before t now nodes final h more refused =
     let all = h.done ++ h.last ∷ [] in
-    let at = here table d ctx depth t0 before t now nodes final h in
+    let at = here table names d ctx depth t0 before t now nodes final h in
     from_each (pattern_at ctx t0) _ (λ x found fits.
     let rest = found_then (pattern_at ctx (drop 1 t)) (behind_all all) x
-    (sym (reads_on table d ctx depth t0 before t now nodes final h more) ∙ found) in
+    (sym (reads_on table names d ctx depth t0 before t now nodes final h more) ∙ found) in
     let same = ap (λ (z : Pattern × Source). z.0) (same_Some (eithers all rest.0.0, rest.0.1) x rest.2) in
-    to_each (pattern_at ctx (drop 1 t)) _ (first-fail table ctx depth (drop 1 t) now refused) rest.0 rest.1
-    (Fits-inside before now depth depth (pattern_part table x.0) (pattern_part table rest.0.0)
+    to_each (pattern_at ctx (drop 1 t)) _ (first-fail table names ctx depth (drop 1 t) now refused) rest.0 rest.1
+    (Fits-inside before now depth depth (pattern_part table names x.0) (pattern_part table names rest.0.0)
     (omega (arith, at.groups, ap (λ p. (counts p).groups) same, groups-eithers all rest.0.0))
     (omega (arith, at.loops, ap (λ p. (counts p).loops) same, loops-eithers all rest.0.0))
     (omega (arith, ap levels same, levels-inside all rest.0.0)) fits))

@@ -8,10 +8,10 @@ use Rattle.regress_tree.specs.declared.ir.node.Node.{Node}
 use Rattle.regress_tree.specs.Reading.{Direction}
 use Rattle.regress_tree.specs.Table.{Table, is_in_closure}
 use Rattle.regress_tree.proofs.laws.Closures.{closure_same}
-use Rattle.regress_tree.specs.Tree.{Tree, tree, trees, alt, cat, row_append, row_reverse, no_trees, more_trees}
+use Rattle.regress_tree.specs.Tree.{Tree, tree, trees, leaf, back_ref, alt, cat, row_append, row_reverse, no_trees, more_trees}
 use Rattle.regress_syntax.specs.Meaning.{is_in_class}
 use Rattle.regress_syntax.specs.Views.{HasMembers}
-use Rattle.regress_parse.specs.TreeOf.{turned, joined}
+use Rattle.regress_parse.specs.TreeOf.{turned, joined, tree_of_references}
 use Rattle.regress_parse.specs.Parsing.{alternatives}
 
 pub alternatives-push : (nodes : List Node) (node : Node) (last : Tree) →
@@ -36,6 +36,32 @@ trees-reverse (n ∷ nodes) =
     ap trees (reverse_onto nodes n [])
     ∙ trees-push (reverse nodes) n
     ∙ ap (λ r. row_append r (more_trees (tree n) no_trees)) (trees-reverse nodes)
+
+-- ---- references
+
+abbrev pub reference : Bool → ℕ → Tree
+reference icase k = leaf (back_ref k icase)
+
+alternatives-onto : (ts : List Tree) (t last : Tree) → alternatives (ts ++ t ∷ []) last ≡ alternatives ts (alt t last)
+alternatives-onto [] t last = refl
+alternatives-onto (u ∷ ts) t last = ap (alt u) (alternatives-onto ts t last)
+
+map-push : (icase : Bool) (ks : List ℕ) (k : ℕ) → map (reference icase) (ks ++ k ∷ []) ≡ map (reference icase) ks ++ reference icase k ∷ []
+map-push icase [] k = refl
+map-push icase (j ∷ ks) k = ap (λ ts. reference icase j ∷ ts) (map-push icase ks k)
+
+-- a reference before those that are joined
+pub references-push : (icase : Bool) (ks : List ℕ) (k : ℕ) (last : Tree) →
+    alternatives (map (reference icase) (ks ++ k ∷ [])) last ≡ alternatives (map (reference icase) ks) (alt (reference icase k) last)
+references-push icase ks k last =
+    ap (λ ts. alternatives ts last) (map-push icase ks k) ∙ alternatives-onto (map (reference icase) ks) (reference icase k) last
+
+-- references before a last one
+pub references-are : (icase : Bool) (ks : List ℕ) (k : ℕ) →
+    alternatives (map (reference icase) ks) (reference icase k) ≡ tree_of_references icase (ks ++ k ∷ [])
+references-are icase [] k = refl
+references-are icase (j ∷ []) k = refl
+references-are icase (j ∷ (i ∷ ks)) k = ap (alt (reference icase j)) (references-are icase (i ∷ ks) k)
 
 -- ---- sets of classes
 

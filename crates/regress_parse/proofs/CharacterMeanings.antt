@@ -75,10 +75,10 @@ behind_a_class_a_hyphen_is_one = (refl, rw hyphen_set refl)
 
 -- ---- literals with the flag i
 
-abbrev few_icase : Setting
+abbrev pub few_icase : Setting
 few_icase = record icase { table = few_letters }
 
-abbrev few_icase_unicode : Setting
+abbrev pub few_icase_unicode : Setting
 few_icase_unicode = record icase_unicode { table = few_letters }
 
 a_small_letter_stands_for_its_capital : Gives few_icase (codes "k") (codes "K") (from 0 (at 1 [] ∷ []) ∷ from 1 [] ∷ [])

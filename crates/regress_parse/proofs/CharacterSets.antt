@@ -70,19 +70,31 @@ hyphen_set = sym (canonical_is hyphen_and_digits (is_member (digits ++ run 45 45
     same : (c : ℕ) → c ≤ code_point_max → is_member hyphen_and_digits c ≡ is_member (digits ++ run 45 45 ∷ run 122 122 ∷ []) c
     same c h = grind (arith, nat_tests)
 
+-- `[abc]`
+pub letters_set : intervals_of (is_member (run 97 97 ∷ run 98 98 ∷ run 99 99 ∷ [])) ≡ run 97 99 ∷ []
+unfolding is_member is_within
+letters_set = sym (canonical_is (run 97 99 ∷ []) (is_member (run 97 97 ∷ run 98 98 ∷ run 99 99 ∷ [])) refl same)
+  where
+    same : (c : ℕ) → c ≤ code_point_max → is_member (run 97 99 ∷ []) c ≡ is_member (run 97 97 ∷ run 98 98 ∷ run 99 99 ∷ []) c
+    same c h = grind (arith, nat_tests)
+
 -- ---- literals with the flag i, under a table of a few letters
 
--- the folds and capitals of k, s, e acute and theta, and what else folds to them
+-- the folds and capitals of a, b, k, s, e acute and theta, and what else folds to them
 abbrev pub few_letters : Table
 few_letters = record empty_table {
   fold = λ c.
-      if c == 0x4B || c == 0x212A then 0x6B
+      if c == 0x41 then 0x61
+      else if c == 0x42 then 0x62
+      else if c == 0x4B || c == 0x212A then 0x6B
       else if c == 0x53 || c == 0x17F then 0x73
       else if c == 0xC9 then 0xE9
       else if c == 0x398 || c == 0x3F4 then 0x3B8
       else c;
   uppercase = λ c.
-      if c == 0x6B then 0x4B
+      if c == 0x61 then 0x41
+      else if c == 0x62 then 0x42
+      else if c == 0x6B then 0x4B
       else if c == 0x73 then 0x53
       else if c == 0xE9 then 0xC9
       else if c == 0x3B8 then 0x398
@@ -95,6 +107,12 @@ letters unicode c = class_of few_letters true unicode c
 -- a letter stands for a list of letters
 stands_for_these : (unicode : Bool) (c : ℕ) (xs : List ℕ) → IsListing (stands_for few_letters true unicode c) xs → letters unicode c ≡ xs
 stands_for_these unicode c xs listing = sym (listing_is_listed (stands_for few_letters true unicode c) xs listing)
+
+pub a_in_two_cases : letters false 0x61 ≡ 0x41 ∷ 0x61 ∷ []
+a_in_two_cases = stands_for_these false 0x61 _ (record { ascending = refl; members = λ x. grind (arith, nat_tests) })
+
+pub b_in_two_cases : letters false 0x62 ≡ 0x42 ∷ 0x62 ∷ []
+b_in_two_cases = stands_for_these false 0x62 _ (record { ascending = refl; members = λ x. grind (arith, nat_tests) })
 
 pub k_in_two_cases : letters false 0x6B ≡ 0x4B ∷ 0x6B ∷ []
 k_in_two_cases = stands_for_these false 0x6B _ (record { ascending = refl; members = λ x. grind (arith, nat_tests) })

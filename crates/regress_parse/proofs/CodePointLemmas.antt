@@ -1,159 +1,170 @@
--- What is read from code points holds code points, and code points stand behind it.
-use Rattle.std.proofs.Common.{◌≡◌, ◌≢◌, ℕ, Bool, true, false, not, cond, ◌&&◌, ◌||◌, ◌==◌, IsTrue, [], ◌∷◌, drop, List, All, Option, Some, None, is_some, option_map, encode_utf8_all, refl, arith}
+-- What the rows read from code points: code points, names that may stand, and references to groups that there are.
+use Rattle.std.proofs.Common.{◌≡◌, ℕ, ◌+◌, ◌*◌, ◌≤◌, nat_le, Bool, true, false, cond, ◌&&◌, ◌||◌, ◌==◌, [], ◌∷◌, drop, List, All, Option, Some, None, is_some, arith}
 use Rattle.std.specs.Option.{IfSome}
-use Rattle.std.proofs.lemmas.Bool.{and_parts}
-use Rattle.std.proofs.lemmas.List.Elements.{All-head, All-tail, All-cons}
+use Rattle.std.proofs.lemmas.Bool.Decides.{nat_tests}
+use Rattle.std.proofs.lemmas.List.Elements.{All-head, All-tail}
 use Rattle.regress_base.specs.Intervals.{Bounds}
 use Rattle.regress_base.specs.declared.charclasses.CharacterClassType.{CharacterClassType}
-use Rattle.regress_tree.specs.declared.ir.node.Quantifier.{Quantifier}
+use Rattle.regress_tree.specs.Table.{Table}
 use Rattle.regress_syntax.specs.ClassRows.{class_letter, class_at}
-use Rattle.regress_syntax.specs.Digits.{is_between}
-use Rattle.regress_syntax.specs.Escapes.{begins_with_letter, escape_at}
-use Rattle.regress_syntax.specs.Quantifiers.{quantifier_at, is_ordered}
-use Rattle.regress_syntax.specs.Rows.{Context, Head, single, opens, group_at, character_at, escaped_by, escaped_at, atom_by, head_at, no_quantifier_at, this_quantifier, times_at}
+use Rattle.regress_syntax.specs.Digits.{is_between, is_decimal, digit, number_from, number, front}
+use Rattle.regress_syntax.specs.Escapes.{escape_at}
+use Rattle.regress_syntax.specs.Modifiers.{Change, modifiers_at}
+use Rattle.regress_syntax.specs.Names.{group_name_at}
+use Rattle.regress_syntax.specs.Quantifiers.{quantifier_at}
+use Rattle.regress_syntax.specs.Rows.{Context, Head, single, opens, angle_at, behind_mark_at, group_at, is_unserved, is_lone_backslash, has_name, has_names, character_at, numbered_at, named_at, escaped_by, escaped_at, brace_by, atom_by, head_at}
 use Rattle.regress_syntax.specs.Source.{Source, Found, found_map, IsCodePoint, opening, full_stop, colon, question_mark, is_at, is_plain}
-use Rattle.regress_syntax.specs.Syntax.{Atom, literal, dot, anchor, boundary, class_escape, class, Group, grouping, capture}
-use Rattle.regress_syntax.proofs.laws.Behind.{IsBehind, behind_all, behind_drop, Ends, escape_at-ends, quantifier_at-ends}
-use Rattle.regress_syntax.proofs.laws.Pieces.{class_at-ends}
-use Rattle.regress_syntax.proofs.laws.Sources.{from_each}
-use Rattle.regress_syntax.proofs.laws.InRange.{escape_at-in_range}
+use Rattle.regress_syntax.specs.Syntax.{Target, by_number, by_name, Atom, literal, dot, anchor, boundary, class_escape, class, back_reference, Group, grouping, modified, capture, look}
+use Rattle.regress_syntax.proofs.laws.Behind.{Ends, behind_all}
+use Rattle.regress_syntax.proofs.laws.InRange.{Finds, finds_none, finds_some, finds_cond, finds_then, escape_at-in_range}
+use Rattle.regress_syntax.proofs.laws.NameEnds.{IsName, name_characters}
 
 -- the source is made of code points
 pub record AreCodePoints (t : Source) : Type 0 where
   pub each : All IsCodePoint t
 
-pub first_of : {c : ℕ} {rest : Source} → AreCodePoints (c ∷ rest) → IsCodePoint c
-first_of {c} {rest} all = All-head IsCodePoint c rest all.each
-
 pub rest_of : {c : ℕ} {rest : Source} → AreCodePoints (c ∷ rest) → AreCodePoints rest
 rest_of {c} {rest} all = record { each = All-tail IsCodePoint c rest all.each }
 
-behind_these : (t rest : Source) → IsBehind t rest → AreCodePoints t → AreCodePoints rest
-behind_these t rest behind all = record { each = behind_all t rest behind all.each }
+pub behind_found : {A : Type 0} (found : Found A) (t : Source) (x : A × Source) → Ends found t → found ≡ Some x → AreCodePoints t →
+    AreCodePoints x.1
+behind_found found t x ends e all = record { each = behind_all t x.1 (ends.each x e) all.each }
 
--- ---- what is found
+finds_map : {A B : Type 0} (P : A → Type 0) (Q : B → Type 0) (f : A → B) (found : Found A) → ((x : A) → P x → Q (f x)) →
+    Finds P found → Finds Q (found_map f found)
+finds_map P Q f found k h = finds_then P Q found _ h (λ x holds. finds_some Q (f x.0, x.1) (k x.0 holds))
 
--- it has the property, if anything is found, and code points stand behind it
-abbrev pub IsGood : {A : Type 0} → (A → Type 0) → Found A → Type 0
-IsGood P found = IfSome found (λ x. P x.0 × AreCodePoints x.1)
+-- whatever is found is something
+finds_any : {A : Type 0} (found : Found A) → Finds (λ _. Unit {0}) found
+finds_any found = record { each = λ x e. tt }
 
-good_cond : {A : Type 0} (P : A → Type 0) (b : Bool) (x y : Found A) → IsGood P x → IsGood P y → IsGood P (cond b x y)
-good_cond P true x y hx hy = hx
-good_cond P false x y hx hy = hy
+-- ---- what may stand in a pattern of n groups
 
-good_map : {A B : Type 0} (P : A → Type 0) (Q : B → Type 0) (f : A → B) (found : Found A) → ((a : A) → P a → Q (f a)) →
-    IsGood P found → IsGood Q (found_map f found)
-good_map P Q f None h good = tt
-good_map P Q f (Some x) h good = (h x.0 good.0, good.1)
+abbrev pub IsGoodTarget : ℕ → Target → Type 0
+IsGoodTarget n (by_number k) = (1 ≤ k) × (k ≤ n)
+IsGoodTarget n (by_name name) = Unit {0}
 
--- a reader that leaves an end of its source
-good_ends : {A : Type 0} (P : A → Type 0) (t : Source) (found : Found A) → AreCodePoints t → Ends found t →
-    IfSome found (λ x. P x.0) → IsGood P found
-good_ends P t None all ends good = tt
-good_ends P t (Some x) all ends good = (good, behind_these t x.1 (ends.each x refl) all)
+abbrev pub IsGoodAtom : ℕ → Atom → Type 0
+IsGoodAtom n (literal flags c) = IsCodePoint c
+IsGoodAtom n (dot flags) = Unit {0}
+IsGoodAtom n (anchor flags kind) = Unit {0}
+IsGoodAtom n (boundary flags inverted) = Unit {0}
+IsGoodAtom n (class_escape flags kind negated) = Unit {0}
+IsGoodAtom n (class flags inverted members) = Unit {0}
+IsGoodAtom n (back_reference flags to) = IsGoodTarget n to
+
+abbrev pub IsGoodGroup : Group → Type 0
+IsGoodGroup grouping = Unit {0}
+IsGoodGroup (modified change) = Unit {0}
+IsGoodGroup (capture name) = IfSome name IsName
+IsGoodGroup (look negate direction) = Unit {0}
+
+abbrev pub IsGoodHead : ℕ → Head → Type 0
+IsGoodHead n (single a) = IsGoodAtom n a
+IsGoodHead n (opens kind) = IsGoodGroup kind
+
+-- ---- what a parenthesis opens
+
+module _ (n : ℕ) (table : Table) where
+  angle_at-good : (t : Source) → Finds (IsGoodHead n) (angle_at table t)
+  angle_at-good t =
+      finds_cond _ (is_at 61 (drop 1 t)) _ _ (λ _. finds_some _ _ tt)
+      (λ _. finds_cond _ (is_at 33 (drop 1 t)) _ _ (λ _. finds_some _ _ tt)
+      (λ _. finds_map IsName (IsGoodHead n) (λ name. opens (capture (Some name))) (group_name_at table t) (λ name h. h) (name_characters table t)))
+
+  behind_mark_at-good : (t : Source) → Finds (IsGoodHead n) (behind_mark_at table t)
+  behind_mark_at-good t =
+      finds_cond _ (is_at colon t) _ _ (λ _. finds_some _ _ tt)
+      (λ _. finds_cond _ (is_at 61 t) _ _ (λ _. finds_some _ _ tt)
+      (λ _. finds_cond _ (is_at 33 t) _ _ (λ _. finds_some _ _ tt)
+      (λ _. finds_cond _ (is_at 60 t) _ _ (λ _. angle_at-good t)
+      (λ _. finds_map (λ (_ : Change). Unit {0}) (IsGoodHead n) (λ change. opens (modified change)) (modifiers_at t) (λ x h. tt) (finds_any (modifiers_at t))))))
+
+  group_at-good : (t : Source) → Finds (IsGoodHead n) (group_at table t)
+  group_at-good t = finds_cond _ (is_at question_mark t) _ _ (λ _. behind_mark_at-good (drop 1 t)) (λ _. finds_some _ _ tt)
+
+-- ---- references by number
+
+number_from-least : (n : ℕ) (cs : List ℕ) → n ≤ number_from 10 n cs
+number_from-least n [] = omega arith
+number_from-least n (c ∷ cs) = omega (arith, number_from-least (n * 10 + digit c) cs)
+
+-- the first digit is not 0, nor is the number
+number-least : (c : ℕ) (t : Source) → is_between 49 57 c ≡ true → 1 ≤ number 10 (front is_decimal (c ∷ t))
+unfolding front
+number-least c t e =
+    let decimal : is_decimal c ≡ true = grind (arith, nat_tests) in
+    let some : 1 ≤ digit c = grind (arith, nat_tests) in
+    rw decimal (omega (arith, some, number_from-least (0 * 10 + digit c) (front is_decimal t)))
 
 -- ---- items
 
--- its literal is a code point
-abbrev pub IsGoodAtom : Atom → Type 0
-IsGoodAtom (literal flags c) = IsCodePoint c
-IsGoodAtom (dot flags) = Unit {0}
-IsGoodAtom (anchor flags kind) = Unit {0}
-IsGoodAtom (boundary flags inverted) = Unit {0}
-IsGoodAtom (class_escape flags kind negated) = Unit {0}
-IsGoodAtom (class flags inverted members) = Unit {0}
-
--- its name is not empty
-abbrev pub IsGoodGroup : Group → Type 0
-IsGoodGroup grouping = Unit {0}
-IsGoodGroup (capture name) = IfSome (option_map encode_utf8_all name) (λ bytes. bytes ≢ [])
-
-abbrev pub IsGoodHead : Head → Type 0
-IsGoodHead (single a) = IsGoodAtom a
-IsGoodHead (opens kind) = IsGoodGroup kind
-
-group_at-good : (t : Source) → AreCodePoints t → IsGood IsGoodHead (group_at t)
-group_at-good t all =
-    good_cond IsGoodHead (is_at question_mark t) _ _
-    (good_cond IsGoodHead (is_at colon (drop 1 t)) _ None (tt, behind_these t (drop 2 t) (behind_drop 2 t) all) tt)
-    (tt, all)
-
--- it asks for no more turns at least than at most
-abbrev pub IsGoodTimes : Option Quantifier → Type 0
-IsGoodTimes times = IfSome times (λ q. IsTrue (is_ordered q))
-
-module _ (ctx : Context) where
-  character_at-good : (c : ℕ) (t : Source) → AreCodePoints (c ∷ t) → IsGood IsGoodAtom (character_at ctx c t)
+module _ (ctx : Context) (n : ℕ) (within : ctx.groups ≤ n) where
+  character_at-good : (c : ℕ) (t : Source) → AreCodePoints (c ∷ t) → Finds (IsGoodAtom n) (character_at ctx c t)
   character_at-good c t all =
-      let unicode = ctx.setting.flags.unicode in
-      good_cond IsGoodAtom (is_between 49 57 c || c == 107 || (unicode && (c == 112 || c == 80))) None _ tt
-      (good_map IsCodePoint IsGoodAtom (literal ctx.setting.flags) (escape_at unicode (c ∷ t)) (λ d h. h)
-      (good_ends IsCodePoint (c ∷ t) (escape_at unicode (c ∷ t)) all (escape_at-ends unicode (c ∷ t))
-      (from_each (escape_at unicode (c ∷ t)) _ (escape_at-in_range unicode (c ∷ t) all.each).each)))
+      finds_cond _ (is_unserved ctx.setting.flags.unicode c) _ _ (λ _. finds_none _)
+      (λ _. finds_map IsCodePoint (IsGoodAtom n) (literal ctx.setting.flags) (escape_at ctx.setting.flags.unicode (c ∷ t)) (λ d h. h)
+      (escape_at-in_range ctx.setting.flags.unicode (c ∷ t) all.each))
 
-  escaped_by-good : (c : ℕ) (t : Source) → AreCodePoints (c ∷ t) → IsGood IsGoodAtom (escaped_by ctx c t)
+  numbered_at-good : (c : ℕ) (t : Source) → AreCodePoints (c ∷ t) → is_between 49 57 c ≡ true → Finds (IsGoodAtom n) (numbered_at ctx c t)
+  numbered_at-good c t all first =
+      finds_cond _ (nat_le (number 10 (front is_decimal (c ∷ t))) ctx.groups) _ _
+      (λ e. finds_some _ _ (number-least c t first, grind (arith, nat_tests, within)))
+      (λ _. finds_cond _ ctx.setting.flags.unicode _ _ (λ _. finds_none _) (λ _. character_at-good c t all))
+
+  named_at-good : (t : Source) → Finds (IsGoodAtom n) (named_at ctx t)
+  named_at-good t =
+      finds_then _ _ (group_name_at ctx.setting.table t) _ (finds_any (group_name_at ctx.setting.table t))
+      (λ x _. finds_cond _ (has_name x.0 ctx.names) _ _ (λ _. finds_some _ _ tt) (λ _. finds_none _))
+
+  escaped_by-good : (c : ℕ) (t : Source) → AreCodePoints (c ∷ t) → Finds (IsGoodAtom n) (escaped_by ctx c t)
   escaped_by-good c t all = by_letter (class_letter c)
     where
       by_letter : (letter : Option (CharacterClassType × Bool)) →
-          IsGood IsGoodAtom
+          Finds (IsGoodAtom n)
           (elim letter as (λ _. Found Atom) [
             | Some named ↦ Some (class_escape ctx.setting.flags named.0 named.1, t)
             | None ↦
                 cond (c == 98) (Some (boundary ctx.setting.flags false, t))
                 (cond (c == 66) (Some (boundary ctx.setting.flags true, t))
-                (cond (c == 99 && not ctx.setting.flags.unicode && not (begins_with_letter t)) (Some (literal ctx.setting.flags 92, 99 ∷ t))
-                (character_at ctx c t)))
+                (cond (is_lone_backslash ctx.setting.flags.unicode c t) (Some (literal ctx.setting.flags 92, 99 ∷ t))
+                (cond (is_between 49 57 c) (numbered_at ctx c t)
+                (cond (c == 107 && (ctx.setting.flags.unicode || has_names ctx.names)) (named_at ctx t) (character_at ctx c t)))))
           ])
-      by_letter (Some named) = (tt, rest_of all)
+      by_letter (Some named) = finds_some _ _ tt
       by_letter None =
-          good_cond IsGoodAtom (c == 98) _ _ (tt, rest_of all)
-          (good_cond IsGoodAtom (c == 66) _ _ (tt, rest_of all)
-          (good_cond IsGoodAtom (c == 99 && not ctx.setting.flags.unicode && not (begins_with_letter t)) _ _
-          (omega arith, record { each = All-cons IsCodePoint 99 t (omega arith) (rest_of all).each })
-          (character_at-good c t all)))
+          finds_cond _ (c == 98) _ _ (λ _. finds_some _ _ tt)
+          (λ _. finds_cond _ (c == 66) _ _ (λ _. finds_some _ _ tt)
+          (λ _. finds_cond _ (is_lone_backslash ctx.setting.flags.unicode c t) _ _ (λ _. finds_some _ _ (omega arith))
+          (λ _. finds_cond _ (is_between 49 57 c) _ _ (numbered_at-good c t all)
+          (λ _. finds_cond _ (c == 107 && (ctx.setting.flags.unicode || has_names ctx.names)) _ _
+          (λ _. named_at-good t) (λ _. character_at-good c t all)))))
 
-  escaped_at-good : (t : Source) → AreCodePoints t → IsGood IsGoodAtom (escaped_at ctx t)
-  escaped_at-good [] all = tt
+  escaped_at-good : (t : Source) → AreCodePoints t → Finds (IsGoodAtom n) (escaped_at ctx t)
+  escaped_at-good [] all = finds_none _
   escaped_at-good (c ∷ t) all = escaped_by-good c t all
 
-  class_at-good : (t : Source) → AreCodePoints t → IsGood (λ _. Unit {0}) (class_at ctx.setting.flags.unicode t)
-  class_at-good t all =
-      good_ends (λ _. Unit {0}) t _ all (class_at-ends ctx.setting.flags.unicode t) (from_each (class_at ctx.setting.flags.unicode t) _ (λ x e. tt))
+  brace_by-good : (c : ℕ) (t : Source) → IsCodePoint c → Finds (IsGoodAtom n) (brace_by ctx c t)
+  brace_by-good c t h =
+      finds_cond _ (ctx.setting.flags.unicode || is_some (quantifier_at (c ∷ t))) _ _ (λ _. finds_none _) (λ _. finds_some _ _ h)
 
-  atom_by-good : (c : ℕ) (t : Source) → AreCodePoints (c ∷ t) → IsGood IsGoodAtom (atom_by ctx c t)
-  atom_by-good c t all =
-      good_cond IsGoodAtom (c == full_stop) _ _ (tt, rest_of all)
-      (good_cond IsGoodAtom (c == 94) _ _ (tt, rest_of all)
-      (good_cond IsGoodAtom (c == 36) _ _ (tt, rest_of all)
-      (good_cond IsGoodAtom (c == 92) _ _ (escaped_at-good t (rest_of all))
-      (good_cond IsGoodAtom (c == 91) _ _
-      (good_map (λ (_ : Bool × List Bounds). Unit {0}) IsGoodAtom (λ (inverted, members). class ctx.setting.flags inverted members) _ (λ x h. tt)
-      (class_at-good t (rest_of all)))
-      (good_cond IsGoodAtom (c == 123 || c == 93 || c == 125) _ _
-      (good_cond IsGoodAtom (ctx.setting.flags.unicode || is_some (quantifier_at (c ∷ t))) None _ tt (first_of all, rest_of all))
-      (good_cond IsGoodAtom (is_plain c) _ None (first_of all, rest_of all) tt))))))
+  atom_by-good : (c : ℕ) (t : Source) → IsCodePoint c → AreCodePoints t → Finds (IsGoodAtom n) (atom_by ctx c t)
+  atom_by-good c t h all =
+      finds_cond _ (c == full_stop) _ _ (λ _. finds_some _ _ tt)
+      (λ _. finds_cond _ (c == 94) _ _ (λ _. finds_some _ _ tt)
+      (λ _. finds_cond _ (c == 36) _ _ (λ _. finds_some _ _ tt)
+      (λ _. finds_cond _ (c == 92) _ _ (λ _. escaped_at-good t all)
+      (λ _. finds_cond _ (c == 91) _ _
+      (λ _. finds_map (λ (_ : Bool × List Bounds). Unit {0}) (IsGoodAtom n) (λ (inverted, members). class ctx.setting.flags inverted members) _
+      (λ x holds. tt) (finds_any (class_at ctx.setting.flags.unicode t)))
+      (λ _. finds_cond _ (c == 123 || c == 93 || c == 125) _ _ (λ _. brace_by-good c t h)
+      (λ _. finds_cond _ (is_plain c) _ _ (λ _. finds_some _ _ h) (λ _. finds_none _)))))))
 
   -- what an item begins with
-  pub head_at-good : (t : Source) → AreCodePoints t → IsGood IsGoodHead (head_at ctx t)
+  pub head_at-good : (t : Source) → AreCodePoints t → Finds (IsGoodHead n) (head_at ctx t)
   unfolding head_at
-  head_at-good [] all = tt
+  head_at-good [] all = finds_none _
   head_at-good (c ∷ t) all =
-      good_cond IsGoodHead (c == opening) _ _ (group_at-good t (rest_of all))
-      (good_map IsGoodAtom IsGoodHead single (atom_by ctx c t) (λ a h. h) (atom_by-good c t all))
-
-  -- the quantifier behind an item
-  pub times_at-good : (allowed : Bool) (t : Source) → AreCodePoints t → IsGood IsGoodTimes (times_at ctx allowed t)
-  unfolding times_at
-  times_at-good allowed t all = by_found (quantifier_at t) (quantifier_at-ends t)
-    where
-      by_test : (q : Quantifier) (rest : Source) → AreCodePoints rest → (b : Bool) → (allowed && is_ordered q) ≡ b →
-          IsGood IsGoodTimes (cond b (Some (Some q, rest)) None)
-      by_test q rest behind true e = ((and_parts _ _ e).1, behind)
-      by_test q rest behind false e = tt
-
-      by_found : (found : Found Quantifier) → Ends found t →
-          IsGood IsGoodTimes
-          (elim found as (λ _. Found (Option Quantifier)) [ None ↦ no_quantifier_at ctx t | Some found ↦ this_quantifier ctx allowed found ])
-      by_found None ends = good_cond IsGoodTimes (ctx.setting.flags.unicode && is_at 123 t) None _ tt (tt, all)
-      by_found (Some found) ends =
-          by_test found.0 found.1 (behind_these t found.1 (ends.each found refl) all) (allowed && is_ordered found.0) refl
+      finds_cond _ (c == opening) _ _ (λ _. group_at-good n ctx.setting.table t)
+      (λ _. finds_map (IsGoodAtom n) (IsGoodHead n) single (atom_by ctx c t) (λ a h. h)
+      (atom_by-good c t (All-head IsCodePoint c t all.each) (rest_of all)))

@@ -1,37 +1,36 @@
 -- The definitions at worked patterns, by computation.
 use Rattle.std.proofs.Common.{◌≡◌, ℕ, ◌-◌, ◌^◌, false, true, List, [], ◌∷◌, Option, Some, None, refl, codes}
 use Rattle.regress_tree.specs.declared.ir.node.Quantifier.{Quantifier}
+use Rattle.regress_tree.specs.Matching.{Setting}
 use Rattle.regress_tree.specs.Reading.{forwards, backwards}
 use Rattle.regress_tree.specs.Shapes.{is_flattened_away}
 use Rattle.regress_tree.specs.Steps.{one_character, capture as captures, same_state}
-use Rattle.regress_tree.specs.Table.{Table}
 use Rattle.regress_tree.specs.Tree.{Tree, Trees, leaf, empty, goal, char, cat, alt, wrapped, capture_group, loop, no_trees, more_trees}
 use Rattle.regress_tree.specs.Units.{units}
 use Rattle.regress_syntax.specs.Meaning.{meaning}
 use Rattle.regress_syntax.specs.Syntax.{Pattern, Terms, Item, one, either, no_terms, more_terms, atom, literal, boundary, class, group, grouping, capture, counts, levels}
 use Rattle.regress_parse.specs.Reader.{pattern_at}
 use Rattle.regress_parse.specs.TreeOf.{tree_of, tree_of_pattern}
-use Rattle.regress_parse.specs.Parsing.{context}
-use Rattle.regress_parse.proofs.Meanings.{no_flags, empty_table, plain, unicode, pattern_of, run}
+use Rattle.regress_parse.proofs.Meanings.{no_flags, empty_table, plain, unicode, context, pattern_of, run}
 
-abbrev letter : ℕ → Item
+abbrev pub letter : ℕ → Item
 letter c = atom (literal no_flags c)
 
 -- two terms, and one alone, without quantifiers
-abbrev word : Item → Terms
+abbrev pub word : Item → Terms
 word x = more_terms x None no_terms
 
-abbrev two : Item → Item → Terms
+abbrev pub two : Item → Item → Terms
 two x y = more_terms x None (word y)
 
 -- `(?:a|bc)d`
 abbrev first_pattern : Pattern
 first_pattern = one (two (group grouping (either (word (letter 97)) (one (two (letter 98) (letter 99))))) (letter 100))
 
-abbrev row : Tree → Tree → Trees
+abbrev pub row : Tree → Tree → Trees
 row t u = more_trees t (more_trees u no_trees)
 
-abbrev character : ℕ → Tree
+abbrev pub character : ℕ → Tree
 character c = leaf (char c)
 
 abbrev first_tree : Tree
@@ -52,11 +51,11 @@ first_tree-units : units first_tree ≡ 25
 first_tree-units = refl
 
 -- In a lookbehind the parts stand turned.
-turned : tree_of_pattern empty_table backwards 0 (one (two (letter 97) (letter 98))) ≡ cat (row (character 98) (character 97))
+turned : tree_of_pattern empty_table [] backwards 0 (one (two (letter 97) (letter 98))) ≡ cat (row (character 98) (character 97))
 turned = refl
 
 -- the group that is opened first has the first id, in either direction
-numbered : tree_of_pattern empty_table backwards 0
+numbered : tree_of_pattern empty_table [] backwards 0
     (one (two (group (capture None) (one (word (letter 97)))) (group (capture None) (one (word (letter 98))))))
     ≡ cat (row (wrapped (capture_group 1 None) (character 98)) (wrapped (capture_group 0 None) (character 97)))
 numbered = refl
@@ -66,7 +65,7 @@ unfolding pattern_of
 no_pattern = refl
 
 -- what comes before a parenthesis too many is read, and that is left
-left_over : pattern_at (context plain) (codes "a)") ≡ Some (one (word (letter 97)), 41 ∷ [])
+left_over : pattern_at (context plain (codes "a)")) (codes "a)") ≡ Some (one (word (letter 97)), 41 ∷ [])
 unfolding pattern_of
 left_over = refl
 
@@ -86,7 +85,7 @@ empty_tree-stays = refl
 
 -- ---- quantifiers
 
-abbrev quantifier : ℕ → Option ℕ → Quantifier
+abbrev pub quantifier : ℕ → Option ℕ → Quantifier
 quantifier least most = record { min = least; max = most; greedy = true }
 
 -- terms that are letters
@@ -94,7 +93,7 @@ abbrev letters : List ℕ → Terms
 letters [] = no_terms
 letters (c ∷ cs) = more_terms (letter c) None (letters cs)
 
-abbrev captured_letter : ℕ → Item
+abbrev pub captured_letter : ℕ → Item
 captured_letter c = group (capture None) (one (word (letter c)))
 
 -- `(a)*b(c){2}`
@@ -185,9 +184,9 @@ no_octal_with_u = refl
 abbrev captured : Pattern → Pattern
 captured p = one (word (group (capture None) p))
 
-module _ (table : Table) where
+module _ (setting : Setting) where
   -- `(a|b|b)` over "ba": from the start the group captures the first character; a second equal outcome is dropped
-  two_ways : meaning table (codes "ba") forwards
+  two_ways : meaning setting (codes "ba") forwards
       (captured (either (word (letter 97)) (either (word (letter 98)) (one (word (letter 98))))))
       (record { place = 0; captures = None ∷ [] })
       ≡ record { place = 1; captures = Some (0, 1) ∷ [] } ∷ []
@@ -195,7 +194,7 @@ module _ (table : Table) where
   two_ways = refl
 
   -- backwards from the end the last character comes first, and the smaller place comes first in the span
-  behind : meaning table (codes "ba") backwards (captured (one (word (letter 97)))) (record { place = 2; captures = None ∷ [] })
+  behind : meaning setting (codes "ba") backwards (captured (one (word (letter 97)))) (record { place = 2; captures = None ∷ [] })
       ≡ record { place = 1; captures = Some (1, 2) ∷ [] } ∷ []
   unfolding one_character captures
   behind = refl

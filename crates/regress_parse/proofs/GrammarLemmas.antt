@@ -8,7 +8,7 @@ use Rattle.regress_syntax.specs.Syntax.{Group, Pattern, Terms, Item, one, either
 use Rattle.regress_syntax.specs.Rows.{Context, inside, Head, single, opens, head_of_item, allows, head_at, times_at}
 use Rattle.regress_syntax.proofs.laws.Sources.{found_then, chosen}
 use Rattle.regress_syntax.proofs.laws.Rows.{no_head_at_end}
-use Rattle.regress_parse.specs.Grammar.{IsPattern, AreTerms, IsItem}
+use Rattle.regress_syntax.specs.Grammar.{IsPattern, AreTerms, IsItem}
 use Rattle.regress_parse.specs.Reader.{Term, closed, item_behind, item_by, quantified, term_by, read_terms, read_pattern, enough, pattern_at, terms_at, term_at, item_at}
 use Rattle.regress_parse.proofs.ReaderLemmas.{terms_at-is, pattern_at-is, term_at-is, item_at-is, more_by, others_by, more_of, others_of}
 
@@ -56,7 +56,7 @@ mutual
       (λ (goes_on : (ends_alternative t ≡ false) × (_ ≡ Some y)).
       let term = found_then (term_by (read_pattern n) ctx t) (more_by (read_terms n ctx)) y goes_on.1 in
       let first = found_then (item_by (read_pattern n) ctx t) (quantified ctx) term.0 term.1 in
-      let times = found_then (times_at ctx (allows (head_of_item first.0.0)) first.0.1) (λ (q : Option Quantifier × Source). Some ((first.0.0, q.0), q.1)) term.0 first.2 in
+      let times = found_then (times_at ctx (allows ctx.setting.flags.unicode (head_of_item first.0.0)) first.0.1) (λ (q : Option Quantifier × Source). Some ((first.0.0, q.0), q.1)) term.0 first.2 in
       let others = found_then (read_terms n ctx term.0.1) _ y term.2 in
       let same : ((first.0.0, times.0.0), times.0.1) ≡ term.0 = same_Some _ term.0 times.2 in
       let rest = subst (λ (z : Term × Source). (ts : Terms) (u : Source) →

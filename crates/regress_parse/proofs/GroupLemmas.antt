@@ -1,5 +1,5 @@
 -- The capture groups of a pattern's tree are the pattern's, numbered as they open.
-use Rattle.std.proofs.Common.{◌≡◌, ℕ, ◌+◌, cond, ◌&&◌, ◌==◌, nat_le, nat_lt, List, [], ◌∷◌, ◌++◌, length, Option, Some, None, option_map, count_by, encode_utf8_all, refl, sym, ap, ap₂, subst, ◌∙◌, arith, append-nil}
+use Rattle.std.proofs.Common.{◌≡◌, ℕ, ◌+◌, Bool, cond, ◌&&◌, ◌==◌, nat_le, nat_lt, List, [], ◌∷◌, ◌++◌, length, Option, Some, None, option_map, count_by, encode_utf8_all, refl, sym, ap, ap₂, subst, ◌∙◌, arith, append-nil}
 use Rattle.std.specs.List.Sorted.{IsPermutation}
 use Rattle.std.proofs.lemmas.List.{length-append}
 use Rattle.std.proofs.lemmas.List.Sums.{sum_by-cons}
@@ -11,9 +11,9 @@ use Rattle.regress_tree.specs.declared.ir.node.Quantifier.{Quantifier}
 use Rattle.regress_tree.specs.Tree.{Tree, Trees, no_trees, more_trees}
 use Rattle.regress_tree.specs.WellFormed.{Capture, captures, captures_in_row, HasGroups}
 use Rattle.regress_tree.proofs.laws.Turned.{captures-row_reverse}
-use Rattle.regress_syntax.specs.Syntax.{Name, Group, grouping, capture, Pattern, Terms, Item, one, either, no_terms, more_terms, atom, group, opened_by, counts, counts_of_times, counts_of_terms, counts_of_term, counts_of_item, names, names_of_group, names_of_terms, names_of_item}
-use Rattle.regress_syntax.specs.Meaning.{direction_of_group}
-use Rattle.regress_parse.specs.TreeOf.{turned, joined, tree_of_group, tree_of_times, tree_of_pattern, trees_of_terms, tree_of_item, tree_of}
+use Rattle.regress_syntax.specs.Syntax.{Name, Atom, literal, dot, anchor, boundary, class_escape, class, back_reference, Group, grouping, modified, capture, look, Pattern, Terms, Item, one, either, no_terms, more_terms, atom, group, opened_by, counts, counts_of_times, counts_of_terms, counts_of_term, counts_of_item, names, names_of_group, names_of_terms, names_of_item}
+use Rattle.regress_syntax.specs.Meaning.{direction_of_group, referred}
+use Rattle.regress_parse.specs.TreeOf.{turned, joined, tree_of_group, tree_of_times, tree_of_references, tree_of_atom, tree_of_pattern, trees_of_terms, tree_of_item, tree_of}
 
 -- the groups of these names, with ids from n on
 abbrev pub numbered : ℕ → List (Option Name) → List Capture
@@ -35,7 +35,9 @@ length-numbered n (x ∷ xs) = omega (arith, length-numbered (n + 1) xs)
 
 length-names_of_group : (kind : Group) → length (names_of_group kind) ≡ opened_by kind
 length-names_of_group grouping = refl
+length-names_of_group (modified change) = refl
 length-names_of_group (capture name) = refl
+length-names_of_group (look negate direction) = refl
 
 -- a quantifier opens none
 groups_of_times : (q : Option Quantifier) → (counts_of_times q).groups ≡ 0
@@ -69,14 +71,30 @@ length-names_of_term x q = omega (arith, length-names_of_item x, groups_of_times
 
 -- ---- what a group and a quantifier add to the groups of a tree
 
-captures-tree_of_group : (n : ℕ) (kind : Group) (body : Tree) →
-    captures (tree_of_group n kind body) ≡ numbered n (names_of_group kind) ++ captures body
-captures-tree_of_group n grouping body = refl
-captures-tree_of_group n (capture name) body = refl
+captures-tree_of_group : (start end : ℕ) (kind : Group) (body : Tree) →
+    captures (tree_of_group start end kind body) ≡ numbered start (names_of_group kind) ++ captures body
+captures-tree_of_group start end grouping body = refl
+captures-tree_of_group start end (modified change) body = refl
+captures-tree_of_group start end (capture name) body = refl
+captures-tree_of_group start end (look negate direction) body = refl
 
 captures-tree_of_times : (q : Option Quantifier) (start end : ℕ) (body : Tree) → captures (tree_of_times q start end body) ≡ captures body
 captures-tree_of_times None start end body = refl
 captures-tree_of_times (Some q) start end body = refl
+
+captures-tree_of_references : (icase : Bool) (ks : List ℕ) → captures (tree_of_references icase ks) ≡ []
+captures-tree_of_references icase [] = refl
+captures-tree_of_references icase (k ∷ []) = refl
+captures-tree_of_references icase (k ∷ next ∷ ks) = captures-tree_of_references icase (next ∷ ks)
+
+captures-tree_of_atom : (table : Table) (all : List (Option Name)) (a : Atom) → captures (tree_of_atom table all a) ≡ []
+captures-tree_of_atom table all (literal flags c) = refl
+captures-tree_of_atom table all (dot flags) = refl
+captures-tree_of_atom table all (anchor flags kind) = refl
+captures-tree_of_atom table all (boundary flags inverted) = refl
+captures-tree_of_atom table all (class_escape flags kind negated) = refl
+captures-tree_of_atom table all (class flags inverted members) = refl
+captures-tree_of_atom table all (back_reference flags to) = captures-tree_of_references flags.icase (referred all to)
 
 -- ---- in either direction a tree has the groups of its pattern
 
@@ -99,38 +117,39 @@ both_permuted n k xs ys cs ds e first second =
     (IsPermutation-append_left (numbered (n + k) ys) (numbered n xs) cs first)
     (IsPermutation-append_right cs (numbered (n + k) ys) ds second))
 
-module _ (table : Table) where
+module _ (table : Table) (all : List (Option Name)) where
   mutual
     -- the groups behind n opened ones have the pattern's names and the ids from n on, in some order
     pub permuted-tree_of_pattern : (d : Direction) (n : ℕ) (p : Pattern) →
-        IsPermutation (numbered n (names p)) (captures (tree_of_pattern table d n p))
+        IsPermutation (numbered n (names p)) (captures (tree_of_pattern table all d n p))
     permuted-tree_of_pattern d n (one ts) =
-        IsPermutation-trans _ _ _ (permuted-trees_of_terms d n ts) (captures-joined d (trees_of_terms table d n ts))
+        IsPermutation-trans _ _ _ (permuted-trees_of_terms d n ts) (captures-joined d (trees_of_terms table all d n ts))
     permuted-tree_of_pattern d n (either ts p) =
         both_permuted n _ _ _ _ _ (length-names_of_terms ts)
-        (IsPermutation-trans _ _ _ (permuted-trees_of_terms d n ts) (captures-joined d (trees_of_terms table d n ts)))
+        (IsPermutation-trans _ _ _ (permuted-trees_of_terms d n ts) (captures-joined d (trees_of_terms table all d n ts)))
         (permuted-tree_of_pattern d (n + (counts_of_terms ts).groups) p)
 
     permuted-trees_of_terms : (d : Direction) (n : ℕ) (ts : Terms) →
-        IsPermutation (numbered n (names_of_terms ts)) (captures_in_row (trees_of_terms table d n ts))
+        IsPermutation (numbered n (names_of_terms ts)) (captures_in_row (trees_of_terms table all d n ts))
     permuted-trees_of_terms d n no_terms = IsPermutation-refl []
     permuted-trees_of_terms d n (more_terms x q xs) =
         both_permuted n _ _ _ _ _ (length-names_of_term x q)
-        (subst (IsPermutation _) (sym (captures-tree_of_times q n (n + (counts_of_item x).groups) (tree_of_item table d n x))) (permuted-tree_of_item d n x))
+        (subst (IsPermutation _) (sym (captures-tree_of_times q n (n + (counts_of_item x).groups) (tree_of_item table all d n x))) (permuted-tree_of_item d n x))
         (permuted-trees_of_terms d (n + (counts_of_term x q).groups) xs)
 
     permuted-tree_of_item : (d : Direction) (n : ℕ) (x : Item) →
-        IsPermutation (numbered n (names_of_item x)) (captures (tree_of_item table d n x))
-    permuted-tree_of_item d n (atom a) = IsPermutation-refl []
+        IsPermutation (numbered n (names_of_item x)) (captures (tree_of_item table all d n x))
+    permuted-tree_of_item d n (atom a) = subst (IsPermutation []) (sym (captures-tree_of_atom table all a)) (IsPermutation-refl [])
     permuted-tree_of_item d n (group kind p) =
         subst (IsPermutation _)
-        (sym (captures-tree_of_group n kind (tree_of_pattern table (direction_of_group kind d) (n + opened_by kind) p)))
+        (sym (captures-tree_of_group n (n + (counts_of_item (group kind p)).groups) kind
+        (tree_of_pattern table all (direction_of_group kind d) (n + opened_by kind) p)))
         (both_permuted n _ _ _ _ _ (length-names_of_group kind) (IsPermutation-refl (numbered n (names_of_group kind)))
         (permuted-tree_of_pattern (direction_of_group kind d) (n + opened_by kind) p))
 
   -- their number
   pub length-captures-tree_of_pattern : (d : Direction) (n : ℕ) (p : Pattern) →
-      length (captures (tree_of_pattern table d n p)) ≡ (counts p).groups
+      length (captures (tree_of_pattern table all d n p)) ≡ (counts p).groups
   length-captures-tree_of_pattern d n p =
       length_permutation _ _ (permuted-tree_of_pattern d n p) ∙ length-numbered n (names p) ∙ length-names p
 
@@ -167,73 +186,39 @@ count_id-permuted k n m xs cs e permuted =
 between : (k n m : ℕ) → below k n + cond (nat_le n k && nat_lt k (n + m)) 1 0 ≡ below k (n + m)
 between k n m = grind (arith, nat_tests)
 
--- those of an item lie inside the loop around it
-pub HasGroups-tree_of_item : (table : Table) (d : Direction) (n : ℕ) (x : Item) →
-    HasGroups n (n + (counts_of_item x).groups) (tree_of_item table d n x)
-HasGroups-tree_of_item table d n x k =
-    omega (
-      arith,
-      count_id-permuted k n _ _ _ (length-names_of_item x) (permuted-tree_of_item table d n x),
-      between k n (counts_of_item x).groups,
-    )
+module _ (table : Table) (all : List (Option Name)) where
+  -- those of an item lie inside the loop around it
+  pub HasGroups-tree_of_item : (d : Direction) (n : ℕ) (x : Item) → HasGroups n (n + (counts_of_item x).groups) (tree_of_item table all d n x)
+  HasGroups-tree_of_item d n x k =
+      omega (
+        arith,
+        count_id-permuted k n _ _ _ (length-names_of_item x) (permuted-tree_of_item table all d n x),
+        between k n (counts_of_item x).groups,
+      )
 
--- ---- forwards, in their order
-
-captures-joined_forwards : (row : Trees) → captures (joined forwards row) ≡ captures_in_row row
-captures-joined_forwards no_trees = refl
-captures-joined_forwards (more_trees t no_trees) = sym (append-nil (captures t))
-captures-joined_forwards (more_trees t (more_trees u us)) = refl
-
-group_keeps_forwards : (kind : Group) → direction_of_group kind forwards ≡ forwards
-group_keeps_forwards grouping = refl
-group_keeps_forwards (capture name) = refl
-
-both_in_order : (n k : ℕ) (xs ys : List (Option Name)) (cs ds : List Capture) → length xs ≡ k → cs ≡ numbered n xs →
-    ds ≡ numbered (n + k) ys → cs ++ ds ≡ numbered n (xs ++ ys)
-both_in_order n k xs ys cs ds e first second = ap₂ (λ a b. a ++ b) first second ∙ sym (numbered-append n k xs ys e)
-
-module _ (table : Table) where
-  mutual
-    -- the groups behind n opened ones have the pattern's names, in order, and the ids from n on
-    pub captures-tree_of_pattern : (n : ℕ) (p : Pattern) → captures (tree_of_pattern table forwards n p) ≡ numbered n (names p)
-    captures-tree_of_pattern n (one ts) = captures-joined_forwards (trees_of_terms table forwards n ts) ∙ captures-trees_of_terms n ts
-    captures-tree_of_pattern n (either ts p) =
-        both_in_order n _ _ _ _ _ (length-names_of_terms ts)
-        (captures-joined_forwards (trees_of_terms table forwards n ts) ∙ captures-trees_of_terms n ts)
-        (captures-tree_of_pattern (n + (counts_of_terms ts).groups) p)
-
-    captures-trees_of_terms : (n : ℕ) (ts : Terms) →
-        captures_in_row (trees_of_terms table forwards n ts) ≡ numbered n (names_of_terms ts)
-    captures-trees_of_terms n no_terms = refl
-    captures-trees_of_terms n (more_terms x q xs) =
-        both_in_order n _ _ _ _ _ (length-names_of_term x q)
-        (captures-tree_of_times q n (n + (counts_of_item x).groups) (tree_of_item table forwards n x) ∙ captures-tree_of_item n x)
-        (captures-trees_of_terms (n + (counts_of_term x q).groups) xs)
-
-    captures-tree_of_item : (n : ℕ) (x : Item) → captures (tree_of_item table forwards n x) ≡ numbered n (names_of_item x)
-    captures-tree_of_item n (atom a) = refl
-    captures-tree_of_item n (group kind p) =
-        captures-tree_of_group n kind (tree_of_pattern table (direction_of_group kind forwards) (n + opened_by kind) p)
-        ∙ both_in_order n _ _ _ _ _ (length-names_of_group kind) refl
-        (ap (λ d. captures (tree_of_pattern table d (n + opened_by kind) p)) (group_keeps_forwards kind)
-        ∙ captures-tree_of_pattern (n + opened_by kind) p)
+  -- and those of a pattern inside the lookaround around it
+  pub HasGroups-tree_of_pattern : (d : Direction) (n : ℕ) (p : Pattern) → HasGroups n (n + (counts p).groups) (tree_of_pattern table all d n p)
+  HasGroups-tree_of_pattern d n p k =
+      omega (
+        arith,
+        count_id-permuted k n _ _ _ (length-names p) (permuted-tree_of_pattern table all d n p),
+        between k n (counts p).groups,
+      )
 
 -- ---- the whole tree
 
-captures-of_whole : (table : Table) (p : Pattern) → captures (tree_of table p) ≡ captures (tree_of_pattern table forwards 0 p)
-captures-of_whole table p = append-nil (captures (tree_of_pattern table forwards 0 p))
-
--- the groups of the tree are the pattern's, with its names, in the order in which they open, and with the ids from 0 on
-pub captures-tree_of : (table : Table) (p : Pattern) → captures (tree_of table p) ≡ numbered 0 (names p)
-captures-tree_of table p = captures-of_whole table p ∙ captures-tree_of_pattern table 0 p
+captures-of_whole : (table : Table) (p : Pattern) →
+    captures (tree_of table p) ≡ captures (tree_of_pattern table (names p) forwards 0 p)
+captures-of_whole table p = append-nil (captures (tree_of_pattern table (names p) forwards 0 p))
 
 pub length-captures-tree_of : (table : Table) (p : Pattern) → length (captures (tree_of table p)) ≡ (counts p).groups
-length-captures-tree_of table p = ap length (captures-of_whole table p) ∙ length-captures-tree_of_pattern table forwards 0 p
+length-captures-tree_of table p =
+    ap length (captures-of_whole table p) ∙ length-captures-tree_of_pattern table (names p) forwards 0 p
 
 pub count_id-tree_of : (table : Table) (p : Pattern) (k : ℕ) →
     count_by (λ c. c.id == k) (captures (tree_of table p)) ≡ cond (nat_lt k (length (captures (tree_of table p)))) 1 0
 count_id-tree_of table p k =
     let none : below k 0 ≡ 0 = grind (arith, nat_tests) in
     let same : 0 + (counts p).groups ≡ length (captures (tree_of table p)) = omega (arith, length-captures-tree_of table p) in
-    let ids = count_id-permuted k 0 _ _ _ (length-names p) (permuted-tree_of_pattern table forwards 0 p) in
+    let ids = count_id-permuted k 0 _ _ _ (length-names p) (permuted-tree_of_pattern table (names p) forwards 0 p) in
     omega (arith, none, ap (count_id k) (captures-of_whole table p), ids, ap (below k) same)

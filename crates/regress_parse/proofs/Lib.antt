@@ -16,4 +16,8 @@ pub mod LoopMeanings
 pub mod AssertionMeanings
 pub mod CharacterSets
 pub mod CharacterMeanings
+pub mod LookaroundMeanings
+pub mod ReferenceMeanings
+pub mod ModifierMeanings
 pub mod Examples
+pub mod GroupExamples

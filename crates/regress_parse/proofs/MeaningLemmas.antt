@@ -1,27 +1,31 @@
 -- The tree of a pattern means what the pattern does.
-use Rattle.std.proofs.Common.{◌≡◌, ℕ, ◌+◌, Bool, true, false, cond, not, ◌&&◌, ◌||◌, ◌==◌, List, [], ◌∷◌, length, Option, Some, None, encode_utf8_all, refl, sym, ap, subst, ◌∙◌}
+use Rattle.std.proofs.Common.{◌≡◌, ℕ, ◌+◌, ◌-◌, Bool, true, false, cond, not, ◌&&◌, ◌||◌, ◌==◌, List, [], ◌∷◌, length, Option, Some, None, encode_utf8_all, refl, sym, ap, subst, ◌∙◌}
+use Rattle.std.proofs.lemmas.List.Elements.{All-nil}
 use Rattle.regress_base.specs.Brackets.{is_accepted}
 use Rattle.regress_base.specs.Intervals.{intervals_of}
-use Rattle.regress_tree.specs.Reading.{Direction, forwards, backwards, IsText, of_characters}
-use Rattle.regress_tree.specs.Steps.{State, Step, byte_state, distinct, stay, one_character}
+use Rattle.regress_tree.specs.Reading.{Direction, Read, next_character, forwards, backwards, IsText, of_characters, of_bytes}
+use Rattle.regress_tree.specs.Steps.{State, Step, byte_state, distinct, stay, fail, moved, one_character}
+use Rattle.regress_tree.specs.Listing.{lists}
+use Rattle.regress_tree.specs.References.{back_reference as refers}
 use Rattle.regress_tree.specs.Matching.{Setting, steps, steps_in_row}
 use Rattle.regress_tree.specs.Assertions.{is_line_terminator, is_word_character, differ}
 use Rattle.regress_tree.specs.declared.ir.node.Quantifier.{Quantifier}
 use Rattle.regress_tree.specs.Literal.{class_of}
 use Rattle.regress_tree.specs.Table.{stands_for}
-use Rattle.regress_tree.specs.Tree.{Tree, Trees, leaf, no_trees, more_trees, match_any, match_any_except_line_terminator, char, char_set, bracket}
-use Rattle.regress_syntax.specs.Syntax.{Atom, literal, dot, anchor, boundary, class_escape, class, Group, grouping, capture, Pattern, Terms, Item, one, either, no_terms, more_terms, atom, group, opened_by, counts_of_item, counts_of_term, counts_of_terms}
-use Rattle.regress_syntax.specs.Meaning.{is_in_class, in_order, direction_of_group, group_steps, times_steps, atom_steps, pattern_steps, terms_steps, item_steps}
+use Rattle.regress_tree.specs.Tree.{Tree, Trees, leaf, no_trees, more_trees, match_any, match_any_except_line_terminator, char, char_set, bracket, back_ref}
+use Rattle.regress_syntax.specs.Syntax.{Atom, literal, dot, anchor, boundary, class_escape, class, back_reference, Group, grouping, modified, capture, look, Name, Pattern, Terms, Item, one, either, no_terms, more_terms, atom, group, opened_by, counts_of_item, counts_of_term, counts_of_terms, names}
+use Rattle.regress_syntax.specs.Meaning.{is_in_class, in_order, direction_of_group, group_steps, referred, any_reference, times_steps, atom_steps, pattern_steps, terms_steps, item_steps}
 use Rattle.regress_syntax.specs.ClassRows.{members_of}
-use Rattle.regress_parse.specs.TreeOf.{turned, joined, tree_of_group, tree_of_times, leaf_of_members, leaf_of_atom, tree_of_pattern, trees_of_terms, tree_of_item, tree_of}
+use Rattle.regress_parse.specs.TreeOf.{turned, joined, tree_of_group, tree_of_times, leaf_of_members, tree_of_references, tree_of_atom, tree_of_pattern, trees_of_terms, tree_of_item, tree_of}
 use Rattle.regress_parse.specs.Accepted.{Means}
 use Rattle.regress_tree.proofs.laws.Assertions.{Simulates-anchor, Simulates-boundary}
 use Rattle.regress_tree.proofs.laws.Classes.{agreeing_simulates, is_accepted-scalar}
 use Rattle.regress_tree.proofs.laws.Literals.{class_simulates, char_simulates}
+use Rattle.regress_tree.proofs.laws.References.{Simulates-back_reference}
 use Rattle.regress_tree.proofs.laws.Repetition.{Simulates-repeat}
 use Rattle.regress_tree.proofs.laws.ByteStates.{distinct-byte_state}
 use Rattle.regress_tree.proofs.laws.Outcomes.{flat_map-stay}
-use Rattle.regress_tree.proofs.laws.Simulation.{Simulates, Simulates-within, Simulates-same_right, Simulates-stay, Simulates-then, Simulates-or, Simulates-one_character, Simulates-capture}
+use Rattle.regress_tree.proofs.laws.Simulation.{Simulates, Simulates-within, Simulates-same_right, Simulates-stay, Simulates-then, Simulates-or, Simulates-one_character, Simulates-capture, Simulates-look}
 use Rattle.regress_tree.proofs.laws.Turned.{steps-row_reverse}
 
 module _ (setting : Setting) (bytes : List ℕ) (d : Direction) where
@@ -74,10 +78,13 @@ module _ (setting : Setting) (text : List ℕ) where
       Simulates-same_right text d _ _ _ (steps-turned setting (encode_utf8_all text) d d t ts)
       (Simulates-in_order text d d _ _ _ _ first others)
 
-  group_simulates : (d : Direction) (n : ℕ) (kind : Group) (f : Step) (body : Tree) → TreeSimulates (direction_of_group kind d) f body →
-      TreeSimulates d (group_steps n kind f) (tree_of_group n kind body)
-  group_simulates d n grouping f body sim = sim
-  group_simulates d n (capture name) f body sim = Simulates-capture text d n _ _ sim
+  group_simulates : (d : Direction) (start end : ℕ) (kind : Group) (f : Step) (body : Tree) →
+      TreeSimulates (direction_of_group kind d) f body → TreeSimulates d (group_steps start kind f) (tree_of_group start end kind body)
+  group_simulates d start end grouping f body sim = sim
+  group_simulates d start end (modified change) f body sim = sim
+  group_simulates d start end (capture name) f body sim = Simulates-capture text d start _ _ sim
+  group_simulates d start end (look negate forwards) f body sim = Simulates-look text d forwards negate _ _ sim
+  group_simulates d start end (look negate backwards) f body sim = Simulates-look text d backwards negate _ _ sim
 
   times_simulate : (d : Direction) (q : Option Quantifier) (start end : ℕ) (f : Step) (body : Tree) → TreeSimulates d f body →
       TreeSimulates d (times_steps (length text) q start end f) (tree_of_times q start end body)
@@ -122,47 +129,78 @@ module _ (setting : Setting) (text : List ℕ) (is_text : IsText text) where
       agreeing_simulates text is_text d q (is_accepted inverted (intervals_of p))
       (λ x scalar_value. is_accepted-scalar inverted p x scalar_value ∙ sym (e x))
 
+  -- the empty set holds no character
+  moved-none : (s : State) (found : Option Read) → moved (lists []) s found ≡ []
+  moved-none s None = refl
+  moved-none s (Some read) = refl
+
+  empty_set_simulates : (d : Direction) → TreeSimulates setting text d fail (leaf (char_set []))
+  unfolding one_character
+  empty_set_simulates d = record {
+    same = λ s in'. moved-none (byte_state text s) (next_character d (of_bytes (encode_utf8_all text)) (byte_state text s).place);
+    reached = λ s in'. All-nil _;
+  }
+
+  reference_simulates : (d : Direction) (icase : Bool) (k : ℕ) →
+      TreeSimulates setting text d (refers d (of_characters text) (stands_for setting.table icase setting.flags.unicode) (k - 1))
+      (leaf (back_ref k icase))
+  reference_simulates d icase k =
+      Simulates-back_reference text is_text d (stands_for setting.table icase setting.flags.unicode) (k - 1)
+
+  references_simulate : (d : Direction) (icase : Bool) (ks : List ℕ) →
+      TreeSimulates setting text d
+      (any_reference (λ k. refers d (of_characters text) (stands_for setting.table icase setting.flags.unicode) (k - 1)) ks)
+      (tree_of_references icase ks)
+  references_simulate d icase [] = empty_set_simulates d
+  references_simulate d icase (k ∷ []) = reference_simulates d icase k
+  references_simulate d icase (k ∷ next ∷ ks) =
+      Simulates-or text d _ _ _ _ (reference_simulates d icase k) (references_simulate d icase (next ∷ ks))
+
+module _ (setting : Setting) (names : List (Option Name)) (text : List ℕ) (is_text : IsText text) where
   atom_simulates : (d : Direction) (a : Atom) →
-      TreeSimulates setting text d (atom_steps setting.table text d a) (leaf (leaf_of_atom setting.table a))
-  atom_simulates d (literal flags c) = literal_simulates d flags.icase flags.unicode c
-  atom_simulates d (dot flags) = dot_simulates d flags.dot_all
+      TreeSimulates setting text d (atom_steps setting names text d a) (tree_of_atom setting.table names a)
+  atom_simulates d (literal flags c) = literal_simulates setting text is_text d flags.icase flags.unicode c
+  atom_simulates d (dot flags) = dot_simulates setting text is_text d flags.dot_all
   atom_simulates d (anchor flags kind) = Simulates-anchor text is_text d kind flags.multiline
   atom_simulates d (boundary flags inverted) =
       Simulates-boundary text is_text d (is_word_character setting.table (flags.unicode && flags.icase)) inverted
   atom_simulates d (class_escape flags kind negated) =
-      bracket_simulates d false (is_in_class setting.table flags negated (members_of kind)) _ (λ x. refl)
+      bracket_simulates setting text is_text d false (is_in_class setting.table flags negated (members_of kind)) _ (λ x. refl)
   atom_simulates d (class flags inverted members) =
-      bracket_simulates d inverted (is_in_class setting.table flags false members) _ (λ x. refl)
+      bracket_simulates setting text is_text d inverted (is_in_class setting.table flags false members) _ (λ x. refl)
+  atom_simulates d (back_reference flags to) = references_simulate setting text is_text d flags.icase (referred names to)
 
   mutual
     -- equal with repeats, whatever stands before
     pub pattern_simulates : (d : Direction) (n : ℕ) (p : Pattern) →
-        TreeSimulates setting text d (pattern_steps setting.table text d n p) (tree_of_pattern setting.table d n p)
-    pattern_simulates d n (one ts) = joined_simulates setting text d _ (trees_of_terms setting.table d n ts) (terms_simulate d n ts)
+        TreeSimulates setting text d (pattern_steps setting names text d n p) (tree_of_pattern setting.table names d n p)
+    pattern_simulates d n (one ts) = joined_simulates setting text d _ (trees_of_terms setting.table names d n ts) (terms_simulate d n ts)
     pattern_simulates d n (either ts p) =
-        Simulates-or text d _ _ _ _ (joined_simulates setting text d _ (trees_of_terms setting.table d n ts) (terms_simulate d n ts))
+        Simulates-or text d _ _ _ _
+        (joined_simulates setting text d _ (trees_of_terms setting.table names d n ts) (terms_simulate d n ts))
         (pattern_simulates d (n + (counts_of_terms ts).groups) p)
 
     terms_simulate : (d : Direction) (n : ℕ) (ts : Terms) →
-        RowSimulates setting text d (terms_steps setting.table text d n ts) (trees_of_terms setting.table d n ts)
+        RowSimulates setting text d (terms_steps setting names text d n ts) (trees_of_terms setting.table names d n ts)
     terms_simulate d n no_terms = none_simulate setting text d
     terms_simulate d n (more_terms x q xs) =
-        more_simulate setting text d _ _ (tree_of_times q n (n + (counts_of_item x).groups) (tree_of_item setting.table d n x))
-        (trees_of_terms setting.table d (n + (counts_of_term x q).groups) xs)
-        (times_simulate setting text d q n (n + (counts_of_item x).groups) _ (tree_of_item setting.table d n x) (item_simulates d n x))
+        more_simulate setting text d _ _ (tree_of_times q n (n + (counts_of_item x).groups) (tree_of_item setting.table names d n x))
+        (trees_of_terms setting.table names d (n + (counts_of_term x q).groups) xs)
+        (times_simulate setting text d q n (n + (counts_of_item x).groups) _ (tree_of_item setting.table names d n x) (item_simulates d n x))
         (terms_simulate d (n + (counts_of_term x q).groups) xs)
 
     item_simulates : (d : Direction) (n : ℕ) (x : Item) →
-        TreeSimulates setting text d (item_steps setting.table text d n x) (tree_of_item setting.table d n x)
+        TreeSimulates setting text d (item_steps setting names text d n x) (tree_of_item setting.table names d n x)
     item_simulates d n (atom a) = atom_simulates d a
     item_simulates d n (group kind p) =
-        group_simulates setting text d n kind _ (tree_of_pattern setting.table (direction_of_group kind d) (n + opened_by kind) p)
+        group_simulates setting text d n (n + (counts_of_item (group kind p)).groups) kind _
+        (tree_of_pattern setting.table names (direction_of_group kind d) (n + opened_by kind) p)
         (pattern_simulates (direction_of_group kind d) (n + opened_by kind) p)
 
 -- On every text and from every state the tree's outcomes are the pattern's, place for byte place, in their order.
 pub tree_of-means : (setting : Setting) (p : Pattern) → Means setting (tree_of setting.table p) p
 tree_of-means setting p text s is_text in' =
-    let body = tree_of_pattern setting.table forwards 0 p in
-    let sim = pattern_simulates setting text is_text forwards 0 p in
+    let body = tree_of_pattern setting.table (names p) forwards 0 p in
+    let sim = pattern_simulates setting (names p) text is_text forwards 0 p in
     ap distinct (flat_map-stay (steps setting (encode_utf8_all text) forwards body (byte_state text s)) ∙ sim.same s in')
-    ∙ distinct-byte_state text (pattern_steps setting.table text forwards 0 p s) (Simulates-within text forwards _ _ sim s in')
+    ∙ distinct-byte_state text (pattern_steps setting (names p) text forwards 0 p s) (Simulates-within text forwards _ _ sim s in')

@@ -1,14 +1,16 @@
 -- What patterns match on texts, by computation of the definitions. The first outcomes are what V8 11.3 answers to a sticky
--- match from the place; the others, and what matches characters past U+FFFF, follow from the rules of ECMA-262. The same stands
--- for the worked meanings in the files beside this one.
-use Rattle.std.proofs.Common.{◌≡◌, ℕ, false, true, List, [], ◌∷◌, map, Option, Some, None, option_map, encode_utf8_all, refl, codes}
+-- match from the place; the others, and those of patterns that have modifiers or groups of one name or match characters past
+-- U+FFFF, follow from the rules of ECMA-262. The same stands for the worked meanings in the files beside this one.
+use Rattle.std.proofs.Common.{◌≡◌, ℕ, false, true, List, [], ◌∷◌, map, length, Option, Some, None, option_map, encode_utf8_all, refl, codes}
 use Rattle.std.specs.Char.{encode_utf8}
 use Rattle.std.specs.Str.{chars}
 use Rattle.std.proofs.Math.ListN.{replicate}
 use Rattle.regress_base.specs.declared.types.Flags.{Flags}
 use Rattle.regress_base.specs.Intervals.{Bounds, is_member, is_within}
 use Rattle.regress_tree.specs.FoldRows.{image}
+use Rattle.regress_tree.specs.Lookaround.{look}
 use Rattle.regress_tree.specs.Reading.{forwards, byte_place, character_at, read_after, read_before}
+use Rattle.regress_tree.specs.References.{back_reference}
 use Rattle.regress_tree.specs.Repetition.{repeat}
 use Rattle.regress_tree.specs.SmallTable.{small_table}
 use Rattle.regress_tree.specs.Steps.{Span, State, byte_state, one_character, hold_at, capture as captures, same_state}
@@ -18,13 +20,15 @@ use Rattle.regress_syntax.specs.ClassRows.{class_at, class_parts_by}
 use Rattle.regress_syntax.specs.Digits.{front, behind}
 use Rattle.regress_syntax.specs.Escapes.{escape_at, unicode_at}
 use Rattle.regress_syntax.specs.Meaning.{meaning}
+use Rattle.regress_syntax.specs.Modifiers.{modifiers_at}
+use Rattle.regress_syntax.specs.Names.{name_at, rest_of_name_by}
 use Rattle.regress_syntax.specs.Quantifiers.{quantifier_at}
-use Rattle.regress_syntax.specs.Rows.{head_at, times_at}
+use Rattle.regress_syntax.specs.Rows.{Context, head_at, times_at}
+use Rattle.regress_syntax.specs.Scan.{marks, plain as outside_classes, named_by}
 use Rattle.regress_syntax.specs.Source.{Source, Found}
-use Rattle.regress_syntax.specs.Syntax.{Pattern, counts}
+use Rattle.regress_syntax.specs.Syntax.{Name, Pattern, counts}
 use Rattle.regress_parse.specs.Reader.{read_terms, pattern_at}
 use Rattle.regress_parse.specs.TreeOf.{tree_of}
-use Rattle.regress_parse.specs.Parsing.{context}
 
 abbrev pub no_flags : Flags
 no_flags = record { icase = false; multiline = false; dot_all = false; unicode = false; unicode_sets = false }
@@ -43,6 +47,9 @@ empty_table = record {
   strings = [];
 }
 
+abbrev pub run : ℕ → ℕ → Bounds
+run first last = record { first = first; last = last }
+
 -- settings by their flags
 abbrev pub plain : Setting
 plain = record { flags = no_flags; table = empty_table }
@@ -52,6 +59,10 @@ dot_all = record plain { flags = record no_flags { dot_all = true } }
 
 abbrev pub multiline : Setting
 multiline = record plain { flags = record no_flags { multiline = true } }
+
+-- where names are made of small letters
+abbrev pub named : Setting
+named = record plain { table = record empty_table { id_start = run 97 122 ∷ []; id_continue = run 97 122 ∷ [] } }
 
 -- with the small table's letters
 abbrev pub unicode : Setting
@@ -68,10 +79,18 @@ whole None = None
 whole (Some (p, [])) = Some p
 whole (Some (p, c ∷ rest)) = None
 
+abbrev of_groups : Setting → List (Option Name) → Context
+of_groups setting names = record { setting = setting; groups = length names; names = names }
+
+-- the context with the groups that the scan of the source finds
+unfoldable pub context : Setting → Source → Context
+unfolding marks name_at rest_of_name_by unicode_at is_member is_within
+context setting source = of_groups setting (named_by (marks setting.table outside_classes source))
+
 -- the pattern that the whole source is
 unfoldable pub pattern_of : Setting → Source → Option Pattern
-unfolding pattern_at read_terms head_at times_at quantifier_at front behind escape_at unicode_at class_at class_parts_by
-pattern_of setting source = whole (pattern_at (context setting) source)
+unfolding context pattern_at read_terms head_at times_at quantifier_at front behind escape_at class_at class_parts_by modifiers_at
+pattern_of setting source = whole (pattern_at (context setting source) source)
 
 -- at a place, where no group of the pattern has captured
 abbrev pub start : Pattern → ℕ → State
@@ -79,9 +98,9 @@ start p place = record { place = place; captures = replicate (counts p).groups N
 
 -- the pattern's outcomes on the text from each of the places
 unfoldable pub outcomes : Setting → Source → List ℕ → List ℕ → Option (List (List State))
-unfolding pattern_of one_character hold_at captures repeat same_state is_member is_within is_in_closure image small_table
+unfolding pattern_of one_character hold_at captures repeat look back_reference same_state is_in_closure image small_table
 outcomes setting source text places =
-    option_map (λ p. map (λ k. meaning setting.table text forwards p (start p k)) places) (pattern_of setting source)
+    option_map (λ p. map (λ k. meaning setting text forwards p (start p k)) places) (pattern_of setting source)
 
 -- its tree's over the bytes of the text, from the same places
 unfoldable pub tree_outcomes : Setting → Source → List ℕ → List ℕ → Option (List (List State))
@@ -114,9 +133,6 @@ unset = None
 
 abbrev pub span : ℕ → ℕ → Option Span
 span first last = Some (first, last)
-
-abbrev pub run : ℕ → ℕ → Bounds
-run first last = record { first = first; last = last }
 
 -- ---- alternatives, groups and `.`
 

@@ -1,5 +1,5 @@
 -- What the parser's loop over terms has read so far, as facts on sources, syntax trees and lists of nodes.
-use Rattle.std.proofs.Common.{◌≡◌, ℕ, ◌+◌, ◌≤◌, max, true, false, List, [], ◌∷◌, ◌++◌, length, Some, None, refl, sym, ap, ap₂, ◌∙◌, arith, add_assoc}
+use Rattle.std.proofs.Common.{◌≡◌, ℕ, ◌+◌, ◌≤◌, max, true, false, List, [], ◌∷◌, ◌++◌, length, Some, None, refl, sym, ap, ap₂, ◌∙◌, arith, add_assoc, Option}
 use Rattle.std.specs.Option.{IfSome}
 use Rattle.std.proofs.lemmas.Option.{same_Some}
 use Rattle.std.proofs.lemmas.Bool.{cond-true, cond-false}
@@ -8,7 +8,7 @@ use Rattle.regress_tree.specs.Reading.{Direction}
 use Rattle.regress_tree.specs.Table.{Table}
 use Rattle.regress_tree.specs.Tree.{row_append, tree, trees, no_trees, more_trees}
 use Rattle.regress_syntax.specs.Source.{Source, Found, ◌>>=◌, ends_alternative}
-use Rattle.regress_syntax.specs.Syntax.{Terms, no_terms, more_terms, Counts, added, counts_of_terms, counts_of_term, levels_of_terms}
+use Rattle.regress_syntax.specs.Syntax.{Name, Terms, no_terms, more_terms, Counts, added, counts_of_terms, counts_of_term, levels_of_terms}
 use Rattle.regress_syntax.specs.Rows.{Context}
 use Rattle.regress_syntax.proofs.laws.Sources.{found_then, to_each, from_each}
 use Rattle.regress_parse.specs.Reader.{Term, terms_at, term_at}
@@ -59,16 +59,16 @@ behind-more : (xs : Terms) (x : Term) (found : Found Terms) →
 behind-more xs x None = refl
 behind-more xs x (Some y) = ap (λ ts. Some (ts, y.1)) (sym (append-append xs (one_term x) y.0))
 
-module _ (table : Table) (d : Direction) where
+module _ (table : Table) (names : List (Option Name)) (d : Direction) where
   trees-append : (n : ℕ) (xs ys : Terms) →
-      trees_of_terms table d n (append xs ys)
-      ≡ row_append (trees_of_terms table d n xs) (trees_of_terms table d (n + (counts_of_terms xs).groups) ys)
-  trees-append n no_terms ys = let same : n ≡ n + 0 = omega arith in ap (λ m. trees_of_terms table d m ys) same
+      trees_of_terms table names d n (append xs ys)
+      ≡ row_append (trees_of_terms table names d n xs) (trees_of_terms table names d (n + (counts_of_terms xs).groups) ys)
+  trees-append n no_terms ys = let same : n ≡ n + 0 = omega arith in ap (λ m. trees_of_terms table names d m ys) same
   trees-append n (more_terms x q xs) ys =
       let c = (counts_of_term x q).groups in
-      ap (more_trees ((term_part table (x, q)).node d n))
+      ap (more_trees ((term_part table names (x, q)).node d n))
       (trees-append (n + c) xs ys
-      ∙ ap (λ m. row_append (trees_of_terms table d (n + c) xs) (trees_of_terms table d m ys))
+      ∙ ap (λ m. row_append (trees_of_terms table names d (n + c) xs) (trees_of_terms table names d m ys))
       (add_assoc n c (counts_of_terms xs).groups))
 
   module _ (ctx : Context) (depth : ℕ) (t0 : Source) (before : Counts) where
@@ -76,12 +76,12 @@ module _ (table : Table) (d : Direction) where
     pub record TermsSoFar (t : Source) (now : Counts) (parts : List Node) : Type 0 where
       pub terms : Terms
       pub reads : terms_at ctx t0 ≡ terms_at ctx t >>= behind terms
-      pub nodes : trees parts ≡ trees_of_terms table d before.groups terms
+      pub nodes : trees parts ≡ trees_of_terms table names d before.groups terms
       pub counts : now ≡ added before (counts_of_terms terms)
-      pub fits : Fits before depth (terms_part table terms)
+      pub fits : Fits before depth (terms_part table names terms)
       pub shorter : length t ≤ length t0
 
-    pub terms-start : Fits before depth (terms_part table no_terms) → TermsSoFar t0 before []
+    pub terms-start : Fits before depth (terms_part table names no_terms) → TermsSoFar t0 before []
     terms-start fits = record {
       terms = no_terms;
       reads = behind-none (terms_at ctx t0);
@@ -94,7 +94,7 @@ module _ (table : Table) (d : Direction) where
     -- one more term
     pub terms-step : (t : Source) (now : Counts) (parts : List Node) (node : Node) (x : Term) (rest : Source) (new : Counts) →
         TermsSoFar t now parts → ends_alternative t ≡ false → term_at ctx t ≡ Some (x, rest) →
-        tree node ≡ (term_part table x).node d now.groups → new ≡ added now (counts_of_term x.0 x.1) → Fits now depth (term_part table x) →
+        tree node ≡ (term_part table names x).node d now.groups → new ≡ added now (counts_of_term x.0 x.1) → Fits now depth (term_part table names x) →
         TermsSoFar rest new (parts ++ node ∷ [])
     terms-step t now parts node x rest new h goes_on found built counts fits =
         let all = append h.terms (one_term x) in
@@ -111,7 +111,7 @@ module _ (table : Table) (d : Direction) where
               ∙ behind-more h.terms x (terms_at ctx rest);
           nodes =
               trees-push parts node
-              ∙ ap₂ (λ us u. row_append us (more_trees u no_trees)) h.nodes (built ∙ ap ((term_part table x).node d) now_groups)
+              ∙ ap₂ (λ us u. row_append us (more_trees u no_trees)) h.nodes (built ∙ ap ((term_part table names x).node d) now_groups)
               ∙ sym (trees-append before.groups h.terms (one_term x));
           counts =
               counts
@@ -138,8 +138,8 @@ module _ (table : Table) (d : Direction) where
 
     -- a term that is none, or too much, is so for the alternative
     pub terms-fail : (t : Source) (now : Counts) (parts : List Node) → TermsSoFar t now parts →
-        ends_alternative t ≡ false → IfSome (term_at ctx t) (λ x. Fits now depth (term_part table x.0) → ⊥) →
-        IfSome (terms_at ctx t0) (λ x. Fits before depth (terms_part table x.0) → ⊥)
+        ends_alternative t ≡ false → IfSome (term_at ctx t) (λ x. Fits now depth (term_part table names x.0) → ⊥) →
+        IfSome (terms_at ctx t0) (λ x. Fits before depth (terms_part table names x.0) → ⊥)
     terms-fail t now parts h goes_on refused =
         from_each (terms_at ctx t0) _ (λ x found fits.
         let read = found_then (terms_at ctx t) (behind h.terms) x (sym h.reads ∙ found) in

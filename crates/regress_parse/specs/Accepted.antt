@@ -9,8 +9,9 @@ use Rattle.regress_tree.specs.Tree.{Tree}
 use Rattle.regress_syntax.specs.Source.{Source}
 use Rattle.regress_syntax.specs.Syntax.{Pattern, counts, names, levels}
 use Rattle.regress_syntax.specs.Meaning.{meaning}
+use Rattle.regress_syntax.specs.Scan.{has_apart_names}
 use Rattle.regress_syntax.specs.Rows.{Context}
-use Rattle.regress_parse.specs.Grammar.{IsPattern}
+use Rattle.regress_syntax.specs.Grammar.{IsPattern}
 
 -- The flag v, which asks for other classes, is not served yet.
 abbrev pub is_served : Flags → Bool
@@ -31,10 +32,11 @@ pub record IsWithinLimits (p : Pattern) : Type 0 where
   pub loops : (counts p).loops ≤ max_loops
   pub levels : levels p ≤ max_nesting_depth
 
--- the pattern that the source stands for, within the limits
+-- the pattern that the source stands for, within the limits, of whose groups no two of one name conflict
 pub record IsAccepted (setting : Setting) (source : Source) (p : Pattern) : Type 0 where
   pub derived : IsDerived setting source p
   pub limits : IsWithinLimits p
+  pub names : IsTrue (has_apart_names p)
 
 -- The source stands for no pattern within the limits.
 abbrev pub NoneIsAccepted : Setting → Source → Type 0
@@ -52,4 +54,4 @@ OfAccepted setting source P = (p : Pattern) → IsAccepted setting source p → 
 abbrev pub Means : Setting → Tree → Pattern → Type 0
 Means setting tree p = (text : List ℕ) (s : State) → IsText text → IsStateOf text s →
     matches setting (encode_utf8_all text) forwards tree (byte_state text s)
-    ≡ map (byte_state text) (meaning setting.table text forwards p s)
+    ≡ map (byte_state text) (meaning setting text forwards p s)

@@ -1,4 +1,3 @@
-pub mod Grammar
 pub mod Reader
 pub mod TreeOf
 pub mod Accepted

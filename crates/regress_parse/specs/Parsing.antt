@@ -1,18 +1,17 @@
 -- How the parser's values stand to what the grammar reads. No public contract cites this.
-use Rattle.std.specs.Prelude.{◌≡◌, ℕ, Bool, ◌+◌, ◌≤◌, List, [], ◌∷◌, Some, IfSome, Result, Ok, Err, if◌then◌else◌}
+use Rattle.std.specs.Prelude.{◌≡◌, ℕ, Bool, ◌+◌, ◌≤◌, List, [], ◌∷◌, Option, Some, IfSome, Result, Ok, Err, if◌then◌else◌}
 use Rattle.std.specs.Option.{IsSomeAnd}
 use Rattle.regress_tree.specs.declared.ir.node.Node.{Node}
 use Rattle.regress_tree.specs.Reading.{Direction, forwards, backwards}
 use Rattle.regress_tree.specs.Table.{Table}
-use Rattle.regress_tree.specs.Matching.{Setting}
-use Rattle.regress_tree.specs.TableOf.{table_of, setting_of}
+use Rattle.regress_tree.specs.TableOf.{table_of}
 use Rattle.regress_tree.specs.Tree.{Tree, tree, alt}
 use Rattle.regress_syntax.specs.declared.fault.ParseFault.{ParseFault}
 use Rattle.regress_syntax.specs.Fault.{OnSyntax}
 use Rattle.regress_syntax.specs.Source.{Source, Found}
-use Rattle.regress_syntax.specs.Syntax.{Pattern, Terms, Item, Counts, nothing_counted, added, counts, counts_of_terms, counts_of_term, counts_of_item, levels, levels_of_terms, levels_of_item}
+use Rattle.regress_syntax.specs.Syntax.{Name, Pattern, Terms, Item, Counts, nothing_counted, added, counts, counts_of_terms, counts_of_term, counts_of_item, levels, levels_of_terms, levels_of_item}
 use Rattle.regress_syntax.specs.Rows.{Context}
-use Rattle.regress_syntax.specs.Views.{source, context_of}
+use Rattle.regress_syntax.specs.Views.{source, names_in, context_of, direction_of as of_flag}
 use Rattle.regress_parse.specs.declared.parser.Parser.{Parser}
 use Rattle.regress_parse.specs.declared.parser.Around.{Around}
 use Rattle.regress_parse.specs.Reader.{Term, pattern_at}
@@ -25,26 +24,26 @@ pub record Part : Type 0 where
   pub counts : Counts
   pub levels : ℕ
 
-module _ (table : Table) where
+module _ (table : Table) (names : List (Option Name)) where
   abbrev pub pattern_part : Pattern → Part
-  pattern_part p = record { node = λ d n. tree_of_pattern table d n p; counts = counts p; levels = levels p }
+  pattern_part p = record { node = λ d n. tree_of_pattern table names d n p; counts = counts p; levels = levels p }
 
   abbrev pub terms_part : Terms → Part
   terms_part ts = record {
-    node = λ d n. joined d (trees_of_terms table d n ts);
+    node = λ d n. joined d (trees_of_terms table names d n ts);
     counts = counts_of_terms ts;
     levels = levels_of_terms ts;
   }
 
   abbrev pub term_part : Term → Part
   term_part (x, q) = record {
-    node = λ d n. tree_of_times q n (n + (counts_of_item x).groups) (tree_of_item table d n x);
+    node = λ d n. tree_of_times q n (n + (counts_of_item x).groups) (tree_of_item table names d n x);
     counts = counts_of_term x q;
     levels = levels_of_item x;
   }
 
   abbrev pub item_part : Item → Part
-  item_part x = record { node = λ d n. tree_of_item table d n x; counts = counts_of_item x; levels = levels_of_item x }
+  item_part x = record { node = λ d n. tree_of_item table names d n x; counts = counts_of_item x; levels = levels_of_item x }
 
 -- The part keeps the limits where so much was counted before it and so many levels lie around it.
 pub record Fits (before : Counts) (depth : ℕ) (part : Part) : Type 0 where
@@ -60,12 +59,9 @@ counted p = record { groups = p.group_count; loops = p.loop_count }
 abbrev pub text : Parser → Source
 text p = source p.cursor
 
-abbrev pub direction : Bool → Direction
-direction backwards' = if backwards' then backwards else forwards
-
 -- the direction in which a part is matched that lies inside there
 abbrev pub direction_of : Around → Direction
-direction_of around = direction around.backwards
+direction_of around = of_flag around.backwards
 
 -- what the rows look at there
 abbrev pub context_in : Around → Context
@@ -73,6 +69,10 @@ context_in around = context_of around.scope
 
 abbrev pub table_in : Around → Table
 table_in around = table_of around.scope.tables.now
+
+-- the names of all groups of the pattern
+abbrev pub names_around : Around → List (Option Name)
+names_around around = names_in around.scope.groups.now
 
 -- The parser has gone over the part, and built its tree.
 pub record Builds (d : Direction) (depth : ℕ) (before : Counts) (new : Parser) (built : Node) (part : Part) (behind : Source) : Type 0 where
@@ -86,18 +86,14 @@ abbrev pub Yields : {A : Type 0} → (A → Part) → Direction → ℕ → Coun
 Yields part d depth before new (Ok node) found = IsSomeAnd found (λ x. Builds d depth before new node (part x.0) x.1)
 Yields part d depth before new (Err fault) found = OnSyntax fault (IfSome found (λ x. Fits before depth (part x.0) → ⊥))
 
--- the context of the rows that are served, which look at no groups
-abbrev pub context : Setting → Context
-context setting = record { setting = setting; groups = 0; names = [] }
-
--- What parsing a whole source answers: the pattern that it is, within the limits, or a fault where it is none.
-abbrev pub YieldsWhole : Setting → Source → Result Node ParseFault → Type 0
-YieldsWhole setting t (Ok node) =
-    (p : Pattern) × (pattern_at (context setting) t ≡ Some (p, [])) × Fits nothing_counted 0 (pattern_part setting.table p)
-    × (tree node ≡ tree_of_pattern setting.table forwards 0 p)
-YieldsWhole setting t (Err fault) =
-    OnSyntax fault ((p : Pattern) → pattern_at (context setting) t ≡ Some (p, []) →
-    Fits nothing_counted 0 (pattern_part setting.table p) → ⊥)
+-- What parsing a whole source answers: the pattern that it is there, within the limits, or a fault where it is none.
+abbrev pub YieldsWhole : Context → Source → Result Node ParseFault → Type 0
+YieldsWhole ctx t (Ok node) =
+    (p : Pattern) × (pattern_at ctx t ≡ Some (p, [])) × Fits nothing_counted 0 (pattern_part ctx.setting.table ctx.names p)
+    × (tree node ≡ tree_of_pattern ctx.setting.table ctx.names forwards 0 p)
+YieldsWhole ctx t (Err fault) =
+    OnSyntax fault ((p : Pattern) → pattern_at ctx t ≡ Some (p, []) →
+    Fits nothing_counted 0 (pattern_part ctx.setting.table ctx.names p) → ⊥)
 
 -- alternatives before a last one
 abbrev pub alternatives : List Tree → Tree → Tree

@@ -1,5 +1,5 @@
 -- The grammar as a function: what it reads from the front of a source, and the source behind that. The relation of
--- `Grammar` has the same forms, and the lemmas on it show that it relates what this reads and nothing else.
+-- `Grammar` in `regress_syntax` has the same forms, and the lemmas on it show that it relates what this reads and nothing else.
 use Rattle.std.specs.Prelude.{ℕ, zero, suc, ◌+◌, ◌*◌, length, drop, Option, Some, None, if◌then◌else◌}
 use Rattle.regress_tree.specs.declared.ir.node.Quantifier.{Quantifier}
 use Rattle.regress_syntax.specs.Source.{Source, Found, ◌>>=◌, found_map, closing, bar, is_at, ends_alternative}
@@ -24,7 +24,7 @@ item_by inner ctx t = head_at ctx t >>= item_behind inner ctx
 
 -- the quantifier behind an item
 abbrev pub quantified : Context → Item × Source → Found Term
-quantified ctx (x, t) = found_map (λ q. (x, q)) (times_at ctx (allows (head_of_item x)) t)
+quantified ctx (x, t) = found_map (λ q. (x, q)) (times_at ctx (allows ctx.setting.flags.unicode (head_of_item x)) t)
 
 abbrev pub term_by : (Context → Source → Found Pattern) → Context → Source → Found Term
 term_by inner ctx t = item_by inner ctx t >>= quantified ctx

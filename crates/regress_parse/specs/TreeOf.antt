@@ -6,11 +6,11 @@ use Rattle.regress_tree.specs.declared.ir.node.Quantifier.{Quantifier}
 use Rattle.regress_tree.specs.Reading.{Direction, forwards, backwards}
 use Rattle.regress_tree.specs.Literal.{class_of}
 use Rattle.regress_tree.specs.Table.{Table}
-use Rattle.regress_tree.specs.Tree.{Leaf, empty, goal, char, char_set, match_any, match_any_except_line_terminator, word_boundary, bracket, Tree, Trees, leaf, cat, alt, wrapped, capture_group, loop, no_trees, more_trees, row_reverse}
+use Rattle.regress_tree.specs.Tree.{Leaf, empty, goal, char, char_set, match_any, match_any_except_line_terminator, word_boundary, bracket, back_ref, Tree, Trees, leaf, cat, alt, wrapped, capture_group, loop, lookaround, no_trees, more_trees, row_reverse}
 use Rattle.regress_tree.specs.Tree as tree
 use Rattle.regress_syntax.specs.ClassRows.{members_of}
-use Rattle.regress_syntax.specs.Syntax.{Atom, literal, dot, anchor, boundary, class_escape, class, Group, grouping, capture, Pattern, Terms, Item, one, either, no_terms, more_terms, atom, group, opened_by, counts_of_item, counts_of_terms, counts_of_term}
-use Rattle.regress_syntax.specs.Meaning.{is_in_class, direction_of_group}
+use Rattle.regress_syntax.specs.Syntax.{Name, Atom, literal, dot, anchor, boundary, class_escape, class, back_reference, Group, grouping, modified, capture, look, Pattern, Terms, Item, one, either, no_terms, more_terms, atom, group, opened_by, counts_of_item, counts_of_terms, counts_of_term, names}
+use Rattle.regress_syntax.specs.Meaning.{is_in_class, direction_of_group, referred}
 
 -- Where matching runs backwards the parts stand turned: the last one first.
 abbrev pub turned : Direction → Trees → Trees
@@ -23,17 +23,23 @@ joined d no_trees = leaf empty
 joined d (more_trees t no_trees) = t
 joined d (more_trees t (more_trees u us)) = cat (turned d (more_trees t (more_trees u us)))
 
--- a group behind n opened ones, around this tree
-abbrev pub tree_of_group : ℕ → Group → Tree → Tree
-tree_of_group n grouping body = body
-tree_of_group n (capture name) body = wrapped (capture_group n (option_map encode_utf8_all name)) body
+abbrev pub is_backwards : Direction → Bool
+is_backwards forwards = false
+is_backwards backwards = true
+
+-- a group around this tree, with it and in it the capture groups start to end - 1
+abbrev pub tree_of_group : (start end : ℕ) → Group → Tree → Tree
+tree_of_group start end grouping body = body
+tree_of_group start end (modified change) body = body
+tree_of_group start end (capture name) body = wrapped (capture_group start (option_map encode_utf8_all name)) body
+tree_of_group start end (look negate direction) body = wrapped (lookaround negate (is_backwards direction) start end) body
 
 -- an item of the groups start to end - 1, as often as the quantifier says
 abbrev pub tree_of_times : Option Quantifier → (start end : ℕ) → Tree → Tree
 tree_of_times None start end body = body
 tree_of_times (Some q) start end body = wrapped (loop q start end) body
 
--- what stands for one of these characters
+-- what stands for one of these characters; a literal stands for one at least, itself
 abbrev pub leaf_of_members : List ℕ → Leaf
 leaf_of_members [] = char_set []
 leaf_of_members (c ∷ []) = char c
@@ -44,15 +50,24 @@ module _ (table : Table) where
   abbrev pub leaf_of_literal : Flags → ℕ → Leaf
   leaf_of_literal flags c = if flags.icase then leaf_of_members (class_of table true flags.unicode c) else char c
 
-  abbrev pub leaf_of_atom : Atom → Leaf
-  leaf_of_atom (literal flags c) = leaf_of_literal flags c
-  leaf_of_atom (dot flags) = if flags.dot_all then match_any else match_any_except_line_terminator
-  leaf_of_atom (anchor flags kind) = tree.anchor kind flags.multiline
-  leaf_of_atom (boundary flags inverted) = word_boundary inverted (flags.unicode && flags.icase)
+-- references to these groups, as alternatives are
+abbrev pub tree_of_references : (icase : Bool) → List ℕ → Tree
+tree_of_references icase [] = leaf (char_set [])
+tree_of_references icase (k ∷ []) = leaf (back_ref k icase)
+tree_of_references icase (k ∷ next ∷ ks) = alt (leaf (back_ref k icase)) (tree_of_references icase (next ∷ ks))
+
+-- the names are those of all groups of the whole pattern
+module _ (table : Table) (names : List (Option Name)) where
+  abbrev pub tree_of_atom : Atom → Tree
+  tree_of_atom (literal flags c) = leaf (leaf_of_literal table flags c)
+  tree_of_atom (dot flags) = leaf (if flags.dot_all then match_any else match_any_except_line_terminator)
+  tree_of_atom (anchor flags kind) = leaf (tree.anchor kind flags.multiline)
+  tree_of_atom (boundary flags inverted) = leaf (word_boundary inverted (flags.unicode && flags.icase))
   -- the complement is in the set
-  leaf_of_atom (class_escape flags kind negated) =
-      bracket false (intervals_of (is_in_class table flags negated (members_of kind)))
-  leaf_of_atom (class flags inverted members) = bracket inverted (intervals_of (is_in_class table flags false members))
+  tree_of_atom (class_escape flags kind negated) =
+      leaf (bracket false (intervals_of (is_in_class table flags negated (members_of kind))))
+  tree_of_atom (class flags inverted members) = leaf (bracket inverted (intervals_of (is_in_class table flags false members)))
+  tree_of_atom (back_reference flags to) = tree_of_references flags.icase (referred names to)
 
   -- the tree, in a direction, of what stands behind n opened groups
   abbrev mutual
@@ -68,9 +83,11 @@ module _ (table : Table) where
         (trees_of_terms d (n + (counts_of_term x q).groups) xs)
 
     pub tree_of_item : Direction → ℕ → Item → Tree
-    tree_of_item d n (atom a) = leaf (leaf_of_atom a)
-    tree_of_item d n (group kind p) = tree_of_group n kind (tree_of_pattern (direction_of_group kind d) (n + opened_by kind) p)
+    tree_of_item d n (atom a) = tree_of_atom a
+    tree_of_item d n (group kind p) =
+        tree_of_group n (n + (counts_of_item (group kind p)).groups) kind
+        (tree_of_pattern (direction_of_group kind d) (n + opened_by kind) p)
 
-  -- the tree of a whole pattern
-  abbrev pub tree_of : Pattern → Tree
-  tree_of p = cat (more_trees (tree_of_pattern forwards 0 p) (more_trees (leaf goal) no_trees))
+-- the tree of a whole pattern
+abbrev pub tree_of : Table → Pattern → Tree
+tree_of table p = cat (more_trees (tree_of_pattern table (names p) forwards 0 p) (more_trees (leaf goal) no_trees))

@@ -1,20 +1,21 @@
 //! Trees from parts.
-ghost use Rattle.std.specs.Prelude.{◌≡◌, ℕ, Bool, false, List, Some, IfOk, map};
+ghost use Rattle.std.specs.Prelude.{◌≡◌, ◌≢◌, ℕ, Bool, false, List, [], Some, IfOk, map, option_map, string_bytes, encode_utf8_all};
 ghost use Rattle.regress_tree.specs.Assertions.{differ};
 ghost use Rattle.regress_base.specs.Intervals.{Bounds, intervals_of};
-ghost use Rattle.regress_tree.specs.Tree.{tree, trees, leaf};
+ghost use Rattle.regress_tree.specs.Tree.{tree, trees, leaf, bracket};
 ghost use Rattle.regress_tree.specs.TableOf.{table_of};
 ghost use Rattle.regress_syntax.specs.Meaning.{is_in_class};
 ghost use Rattle.regress_syntax.specs.Source.{IsCodePoint};
-ghost use Rattle.regress_syntax.specs.Syntax.{Atom as Written, class_escape};
-ghost use Rattle.regress_syntax.specs.Views.{IsAtom, IsSomeAtom, HasMembers, group_of};
-ghost use Rattle.regress_parse.specs.TreeOf.{turned, joined, leaf_of_members, leaf_of_literal, leaf_of_atom, tree_of_group, tree_of_times};
-ghost use Rattle.regress_parse.specs.Parsing.{alternatives, direction};
+ghost use Rattle.regress_syntax.specs.ClassRows.{members_of};
+ghost use Rattle.regress_syntax.specs.Syntax.{Atom as Written};
+ghost use Rattle.regress_syntax.specs.Views.{IsAtom, IsSomeAtom, HasMembers, context_of, names_in, direction_of, group_of};
+ghost use Rattle.regress_parse.specs.TreeOf.{turned, joined, leaf_of_members, leaf_of_literal, tree_of_references, tree_of_atom, tree_of_group, tree_of_times};
+ghost use Rattle.regress_parse.specs.Parsing.{alternatives};
 
 use regress_base::charclasses::CharacterClassType;
 use regress_base::codepointset::CodePointSet;
 use regress_base::types::{BracketContents, CaptureGroupID};
-use regress_syntax::{Atom, Group, Scope, class_set};
+use regress_syntax::{Atom, Group, Name, Scope, class_set};
 use regress_tree::ir::{Node, NodeList, Quantifier};
 use regress_tree::unicode::{add_icase_code_points, expand_code_point};
 use std::alloc::{AllocError, Global};
@@ -22,9 +23,9 @@ use std::ops::Range;
 
 /// The node of an item that holds no pattern.
 pub(crate) fn make_atom(alloc: Global, atom: Atom, scope: &Scope) -> Result<Node, AllocError>
-    requires { IsSomeAtom scope.now.flags atom }
-    ensures { (a : Written) → IsAtom scope.now.flags atom a →
-        IfOk result (λ node. tree node ≡ leaf (leaf_of_atom (table_of scope.now.tables.now) a)) }
+    requires { IsSomeAtom (context_of scope.now) atom }
+    ensures { (a : Written) → IsAtom (context_of scope.now) atom a →
+        IfOk result (λ node. tree node ≡ tree_of_atom (table_of scope.now.tables.now) (names_in scope.now.groups.now) a) }
 {
     Ok(match atom {
         Atom::Literal(c) => make_literal(alloc, c, scope)?,
@@ -43,7 +44,24 @@ pub(crate) fn make_atom(alloc: Global, atom: Atom, scope: &Scope) -> Result<Node
             invert: inverted,
             cps: close(set, scope)?,
         }),
+        Atom::BackReferences(numbers) => make_references(alloc, numbers, scope.flags.icase)?,
     })
+}
+
+/// The node of references to these groups, which are tried one after the other.
+fn make_references(alloc: Global, mut numbers: Vec<u32>, icase: bool) -> Result<Node, AllocError>
+    requires { numbers.items ≢ [] }
+    ensures { IfOk result (λ node. tree node ≡ tree_of_references icase numbers.items) }
+{
+    let Some(last) = numbers.pop() else {
+        return Ok(Node::Empty);
+    };
+    let mut node = Node::BackRef { group: last, icase };
+    while let Some(group) = numbers.pop() {
+        let reference = Node::BackRef { group, icase };
+        node = Node::Alt(Box::new(alloc, reference)?, Box::new(alloc, node)?);
+    }
+    Ok(node)
 }
 
 /// The node of a literal: with the flag i all that it stands for.
@@ -76,7 +94,7 @@ fn make_class_escape(
     scope: &Scope,
 ) -> Result<Node, AllocError>
     ensures { IfOk result (λ node. tree node ≡
-        leaf (leaf_of_atom (table_of scope.now.tables.now) (class_escape scope.now.flags kind negated))) }
+        leaf (bracket false (intervals_of (is_in_class (table_of scope.now.tables.now) scope.now.flags negated (members_of kind))))) }
 {
     let closed = close(class_set(alloc, kind)?, scope)?;
     Ok(Node::Bracket(BracketContents {
@@ -122,29 +140,57 @@ pub(crate) fn make_loop(
     })
 }
 
-/// The node of a group, whose number is `id` if it captures.
+/// The node of a group around `contents`, with it and in it these capture groups.
 pub(crate) fn make_group(
     alloc: Global,
     kind: Group,
-    id: CaptureGroupID,
+    groups: Range<CaptureGroupID>,
     contents: Node,
 ) -> Result<Node, AllocError>
-    ensures { IfOk result (λ node. tree node ≡ tree_of_group id (group_of kind) (tree contents)) }
+    ensures { IfOk result (λ node. tree node ≡ tree_of_group groups.start groups.end (group_of kind) (tree contents)) }
 {
     match kind {
-        Group::Grouping => Ok(contents),
-        Group::Capture => Ok(Node::CaptureGroup {
-            id,
+        Group::Grouping | Group::Modified(_) => Ok(contents),
+        Group::Capture(name) => Ok(Node::CaptureGroup {
+            id: groups.start,
             contents: Box::new(alloc, contents)?,
-            name: None,
+            name: name_text(alloc, name)?,
+        }),
+        Group::Look { negate, backwards } => Ok(Node::LookaroundAssertion {
+            negate,
+            backwards,
+            start_group: groups.start,
+            end_group: groups.end,
+            contents: Box::new(alloc, contents)?,
         }),
     }
+}
+
+/// The text of a name, if there is one.
+fn name_text(alloc: Global, name: Option<Name>) -> Result<Option<String>, AllocError>
+    ensures { IfOk result (λ text. option_map string_bytes text ≡ option_map (λ name. encode_utf8_all name.items) name) }
+{
+    match name {
+        Some(name) => Ok(Some(text_of(alloc, &name)?)),
+        None => Ok(None),
+    }
+}
+
+/// The characters as a text.
+fn text_of(alloc: Global, characters: &[char]) -> Result<String, AllocError>
+    ensures { IfOk result (λ text. string_bytes text ≡ encode_utf8_all characters.now) }
+{
+    let mut text = String::new(alloc);
+    for c in characters {
+        text.push(*c)?;
+    }
+    Ok(text)
 }
 
 /// The node of an alternative: no part is `Empty`, one part is that part. Where matching runs backwards,
 /// the parts stand turned.
 pub(crate) fn make_cat(mut parts: NodeList, backwards: bool) -> Node
-    ensures { tree result ≡ joined (direction backwards) (trees parts.items) }
+    ensures { tree result ≡ joined (direction_of backwards) (trees parts.items) }
 {
     if parts.len() > 1 {
         turn(&mut parts, backwards);
@@ -155,7 +201,7 @@ pub(crate) fn make_cat(mut parts: NodeList, backwards: bool) -> Node
 
 /// Turns the parts where matching runs backwards.
 fn turn(parts: &mut NodeList, backwards: bool)
-    ensures { trees parts.new.items ≡ turned (direction backwards) (trees parts.old.items) }
+    ensures { trees parts.new.items ≡ turned (direction_of backwards) (trees parts.old.items) }
 {
     if backwards {
         parts.reverse();

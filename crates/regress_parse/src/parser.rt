@@ -26,6 +26,36 @@ pub(crate) struct Around<'a> {
     pub(crate) depth: u32,
 }
 
+impl<'a> Around<'a> {
+    ghost use Rattle.std.specs.Prelude.{◌≡◌};
+    ghost use Rattle.regress_syntax.specs.Meaning.{direction_of_group};
+    ghost use Rattle.regress_syntax.specs.Rows.{inside};
+    ghost use Rattle.regress_syntax.specs.Views.{group_of};
+    ghost use Rattle.regress_parse.specs.Parsing.{context_in, direction_of};
+
+    /// What lies around the parts inside a group, but for its level.
+    pub(crate) fn inside(&self, kind: &Group) -> Around<'a>
+        ensures context { context_in result ≡ inside (group_of kind.now) (context_in self.now) }
+        ensures direction { direction_of result ≡ direction_of_group (group_of kind.now) (direction_of self.now) }
+        ensures depth { result.depth ≡ self.now.depth }
+    {
+        match kind {
+            Group::Grouping | Group::Capture(_) => *self,
+            Group::Modified(change) => Around {
+                scope: Scope {
+                    flags: change.apply(self.scope.flags),
+                    ..self.scope
+                },
+                ..*self
+            },
+            Group::Look { backwards, .. } => Around {
+                backwards: *backwards,
+                ..*self
+            },
+        }
+    }
+}
+
 impl Parser<'_> {
     ghost use Rattle.std.specs.Prelude.{◌≡◌, ◌+◌, ◌<◌, OnOk};
     ghost use Rattle.regress_syntax.specs.Fault.{RefusedOnlyIf};
@@ -34,12 +64,12 @@ impl Parser<'_> {
     ghost use Rattle.regress_parse.specs.Parsing.{text, counted};
 
     /// Counts a group, if it captures. The fault comes where it is one too many.
-    pub(crate) fn count_group(&mut self, kind: Group) -> Result<(), ParseFault>
-        ensures ok { OnOk result (counted self.new ≡ added (counted self.old) (counts_of_group (group_of kind))) }
-        ensures err { RefusedOnlyIf result (max_capture_groups < self.old.group_count + opened_by (group_of kind)) }
+    pub(crate) fn count_group(&mut self, kind: &Group) -> Result<(), ParseFault>
+        ensures ok { OnOk result (counted self.new ≡ added (counted self.old) (counts_of_group (group_of kind.now))) }
+        ensures err { RefusedOnlyIf result (max_capture_groups < self.old.group_count + opened_by (group_of kind.now)) }
         ensures text { text self.new ≡ text self.old }
     {
-        if let Group::Capture = kind {
+        if let Group::Capture(_) = kind {
             if usize::from(self.group_count) >= MAX_CAPTURE_GROUPS {
                 return Err(syntax(self.cursor.alloc, TOO_MANY_GROUPS));
             }

@@ -6,6 +6,7 @@ ghost use Rattle.regress_tree.specs.WellFormed.{IsWellFormed};
 ghost use Rattle.regress_syntax.specs.Fault.{RefusedOnlyIf};
 ghost use Rattle.regress_syntax.specs.Source.{IsCodePoint};
 ghost use Rattle.regress_syntax.specs.Syntax.{Pattern};
+ghost use Rattle.regress_syntax.specs.Views.{context_of};
 ghost use Rattle.regress_parse.specs.TreeOf.{tree_of};
 ghost use Rattle.regress_parse.specs.Accepted.{is_served, IsAccepted, NoneIsAccepted, OneIsDerived, OfAccepted, Means};
 ghost use Rattle.regress_parse.specs.Parsing.{YieldsWhole};
@@ -13,24 +14,28 @@ ghost use Rattle.regress_parse.specs.Parsing.{YieldsWhole};
 use crate::parser::{Around, Parser};
 use regress_base::types::Flags;
 use regress_syntax::fault::{UNBALANCED, UNSUPPORTED, syntax};
-use regress_syntax::{Cursor, ParseFault, Scope};
+use regress_syntax::{Cursor, ParseFault, Scope, scan_groups};
 use regress_tree::ir::{Node, Regex};
 use regress_tree::unicode::Tables;
 use std::alloc::Global;
 
-/// Parses a pattern, a list of code points of which a surrogate is an ordinary literal that matches
-/// nothing. So far it serves `.`, `(?:`, `(` without a name, `|` and a character that stands for itself,
-/// and the flag s.
+/// Parses a pattern, a list of code points of which a surrogate is an ordinary literal, and no character of
+/// a text. `docs/GRAMMAR.md` has the rows that are served so far, under the flags i, m, s and u. Not served are
+/// `\` before a number from 1 to 9 outside of a class, `\k`, `\p` and `\P` with the flag u, names of groups,
+/// modifiers, lookarounds, and the flag v.
 ///
-/// `Syntax` is answered with the text
-/// - `Unsupported syntax`, at what isn't served, and where a flag isn't;
-/// - `Unbalanced parenthesis`, at a `)` too many, or too few;
-/// - `Regular expression is too deeply nested`, past `MAX_NESTING_DEPTH` levels: the whole pattern is
-///   one, and each group;
-/// - `Capture group count limit exceeded`, past `MAX_CAPTURE_GROUPS` groups.
+/// `Syntax` is answered with one of the texts of `regress_syntax::fault`, which says where each is due:
+/// - `Unsupported syntax`, at what isn't served, and first of all under the flag v;
+/// - past a limit, `Capture group count limit exceeded` (`MAX_CAPTURE_GROUPS`), `Loop count limit exceeded`
+///   (`MAX_LOOPS`, a loop being an item with a quantifier), or `Regular expression is too deeply nested`
+///   (`MAX_NESTING_DEPTH` levels: the whole pattern is one, and each group);
+/// - else where no row applies: `Unbalanced parenthesis`, or a text on an item, a quantifier, an escape or a
+///   class.
 ///
 /// Of several faults the first from the left is told. `Memory` is answered where memory was wanting,
-/// also for the text of a fault. The time taken grows as the pattern does.
+/// also for the text of a fault. The time taken grows as the pattern does, and with the flag i as that times
+/// the rows of the table; only the intervals of a class that stand in descending order are each moved for
+/// every one that follows.
 pub fn try_parse(
     alloc: Global,
     pattern: &[u32],
@@ -52,10 +57,15 @@ pub fn try_parse(
     ensures well_formed { IfOk result (λ r. IsWellFormed (tree r.node)) }
     ensures flags { IfOk result (λ r. r.flags ≡ flags) }
 {
-    let scope = Scope { flags, tables };
     if !is_served(flags) {
         return Err(syntax(alloc, UNSUPPORTED));
     }
+    let groups = scan_groups(alloc, pattern, tables)?;
+    let scope = Scope {
+        flags,
+        tables,
+        groups: &groups,
+    };
     let body = parse_body(alloc, pattern, &scope)?;
     let parts = vec![in alloc; body, Node::Goal]?;
     Ok(Regex {
@@ -74,7 +84,7 @@ fn is_served(flags: Flags) -> bool
 /// Parses the whole source, up to its end.
 fn parse_body(alloc: Global, pattern: &[u32], scope: &Scope) -> Result<Node, ParseFault>
     requires { All IsCodePoint pattern.now }
-    ensures { YieldsWhole (setting_of scope.now.flags scope.now.tables.now) pattern.now result }
+    ensures { YieldsWhole (context_of scope.now) pattern.now result }
 {
     let mut parser = Parser {
         cursor: Cursor {

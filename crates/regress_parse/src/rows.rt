@@ -4,7 +4,7 @@ ghost use Rattle.regress_syntax.specs.Views.{group_of, IsHead, IsSomeHead};
 ghost use Rattle.regress_syntax.specs.Rows.{Head as Written, opens};
 ghost use Rattle.regress_base.specs.Limits.{max_nesting_depth};
 ghost use Rattle.regress_parse.specs.Reader.{pattern_at, terms_at, term_at, item_behind};
-ghost use Rattle.regress_parse.specs.Parsing.{text, counted, direction_of, context_in, table_in, pattern_part, terms_part, term_part, item_part, Yields};
+ghost use Rattle.regress_parse.specs.Parsing.{text, counted, direction_of, context_in, table_in, names_around, pattern_part, terms_part, term_part, item_part, Yields};
 
 use crate::build::{make_alt, make_atom, make_cat, make_group, make_loop};
 use crate::parser::{Around, Parser};
@@ -17,7 +17,7 @@ impl Parser<'_> {
     /// Reads alternatives up to a `)` or the end (ECMA-262, Disjunction).
     #[cycle(parser)]
     pub(crate) fn consume_disjunction(&mut self, around: &Around) -> Result<Node, ParseFault>
-        ensures value { Yields (pattern_part (table_in around.now)) (direction_of around.now) around.now.depth (counted self.old) self.new result
+        ensures value { Yields (pattern_part (table_in around.now) (names_around around.now)) (direction_of around.now) around.now.depth (counted self.old) self.new result
             (pattern_at (context_in around.now) (text self.old)) }
     {
         if around.depth >= MAX_NESTING_DEPTH {
@@ -40,7 +40,7 @@ impl Parser<'_> {
     #[cycle(parser)]
     fn consume_alternative(&mut self, around: &Around) -> Result<Node, ParseFault>
         requires { around.now.depth ≤ max_nesting_depth }
-        ensures value { Yields (terms_part (table_in around.now)) (direction_of around.now) around.now.depth (counted self.old) self.new result
+        ensures value { Yields (terms_part (table_in around.now) (names_around around.now)) (direction_of around.now) around.now.depth (counted self.old) self.new result
             (terms_at (context_in around.now) (text self.old)) }
     {
         let mut parts = Vec::new(self.cursor.alloc);
@@ -54,12 +54,12 @@ impl Parser<'_> {
     #[cycle(parser)]
     fn consume_term(&mut self, around: &Around) -> Result<Node, ParseFault>
         requires { around.now.depth ≤ max_nesting_depth }
-        ensures value { Yields (term_part (table_in around.now)) (direction_of around.now) around.now.depth (counted self.old) self.new result
+        ensures value { Yields (term_part (table_in around.now) (names_around around.now)) (direction_of around.now) around.now.depth (counted self.old) self.new result
             (term_at (context_in around.now) (text self.old)) }
     {
         let groups_before = self.group_count;
         let head = read_head(&mut self.cursor, &around.scope)?;
-        let allowed = head.allows_quantifier();
+        let allowed = head.allows_quantifier(around.scope.flags.unicode);
         let item = self.consume_item(head, around)?;
         let times = read_times(&mut self.cursor, &around.scope, allowed)?;
         let Some(quantifier) = times else {
@@ -78,9 +78,9 @@ impl Parser<'_> {
     #[cycle(parser)]
     fn consume_item(&mut self, head: Head, around: &Around) -> Result<Node, ParseFault>
         requires depth { around.now.depth ≤ max_nesting_depth }
-        requires head { IsSomeHead around.now.scope.flags head }
-        ensures value { (written : Written) → IsHead around.now.scope.flags head written →
-            Yields (item_part (table_in around.now)) (direction_of around.now) around.now.depth (counted self.old) self.new result
+        requires head { IsSomeHead (context_in around.now) head }
+        ensures value { (written : Written) → IsHead (context_in around.now) head written →
+            Yields (item_part (table_in around.now) (names_around around.now)) (direction_of around.now) around.now.depth (counted self.old) self.new result
             (item_behind pattern_at (context_in around.now) (written, text self.old)) }
     {
         match head {
@@ -92,13 +92,13 @@ impl Parser<'_> {
     /// Reads a group, behind what opens it.
     #[cycle(parser)]
     fn consume_group(&mut self, kind: Group, around: &Around) -> Result<Node, ParseFault>
-        ensures value { Yields (item_part (table_in around.now)) (direction_of around.now) around.now.depth (counted self.old) self.new result
+        ensures value { Yields (item_part (table_in around.now) (names_around around.now)) (direction_of around.now) around.now.depth (counted self.old) self.new result
             (item_behind pattern_at (context_in around.now) (opens (group_of kind), text self.old)) }
     {
-        let id = self.group_count;
-        self.count_group(kind)?;
-        let contents = self.consume_disjunction(around)?;
+        let first = self.group_count;
+        self.count_group(&kind)?;
+        let contents = self.consume_disjunction(&around.inside(&kind))?;
         self.cursor.consume_closing()?;
-        Ok(make_group(self.cursor.alloc, kind, id, contents)?)
+        Ok(make_group(self.cursor.alloc, kind, first..self.group_count, contents)?)
     }
 }

@@ -4,5 +4,8 @@ mod ConflictLemmas
 pub mod laws
 mod ClassLemmas
 mod DigitLemmas
+mod ModifierLemmas
+mod NameLemmas
+mod ReferenceLemmas
 mod ScanLemmas
 mod ScanRows

@@ -2,6 +2,7 @@
 pub mod Sources
 pub mod Behind
 pub mod InRange
+pub mod NameEnds
 pub mod Pieces
 pub mod Rows
 pub mod Scan

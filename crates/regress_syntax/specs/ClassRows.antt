@@ -16,7 +16,7 @@ members_of Digits = digits
 members_of Spaces = white_space ++ line_terminators
 members_of Words = word_characters
 
--- the class that a letter names, and whether the letter is a capital, which takes the complement
+-- the class that a letter names, d, D, s, S, w or W, and whether the letter is a capital, which takes the complement
 abbrev pub class_letter : ℕ → Option (CharacterClassType × Bool)
 class_letter c =
     if c == 100 then Some (Digits, false)

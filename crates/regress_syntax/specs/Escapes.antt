@@ -41,7 +41,7 @@ abbrev pub or_itself : Bool → ℕ → Source → Found ℕ → Found ℕ
 or_itself unicode c t None = if unicode then None else Some (c, t)
 or_itself unicode c t (Some x) = Some x
 
--- the octal digits that are read: of the first three behind 0 to 3, else of the first two, those before any other
+-- the octal digits at the front, of three code points where the first is 0 to 3, else of two
 abbrev pub octal_digits : ℕ → Source → Source
 octal_digits c t = front is_octal (take (if nat_le c 51 then 3 else 2) (c ∷ t))
 

@@ -1,17 +1,17 @@
 //! Items that hold no pattern.
-ghost use Rattle.std.specs.Prelude.{◌≡◌, ◌∷◌, true, drop, is_some};
+ghost use Rattle.std.specs.Prelude.{◌≡◌, ◌∷◌, true, drop, is_some, option_map};
 ghost use Rattle.regress_syntax.specs.Digits.{is_between};
-ghost use Rattle.regress_syntax.specs.Escapes.{begins_with_letter};
+ghost use Rattle.regress_syntax.specs.Escapes.{begins_with_letter, begins_with_digit};
 ghost use Rattle.regress_syntax.specs.Quantifiers.{quantifier_at};
 ghost use Rattle.regress_syntax.specs.Reads.{ReadsAs};
-ghost use Rattle.regress_syntax.specs.Rows.{atom_by, brace_by, is_lone_backslash, escaped_at, numbered_at, named_at, character_at, is_unserved};
+ghost use Rattle.regress_syntax.specs.Rows.{atom_by, brace_by, is_lone_backslash, escaped_at, group_number_at, numbered_at, named_at, character_at, is_unserved};
 ghost use Rattle.regress_syntax.specs.Source.{IsCodePoint};
 ghost use Rattle.regress_syntax.specs.Views.{source, context_of, IsAtom};
 
 use crate::class::read_class;
 use crate::class_escape::class_letter;
 use crate::cursor::{Cursor, is_plain};
-use crate::digits::{is_letter, read_count};
+use crate::digits::{Read, is_letter, read_count};
 use crate::escape::{escape_fault, read_escape};
 use crate::fault::{
     Error, INCOMPLETE_ESCAPE, INVALID_ATOM, INVALID_BRACED_QUANTIFIER, INVALID_ESCAPE,
@@ -149,16 +149,26 @@ fn read_numbered(cursor: &mut Cursor, scope: &Scope, c: u32) -> Result<Atom, Par
     ensures { ReadsAs (IsAtom (context_of scope.now)) (source cursor.new) result
         (numbered_at (context_of scope.now) c (drop 1 (source cursor.old))) }
 {
-    if let Some((number, rest)) = read_count(cursor.rest) {
-        if number <= usize::from(scope.groups.count()) {
-            cursor.rest = rest;
-            return Ok(Atom::BackReferences(vec![in cursor.alloc; number as u32]?));
-        }
+    if let Some((number, rest)) = read_group_number(cursor.rest, scope.groups.count()) {
+        cursor.rest = rest;
+        return Ok(Atom::BackReferences(vec![in cursor.alloc; number]?));
     }
     if scope.flags.unicode {
         return Err(syntax(cursor.alloc, INVALID_ESCAPE));
     }
     read_character(cursor, scope, c)
+}
+
+/// Reads the number of a group by the whole run of digits, where there are so many groups.
+fn read_group_number<'a>(text: &'a [u32], groups: u16) -> Read<'a, u32>
+    requires { begins_with_digit text.now ≡ true }
+    ensures { option_map (λ found. (found.0, found.1.now)) result ≡ group_number_at groups text.now }
+{
+    let (number, rest) = read_count(text)?;
+    if number > usize::from(groups) {
+        return None;
+    }
+    Some((number as u32, rest))
 }
 
 /// Reads a reference by name, behind `\k`.

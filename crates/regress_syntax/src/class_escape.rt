@@ -16,6 +16,7 @@ use std::alloc::{AllocError, Global};
 pub(crate) fn class_letter(c: u32) -> Option<(CharacterClassType, bool)>
     ensures { result ≡ class_letter c }
 {
+    // d, D, s, S, w and W.
     match c {
         100 => Some((CharacterClassType::Digits, false)),
         68 => Some((CharacterClassType::Digits, true)),

@@ -102,7 +102,7 @@ fn with_second_half(high: u32, text: &[u32]) -> (u32, &[u32])
 
 /// The forms of `\u`, behind the u.
 #[tactic(auto, unfolding(crate::specs::Escapes::unicode_at))]
-fn read_unicode<'a>(text: &'a [u32]) -> Read<'a, u32>
+pub(crate) fn read_unicode<'a>(text: &'a [u32]) -> Read<'a, u32>
     ensures { option_map (λ found. (found.0, found.1.now)) result ≡ unicode_at text.now }
 {
     if let Some(rest) = after(text, '{') {

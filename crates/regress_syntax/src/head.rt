@@ -41,6 +41,7 @@ impl Head {
 pub fn read_head(cursor: &mut Cursor, scope: &Scope) -> Result<Head, ParseFault>
     ensures { ReadsAs (IsHead (context_of scope.now)) (source cursor.new) result (head_at (context_of scope.now) (source cursor.old)) }
 {
+    // A `{` stands for itself only where it begins no quantifier, which wants a look at all of it.
     let begins_quantifier = read_quantifier(cursor.rest).is_some();
     let Some(c) = cursor.next() else {
         return Err(syntax(cursor.alloc, INVALID_ATOM));

@@ -1,16 +1,101 @@
 //! Names of groups.
-ghost use Rattle.std.specs.Prelude.{◌≡◌, option_map, IfOk};
-ghost use Rattle.regress_syntax.specs.Names.{group_name_at};
+ghost use Rattle.std.specs.Prelude.{◌≡◌, ◌+◌, ◌++◌, length, Some, None, if◌then◌else◌, option_map, IfOk};
+ghost use Rattle.regress_syntax.specs.Source.{found_map};
+ghost use Rattle.regress_syntax.specs.Names.{is_sign, begins_name, continues_name, written_at, name_character_at, rest_of_name_by, name_at, group_name_at};
 ghost use Rattle.regress_tree.specs.TableOf.{table_of};
 
-use crate::digits::Read;
+#[cfg(test)]
+mod tests;
+
+use crate::digits::{Read, after};
+use crate::escape::read_unicode;
 use regress_tree::unicode::Tables;
 use std::alloc::{AllocError, Global};
 
 /// A name of a group, by its characters.
 pub type Name = Vec<char>;
 
+/// `$` and `_`.
+fn is_sign(c: u32) -> bool
+    ensures { result ≡ is_sign c }
+{
+    c == u32::from('$') || c == u32::from('_')
+}
+
+/// The character, if it may begin a name.
+fn first_character(c: u32, tables: &Tables) -> Option<char>
+    ensures { result ≡ (if begins_name (table_of tables.now) c then Some c else None) }
+{
+    if is_sign(c) || tables.id_start().contains(c) {
+        char::from_u32(c)
+    } else {
+        None
+    }
+}
+
+/// The character, if it may go on in a name: the joiners U+200C and U+200D are among those.
+fn further_character(c: u32, tables: &Tables) -> Option<char>
+    ensures { result ≡ (if continues_name (table_of tables.now) c then Some c else None) }
+{
+    if is_sign(c) || c == 0x200C || c == 0x200D || tables.id_continue().contains(c) {
+        char::from_u32(c)
+    } else {
+        None
+    }
+}
+
+/// One character, as it is or by a form of `\u` that gives a value.
+fn read_written<'a>(text: &'a [u32]) -> Read<'a, u32>
+    ensures { option_map (λ found. (found.0, found.1.now)) result ≡ written_at text.now }
+{
+    let (c, rest) = text.split_first()?;
+    if *c == u32::from('\\') {
+        read_unicode(after(rest, 'u')?)
+    } else {
+        Some((*c, rest))
+    }
+}
+
+/// Reads a character that may begin a name.
+fn read_first<'a>(text: &'a [u32], tables: &Tables) -> Read<'a, char>
+    ensures { option_map (λ found. (found.0, found.1.now)) result ≡ name_character_at (begins_name (table_of tables.now)) text.now }
+{
+    let (c, rest) = read_written(text)?;
+    Some((first_character(c, tables)?, rest))
+}
+
+/// Reads a character that may go on in a name.
+fn read_further<'a>(text: &'a [u32], tables: &Tables) -> Read<'a, char>
+    ensures { option_map (λ found. (found.0, found.1.now)) result ≡ name_character_at (continues_name (table_of tables.now)) text.now }
+{
+    let (c, rest) = read_written(text)?;
+    Some((further_character(c, tables)?, rest))
+}
+
+/// Reads on behind the characters of a name, up to a `>` that stands as it is.
+fn read_rest<'a>(
+    text: &'a [u32],
+    tables: &Tables,
+    mut name: Name,
+) -> Result<Read<'a, Name>, AllocError>
+    ensures { IfOk result (λ found. option_map (λ whole. (whole.0.items, whole.1.now)) found
+        ≡ found_map (λ cs. name.items ++ cs) (rest_of_name_by (length text.now + 1) (table_of tables.now) text.now)) }
+{
+    let mut left = text;
+    loop {
+        if let Some(rest) = after(left, '>') {
+            return Ok(Some((name, rest)));
+        }
+        let Some((c, rest)) = read_further(left, tables) else {
+            return Ok(None);
+        };
+        name.push(c)?;
+        left = rest;
+    }
+}
+
 /// Reads a name in angle brackets (ECMA-262, GroupName).
+#[tactic(auto, unfolding(crate::specs::Names::name_at))]
 pub(crate) fn read_group_name<'a>(
     alloc: Global,
     text: &'a [u32],
@@ -18,8 +103,11 @@ pub(crate) fn read_group_name<'a>(
 ) -> Result<Read<'a, Name>, AllocError>
     ensures { IfOk result (λ found. option_map (λ name. (name.0.items, name.1.now)) found ≡ group_name_at (table_of tables.now) text.now) }
 {
-    let _ = alloc;
-    let _ = tables.id_start();
-    let _ = text.len();
-    Err(AllocError)
+    let Some(text) = after(text, '<') else {
+        return Ok(None);
+    };
+    let Some((c, rest)) = read_first(text, tables) else {
+        return Ok(None);
+    };
+    read_rest(rest, tables, vec![in alloc; c]?)
 }

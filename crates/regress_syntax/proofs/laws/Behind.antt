@@ -97,7 +97,7 @@ with_second_half-ends : (x : ℕ × Source) → Ends (with_second_half x) x.1
 with_second_half-ends (high, t) =
     ends_cond _ _ _ t (first_half-ends high t (second_half_at t) (second_half_at-ends t)) (ends_some (high, t) t (behind_same t))
 
-unicode_at-ends : (t : Source) → Ends (unicode_at t) t
+pub unicode_at-ends : (t : Source) → Ends (unicode_at t) t
 unfolding unicode_at
 unicode_at-ends t =
     ends_cond _ _ _ t

@@ -1,16 +1,20 @@
 -- What a row reads ends behind the front of the source.
-use Rattle.std.proofs.Common.{◌≡◌, ℕ, ◌<◌, Bool, true, false, not, cond, ◌&&◌, ◌||◌, ◌==◌, ⊎_elim, [], ◌∷◌, length, drop, Option, Some, None, is_some, refl, sym, ap, subst, arith, eqb-true}
+use Rattle.std.proofs.Common.{◌≡◌, ℕ, ◌<◌, nat_le, Bool, true, false, not, cond, ◌&&◌, ◌||◌, ◌==◌, ⊎_elim, [], ◌∷◌, length, drop, Option, Some, None, is_some, refl, sym, ap, subst, arith, eqb-true}
 use Rattle.std.proofs.lemmas.Bool.{or_cases, and_parts}
 use Rattle.std.proofs.lemmas.Option.{none-some, same_Some, cond_some}
 use Rattle.regress_base.specs.declared.charclasses.CharacterClassType.{CharacterClassType}
 use Rattle.regress_tree.specs.declared.ir.node.Quantifier.{Quantifier}
+use Rattle.regress_tree.specs.Table.{Table}
 use Rattle.regress_syntax.specs.Source.{Source, Found, opening, closing, full_stop, colon, question_mark, bar, is_at, is_plain, ends_alternative}
 use Rattle.regress_syntax.specs.Syntax.{Atom, literal, boundary, class_escape}
+use Rattle.regress_syntax.specs.Digits.{is_between, is_decimal, number, front}
 use Rattle.regress_syntax.specs.Escapes.{begins_with_letter}
+use Rattle.regress_syntax.specs.Names.{group_name_at}
 use Rattle.regress_syntax.specs.Quantifiers.{quantifier_at, is_ordered}
 use Rattle.regress_syntax.specs.ClassRows.{class_letter}
-use Rattle.regress_syntax.specs.Rows.{Context, Head, single, group_at, is_unserved, is_lone_backslash, character_at, escaped_by, escaped_at, brace_by, atom_by, head_by, head_at, no_quantifier_at, this_quantifier, times_at}
-use Rattle.regress_syntax.proofs.laws.Behind.{behind_same, behind_drop, behind_shorter, Ends, ends_none, ends_some, ends_more, ends_map, ends_cond, escape_at-ends, quantifier_at-ends}
+use Rattle.regress_syntax.specs.Rows.{Context, Head, single, angle_at, behind_mark_at, group_at, is_unserved, has_name, has_names, is_lone_backslash, character_at, numbered_at, named_at, escaped_by, escaped_at, brace_by, atom_by, head_by, head_at, no_quantifier_at, this_quantifier, times_at}
+use Rattle.regress_syntax.proofs.laws.Behind.{behind_same, behind_drop, behind_front, behind_shorter, Ends, ends_none, ends_some, ends_behind, ends_more, ends_then, ends_map, ends_cond, escape_at-ends, quantifier_at-ends}
+use Rattle.regress_syntax.proofs.laws.NameEnds.{group_name_at-ends, modifiers_at-ends}
 use Rattle.regress_syntax.proofs.laws.Pieces.{class_at-ends}
 use Rattle.regress_syntax.proofs.laws.Sources.{Shortens, chosen}
 
@@ -21,17 +25,39 @@ this-ends x t = ends_some (x, t) t (behind_same t)
 next-ends : {A : Type 0} (x : A) (c : ℕ) (t : Source) → Ends (Some (x, t)) (c ∷ t)
 next-ends x c t = ends_some (x, t) (c ∷ t) (behind_drop 1 (c ∷ t))
 
-group_at-ends : (t : Source) → Ends (group_at t) t
-group_at-ends t =
-    ends_cond (is_at question_mark t) _ _ t
-    (ends_cond (is_at colon (drop 1 t)) _ _ t (ends_some _ t (behind_drop 2 t)) (ends_none t))
-    (this-ends _ t)
+module _ (table : Table) where
+  angle_at-ends : (t : Source) → Ends (angle_at table t) t
+  angle_at-ends t =
+      ends_cond (is_at 61 (drop 1 t)) _ _ t (ends_some _ t (behind_drop 2 t))
+      (ends_cond (is_at 33 (drop 1 t)) _ _ t (ends_some _ t (behind_drop 2 t)) (ends_map _ _ t (group_name_at-ends table t)))
+
+  behind_mark_at-ends : (t : Source) → Ends (behind_mark_at table t) t
+  behind_mark_at-ends t =
+      ends_cond (is_at colon t) _ _ t (ends_some _ t (behind_drop 1 t))
+      (ends_cond (is_at 61 t) _ _ t (ends_some _ t (behind_drop 1 t))
+      (ends_cond (is_at 33 t) _ _ t (ends_some _ t (behind_drop 1 t))
+      (ends_cond (is_at 60 t) _ _ t (angle_at-ends t) (ends_map _ _ t (modifiers_at-ends t)))))
+
+  group_at-ends : (t : Source) → Ends (group_at table t) t
+  group_at-ends t =
+      ends_cond (is_at question_mark t) _ _ t (ends_behind _ t (drop 1 t) (behind_drop 1 t) (behind_mark_at-ends (drop 1 t))) (this-ends _ t)
 
 module _ (ctx : Context) where
   character_at-ends : (c : ℕ) (t : Source) → Ends (character_at ctx c t) (c ∷ t)
   character_at-ends c t =
       ends_cond (is_unserved ctx.setting.flags.unicode c) _ _ (c ∷ t) (ends_none (c ∷ t))
       (ends_map _ _ (c ∷ t) (escape_at-ends ctx.setting.flags.unicode (c ∷ t)))
+
+  numbered_at-ends : (c : ℕ) (t : Source) → Ends (numbered_at ctx c t) (c ∷ t)
+  numbered_at-ends c t =
+      ends_cond (nat_le (number 10 (front is_decimal (c ∷ t))) ctx.groups) _ _ (c ∷ t)
+      (ends_some _ (c ∷ t) (behind_front is_decimal (c ∷ t)))
+      (ends_cond ctx.setting.flags.unicode _ _ (c ∷ t) (ends_none (c ∷ t)) (character_at-ends c t))
+
+  named_at-ends : (t : Source) → Ends (named_at ctx t) t
+  named_at-ends t =
+      ends_then (group_name_at ctx.setting.table t) _ t (group_name_at-ends ctx.setting.table t)
+      (λ x. ends_cond (has_name x.0 ctx.names) _ _ x.1 (this-ends _ x.1) (ends_none x.1))
 
   -- the backslash alone leaves the `c`
   backslash-ends : (unicode : Bool) (c : ℕ) (t : Source) (x : Atom) (other : Found Atom) → Ends other (c ∷ t) →
@@ -54,13 +80,17 @@ module _ (ctx : Context) where
                 cond (c == 98) (Some (boundary ctx.setting.flags false, t))
                 (cond (c == 66) (Some (boundary ctx.setting.flags true, t))
                 (cond (is_lone_backslash ctx.setting.flags.unicode c t) (Some (literal ctx.setting.flags 92, 99 ∷ t))
-                (character_at ctx c t)))
+                (cond (is_between 49 57 c) (numbered_at ctx c t)
+                (cond (c == 107 && (ctx.setting.flags.unicode || has_names ctx.names)) (named_at ctx t) (character_at ctx c t)))))
           ]) (c ∷ t)
       by (Some named) = next-ends _ c t
       by None =
           ends_cond (c == 98) _ _ (c ∷ t) (next-ends _ c t)
           (ends_cond (c == 66) _ _ (c ∷ t) (next-ends _ c t)
-          (backslash-ends ctx.setting.flags.unicode c t _ _ (character_at-ends c t)))
+          (backslash-ends ctx.setting.flags.unicode c t _ _
+          (ends_cond (is_between 49 57 c) _ _ (c ∷ t) (numbered_at-ends c t)
+          (ends_cond (c == 107 && (ctx.setting.flags.unicode || has_names ctx.names)) _ _ (c ∷ t)
+          (ends_more _ c t (named_at-ends t)) (character_at-ends c t)))))
 
   escaped_at-ends : (t : Source) → Ends (escaped_at ctx t) t
   escaped_at-ends [] = ends_none []
@@ -81,7 +111,7 @@ module _ (ctx : Context) where
       (ends_cond (is_plain c) _ _ t (this-ends _ t) (ends_none t)))))))
 
   head_by-ends : (c : ℕ) (t : Source) → Ends (head_by ctx c t) t
-  head_by-ends c t = ends_cond (c == opening) _ _ t (group_at-ends t) (ends_map single _ t (atom_by-ends c t))
+  head_by-ends c t = ends_cond (c == opening) _ _ t (group_at-ends ctx.setting.table t) (ends_map single _ t (atom_by-ends c t))
 
   pub head_at-ends : (t : Source) → Ends (head_at ctx t) t
   unfolding head_at

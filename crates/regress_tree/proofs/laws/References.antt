@@ -1,10 +1,10 @@
 -- References to what a group has captured, over the bytes of a text and over its characters.
-use Rattle.std.proofs.Common.{◌≡◌, ℕ, zero, suc, ◌+◌, ◌-◌, ◌<◌, ◌≤◌, nat_lt, Bool, cond, List, [], ◌∷◌, length, map, Option, Some, None, option_map, slice_index, get_or, All, encode_utf8_all, refl, sym, ap, subst, ◌∙◌, ⊎_elim, arith}
+use Rattle.std.proofs.Common.{◌≡◌, ℕ, zero, suc, ◌+◌, ◌-◌, ◌<◌, ◌≤◌, Bool, List, [], ◌∷◌, length, Option, Some, None, option_map, slice_index, get_or, All, encode_utf8_all, refl, sym, ap, subst, ◌∙◌, ⊎_elim, arith}
 use Rattle.std.proofs.Math.ListN.{get_or-map}
 use Rattle.std.proofs.lemmas.List.Elements.{All-head, All-tail}
 use Rattle.std.proofs.lemmas.Bool.{cases_lt, lt-ltb, le-ltb, cond-true, cond-false}
-use Rattle.regress_tree.specs.Reading.{Direction, Reading, Read, IsText, of_characters, of_bytes, byte_place}
-use Rattle.regress_tree.specs.Steps.{State, Span, Step, IsStateOf, IsCaptureOf, byte_state, byte_capture}
+use Rattle.regress_tree.specs.Reading.{Direction, Reading, IsText, of_characters, of_bytes, byte_place}
+use Rattle.regress_tree.specs.Steps.{State, Span, IsStateOf, IsCaptureOf, byte_state, byte_capture}
 use Rattle.regress_tree.specs.References.{read_with, characters_from, all_of, in_order, once_more, back_reference}
 use Rattle.regress_tree.proofs.laws.Characters.{byte_place-add-le, byte_place-le, byte_place-lt}
 use Rattle.regress_tree.proofs.laws.Readings.{byte_read, read_after-byte_place, after_within}

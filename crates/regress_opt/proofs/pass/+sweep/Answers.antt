@@ -1,14 +1,16 @@
 -- Each answer is a lemma on plain trees, at the values of the call.
 use Rattle.std.proofs.Common.{rules, arith, ◌∙◌, sym, ap, subst, refl, length-set}
 use Rattle.std.specs.Prelude.{option_map, string_bytes}
-use Rattle.regress_tree.specs.Tree.{Tree, tree, capture_group, loop, loop_one}
+use Rattle.regress_tree.specs.declared.ir.node.Node.{Node}
+use Rattle.regress_tree.specs.Tree.{Tree, tree, capture_group, loop, loop_one, lookaround}
+use Rattle.regress_tree.specs.Walk.{direction_of}
 use Rattle.regress_tree.specs.Units.{units}
-use Rattle.regress_tree.proofs.laws.Nodes.{tree-Alt, tree-CaptureGroup, tree-Loop, tree-Loop1CharBody}
+use Rattle.regress_tree.proofs.laws.Nodes.{tree-Alt, tree-CaptureGroup, tree-Loop, tree-Loop1CharBody, tree-LookaroundAssertion}
 use Rattle.regress_tree.proofs.laws.Places.{inside_of}
 use Rattle.regress_opt.specs.Law.{IsPart}
 use Rattle.regress_opt.specs.Spine.{is_alt, spine_length}
 use Rattle.regress_opt.proofs.CheckedLemmas.{sum_of}
-use Rattle.regress_opt.proofs.NodeLemmas.{out-Alt, out-CaptureGroup, out-Loop, out-Loop1CharBody, alt_of}
+use Rattle.regress_opt.proofs.NodeLemmas.{out-Alt, out-CaptureGroup, out-Loop, out-Loop1CharBody, out-LookaroundAssertion, alt_of}
 use Rattle.regress_opt.proofs.KeepsLemmas.{IsPart-kept}
 use Rattle.regress_opt.proofs.SweepLemmas.{Swept-error, Swept-put, Swept-walk}
 use Rattle.regress_opt.proofs.SpineLemmas.{IsPart-reattach, IsPart-down, units_down, levels_down, down_next, down_last}
@@ -97,6 +99,18 @@ sweep_inside-returns-in-Loop1CharBody g t c =
     let place = inside_of (loop_one c.in-Loop1CharBody.quant) in
     rw (c.in-Loop1CharBody.is, out-Loop1CharBody)
     (simp tree-Loop1CharBody (Swept-put _ place _ (rw loopee_is at c.sweep-in-Loop1CharBody.ensures)))
+
+pub sweep_inside-returns-in-LookaroundAssertion : goal.sweep_inside-returns-in-LookaroundAssertion
+sweep_inside-returns-in-LookaroundAssertion g t c =
+    let at = c.in-LookaroundAssertion in
+    let out = out-LookaroundAssertion at.negate at.backwards at.start_group at.end_group at.contents in
+    let contents_is = rw (at.is, out) at c.deref_mut-in-LookaroundAssertion.ensures.value in
+    let looks = rw (at.is, out) at c.looking.ensures.direction in
+    let place = inside_of (lookaround at.negate at.backwards at.start_group at.end_group) in
+    let here = rw looks at (rw contents_is at c.sweep-in-LookaroundAssertion.ensures) in
+    let tree_with = λ (new : Node). tree-LookaroundAssertion at.negate at.backwards at.start_group at.end_group (record at.contents { value = new }) in
+    rw (at.is, out) (rw (tree_with at.contents.value, tree_with c.sweep-in-LookaroundAssertion.new.node)
+    (Swept-put _ place (direction_of c.args.walk.now) here))
 
 pub sweep_parts-sweep-requires : goal.sweep_parts-sweep-requires
 sweep_parts-sweep-requires g t c κs lives =

@@ -1,52 +1,91 @@
-use Rattle.std.proofs.Common.{◌≡◌, true, sym, ap, ap₂, ◌∙◌, subst, arith}
+use Rattle.std.proofs.Common.{◌≡◌, ◌+◌, ◌<◌, true, [], Ok, Err, refl, sym, ap, ap₂, ◌∙◌, subst, arith}
 use Rattle.std.proofs.lemmas.Result.{err_from_is_err_and}
-use Rattle.regress_tree.specs.Tree.{Tree, trees, cat, more_trees, no_trees}
+use Rattle.regress_base.specs.Limits.{max_capture_groups}
+use Rattle.regress_tree.specs.Reading.{forwards}
+use Rattle.regress_tree.specs.Tree.{Tree, tree, trees, cat, more_trees, no_trees}
 use Rattle.regress_tree.specs.TableOf.{setting_of}
 use Rattle.regress_tree.specs.WellFormed.{IsWellFormed}
 use Rattle.regress_tree.proofs.laws.Nodes.{tree-Cat, tree-Goal}
+use Rattle.regress_syntax.specs.Rows.{Context}
+use Rattle.regress_syntax.specs.Syntax.{counts}
+use Rattle.regress_syntax.specs.Views.{names_in}
 use Rattle.regress_syntax.proofs.laws.Sources.{on_syntax_then}
-use Rattle.regress_parse.specs.TreeOf.{tree_of}
+use Rattle.regress_parse.specs.Parsing.{YieldsWhole}
+use Rattle.regress_parse.specs.TreeOf.{tree_of, tree_of_pattern}
 use Rattle.regress_parse.specs.Accepted.{is_served, Means}
-use Rattle.regress_parse.proofs.AcceptedLemmas.{reads_derived, derived_reads, same_derived, limits-fit, fit-limits}
+use Rattle.regress_parse.proofs.AcceptedLemmas.{found_names, scanned, most, scanned-is, names_found, reads_derived, derived_reads, same_derived, marks-refuse, marks-apart, limits-fit, fit-limits}
+use Rattle.regress_parse.proofs.GrammarLemmas.{pattern_at-sound}
 use Rattle.regress_parse.proofs.MeaningLemmas.{tree_of-means}
 use Rattle.regress_parse.proofs.WellFormedLemmas.{tree_of-well_formed}
 use Rattle.regress_parse.proofs.pattern.try_parse.Goals as goal
 
+pub returns-in_err-groups-clause-refused : goal.returns-in_err-groups-clause-refused
+returns-in_err-groups-clause-refused c =
+    let p = err_from_is_err_and c.from_residual.result c.from_residual.ensures.1 in
+    rw (p.1, p.2) (on_syntax_then c.in_err-groups.field-0.0
+    (marks-refuse (setting_of c.args.flags c.args.tables.now) c.args.pattern.now c.in_err-groups.ensures.whole)
+    c.in_err-groups.ensures.refused)
+
+pub returns-in_err-groups-clause-only : goal.returns-in_err-groups-clause-only
+returns-in_err-groups-clause-only c =
+    same_derived (setting_of c.args.flags c.args.tables.now) c.args.pattern.now c.in_err-groups.ensures.whole
+
 pub returns-in_err-body-clause-refused : goal.returns-in_err-body-clause-refused
 returns-in_err-body-clause-refused c =
-    let p = err_from_is_err_and c.from_residual.result c.from_residual.ensures.1 in
+    let p = err_from_is_err_and c.from_residual-in_err-body.result c.from_residual-in_err-body.ensures.1 in
     let setting = setting_of c.args.flags c.args.tables.now in
+    let t = c.args.pattern.now in
+    let found = c.in_ok-groups.ensures in
+    let same = scanned-is setting t found.whole c.in_ok-groups.groups.count (names_in c.in_ok-groups.groups) found.names found.count in
+    let yields : YieldsWhole (scanned setting t found.whole (most setting t found.whole)) t (Err c.in_err-body.field-0.0) =
+    subst (λ ctx. YieldsWhole ctx t (Err c.in_err-body.field-0.0)) same c.in_err-body.ensures in
     rw (p.1, p.2) (on_syntax_then c.in_err-body.field-0.0
-    (λ refused q accepted. refused q (reads_derived setting c.args.pattern.now q accepted.derived) (limits-fit setting q accepted.limits))
-    c.in_err-body.ensures)
+    (λ refused q accepted. refused q (reads_derived setting t found.whole q accepted.derived accepted.limits)
+    (limits-fit setting (found_names setting t found.whole) q accepted.limits))
+    yields)
 
 pub returns-in_err-body-clause-only : goal.returns-in_err-body-clause-only
-returns-in_err-body-clause-only c = same_derived (setting_of c.args.flags c.args.tables.now) c.args.pattern.now
+returns-in_err-body-clause-only c =
+    same_derived (setting_of c.args.flags c.args.tables.now) c.args.pattern.now c.in_ok-groups.ensures.whole
 
 pub returns-in_err-parts-clause-only : goal.returns-in_err-parts-clause-only
-returns-in_err-parts-clause-only c = same_derived (setting_of c.args.flags c.args.tables.now) c.args.pattern.now
+returns-in_err-parts-clause-only c =
+    same_derived (setting_of c.args.flags c.args.tables.now) c.args.pattern.now c.in_ok-groups.ensures.whole
 
 -- the pattern that was read, and its tree
 pub returns-clause-accepted : goal.returns-clause-accepted
 returns-clause-accepted c =
     let setting = setting_of c.args.flags c.args.tables.now in
-    let read = c.in_ok-body.ensures in
-    let served : is_served c.args.flags ≡ true = grind arith in (
-      read.0,
-      record { derived = derived_reads setting c.args.pattern.now read.0 served read.1; limits = fit-limits setting read.0 read.2 },
+    let t = c.args.pattern.now in
+    let found = c.in_ok-groups.ensures in
+    let same = scanned-is setting t found.whole c.in_ok-groups.groups.count (names_in c.in_ok-groups.groups) found.names found.count in
+    let here = scanned setting t found.whole (most setting t found.whole) in
+    let read : YieldsWhole here t (Ok c.in_ok-body.body) = subst (λ ctx. YieldsWhole ctx t (Ok c.in_ok-body.body)) same c.in_ok-body.ensures in
+    let served : is_served c.args.flags ≡ true = grind arith in
+    let p = read.0 in
+    let few : (counts p).groups < max_capture_groups + 1 = omega (arith, read.2.groups) in
+    let derived = derived_reads setting t found.whole p served read.1 few in
+    let names = names_found setting t found.whole here p refl (pattern_at-sound here t (p, []) read.1) in (
+      p,
+      record {
+        derived = derived;
+        limits = fit-limits setting (found_names setting t found.whole) p read.2;
+        names = marks-apart setting t found.whole p found.apart derived;
+      },
       tree-Cat c.in_ok-parts.parts
           ∙ ap (λ nodes. cat (trees nodes)) c.in_ok-parts.ensures.items
-          ∙ ap₂ (λ a b. cat (more_trees a (more_trees b no_trees))) read.3 tree-Goal,
+          ∙ ap₂ (λ a b. cat (more_trees a (more_trees b no_trees)))
+          (read.3 ∙ ap (λ names. tree_of_pattern setting.table names forwards 0 p) (sym names)) tree-Goal,
     )
 
 pub returns-clause-only : goal.returns-clause-only
-returns-clause-only c = same_derived (setting_of c.args.flags c.args.tables.now) c.args.pattern.now
+returns-clause-only c = same_derived (setting_of c.args.flags c.args.tables.now) c.args.pattern.now c.in_ok-groups.ensures.whole
 
 pub returns-clause-meaning : goal.returns-clause-meaning
 returns-clause-meaning c q accepted =
     let setting = setting_of c.args.flags c.args.tables.now in
     let found = returns-clause-accepted c in
-    let one = same_derived setting c.args.pattern.now found.0 q found.1.derived accepted.derived in
+    let one = same_derived setting c.args.pattern.now c.in_ok-groups.ensures.whole found.0 q found.1.derived accepted.derived in
     subst (λ (t : Tree). Means setting t q) (sym (found.2 ∙ ap (tree_of setting.table) one)) (tree_of-means setting q)
 
 pub returns-clause-well_formed : goal.returns-clause-well_formed

@@ -12,7 +12,7 @@ use Rattle.regress_syntax.proofs.laws.Sources.{at_front, on_syntax, on_syntax_th
 use Rattle.regress_syntax.proofs.laws.Rows.{head_at-shortens}
 use Rattle.regress_parse.specs.TreeOf.{joined, tree_of_times}
 use Rattle.regress_parse.specs.Reader.{item_behind, pattern_at, terms_at, term_at}
-use Rattle.regress_parse.specs.Parsing.{text, counted, context_in, table_in, direction_of, terms_part, term_part, item_part}
+use Rattle.regress_parse.specs.Parsing.{Builds, text, counted, context_in, table_in, names_around, direction_of, terms_part, term_part, item_part}
 use Rattle.regress_parse.proofs.CountLemmas.{added-assoc, added-nothing, Fits-inside}
 use Rattle.regress_parse.proofs.ReaderLemmas.{terms_at-shortens, term_at-shortens}
 use Rattle.regress_parse.proofs.SoFarLemmas.{terms-start, terms-step, terms-end, terms-fail}
@@ -24,7 +24,7 @@ use Rattle.regress_parse.proofs.parser.Parser.+parser.Goals as goal
 pub consume_alternative-loop-parts-init : goal.consume_alternative-loop-parts-init
 consume_alternative-loop-parts-init t c =
     let old = c.args.self.now in
-    rw c.new-parts.ensures.items (terms-start _ _ _ _ (text old) (counted old)
+    rw c.new-parts.ensures.items (terms-start _ _ _ _ _ (text old) (counted old)
     (record { groups = omega (arith, old.groups_within); loops = omega (arith, old.loops_within); levels = omega arith }))
 
 pub consume_alternative-returns-in_err-consume_term : goal.consume_alternative-returns-in_err-consume_term
@@ -34,7 +34,7 @@ consume_alternative-returns-in_err-consume_term t c =
     let goes_on : ends_alternative (text l.self) ≡ false = sym c.ends_alternative.ensures ∙ c.loop-parts-test.true in
     record {
       value = rw (p.1, p.2) (on_syntax_then c.in_err-consume_term.field-0.0
-          (terms-fail _ _ _ _ _ _ (text l.self) (counted l.self) l.parts.items l.invariant goes_on)
+          (terms-fail _ _ _ _ _ _ _ (text l.self) (counted l.self) l.parts.items l.invariant goes_on)
           c.in_err-consume_term.ensures.value);
     }
 
@@ -42,7 +42,7 @@ pub consume_alternative-loop-parts-smaller : goal.consume_alternative-loop-parts
 consume_alternative-loop-parts-smaller t c =
     let around = c.args.around.now in
     let here = text c.loop-parts.self in
-    let found = built (term_part (table_in around)) (direction_of around) around.depth (counted c.loop-parts.self) c.consume_term.new.self
+    let found = built (term_part (table_in around) (names_around around)) (direction_of around) around.depth (counted c.loop-parts.self) c.consume_term.new.self
     (term_at (context_in around) here) c.in_ok-consume_term.field-0 c.in_ok-consume_term.ensures.value in
     omega (arith, term_at-shortens (context_in around) here found.0 found.1, ap length found.2.rest)
 
@@ -51,18 +51,18 @@ consume_alternative-loop-parts-preserved t c =
     let l = c.loop-parts in
     let goes_on : ends_alternative (text l.self) ≡ false = sym c.ends_alternative.ensures ∙ c.loop-parts-test.true in
     let around = c.args.around.now in
-    let found = built (term_part (table_in around)) (direction_of around) around.depth (counted l.self) c.consume_term.new.self
+    let found = built (term_part (table_in around) (names_around around)) (direction_of around) around.depth (counted l.self) c.consume_term.new.self
     (term_at (context_in around) (text l.self)) c.in_ok-consume_term.field-0 c.in_ok-consume_term.ensures.value in
     let b = found.2 in
     rw (b.rest, c.in_ok-push.ensures.items)
-    (terms-step _ _ _ _ _ _ (text l.self) (counted l.self) l.parts.items c.in_ok-consume_term.field-0 found.0.0 found.0.1
+    (terms-step _ _ _ _ _ _ _ (text l.self) (counted l.self) l.parts.items c.in_ok-consume_term.field-0 found.0.0 found.0.1
     (counted c.consume_term.new.self) l.invariant goes_on found.1 b.node b.counts b.fits)
 
 pub consume_alternative-returns : goal.consume_alternative-returns
 consume_alternative-returns t c =
     let l = c.loop-parts in
     let h = l.invariant in
-    let end = terms-end _ _ _ _ _ _ (text l.self) (counted l.self) l.parts.items h
+    let end = terms-end _ _ _ _ _ _ _ (text l.self) (counted l.self) l.parts.items h
     (sym c.ends_alternative.ensures ∙ c.loop-parts-test.false) in
     record {
       value = rw end (record {
@@ -77,7 +77,7 @@ pub consume_disjunction-returns-then-around-ge-MAX_NESTING_DEPTH : goal.consume_
 consume_disjunction-returns-then-around-ge-MAX_NESTING_DEPTH t c =
     let around = c.args.around.now in
     record {
-      value = on_syntax c.syntax.result (too_deep (table_in around) (context_in around) (counted c.args.self.now) around.depth
+      value = on_syntax c.syntax.result (too_deep (table_in around) (names_around around) (context_in around) (counted c.args.self.now) around.depth
           (pattern_at (context_in around) (text c.args.self.now)) c.if-around-ge-MAX_NESTING_DEPTH.true);
     }
 
@@ -87,7 +87,7 @@ consume_disjunction-returns-in_err-last t c =
     let around = c.args.around.now in
     record {
       value = rw (p.1, p.2) (on_syntax_then c.in_err-last.field-0.0
-          (first-fail (table_in around) (context_in around) around.depth (text c.args.self.now) (counted c.args.self.now))
+          (first-fail (table_in around) (names_around around) (context_in around) around.depth (text c.args.self.now) (counted c.args.self.now))
           c.in_err-last.ensures.value);
     }
 
@@ -95,11 +95,11 @@ pub consume_disjunction-loop-inside-init : goal.consume_disjunction-loop-inside-
 consume_disjunction-loop-inside-init t c =
     let around = c.args.around.now in
     let old = c.args.self.now in
-    let found = built (terms_part (table_in around)) (direction_of around) (around.depth + 1) (counted old) c.consume_alternative.new.self
+    let found = built (terms_part (table_in around) (names_around around)) (direction_of around) (around.depth + 1) (counted old) c.consume_alternative.new.self
     (terms_at (context_in around) (text old)) c.in_ok-last.last c.in_ok-last.ensures.value in
     let b = found.2 in
     rw (b.rest, c.new-before.ensures.items)
-    (alternatives-start _ _ _ _ (text c.args.self.now) (counted c.args.self.now) found.0.1 (counted c.consume_alternative.new.self)
+    (alternatives-start _ _ _ _ _ (text c.args.self.now) (counted c.args.self.now) found.0.1 (counted c.consume_alternative.new.self)
     c.in_ok-last.last found.0.0 found.1 b.node b.counts b.fits)
 
 pub consume_disjunction-returns-in_err-last-2 : goal.consume_disjunction-returns-in_err-last-2
@@ -109,7 +109,7 @@ consume_disjunction-returns-in_err-last-2 t c =
     let past = c.loop-inside-test.ensures in
     record {
       value = rw (p.1, p.2) (on_syntax_then c.in_err-last-2.field-0.0
-          (λ refused. alternatives-fail _ _ _ _ _ _ (text l.self) (counted l.self) l.before.items l.last l.invariant (sym past.found)
+          (λ refused. alternatives-fail _ _ _ _ _ _ _ (text l.self) (counted l.self) l.before.items l.last l.invariant (sym past.found)
           (rw past.moves at refused))
           c.in_err-last-2.ensures.value);
     }
@@ -119,7 +119,7 @@ consume_disjunction-loop-inside-smaller t c =
     let l = c.loop-inside in
     let past = c.loop-inside-test.ensures in
     let around = c.args.around.now in
-    let found = built (terms_part (table_in around)) (direction_of around) (around.depth + 1) (counted l.self)
+    let found = built (terms_part (table_in around) (names_around around)) (direction_of around) (around.depth + 1) (counted l.self)
     c.consume_alternative-in-loop-inside.new.self (terms_at (context_in around) (source c.try_consume.new.self)) c.in_ok-last-2.last
     c.in_ok-last-2.ensures.value in
     omega (
@@ -136,15 +136,14 @@ consume_disjunction-loop-inside-preserved t c =
     let l = c.loop-inside in
     let past = c.loop-inside-test.ensures in
     let around = c.args.around.now in
-    let found = built (terms_part (table_in around)) (direction_of around) (around.depth + 1) (counted l.self)
+    let found = built (terms_part (table_in around) (names_around around)) (direction_of around) (around.depth + 1) (counted l.self)
     c.consume_alternative-in-loop-inside.new.self (terms_at (context_in around) (source c.try_consume.new.self)) c.in_ok-last-2.last
     c.in_ok-last-2.ensures.value in
     let b = found.2 in
     rw (b.rest, c.in_ok-push.ensures.items)
-    (alternatives-step _ _ _ _ _ _ (text l.self) (counted l.self) l.before.items l.last c.in_ok-last-2.last found.0.0 found.0.1
+    (alternatives-step _ _ _ _ _ _ _ (text l.self) (counted l.self) l.before.items l.last c.in_ok-last-2.last found.0.0 found.0.1
     (counted c.consume_alternative-in-loop-inside.new.self) l.invariant (sym past.found)
     (subst (λ u. terms_at (context_in around) u ≡ Some found.0) past.moves found.1) b.node b.counts b.fits)
-
 
 pub consume_item-consume_group-requires : goal.consume_item-consume_group-requires
 consume_item-consume_group-requires t c = omega arith
@@ -155,7 +154,7 @@ consume_term-returns-in_err-head t c =
     let around = c.args.around.now in
     record {
       value = rw (p.1, p.2) (on_syntax_then c.in_err-head.field-0.0
-          (λ none. rw (no_term (table_in around) (context_in around) (text c.args.self.now) none) tt) c.in_err-head.ensures);
+          (λ none. rw (no_term (table_in around) (names_around around) (context_in around) (text c.args.self.now) none) tt) c.in_err-head.ensures);
     }
 
 pub consume_term-consume_item-requires : goal.consume_term-consume_item-requires
@@ -172,7 +171,7 @@ consume_term-returns-in_err-item t c =
     let head = c.in_ok-head.ensures in
     record {
       value = rw (p.1, p.2) (on_syntax_then c.in_err-item.field-0.0
-          (term-fail (table_in around) (context_in around) (text c.args.self.now) (head.0, source c.read_head.new.cursor)
+          (term-fail (table_in around) (names_around around) (context_in around) (text c.args.self.now) (head.0, source c.read_head.new.cursor)
           (counted c.args.self.now) around.depth head.1)
           (c.in_err-item.ensures.value head.0 head.2));
     }
@@ -184,12 +183,12 @@ consume_term-returns-in_err-times t c =
     let old = c.args.self.now in
     let head = c.in_ok-head.ensures in
     let behind : Head × Source = (head.0, source c.read_head.new.cursor) in
-    let found = built (item_part (table_in around)) (direction_of around) around.depth (counted old) c.consume_item.new.self
+    let found = built (item_part (table_in around) (names_around around)) (direction_of around) around.depth (counted old) c.consume_item.new.self
     (item_behind pattern_at (context_in around) behind) c.in_ok-item.item (c.in_ok-item.ensures.value head.0 head.2) in
-    let allowed = c.allows_quantifier-allowed.ensures around.scope.flags head.0 head.2 in
+    let allowed = c.allows_quantifier-allowed.ensures (context_in around) head.0 head.2 in
     record {
       value = rw (p.1, p.2) (on_syntax_then c.in_err-times.field-0.0
-          (λ none. rw (term_read (table_in around) (context_in around) (text old) behind found.0 c.allows_quantifier-allowed.result
+          (λ none. rw (term_read (table_in around) (names_around around) (context_in around) (text old) behind found.0 c.allows_quantifier-allowed.result
           None head.1 found.1 allowed (rw found.2.rest at none)) tt)
           c.in_err-times.ensures);
     }
@@ -200,19 +199,19 @@ consume_term-returns-in_default t c =
     let old = c.args.self.now in
     let head = c.in_ok-head.ensures in
     let behind : Head × Source = (head.0, source c.read_head.new.cursor) in
-    let found = built (item_part (table_in around)) (direction_of around) around.depth (counted old) c.consume_item.new.self
+    let found = built (item_part (table_in around) (names_around around)) (direction_of around) around.depth (counted old) c.consume_item.new.self
     (item_behind pattern_at (context_in around) behind) c.in_ok-item.item (c.in_ok-item.ensures.value head.0 head.2) in
     let b = found.2 in
-    let allowed = c.allows_quantifier-allowed.ensures around.scope.flags head.0 head.2 in
-    let read = term_read (table_in around) (context_in around) (text old) behind found.0 c.allows_quantifier-allowed.result
+    let allowed = c.allows_quantifier-allowed.ensures (context_in around) head.0 head.2 in
+    let read = term_read (table_in around) (names_around around) (context_in around) (text old) behind found.0 c.allows_quantifier-allowed.result
     (Some (None, source c.read_times.new.cursor)) head.1 found.1 allowed
     (rw (sym b.rest) (c.in_ok-times.ensures ∙ ap (λ q. Some (q, source c.read_times.new.cursor)) c.in_default.is)) in
     record {
       value = rw read (record {
         node = b.node;
-        fits = Fits-inside (counted old) (counted old) around.depth around.depth (item_part (table_in around) found.0.0)
-            (term_part (table_in around) (found.0.0, None)) (omega arith) (omega arith) (omega arith) b.fits;
-        counts = b.counts ∙ ap (added (counted old)) (sym (added-nothing (item_part (table_in around) found.0.0).counts));
+        fits = Fits-inside (counted old) (counted old) around.depth around.depth (item_part (table_in around) (names_around around) found.0.0)
+            (term_part (table_in around) (names_around around) (found.0.0, None)) (omega arith) (omega arith) (omega arith) b.fits;
+        counts = b.counts ∙ ap (added (counted old)) (sym (added-nothing (item_part (table_in around) (names_around around) found.0.0).counts));
         rest = refl;
       });
     }
@@ -224,17 +223,17 @@ consume_term-returns-in_err-count_loop t c =
     let old = c.args.self.now in
     let head = c.in_ok-head.ensures in
     let behind : Head × Source = (head.0, source c.read_head.new.cursor) in
-    let found = built (item_part (table_in around)) (direction_of around) around.depth (counted old) c.consume_item.new.self
+    let found = built (item_part (table_in around) (names_around around)) (direction_of around) around.depth (counted old) c.consume_item.new.self
     (item_behind pattern_at (context_in around) behind) c.in_ok-item.item (c.in_ok-item.ensures.value head.0 head.2) in
     let b = found.2 in
-    let allowed = c.allows_quantifier-allowed.ensures around.scope.flags head.0 head.2 in
-    let read = term_read (table_in around) (context_in around) (text old) behind found.0 c.allows_quantifier-allowed.result
+    let allowed = c.allows_quantifier-allowed.ensures (context_in around) head.0 head.2 in
+    let read = term_read (table_in around) (names_around around) (context_in around) (text old) behind found.0 c.allows_quantifier-allowed.result
     (Some (Some c.in-Some.quantifier, source c.read_times.new.cursor)) head.1 found.1 allowed
     (rw (sym b.rest) (c.in_ok-times.ensures ∙ ap (λ q. Some (q, source c.read_times.new.cursor)) c.in-Some.is)) in
     record {
       value = rw (p.1, p.2) (on_syntax_then c.in_err-count_loop.field-0.0
           (λ (many : max_loops < c.consume_item.new.self.loop_count + 1).
-          term-too_many (table_in around) (context_in around) (text old) _ found.0.0 c.in-Some.quantifier (counted old)
+          term-too_many (table_in around) (names_around around) (context_in around) (text old) _ found.0.0 c.in-Some.quantifier (counted old)
           around.depth read (omega (arith, ap (λ (n : Counts). n.loops) b.counts, many)))
           c.in_err-count_loop.ensures.err);
     }
@@ -245,11 +244,11 @@ consume_term-returns t c =
     let old = c.args.self.now in
     let head = c.in_ok-head.ensures in
     let behind : Head × Source = (head.0, source c.read_head.new.cursor) in
-    let found = built (item_part (table_in around)) (direction_of around) around.depth (counted old) c.consume_item.new.self
+    let found = built (item_part (table_in around) (names_around around)) (direction_of around) around.depth (counted old) c.consume_item.new.self
     (item_behind pattern_at (context_in around) behind) c.in_ok-item.item (c.in_ok-item.ensures.value head.0 head.2) in
     let b = found.2 in
-    let allowed = c.allows_quantifier-allowed.ensures around.scope.flags head.0 head.2 in
-    let read = term_read (table_in around) (context_in around) (text old) behind found.0 c.allows_quantifier-allowed.result
+    let allowed = c.allows_quantifier-allowed.ensures (context_in around) head.0 head.2 in
+    let read = term_read (table_in around) (names_around around) (context_in around) (text old) behind found.0 c.allows_quantifier-allowed.result
     (Some (Some c.in-Some.quantifier, source c.read_times.new.cursor)) head.1 found.1 allowed
     (rw (sym b.rest) (c.in_ok-times.ensures ∙ ap (λ q. Some (q, source c.read_times.new.cursor)) c.in-Some.is)) in
     let counts = c.in_ok-count_loop.ensures.ok ∙ ap (λ n. added n one_loop) b.counts ∙ added-assoc (counted old) _ one_loop in
@@ -268,3 +267,22 @@ consume_term-returns t c =
         rest = c.in_ok-count_loop.ensures.text;
       });
     }
+
+pub consume_item-returns-in_ok-make_atom-in-Atom : goal.consume_item-returns-in_ok-make_atom-in-Atom
+consume_item-returns-in_ok-make_atom-in-Atom t c = record {
+  value = λ written is_head.
+      let p = rw c.in-Atom.is at is_head in
+      let old = c.args.self.now in
+      let around = c.args.around.now in
+      subst
+      (λ (w : Head). IsSomeAnd (item_behind pattern_at (context_in around) (w, text old))
+      (λ x. Builds (direction_of around) around.depth (counted old) old c.in_ok-make_atom-in-Atom.field-0
+      (item_part (table_in around) (names_around around) x.0) x.1))
+      (sym p.1)
+      (record {
+        node = c.in_ok-make_atom-in-Atom.ensures p.0 p.2;
+        fits = record { groups = omega (arith, old.groups_within); loops = omega (arith, old.loops_within); levels = omega arith };
+        counts = sym (added-nothing (counted old));
+        rest = refl;
+      });
+}

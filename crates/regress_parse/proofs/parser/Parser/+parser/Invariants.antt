@@ -1,5 +1,5 @@
 use Rattle.std.proofs.Common.{◌≡◌, ◌+◌, ◌*◌, length}
-use Rattle.regress_parse.specs.Parsing.{text, counted, context_in, table_in, direction_of}
+use Rattle.regress_parse.specs.Parsing.{text, counted, context_in, table_in, names_around, direction_of}
 use Rattle.regress_parse.proofs.SoFarLemmas.{TermsSoFar}
 use Rattle.regress_parse.proofs.AlternativesLemmas.{AlternativesSoFar}
 use Rattle.regress_parse.proofs.parser.Parser.+parser.Given as goal
@@ -22,7 +22,7 @@ decreases-consume_item l = 8 * length (text l.self.now) + 6
 
 abbrev pub invariant-consume_alternative-loop-parts : goal.invariant-consume_alternative-loop-parts
 invariant-consume_alternative-loop-parts l =
-    TermsSoFar (table_in l.around) (direction_of l.around) (context_in l.around) l.around.depth (text l.fn.self) (counted l.fn.self)
+    TermsSoFar (table_in l.around) (names_around l.around) (direction_of l.around) (context_in l.around) l.around.depth (text l.fn.self) (counted l.fn.self)
     (text l.self) (counted l.self) l.parts.items
 
 abbrev pub decreases-consume_alternative-loop-parts : goal.decreases-consume_alternative-loop-parts
@@ -30,7 +30,7 @@ decreases-consume_alternative-loop-parts l = length (text l.self)
 
 abbrev pub invariant-consume_disjunction-loop-inside : goal.invariant-consume_disjunction-loop-inside
 invariant-consume_disjunction-loop-inside l =
-    AlternativesSoFar (table_in l.around) (direction_of l.around) (context_in l.around) l.around.depth (text l.fn.self) (counted l.fn.self)
+    AlternativesSoFar (table_in l.around) (names_around l.around) (direction_of l.around) (context_in l.around) l.around.depth (text l.fn.self) (counted l.fn.self)
     (text l.self) (counted l.self) l.before.items l.last
 
 abbrev pub decreases-consume_disjunction-loop-inside : goal.decreases-consume_disjunction-loop-inside

@@ -1,0 +1,65 @@
+//! Large patterns, of which each part comes out.
+
+use super::caller::code_points;
+use super::flags_of;
+use crate::ir::Node;
+use crate::optimizer::parse_and_optimize;
+use crate::parse::ParseFault;
+use crate::unicode::Tables;
+use std::alloc::Global;
+use std::test::Fail;
+
+/// The parts of the optimized tree of a pattern, and the intervals of the first if it is a bracket.
+fn counted(alloc: Global, pattern: &str, letters: &str) -> Result<(usize, usize), ParseFault> {
+    let points = code_points(alloc, pattern)?;
+    let tables = Tables::small(alloc)?;
+    let (regex, optimized) = parse_and_optimize(alloc, &points, flags_of(letters), &tables)?;
+    optimized?;
+    let Node::Cat(parts) = &regex.node else {
+        return Ok((0, 0));
+    };
+    let intervals = match parts.first() {
+        Some(Node::Bracket(contents)) => contents.cps.intervals().len(),
+        _ => 0,
+    };
+    Ok((parts.len(), intervals))
+}
+
+#[test]
+fn many_items_are_parsed_and_optimized(rt: HostRuntime) -> Result<(), Fail> {
+    let rows = [
+        ("a", "", 100_000, 100_001),
+        ("k", "iu", 100_000, 100_001),
+        ("\\x41", "", 33_000, 33_001),
+        ("\\W", "", 33_000, 33_001),
+        ("a*", "", 50_000, 50_001),
+        ("(?:[a-z]{2,3}?\\b)", "i", 33_000, 66_001),
+    ];
+    for (item, letters, times, want) in rows {
+        let mut pattern = String::new(rt.alloc());
+        for _ in 0..times {
+            pattern.push_str(item)?;
+        }
+        let (parts, _) = counted(rt.alloc(), pattern.as_str(), letters).unwrap_or((0, 0));
+        assert_eq!(rt; parts, want, "{item} {times} times");
+    }
+    Ok(())
+}
+
+#[test]
+fn a_class_of_many_ranges_is_parsed(rt: HostRuntime) -> Result<(), Fail> {
+    let ranges: u32 = 10_000;
+    let mut pattern = String::from_str(rt.alloc(), "[")?;
+    for i in 0..ranges {
+        let first = 0x100000 + 3 * i;
+        let last = first + 1;
+        let range = format!(in rt.alloc(); "\\u{{{first:x}}}-\\u{{{last:x}}}")?;
+        pattern.push_str(range.as_str())?;
+    }
+    pattern.push_str("]")?;
+    for letters in ["", "i", "iu"] {
+        let found = counted(rt.alloc(), pattern.as_str(), letters).unwrap_or((0, 0));
+        assert_eq!(rt; found, (2, 10_000), "{letters}");
+    }
+    Ok(())
+}

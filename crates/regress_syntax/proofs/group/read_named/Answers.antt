@@ -1,0 +1,13 @@
+use Rattle.std.proofs.Common.{Some, option_map, sym, ap, ◌∙◌}
+use Rattle.regress_tree.specs.TableOf.{table_of}
+use Rattle.regress_syntax.proofs.laws.Behind.{behind_all}
+use Rattle.regress_syntax.proofs.laws.NameEnds.{group_name_at-ends}
+use Rattle.regress_syntax.proofs.group.read_named.Goals as goal
+
+pub invariant_of-cursor : goal.invariant_of-cursor
+invariant_of-cursor c = record {
+  in_range = behind_all _ _
+      ((group_name_at-ends (table_of c.args.tables.now) c.args.cursor.now.rest.now).each (c.in-Some.name.items, c.in-Some.rest.now)
+      (sym c.in_ok-name.ensures ∙ ap (option_map (λ found. (found.0.items, found.1.now))) c.in-Some.is))
+      c.args.cursor.now.in_range;
+}

@@ -1,0 +1,29 @@
+-- A turn reads one character more.
+use Rattle.std.proofs.Common.{sym, ap, ◌∙◌}
+use Rattle.regress_tree.specs.TableOf.{table_of}
+use Rattle.regress_syntax.specs.Syntax.{Name}
+use Rattle.regress_syntax.specs.Names.{continues_name}
+use Rattle.regress_syntax.proofs.laws.NameEnds.{name_character_at-shortens}
+use Rattle.regress_syntax.proofs.NameLemmas.{left_of_name, behind_read, all_of_name, one_more_of_name, none_of_name}
+use Rattle.regress_syntax.proofs.names.read_rest.Goals as goal
+
+pub returns-in-Some : goal.returns-in-Some
+returns-in-Some c =
+    sym (c.loop-rest.invariant ∙ all_of_name (table_of c.args.tables.now) c.loop-rest.left.now c.in-Some.rest.now c.loop-rest.name.items c.in-Some.ensures)
+
+pub returns-in_default-read_further : goal.returns-in_default-read_further
+returns-in_default-read_further c =
+    sym (c.loop-rest.invariant
+    ∙ none_of_name (table_of c.args.tables.now) c.loop-rest.left.now c.loop-rest.name.items c.in_default.ensures c.in_default-read_further.ensures)
+
+pub loop-rest-smaller : goal.loop-rest-smaller
+loop-rest-smaller c =
+    name_character_at-shortens (continues_name (table_of c.args.tables.now)) c.loop-rest.left.now _ (sym c.in-Some-read_further.ensures)
+
+pub loop-rest-preserved : goal.loop-rest-preserved
+loop-rest-preserved c =
+    let left = left_of_name (table_of c.args.tables.now) c.in-Some-read_further.rest.now in
+    c.loop-rest.invariant
+    ∙ one_more_of_name (table_of c.args.tables.now) c.loop-rest.left.now c.in-Some-read_further.rest.now c.in-Some-read_further.c
+    c.loop-rest.name.items c.in_default.ensures c.in-Some-read_further.ensures
+    ∙ ap (λ (read : Name). behind_read read left) (sym c.in_ok-push.ensures.items)

@@ -1,0 +1,12 @@
+-- What is left, behind the characters so far, is the whole.
+use Rattle.std.proofs.Common.{◌≡◌, length}
+use Rattle.regress_tree.specs.TableOf.{table_of}
+use Rattle.regress_syntax.proofs.NameLemmas.{left_of_name, behind_read}
+use Rattle.regress_syntax.proofs.names.read_rest.Given as goal
+
+abbrev pub invariant-loop-rest : goal.invariant-loop-rest
+invariant-loop-rest l =
+    behind_read l.fn.name.items (left_of_name (table_of l.tables) l.text) ≡ behind_read l.name.items (left_of_name (table_of l.tables) l.left)
+
+abbrev pub decreases-loop-rest : goal.decreases-loop-rest
+decreases-loop-rest l = length l.left
