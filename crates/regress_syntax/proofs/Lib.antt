@@ -2,10 +2,10 @@ pub mod laws
 mod ClassLemmas
 mod ConflictLemmas
 mod DigitLemmas
-mod GroupLemmas
-mod MarkLemmas
 mod ModifierLemmas
 mod NameLemmas
+mod NumberingLemmas
 mod ReferenceLemmas
 mod ScanLemmas
 mod ScanRows
+mod ScannerLemmas

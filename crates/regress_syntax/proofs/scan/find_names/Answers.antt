@@ -5,7 +5,7 @@ use Rattle.regress_tree.specs.TableOf.{table_of}
 use Rattle.regress_syntax.specs.Scan.{plain, marks}
 use Rattle.regress_syntax.specs.Scanning.{mode_of, mark_of, Behind}
 use Rattle.regress_syntax.proofs.laws.Sources.{on_syntax_then}
-use Rattle.regress_syntax.proofs.MarkLemmas.{refused_then, at_mark, at_no_mark, all_passed}
+use Rattle.regress_syntax.proofs.ScannerLemmas.{refused_then, at_mark, at_no_mark, all_passed}
 use Rattle.regress_syntax.proofs.scan.find_names.Goals as goal
 use Rattle.regress_syntax.proofs.scan.find_names.Goals.{in-Some-2+in_ok-pass, in_default-2}
 

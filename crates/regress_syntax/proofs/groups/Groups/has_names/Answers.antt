@@ -4,7 +4,7 @@ use Rattle.std.proofs.lemmas.Iterator.Search.{any_from_yields_List}
 use Rattle.std.specs.List.{list_any}
 use Rattle.std.specs.declared.alloc.Global.{Global}
 use Rattle.regress_syntax.specs.Numbering.{names_of}
-use Rattle.regress_syntax.proofs.GroupLemmas.{has_names_in}
+use Rattle.regress_syntax.proofs.NumberingLemmas.{has_names_in}
 use Rattle.regress_syntax.proofs.groups.Groups.has_names.Goals as goal
 
 pub returns : goal.returns

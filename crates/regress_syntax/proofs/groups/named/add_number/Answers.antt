@@ -2,7 +2,7 @@ use Rattle.std.proofs.Common.{◌≡◌, ℕ, List, [], ◌∷◌, ◌++◌, Opt
 use Rattle.std.proofs.lemmas.List.Elements.{same_from_all_zip}
 use Rattle.std.specs.Option.{option_map_or}
 use Rattle.std.specs.declared.alloc.Global.{Global}
-use Rattle.regress_syntax.proofs.GroupLemmas.{number_added, items_of_found, same_change}
+use Rattle.regress_syntax.proofs.NumberingLemmas.{number_added, items_of_found, same_change}
 use Rattle.regress_syntax.proofs.groups.named.add_number.Goals as goal
 
 pub returns : goal.returns

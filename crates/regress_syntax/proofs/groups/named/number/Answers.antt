@@ -1,6 +1,6 @@
 use Rattle.std.proofs.Common.{◌≡◌, ◌+◌, ℕ, rules, ap, ◌∙◌}
 use Rattle.regress_syntax.specs.Numbering.{numbers_in}
-use Rattle.regress_syntax.proofs.GroupLemmas.{numbered_none, numbered_some}
+use Rattle.regress_syntax.proofs.NumberingLemmas.{numbered_none, numbered_some}
 use Rattle.regress_syntax.proofs.groups.named.number.Goals as goal
 use Rattle.regress_syntax.proofs.groups.named.number.Goals.{in-Some+in_ok-add_number, in_default}
 

@@ -1,6 +1,6 @@
 use Rattle.std.proofs.Common.{◌≡◌, ap, ◌∙◌}
 use Rattle.std.proofs.lemmas.List.Elements.{same_from_all_zip}
-use Rattle.regress_syntax.proofs.MarkLemmas.{named_added, none_added}
+use Rattle.regress_syntax.proofs.ScannerLemmas.{named_added, none_added}
 use Rattle.regress_syntax.proofs.scan.scanner.Scanner.add.Goals as goal
 use Rattle.regress_syntax.proofs.scan.scanner.Scanner.add.Goals.{in-Some+in_ok-clone+in_ok-clone-2+in_ok-push, in_default}
 

@@ -1,7 +1,7 @@
 use Rattle.std.proofs.Common.{sym, subst, ◌∙◌}
 use Rattle.regress_syntax.proofs.laws.Sources.{on_syntax}
 use Rattle.regress_syntax.proofs.ConflictLemmas.{apart_in_any_order, conflict_in_any_order}
-use Rattle.regress_syntax.proofs.MarkLemmas.{apart_behind}
+use Rattle.regress_syntax.proofs.ScannerLemmas.{apart_behind}
 use Rattle.regress_syntax.proofs.scan.scanner.Scanner.finish.Goals as goal
 
 pub returns-then-not-are_neighbours_apart-clause-refused : goal.returns-then-not-are_neighbours_apart-clause-refused

@@ -1,5 +1,5 @@
 use Rattle.std.proofs.Common.{length, ap, arith}
-use Rattle.regress_syntax.proofs.MarkLemmas.{refused_then, deeper_behind_opens, deeper_behind_captures}
+use Rattle.regress_syntax.proofs.ScannerLemmas.{refused_then, deeper_behind_opens, deeper_behind_captures}
 use Rattle.regress_syntax.proofs.scan.scanner.Scanner.pass.Goals as goal
 
 pub returns-in-Opens-clause-refused : goal.returns-in-Opens-clause-refused
