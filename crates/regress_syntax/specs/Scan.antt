@@ -141,8 +141,8 @@ abbrev pub same_name : Option Name → Option Name → Bool
 same_name None other = false
 same_name (Some name) other = is_named name other
 
--- Two groups of one name conflict where their paths agree: neither stands in another alternative of a level that both have
--- (this project's profile).
+-- Two groups of one name conflict where their paths agree, number for number (this project's profile). A level is told by
+-- its depth alone, not by its parenthesis.
 abbrev pub conflict : Placed → Placed → Bool
 conflict a b = same_name a.name b.name && agree (reverse a.path) (reverse b.path)
 
