@@ -1,7 +1,7 @@
 -- A pass ends.
 use Rattle.std.proofs.Common.{◌≡◌, ℕ, ◌+◌, ◌*◌, ◌<◌, ◌≤◌, ◌⊎◌, [], ◌∷◌, inl, inr, ap, arith}
 use Rattle.std.proofs.Math.Nat.{mul-le-mul_left}
-use Rattle.regress_tree.specs.Tree.{Leaf, empty, goal, char, byte_sequence, byte_set, char_set, match_any, match_any_except_line_terminator, anchor, word_boundary, bracket, back_ref, Wrapper, capture_group, loop, loop_one, lookaround, Tree, Trees, leaf, cat, alt, wrapped, no_trees, more_trees}
+use Rattle.regress_tree.specs.Tree.{Leaf, empty, goal, char, byte_sequence, byte_set, char_set, match_any, match_any_except_line_terminator, anchor, word_boundary, bracket, back_ref, string_set, Wrapper, capture_group, loop, loop_one, lookaround, Tree, Trees, leaf, cat, alt, wrapped, no_trees, more_trees}
 use Rattle.regress_base.proofs.laws.Sets.{canonical_length}
 use Rattle.regress_tree.specs.WellFormed.{Position, inside, last_of, position_in, LeafMayStand, MayStand, RowMayStand}
 use Rattle.regress_opt.specs.Law.{IsPart}
@@ -25,6 +25,7 @@ leaf_weight-le n (anchor kind multiline) p m = omega arith
 leaf_weight-le n (word_boundary invert unicode_icase) p m = omega arith
 leaf_weight-le n (bracket invert intervals) p m = omega (arith, canonical_length intervals m.canonical)
 leaf_weight-le n (back_ref group icase) p m = omega arith
+leaf_weight-le n (string_set strings icase) p m = omega arith
 
 wrapper_weight-le : (w : Wrapper) → weight_of_wrapper w ≤ heaviest
 wrapper_weight-le (capture_group id name) = omega arith

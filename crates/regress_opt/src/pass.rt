@@ -157,7 +157,8 @@ fn sweep_inside<R: Rewrite>(node: &mut Node, pass: &mut R, walk: &Walk) -> Resul
         | Node::Anchor { .. }
         | Node::WordBoundary { .. }
         | Node::Bracket(_)
-        | Node::BackRef { .. } => Ok(false),
+        | Node::BackRef { .. }
+        | Node::StringSet { .. } => Ok(false),
     }
 }
 

@@ -119,6 +119,7 @@ fn kind(node: &Node) -> &'static str {
         Node::Loop1CharBody { .. } => "Loop1CharBody",
         Node::LookaroundAssertion { .. } => "LookaroundAssertion",
         Node::BackRef { .. } => "BackRef",
+        Node::StringSet { .. } => "StringSet",
     }
 }
 

@@ -11,12 +11,13 @@ use Rattle.regress_tree.specs.Steps.{State, Span, same_state, one_character, the
 use Rattle.regress_tree.specs.Repetition.{unset, repeat}
 use Rattle.regress_tree.specs.Lookaround.{look}
 use Rattle.regress_tree.specs.References.{back_reference}
+use Rattle.regress_tree.specs.Strings.{any_string}
 use Rattle.regress_tree.specs.Assertions.{is_word_character, at_anchor, at_boundary}
 use Rattle.regress_tree.specs.FoldRows.{image}
 use Rattle.regress_tree.specs.Table.{is_in_closure}
 use Rattle.regress_tree.specs.Matching.{Setting, matches}
 use Rattle.regress_tree.specs.SmallTable.{small_table}
-use Rattle.regress_tree.specs.Tree.{Tree, leaf, empty, char, byte_sequence, anchor, bracket, back_ref, cat, alt, wrapped, no_trees, more_trees, capture_group, loop, loop_one, lookaround}
+use Rattle.regress_tree.specs.Tree.{Tree, leaf, empty, char, byte_sequence, anchor, bracket, back_ref, string_set, cat, alt, wrapped, no_trees, more_trees, capture_group, loop, loop_one, lookaround}
 use Rattle.regress_tree.specs.Units.{loops, account, weight}
 
 abbrev plain : Setting
@@ -211,6 +212,40 @@ in_either_case = refl
 in_one_case : matches plain (codes "aA") forwards (leaf (back_ref 1 false)) (with_group 1 (Some (0, 1))) ≡ []
 unfolding one_character chars encode character_at read_after back_reference
 in_one_case = refl
+
+-- ---- sets of strings
+
+-- "ab" and "a", of which one is the front of the other, in the order in which they stand
+longer_first : matches plain (codes "ab") forwards (leaf (string_set (codes "ab" ∷ codes "a" ∷ []) false)) (at 0) ≡ at 2 ∷ at 1 ∷ []
+unfolding one_character chars encode character_at read_after any_string same_state
+longer_first = refl
+
+shorter_first : matches plain (codes "ab") forwards (leaf (string_set (codes "a" ∷ codes "ab" ∷ []) false)) (at 0) ≡ at 1 ∷ at 2 ∷ []
+unfolding one_character chars encode character_at read_after any_string same_state
+shorter_first = refl
+
+-- before the place each string stands as it is written
+strings_before : matches plain (codes "ab") backwards (leaf (string_set (codes "ab" ∷ codes "ba" ∷ codes "b" ∷ []) false)) (at 2) ≡ at 0 ∷ at 1 ∷ []
+unfolding one_character chars encode character_at read_before any_string same_state
+strings_before = refl
+
+-- with `icase` letters in their other case
+strings_in_either_case : matches plain (codes "Ab") forwards (leaf (string_set (codes "aB" ∷ []) true)) (at 0) ≡ at 2 ∷ []
+unfolding one_character chars encode character_at read_after any_string same_state small_table image
+strings_in_either_case = refl
+
+strings_in_one_case : matches plain (codes "Ab") forwards (leaf (string_set (codes "aB" ∷ []) false)) (at 0) ≡ []
+unfolding one_character chars encode character_at read_after any_string
+strings_in_one_case = refl
+
+-- a set of none, and an empty string
+no_string : matches plain (codes "a") forwards (leaf (string_set [] false)) (at 0) ≡ []
+unfolding any_string
+no_string = refl
+
+an_empty_string : matches plain (codes "a") forwards (leaf (string_set ([] ∷ []) false)) (at 0) ≡ at 0 ∷ []
+unfolding any_string same_state
+an_empty_string = refl
 
 -- ---- bytes and brackets
 

@@ -16,4 +16,5 @@ pub mod References
 pub mod Repetition
 pub mod Rows
 pub mod Simulation
+pub mod Strings
 pub mod Turned

@@ -15,6 +15,7 @@ pub mod Assertions
 pub mod Repetition
 pub mod Lookaround
 pub mod References
+pub mod Strings
 pub mod Matching
 pub mod Walk
 pub mod WellFormed

@@ -10,7 +10,8 @@ use Rattle.regress_tree.specs.Assertions.{is_line_terminator, is_word_character,
 use Rattle.regress_tree.specs.Repetition.{repeat}
 use Rattle.regress_tree.specs.Lookaround.{look}
 use Rattle.regress_tree.specs.References.{back_reference}
-use Rattle.regress_tree.specs.Tree.{Leaf, empty, goal, char, byte_sequence, byte_set, char_set, match_any, match_any_except_line_terminator, anchor, word_boundary, bracket, back_ref, Wrapper, capture_group, loop, loop_one, lookaround, Tree, Trees, leaf, cat, alt, wrapped, no_trees, more_trees}
+use Rattle.regress_tree.specs.Strings.{any_string}
+use Rattle.regress_tree.specs.Tree.{Leaf, empty, goal, char, byte_sequence, byte_set, char_set, match_any, match_any_except_line_terminator, anchor, word_boundary, bracket, back_ref, string_set, Wrapper, capture_group, loop, loop_one, lookaround, Tree, Trees, leaf, cat, alt, wrapped, no_trees, more_trees}
 
 -- what a tree is made with, and matching depends on, beside the pattern and the text: the flags and the table
 pub record Setting : Type 0 where
@@ -41,6 +42,8 @@ module _ (setting : Setting) (bytes : List ℕ) where
   leaf_steps d (bracket invert intervals) = one_character d (of_bytes bytes) (is_accepted invert intervals)
   leaf_steps d (back_ref group icase) =
       back_reference d (of_bytes bytes) (stands_for setting.table icase setting.flags.unicode) (group - 1)
+  leaf_steps d (string_set strings icase) =
+      any_string d (of_bytes bytes) (stands_for setting.table icase setting.flags.unicode) strings
 
   -- the outcomes of a wrapper around what has these
   abbrev pub wrapper_steps : Wrapper → Step → Step

@@ -1,5 +1,6 @@
 -- A `Node` without memory. Two equal trees may lie in different places: contracts speak of this type.
 use Rattle.std.specs.Prelude.{ℕ, Bool, List, [], ◌∷◌, map, Option, option_map, string_bytes}
+use Rattle.std.specs.Box.{boxed_slice_items}
 use Rattle.regress_base.specs.Intervals.{Bounds}
 use Rattle.regress_tree.specs.declared.ir.node.AnchorType.{AnchorType}
 use Rattle.regress_tree.specs.declared.ir.node.Quantifier.{Quantifier}
@@ -21,6 +22,7 @@ pub data Leaf : Type 0 where
   bracket : (invert : Bool) (intervals : List Bounds) → Leaf
   -- groups are numbered from 1: group 1 is the one with id 0
   back_ref : (group : ℕ) (icase : Bool) → Leaf
+  string_set : (strings : List (List ℕ)) (icase : Bool) → Leaf
 
 -- the kinds that hold one node, without it
 pub data Wrapper : Type 0 where
@@ -80,6 +82,7 @@ tree_of_level (Node-F.Loop1CharBody loopee quantifier) = wrapped (loop_one quant
 tree_of_level (Node-F.LookaroundAssertion negate backwards start end contents) =
     wrapped (lookaround negate backwards start end) contents.value
 tree_of_level (Node-F.BackRef group icase) = leaf (back_ref group icase)
+tree_of_level (Node-F.StringSet alternatives icase) = leaf (string_set (map boxed_slice_items alternatives.items) icase)
 
 -- the tree of a node
 abbrev pub tree : Node → Tree

@@ -1,6 +1,6 @@
 -- How large a tree is, and what falls with every rewriting.
 use Rattle.std.specs.Prelude.{◌≡◌, ℕ, ◌+◌, ◌*◌, ◌<◌, ◌⊎◌, [], ◌∷◌, length, if◌then◌else◌, ◌==◌}
-use Rattle.regress_tree.specs.Tree.{Leaf, empty, goal, char, byte_sequence, byte_set, char_set, match_any, match_any_except_line_terminator, anchor, word_boundary, bracket, back_ref, Wrapper, capture_group, loop, loop_one, lookaround, Tree, Trees, leaf, cat, alt, wrapped, no_trees, more_trees}
+use Rattle.regress_tree.specs.Tree.{Leaf, empty, goal, char, byte_sequence, byte_set, char_set, match_any, match_any_except_line_terminator, anchor, word_boundary, bracket, back_ref, string_set, Wrapper, capture_group, loop, loop_one, lookaround, Tree, Trees, leaf, cat, alt, wrapped, no_trees, more_trees}
 
 -- One for a node, and one more for each byte of a `ByteSequence`; five for a `Char`, whose UTF-8 would be a node and at
 -- most four bytes.
@@ -17,6 +17,7 @@ units_of_leaf (anchor kind multiline) = 1
 units_of_leaf (word_boundary invert unicode_icase) = 1
 units_of_leaf (bracket invert intervals) = 1
 units_of_leaf (back_ref group icase) = 1
+units_of_leaf (string_set strings icase) = 1
 
 abbrev mutual
   pub units : Tree → ℕ
@@ -71,6 +72,7 @@ weight_of_leaf (anchor kind multiline) = 1
 weight_of_leaf (word_boundary invert unicode_icase) = 1
 weight_of_leaf (bracket invert intervals) = 4 + length intervals
 weight_of_leaf (back_ref group icase) = 1
+weight_of_leaf (string_set strings icase) = 1
 
 abbrev pub weight_of_wrapper : Wrapper → ℕ
 weight_of_wrapper (capture_group id name) = 1

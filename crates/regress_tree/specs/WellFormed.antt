@@ -5,7 +5,7 @@ use Rattle.regress_base.specs.Limits.{max_char_set_length}
 use Rattle.regress_base.specs.Intervals.{Bounds, code_point_max, IsCanonical}
 use Rattle.regress_tree.specs.declared.ir.node.Quantifier.{Quantifier}
 use Rattle.regress_tree.specs.Reading.{IsText}
-use Rattle.regress_tree.specs.Tree.{Leaf, empty, goal, char, byte_sequence, byte_set, char_set, match_any, match_any_except_line_terminator, anchor, word_boundary, bracket, back_ref, Wrapper, capture_group, loop, loop_one, lookaround, Tree, Trees, leaf, cat, alt, wrapped, no_trees, more_trees}
+use Rattle.regress_tree.specs.Tree.{Leaf, empty, goal, char, byte_sequence, byte_set, char_set, match_any, match_any_except_line_terminator, anchor, word_boundary, bracket, back_ref, string_set, Wrapper, capture_group, loop, loop_one, lookaround, Tree, Trees, leaf, cat, alt, wrapped, no_trees, more_trees}
 
 -- a capture group: its id, and its name as UTF-8
 pub record Capture : Type 0 where
@@ -98,6 +98,11 @@ pub record IsReference (n group : ℕ) (p : Position) : Type 0 where
   pub low : 1 ≤ group
   pub high : group ≤ n
 
+-- strings of code points
+pub record AreStrings (strings : List (List ℕ)) (p : Position) : Type 0 where
+  pub free : NotAsOneCharacter p
+  pub bounded : All (All (λ c. c ≤ code_point_max)) strings
+
 -- the leaf may stand there, where there are n capture groups
 abbrev pub LeafMayStand : ℕ → Leaf → Position → Type 0
 LeafMayStand n empty p = NotAsOneCharacter p
@@ -112,6 +117,7 @@ LeafMayStand n (anchor kind multiline) p = NotAsOneCharacter p
 LeafMayStand n (word_boundary invert unicode_icase) p = NotAsOneCharacter p
 LeafMayStand n (bracket invert intervals) p = IsBracket invert intervals p
 LeafMayStand n (back_ref group icase) p = IsReference n group p
+LeafMayStand n (string_set strings icase) p = AreStrings strings p
 
 -- the least number of turns is not above the greatest
 abbrev pub IsQuantifier : Quantifier → Type 0

@@ -53,7 +53,7 @@ module _ (text : List ℕ) (is_text : IsText text) where
       (cases_lt k end)
 
   module _ (d : Direction) (same : ℕ → ℕ → Bool) where
-    Simulates-all_of : (cs : List ℕ) →
+    pub Simulates-all_of : (cs : List ℕ) →
         Simulates text d (all_of d (of_characters text) same cs) (all_of d (of_bytes (encode_utf8_all text)) same cs)
     Simulates-all_of [] = Simulates-stay text d
     Simulates-all_of (c ∷ cs) =

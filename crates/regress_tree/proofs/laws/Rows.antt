@@ -5,7 +5,7 @@ use Rattle.std.proofs.lemmas.List.{map-append}
 use Rattle.regress_tree.specs.declared.ir.node.Node.{Node}
 use Rattle.regress_tree.specs.Reading.{Direction}
 use Rattle.regress_tree.specs.Steps.{State}
-use Rattle.regress_tree.specs.Tree.{Leaf, empty, goal, char, byte_sequence, byte_set, char_set, match_any, match_any_except_line_terminator, anchor, word_boundary, bracket, back_ref, Tree, Trees, leaf, cat, alt, wrapped, no_trees, more_trees, row, row_append, tree, trees}
+use Rattle.regress_tree.specs.Tree.{Leaf, empty, goal, char, byte_sequence, byte_set, char_set, match_any, match_any_except_line_terminator, anchor, word_boundary, bracket, back_ref, string_set, Tree, Trees, leaf, cat, alt, wrapped, no_trees, more_trees, row, row_append, tree, trees}
 use Rattle.regress_tree.specs.Matching.{Setting, steps, steps_in_row}
 use Rattle.regress_tree.specs.WellFormed.{captures, captures_in_row, Position, one_character, inside, last, root, NotAsOneCharacter, AsOneCharacter, GoalMayStand, last_of, LeafMayStand, MayStand, RowMayStand}
 use Rattle.regress_tree.specs.Units.{units_in_row, loops_in_row, weight_of_row}
@@ -79,6 +79,7 @@ LeafMayStand-wider n p q free ends (anchor kind multiline) m = free
 LeafMayStand-wider n p q free ends (word_boundary invert unicode_icase) m = free
 LeafMayStand-wider n p q free ends (bracket invert intervals) m = record { canonical = m.canonical; some = not_as_one q _ free }
 LeafMayStand-wider n p q free ends (back_ref group icase) m = record { free = free; low = m.low; high = m.high }
+LeafMayStand-wider n p q free ends (string_set strings icase) m = record { free = free; bounded = m.bounded }
 
 MayStand-last : (n : ℕ) (t : Tree) → MayStand n t inside → MayStand n t last
 MayStand-last n (leaf l) m = LeafMayStand-wider n inside last tt (λ none. absurd none) l m

@@ -4,7 +4,7 @@ use Rattle.std.proofs.lemmas.List.{map-append, map-set}
 use Rattle.std.proofs.lemmas.List.Elements.{All-nil, All-cons, All-head, All-tail, All-append, All-set, All-map, All-weaker}
 use Rattle.std.proofs.lemmas.Bool.{cases_lt}
 use Rattle.regress_tree.specs.Reading.{Direction, forwards, backwards, Read, next_character, IsText, of_characters, of_bytes, byte_place}
-use Rattle.regress_tree.specs.Steps.{State, Step, IsStateOf, IsCaptureOf, byte_state, byte_capture, stay, ◌then_◌, ◌or_◌, moved, one_character, hold_at, captured, capture}
+use Rattle.regress_tree.specs.Steps.{State, Step, IsStateOf, IsCaptureOf, byte_state, byte_capture, stay, fail, ◌then_◌, ◌or_◌, moved, one_character, hold_at, captured, capture}
 use Rattle.regress_tree.specs.Lookaround.{looked, look}
 use Rattle.regress_tree.proofs.laws.Characters.{byte_place-le}
 use Rattle.regress_tree.proofs.laws.Readings.{byte_read, IsOnward, next_character-byte_place, next_character-within}
@@ -46,6 +46,9 @@ module _ (text : List ℕ) (d : Direction) where
 
   pub Simulates-stay : Simulates text d stay stay
   Simulates-stay = record { same = λ s in'. refl; reached = reached_itself }
+
+  pub Simulates-fail : Simulates text d fail fail
+  Simulates-fail = record { same = λ s in'. refl; reached = λ s in'. All-nil (IsReached text d s) }
 
   flat_map-byte_state : (f g : Step) → Simulates text d f g → (states : List State) → All (IsStateOf text) states →
       flat_map g (map (byte_state text) states) ≡ map (byte_state text) (flat_map f states)

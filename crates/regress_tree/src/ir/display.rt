@@ -33,7 +33,8 @@ fn write_tree<W: fmt::Write>(node: &Node, depth: usize, f: &mut fmt::Formatter<W
             | Node::Anchor { .. }
             | Node::WordBoundary { .. }
             | Node::Bracket(_)
-            | Node::BackRef { .. } => return Ok(()),
+            | Node::BackRef { .. }
+            | Node::StringSet { .. } => return Ok(()),
             Node::Cat(parts) => return write_trees(parts, depth, f),
             Node::Alt(left, right) => {
                 write_tree(left, depth, f)?;
@@ -118,6 +119,10 @@ fn write_node<W: fmt::Write>(node: &Node, f: &mut fmt::Formatter<W>) -> fmt::Res
             )
         }
         Node::BackRef { group, .. } => writeln!(f, "BackRef {group} "),
+        Node::StringSet {
+            alternatives,
+            icase,
+        } => writeln!(f, "StringSet count={}, icase={icase}", alternatives.len()),
     }
 }
 

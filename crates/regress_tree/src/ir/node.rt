@@ -1,6 +1,7 @@
 //! The tree.
 
 use regress_base::types::{BracketContents, CaptureGroupID, CaptureGroupName, Flags};
+use std::boxed::BoxedSlice;
 use std::ops::Range;
 
 /// Which end of the text, or of a line, an anchor stands for.
@@ -99,6 +100,12 @@ pub enum Node {
         group: u32,
         icase: bool,
     },
+    /// One of these strings of characters, tried in their order. With `icase` a character may stand for another with the
+    /// same image. An empty string matches the empty text, and a set of none matches nothing.
+    StringSet {
+        alternatives: Vec<BoxedSlice<u32>>,
+        icase: bool,
+    },
 }
 
 impl Drop for Node {
@@ -129,6 +136,10 @@ impl Drop for Node {
                     contents,
                 } => Box::into_inner(contents),
                 Node::Bracket(_contents) => return,
+                Node::StringSet {
+                    alternatives: _alternatives,
+                    icase: _,
+                } => return,
                 Node::Empty
                 | Node::Goal
                 | Node::Char { c: _ }

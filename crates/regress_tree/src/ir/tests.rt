@@ -2,6 +2,7 @@ use super::{AnchorType, Node, Quantifier, Regex};
 use regress_base::codepointset::{CodePointSet, Interval};
 use regress_base::types::{BracketContents, Flags};
 use std::alloc::{AllocError, Global};
+use std::boxed::BoxedSlice;
 use std::test::Fail;
 
 /// An alternation of one more than so many alternatives, each empty.
@@ -106,6 +107,23 @@ fn each_leaf_is_one_line(rt: HostRuntime) -> Result<(), Fail> {
                 icase: true,
             },
             "BackRef 1 \n",
+        ),
+        (
+            Node::StringSet {
+                alternatives: vec![in alloc;
+                    BoxedSlice::from_slice(alloc, &[97, 98])?,
+                    BoxedSlice::from_slice(alloc, &[97])?,
+                ]?,
+                icase: false,
+            },
+            "StringSet count=2, icase=false\n",
+        ),
+        (
+            Node::StringSet {
+                alternatives: Vec::new(alloc),
+                icase: true,
+            },
+            "StringSet count=0, icase=true\n",
         ),
     ];
     for (node, line) in rows {
