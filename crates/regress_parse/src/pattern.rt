@@ -21,21 +21,23 @@ use std::alloc::Global;
 
 /// Parses a pattern, a list of code points of which a surrogate is an ordinary literal, and no character of
 /// a text. `docs/GRAMMAR.md` has the rows that are served so far, under the flags i, m, s and u. Not served are
-/// `\` before a number from 1 to 9 outside of a class, `\k`, `\p` and `\P` with the flag u, names of groups,
-/// modifiers, lookarounds, and the flag v.
+/// `\p` and `\P` with the flag u, and the flag v.
 ///
 /// `Syntax` is answered with one of the texts of `regress_syntax::fault`, which says where each is due:
 /// - `Unsupported syntax`, at what isn't served, and first of all under the flag v;
-/// - past a limit, `Capture group count limit exceeded` (`MAX_CAPTURE_GROUPS`), `Loop count limit exceeded`
-///   (`MAX_LOOPS`, a loop being an item with a quantifier), or `Regular expression is too deeply nested`
-///   (`MAX_NESTING_DEPTH` levels: the whole pattern is one, and each group);
-/// - else where no row applies: `Unbalanced parenthesis`, or a text on an item, a quantifier, an escape or a
-///   class.
+/// - before the pattern is parsed, `Regular expression is too deeply nested` (`MAX_NESTING_DEPTH` levels: the
+///   whole pattern is one, and each parenthesis that is open), or `Duplicate capture group name` where two
+///   groups of one name conflict;
+/// - past another limit, `Capture group count limit exceeded` (`MAX_CAPTURE_GROUPS`) or `Loop count limit
+///   exceeded` (`MAX_LOOPS`, a loop being an item with a quantifier);
+/// - else where no row applies: `Unbalanced parenthesis`, or a text on an item, a group, a reference,
+///   a quantifier, an escape or a class.
 ///
-/// Of several faults the first from the left is told. `Memory` is answered where memory was wanting,
-/// also for the text of a fault. The time taken grows as the pattern does, and with the flag i as that times
-/// the rows of the table; only the intervals of a class that stand in descending order are each moved for
-/// every one that follows.
+/// Of several faults that parsing meets the first from the left is told. `Memory` is answered where memory was
+/// wanting, also for the text of a fault. The time taken grows as the pattern does, with a logarithm for groups
+/// that have names, and with the flag i as that times the rows of the table; only the intervals of a class that
+/// stand in descending order are each moved for every one that follows. A reference by a name makes a node for
+/// each group that has it, so time and tree may grow as the product of both.
 pub fn try_parse(
     alloc: Global,
     pattern: &[u32],

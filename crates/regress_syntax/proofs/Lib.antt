@@ -1,11 +1,11 @@
-mod ScannerLemmas
-mod NumberingLemmas
-mod ConflictLemmas
 pub mod laws
 mod ClassLemmas
+mod ConflictLemmas
 mod DigitLemmas
 mod ModifierLemmas
 mod NameLemmas
+mod NumberingLemmas
 mod ReferenceLemmas
 mod ScanLemmas
 mod ScanRows
+mod ScannerLemmas

@@ -84,6 +84,7 @@ module _ (setting : Setting) (names : List (Option Name)) (text : List ℕ) wher
       one_character d (of_characters text) (is_in_class setting.table flags negated (members_of kind))
   atom_steps d (class flags inverted members) =
       one_character d (of_characters text) (is_in_class setting.table flags inverted members)
+  -- no group switches the flag u, which is the setting's
   atom_steps d (back_reference flags to) =
       any_reference (λ k. refers d (of_characters text) (stands_for setting.table flags.icase setting.flags.unicode) (k - 1))
       (referred names to)

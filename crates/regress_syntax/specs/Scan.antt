@@ -89,12 +89,12 @@ named_by (captures name ∷ ms) = name ∷ named_by ms
 named_by (closes ∷ ms) = named_by ms
 named_by (next ∷ ms) = named_by ms
 
--- how many levels are open at most, where so many are open before
+-- how many levels are open at most, where so many are open before; the pattern's own is never closed
 abbrev pub deepest : ℕ → List Mark → ℕ
 deepest n [] = n
 deepest n (opens ∷ ms) = max n (deepest (n + 1) ms)
 deepest n (captures name ∷ ms) = max n (deepest (n + 1) ms)
-deepest n (closes ∷ ms) = max n (deepest (n - 1) ms)
+deepest n (closes ∷ ms) = max n (deepest (max 1 (n - 1)) ms)
 deepest n (next ∷ ms) = max n (deepest n ms)
 
 -- The path of a place: for each level open there, the number of the alternative in which it stands, the innermost first.
@@ -111,10 +111,11 @@ abbrev pub next_alternative : Path → Path
 next_alternative [] = []
 next_alternative (k ∷ path) = (k + 1) ∷ path
 
--- the path outside the innermost level
+-- the path outside the innermost level; the whole pattern is never left
 abbrev pub outside : Path → Path
 outside [] = []
-outside (k ∷ path) = path
+outside (k ∷ []) = k ∷ []
+outside (k ∷ j ∷ path) = j ∷ path
 
 -- the capture groups, in order
 abbrev pub placed_by : Path → List Mark → List Placed
@@ -140,8 +141,8 @@ abbrev pub same_name : Option Name → Option Name → Bool
 same_name None other = false
 same_name (Some name) other = is_named name other
 
--- Two groups of one name conflict where their paths agree: neither stands in another alternative of a level that both have
--- (this project's profile).
+-- Two groups of one name conflict where their paths agree, number for number (this project's profile). A level is told by
+-- its depth alone, not by its parenthesis.
 abbrev pub conflict : Placed → Placed → Bool
 conflict a b = same_name a.name b.name && agree (reverse a.path) (reverse b.path)
 

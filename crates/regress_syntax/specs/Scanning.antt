@@ -60,4 +60,5 @@ path_of scanner = reverse scanner.path.items
 pub record Behind (all rest : List Mark) (scanner : Scanner) : Type 0 where
   pub names : named_by all ≡ names_of scanner.names.items ++ named_by rest
   pub named : filter has_name (placed_by at_the_start all) ≡ map placed_of scanner.named.items ++ filter has_name (placed_by (path_of scanner) rest)
+  pub some : 1 ≤ length (path_of scanner)
   pub depth : deepest (length (path_of scanner)) rest ≤ deepest 1 all

@@ -103,10 +103,10 @@ pub const INVALID_RANGE: &str = "Invalid character range";
 /// `(?` at the end, or `(?<` that is no lookbehind and has no name.
 pub const INVALID_GROUP_NAME: &str = "Invalid token at named capture group identifier";
 
-/// `(?` before any other character but `:`, `=`, `!` and `<`, where no modifiers stand.
+/// `(?` before none of `:`, `=`, `!` and `<`, where no modifiers can be read.
 pub const INVALID_MODIFIER: &str = "Invalid group modifier";
 
-/// `\k` without a name.
+/// `\k` without a name that can be read.
 pub const INVALID_REFERENCE: &str = "Invalid named backreference syntax";
 
 /// Before the name, where no group has it.

@@ -152,7 +152,7 @@ mutual
       deepest n (marks_of_item x ++ ms) ≡ max (n + levels_of_item x) (deepest n ms)
   deepest-item n (atom a) ms h = omega (arith, deepest-least n ms)
   deepest-item n (group kind p) ms h =
-      let back : n + 1 - 1 ≡ n = omega arith in
+      let back : max 1 (n + 1 - 1) ≡ n = omega arith in
       omega (
         arith,
         deepest-group n kind ((marks_of p ++ closes ∷ []) ++ ms),

@@ -20,6 +20,7 @@ impl Groups {
         let numbers = number(alloc, &names)?;
         Ok(Groups {
             count: u16::try_from(names.len()).unwrap_or(u16::MAX),
+            named: is_any_named(&names),
             names,
             numbers,
         })
@@ -29,7 +30,7 @@ impl Groups {
     pub(crate) fn has_names(&self) -> bool
         ensures { result ≡ has_names (names_in self.now) }
     {
-        self.names.iter().any(|name| name.is_some())
+        self.named
     }
 
     /// The groups of that name, by their numbers from 1, ascending.
@@ -41,6 +42,13 @@ impl Groups {
             None => &[],
         }
     }
+}
+
+/// Whether some group has a name.
+fn is_any_named(names: &[Option<Name>]) -> bool
+    ensures { result ≡ has_names (names_of names.now) }
+{
+    names.iter().any(|name| name.is_some())
 }
 
 /// The numbers of the groups of each name. Where their type has no number for a group, memory is said to be wanting.

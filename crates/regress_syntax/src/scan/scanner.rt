@@ -1,10 +1,10 @@
 //! The state of a scan.
-ghost use Rattle.std.specs.Prelude.{◌≡◌, ◌<◌, ◌+◌, List, ◌∷◌, [], ◌++◌, filter, IsTrue, false, length, map, not, reverse, option_map, IfOk, OnOk};
+ghost use Rattle.std.specs.Prelude.{◌≡◌, ◌<◌, ◌≤◌, ◌+◌, ◌-◌, max, List, ◌∷◌, [], ◌++◌, filter, IsTrue, false, length, map, not, reverse, option_map, IfOk, OnOk};
 ghost use Rattle.std.specs.List.{IsAllAdjacentAnswer};
 ghost use Rattle.regress_base.specs.Limits.{max_nesting_depth};
 ghost use Rattle.regress_syntax.specs.Fault.{RefusedOnlyIf};
 ghost use Rattle.regress_syntax.specs.Numbering.{names_of};
-ghost use Rattle.regress_syntax.specs.Scan.{Mark as Written, Placed, agree, named_by, placed_by, deepest, are_apart, conflict, next_alternative, at_the_start};
+ghost use Rattle.regress_syntax.specs.Scan.{Mark as Written, Placed, agree, named_by, placed_by, deepest, are_apart, conflict, outside, next_alternative, at_the_start};
 ghost use Rattle.regress_syntax.specs.Scanning.{mark_of, placed_of, has_name, path_of, Behind};
 
 use super::mark::Mark;
@@ -58,7 +58,7 @@ impl Scanner {
                 self.open()
             }
             Mark::Closes => {
-                self.path.pop();
+                leave(&mut self.path);
                 Ok(())
             }
             Mark::Next => Ok(next_alternative(&mut self.path)?),
@@ -107,6 +107,17 @@ impl Scanner {
             return Err(syntax(self.alloc, DUPLICATE_NAME));
         }
         Ok(self.names)
+    }
+}
+
+/// Leaves the innermost level, but never the whole pattern: a `)` too many closes nothing.
+fn leave(path: &mut Vec<u32>)
+    ensures path { reverse path.new.items ≡ outside (reverse path.old.items) }
+    ensures length { 1 ≤ length (reverse path.old.items) →
+        length (reverse path.new.items) ≡ max 1 (length (reverse path.old.items) - 1) }
+{
+    if path.len() > 1 {
+        path.pop();
     }
 }
 
