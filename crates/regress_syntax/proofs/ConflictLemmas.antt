@@ -1,5 +1,5 @@
 -- Groups that conflict, in a list that is sorted by names and then by paths.
-use Rattle.std.proofs.Common.{◌≡◌, ◌≢◌, ℕ, zero, suc, ◌+◌, ◌<◌, ◌≤◌, ◌⊎◌, inl, inr, ⊎_elim, ◌==◌, Bool, true, false, not, ◌&&◌, List, [], ◌∷◌, map, reverse, length, get_or, Option, Some, None, AllPairs, IsPermutation, IsSorted, IsSortedBy, swap, ap₂, bytes_eq, refl, sym, ap, subst, ◌∙◌, add-one, arith}
+use Rattle.std.proofs.Common.{◌≡◌, ◌≢◌, ℕ, zero, suc, ◌+◌, ◌<◌, ◌≤◌, ◌⊎◌, inl, inr, ⊎_elim, ◌==◌, Bool, true, false, not, ◌&&◌, List, [], ◌∷◌, map, reverse, length, get_or, Option, Some, None, IsPermutation, IsSorted, IsSortedBy, swap, ap₂, bytes_eq, refl, sym, ap, subst, ◌∙◌, arith}
 use Rattle.std.proofs.lemmas.Bool.{false≢true, true≢false, and_parts, and_from, cases_eq, cases_lt, not_from_false, not_from_true, false_from_ne_true, true_from_ne_false}
 use Rattle.std.proofs.lemmas.Bool.Decides.{nat_tests}
 use Rattle.std.proofs.lemmas.Cmp.{on_total, then_total, nat_cmp_total, nat_list_cmp_total}
@@ -10,7 +10,7 @@ use Rattle.std.proofs.lemmas.List.Edits.{Swapped, swapped_from_swap, length-swap
 use Rattle.std.proofs.lemmas.List.Folds.{list_all-map}
 use Rattle.std.proofs.lemmas.List.Sorted.{sorted_far, IsPermutation-keeps, IsPermutation-sym, ranks_by}
 use Rattle.std.proofs.lemmas.List.Sums.{AllPass-from_list_all, list_all-from_AllPass}
-use Rattle.std.specs.Cmp.{IsStrictWeakOrder, IsTotalOrder}
+use Rattle.std.specs.Cmp.{IsStrictWeakOrder}
 use Rattle.std.specs.Cmp.Lexicographic.{slice_cmp}
 use Rattle.std.specs.List.{AllAdjacentBelow, list_all}
 use Rattle.std.specs.Ordering.{nat_cmp, is_lt, is_eq, on, then_cmp, ordering_then, ordering_reverse}

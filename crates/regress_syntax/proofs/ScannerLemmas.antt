@@ -1,12 +1,12 @@
 -- The state of a scan, and the marks that it passes.
-use Rattle.std.proofs.Common.{◌≡◌, ℕ, zero, suc, ◌+◌, ◌-◌, ◌<◌, ◌≤◌, max, Bool, true, false, cond, not, ◌==◌, ◌&&◌, Result, Ok, Err, List, [], ◌∷◌, ◌++◌, map, reverse, length, Option, Some, None, option_map, Vec, filter, is_some, ap₂, true≢false, refl, sym, ap, ◌∙◌, subst, arith, ◌≢◌, ⊎_elim, option_to_list, append-nil}
+use Rattle.std.proofs.Common.{◌≡◌, ℕ, ◌+◌, ◌≤◌, Bool, true, false, cond, not, ◌==◌, ◌&&◌, Result, Ok, Err, List, [], ◌∷◌, ◌++◌, map, reverse, length, Option, Some, None, option_map, Vec, filter, is_some, ap₂, true≢false, refl, sym, ap, ◌∙◌, subst, arith, ◌≢◌, ⊎_elim, option_to_list, append-nil}
 use Rattle.std.specs.List.{list_all, zip}
 use Rattle.std.specs.declared.alloc.Global.{Global}
 use Rattle.std.proofs.lemmas.Bool.{and_left, cases_eq, ne_eqb}
-use Rattle.std.proofs.lemmas.List.{map-append, reverse-append, length-reverse}
+use Rattle.std.proofs.lemmas.List.{map-append}
 use Rattle.regress_tree.specs.Table.{Table}
 use Rattle.regress_syntax.specs.Source.{Source, opening, closing, bar}
-use Rattle.regress_syntax.specs.Scan.{Mode, plain, escape, class, class_escape, marks, opened_at, Mark, opens, captures, closes, next, agree, named_by, deepest, Path, Placed, placed_by, at_the_start, outside, next_alternative, same_name, conflict, are_apart}
+use Rattle.regress_syntax.specs.Scan.{Mode, plain, escape, class, class_escape, marks, opened_at, Mark, opens, captures, closes, next, agree, deepest, Path, Placed, placed_by, at_the_start, same_name, conflict, are_apart}
 use Rattle.regress_syntax.specs.Scanning.{mode_behind, mark_at, has_name, placed_of, path_of, Behind}
 use Rattle.regress_syntax.specs.Fault.{RefusedOnlyIf}
 use Rattle.regress_syntax.specs.declared.fault.ParseFault.{ParseFault}
@@ -14,19 +14,11 @@ use Rattle.regress_syntax.proofs.laws.Sources.{on_syntax_then}
 use Rattle.regress_syntax.specs.declared.scan.scanner.Scanner.{Scanner}
 use Rattle.regress_syntax.specs.declared.scan.scanner.NamedGroup.{NamedGroup}
 
+-- two paths agree where their numbers do pair by pair
 pub agree_in_pairs : (path other : List ℕ) → list_all (λ (pair : ℕ × ℕ). pair.0 == pair.1) (zip path other) ≡ agree path other
 agree_in_pairs [] other = refl
 agree_in_pairs (k ∷ path) [] = refl
 agree_in_pairs (k ∷ path) (j ∷ other) = ap (λ b. k == j && b) (agree_in_pairs path other)
-
--- ---- marks
-
-deepest_above : (n : ℕ) (ms : List Mark) → n ≤ deepest n ms
-deepest_above n [] = omega arith
-deepest_above n (opens ∷ ms) = omega arith
-deepest_above n (captures name ∷ ms) = omega arith
-deepest_above n (closes ∷ ms) = omega arith
-deepest_above n (next ∷ ms) = omega arith
 
 -- ---- groups without names conflict with none
 
@@ -70,7 +62,7 @@ are_apart-named (g ∷ gs) = by_test (are_apart-named gs) (has_name g) refl
     by_test same true e = ap₂ (λ a b. a && b) (apart_from_named g gs) same
     by_test same false e = ap (λ b. b && are_apart gs) (none_is_apart g gs e) ∙ same
 
--- ---- what is added
+-- ---- what is found
 
 pub named_added : (old new : List NamedGroup) (group : NamedGroup) (name : Vec ℕ Global) (path : List ℕ) (given : Option (Vec ℕ Global)) →
     given ≡ Some name → group.name.items ≡ name.items → group.path.items ≡ path → new ≡ old ++ group ∷ [] →
@@ -90,6 +82,14 @@ apart_behind all scanner behind =
 
 -- ---- levels
 
+deepest_above : (n : ℕ) (ms : List Mark) → n ≤ deepest n ms
+deepest_above n [] = omega arith
+deepest_above n (opens ∷ ms) = omega arith
+deepest_above n (captures name ∷ ms) = omega arith
+deepest_above n (closes ∷ ms) = omega arith
+deepest_above n (next ∷ ms) = omega arith
+
+-- what is refused for one reason is refused for any that follows
 pub refused_then : {X P Q : Type 0} (answer : Result X ParseFault) → (P → Q) → RefusedOnlyIf answer P → RefusedOnlyIf answer Q
 refused_then (Ok x) f h = tt
 refused_then (Err fault) f h = on_syntax_then fault f h

@@ -1,5 +1,5 @@
 -- What the state of the scan stands for.
-use Rattle.std.specs.Prelude.{◌≡◌, ℕ, ◌≤◌, Bool, List, [], ◌∷◌, ◌++◌, map, length, reverse, Option, Some, None, option_map, is_some, filter, if◌then◌else◌, ◌==◌}
+use Rattle.std.specs.Prelude.{◌≡◌, ℕ, ◌≤◌, Bool, List, ◌++◌, map, length, reverse, Option, Some, None, option_map, is_some, filter, if◌then◌else◌, ◌==◌}
 use Rattle.regress_tree.specs.Table.{Table}
 use Rattle.regress_syntax.specs.Source.{Source, opening, closing, bar}
 use Rattle.regress_syntax.specs.Numbering.{names_of}

@@ -1,10 +1,10 @@
 //! The scan of a pattern for its capture groups.
-ghost use Rattle.std.specs.Prelude.{◌≡◌, ◌≤◌, true, false, min, length, All, IsTrue, IfOk};
-ghost use Rattle.regress_base.specs.Limits.{max_capture_groups, max_nesting_depth};
+ghost use Rattle.std.specs.Prelude.{◌≡◌, min, length, IsTrue, IfOk};
+ghost use Rattle.regress_base.specs.Limits.{max_capture_groups};
 ghost use Rattle.regress_tree.specs.TableOf.{table_of};
 ghost use Rattle.regress_syntax.specs.Fault.{RefusedOnlyIf};
 ghost use Rattle.regress_syntax.specs.Numbering.{names_of};
-ghost use Rattle.regress_syntax.specs.Scan.{GivesMarks, plain, marks, named_by, deepest, at_the_start, placed_by, are_apart, IsRefusedByMarks};
+ghost use Rattle.regress_syntax.specs.Scan.{GivesMarks, plain, marks, named_by, at_the_start, placed_by, are_apart, IsRefusedByMarks};
 ghost use Rattle.regress_syntax.specs.Views.{names_in};
 
 mod mark;

@@ -51,8 +51,7 @@ fn is_any_named(names: &[Option<Name>]) -> bool
     names.iter().any(|name| name.is_some())
 }
 
-/// The numbers of the groups of each name. A number that is too large for its type would take a pattern too large for
-/// memory.
+/// The numbers of the groups of each name. Where their type has no number for a group, memory is said to be wanting.
 fn number(alloc: Global, names: &[Option<Name>]) -> Result<BTreeMap<Name, Vec<u32>>, AllocError>
     ensures { IfOk result (λ numbers. (name : List ℕ) → numbers_in numbers name ≡ groups_named name 1 (names_of names.now)) }
 {

@@ -20,7 +20,7 @@ pub(super) struct Scanner {
     /// The number of the alternative in each level that is open, the outermost first.
     path: Vec<u32>,
     /// The name of each capture group.
-    pub(super) names: Vec<Option<Name>>,
+    names: Vec<Option<Name>>,
     /// The capture groups that have names.
     named: Vec<NamedGroup>,
 }
@@ -121,8 +121,7 @@ fn leave(path: &mut Vec<u32>)
     }
 }
 
-/// The next alternative of the innermost level. A number that is too large for its type would take a pattern too
-/// large for memory.
+/// The next alternative of the innermost level. Where its type has no number for that, memory is said to be wanting.
 fn next_alternative(path: &mut Vec<u32>) -> Result<(), AllocError>
     ensures { OnOk result (reverse path.new.items ≡ next_alternative (reverse path.old.items)) }
 {

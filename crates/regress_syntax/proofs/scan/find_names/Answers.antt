@@ -1,9 +1,9 @@
-use Rattle.std.proofs.Common.{◌≡◌, length, Option, inl, inr, sym, ap, subst, ◌∙◌, IsTrue}
+use Rattle.std.proofs.Common.{inl, inr, sym, ap, ◌∙◌}
 use Rattle.std.proofs.lemmas.Result.{err_from_is_err_and}
 use Rattle.std.specs.Option.{option_map}
 use Rattle.regress_tree.specs.TableOf.{table_of}
 use Rattle.regress_syntax.specs.Scan.{plain, marks}
-use Rattle.regress_syntax.specs.Scanning.{mode_of, mark_of, Behind}
+use Rattle.regress_syntax.specs.Scanning.{mode_of, mark_of}
 use Rattle.regress_syntax.proofs.laws.Sources.{on_syntax_then}
 use Rattle.regress_syntax.proofs.ScannerLemmas.{refused_then, at_mark, at_no_mark, all_passed}
 use Rattle.regress_syntax.proofs.scan.find_names.Goals as goal

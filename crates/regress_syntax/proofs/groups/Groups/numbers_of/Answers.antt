@@ -1,4 +1,4 @@
-use Rattle.std.proofs.Common.{ℕ, List, [], Option, Vec, ap, ◌∙◌}
+use Rattle.std.proofs.Common.{ℕ, [], Option, Vec, ap, ◌∙◌}
 use Rattle.std.specs.Option.{option_map_or}
 use Rattle.std.specs.declared.alloc.Global.{Global}
 use Rattle.regress_syntax.proofs.groups.Groups.numbers_of.Goals as goal

@@ -1,9 +1,6 @@
-use Rattle.std.proofs.Common.{is_some, rules, option_map, ℕ, List, Vec, Option, Some, None, map, sym, refl, ◌≡◌, ◌∙◌}
+use Rattle.std.proofs.Common.{is_some, rules, ◌∙◌}
 use Rattle.std.proofs.lemmas.Iterator.{YieldsList-from_slice}
 use Rattle.std.proofs.lemmas.Iterator.Search.{any_from_yields_List}
-use Rattle.std.specs.List.{list_any}
-use Rattle.std.specs.declared.alloc.Global.{Global}
-use Rattle.regress_syntax.specs.Numbering.{names_of}
 use Rattle.regress_syntax.proofs.NumberingLemmas.{has_names_in}
 use Rattle.regress_syntax.proofs.groups.named.is_any_named.Goals as goal
 

@@ -1,4 +1,4 @@
-use Rattle.std.proofs.Common.{◌≡◌, ◌+◌, ℕ, rules, ap, ◌∙◌}
+use Rattle.std.proofs.Common.{◌≡◌, ◌+◌, rules, ap, ◌∙◌}
 use Rattle.regress_syntax.specs.Numbering.{numbers_in}
 use Rattle.regress_syntax.proofs.NumberingLemmas.{numbered_none, numbered_some}
 use Rattle.regress_syntax.proofs.groups.named.number.Goals as goal

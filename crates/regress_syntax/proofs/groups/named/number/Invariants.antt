@@ -1,5 +1,5 @@
 -- The groups so far have their numbers.
-use Rattle.std.proofs.Common.{◌≡◌, ℕ, List, length, take}
+use Rattle.std.proofs.Common.{◌≡◌, ℕ, List, take}
 use Rattle.regress_syntax.specs.Meaning.{groups_named}
 use Rattle.regress_syntax.specs.Numbering.{names_of, numbers_in}
 use Rattle.regress_syntax.proofs.groups.named.number.Given as goal
