@@ -138,7 +138,7 @@ fn each_status_comes_with_its_output(rt: HostRuntime) -> Result<(), Fail> {
             "",
         ),
         (&["\\x4", "u"], 1, "", "error: Invalid character escape\n"),
-        (&["(?=a)"], 1, "", UNSUPPORTED),
+        (&["\\p{L}", "u"], 1, "", UNSUPPORTED),
         (&["a", "musv"], 1, "", UNSUPPORTED),
         (&[], 2, "", USAGE),
         (&["a", "s", "s"], 2, "", USAGE),

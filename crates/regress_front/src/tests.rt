@@ -6,7 +6,11 @@ mod classes;
 mod escapes;
 mod faults;
 mod literals;
+mod lookarounds;
+mod modifiers;
+mod names;
 mod quantifiers;
+mod references;
 mod scale;
 
 use crate::codepointset::CODE_POINT_MAX;

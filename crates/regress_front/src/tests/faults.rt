@@ -120,21 +120,10 @@ fn the_first_fault_from_the_left_is_told(rt: HostRuntime) -> Result<(), Fail> {
 #[test]
 fn what_is_not_served_is_refused(rt: HostRuntime) -> Result<(), Fail> {
     let rows = [
-        ("\\1", ""),
-        ("(a)\\1", "u"),
-        ("\\8", ""),
-        ("\\k", ""),
-        ("\\k<a>", "u"),
         ("\\p{Zl}", "u"),
         ("\\P{Zl}", "u"),
         ("[\\p{Zl}]", "u"),
-        ("(?=a)", ""),
-        ("(?!a)", ""),
-        ("(?<=a)", ""),
-        ("(?<!a)", ""),
-        ("(?<a>x)", ""),
-        ("(?i:a)", ""),
-        ("(?", ""),
+        ("\\p{L}", "u"),
         ("a", "v"),
         ("a", "uv"),
         ("a", "imsv"),

@@ -34,6 +34,9 @@ fn many_items_are_parsed_and_optimized(rt: HostRuntime) -> Result<(), Fail> {
         ("\\W", "", 33_000, 33_001),
         ("a*", "", 50_000, 50_001),
         ("(?:[a-z]{2,3}?\\b)", "i", 33_000, 66_001),
+        ("(?=a)", "", 33_000, 33_001),
+        ("(?<=a)", "", 33_000, 33_001),
+        ("(?i:a)", "", 33_000, 33_001),
     ];
     for (item, letters, times, want) in rows {
         let mut pattern = String::new(rt.alloc());
@@ -61,5 +64,28 @@ fn a_class_of_many_ranges_is_parsed(rt: HostRuntime) -> Result<(), Fail> {
         let found = counted(rt.alloc(), pattern.as_str(), letters).unwrap_or((0, 0));
         assert_eq!(rt; found, (2, 10_000), "{letters}");
     }
+    Ok(())
+}
+
+#[test]
+fn many_references_by_name_are_parsed(rt: HostRuntime) -> Result<(), Fail> {
+    let mut pattern = String::from_str(rt.alloc(), "(?<a>x)")?;
+    for _ in 0..10_000 {
+        pattern.push_str("\\k<a>")?;
+    }
+    let (parts, _) = counted(rt.alloc(), pattern.as_str(), "").unwrap_or((0, 0));
+    assert_eq!(rt; parts, 10_002);
+    Ok(())
+}
+
+#[test]
+fn many_groups_with_names_are_parsed(rt: HostRuntime) -> Result<(), Fail> {
+    let mut pattern = String::new(rt.alloc());
+    for i in 0..20_000u32 {
+        let group = format!(in rt.alloc(); "(?<a{i}>x)")?;
+        pattern.push_str(group.as_str())?;
+    }
+    let (parts, _) = counted(rt.alloc(), pattern.as_str(), "").unwrap_or((0, 0));
+    assert_eq!(rt; parts, 20_001);
     Ok(())
 }
