@@ -1,15 +1,15 @@
 -- What the reading function finds in a whole source is what the source stands for, since a scan finds the groups and names
 -- of every pattern that the grammar derives.
-use Rattle.std.proofs.Common.{◌≡◌, ◌+◌, ◌<◌, ℕ, min, Bool, true, false, List, [], length, Option, Some, IsTrue, inl, inr, refl, sym, ap, ap₂, ◌∙◌, subst, arith}
+use Rattle.std.proofs.Common.{◌≡◌, ◌+◌, ◌<◌, ℕ, min, true, List, [], length, Option, Some, IsTrue, inl, inr, refl, sym, ap, ap₂, ◌∙◌, subst, arith}
 use Rattle.std.proofs.lemmas.Option.{same_Some}
 use Rattle.std.proofs.lemmas.Bool.{false≢true}
-use Rattle.regress_base.specs.Limits.{max_capture_groups, max_nesting_depth}
+use Rattle.regress_base.specs.Limits.{max_capture_groups}
 use Rattle.regress_tree.specs.Matching.{Setting}
 use Rattle.regress_syntax.specs.Source.{Source}
-use Rattle.regress_syntax.specs.Syntax.{Name, Pattern, nothing_counted, counts, names, levels}
+use Rattle.regress_syntax.specs.Syntax.{Name, Pattern, nothing_counted, counts, names}
 use Rattle.regress_syntax.specs.Rows.{Context}
 use Rattle.regress_syntax.specs.Grammar.{IsPattern}
-use Rattle.regress_syntax.specs.Scan.{GivesMarks, Mark, marks_of, plain, marks, named_by, deepest, at_the_start, placed_by, are_apart, has_apart_names, IsRefusedByMarks}
+use Rattle.regress_syntax.specs.Scan.{GivesMarks, plain, marks, named_by, deepest, at_the_start, placed_by, are_apart, has_apart_names, IsRefusedByMarks}
 use Rattle.regress_syntax.proofs.laws.Scan.{named_by-pattern, deepest-whole}
 use Rattle.regress_parse.specs.Reader.{pattern_at}
 use Rattle.regress_parse.specs.Parsing.{Fits, pattern_part}

@@ -9,7 +9,7 @@ use Rattle.regress_syntax.specs.Rows.{Context, inside, Head, single, opens, head
 use Rattle.regress_syntax.proofs.laws.Sources.{found_then, chosen}
 use Rattle.regress_syntax.proofs.laws.Rows.{no_head_at_end}
 use Rattle.regress_syntax.specs.Grammar.{IsPattern, AreTerms, IsItem}
-use Rattle.regress_parse.specs.Reader.{Term, closed, item_behind, item_by, quantified, term_by, read_terms, read_pattern, enough, pattern_at, terms_at, term_at, item_at}
+use Rattle.regress_parse.specs.Reader.{Term, closed, item_behind, item_by, quantified, term_by, read_terms, read_pattern, enough, pattern_at, terms_at, item_at}
 use Rattle.regress_parse.proofs.ReaderLemmas.{terms_at-is, pattern_at-is, term_at-is, item_at-is, more_by, others_by, more_of, others_of}
 
 at_this : (c : ℕ) (t : Source) → is_at c t ≡ true → t ≡ c ∷ drop 1 t

@@ -1,5 +1,5 @@
 -- Modifiers of a group: flags that are switched on what stands inside (ECMA-262, RegularExpressionModifiers).
-use Rattle.std.specs.Prelude.{ℕ, ◌≢◌, Bool, true, false, not, ◌&&◌, ◌||◌, List, [], ◌∷◌, ◌++◌, length, drop, Option, Some, None, if◌then◌else◌, ◌==◌}
+use Rattle.std.specs.Prelude.{ℕ, Bool, true, false, not, ◌&&◌, ◌||◌, List, [], ◌∷◌, ◌++◌, length, drop, Option, Some, None, if◌then◌else◌, ◌==◌}
 use Rattle.std.specs.List.{list_any}
 use Rattle.regress_base.specs.declared.types.Flags.{Flags}
 use Rattle.regress_syntax.specs.Source.{Source, Found, colon, is_at}

@@ -1,7 +1,7 @@
 -- Names of groups, in angle brackets (ECMA-262, GroupName).
-use Rattle.std.specs.Prelude.{ℕ, zero, suc, ◌+◌, Bool, ◌&&◌, ◌||◌, List, [], ◌∷◌, length, drop, Option, Some, None, if◌then◌else◌, ◌==◌}
+use Rattle.std.specs.Prelude.{ℕ, zero, suc, ◌+◌, Bool, ◌&&◌, ◌||◌, [], ◌∷◌, length, drop, Some, None, if◌then◌else◌, ◌==◌}
 use lib.Utf8.{scalar}
-use Rattle.regress_base.specs.Intervals.{Bounds, is_member}
+use Rattle.regress_base.specs.Intervals.{is_member}
 use Rattle.regress_tree.specs.Table.{Table}
 use Rattle.regress_syntax.specs.Source.{Source, Found, ◌>>=◌, found_map, is_at}
 use Rattle.regress_syntax.specs.Escapes.{unicode_at}

@@ -1,4 +1,4 @@
-use Rattle.std.proofs.Common.{ap, ◌∙◌, sym}
+use Rattle.std.proofs.Common.{ap, ◌∙◌}
 use Rattle.regress_tree.specs.Tree.{leaf}
 use Rattle.regress_tree.proofs.laws.Literals.{listing_is_listed}
 use Rattle.regress_parse.specs.TreeOf.{leaf_of_members}

@@ -1,5 +1,5 @@
-use Rattle.std.proofs.Common.{◌≡◌, ◌++◌, [], ◌∷◌, map, sym, ap, ap₂, ◌∙◌}
-use Rattle.regress_tree.specs.Tree.{tree, leaf, back_ref, alt}
+use Rattle.std.proofs.Common.{map, sym, ap, ap₂, ◌∙◌}
+use Rattle.regress_tree.specs.Tree.{tree, alt}
 use Rattle.regress_tree.proofs.laws.Nodes.{tree-Alt, tree-BackRef}
 use Rattle.regress_parse.specs.Parsing.{alternatives}
 use Rattle.regress_parse.specs.TreeOf.{tree_of_references}

@@ -1,4 +1,4 @@
-use Rattle.std.proofs.Common.{◌≡◌, ◌++◌, [], ◌∷◌, take, encode_utf8_all, append-nil, sym, ap, ◌∙◌}
+use Rattle.std.proofs.Common.{◌++◌, take, encode_utf8_all, append-nil, sym, ap, ◌∙◌}
 use Rattle.std.proofs.lemmas.List.{take_more}
 use Rattle.std.proofs.lemmas.Str.{encodes-append}
 use Rattle.std.specs.Char.{encode_utf8}

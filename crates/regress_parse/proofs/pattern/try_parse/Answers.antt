@@ -2,11 +2,10 @@ use Rattle.std.proofs.Common.{◌≡◌, ◌+◌, ◌<◌, true, [], Ok, Err, re
 use Rattle.std.proofs.lemmas.Result.{err_from_is_err_and}
 use Rattle.regress_base.specs.Limits.{max_capture_groups}
 use Rattle.regress_tree.specs.Reading.{forwards}
-use Rattle.regress_tree.specs.Tree.{Tree, tree, trees, cat, more_trees, no_trees}
+use Rattle.regress_tree.specs.Tree.{Tree, trees, cat, more_trees, no_trees}
 use Rattle.regress_tree.specs.TableOf.{setting_of}
 use Rattle.regress_tree.specs.WellFormed.{IsWellFormed}
 use Rattle.regress_tree.proofs.laws.Nodes.{tree-Cat, tree-Goal}
-use Rattle.regress_syntax.specs.Rows.{Context}
 use Rattle.regress_syntax.specs.Syntax.{counts}
 use Rattle.regress_syntax.specs.Views.{names_in}
 use Rattle.regress_syntax.proofs.laws.Sources.{on_syntax_then}

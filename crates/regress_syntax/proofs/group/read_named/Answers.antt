@@ -1,4 +1,4 @@
-use Rattle.std.proofs.Common.{Some, option_map, sym, ap, ◌∙◌}
+use Rattle.std.proofs.Common.{option_map, sym, ap, ◌∙◌}
 use Rattle.regress_tree.specs.TableOf.{table_of}
 use Rattle.regress_syntax.proofs.laws.Behind.{behind_all}
 use Rattle.regress_syntax.proofs.laws.NameEnds.{group_name_at-ends}

@@ -1,13 +1,12 @@
 -- Each answer is a lemma on what was read, at the values of the call.
-use Rattle.std.proofs.Common.{◌≡◌, ◌+◌, ◌<◌, true, false, Some, None, length, drop, refl, sym, ap, ap₂, ◌∙◌, subst, arith, length-drop}
-use Rattle.std.specs.Option.{IfSome, IsSomeAnd}
+use Rattle.std.proofs.Common.{◌≡◌, ◌+◌, ◌<◌, false, Some, None, length, refl, sym, ap, ap₂, ◌∙◌, subst, arith, length-drop}
+use Rattle.std.specs.Option.{IsSomeAnd}
 use Rattle.std.proofs.lemmas.Result.{err_from_is_err_and}
 use Rattle.regress_base.specs.Limits.{max_loops}
-use Rattle.regress_tree.specs.Tree.{tree}
 use Rattle.regress_syntax.specs.Source.{Source, ends_alternative, bar as the_bar}
 use Rattle.regress_syntax.specs.Syntax.{Counts, added, one_loop, counts_of_item}
 use Rattle.regress_syntax.specs.Rows.{Head}
-use Rattle.regress_syntax.specs.Views.{source, group_of}
+use Rattle.regress_syntax.specs.Views.{source}
 use Rattle.regress_syntax.proofs.laws.Sources.{at_front, on_syntax, on_syntax_then}
 use Rattle.regress_syntax.proofs.laws.Rows.{head_at-shortens}
 use Rattle.regress_parse.specs.TreeOf.{joined, tree_of_times}
