@@ -1,3 +1,4 @@
+pub mod SetRows
 pub mod laws
 mod ClassLemmas
 mod ConflictLemmas

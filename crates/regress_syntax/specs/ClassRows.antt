@@ -4,9 +4,11 @@ use Rattle.regress_base.specs.declared.charclasses.CharacterClassType.{Character
 use Rattle.regress_base.specs.declared.charclasses.CharacterClassType.TheVariants.{Digits, Spaces, Words}
 use Rattle.regress_base.specs.Classes.{digits, white_space, line_terminators, word_characters}
 use Rattle.regress_base.specs.Intervals.{Bounds, is_member, intervals_of}
+use Rattle.regress_tree.specs.Table.{Table}
 use Rattle.regress_syntax.specs.Source.{Source, Found, ◌>>=◌, found_map, is_at}
 use Rattle.regress_syntax.specs.Digits.{is_decimal, is_letter, control}
 use Rattle.regress_syntax.specs.Escapes.{escape_at}
+use Rattle.regress_syntax.specs.Properties.{Property, points_of, property_at}
 
 -- ---- classes by an escape
 
@@ -27,16 +29,23 @@ class_letter c =
     else if c == 87 then Some (Words, true)
     else None
 
+-- all code points but these
+abbrev pub complement : List Bounds → List Bounds
+complement members = intervals_of (λ c. not (is_member members c))
+
+abbrev pub complement_if : Bool → List Bounds → List Bounds
+complement_if negated members = if negated then complement members else members
+
 -- the class, or its complement
 abbrev pub class_members : CharacterClassType × Bool → List Bounds
-class_members (kind, negated) = if negated then intervals_of (λ c. not (is_member (members_of kind) c)) else members_of kind
+class_members (kind, negated) = complement_if negated (members_of kind)
 
 -- ---- atoms of a class
 
--- a code point, or a class by an escape
+-- a code point, or what a class by an escape or a property holds
 pub data ClassAtom : Type 0 where
   point : (c : ℕ) → ClassAtom
-  class : (kind : CharacterClassType) (negated : Bool) → ClassAtom
+  set : (members : List Bounds) → ClassAtom
 
 abbrev pub one_point : ℕ → List Bounds
 one_point c = record { first = c; last = c } ∷ []
@@ -44,7 +53,7 @@ one_point c = record { first = c; last = c } ∷ []
 -- what the atom holds
 abbrev pub atom_members : ClassAtom → List Bounds
 atom_members (point c) = one_point c
-atom_members (class kind negated) = class_members (kind, negated)
+atom_members (set members) = members
 
 -- `\c` without the flag u: a letter, or a digit or `_`, for its low five bits; else the backslash alone
 abbrev pub class_control_at : Source → Found ClassAtom
@@ -52,31 +61,41 @@ class_control_at [] = Some (point 92, 99 ∷ [])
 class_control_at (d ∷ t) =
     if is_letter d || is_decimal d || d == 95 then Some (point (control d), t) else Some (point 92, 99 ∷ d ∷ t)
 
--- an escape in a class, behind its backslash. A property is not served yet.
-abbrev pub class_escape_by : Bool → ℕ → Source → Found ClassAtom
-class_escape_by unicode c t =
-    elim (class_letter c) [
-      | Some named ↦ Some (class named.0 named.1, t)
-      | None ↦
-          -- `\b` is backspace
-          if c == 98 then Some (point 8, t)
-          else if c == 45 && unicode then Some (point 45, t)
-          else if c == 99 && not unicode then class_control_at t
-          else if (c == 112 || c == 80) && unicode then None
-          else found_map point (escape_at unicode (c ∷ t))
-    ]
+-- a property of code points, or its complement
+abbrev pub class_property : Bool → Property × Source → Found ClassAtom
+class_property negated (property, t) =
+    elim (points_of property) [ None ↦ None | Some members ↦ Some (set (complement_if negated members), t) ]
 
-abbrev pub class_escape_at : Bool → Source → Found ClassAtom
-class_escape_at unicode [] = None
-class_escape_at unicode (c ∷ t) = class_escape_by unicode c t
+-- behind `\p` or `\P`
+abbrev pub class_property_at : Table → Bool → Source → Found ClassAtom
+class_property_at table negated t = property_at false table t >>= class_property negated
 
--- an atom: any code point but `]` and `\`, or an escape
-abbrev pub class_atom_at : Bool → Source → Found ClassAtom
-class_atom_at unicode [] = None
-class_atom_at unicode (c ∷ t) =
-    if c == 93 then None
-    else if c == 92 then class_escape_at unicode t
-    else Some (point c, t)
+module _ (table : Table) (unicode : Bool) where
+  -- an escape in a class, behind its backslash
+  abbrev pub class_escape_by : ℕ → Source → Found ClassAtom
+  class_escape_by c t =
+      elim (class_letter c) [
+        | Some named ↦ Some (set (class_members named), t)
+        | None ↦
+            -- `\b` is backspace
+            if c == 98 then Some (point 8, t)
+            else if c == 45 && unicode then Some (point 45, t)
+            else if c == 99 && not unicode then class_control_at t
+            else if (c == 112 || c == 80) && unicode then class_property_at table (c == 80) t
+            else found_map point (escape_at unicode (c ∷ t))
+      ]
+
+  abbrev pub class_escape_at : Source → Found ClassAtom
+  class_escape_at [] = None
+  class_escape_at (c ∷ t) = class_escape_by c t
+
+  -- an atom: any code point but `]` and `\`, or an escape
+  abbrev pub class_atom_at : Source → Found ClassAtom
+  class_atom_at [] = None
+  class_atom_at (c ∷ t) =
+      if c == 93 then None
+      else if c == 92 then class_escape_at t
+      else Some (point c, t)
 
 -- ---- ranges
 
@@ -84,42 +103,47 @@ class_atom_at unicode (c ∷ t) =
 abbrev pub three : Bool → List Bounds → List Bounds → Option (List Bounds)
 three unicode first last = if unicode then None else Some (first ++ one_point 45 ++ last)
 
+-- a range of code points, which ends nowhere before it begins
+abbrev pub points_between : ℕ → ℕ → Option (List Bounds)
+points_between a b = if nat_le a b then Some (record { first = a; last = b } ∷ []) else None
+
 -- what two atoms with a hyphen between them hold: a range, or without the flag u all three where one is a class
 abbrev pub range_of : Bool → ClassAtom → ClassAtom → Option (List Bounds)
-range_of unicode (point a) (point b) = if nat_le a b then Some (record { first = a; last = b } ∷ []) else None
-range_of unicode (point a) (class kind negated) = three unicode (one_point a) (class_members (kind, negated))
-range_of unicode (class kind negated) (point b) = three unicode (class_members (kind, negated)) (one_point b)
-range_of unicode (class kind negated) (class other turned) = three unicode (class_members (kind, negated)) (class_members (other, turned))
+range_of unicode (point a) (point b) = points_between a b
+range_of unicode (point a) (set others) = three unicode (one_point a) others
+range_of unicode (set members) (point b) = three unicode members (one_point b)
+range_of unicode (set members) (set others) = three unicode members others
 
 -- a hyphen that may begin a range: one that is not the last
 abbrev pub begins_range : Source → Bool
 begins_range t = is_at 45 t && not (is_at 93 (drop 1 t))
 
--- the rest of a range, behind its first atom and the hyphen
-abbrev pub range_at : Bool → ClassAtom → Source → Found (List Bounds)
-range_at unicode first t =
-    class_atom_at unicode t >>= λ (last, rest).
-    elim (range_of unicode first last) [ None ↦ None | Some members ↦ Some (members, rest) ]
+module _ (table : Table) (unicode : Bool) where
+  -- the rest of a range, behind its first atom and the hyphen
+  abbrev pub range_at : ClassAtom → Source → Found (List Bounds)
+  range_at first t =
+      class_atom_at table unicode t >>= λ (last, rest).
+      elim (range_of unicode first last) [ None ↦ None | Some members ↦ Some (members, rest) ]
 
--- an atom, or a range
-abbrev pub class_part_at : Bool → Source → Found (List Bounds)
-class_part_at unicode t =
-    class_atom_at unicode t >>= λ (first, rest).
-    (if begins_range rest then range_at unicode first (drop 1 rest) else Some (atom_members first, rest))
+  -- an atom, or a range
+  abbrev pub class_part_at : Source → Found (List Bounds)
+  class_part_at t =
+      class_atom_at table unicode t >>= λ (first, rest).
+      (if begins_range rest then range_at first (drop 1 rest) else Some (atom_members first, rest))
 
--- ---- the class
+  -- ---- the class
 
--- The parts up to `]`, as they are written, of which some may overlap. The number bounds how many.
-unfoldable pub class_parts_by : ℕ → Bool → Source → Found (List Bounds)
-class_parts_by zero unicode t = None
-class_parts_by (suc n) unicode t =
-    if is_at 93 t then Some ([], drop 1 t)
-    else class_part_at unicode t >>= λ (members, rest).
-    (class_parts_by n unicode rest >>= λ (others, behind). Some (members ++ others, behind))
+  -- The parts up to `]`, as they are written, of which some may overlap. The number bounds how many.
+  unfoldable pub class_parts_by : ℕ → Source → Found (List Bounds)
+  class_parts_by zero t = None
+  class_parts_by (suc n) t =
+      if is_at 93 t then Some ([], drop 1 t)
+      else class_part_at t >>= λ (members, rest).
+      (class_parts_by n rest >>= λ (others, behind). Some (members ++ others, behind))
 
--- what stands behind `[`: whether it is inverted, and what it holds
-unfoldable pub class_at : Bool → Source → Found (Bool × List Bounds)
-class_at unicode t =
-    let inverted = is_at 94 t in
-    let inside = if inverted then drop 1 t else t in
-    class_parts_by (length inside + 1) unicode inside >>= λ (members, rest). Some ((inverted, members), rest)
+  -- what stands behind `[`: whether it is inverted, and what it holds
+  unfoldable pub class_at : Source → Found (Bool × List Bounds)
+  class_at t =
+      let inverted = is_at 94 t in
+      let inside = if inverted then drop 1 t else t in
+      class_parts_by (length inside + 1) inside >>= λ (members, rest). Some ((inverted, members), rest)

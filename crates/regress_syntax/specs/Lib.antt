@@ -2,7 +2,9 @@ pub mod Source
 pub mod Digits
 pub mod Escapes
 pub mod Quantifiers
+pub mod Properties
 pub mod ClassRows
+pub mod ClassSets
 pub mod Modifiers
 pub mod Names
 pub mod Syntax

@@ -1,5 +1,5 @@
 -- What a pattern matches, over the characters of a text (ECMA-262, CompileSubpattern).
-use Rattle.std.specs.Prelude.{ℕ, ◌+◌, ◌-◌, Bool, not, ◌&&◌, ◌||◌, List, [], ◌∷◌, length, Option, Some, None, if◌then◌else◌}
+use Rattle.std.specs.Prelude.{ℕ, ◌+◌, ◌-◌, Bool, not, ◌&&◌, ◌||◌, List, [], ◌∷◌, length, Option, Some, None, if◌then◌else◌, nat_le}
 use Rattle.regress_base.specs.Intervals.{Bounds, is_member}
 use Rattle.regress_base.specs.declared.types.Flags.{Flags}
 use Rattle.regress_tree.specs.declared.ir.node.Quantifier.{Quantifier}
@@ -7,12 +7,13 @@ use Rattle.regress_tree.specs.Reading.{Direction, forwards, backwards, of_charac
 use Rattle.regress_tree.specs.Steps.{Step, distinct, stay, fail, ◌then_◌, ◌or_◌, one_character, hold_at, capture as captures}
 use Rattle.regress_tree.specs.Lookaround.{look as looks}
 use Rattle.regress_tree.specs.References.{back_reference as refers}
+use Rattle.regress_tree.specs.Strings.{any_string}
 use Rattle.regress_tree.specs.Matching.{Setting}
 use Rattle.regress_tree.specs.Table.{Table, stands_for, is_in_closure}
 use Rattle.regress_tree.specs.Assertions.{is_line_terminator, is_word_character, at_anchor, differ, at_boundary}
 use Rattle.regress_tree.specs.Repetition.{repeat}
 use Rattle.regress_syntax.specs.ClassRows.{members_of}
-use Rattle.regress_syntax.specs.Syntax.{Name, is_named, Target, by_number, by_name, Atom, literal, dot, anchor, boundary, class_escape, class, back_reference, Group, grouping, modified, capture, look, Pattern, Terms, Item, one, either, no_terms, more_terms, atom, group, opened_by, counts_of_item, counts_of_terms, counts_of_term, names}
+use Rattle.regress_syntax.specs.Syntax.{Name, is_named, Target, by_number, by_name, Atom, literal, dot, anchor, boundary, class_escape, class, class_set, string_property, back_reference, Group, grouping, modified, capture, look, Pattern, Terms, Item, one, either, no_terms, more_terms, atom, group, opened_by, counts_of_item, counts_of_terms, counts_of_term, names}
 
 -- a character matches the literal c: with the flag i where both have one image (ECMA-262, Canonicalize)
 abbrev pub is_literal : Table → Flags → ℕ → ℕ → Bool
@@ -73,8 +74,23 @@ abbrev pub times_steps : (length : ℕ) → Option Quantifier → (start end : �
 times_steps length None start end body = body
 times_steps length (Some q) start end body = repeat (length + 1) q start end body
 
+-- before the first that is no longer
+abbrev pub inserted : List ℕ → List (List ℕ) → List (List ℕ)
+inserted s [] = s ∷ []
+inserted s (other ∷ ss) = if nat_le (length other) (length s) then s ∷ other ∷ ss else other ∷ inserted s ss
+
+-- the strings of a class in the order in which they are tried: longest first, equal lengths as they were read
+abbrev pub longest_first : List (List ℕ) → List (List ℕ)
+longest_first [] = []
+longest_first (s ∷ ss) = inserted s (longest_first ss)
+
 -- the names are those of all groups of the whole pattern
 module _ (setting : Setting) (names : List (Option Name)) (text : List ℕ) where
+  -- the first of the strings that matches, and so on, character by character as a reference does
+  abbrev pub one_of_strings : Direction → Flags → List (List ℕ) → Step
+  one_of_strings d flags =
+      any_string d (of_characters text) (stands_for setting.table flags.icase setting.flags.unicode)
+
   abbrev pub atom_steps : Direction → Atom → Step
   atom_steps d (literal flags c) = one_character d (of_characters text) (is_literal setting.table flags c)
   atom_steps d (dot flags) = one_character d (of_characters text) (is_any flags)
@@ -84,6 +100,11 @@ module _ (setting : Setting) (names : List (Option Name)) (text : List ℕ) wher
       one_character d (of_characters text) (is_in_class setting.table flags negated (members_of kind))
   atom_steps d (class flags inverted members) =
       one_character d (of_characters text) (is_in_class setting.table flags inverted members)
+  -- first the strings, then one of the code points
+  atom_steps d (class_set flags negated value) =
+      one_of_strings d flags (longest_first value.strings)
+      or_ one_character d (of_characters text) (is_in_class setting.table flags negated value.members)
+  atom_steps d (string_property flags written) = one_of_strings d flags written
   -- no group switches the flag u, which is the setting's
   atom_steps d (back_reference flags to) =
       any_reference (λ k. refers d (of_characters text) (stands_for setting.table flags.icase setting.flags.unicode) (k - 1))

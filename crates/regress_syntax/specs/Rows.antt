@@ -11,10 +11,12 @@ use Rattle.regress_syntax.specs.Source.{Source, Found, ◌>>=◌, found_map, ope
 use Rattle.regress_syntax.specs.Digits.{is_between, is_decimal, number, front, behind}
 use Rattle.regress_syntax.specs.Escapes.{begins_with_letter, escape_at}
 use Rattle.regress_syntax.specs.Quantifiers.{quantifier_at, is_ordered}
-use Rattle.regress_syntax.specs.ClassRows.{class_letter, class_at}
+use Rattle.regress_syntax.specs.Properties.{Property, of_points, of_strings, property_at}
+use Rattle.regress_syntax.specs.ClassRows.{complement, class_letter, class_at}
+use Rattle.regress_syntax.specs.ClassSets.{class_set_at}
 use Rattle.regress_syntax.specs.Modifiers.{changed, modifiers_at}
 use Rattle.regress_syntax.specs.Names.{group_name_at}
-use Rattle.regress_syntax.specs.Syntax.{Name, is_named, by_number, by_name, Atom, literal, dot, anchor, boundary, class_escape, class, back_reference, Group, grouping, modified, capture, look, Item, atom, group}
+use Rattle.regress_syntax.specs.Syntax.{Name, is_named, by_number, by_name, Atom, literal, dot, anchor, boundary, class_escape, class, class_set, string_property, back_reference, Group, grouping, modified, capture, look, Item, atom, group}
 
 -- What the rows look at beside the source: the flags in force and the table, and how many capture groups the whole
 -- pattern has and which names, `None` where a group has none.
@@ -74,6 +76,8 @@ atom_allows (anchor flags kind) = false
 atom_allows (boundary flags inverted) = true
 atom_allows (class_escape flags kind negated) = true
 atom_allows (class flags inverted members) = true
+atom_allows (class_set flags negated value) = true
+atom_allows (string_property flags written) = true
 atom_allows (back_reference flags to) = true
 
 -- behind a lookahead without the flag u, and behind no lookbehind
@@ -88,10 +92,6 @@ group_allows unicode (look negate backwards) = false
 abbrev pub allows : (unicode : Bool) → Head → Bool
 allows unicode (single a) = atom_allows a
 allows unicode (opens kind) = group_allows unicode kind
-
--- a property is not served yet
-abbrev pub is_unserved : (unicode : Bool) → ℕ → Bool
-is_unserved unicode c = unicode && (c == 112 || c == 80)
 
 -- the number of a group, by the whole run of digits, where there are so many
 abbrev pub group_number_at : (groups : ℕ) → Source → Found ℕ
@@ -113,9 +113,23 @@ is_lone_backslash unicode c t = c == 99 && not unicode && not (begins_with_lette
 module _ (ctx : Context) where
   -- the escape of one character
   abbrev pub character_at : ℕ → Source → Found Atom
-  character_at c t =
-      if is_unserved ctx.setting.flags.unicode c then None
-      else found_map (literal ctx.setting.flags) (escape_at ctx.setting.flags.unicode (c ∷ t))
+  character_at c t = found_map (literal ctx.setting.flags) (escape_at ctx.setting.flags.unicode (c ∷ t))
+
+  -- A property of code points, whose complement is closed with the flag i. One of strings has no complement.
+  abbrev pub property_atom : (negated : Bool) → Property × Source → Found Atom
+  property_atom negated (of_points members, t) =
+      Some (
+        if negated && ctx.setting.flags.icase
+        then class ctx.setting.flags false (complement members)
+        else class ctx.setting.flags negated members,
+        t
+      )
+  property_atom negated (of_strings written, t) = if negated then None else Some (string_property ctx.setting.flags written, t)
+
+  -- behind `\p` or `\P`
+  abbrev pub property_atom_at : (negated : Bool) → Source → Found Atom
+  property_atom_at negated t =
+      property_at ctx.setting.flags.unicode_sets ctx.setting.table t >>= property_atom negated
 
   -- A number, by the whole run of its digits: a reference where there are so many groups. Else it is refused with the flag
   -- u, and without it the escape of a character.
@@ -142,6 +156,8 @@ module _ (ctx : Context) where
             if c == 98 then Some (boundary ctx.setting.flags false, t)
             else if c == 66 then Some (boundary ctx.setting.flags true, t)
             else if is_lone_backslash ctx.setting.flags.unicode c t then Some (literal ctx.setting.flags 92, 99 ∷ t)
+            else if (c == 112 || c == 80) && (ctx.setting.flags.unicode || ctx.setting.flags.unicode_sets)
+            then property_atom_at (c == 80) t
             else if is_between 49 57 c then numbered_at c t
             -- without the flag u and without names, `\k` is the escape of a character
             else if c == 107 && (ctx.setting.flags.unicode || has_names ctx.names) then named_at t
@@ -157,6 +173,15 @@ module _ (ctx : Context) where
   brace_by c t =
       if ctx.setting.flags.unicode || is_some (quantifier_at (c ∷ t)) then None else Some (literal ctx.setting.flags c, t)
 
+  -- what stands behind `[`
+  abbrev pub brackets_at : Source → Found Atom
+  brackets_at t =
+      if ctx.setting.flags.unicode_sets
+      then found_map (λ (negated, value). class_set ctx.setting.flags negated value)
+      (class_set_at ctx.setting.table ctx.setting.flags.unicode t)
+      else found_map (λ (inverted, members). class ctx.setting.flags inverted members)
+      (class_at ctx.setting.table ctx.setting.flags.unicode t)
+
   -- an item whose first code point is c and which holds no pattern
   abbrev pub atom_by : ℕ → Source → Found Atom
   atom_by c t =
@@ -164,8 +189,7 @@ module _ (ctx : Context) where
       else if c == 94 then Some (anchor ctx.setting.flags StartOfLine, t)
       else if c == 36 then Some (anchor ctx.setting.flags EndOfLine, t)
       else if c == 92 then escaped_at t
-      else if c == 91
-      then found_map (λ (inverted, members). class ctx.setting.flags inverted members) (class_at ctx.setting.flags.unicode t)
+      else if c == 91 then brackets_at t
       else if c == 123 || c == 93 || c == 125 then brace_by c t
       else if is_plain c then Some (literal ctx.setting.flags c, t)
       else None

@@ -5,7 +5,8 @@ use Rattle.regress_base.specs.Limits.{max_nesting_depth}
 use Rattle.regress_tree.specs.Table.{Table}
 use Rattle.regress_syntax.specs.Source.{Source, opening, closing, bar, question_mark, is_at}
 use Rattle.regress_syntax.specs.Names.{group_name_at}
-use Rattle.regress_syntax.specs.Syntax.{Name, is_named, Group, grouping, modified, capture, look, Pattern, Terms, Item, one, either, no_terms, more_terms, atom, group}
+use Rattle.regress_syntax.specs.Syntax as Syntax
+use Rattle.regress_syntax.specs.Syntax.{Name, is_named, Atom, literal, dot, anchor, boundary, class_set, string_property, back_reference, Group, grouping, modified, capture, look, Pattern, Terms, Item, one, either, no_terms, more_terms, atom, group}
 use Rattle.regress_syntax.specs.Rows.{Context}
 use Rattle.regress_syntax.specs.Grammar.{IsPattern}
 
@@ -18,6 +19,8 @@ pub data Mark : Type 0 where
   closes : Mark
   -- `|`
   next : Mark
+  -- a class in which so many levels of classes lie
+  nests : (levels : ℕ) → Mark
 
 -- ---- by the syntax tree
 
@@ -26,6 +29,18 @@ mark_of_group grouping = opens
 mark_of_group (modified change) = opens
 mark_of_group (capture name) = captures name
 mark_of_group (look negate direction) = opens
+
+-- only a class with the flag v tells how deep it is
+abbrev pub marks_of_atom : Atom → List Mark
+marks_of_atom (literal flags c) = []
+marks_of_atom (dot flags) = []
+marks_of_atom (anchor flags kind) = []
+marks_of_atom (boundary flags inverted) = []
+marks_of_atom (Syntax.class_escape flags kind negated) = []
+marks_of_atom (Syntax.class flags inverted members) = []
+marks_of_atom (class_set flags negated value) = nests value.levels ∷ []
+marks_of_atom (string_property flags written) = []
+marks_of_atom (back_reference flags to) = []
 
 abbrev mutual
   pub marks_of : Pattern → List Mark
@@ -37,17 +52,18 @@ abbrev mutual
   marks_of_terms (more_terms x q xs) = marks_of_item x ++ marks_of_terms xs
 
   pub marks_of_item : Item → List Mark
-  marks_of_item (atom a) = []
+  marks_of_item (atom a) = marks_of_atom a
   marks_of_item (group kind p) = mark_of_group kind ∷ marks_of p ++ closes ∷ []
 
 -- ---- by the code points
 
--- what a scan stands in: plain text, a class, or behind the backslash of an escape in one of these
+-- What a scan stands in: plain text, a class, or behind the backslash of an escape in one of these. In a class it knows how
+-- many more are open inside the outermost, and how many were at most.
 pub data Mode : Type 0 where
   plain : Mode
   escape : Mode
-  class : Mode
-  class_escape : Mode
+  class : (depth deepest : ℕ) → Mode
+  class_escape : (depth deepest : ℕ) → Mode
 
 -- behind a parenthesis that opens: a capture group has no `?`, or a name
 abbrev pub opened_at : Table → Source → Mark
@@ -56,28 +72,35 @@ opened_at table t =
     then elim (group_name_at table (drop 1 t)) [ None ↦ opens | Some found ↦ captures (Some found.0) ]
     else captures None
 
--- the marks of a source, from a mode on
-unfoldable pub marks : Table → Mode → Source → List Mark
-marks table mode [] = []
-marks table escape (c ∷ t) = marks table plain t
-marks table class_escape (c ∷ t) = marks table class t
-marks table class (c ∷ t) =
-    if c == 92 then marks table class_escape t
-    else if c == 93 then marks table plain t
-    else marks table class t
-marks table plain (c ∷ t) =
-    if c == 92 then marks table escape t
-    else if c == 91 then marks table class t
-    else if c == opening then opened_at table t ∷ marks table plain t
-    else if c == closing then closes ∷ marks table plain t
-    else if c == bar then next ∷ marks table plain t
-    else marks table plain t
+-- the mark of a class, which only the flag v asks for
+abbrev pub closed_class : (sets : Bool) → (deepest : ℕ) → List Mark
+closed_class sets deepest = if sets then nests deepest ∷ [] else []
+
+-- the marks of a source, from a mode on; `sets` is the flag v, with which classes nest
+unfoldable pub marks : (sets : Bool) → Table → Mode → Source → List Mark
+marks sets table mode [] = []
+marks sets table escape (c ∷ t) = marks sets table plain t
+marks sets table (class_escape depth deepest) (c ∷ t) = marks sets table (class depth deepest) t
+marks sets table (class depth deepest) (c ∷ t) =
+    if c == 92 then marks sets table (class_escape depth deepest) t
+    else if c == 91 && sets then marks sets table (class (depth + 1) (max deepest (depth + 1))) t
+    else if c == 93 && depth == 0 then closed_class sets deepest ++ marks sets table plain t
+    else if c == 93 then marks sets table (class (depth - 1) deepest) t
+    else marks sets table (class depth deepest) t
+marks sets table plain (c ∷ t) =
+    if c == 92 then marks sets table escape t
+    else if c == 91 then marks sets table (class 0 0) t
+    else if c == opening then opened_at table t ∷ marks sets table plain t
+    else if c == closing then closes ∷ marks sets table plain t
+    else if c == bar then next ∷ marks sets table plain t
+    else marks sets table plain t
 
 -- What a scan is good for: whatever the rows were told of groups and names, a syntax tree that the grammar derives has
 -- the source's marks.
-abbrev pub GivesMarks : Table → Source → Type 0
-GivesMarks table t =
-    (ctx : Context) (p : Pattern) → ctx.setting.table ≡ table → IsPattern ctx p t [] → marks_of p ≡ marks table plain t
+abbrev pub GivesMarks : (sets : Bool) → Table → Source → Type 0
+GivesMarks sets table t =
+    (ctx : Context) (p : Pattern) → ctx.setting.flags.unicode_sets ≡ sets → ctx.setting.table ≡ table → IsPattern ctx p t [] →
+    marks_of p ≡ marks sets table plain t
 
 -- ---- what the marks say
 
@@ -88,6 +111,7 @@ named_by (opens ∷ ms) = named_by ms
 named_by (captures name ∷ ms) = name ∷ named_by ms
 named_by (closes ∷ ms) = named_by ms
 named_by (next ∷ ms) = named_by ms
+named_by (nests levels ∷ ms) = named_by ms
 
 -- how many levels are open at most, where so many are open before; the pattern's own is never closed
 abbrev pub deepest : ℕ → List Mark → ℕ
@@ -96,6 +120,7 @@ deepest n (opens ∷ ms) = max n (deepest (n + 1) ms)
 deepest n (captures name ∷ ms) = max n (deepest (n + 1) ms)
 deepest n (closes ∷ ms) = max n (deepest (max 1 (n - 1)) ms)
 deepest n (next ∷ ms) = max n (deepest n ms)
+deepest n (nests levels ∷ ms) = max (n + levels) (deepest n ms)
 
 -- The path of a place: for each level open there, the number of the alternative in which it stands, the innermost first.
 abbrev pub Path : Type 0
@@ -124,6 +149,7 @@ placed_by path (opens ∷ ms) = placed_by (0 ∷ path) ms
 placed_by path (captures name ∷ ms) = record { path = path; name = name } ∷ placed_by (0 ∷ path) ms
 placed_by path (closes ∷ ms) = placed_by (outside path) ms
 placed_by path (next ∷ ms) = placed_by (next_alternative path) ms
+placed_by path (nests levels ∷ ms) = placed_by path ms
 
 -- the path of a whole pattern: one level, its first alternative
 abbrev pub at_the_start : Path

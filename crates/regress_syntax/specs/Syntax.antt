@@ -7,6 +7,7 @@ use Rattle.regress_base.specs.declared.types.Flags.{Flags}
 use Rattle.regress_tree.specs.declared.ir.node.AnchorType.{AnchorType}
 use Rattle.regress_tree.specs.declared.ir.node.Quantifier.{Quantifier}
 use Rattle.regress_tree.specs.Reading.{Direction}
+use Rattle.regress_syntax.specs.ClassSets.{Value}
 use Rattle.regress_syntax.specs.Modifiers.{Change}
 
 -- a name, by its characters
@@ -31,8 +32,12 @@ pub data Atom : Type 0 where
   boundary : (flags : Flags) (inverted : Bool) → Atom
   -- a class by an escape, or the complement of one
   class_escape : (flags : Flags) (kind : CharacterClassType) (negated : Bool) → Atom
-  -- what stands between brackets, of which some may overlap
+  -- What stands between brackets, of which some may overlap. A property of code points is one too.
   class : (flags : Flags) (inverted : Bool) (members : List Bounds) → Atom
+  -- with the flag v
+  class_set : (flags : Flags) (negated : Bool) (value : Value) → Atom
+  -- a property of strings
+  string_property : (flags : Flags) (written : List (List ℕ)) → Atom
   back_reference : (flags : Flags) (to : Target) → Atom
 
 -- What a parenthesis opens. A group has no number: that counts the parentheses opened before it.
@@ -124,7 +129,20 @@ abbrev mutual
   names_of_item (atom a) = []
   names_of_item (group kind p) = names_of_group kind ++ names p
 
--- how many levels there are: the pattern is one, and so is each group around what lies deepest
+-- how many levels of classes lie in an item
+abbrev pub levels_of_atom : Atom → ℕ
+levels_of_atom (literal flags c) = 0
+levels_of_atom (dot flags) = 0
+levels_of_atom (anchor flags kind) = 0
+levels_of_atom (boundary flags inverted) = 0
+levels_of_atom (class_escape flags kind negated) = 0
+levels_of_atom (class flags inverted members) = 0
+levels_of_atom (class_set flags negated value) = value.levels
+levels_of_atom (string_property flags written) = 0
+levels_of_atom (back_reference flags to) = 0
+
+-- How many levels there are: the pattern is one, and so is each group around what lies deepest, and each class around that
+-- but the outermost.
 abbrev mutual
   pub levels : Pattern → ℕ
   levels (one ts) = 1 + levels_of_terms ts
@@ -135,5 +153,5 @@ abbrev mutual
   levels_of_terms (more_terms x q xs) = max (levels_of_item x) (levels_of_terms xs)
 
   pub levels_of_item : Item → ℕ
-  levels_of_item (atom a) = 0
+  levels_of_item (atom a) = levels_of_atom a
   levels_of_item (group kind p) = levels p

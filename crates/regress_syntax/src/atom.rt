@@ -1,26 +1,29 @@
 //! Items that hold no pattern.
-ghost use Rattle.std.specs.Prelude.{◌≡◌, ◌∷◌, true, drop, is_some, option_map};
+ghost use Rattle.std.specs.Prelude.{◌≡◌, ◌∷◌, true, drop, is_some, option_map, IfOk};
 ghost use Rattle.regress_syntax.specs.Digits.{is_between};
 ghost use Rattle.regress_syntax.specs.Escapes.{begins_with_letter, begins_with_digit};
 ghost use Rattle.regress_syntax.specs.Quantifiers.{quantifier_at};
 ghost use Rattle.regress_syntax.specs.Reads.{ReadsAs};
-ghost use Rattle.regress_syntax.specs.Rows.{atom_by, brace_by, is_lone_backslash, escaped_at, group_number_at, numbered_at, named_at, character_at, is_unserved};
+ghost use Rattle.regress_syntax.specs.Rows.{atom_by, brace_by, is_lone_backslash, escaped_at, group_number_at, numbered_at, named_at, character_at, brackets_at, property_atom_at};
 ghost use Rattle.regress_syntax.specs.Source.{IsCodePoint};
-ghost use Rattle.regress_syntax.specs.Views.{source, context_of, IsAtom};
+ghost use Rattle.regress_syntax.specs.Views.{source, context_of, strings_of, IsAtom};
 
 use crate::class::read_class;
 use crate::class_escape::class_letter;
+use crate::class_sets::{Value, read_class_set};
 use crate::cursor::{Cursor, is_plain};
 use crate::digits::{Read, is_letter, read_count};
 use crate::escape::{escape_fault, read_escape};
 use crate::fault::{
     Error, INCOMPLETE_ESCAPE, INVALID_ATOM, INVALID_BRACED_QUANTIFIER, INVALID_ESCAPE,
-    INVALID_REFERENCE, ParseFault, UNKNOWN_NAME, UNSUPPORTED, syntax,
+    INVALID_REFERENCE, ParseFault, UNKNOWN_NAME, syntax,
 };
 use crate::names::read_group_name;
+use crate::property::{Property, read_property};
 use crate::scope::Scope;
 use regress_base::charclasses::CharacterClassType;
 use regress_base::codepointset::CodePointSet;
+use regress_base::types::MAX_NESTING_DEPTH;
 use regress_tree::ir::AnchorType;
 use std::alloc::{AllocError, Global};
 
@@ -47,6 +50,13 @@ pub enum Atom {
         inverted: bool,
         set: CodePointSet,
     },
+    /// A class with the flag v.
+    ClassSet {
+        negated: bool,
+        value: Value,
+    },
+    /// A property of strings, in the table's order.
+    Strings(Vec<Vec<u32>>),
     /// References to these groups, at least one, by their numbers from 1: tried one after the other.
     BackReferences(Vec<u32>),
 }
@@ -71,11 +81,7 @@ pub(crate) fn read_atom(
     } else if c == u32::from('\\') {
         read_escaped(cursor, scope)
     } else if c == u32::from('[') {
-        let class = read_class(cursor, scope.flags.unicode)?;
-        Ok(Atom::Class {
-            inverted: class.inverted,
-            set: class.set,
-        })
+        read_brackets(cursor, scope)
     } else if c == u32::from('{') || c == u32::from(']') || c == u32::from('}') {
         read_brace(cursor, scope, c, begins_quantifier)
     } else if is_plain(c) {
@@ -83,6 +89,29 @@ pub(crate) fn read_atom(
     } else {
         Err(syntax(cursor.alloc, INVALID_ATOM))
     }
+}
+
+/// Reads a class, behind its `[`.
+fn read_brackets(cursor: &mut Cursor, scope: &Scope) -> Result<Atom, ParseFault>
+    ensures { ReadsAs (IsAtom (context_of scope.now)) (source cursor.new) result (brackets_at (context_of scope.now) (source cursor.old)) }
+{
+    if scope.flags.unicode_sets {
+        let class = read_class_set(
+            cursor,
+            scope.tables,
+            scope.flags.unicode,
+            MAX_NESTING_DEPTH,
+        )?;
+        return Ok(Atom::ClassSet {
+            negated: class.negated,
+            value: class.value,
+        });
+    }
+    let class = read_class(cursor, scope.tables, scope.flags.unicode)?;
+    Ok(Atom::Class {
+        inverted: class.inverted,
+        set: class.set,
+    })
 }
 
 /// A brace or `]` that stands for itself.
@@ -125,6 +154,11 @@ fn read_escaped(cursor: &mut Cursor, scope: &Scope) -> Result<Atom, ParseFault>
     } else if is_lone_backslash(c, rest, scope.flags.unicode) {
         // The `c` is an item of its own.
         Ok(Atom::Literal(u32::from('\\')))
+    } else if (c == u32::from('p') || c == u32::from('P'))
+        && (scope.flags.unicode || scope.flags.unicode_sets)
+    {
+        cursor.rest = rest;
+        read_property_atom(cursor, scope, c == u32::from('P'))
     } else if is_between_one_and_nine(c) {
         read_numbered(cursor, scope, c)
     } else if c == u32::from('k') && (scope.flags.unicode || scope.groups.has_names()) {
@@ -226,9 +260,6 @@ fn read_character(cursor: &mut Cursor, scope: &Scope, c: u32) -> Result<Atom, Pa
     ensures { ReadsAs (IsAtom (context_of scope.now)) (source cursor.new) result
         (character_at (context_of scope.now) c (drop 1 (source cursor.old))) }
 {
-    if is_unserved(c, scope.flags.unicode) {
-        return Err(syntax(cursor.alloc, UNSUPPORTED));
-    }
     match read_escape(cursor.rest, scope.flags.unicode) {
         Some((found, rest)) => {
             cursor.rest = rest;
@@ -238,9 +269,45 @@ fn read_character(cursor: &mut Cursor, scope: &Scope, c: u32) -> Result<Atom, Pa
     }
 }
 
-/// Whether the escape is, with the flag u, a property.
-fn is_unserved(c: u32, unicode: bool) -> bool
-    ensures { result ≡ is_unserved unicode c }
+/// Reads a property, behind `\p` or `\P`.
+fn read_property_atom(cursor: &mut Cursor, scope: &Scope, negated: bool) -> Result<Atom, ParseFault>
+    ensures { ReadsAs (IsAtom (context_of scope.now)) (source cursor.new) result
+        (property_atom_at (context_of scope.now) negated (source cursor.old)) }
 {
-    unicode && (c == u32::from('p') || c == u32::from('P'))
+    match read_property(cursor, scope.flags.unicode_sets, scope.tables)? {
+        Property::Points(set) => Ok(point_property(cursor.alloc, set, negated, scope.flags.icase)?),
+        Property::Strings(_) if negated => Err(syntax(cursor.alloc, INVALID_ESCAPE)),
+        Property::Strings(strings) => Ok(Atom::Strings(copy_strings(cursor.alloc, strings)?)),
+    }
+}
+
+/// A property of code points. Its complement is taken here where the flag i closes it.
+fn point_property(
+    alloc: Global,
+    set: &CodePointSet,
+    negated: bool,
+    icase: bool,
+) -> Result<Atom, AllocError>
+{
+    if negated && icase {
+        return Ok(Atom::Class {
+            inverted: false,
+            set: set.inverted()?,
+        });
+    }
+    Ok(Atom::Class {
+        inverted: negated,
+        set: set.try_clone(alloc)?,
+    })
+}
+
+/// The same strings, in memory of their own.
+fn copy_strings(alloc: Global, strings: &[Vec<u32>]) -> Result<Vec<Vec<u32>>, AllocError>
+    ensures { IfOk result (λ copies. strings_of copies.items ≡ strings_of strings.now) }
+{
+    let mut copies = Vec::with_capacity(alloc, strings.len())?;
+    for string in strings {
+        copies.push(string.clone()?)?;
+    }
+    Ok(copies)
 }

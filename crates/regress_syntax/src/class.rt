@@ -1,7 +1,8 @@
 //! What stands between brackets, without the flag v.
 ghost use Rattle.std.specs.Prelude.{◌≡◌, ◌+◌, drop, if◌then◌else◌, Some, None, List, length, OnOk};
 ghost use Rattle.regress_base.specs.Intervals.{Bounds};
-ghost use Rattle.regress_syntax.specs.ClassRows.{atom_members, begins_range, range_of, range_at, class_part_at, class_parts_by, class_at};
+ghost use Rattle.regress_syntax.specs.ClassRows.{complement_if, atom_members, begins_range, range_of, range_at, class_part_at, class_parts_by, class_at};
+ghost use Rattle.regress_tree.specs.TableOf.{table_of};
 ghost use Rattle.regress_syntax.specs.Fault.{RefusedOnlyIf};
 ghost use Rattle.regress_syntax.specs.Reads.{ReadsAs};
 ghost use Rattle.regress_syntax.specs.Views.{source, class_atom_of, IsClassAtomInRange, HasMembers, Adds, IsClassRead};
@@ -11,6 +12,7 @@ use crate::class_escape::{add_intervals, class_members, set_is_canonical};
 use crate::cursor::Cursor;
 use crate::fault::{INVALID_RANGE, ParseFault, REVERSED_RANGE, syntax};
 use regress_base::codepointset::{CodePointSet, Interval};
+use regress_tree::unicode::Tables;
 use std::alloc::{AllocError, Global};
 
 #[cfg(test)]
@@ -24,22 +26,22 @@ pub(crate) struct Class {
 }
 
 /// Reads a class, behind its `[` (ECMA-262, CharacterClass with annex B).
-pub(crate) fn read_class(cursor: &mut Cursor, unicode: bool) -> Result<Class, ParseFault>
-    ensures { ReadsAs IsClassRead (source cursor.new) result (class_at unicode (source cursor.old)) }
+pub(crate) fn read_class(cursor: &mut Cursor, tables: &Tables, unicode: bool) -> Result<Class, ParseFault>
+    ensures { ReadsAs IsClassRead (source cursor.new) result (class_at (table_of tables.now) unicode (source cursor.old)) }
 {
     let inverted = cursor.try_consume('^');
-    let set = read_parts(cursor, unicode)?;
+    let set = read_parts(cursor, tables, unicode)?;
     Ok(Class { inverted, set })
 }
 
 /// Reads the parts of a class, and the `]` behind them.
-fn read_parts(cursor: &mut Cursor, unicode: bool) -> Result<CodePointSet, ParseFault>
+fn read_parts(cursor: &mut Cursor, tables: &Tables, unicode: bool) -> Result<CodePointSet, ParseFault>
     ensures { let t = source cursor.old in
-        ReadsAs (λ set members. HasMembers members set) (source cursor.new) result (class_parts_by (length t + 1) unicode t) }
+        ReadsAs (λ set members. HasMembers members set) (source cursor.new) result (class_parts_by (table_of tables.now) unicode (length t + 1) t) }
 {
     let mut set = CodePointSet::new(cursor.alloc);
     while !cursor.is_at(']') {
-        read_part(cursor, unicode, &mut set)?;
+        read_part(cursor, tables, unicode, &mut set)?;
     }
     cursor.try_consume(']');
     set_is_canonical(&set);
@@ -47,12 +49,12 @@ fn read_parts(cursor: &mut Cursor, unicode: bool) -> Result<CodePointSet, ParseF
 }
 
 /// Reads an atom or a range, and adds what it holds.
-fn read_part(cursor: &mut Cursor, unicode: bool, set: &mut CodePointSet) -> Result<(), ParseFault>
-    ensures { ReadsAs (λ _ members. Adds members set.old set.new) (source cursor.new) result (class_part_at unicode (source cursor.old)) }
+fn read_part(cursor: &mut Cursor, tables: &Tables, unicode: bool, set: &mut CodePointSet) -> Result<(), ParseFault>
+    ensures { ReadsAs (λ _ members. Adds members set.old set.new) (source cursor.new) result (class_part_at (table_of tables.now) unicode (source cursor.old)) }
 {
-    let first = read_class_atom(cursor, unicode)?;
+    let first = read_class_atom(cursor, tables, unicode)?;
     if try_consume_hyphen(cursor) {
-        read_range(cursor, unicode, first, set)
+        read_range(cursor, tables, unicode, first, set)
     } else {
         add_atom(set, cursor.alloc, first)?;
         Ok(())
@@ -82,14 +84,15 @@ fn begins_range(text: &[u32]) -> bool
 /// Reads the last atom of a range, behind its hyphen, and adds what the range holds.
 fn read_range(
     cursor: &mut Cursor,
+    tables: &Tables,
     unicode: bool,
     first: ClassAtom,
     set: &mut CodePointSet,
 ) -> Result<(), ParseFault>
     requires { IsClassAtomInRange first }
-    ensures { ReadsAs (λ _ members. Adds members set.old set.new) (source cursor.new) result (range_at unicode (class_atom_of first) (source cursor.old)) }
+    ensures { ReadsAs (λ _ members. Adds members set.old set.new) (source cursor.new) result (range_at (table_of tables.now) unicode (class_atom_of first.entry) (source cursor.old)) }
 {
-    let last = read_class_atom(cursor, unicode)?;
+    let last = read_class_atom(cursor, tables, unicode)?;
     add_range(set, cursor.alloc, unicode, first, last)
 }
 
@@ -104,8 +107,8 @@ fn add_range(
     requires first_in_range { IsClassAtomInRange first }
     requires last_in_range { IsClassAtomInRange last }
     ensures ok { OnOk result ((members : List Bounds)
-        × (range_of unicode (class_atom_of first) (class_atom_of last) ≡ Some members) × Adds members set.old set.new) }
-    ensures err { RefusedOnlyIf result (range_of unicode (class_atom_of first) (class_atom_of last) ≡ None) }
+        × (range_of unicode (class_atom_of first.entry) (class_atom_of last.entry) ≡ Some members) × Adds members set.old set.new) }
+    ensures err { RefusedOnlyIf result (range_of unicode (class_atom_of first.entry) (class_atom_of last.entry) ≡ None) }
 {
     if let (ClassAtom::Point(a), ClassAtom::Point(b)) = (first, last) {
         if a > b {
@@ -126,7 +129,7 @@ fn add_range(
 /// Adds what an atom holds.
 fn add_atom(set: &mut CodePointSet, alloc: Global, atom: ClassAtom) -> Result<(), AllocError>
     requires { IsClassAtomInRange atom }
-    ensures { OnOk result (Adds (atom_members (class_atom_of atom)) set.old set.new) }
+    ensures { OnOk result (Adds (atom_members (class_atom_of atom.entry)) set.old set.new) }
 {
     match atom {
         ClassAtom::Point(c) => set.add(Interval::new(c, c)),
@@ -134,5 +137,21 @@ fn add_atom(set: &mut CodePointSet, alloc: Global, atom: ClassAtom) -> Result<()
             let members = class_members(alloc, kind, negated)?;
             add_intervals(set, members.intervals())
         }
+        ClassAtom::Property { set: members, negated } => add_members(set, members, negated),
+    }
+}
+
+/// Adds the members, or those of the complement.
+fn add_members(
+    set: &mut CodePointSet,
+    members: &CodePointSet,
+    negated: bool,
+) -> Result<(), AllocError>
+    ensures { OnOk result (Adds (complement_if negated members.now) set.old set.new) }
+{
+    if negated {
+        add_intervals(set, members.inverted()?.intervals())
+    } else {
+        add_intervals(set, members.intervals())
     }
 }

@@ -1,20 +1,25 @@
 //! Atoms of a class.
-ghost use Rattle.std.specs.Prelude.{◌≡◌, ◌∷◌, Some, option_map, All, IfOk, IfSome};
-ghost use Rattle.regress_syntax.specs.ClassRows.{class_atom_at, class_escape_at, class_control_at};
+ghost use Rattle.std.specs.Prelude.{◌≡◌, ◌∷◌, Some, IfOk};
+ghost use Rattle.regress_syntax.specs.ClassRows.{class_atom_at, class_escape_at, class_control_at, class_property_at};
 ghost use Rattle.regress_syntax.specs.Reads.{Reads};
-ghost use Rattle.regress_syntax.specs.Source.{IsCodePoint};
 ghost use Rattle.regress_syntax.specs.Views.{source, class_atom_of, IsClassAtomInRange};
+ghost use Rattle.regress_tree.specs.TableOf.{table_of};
 
 use crate::class_escape::class_letter;
 use crate::cursor::Cursor;
-use crate::digits::{Read, control, is_decimal, is_letter};
+use crate::digits::{control, is_decimal, is_letter};
 use crate::escape::{escape_fault, read_escape};
-use crate::fault::{ParseFault, UNBALANCED_BRACKET, UNSUPPORTED, UNTERMINATED_ESCAPE, syntax};
+use crate::fault::{
+    INVALID_PROPERTY, ParseFault, UNBALANCED_BRACKET, UNTERMINATED_ESCAPE, syntax,
+};
+use crate::property::{Property, read_property};
 use regress_base::charclasses::CharacterClassType;
+use regress_base::codepointset::CodePointSet;
+use regress_tree::unicode::Tables;
 
 /// An atom of a class.
 #[derive(Clone, Copy)]
-pub(crate) enum ClassAtom {
+pub(crate) enum ClassAtom<'a> {
     /// A code point.
     Point(u32),
     /// A class by an escape, or its complement.
@@ -22,57 +27,85 @@ pub(crate) enum ClassAtom {
         kind: CharacterClassType,
         negated: bool,
     },
+    /// A property of code points, or its complement.
+    Property {
+        set: &'a CodePointSet,
+        negated: bool,
+    },
 }
 
 /// Reads an atom of a class (ECMA-262, ClassAtom with annex B).
-pub(crate) fn read_class_atom(cursor: &mut Cursor, unicode: bool) -> Result<ClassAtom, ParseFault>
-    ensures value { Reads class_atom_of (source cursor.new) result (class_atom_at unicode (source cursor.old)) }
+pub(crate) fn read_class_atom<'a>(
+    cursor: &mut Cursor,
+    tables: &'a Tables,
+    unicode: bool,
+) -> Result<ClassAtom<'a>, ParseFault>
+    ensures value { Reads class_atom_of (source cursor.new) result (class_atom_at (table_of tables.now) unicode (source cursor.old)) }
     ensures in_range { IfOk result IsClassAtomInRange }
 {
     match cursor.next() {
-        Some(c) if c == u32::from('\\') => read_escaped(cursor, unicode),
+        Some(c) if c == u32::from('\\') => read_escaped(cursor, tables, unicode),
         Some(c) if c != u32::from(']') => Ok(ClassAtom::Point(c)),
         _ => Err(syntax(cursor.alloc, UNBALANCED_BRACKET)),
     }
 }
 
-/// Reads an escape, behind its backslash.
-fn read_escaped(cursor: &mut Cursor, unicode: bool) -> Result<ClassAtom, ParseFault>
-    ensures value { Reads class_atom_of (source cursor.new) result (class_escape_at unicode (source cursor.old)) }
+/// Reads an escape, behind its backslash (ECMA-262, ClassEscape with annex B).
+fn read_escaped<'a>(
+    cursor: &mut Cursor,
+    tables: &'a Tables,
+    unicode: bool,
+) -> Result<ClassAtom<'a>, ParseFault>
+    ensures value { Reads class_atom_of (source cursor.new) result (class_escape_at (table_of tables.now) unicode (source cursor.old)) }
     ensures in_range { IfOk result IsClassAtomInRange }
 {
-    let Some((atom, rest)) = class_escape(cursor.rest, unicode) else {
-        return Err(syntax(cursor.alloc, class_escape_fault(cursor.rest)));
+    let Some((c, rest)) = cursor.rest.split_first() else {
+        return Err(syntax(cursor.alloc, UNTERMINATED_ESCAPE));
     };
-    cursor.rest = rest;
-    Ok(atom)
+    let c = *c;
+    if let Some((kind, negated)) = class_letter(c) {
+        cursor.rest = rest;
+        Ok(ClassAtom::Class { kind, negated })
+    } else if c == u32::from('b') {
+        cursor.rest = rest;
+        Ok(ClassAtom::Point(8))
+    } else if c == u32::from('-') && unicode {
+        cursor.rest = rest;
+        Ok(ClassAtom::Point(c))
+    } else if c == u32::from('c') && !unicode {
+        let (atom, behind) = class_control(cursor.rest, rest);
+        cursor.rest = behind;
+        Ok(atom)
+    } else if (c == u32::from('p') || c == u32::from('P')) && unicode {
+        cursor.rest = rest;
+        read_class_property(cursor, tables, c == u32::from('P'))
+    } else {
+        let Some((point, behind)) = read_escape(cursor.rest, unicode) else {
+            return Err(syntax(cursor.alloc, escape_fault(cursor.rest)));
+        };
+        cursor.rest = behind;
+        Ok(ClassAtom::Point(point))
+    }
 }
 
-/// What an escape stands for in a class, behind its backslash (ECMA-262, ClassEscape with annex B).
-fn class_escape<'a>(text: &'a [u32], unicode: bool) -> Read<'a, ClassAtom>
-    ensures value { option_map (λ found. (class_atom_of found.0, found.1.now)) result ≡ class_escape_at unicode text.now }
-    ensures in_range { All IsCodePoint text.now → IfSome result (λ found. IsClassAtomInRange found.0) }
+/// Reads a property of code points, behind `\p` or `\P`.
+fn read_class_property<'a>(
+    cursor: &mut Cursor,
+    tables: &'a Tables,
+    negated: bool,
+) -> Result<ClassAtom<'a>, ParseFault>
+    ensures value { Reads class_atom_of (source cursor.new) result
+        (class_property_at (table_of tables.now) negated (source cursor.old)) }
+    ensures in_range { IfOk result IsClassAtomInRange }
 {
-    let (c, rest) = text.split_first()?;
-    if let Some((kind, negated)) = class_letter(*c) {
-        return Some((ClassAtom::Class { kind, negated }, rest));
-    }
-    if *c == u32::from('b') {
-        Some((ClassAtom::Point(8), rest))
-    } else if *c == u32::from('-') && unicode {
-        Some((ClassAtom::Point(*c), rest))
-    } else if *c == u32::from('c') && !unicode {
-        Some(class_control(text, rest))
-    } else if (*c == u32::from('p') || *c == u32::from('P')) && unicode {
-        None
-    } else {
-        let (point, behind) = read_escape(text, unicode)?;
-        Some((ClassAtom::Point(point), behind))
+    match read_property(cursor, false, tables)? {
+        Property::Points(set) => Ok(ClassAtom::Property { set, negated }),
+        Property::Strings(_) => Err(syntax(cursor.alloc, INVALID_PROPERTY)),
     }
 }
 
 /// A letter, a digit or `_` behind `\c`, for its low five bits; else the backslash alone.
-fn class_control<'a>(text: &'a [u32], rest: &'a [u32]) -> (ClassAtom, &'a [u32])
+fn class_control<'a>(text: &'a [u32], rest: &'a [u32]) -> (ClassAtom<'static>, &'a [u32])
     requires { text.now ≡ 99 ∷ rest.now }
     ensures value { Some (class_atom_of result.0, result.1.now) ≡ class_control_at rest.now }
     ensures in_range { IsClassAtomInRange result.0 }
@@ -82,14 +115,5 @@ fn class_control<'a>(text: &'a [u32], rest: &'a [u32]) -> (ClassAtom, &'a [u32])
             (ClassAtom::Point(control(*d)), behind)
         }
         _ => (ClassAtom::Point(u32::from('\\')), text),
-    }
-}
-
-/// Why there is no such escape.
-fn class_escape_fault(text: &[u32]) -> &'static str {
-    match text.first() {
-        None => UNTERMINATED_ESCAPE,
-        Some(c) if *c == u32::from('p') || *c == u32::from('P') => UNSUPPORTED,
-        Some(_) => escape_fault(text),
     }
 }

@@ -51,9 +51,6 @@ impl<T: Drop> From<AllocFailed<T>> for ParseFault {
     }
 }
 
-/// What needs a row or a flag that isn't served.
-pub const UNSUPPORTED: &str = "Unsupported syntax";
-
 /// A parenthesis too many, or too few.
 pub const UNBALANCED: &str = "Unbalanced parenthesis";
 
@@ -99,6 +96,42 @@ pub const REVERSED_RANGE: &str =
 
 /// With the flag u, a class as an end of a range.
 pub const INVALID_RANGE: &str = "Invalid character range";
+
+/// With the flag v, no `]`, or half an operator.
+pub const UNBALANCED_SET: &str = "Unbalanced class set bracket";
+
+/// With the flag v, a range that ends before it begins, or between other things than characters.
+pub const INVALID_SET_RANGE: &str = "Invalid class set range";
+
+/// What stands behind an operand of `&&` and is neither that nor `]`.
+pub const UNEXPECTED_IN_INTERSECTION: &str = "Unexpected character in class set intersection";
+
+/// What stands behind an operand of `--` and is neither that nor `]`.
+pub const UNEXPECTED_IN_SUBTRACTION: &str = "Unexpected character in class set subtraction";
+
+/// With the flag v, the end where an operand is due.
+pub const EMPTY_OPERAND: &str = "Empty class set operand";
+
+/// With the flag v, a backslash at the end, in a class.
+pub const INCOMPLETE_SET_ESCAPE: &str = "Incomplete class set escape";
+
+/// `\q` that no brace follows.
+pub const STRINGS_WITHOUT_BRACE: &str = "Invalid class set escape: expected {";
+
+/// `\q{` that isn't closed.
+pub const UNBALANCED_STRINGS: &str = "Unbalanced class set string disjunction";
+
+/// With the flag v, what doesn't stand for itself in a class.
+pub const INVALID_SET_CHARACTER: &str = "Invalid class set character";
+
+/// With the flag v, a negated class that holds strings.
+pub const INVALID_NEGATED_CLASS: &str = "Invalid negated class";
+
+/// `\p` or `\P` that no brace follows.
+pub const PROPERTY_WITHOUT_BRACE: &str = "Invalid character at property escape start";
+
+/// A property that isn't closed, or that the table doesn't have.
+pub const INVALID_PROPERTY: &str = "Invalid property name";
 
 /// `(?` at the end, or `(?<` that is no lookbehind and has no name.
 pub const INVALID_GROUP_NAME: &str = "Invalid token at named capture group identifier";

@@ -20,16 +20,22 @@ use regress_tree::unicode::Tables;
 use scanner::Scanner;
 use std::alloc::Global;
 
-/// Finds the capture groups of a pattern and their names, without parsing it. The fault comes where two groups of one
-/// name conflict, or where more levels are open than `MAX_NESTING_DEPTH`.
-pub fn scan(alloc: Global, pattern: &[u32], tables: &Tables) -> Result<Groups, ParseFault>
-    ensures names { IfOk result (λ groups. names_in groups ≡ named_by (marks (table_of tables.now) plain pattern.now)) }
+/// Finds the capture groups of a pattern and their names, without parsing it; `sets` is the flag v, with which classes
+/// lie in one another. The fault comes where two groups of one name conflict, or where there are more levels than
+/// `MAX_NESTING_DEPTH`.
+pub fn scan(
+    alloc: Global,
+    pattern: &[u32],
+    sets: bool,
+    tables: &Tables,
+) -> Result<Groups, ParseFault>
+    ensures names { IfOk result (λ groups. names_in groups ≡ named_by (marks sets (table_of tables.now) plain pattern.now)) }
     ensures count { IfOk result (λ groups. groups.count ≡ min (length (names_in groups)) max_capture_groups) }
-    ensures apart { IfOk result (λ groups. IsTrue (are_apart (placed_by at_the_start (marks (table_of tables.now) plain pattern.now)))) }
-    ensures refused { RefusedOnlyIf result (IsRefusedByMarks (marks (table_of tables.now) plain pattern.now)) }
-    ensures whole { GivesMarks (table_of tables.now) pattern.now }
+    ensures apart { IfOk result (λ groups. IsTrue (are_apart (placed_by at_the_start (marks sets (table_of tables.now) plain pattern.now)))) }
+    ensures refused { RefusedOnlyIf result (IsRefusedByMarks (marks sets (table_of tables.now) plain pattern.now)) }
+    ensures whole { GivesMarks sets (table_of tables.now) pattern.now }
 {
-    let names = find_names(alloc, pattern, tables)?;
+    let names = find_names(alloc, pattern, sets, tables)?;
     Ok(Groups::new(alloc, names)?)
 }
 
@@ -37,20 +43,21 @@ pub fn scan(alloc: Global, pattern: &[u32], tables: &Tables) -> Result<Groups, P
 fn find_names(
     alloc: Global,
     pattern: &[u32],
+    sets: bool,
     tables: &Tables,
 ) -> Result<Vec<Option<Name>>, ParseFault>
-    ensures names { IfOk result (λ names. names_of names.items ≡ named_by (marks (table_of tables.now) plain pattern.now)) }
-    ensures apart { IfOk result (λ names. IsTrue (are_apart (placed_by at_the_start (marks (table_of tables.now) plain pattern.now)))) }
-    ensures refused { RefusedOnlyIf result (IsRefusedByMarks (marks (table_of tables.now) plain pattern.now)) }
+    ensures names { IfOk result (λ names. names_of names.items ≡ named_by (marks sets (table_of tables.now) plain pattern.now)) }
+    ensures apart { IfOk result (λ names. IsTrue (are_apart (placed_by at_the_start (marks sets (table_of tables.now) plain pattern.now)))) }
+    ensures refused { RefusedOnlyIf result (IsRefusedByMarks (marks sets (table_of tables.now) plain pattern.now)) }
 {
     let mut scanner = Scanner::new(alloc)?;
     let mut mode = Mode::Plain;
     let mut rest = pattern;
     while let Some((c, behind)) = rest.split_first() {
-        if let Some(mark) = read_mark(alloc, mode, *c, behind, tables)? {
+        if let Some(mark) = read_mark(alloc, mode, *c, behind, sets, tables)? {
             scanner.pass(mark)?;
         }
-        mode = mode.behind(*c);
+        mode = mode.behind(*c, sets);
         rest = behind;
     }
     scanner.finish()

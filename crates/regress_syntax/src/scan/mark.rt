@@ -14,8 +14,16 @@ use std::alloc::{AllocError, Global};
 pub(super) enum Mode {
     Plain,
     Escape,
-    Class,
-    ClassEscape,
+    Class {
+        /// How many classes are open inside the outermost.
+        depth: usize,
+        /// How many there were at most.
+        deepest: usize,
+    },
+    ClassEscape {
+        depth: usize,
+        deepest: usize,
+    },
 }
 
 /// A parenthesis or a bar.
@@ -28,26 +36,35 @@ pub(super) enum Mark {
     Closes,
     /// `|`
     Next,
+    /// A class in which so many levels of classes lie.
+    Nests(usize),
 }
 
 impl Mode {
     /// The mode behind a code point.
-    pub(super) fn behind(self, c: u32) -> Mode
-        ensures { mode_of result ≡ mode_behind (mode_of self) c }
+    pub(super) fn behind(self, c: u32, sets: bool) -> Mode
+        ensures { mode_of result ≡ mode_behind sets (mode_of self) c }
     {
-        match self {
-            Mode::Escape => Mode::Plain,
-            Mode::ClassEscape => Mode::Class,
-            Mode::Class => match char::from_u32(c) {
-                Some('\\') => Mode::ClassEscape,
-                Some(']') => Mode::Plain,
-                _ => Mode::Class,
+        match (self, char::from_u32(c)) {
+            (Mode::Escape, _) => Mode::Plain,
+            (Mode::ClassEscape { depth, deepest }, _) => Mode::Class { depth, deepest },
+            (Mode::Class { depth, deepest }, Some('\\')) => Mode::ClassEscape { depth, deepest },
+            (Mode::Class { depth, deepest }, Some('[')) if sets => Mode::Class {
+                depth: depth + 1,
+                deepest: deepest.max(depth + 1),
             },
-            Mode::Plain => match char::from_u32(c) {
-                Some('\\') => Mode::Escape,
-                Some('[') => Mode::Class,
-                _ => Mode::Plain,
+            (Mode::Class { depth: 0, .. }, Some(']')) => Mode::Plain,
+            (Mode::Class { depth, deepest }, Some(']')) => Mode::Class {
+                depth: depth - 1,
+                deepest,
             },
+            (Mode::Class { .. }, _) => self,
+            (Mode::Plain, Some('\\')) => Mode::Escape,
+            (Mode::Plain, Some('[')) => Mode::Class {
+                depth: 0,
+                deepest: 0,
+            },
+            (Mode::Plain, _) => Mode::Plain,
         }
     }
 }
@@ -58,14 +75,16 @@ pub(super) fn read_mark(
     mode: Mode,
     c: u32,
     behind: &[u32],
+    sets: bool,
     tables: &Tables,
 ) -> Result<Option<Mark>, AllocError>
-    ensures { IfOk result (λ mark. option_map mark_of mark ≡ mark_at (table_of tables.now) (mode_of mode) c behind.now) }
+    ensures { IfOk result (λ mark. option_map mark_of mark ≡ mark_at sets (table_of tables.now) (mode_of mode) c behind.now) }
 {
     Ok(match (mode, char::from_u32(c)) {
         (Mode::Plain, Some('(')) => Some(read_opening(alloc, behind, tables)?),
         (Mode::Plain, Some(')')) => Some(Mark::Closes),
         (Mode::Plain, Some('|')) => Some(Mark::Next),
+        (Mode::Class { depth: 0, deepest }, Some(']')) if sets => Some(Mark::Nests(deepest)),
         _ => None,
     })
 }

@@ -62,6 +62,7 @@ impl Scanner {
                 Ok(())
             }
             Mark::Next => Ok(next_alternative(&mut self.path)?),
+            Mark::Nests(levels) => self.hold(levels),
         }
     }
 
@@ -75,6 +76,16 @@ impl Scanner {
             return Err(syntax(self.alloc, TOO_DEEP));
         }
         self.path.push(0)?;
+        Ok(())
+    }
+
+    /// Holds a class in which so many levels lie.
+    fn hold(&self, levels: usize) -> Result<(), ParseFault>
+        ensures refused { RefusedOnlyIf result (max_nesting_depth < length (path_of self.now) + levels) }
+    {
+        if levels > MAX_NESTING_DEPTH as usize - self.path.len() {
+            return Err(syntax(self.alloc, TOO_DEEP));
+        }
         Ok(())
     }
 
