@@ -1,7 +1,6 @@
 -- Which patterns are accepted, and what it is for a tree to mean what its pattern does.
-use Rattle.std.specs.Prelude.{◌≡◌, ℕ, ◌≤◌, Bool, not, IsTrue, List, [], map, encode_utf8_all}
+use Rattle.std.specs.Prelude.{◌≡◌, ℕ, ◌≤◌, IsTrue, List, [], map, encode_utf8_all}
 use Rattle.regress_base.specs.Limits.{max_capture_groups, max_loops, max_nesting_depth}
-use Rattle.regress_base.specs.declared.types.Flags.{Flags}
 use Rattle.regress_tree.specs.Reading.{IsText, forwards}
 use Rattle.regress_tree.specs.Steps.{State, IsStateOf, byte_state}
 use Rattle.regress_tree.specs.Matching.{Setting, matches}
@@ -13,18 +12,13 @@ use Rattle.regress_syntax.specs.Scan.{has_apart_names}
 use Rattle.regress_syntax.specs.Rows.{Context}
 use Rattle.regress_syntax.specs.Grammar.{IsPattern}
 
--- The flag v, which asks for other classes, is not served yet.
-abbrev pub is_served : Flags → Bool
-is_served flags = not flags.unicode_sets
-
 -- the context of a whole pattern: its own groups and names
 abbrev pub own_context : Setting → Pattern → Context
 own_context setting p = record { setting = setting; groups = (counts p).groups; names = names p }
 
 -- the whole source is the pattern's, whose own groups and names are those that the rows look at
-pub record IsDerived (setting : Setting) (source : Source) (p : Pattern) : Type 0 where
-  pub served : IsTrue (is_served setting.flags)
-  pub whole : IsPattern (own_context setting p) p source []
+abbrev pub IsDerived : Setting → Source → Pattern → Type 0
+IsDerived setting source p = IsPattern (own_context setting p) p source []
 
 -- this project's limits
 pub record IsWithinLimits (p : Pattern) : Type 0 where

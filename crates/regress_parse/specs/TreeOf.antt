@@ -1,16 +1,16 @@
 -- The tree of a syntax tree.
 use Rattle.std.specs.Prelude.{ℕ, ◌+◌, Bool, true, false, ◌&&◌, List, [], ◌∷◌, Option, Some, None, option_map, if◌then◌else◌, encode_utf8_all}
-use Rattle.regress_base.specs.Intervals.{intervals_of}
+use Rattle.regress_base.specs.Intervals.{Bounds, intervals_of}
 use Rattle.regress_base.specs.declared.types.Flags.{Flags}
 use Rattle.regress_tree.specs.declared.ir.node.Quantifier.{Quantifier}
 use Rattle.regress_tree.specs.Reading.{Direction, forwards, backwards}
 use Rattle.regress_tree.specs.Literal.{class_of}
 use Rattle.regress_tree.specs.Table.{Table}
-use Rattle.regress_tree.specs.Tree.{Leaf, empty, goal, char, char_set, match_any, match_any_except_line_terminator, word_boundary, bracket, back_ref, Tree, Trees, leaf, cat, alt, wrapped, capture_group, loop, lookaround, no_trees, more_trees, row_reverse}
+use Rattle.regress_tree.specs.Tree.{Leaf, empty, goal, char, char_set, match_any, match_any_except_line_terminator, word_boundary, bracket, back_ref, string_set, Tree, Trees, leaf, cat, alt, wrapped, capture_group, loop, lookaround, no_trees, more_trees, row_reverse}
 use Rattle.regress_tree.specs.Tree as tree
 use Rattle.regress_syntax.specs.ClassRows.{members_of}
-use Rattle.regress_syntax.specs.Syntax.{Name, Atom, literal, dot, anchor, boundary, class_escape, class, back_reference, Group, grouping, modified, capture, look, Pattern, Terms, Item, one, either, no_terms, more_terms, atom, group, opened_by, counts_of_item, counts_of_terms, counts_of_term, names}
-use Rattle.regress_syntax.specs.Meaning.{is_in_class, direction_of_group, referred}
+use Rattle.regress_syntax.specs.Syntax.{Name, Atom, literal, dot, anchor, boundary, class_escape, class, class_set, string_property, back_reference, Group, grouping, modified, capture, look, Pattern, Terms, Item, one, either, no_terms, more_terms, atom, group, opened_by, counts_of_item, counts_of_terms, counts_of_term, names}
+use Rattle.regress_syntax.specs.Meaning.{is_in_class, longest_first, direction_of_group, referred}
 
 -- Where matching runs backwards the parts stand turned: the last one first.
 abbrev pub turned : Direction → Trees → Trees
@@ -56,6 +56,14 @@ tree_of_references icase [] = leaf (char_set [])
 tree_of_references icase (k ∷ []) = leaf (back_ref k icase)
 tree_of_references icase (k ∷ next ∷ ks) = alt (leaf (back_ref k icase)) (tree_of_references icase (next ∷ ks))
 
+-- Strings and a bracket: both as alternatives, or one of them where the other has nothing. No strings stand in a negated
+-- class.
+abbrev pub tree_of_class_set : (icase negated : Bool) → List (List ℕ) → List Bounds → Tree
+tree_of_class_set icase negated [] members = leaf (bracket negated members)
+tree_of_class_set icase true (s ∷ ss) members = alt (leaf (string_set (s ∷ ss) icase)) (leaf (bracket true members))
+tree_of_class_set icase false (s ∷ ss) [] = leaf (string_set (s ∷ ss) icase)
+tree_of_class_set icase false (s ∷ ss) (iv ∷ ivs) = alt (leaf (string_set (s ∷ ss) icase)) (leaf (bracket false (iv ∷ ivs)))
+
 -- the names are those of all groups of the whole pattern
 module _ (table : Table) (names : List (Option Name)) where
   abbrev pub tree_of_atom : Atom → Tree
@@ -67,6 +75,10 @@ module _ (table : Table) (names : List (Option Name)) where
   tree_of_atom (class_escape flags kind negated) =
       leaf (bracket false (intervals_of (is_in_class table flags negated (members_of kind))))
   tree_of_atom (class flags inverted members) = leaf (bracket inverted (intervals_of (is_in_class table flags false members)))
+  tree_of_atom (class_set flags negated value) =
+      tree_of_class_set flags.icase negated (longest_first value.strings)
+      (intervals_of (is_in_class table flags false value.members))
+  tree_of_atom (string_property flags written) = leaf (string_set written flags.icase)
   tree_of_atom (back_reference flags to) = tree_of_references flags.icase (referred names to)
 
   -- the tree, in a direction, of what stands behind n opened groups
