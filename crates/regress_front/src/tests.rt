@@ -2,6 +2,7 @@
 
 mod anchors;
 mod caller;
+mod class_sets;
 mod classes;
 mod escapes;
 mod faults;
@@ -9,6 +10,7 @@ mod literals;
 mod lookarounds;
 mod modifiers;
 mod names;
+mod properties;
 mod quantifiers;
 mod references;
 mod scale;
