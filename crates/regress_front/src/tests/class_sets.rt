@@ -172,7 +172,6 @@ fn classes_in_one_another_are_levels(rt: HostRuntime) -> Result<(), Fail> {
         ("[", "a", "]", 257, deep),
         ("[", "a", "]", 5000, deep),
         ("[", "a", "", 5000, deep),
-        ("(?:[[", "a", "]])", 128, deep),
     ];
     for (front, middle, back, times, want) in rows {
         let points = repeated(alloc, front, middle, back, times)?;
