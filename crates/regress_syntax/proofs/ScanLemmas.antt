@@ -1,5 +1,5 @@
 -- A scan passes what the rows without recursion read.
-use Rattle.std.proofs.Common.{◌≡◌, ℕ, zero, suc, Bool, true, false, not, cond, ◌&&◌, ◌||◌, ◌==◌, nat_le, [], ◌∷◌, length, take, drop, Option, Some, None, refl, sym, ◌∙◌, subst, arith, eqb-true}
+use Rattle.std.proofs.Common.{◌≡◌, ℕ, zero, suc, Bool, true, false, not, cond, ◌&&◌, ◌||◌, ◌==◌, nat_le, List, [], ◌∷◌, length, take, drop, Option, Some, None, refl, sym, ◌∙◌, subst, arith, eqb-true}
 use Rattle.std.proofs.lemmas.Bool.{false≢true}
 use Rattle.std.proofs.lemmas.Bool.Decides.{nat_tests}
 use Rattle.std.proofs.lemmas.Option.{none-some, same_Some}
@@ -10,7 +10,7 @@ use Rattle.regress_syntax.specs.Source.{Source, Found, ◌>>=◌, found_map, ope
 use Rattle.regress_syntax.specs.Digits.{is_between, is_decimal, is_letter, is_octal, is_hex, control, number, front, behind, hex_at}
 use Rattle.regress_syntax.specs.Escapes.{braced_hex_at, second_half_at, paired, with_second_half, unicode_at, or_itself, octal_digits, letter_escape, begins_with_digit, is_syntax_character, control_at, other_escape, escape_at}
 use Rattle.regress_syntax.specs.Quantifiers.{Times, count_at, closed_brace, most_at, times_by, greedy_or_lazy, quantifier_at}
-use Rattle.regress_syntax.specs.Scan.{Mode, plain, escape, class, class_escape, marks}
+use Rattle.regress_syntax.specs.Scan.{Mark, Mode, plain, escape, class, class_escape, marks}
 use Rattle.regress_syntax.proofs.DigitLemmas.{and_both}
 
 -- ---- code points that a scan takes no notice of
@@ -54,6 +54,10 @@ pub record Passes (sets : Bool) (table : Table) (m : Mode) (t : Source) (n : Mod
 pub record Leads {A : Type 0} (sets : Bool) (table : Table) (m : Mode) (t : Source) (n : Mode) (found : Found A) : Type 0 where
   pub each : (x : A × Source) → found ≡ Some x → Passes sets table m t n x.1
 
+-- Whatever is found, the marks are what is said of it and of the source behind.
+pub record Gives {A : Type 0} (ms : List Mark) (of : A → Source → List Mark) (found : Found A) : Type 0 where
+  pub each : (x : A × Source) → found ≡ Some x → ms ≡ of x.0 x.1
+
 -- where a row is read: outside of classes or in one
 pub data Home : Type 0 where
   in_text : Home
@@ -68,7 +72,36 @@ abbrev pub behind_backslash : Home → Mode
 behind_backslash in_text = escape
 behind_backslash (in_class depth deepest) = class_escape depth deepest
 
+pub gives_none : {A : Type 0} {ms : List Mark} {of : A → Source → List Mark} → Gives ms of None
+gives_none = record { each = λ x e. absurd (none-some x e) }
+
+pub gives_some : {A : Type 0} {ms : List Mark} {of : A → Source → List Mark} (x : A × Source) → ms ≡ of x.0 x.1 → Gives ms of (Some x)
+gives_some {A} {ms} {of} x h = record { each = λ y e. subst (λ (z : A × Source). ms ≡ of z.0 z.1) (same_Some x y e) h }
+
+-- the same, from other marks on
+pub gives_after : {A : Type 0} {ms ns : List Mark} {of : A → Source → List Mark} {found : Found A} → ms ≡ ns → Gives ns of found → Gives ms of found
+gives_after e h = record { each = λ x found. e ∙ h.each x found }
+
+pub gives_then : {A B : Type 0} {ms : List Mark} (of : A → Source → List Mark) {to : B → Source → List Mark} (found : Found A)
+    (next : A × Source → Found B) → Gives ms of found → ((x : A × Source) → Gives (of x.0 x.1) to (next x)) → Gives ms to (found >>= next)
+gives_then of None next h k = gives_none
+gives_then of (Some x) next h k = gives_after (h.each x refl) (k x)
+
+pub gives_map : {A B : Type 0} {ms : List Mark} (of : A → Source → List Mark) {to : B → Source → List Mark} (f : A → B) (found : Found A) →
+    Gives ms of found → ((x : A) (t : Source) → of x t ≡ to (f x) t) → Gives ms to (found_map f found)
+gives_map of f None h k = gives_none
+gives_map of f (Some x) h k = gives_some (f x.0, x.1) (h.each x refl ∙ k x.0 x.1)
+
+pub gives_cond : {A : Type 0} {ms : List Mark} {of : A → Source → List Mark} (b : Bool) (x y : Found A) → (b ≡ true → Gives ms of x) →
+    (b ≡ false → Gives ms of y) → Gives ms of (cond b x y)
+gives_cond true x y h k = h refl
+gives_cond false x y h k = k refl
+
 module _ {sets : Bool} {table : Table} where
+  pub gives_leads : {A : Type 0} {m n : Mode} {t : Source} {found : Found A} → Leads sets table m t n found →
+      Gives (marks sets table m t) (λ _ rest. marks sets table n rest) found
+  gives_leads h = record { each = λ x e. (h.each x e).same }
+
   pub passes_same : {m : Mode} {t : Source} → Passes sets table m t m t
   passes_same = record { same = refl }
 
