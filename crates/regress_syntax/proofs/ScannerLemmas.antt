@@ -7,7 +7,7 @@ use Rattle.std.proofs.lemmas.List.{map-append}
 use Rattle.regress_tree.specs.Table.{Table}
 use Rattle.regress_syntax.specs.Source.{Source, opening, closing, bar}
 use Rattle.regress_syntax.specs.Scan.{Mode, plain, escape, class, class_escape, marks, opened_at, Mark, opens, captures, closes, next, nests, closed_class, agree, deepest, Path, Placed, placed_by, at_the_start, same_name, conflict, are_apart}
-use Rattle.regress_syntax.specs.Scanning.{mode_behind, mark_at, has_name, placed_of, path_of, Behind}
+use Rattle.regress_syntax.specs.Scanning.{depth_of, mode_behind, mark_at, has_name, placed_of, path_of, Behind}
 use Rattle.regress_syntax.specs.Fault.{RefusedOnlyIf}
 use Rattle.regress_syntax.specs.declared.fault.ParseFault.{ParseFault}
 use Rattle.regress_syntax.proofs.laws.Sources.{on_syntax_then}
@@ -165,6 +165,27 @@ marks_behind sets table plain c t = plain_behind sets table c t
 marks_behind sets table escape c t = refl
 marks_behind sets table (class depth deepest) c t = class_behind sets table depth deepest c t
 marks_behind sets table (class_escape depth deepest) c t = refl
+
+-- a code point opens one class at most
+pub depth-mode_behind : (sets : Bool) (mode : Mode) (c : ℕ) → depth_of (mode_behind sets mode c) ≤ depth_of mode + 1
+depth-mode_behind sets plain c = by (c == 92) (c == 91)
+  where
+    by : (backslash bracket : Bool) → depth_of (cond backslash escape (cond bracket (class 0 0) plain)) ≤ 0 + 1
+    by true bracket = omega arith
+    by false true = omega arith
+    by false false = omega arith
+depth-mode_behind sets escape c = omega arith
+depth-mode_behind sets (class depth deepest) c = by (c == 92) (c == 91 && sets) (c == 93 && depth == 0) (c == 93)
+  where
+    by : (backslash opened outermost bracket : Bool) →
+        depth_of (cond backslash (class_escape depth deepest) (cond opened (class (depth + 1) (max deepest (depth + 1)))
+        (cond outermost plain (cond bracket (class (depth - 1) deepest) (class depth deepest))))) ≤ depth + 1
+    by true opened outermost bracket = omega arith
+    by false true outermost bracket = omega arith
+    by false false true bracket = omega arith
+    by false false false true = omega arith
+    by false false false false = omega arith
+depth-mode_behind sets (class_escape depth deepest) c = omega arith
 
 -- what stands at a mark
 pub at_mark : (sets : Bool) (table : Table) (mode : Mode) (c : ℕ) (rest t : Source) (all : List Mark) (mark : Mark) (scanner : Scanner) →
