@@ -1,19 +1,18 @@
 -- A scan passes properties, and classes without the flag v.
-use Rattle.std.proofs.Common.{◌≡◌, ℕ, zero, suc, ◌+◌, max, Bool, true, false, not, cond, ◌&&◌, ◌||◌, ◌==◌, List, [], ◌∷◌, ◌++◌, length, drop, Option, Some, None, option_map, refl, sym, ap, ◌∙◌, subst, arith, eqb-true, add-one}
+use Rattle.std.proofs.Common.{◌≡◌, ℕ, zero, suc, ◌+◌, Bool, true, false, not, cond, ◌&&◌, ◌||◌, ◌==◌, List, [], ◌∷◌, length, drop, Option, Some, None, refl, sym, subst, arith, eqb-true}
 use Rattle.std.proofs.lemmas.Bool.{false≢true}
 use Rattle.std.proofs.lemmas.Bool.Decides.{nat_tests}
 use Rattle.regress_base.specs.Intervals.{Bounds}
-use Rattle.regress_base.specs.Limits.{max_nesting_depth}
 use Rattle.regress_base.specs.declared.charclasses.CharacterClassType.{CharacterClassType}
 use Rattle.regress_tree.specs.Table.{Table}
-use Rattle.regress_syntax.specs.Source.{Source, Found, ◌>>=◌, found_map, is_at}
-use Rattle.regress_syntax.specs.Digits.{is_decimal, is_letter, control, front, behind}
+use Rattle.regress_syntax.specs.Source.{Source, Found, found_map, is_at}
+use Rattle.regress_syntax.specs.Digits.{is_decimal, is_letter, control, behind}
 use Rattle.regress_syntax.specs.Escapes.{escape_at}
-use Rattle.regress_syntax.specs.Properties.{Property, of_points, of_strings, points_of, is_property_character, list_named, lone_value, value_in, closed_property, property_at}
-use Rattle.regress_syntax.specs.ClassRows.{ClassAtom, point, set, complement_if, class_letter, class_members, class_control_at, class_property, class_property_at, class_escape_by, class_escape_at, class_atom_at, atom_members, one_point, begins_range, points_between, range_of, range_at, class_part_at, class_parts_by, class_at}
-use Rattle.regress_syntax.specs.Scan.{Mark, nests, plain, class, class_escape, marks}
-use Rattle.regress_syntax.proofs.DigitLemmas.{and_both, drop_one_more}
-use Rattle.regress_syntax.proofs.ScanLemmas.{is_quiet, Passes, Leads, Gives, Home, in_class, home, behind_backslash, passes_same, passes_then, leads_none, leads_some, leads_behind, leads_then, leads_map, leads_cond, gives_none, gives_some, gives_after, gives_then, gives_map, gives_cond, gives_leads, pass_quiet, pass_at, pass_backslash, pass_escaped, pass_behind, lead_escape_at}
+use Rattle.regress_syntax.specs.Properties.{Property, points_of, is_property_character, closed_property, property_at}
+use Rattle.regress_syntax.specs.ClassRows.{ClassAtom, point, set, complement_if, class_letter, class_members, class_control_at, class_property_at, class_escape_by, class_escape_at, class_atom_at, atom_members, begins_range, range_of, range_at, class_part_at, class_parts_by, class_at}
+use Rattle.regress_syntax.specs.Scan.{plain, class, class_escape, marks}
+use Rattle.regress_syntax.proofs.DigitLemmas.{and_both}
+use Rattle.regress_syntax.proofs.ScanLemmas.{is_quiet, Passes, Leads, Home, in_class, home, passes_same, passes_then, leads_none, leads_some, leads_behind, leads_then, leads_map, leads_cond, pass_quiet, pass_at, pass_backslash, pass_escaped, pass_behind, lead_escape_at}
 
 -- a class may hold anything, or nothing
 lead_made : {A : Type 0} {sets : Bool} {table : Table} (w : Home) (f : List Bounds → A) (made : Option (List Bounds)) (t : Source) →

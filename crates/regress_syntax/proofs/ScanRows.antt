@@ -2,14 +2,13 @@
 use Rattle.std.proofs.Common.{◌≡◌, ℕ, zero, suc, ◌+◌, ◌<◌, ◌≤◌, Bool, true, false, not, cond, ◌&&◌, ◌||◌, ◌==◌, nat_le, List, [], ◌∷◌, ◌++◌, length, drop, Option, Some, None, is_some, ⊎_elim, refl, sym, ap, ap₂, ◌∙◌, subst, arith, eqb-true}
 use Rattle.std.proofs.lemmas.Bool.{cases_lt, cond-false, false≢true}
 use Rattle.std.proofs.lemmas.Bool.Decides.{nat_tests}
-use Rattle.std.proofs.lemmas.Option.{none-some, same_Some}
 use lib.Utf8.{scalar}
 use Rattle.regress_base.specs.Classes.{word_characters}
 use Rattle.regress_base.specs.Intervals.{Bounds, is_within, is_member}
 use Rattle.regress_base.specs.declared.charclasses.CharacterClassType.{CharacterClassType}
 use Rattle.regress_tree.specs.Table.{Table, HasWordAscii, IsLawful}
 use Rattle.regress_syntax.specs.Source.{Source, Found, ◌>>=◌, found_map, opening, closing, colon, bar, full_stop, question_mark, is_at, is_plain}
-use Rattle.regress_syntax.specs.Digits.{is_between, is_decimal, is_letter, control, number, front, behind}
+use Rattle.regress_syntax.specs.Digits.{is_between, is_decimal, number, front, behind}
 use Rattle.regress_syntax.specs.Escapes.{unicode_at, escape_at}
 use Rattle.regress_tree.specs.declared.ir.node.Quantifier.{Quantifier}
 use Rattle.regress_syntax.specs.Quantifiers.{quantifier_at, is_ordered}
