@@ -46,3 +46,7 @@ pub returns-clause-refused : goal.returns-clause-refused
 returns-clause-refused c =
     refused_then c.finish.result inl
     (c.finish.ensures.refused _ (all_passed c.args.sets (table_of c.args.tables.now) (mode_of c.loop-c.mode) _ _ c.loop-c.scanner c.in_default.ensures.cases c.loop-c.invariant.found))
+
+pub returns-clause-levels : goal.returns-clause-levels
+returns-clause-levels c =
+    c.finish.ensures.levels _ (all_passed c.args.sets (table_of c.args.tables.now) (mode_of c.loop-c.mode) _ _ c.loop-c.scanner c.in_default.ensures.cases c.loop-c.invariant.found)
