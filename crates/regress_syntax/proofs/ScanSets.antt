@@ -60,7 +60,8 @@ module _ {table : Table} (unicode : Bool) where
 
 -- ---- how deep classes lie
 
--- The marks in a class at this depth, where so many levels lie in it so far, and `before` the deepest in front of it.
+-- The marks from inside a class at this depth, in which so many levels lie so far. Classes in front of it went as deep as
+-- `before`.
 abbrev within : (table : Table) (depth before levels : ℕ) → Source → List Mark
 within table depth before levels t = marks true table (class depth (max before (depth + levels))) t
 

@@ -80,7 +80,7 @@ impl Scanner {
         Ok(())
     }
 
-    /// Holds a class in which so many levels lie.
+    /// Passes a class in which so many levels lie, inside those that are open.
     fn hold(&self, levels: usize) -> Result<(), ParseFault>
         ensures room { OnOk result (length (path_of self.now) + levels ≤ max_nesting_depth) }
         ensures refused { RefusedOnlyIf result (max_nesting_depth < length (path_of self.now) + levels) }
