@@ -7,6 +7,8 @@ mod ModifierLemmas
 mod NameLemmas
 mod NumberingLemmas
 mod ReferenceLemmas
+mod ScanClasses
 mod ScanLemmas
 mod ScanRows
+mod ScanSets
 mod ScannerLemmas

@@ -1,5 +1,6 @@
 -- What the state of the scan stands for.
 use Rattle.std.specs.Prelude.{◌≡◌, ℕ, ◌+◌, ◌-◌, max, ◌≤◌, Bool, ◌&&◌, List, ◌++◌, map, length, reverse, Option, Some, None, option_map, is_some, filter, if◌then◌else◌, ◌==◌}
+use Rattle.regress_base.specs.Limits.{max_nesting_depth}
 use Rattle.regress_tree.specs.Table.{Table}
 use Rattle.regress_syntax.specs.Source.{Source, opening, closing, bar}
 use Rattle.regress_syntax.specs.Numbering.{names_of}
@@ -25,6 +26,13 @@ mark_of (code_marks.Captures name) = captures (option_map (λ name. name.items) 
 mark_of code_marks.Closes = closes
 mark_of code_marks.Next = next
 mark_of (code_marks.Nests levels) = nests levels
+
+-- how many classes are open inside the outermost
+abbrev pub depth_of : Mode → ℕ
+depth_of plain = 0
+depth_of escape = 0
+depth_of (class depth deepest) = depth
+depth_of (class_escape depth deepest) = depth
 
 -- the mode behind a code point
 abbrev pub mode_behind : (sets : Bool) → Mode → ℕ → Mode
@@ -68,3 +76,6 @@ pub record Behind (all rest : List Mark) (scanner : Scanner) : Type 0 where
   pub named : filter has_name (placed_by at_the_start all) ≡ map placed_of scanner.named.items ++ filter has_name (placed_by (path_of scanner) rest)
   pub some : 1 ≤ length (path_of scanner)
   pub depth : deepest (length (path_of scanner)) rest ≤ deepest 1 all
+  -- the limit is kept so far
+  pub room : length (path_of scanner) ≤ max_nesting_depth
+  pub limit : deepest 1 all ≤ max max_nesting_depth (deepest (length (path_of scanner)) rest)

@@ -1,10 +1,10 @@
 //! The scan of a pattern for its capture groups.
-ghost use Rattle.std.specs.Prelude.{◌≡◌, min, length, IsTrue, IfOk};
-ghost use Rattle.regress_base.specs.Limits.{max_capture_groups};
+ghost use Rattle.std.specs.Prelude.{◌≡◌, ◌≤◌, min, length, IsTrue, IfOk};
+ghost use Rattle.regress_base.specs.Limits.{max_capture_groups, max_nesting_depth};
 ghost use Rattle.regress_tree.specs.TableOf.{table_of};
 ghost use Rattle.regress_syntax.specs.Fault.{RefusedOnlyIf};
 ghost use Rattle.regress_syntax.specs.Numbering.{names_of};
-ghost use Rattle.regress_syntax.specs.Scan.{GivesMarks, plain, marks, named_by, at_the_start, placed_by, are_apart, IsRefusedByMarks};
+ghost use Rattle.regress_syntax.specs.Scan.{GivesMarks, plain, marks, named_by, deepest, at_the_start, placed_by, are_apart, IsRefusedByMarks};
 ghost use Rattle.regress_syntax.specs.Views.{names_in};
 
 mod mark;
@@ -32,6 +32,7 @@ pub fn scan(
     ensures names { IfOk result (λ groups. names_in groups ≡ named_by (marks sets (table_of tables.now) plain pattern.now)) }
     ensures count { IfOk result (λ groups. groups.count ≡ min (length (names_in groups)) max_capture_groups) }
     ensures apart { IfOk result (λ groups. IsTrue (are_apart (placed_by at_the_start (marks sets (table_of tables.now) plain pattern.now)))) }
+    ensures levels { IfOk result (λ _. deepest 1 (marks sets (table_of tables.now) plain pattern.now) ≤ max_nesting_depth) }
     ensures refused { RefusedOnlyIf result (IsRefusedByMarks (marks sets (table_of tables.now) plain pattern.now)) }
     ensures whole { GivesMarks sets (table_of tables.now) pattern.now }
 {
@@ -48,6 +49,7 @@ fn find_names(
 ) -> Result<Vec<Option<Name>>, ParseFault>
     ensures names { IfOk result (λ names. names_of names.items ≡ named_by (marks sets (table_of tables.now) plain pattern.now)) }
     ensures apart { IfOk result (λ names. IsTrue (are_apart (placed_by at_the_start (marks sets (table_of tables.now) plain pattern.now)))) }
+    ensures levels { IfOk result (λ _. deepest 1 (marks sets (table_of tables.now) plain pattern.now) ≤ max_nesting_depth) }
     ensures refused { RefusedOnlyIf result (IsRefusedByMarks (marks sets (table_of tables.now) plain pattern.now)) }
 {
     let mut scanner = Scanner::new(alloc)?;

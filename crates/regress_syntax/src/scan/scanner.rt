@@ -70,6 +70,7 @@ impl Scanner {
     fn open(&mut self) -> Result<(), ParseFault>
         ensures ok { OnOk result (self.new ≡ record self.old { path = self.new.path }) }
         ensures path { OnOk result (path_of self.new ≡ 0 ∷ path_of self.old) }
+        ensures room { OnOk result (length (path_of self.old) + 1 ≤ max_nesting_depth) }
         ensures refused { RefusedOnlyIf result (max_nesting_depth < length (path_of self.old) + 1) }
     {
         if self.path.len() >= MAX_NESTING_DEPTH as usize {
@@ -79,11 +80,12 @@ impl Scanner {
         Ok(())
     }
 
-    /// Holds a class in which so many levels lie.
+    /// Passes a class in which so many levels lie, inside those that are open.
     fn hold(&self, levels: usize) -> Result<(), ParseFault>
+        ensures room { OnOk result (length (path_of self.now) + levels ≤ max_nesting_depth) }
         ensures refused { RefusedOnlyIf result (max_nesting_depth < length (path_of self.now) + levels) }
     {
-        if levels > MAX_NESTING_DEPTH as usize - self.path.len() {
+        if self.path.len().saturating_add(levels) > MAX_NESTING_DEPTH as usize {
             return Err(syntax(self.alloc, TOO_DEEP));
         }
         Ok(())
@@ -110,6 +112,7 @@ impl Scanner {
     pub(super) fn finish(self) -> Result<Vec<Option<Name>>, ParseFault>
         ensures names { (all : List Written) → Behind all [] self → IfOk result (λ names. names_of names.items ≡ named_by all) }
         ensures apart { (all : List Written) → Behind all [] self → IfOk result (λ _. IsTrue (are_apart (placed_by at_the_start all))) }
+        ensures levels { (all : List Written) → Behind all [] self → IfOk result (λ _. deepest 1 all ≤ max_nesting_depth) }
         ensures refused { (all : List Written) → Behind all [] self → RefusedOnlyIf result (are_apart (placed_by at_the_start all) ≡ false) }
     {
         let mut named = self.named;
