@@ -1,10 +1,13 @@
--- Reading a word from the front of a source.
-use Rattle.std.proofs.Common.{◌≡◌, ℕ, ◌<◌, Bool, true, false, cond, nat_le, ◌&&◌, ◌||◌, ◌==◌, List, [], ◌∷◌, ◌++◌, refl, sym, ap, ◌∙◌, append_assoc, append-nil, arith}
-use Rattle.std.proofs.lemmas.Bool.{cond-true, cond-false}
+-- Properties: words at the front of a source, what an escape reads, and copies of strings.
+use Rattle.std.proofs.Common.{◌≡◌, ℕ, ◌<◌, Bool, true, false, cond, ⊎_elim, Vec, Global, ap₂, subst, eqb-true, nat_le, ◌&&◌, ◌||◌, ◌==◌, List, [], ◌∷◌, ◌++◌, refl, sym, ap, ◌∙◌, append_assoc, append-nil, arith}
+use Rattle.std.specs.List.{AllZip}
+use Rattle.std.proofs.lemmas.Bool.{cond-true, or_cases}
 use Rattle.std.proofs.lemmas.Bool.Decides.{nat_tests}
 use Rattle.regress_syntax.specs.Source.{Source}
 use Rattle.regress_syntax.specs.Digits.{front, behind}
 use Rattle.regress_syntax.specs.Properties.{is_property_character}
+use Rattle.regress_syntax.specs.Rows.{Context, property_atom_at, escaped_by}
+use Rattle.regress_syntax.specs.Views.{strings_of}
 
 pub ascii : (c : ℕ) → is_property_character c ≡ true → c < 128
 ascii c e = grind (arith, nat_tests)
@@ -47,3 +50,21 @@ all_of_word t rest word so_far ends = (
   sym (append-nil word) ∙ ap (λ (u : Source). word ++ u) (sym ends) ∙ so_far.read,
   sym (behind-none rest ends) ∙ so_far.left,
 )
+
+-- an escape that is a property
+pub property_read : (ctx : Context) (c : ℕ) (t : Source) → (c == 112 || c == 80) ≡ true →
+    (ctx.setting.flags.unicode || ctx.setting.flags.unicode_sets) ≡ true → escaped_by ctx c t ≡ property_atom_at ctx (c == 80) t
+property_read ctx c t letter served =
+    ⊎_elim
+    (λ (small : (c == 112) ≡ true). subst (λ d. escaped_by ctx d t ≡ property_atom_at ctx (d == 80) t) (sym (eqb-true c 112 small)) (cond-true _ _ _ served))
+    (λ (large : (c == 80) ≡ true). subst (λ d. escaped_by ctx d t ≡ property_atom_at ctx (d == 80) t) (sym (eqb-true c 80 large)) (cond-true _ _ _ served))
+    (or_cases (c == 112) (c == 80) letter)
+
+-- Copies with the same items are the same strings.
+pub same_strings : (R : Vec ℕ Global → Vec ℕ Global → Type 0) (xs ys : List (Vec ℕ Global)) → AllZip R xs ys →
+    ((x y : Vec ℕ Global) → R x y → y.items ≡ x.items) → strings_of ys ≡ strings_of xs
+same_strings R [] [] h same = refl
+same_strings R [] (y ∷ ys) h same = absurd h
+same_strings R (x ∷ xs) [] h same = absurd h
+same_strings R (x ∷ xs) (y ∷ ys) h same =
+    ap₂ (λ (s : List ℕ) (ss : List (List ℕ)). s ∷ ss) (same x y h.0) (same_strings R xs ys h.1 same)

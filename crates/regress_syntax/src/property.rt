@@ -1,5 +1,5 @@
 //! Properties by a name.
-ghost use Rattle.std.specs.Prelude.{◌≡◌, true, [], ◌∷◌, string_bytes, option_map, IfOk, IfSome, IfNone};
+ghost use Rattle.std.specs.Prelude.{◌≡◌, ◌==◌, ◌||◌, true, [], ◌∷◌, string_bytes, option_map, IfOk, IfSome, IfNone};
 ghost use Rattle.regress_syntax.specs.Digits.{front, behind};
 ghost use Rattle.regress_syntax.specs.Properties.{is_property_character, lone_value, list_named, value_in, closed_property, braced_property_at, property_at};
 ghost use Rattle.regress_syntax.specs.Reads.{Reads};
@@ -20,6 +20,13 @@ pub(crate) enum Property<'a> {
     Points(&'a CodePointSet),
     /// Strings, which the flag v allows.
     Strings(&'a [Vec<u32>]),
+}
+
+/// The letter behind the backslash of a property, or of its complement.
+pub(crate) fn is_property_letter(c: u32) -> bool
+    ensures { result ≡ (c == 112 || c == 80) }
+{
+    c == u32::from('p') || c == u32::from('P')
 }
 
 /// Reads a property, behind `\p` or `\P` (ECMA-262, UnicodePropertyValueExpression); `sets` is the flag v. The fault

@@ -41,7 +41,7 @@ property_at-ends sets table t =
 one-ends : {A : Type 0} (x : A) (c : ℕ) (t : Source) → Ends (Some (x, t)) (c ∷ t)
 one-ends x c t = ends_some (x, t) (c ∷ t) (behind_drop 1 (c ∷ t))
 
-class_control_at-ends : (t : Source) → Ends (class_control_at t) (99 ∷ t)
+pub class_control_at-ends : (t : Source) → Ends (class_control_at t) (99 ∷ t)
 class_control_at-ends [] = ends_some _ (99 ∷ []) (behind_same (99 ∷ []))
 class_control_at-ends (d ∷ t) =
     ends_cond (is_letter d || is_decimal d || d == 95) _ _ (99 ∷ d ∷ t) (ends_some _ (99 ∷ d ∷ t) (behind_drop 2 (99 ∷ d ∷ t)))
