@@ -2,6 +2,7 @@
 pub mod Sources
 pub mod Behind
 pub mod ClassSets
+pub mod ClassStrings
 pub mod InRange
 pub mod NameEnds
 pub mod Pieces
