@@ -1,6 +1,7 @@
 pub mod SetRows
 pub mod laws
 mod ClassLemmas
+mod ClassSetLemmas
 mod ConflictLemmas
 mod DigitLemmas
 mod ModifierLemmas
