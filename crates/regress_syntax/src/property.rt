@@ -13,6 +13,9 @@ use regress_base::codepointset::CodePointSet;
 use regress_tree::unicode::Tables;
 use std::alloc::{AllocError, Global};
 
+#[cfg(test)]
+mod tests;
+
 /// What a name stands for.
 #[derive(Clone, Copy)]
 pub(crate) enum Property<'a> {
