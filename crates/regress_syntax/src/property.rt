@@ -8,7 +8,7 @@ ghost use Rattle.regress_tree.specs.TableOf.{table_of};
 
 use crate::cursor::Cursor;
 use crate::digits::{Read, is_decimal, is_letter};
-use crate::fault::{INVALID_PROPERTY, ParseFault, PROPERTY_WITHOUT_BRACE, syntax};
+use crate::fault::{INVALID_PROPERTY, PROPERTY_WITHOUT_BRACE, ParseFault, syntax};
 use regress_base::codepointset::CodePointSet;
 use regress_tree::unicode::Tables;
 use std::alloc::{AllocError, Global};

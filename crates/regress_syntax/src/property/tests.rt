@@ -63,7 +63,11 @@ fn names_of_code_points_are_found_in_their_lists(rt: HostRuntime) -> Result<(), 
         ("{Script=Ogham}", &[(0x1680, 0x169C)], 0),
         ("{scx=Ogham}", &[(0x1680, 0x169C)], 0),
         ("{Script_Extensions=Ogam}", &[(0x1680, 0x169C)], 0),
-        ("{ASCII_Hex_Digit}", &[(0x30, 0x39), (0x41, 0x46), (0x61, 0x66)], 0),
+        (
+            "{ASCII_Hex_Digit}",
+            &[(0x30, 0x39), (0x41, 0x46), (0x61, 0x66)],
+            0,
+        ),
         ("{Any}}", &[(0, 0x10FFFF)], 1),
     ];
     for (text, wanted, behind) in rows {
@@ -89,7 +93,10 @@ fn strings_are_found_with_the_flag_v_alone(rt: HostRuntime) -> Result<(), Fail> 
     for (string, key) in strings.iter().zip(b"#*0123456789") {
         assert!(rt; string.as_slice() == [u32::from(*key), 0xFE0F, 0x20E3].as_slice());
     }
-    assert_eq!(rt; fault(rt.alloc(), &tables, false, text)?.as_str(), INVALID_PROPERTY);
+    assert_eq!(rt;
+        fault(rt.alloc(), &tables, false, text)?.as_str(),
+        INVALID_PROPERTY
+    );
     Ok(())
 }
 
