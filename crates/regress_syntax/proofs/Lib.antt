@@ -1,11 +1,13 @@
 pub mod SetRows
 pub mod laws
 mod ClassLemmas
+mod ClassSetLemmas
 mod ConflictLemmas
 mod DigitLemmas
 mod ModifierLemmas
 mod NameLemmas
 mod NumberingLemmas
+mod PropertyLemmas
 mod ReferenceLemmas
 mod ScanClasses
 mod ScanLemmas

@@ -78,6 +78,12 @@ abbrev pub value_of : Operand → Value
 value_of (character c) = only (one_point c)
 value_of (class value) = value
 
+-- both ends of a range are characters
+abbrev pub range_of : Operand → Operand → Option (List Bounds)
+range_of (character a) (character b) = points_between a b
+range_of (character a) (class others) = None
+range_of (class value) last = None
+
 -- code points that stand for themselves only behind a backslash, or never
 abbrev pub is_set_syntax : ℕ → Bool
 is_set_syntax c = list_any (λ d. d == c) (codes "()[]{}/-|\\")
@@ -132,6 +138,10 @@ property_operand in_negated negated (of_points members, t) = Some (class (only (
 property_operand in_negated negated (of_strings written, t) =
     if in_negated || negated then None else Some (class (value_of_strings written), t)
 
+-- an operator: twice the same code point
+abbrev pub are_at : ℕ → Source → Bool
+are_at c t = is_at c t && is_at c (drop 1 t)
+
 module _ (table : Table) (unicode : Bool) where
   -- an escape, behind its backslash
   abbrev pub escaped_operand_at : (in_negated : Bool) → Source → Found Operand
@@ -156,12 +166,6 @@ module _ (table : Table) (unicode : Bool) where
 
     -- ---- parts, which are joined
 
-    -- both ends of a range are characters
-    abbrev pub range_of : Operand → Operand → Option (List Bounds)
-    range_of (character a) (character b) = points_between a b
-    range_of (character a) (class others) = None
-    range_of (class value) last = None
-
     abbrev pub range_at : Operand → Source → Found Value
     range_at first t =
         operand_at t >>= λ (last, rest).
@@ -182,9 +186,6 @@ module _ (table : Table) (unicode : Bool) where
     parts_at value t = parts_by (length t + 1) value t
 
     -- ---- operators
-
-    abbrev pub are_at : ℕ → Source → Bool
-    are_at c t = is_at c t && is_at c (drop 1 t)
 
     -- The operands behind an operator of two code points c, up to `]`, with c c between them, from the left on. The number
     -- bounds how many.

@@ -5,6 +5,7 @@ ghost use Rattle.regress_syntax.specs.Reads.{ReadsAs};
 ghost use Rattle.regress_syntax.specs.Views.{source, IsValue, IsOperand, IsClassSetRead, inner_of, sign_of, applied};
 ghost use Rattle.regress_tree.specs.TableOf.{table_of};
 
+mod character;
 mod operand;
 mod value;
 
