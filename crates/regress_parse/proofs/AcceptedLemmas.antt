@@ -13,22 +13,23 @@ use Rattle.regress_syntax.specs.Scan.{GivesMarks, plain, marks, named_by, deepes
 use Rattle.regress_syntax.proofs.laws.Scan.{named_by-pattern, deepest-whole}
 use Rattle.regress_parse.specs.Reader.{pattern_at}
 use Rattle.regress_parse.specs.Parsing.{Fits, pattern_part}
-use Rattle.regress_parse.specs.Accepted.{is_served, own_context, IsDerived, IsWithinLimits, IsAccepted}
+use Rattle.regress_parse.specs.Accepted.{own_context, IsDerived, IsWithinLimits, IsAccepted}
 use Rattle.regress_parse.proofs.GrammarLemmas.{pattern_at-sound, pattern_at-complete}
 use Rattle.regress_parse.proofs.GroupLemmas.{length-names}
 
-module _ (setting : Setting) (t : Source) (gives : GivesMarks setting.table t) where
+module _ (setting : Setting) (t : Source) (gives : GivesMarks setting.flags.unicode_sets setting.table t) where
   -- the names of all groups, as the scan finds them
   abbrev pub found_names : List (Option Name)
-  found_names = named_by (marks setting.table plain t)
+  found_names = named_by (marks setting.flags.unicode_sets setting.table plain t)
 
   -- the context of these names and so many groups
   abbrev pub scanned : ℕ → Context
   scanned groups = record { setting = setting; groups = groups; names = found_names }
 
-  module _ (ctx : Context) (p : Pattern) (same : ctx.setting.table ≡ setting.table) (h : IsPattern ctx p t []) where
+  module _ (ctx : Context) (p : Pattern) (sets : ctx.setting.flags.unicode_sets ≡ setting.flags.unicode_sets)
+      (same : ctx.setting.table ≡ setting.table) (h : IsPattern ctx p t []) where
     pub names_found : names p ≡ found_names
-    names_found = sym (named_by-pattern p) ∙ ap named_by (gives ctx p same h)
+    names_found = sym (named_by-pattern p) ∙ ap named_by (gives ctx p sets same h)
 
     groups_found : (counts p).groups ≡ length found_names
     groups_found = sym (length-names p) ∙ ap length names_found
@@ -49,16 +50,16 @@ module _ (setting : Setting) (t : Source) (gives : GivesMarks setting.table t) w
 
   pub reads_derived : (p : Pattern) → IsDerived setting t p → IsWithinLimits p → pattern_at (scanned most) t ≡ Some (p, [])
   reads_derived p h limits =
-      let groups : (counts p).groups ≡ most = omega (arith, groups_found (own_context setting p) p refl h.whole, limits.groups) in
+      let groups : (counts p).groups ≡ most = omega (arith, groups_found (own_context setting p) p refl refl h, limits.groups) in
       pattern_at-complete (scanned most) p t []
-      (subst (λ ctx. IsPattern ctx p t []) (own_is (own_context setting p) p refl h.whole most groups) h.whole)
+      (subst (λ ctx. IsPattern ctx p t []) (own_is (own_context setting p) p refl refl h most groups) h)
 
-  pub derived_reads : (p : Pattern) → is_served setting.flags ≡ true → pattern_at (scanned most) t ≡ Some (p, []) →
-      (counts p).groups < max_capture_groups + 1 → IsDerived setting t p
-  derived_reads p served found few =
+  pub derived_reads : (p : Pattern) → pattern_at (scanned most) t ≡ Some (p, []) → (counts p).groups < max_capture_groups + 1 →
+      IsDerived setting t p
+  derived_reads p found few =
       let h = pattern_at-sound (scanned most) t (p, []) found in
-      let groups : (counts p).groups ≡ most = omega (arith, groups_found (scanned most) p refl h, few) in
-      record { served = served; whole = subst (λ ctx. IsPattern ctx p t []) (sym (own_is (scanned most) p refl h most groups)) h }
+      let groups : (counts p).groups ≡ most = omega (arith, groups_found (scanned most) p refl refl h, few) in
+      subst (λ ctx. IsPattern ctx p t []) (sym (own_is (scanned most) p refl refl h most groups)) h
 
   -- at most one
   pub same_derived : (p q : Pattern) → IsDerived setting t p → IsDerived setting t q → p ≡ q
@@ -68,23 +69,23 @@ module _ (setting : Setting) (t : Source) (gives : GivesMarks setting.table t) w
       λ r d.
       pattern_at-complete (scanned all) r t []
       (subst (λ ctx. IsPattern ctx r t [])
-      (own_is (own_context setting r) r refl d.whole all (groups_found (own_context setting r) r refl d.whole)) d.whole) in
+      (own_is (own_context setting r) r refl refl d all (groups_found (own_context setting r) r refl refl d)) d) in
       ap (λ (x : Pattern × Source). x.0) (same_Some (p, []) (q, []) (sym (read p h) ∙ read q k))
 
   -- what the scan refuses is accepted nowhere
-  pub marks-refuse : IsRefusedByMarks (marks setting.table plain t) → (p : Pattern) → IsAccepted setting t p → ⊥
+  pub marks-refuse : IsRefusedByMarks (marks setting.flags.unicode_sets setting.table plain t) → (p : Pattern) → IsAccepted setting t p → ⊥
   marks-refuse (inl conflicts) p h =
-      let same = gives (own_context setting p) p refl h.derived.whole in
+      let same = gives (own_context setting p) p refl refl h.derived in
       false≢true (sym conflicts ∙ ap (λ ms. are_apart (placed_by at_the_start ms)) (sym same) ∙ h.names)
   marks-refuse (inr deep) p h =
-      let same = gives (own_context setting p) p refl h.derived.whole in
+      let same = gives (own_context setting p) p refl refl h.derived in
       omega (arith, deep, ap (deepest 1) same, deepest-whole p, h.limits.levels)
 
   -- the names of a pattern that is read are apart where the scan's are
-  pub marks-apart : (p : Pattern) → IsTrue (are_apart (placed_by at_the_start (marks setting.table plain t))) → IsDerived setting t p →
+  pub marks-apart : (p : Pattern) → IsTrue (are_apart (placed_by at_the_start (marks setting.flags.unicode_sets setting.table plain t))) → IsDerived setting t p →
       IsTrue (has_apart_names p)
   marks-apart p apart h =
-      subst (λ ms. IsTrue (are_apart (placed_by at_the_start ms))) (sym (gives (own_context setting p) p refl h.whole)) apart
+      subst (λ ms. IsTrue (are_apart (placed_by at_the_start ms))) (sym (gives (own_context setting p) p refl refl h)) apart
 
 module _ (setting : Setting) (names : List (Option Name)) where
   pub limits-fit : (p : Pattern) → IsWithinLimits p → Fits nothing_counted 0 (pattern_part setting.table names p)

@@ -5,17 +5,20 @@ use Rattle.std.proofs.lemmas.Bool.Decides.{nat_tests}
 use Rattle.std.proofs.lemmas.List.Elements.{All-head, All-tail}
 use Rattle.regress_base.specs.Intervals.{Bounds}
 use Rattle.regress_base.specs.declared.charclasses.CharacterClassType.{CharacterClassType}
-use Rattle.regress_tree.specs.Table.{Table}
-use Rattle.regress_syntax.specs.ClassRows.{class_letter, class_at}
+use Rattle.regress_tree.specs.Table.{Table, IsLawful}
+use Rattle.regress_syntax.specs.ClassRows.{complement, class_letter, class_at}
+use Rattle.regress_syntax.specs.ClassSets.{Value, class_set_at}
 use Rattle.regress_syntax.specs.Digits.{is_between, is_decimal, digit, number_from, number, front}
 use Rattle.regress_syntax.specs.Escapes.{escape_at}
 use Rattle.regress_syntax.specs.Modifiers.{Change, modifiers_at}
 use Rattle.regress_syntax.specs.Names.{group_name_at}
+use Rattle.regress_syntax.specs.Properties.{Property, of_points, of_strings, property_at}
 use Rattle.regress_syntax.specs.Quantifiers.{quantifier_at}
-use Rattle.regress_syntax.specs.Rows.{Context, Head, single, opens, angle_at, behind_mark_at, group_at, is_unserved, is_lone_backslash, has_name, has_names, character_at, numbered_at, named_at, escaped_by, escaped_at, brace_by, atom_by, head_at}
+use Rattle.regress_syntax.specs.Rows.{Context, Head, single, opens, angle_at, behind_mark_at, group_at, property_atom, property_atom_at, is_lone_backslash, has_name, has_names, character_at, numbered_at, named_at, escaped_by, escaped_at, brace_by, brackets_at, atom_by, head_at}
 use Rattle.regress_syntax.specs.Source.{Source, Found, found_map, IsCodePoint, opening, full_stop, colon, question_mark, is_at, is_plain}
-use Rattle.regress_syntax.specs.Syntax.{Target, by_number, by_name, Atom, literal, dot, anchor, boundary, class_escape, class, back_reference, Group, grouping, modified, capture, look}
+use Rattle.regress_syntax.specs.Syntax.{Target, by_number, by_name, Atom, literal, dot, anchor, boundary, class_escape, class, class_set, string_property, back_reference, Group, grouping, modified, capture, look}
 use Rattle.regress_syntax.proofs.laws.Behind.{Ends, behind_all}
+use Rattle.regress_syntax.proofs.laws.ClassStrings.{OfCodePoints, PropertyInRange, property_at-in_range, class_set_at-in_range}
 use Rattle.regress_syntax.proofs.laws.InRange.{Finds, finds_none, finds_some, finds_cond, finds_then, escape_at-in_range}
 use Rattle.regress_syntax.proofs.laws.NameEnds.{IsName, name_characters}
 
@@ -51,6 +54,8 @@ IsGoodAtom n (anchor flags kind) = Unit {0}
 IsGoodAtom n (boundary flags inverted) = Unit {0}
 IsGoodAtom n (class_escape flags kind negated) = Unit {0}
 IsGoodAtom n (class flags inverted members) = Unit {0}
+IsGoodAtom n (class_set flags negated value) = OfCodePoints value.strings
+IsGoodAtom n (string_property flags written) = OfCodePoints written
 IsGoodAtom n (back_reference flags to) = IsGoodTarget n to
 
 abbrev pub IsGoodGroup : Group → Type 0
@@ -99,12 +104,25 @@ number-least c t e =
 
 -- ---- items
 
-module _ (ctx : Context) (n : ℕ) (within : ctx.groups ≤ n) where
+module _ (ctx : Context) (lawful : IsLawful ctx.setting.table) (n : ℕ) (within : ctx.groups ≤ n) where
   character_at-good : (c : ℕ) (t : Source) → AreCodePoints (c ∷ t) → Finds (IsGoodAtom n) (character_at ctx c t)
   character_at-good c t all =
-      finds_cond _ (is_unserved ctx.setting.flags.unicode c) _ _ (λ _. finds_none _)
-      (λ _. finds_map IsCodePoint (IsGoodAtom n) (literal ctx.setting.flags) (escape_at ctx.setting.flags.unicode (c ∷ t)) (λ d h. h)
-      (escape_at-in_range ctx.setting.flags.unicode (c ∷ t) all.each))
+      finds_map IsCodePoint (IsGoodAtom n) (literal ctx.setting.flags) (escape_at ctx.setting.flags.unicode (c ∷ t)) (λ d h. h)
+      (escape_at-in_range ctx.setting.flags.unicode (c ∷ t) all.each)
+
+  property_atom-good : (negated : Bool) (x : Property × Source) → PropertyInRange x.0 → Finds (IsGoodAtom n) (property_atom ctx negated x)
+  property_atom-good negated (of_points members, t) h =
+      elim (negated && ctx.setting.flags.icase) as (λ b. Finds (IsGoodAtom n) (Some (
+        cond b (class ctx.setting.flags false (complement members)) (class ctx.setting.flags negated members),
+        t,
+      ))) [ true ↦ finds_some _ _ tt | false ↦ finds_some _ _ tt ]
+  property_atom-good negated (of_strings written, t) h =
+      finds_cond _ negated _ _ (λ _. finds_none _) (λ _. finds_some _ _ h)
+
+  property_atom_at-good : (negated : Bool) (t : Source) → Finds (IsGoodAtom n) (property_atom_at ctx negated t)
+  property_atom_at-good negated t =
+      finds_then PropertyInRange (IsGoodAtom n) (property_at ctx.setting.flags.unicode_sets ctx.setting.table t) _
+      (property_at-in_range ctx.setting.table lawful ctx.setting.flags.unicode_sets t) (property_atom-good negated)
 
   numbered_at-good : (c : ℕ) (t : Source) → AreCodePoints (c ∷ t) → is_between 49 57 c ≡ true → Finds (IsGoodAtom n) (numbered_at ctx c t)
   numbered_at-good c t all first =
@@ -128,17 +146,20 @@ module _ (ctx : Context) (n : ℕ) (within : ctx.groups ≤ n) where
                 cond (c == 98) (Some (boundary ctx.setting.flags false, t))
                 (cond (c == 66) (Some (boundary ctx.setting.flags true, t))
                 (cond (is_lone_backslash ctx.setting.flags.unicode c t) (Some (literal ctx.setting.flags 92, 99 ∷ t))
+                (cond ((c == 112 || c == 80) && (ctx.setting.flags.unicode || ctx.setting.flags.unicode_sets)) (property_atom_at ctx (c == 80) t)
                 (cond (is_between 49 57 c) (numbered_at ctx c t)
-                (cond (c == 107 && (ctx.setting.flags.unicode || has_names ctx.names)) (named_at ctx t) (character_at ctx c t)))))
+                (cond (c == 107 && (ctx.setting.flags.unicode || has_names ctx.names)) (named_at ctx t) (character_at ctx c t))))))
           ])
       by_letter (Some named) = finds_some _ _ tt
       by_letter None =
           finds_cond _ (c == 98) _ _ (λ _. finds_some _ _ tt)
           (λ _. finds_cond _ (c == 66) _ _ (λ _. finds_some _ _ tt)
           (λ _. finds_cond _ (is_lone_backslash ctx.setting.flags.unicode c t) _ _ (λ _. finds_some _ _ (omega arith))
+          (λ _. finds_cond _ ((c == 112 || c == 80) && (ctx.setting.flags.unicode || ctx.setting.flags.unicode_sets)) _ _
+          (λ _. property_atom_at-good (c == 80) t)
           (λ _. finds_cond _ (is_between 49 57 c) _ _ (numbered_at-good c t all)
           (λ _. finds_cond _ (c == 107 && (ctx.setting.flags.unicode || has_names ctx.names)) _ _
-          (λ _. named_at-good t) (λ _. character_at-good c t all)))))
+          (λ _. named_at-good t) (λ _. character_at-good c t all))))))
 
   escaped_at-good : (t : Source) → AreCodePoints t → Finds (IsGoodAtom n) (escaped_at ctx t)
   escaped_at-good [] all = finds_none _
@@ -148,15 +169,22 @@ module _ (ctx : Context) (n : ℕ) (within : ctx.groups ≤ n) where
   brace_by-good c t h =
       finds_cond _ (ctx.setting.flags.unicode || is_some (quantifier_at (c ∷ t))) _ _ (λ _. finds_none _) (λ _. finds_some _ _ h)
 
+  brackets_at-good : (t : Source) → AreCodePoints t → Finds (IsGoodAtom n) (brackets_at ctx t)
+  brackets_at-good t all =
+      finds_cond _ ctx.setting.flags.unicode_sets _ _
+      (λ _. finds_map (λ (found : Bool × Value). OfCodePoints found.1.strings) (IsGoodAtom n)
+      (λ (negated, value). class_set ctx.setting.flags negated value) _ (λ found h. h)
+      (class_set_at-in_range ctx.setting.table lawful ctx.setting.flags.unicode t all.each))
+      (λ _. finds_map (λ (_ : Bool × List Bounds). Unit {0}) (IsGoodAtom n) (λ (inverted, members). class ctx.setting.flags inverted members) _
+      (λ x holds. tt) (finds_any (class_at ctx.setting.table ctx.setting.flags.unicode t)))
+
   atom_by-good : (c : ℕ) (t : Source) → IsCodePoint c → AreCodePoints t → Finds (IsGoodAtom n) (atom_by ctx c t)
   atom_by-good c t h all =
       finds_cond _ (c == full_stop) _ _ (λ _. finds_some _ _ tt)
       (λ _. finds_cond _ (c == 94) _ _ (λ _. finds_some _ _ tt)
       (λ _. finds_cond _ (c == 36) _ _ (λ _. finds_some _ _ tt)
       (λ _. finds_cond _ (c == 92) _ _ (λ _. escaped_at-good t all)
-      (λ _. finds_cond _ (c == 91) _ _
-      (λ _. finds_map (λ (_ : Bool × List Bounds). Unit {0}) (IsGoodAtom n) (λ (inverted, members). class ctx.setting.flags inverted members) _
-      (λ x holds. tt) (finds_any (class_at ctx.setting.flags.unicode t)))
+      (λ _. finds_cond _ (c == 91) _ _ (λ _. brackets_at-good t all)
       (λ _. finds_cond _ (c == 123 || c == 93 || c == 125) _ _ (λ _. brace_by-good c t h)
       (λ _. finds_cond _ (is_plain c) _ _ (λ _. finds_some _ _ h) (λ _. finds_none _)))))))
 

@@ -1,22 +1,23 @@
 -- The tree of a pattern means what the pattern does.
-use Rattle.std.proofs.Common.{◌≡◌, ℕ, ◌+◌, ◌-◌, Bool, true, false, cond, not, ◌&&◌, ◌||◌, ◌==◌, List, [], ◌∷◌, length, Option, Some, None, encode_utf8_all, refl, sym, ap, subst, ◌∙◌}
+use Rattle.std.proofs.Common.{◌≡◌, ℕ, ◌+◌, ◌-◌, Bool, true, false, cond, not, ◌&&◌, ◌||◌, ◌==◌, List, [], ◌∷◌, ◌++◌, append-nil, length, Option, Some, None, encode_utf8_all, refl, sym, ap, subst, ◌∙◌}
 use Rattle.std.proofs.lemmas.List.Elements.{All-nil}
 use Rattle.regress_base.specs.Brackets.{is_accepted}
-use Rattle.regress_base.specs.Intervals.{intervals_of}
+use Rattle.regress_base.specs.Intervals.{Bounds, is_member, intervals_of}
 use Rattle.regress_tree.specs.Reading.{Direction, Read, next_character, forwards, backwards, IsText, of_characters, of_bytes}
-use Rattle.regress_tree.specs.Steps.{State, Step, byte_state, distinct, stay, fail, moved, one_character}
+use Rattle.regress_tree.specs.Steps.{State, Step, byte_state, distinct, stay, fail, moved, ◌or_◌, one_character}
 use Rattle.regress_tree.specs.Listing.{lists}
 use Rattle.regress_tree.specs.References.{back_reference as refers}
 use Rattle.regress_tree.specs.Matching.{Setting, steps, steps_in_row}
+use Rattle.regress_tree.specs.Strings.{any_string}
 use Rattle.regress_tree.specs.Assertions.{is_line_terminator, is_word_character, differ}
 use Rattle.regress_tree.specs.declared.ir.node.Quantifier.{Quantifier}
 use Rattle.regress_tree.specs.Literal.{class_of}
 use Rattle.regress_tree.specs.Table.{stands_for}
-use Rattle.regress_tree.specs.Tree.{Tree, Trees, leaf, no_trees, more_trees, match_any, match_any_except_line_terminator, char, char_set, bracket, back_ref}
-use Rattle.regress_syntax.specs.Syntax.{Atom, literal, dot, anchor, boundary, class_escape, class, back_reference, Group, grouping, modified, capture, look, Name, Pattern, Terms, Item, one, either, no_terms, more_terms, atom, group, opened_by, counts_of_item, counts_of_term, counts_of_terms, names}
-use Rattle.regress_syntax.specs.Meaning.{is_in_class, in_order, direction_of_group, group_steps, referred, any_reference, times_steps, atom_steps, pattern_steps, terms_steps, item_steps}
+use Rattle.regress_tree.specs.Tree.{Tree, Trees, leaf, alt, no_trees, more_trees, match_any, match_any_except_line_terminator, char, char_set, bracket, back_ref, string_set}
+use Rattle.regress_syntax.specs.Syntax.{Atom, literal, dot, anchor, boundary, class_escape, class, class_set, string_property, back_reference, Group, grouping, modified, capture, look, Name, Pattern, Terms, Item, one, either, no_terms, more_terms, atom, group, opened_by, counts_of_item, counts_of_term, counts_of_terms, names}
+use Rattle.regress_syntax.specs.Meaning.{is_in_class, longest_first, in_order, direction_of_group, group_steps, referred, any_reference, times_steps, atom_steps, pattern_steps, terms_steps, item_steps}
 use Rattle.regress_syntax.specs.ClassRows.{members_of}
-use Rattle.regress_parse.specs.TreeOf.{turned, joined, tree_of_group, tree_of_times, leaf_of_members, tree_of_references, tree_of_atom, tree_of_pattern, trees_of_terms, tree_of_item, tree_of}
+use Rattle.regress_parse.specs.TreeOf.{turned, joined, tree_of_group, tree_of_times, leaf_of_members, tree_of_references, tree_of_class_set, tree_of_atom, tree_of_pattern, trees_of_terms, tree_of_item, tree_of}
 use Rattle.regress_parse.specs.Accepted.{Means}
 use Rattle.regress_tree.proofs.laws.Assertions.{Simulates-anchor, Simulates-boundary}
 use Rattle.regress_tree.proofs.laws.Classes.{agreeing_simulates, is_accepted-scalar}
@@ -26,6 +27,7 @@ use Rattle.regress_tree.proofs.laws.Repetition.{Simulates-repeat}
 use Rattle.regress_tree.proofs.laws.ByteStates.{distinct-byte_state}
 use Rattle.regress_tree.proofs.laws.Outcomes.{flat_map-stay}
 use Rattle.regress_tree.proofs.laws.Simulation.{Simulates, Simulates-within, Simulates-same_right, Simulates-stay, Simulates-then, Simulates-or, Simulates-one_character, Simulates-capture, Simulates-look}
+use Rattle.regress_tree.proofs.laws.Strings.{Simulates-any_string}
 use Rattle.regress_tree.proofs.laws.Turned.{steps-row_reverse}
 
 module _ (setting : Setting) (bytes : List ℕ) (d : Direction) where
@@ -156,6 +158,52 @@ module _ (setting : Setting) (text : List ℕ) (is_text : IsText text) where
   references_simulate d icase (k ∷ next ∷ ks) =
       Simulates-or text d _ _ _ _ (reference_simulates d icase k) (references_simulate d icase (next ∷ ks))
 
+  -- ---- strings
+
+  strings_simulate : (d : Direction) (icase : Bool) (strings : List (List ℕ)) →
+      TreeSimulates setting text d (any_string d (of_characters text) (stands_for setting.table icase setting.flags.unicode) strings)
+      (leaf (string_set strings icase))
+  strings_simulate d icase strings = Simulates-any_string text is_text d (stands_for setting.table icase setting.flags.unicode) strings
+
+  -- strings, and then what a test passes, which a bracket accepts
+  module _ (d : Direction) (icase negated : Bool) (p q : ℕ → Bool) (e : (x : ℕ) → q x ≡ differ negated (p x)) where
+    abbrev strings_or : List (List ℕ) → Step
+    strings_or strings =
+        any_string d (of_characters text) (stands_for setting.table icase setting.flags.unicode) strings
+        or_ one_character d (of_characters text) q
+
+    both_simulate : (strings : List (List ℕ)) (members : List Bounds) → intervals_of p ≡ members →
+        TreeSimulates setting text d (strings_or strings) (alt (leaf (string_set strings icase)) (leaf (bracket negated members)))
+    both_simulate strings members same =
+        Simulates-or text d _ _ _ _ (strings_simulate d icase strings)
+        (subst (λ ivs. TreeSimulates setting text d (one_character d (of_characters text) q) (leaf (bracket negated ivs))) same
+        (bracket_simulates d negated p q e))
+
+  -- a bracket that holds nothing takes nothing
+  taken-none : (s : State) (found : Option Read) → moved (is_accepted false []) s found ≡ []
+  unfolding is_member
+  taken-none s None = refl
+  taken-none s (Some read) = refl
+
+  bracket-none : (d : Direction) (s : State) → steps setting (encode_utf8_all text) d (leaf (bracket false [])) s ≡ []
+  unfolding one_character
+  bracket-none d s = taken-none s (next_character d (of_bytes (encode_utf8_all text)) s.place)
+
+  class_set_simulates : (d : Direction) (icase negated : Bool) (p q : ℕ → Bool) (e : (x : ℕ) → q x ≡ differ negated (p x))
+      (strings : List (List ℕ)) (members : List Bounds) → intervals_of p ≡ members →
+      TreeSimulates setting text d (strings_or d icase negated p q e strings) (tree_of_class_set icase negated strings members)
+  unfolding any_string
+  class_set_simulates d icase negated p q e [] members same =
+      subst (λ ivs. TreeSimulates setting text d (one_character d (of_characters text) q) (leaf (bracket negated ivs))) same
+      (bracket_simulates d negated p q e)
+  class_set_simulates d icase true p q e (s ∷ ss) members same = both_simulate d icase true p q e (s ∷ ss) members same
+  class_set_simulates d icase false p q e (s ∷ ss) [] same =
+      Simulates-same_right text d _ _ _
+      (λ state. sym (ap (λ others. steps setting (encode_utf8_all text) d (leaf (string_set (s ∷ ss) icase)) state ++ others) (bracket-none d state)
+      ∙ append-nil _))
+      (both_simulate d icase false p q e (s ∷ ss) [] same)
+  class_set_simulates d icase false p q e (s ∷ ss) (iv ∷ ivs) same = both_simulate d icase false p q e (s ∷ ss) (iv ∷ ivs) same
+
 module _ (setting : Setting) (names : List (Option Name)) (text : List ℕ) (is_text : IsText text) where
   atom_simulates : (d : Direction) (a : Atom) →
       TreeSimulates setting text d (atom_steps setting names text d a) (tree_of_atom setting.table names a)
@@ -168,6 +216,10 @@ module _ (setting : Setting) (names : List (Option Name)) (text : List ℕ) (is_
       bracket_simulates setting text is_text d false (is_in_class setting.table flags negated (members_of kind)) _ (λ x. refl)
   atom_simulates d (class flags inverted members) =
       bracket_simulates setting text is_text d inverted (is_in_class setting.table flags false members) _ (λ x. refl)
+  atom_simulates d (class_set flags negated value) =
+      class_set_simulates setting text is_text d flags.icase negated (is_in_class setting.table flags false value.members) _ (λ x. refl)
+      (longest_first value.strings) _ refl
+  atom_simulates d (string_property flags written) = strings_simulate setting text is_text d flags.icase written
   atom_simulates d (back_reference flags to) = references_simulate setting text is_text d flags.icase (referred names to)
 
   mutual

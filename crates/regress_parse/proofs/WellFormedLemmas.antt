@@ -4,29 +4,31 @@ use Rattle.std.specs.Option.{IfSome}
 use Rattle.std.proofs.lemmas.Bool.{leb-true}
 use Rattle.std.proofs.lemmas.List.Elements.{All-nil, All-cons, All-head, All-tail}
 use Rattle.std.proofs.lemmas.Str.{encodes_same}
-use Rattle.regress_base.specs.Intervals.{intervals_of}
+use Rattle.regress_base.specs.Intervals.{Bounds, intervals_of}
 use Rattle.regress_base.specs.Limits.{max_char_set_length}
 use Rattle.regress_base.proofs.laws.Sets.{intervals_of-canonical}
 use Rattle.regress_tree.specs.declared.ir.node.Quantifier.{Quantifier}
 use Rattle.regress_tree.specs.Literal.{class_of}
 use Rattle.regress_tree.specs.Reading.{Direction, forwards, backwards}
 use Rattle.regress_tree.specs.Table.{Table, IsLawful}
-use Rattle.regress_tree.specs.Tree.{Tree, Trees, no_trees, more_trees, char, match_any, match_any_except_line_terminator, bracket}
+use Rattle.regress_tree.specs.Tree.{Tree, Trees, no_trees, more_trees, char, match_any, match_any_except_line_terminator, bracket, string_set}
 use Rattle.regress_tree.specs.Matching.{Setting}
 use Rattle.regress_tree.specs.WellFormed.{inside, LeafMayStand, IsQuantifier, HasGroups, MayStand, RowMayStand, IsWellFormed, captures}
 use Rattle.regress_tree.proofs.laws.Literals.{class_of-bounded, class_of-few}
 use Rattle.regress_tree.proofs.laws.Turned.{RowMayStand-row_reverse}
 use Rattle.regress_syntax.specs.ClassRows.{members_of}
 use Rattle.regress_syntax.specs.Source.{Source, IsCodePoint}
-use Rattle.regress_syntax.specs.Syntax.{Name, is_named, Target, by_number, by_name, Atom, literal, dot, anchor, boundary, class_escape, class, back_reference, Group, grouping, modified, capture, look, Pattern, Terms, Item, one, either, no_terms, more_terms, atom, group, opened_by, counts, counts_of_terms, counts_of_term, counts_of_item, names}
-use Rattle.regress_syntax.specs.Meaning.{is_in_class, direction_of_group, groups_named, referred}
+use Rattle.regress_syntax.specs.Syntax.{Name, is_named, Target, by_number, by_name, Atom, literal, dot, anchor, boundary, class_escape, class, class_set, string_property, back_reference, Group, grouping, modified, capture, look, Pattern, Terms, Item, one, either, no_terms, more_terms, atom, group, opened_by, counts, counts_of_terms, counts_of_term, counts_of_item, names}
+use Rattle.regress_syntax.specs.Meaning.{is_in_class, longest_first, direction_of_group, groups_named, referred}
 use Rattle.regress_syntax.specs.Rows.{Context, single, opens, inside as context_inside, head_of_item, allows, times_at}
 use Rattle.regress_syntax.specs.Grammar.{IsPattern, AreTerms, IsItem}
+use Rattle.regress_syntax.proofs.laws.ClassStrings.{OfCodePoints}
 use Rattle.regress_syntax.proofs.laws.NameEnds.{IsName}
 use Rattle.regress_syntax.proofs.laws.Rows.{head_at-ends, times_at-ends, times_at-ordered}
-use Rattle.regress_parse.specs.TreeOf.{turned, joined, tree_of_group, tree_of_times, leaf_of_members, tree_of_references, tree_of_atom, tree_of_pattern, trees_of_terms, tree_of_item, tree_of}
+use Rattle.regress_parse.specs.TreeOf.{turned, joined, tree_of_group, tree_of_times, leaf_of_members, tree_of_references, tree_of_class_set, tree_of_atom, tree_of_pattern, trees_of_terms, tree_of_item, tree_of}
 use Rattle.regress_parse.specs.Accepted.{IsDerived, own_context}
 use Rattle.regress_parse.proofs.CodePointLemmas.{AreCodePoints, rest_of, behind_found, IsGoodTarget, IsGoodAtom, IsGoodGroup, head_at-good}
+use Rattle.regress_parse.proofs.StringLemmas.{All-longest_first}
 use Rattle.regress_parse.proofs.GroupLemmas.{length-names, HasGroups-tree_of_item, HasGroups-tree_of_pattern, length-captures-tree_of, count_id-tree_of}
 
 -- ---- what stands for an item, where there are m groups
@@ -80,6 +82,27 @@ module _ (m : ℕ) where
   bracket_may_stand : (inverted : Bool) (p : ℕ → Bool) → LeafMayStand m (bracket inverted (intervals_of p)) inside
   bracket_may_stand inverted p = record { canonical = intervals_of-canonical p; some = tt }
 
+  -- ---- strings
+
+  strings_may_stand : (icase : Bool) (strings : List (List ℕ)) → OfCodePoints strings → LeafMayStand m (string_set strings icase) inside
+  strings_may_stand icase strings bounded = record { free = tt; bounded = bounded }
+
+  class_set_may_stand : (icase negated : Bool) (p : ℕ → Bool) (strings : List (List ℕ)) (members : List Bounds) → intervals_of p ≡ members →
+      OfCodePoints strings → MayStand m (tree_of_class_set icase negated strings members) inside
+  class_set_may_stand icase negated p [] members same bounded =
+      subst (λ ivs. LeafMayStand m (bracket negated ivs) inside) same (bracket_may_stand negated p)
+  class_set_may_stand icase true p (s ∷ ss) members same bounded = (
+    tt,
+    strings_may_stand icase (s ∷ ss) bounded,
+    subst (λ ivs. LeafMayStand m (bracket true ivs) inside) same (bracket_may_stand true p),
+  )
+  class_set_may_stand icase false p (s ∷ ss) [] same bounded = strings_may_stand icase (s ∷ ss) bounded
+  class_set_may_stand icase false p (s ∷ ss) (iv ∷ ivs) same bounded = (
+    tt,
+    strings_may_stand icase (s ∷ ss) bounded,
+    subst (λ ivs. LeafMayStand m (bracket false ivs) inside) same (bracket_may_stand false p),
+  )
+
 module _ (m : ℕ) (table : Table) (lawful : IsLawful table) where
   literal_may_stand : (icase unicode : Bool) (c : ℕ) → IsCodePoint c →
       LeafMayStand m (cond icase (leaf_of_members (class_of table true unicode c)) (char c)) inside
@@ -94,6 +117,10 @@ module _ (m : ℕ) (table : Table) (lawful : IsLawful table) where
   atom_may_stand all (boundary flags inverted) few h = tt
   atom_may_stand all (class_escape flags kind negated) few h = bracket_may_stand m false (is_in_class table flags negated (members_of kind))
   atom_may_stand all (class flags inverted members) few h = bracket_may_stand m inverted (is_in_class table flags false members)
+  atom_may_stand all (class_set flags negated value) few h =
+      class_set_may_stand m flags.icase negated (is_in_class table flags false value.members) (longest_first value.strings) _ refl
+      (All-longest_first (All IsCodePoint) value.strings h)
+  atom_may_stand all (string_property flags written) few h = strings_may_stand m flags.icase written h
   atom_may_stand all (back_reference flags to) few h =
       references_may_stand m flags.icase (referred all to) (referred_are_groups m all to few h)
 
@@ -134,18 +161,23 @@ times_at-good : (ctx : Context) (allowed : Bool) (t : Source) (q : Option Quanti
 times_at-good ctx allowed t None rest e = tt
 times_at-good ctx allowed t (Some q) rest e = ordered_times q.min q.max (times_at-ordered ctx allowed t q rest e).1
 
--- inside a group the pattern has the same groups
-groups_inside : (kind : Group) (ctx : Context) → (context_inside kind ctx).groups ≡ ctx.groups
-groups_inside grouping ctx = refl
-groups_inside (modified change) ctx = refl
-groups_inside (capture name) ctx = refl
-groups_inside (look negate direction) ctx = refl
+-- The rows look at a lawful table, and at no more groups than there are.
+record IsKnown (m : ℕ) (ctx : Context) : Type 0 where
+  lawful : IsLawful ctx.setting.table
+  groups : ctx.groups ≤ m
+
+-- so they do inside a group
+known_inside : (m : ℕ) (kind : Group) (ctx : Context) → IsKnown m ctx → IsKnown m (context_inside kind ctx)
+known_inside m grouping ctx h = h
+known_inside m (modified change) ctx h = record { lawful = h.lawful; groups = h.groups }
+known_inside m (capture name) ctx h = h
+known_inside m (look negate direction) ctx h = h
 
 -- the pattern has m groups, and these are their names
 module _ (m : ℕ) (table : Table) (lawful : IsLawful table) (all : List (Option Name)) (few : length all ≤ m) where
   mutual
     -- with what follows, to go on from
-    pattern_stands : (ctx : Context) (d : Direction) (n : ℕ) (p : Pattern) (t rest : Source) → ctx.groups ≤ m → n + (counts p).groups ≤ m →
+    pattern_stands : (ctx : Context) (d : Direction) (n : ℕ) (p : Pattern) (t rest : Source) → IsKnown m ctx → n + (counts p).groups ≤ m →
         AreCodePoints t → IsPattern ctx p t rest → MayStand m (tree_of_pattern table all d n p) inside × AreCodePoints rest
     pattern_stands ctx d n (one ts) t rest known h points derived =
         let row = terms_stand ctx d n ts t rest known h points derived.0 in
@@ -155,7 +187,7 @@ module _ (m : ℕ) (table : Table) (lawful : IsLawful table) (all : List (Option
         let others = pattern_stands ctx d (n + (counts_of_terms ts).groups) p derived.0 rest known (omega arith) (rest_of row.1) derived.2 in
         ((tt, stands-joined m d (trees_of_terms table all d n ts) row.0, others.0), others.1)
 
-    terms_stand : (ctx : Context) (d : Direction) (n : ℕ) (ts : Terms) (t rest : Source) → ctx.groups ≤ m →
+    terms_stand : (ctx : Context) (d : Direction) (n : ℕ) (ts : Terms) (t rest : Source) → IsKnown m ctx →
         n + (counts_of_terms ts).groups ≤ m → AreCodePoints t → AreTerms ctx ts t rest →
         RowMayStand m (trees_of_terms table all d n ts) inside × AreCodePoints rest
     terms_stand ctx d n no_terms t rest known h points derived = (tt, subst AreCodePoints derived.1 points)
@@ -169,18 +201,18 @@ module _ (m : ℕ) (table : Table) (lawful : IsLawful table) (all : List (Option
         (times_at-good ctx allowed derived.0 q derived.1 derived.3) (HasGroups-tree_of_item table all d n x) first.0 in
         (stands-more m _ row one others.0, others.1)
 
-    item_stands : (ctx : Context) (d : Direction) (n : ℕ) (x : Item) (t rest : Source) → ctx.groups ≤ m →
+    item_stands : (ctx : Context) (d : Direction) (n : ℕ) (x : Item) (t rest : Source) → IsKnown m ctx →
         n + (counts_of_item x).groups ≤ m → AreCodePoints t → IsItem ctx x t rest →
         MayStand m (tree_of_item table all d n x) inside × AreCodePoints rest
     item_stands ctx d n (atom a) t rest known h points derived =
-        let good = (head_at-good ctx m known t points).each (single a, rest) derived in
+        let good = (head_at-good ctx known.lawful m known.groups t points).each (single a, rest) derived in
         (atom_may_stand m table lawful all a few good, behind_found _ t (single a, rest) (head_at-ends ctx t) derived points)
     item_stands ctx d n (group kind p) t rest known h points derived =
-        let good = (head_at-good ctx m known t points).each (opens kind, derived.0) derived.1 in
+        let good = (head_at-good ctx known.lawful m known.groups t points).each (opens kind, derived.0) derived.1 in
         let next = behind_found _ t (opens kind, derived.0) (head_at-ends ctx t) derived.1 points in
         let inner = direction_of_group kind d in
         let tree = tree_of_pattern table all inner (n + opened_by kind) p in
-        let body = pattern_stands (context_inside kind ctx) inner (n + opened_by kind) p derived.0 _ (omega (arith, groups_inside kind ctx))
+        let body = pattern_stands (context_inside kind ctx) inner (n + opened_by kind) p derived.0 _ (known_inside m kind ctx known)
         (omega arith) next derived.2 in
         let end : n + opened_by kind + (counts p).groups ≡ n + (counts_of_item (group kind p)).groups = omega arith in
         let groups = subst (λ k. HasGroups (n + opened_by kind) k tree) end (HasGroups-tree_of_pattern table all inner (n + opened_by kind) p) in
@@ -195,8 +227,9 @@ tree_of-well_formed setting source p lawful points derived =
     let m = length (captures (tree_of setting.table p)) in
     let known : (counts p).groups ≤ m = omega (arith, length-captures-tree_of setting.table p) in
     let few : length (names p) ≤ m = omega (arith, known, length-names p) in
-    let body = pattern_stands m setting.table lawful (names p) few (own_context setting p) forwards 0 p source [] known (omega (arith, known))
-    (record { each = points }) derived.whole in
+    let body = pattern_stands m setting.table lawful (names p) few (own_context setting p) forwards 0 p source []
+    (record { lawful = lawful; groups = known }) (omega (arith, known))
+    (record { each = points }) derived in
     record {
       stands = (tt, (body.0, tt));
       ids = count_id-tree_of setting.table p;

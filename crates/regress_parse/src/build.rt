@@ -1,24 +1,26 @@
 //! Trees from parts.
-ghost use Rattle.std.specs.Prelude.{◌≡◌, ◌≢◌, ℕ, Bool, false, List, [], Some, IfOk, map, option_map, string_bytes, encode_utf8_all};
+ghost use Rattle.std.specs.Prelude.{◌≡◌, ◌≢◌, ℕ, Bool, false, List, [], Some, IfOk, OnOk, map, option_map, string_bytes, encode_utf8_all};
 ghost use Rattle.regress_tree.specs.Assertions.{differ};
 ghost use Rattle.regress_base.specs.Intervals.{Bounds, intervals_of};
-ghost use Rattle.regress_tree.specs.Tree.{tree, trees, leaf, bracket};
+ghost use Rattle.regress_tree.specs.Tree.{tree, trees, leaf, bracket, string_set};
 ghost use Rattle.regress_tree.specs.TableOf.{table_of};
-ghost use Rattle.regress_syntax.specs.Meaning.{is_in_class};
+ghost use Rattle.regress_syntax.specs.ClassSets.{Value as WrittenValue};
+ghost use Rattle.regress_syntax.specs.Meaning.{is_in_class, longest_first};
 ghost use Rattle.regress_syntax.specs.Source.{IsCodePoint};
 ghost use Rattle.regress_syntax.specs.ClassRows.{members_of};
 ghost use Rattle.regress_syntax.specs.Syntax.{Atom as Written};
-ghost use Rattle.regress_syntax.specs.Views.{IsAtom, IsSomeAtom, HasMembers, context_of, names_in, direction_of, group_of};
-ghost use Rattle.regress_parse.specs.TreeOf.{turned, joined, leaf_of_members, leaf_of_literal, tree_of_references, tree_of_atom, tree_of_group, tree_of_times};
+ghost use Rattle.regress_syntax.specs.Views.{IsAtom, IsSomeAtom, IsValue, HasMembers, strings_of, context_of, names_in, direction_of, group_of};
+ghost use Rattle.regress_parse.specs.TreeOf.{turned, joined, leaf_of_members, leaf_of_literal, tree_of_references, tree_of_class_set, tree_of_atom, tree_of_group, tree_of_times};
 ghost use Rattle.regress_parse.specs.Parsing.{alternatives};
 
 use regress_base::charclasses::CharacterClassType;
 use regress_base::codepointset::CodePointSet;
 use regress_base::types::{BracketContents, CaptureGroupID};
-use regress_syntax::{Atom, Group, Name, Scope, class_set};
+use regress_syntax::{Atom, Group, Name, Scope, Value, class_set};
 use regress_tree::ir::{Node, NodeList, Quantifier};
 use regress_tree::unicode::{add_icase_code_points, expand_code_point};
 use std::alloc::{AllocError, Global};
+use std::cmp::Reverse;
 use std::ops::Range;
 
 /// The node of an item that holds no pattern.
@@ -44,6 +46,8 @@ pub(crate) fn make_atom(alloc: Global, atom: Atom, scope: &Scope) -> Result<Node
             invert: inverted,
             cps: close(set, scope)?,
         }),
+        Atom::ClassSet { negated, value } => make_class_set(alloc, negated, value, scope)?,
+        Atom::Strings(strings) => make_strings(alloc, strings, scope.flags.icase)?,
         Atom::BackReferences(numbers) => make_references(alloc, numbers, scope.flags.icase)?,
     })
 }
@@ -101,6 +105,67 @@ fn make_class_escape(
         invert: false,
         cps: complement_if(closed, negated)?,
     }))
+}
+
+/// The node of a class with the flag v, whose strings are tried longest first.
+fn make_class_set(
+    alloc: Global,
+    negated: bool,
+    value: Value,
+    scope: &Scope,
+) -> Result<Node, AllocError>
+    ensures { (written : WrittenValue) → IsValue value written → IfOk result (λ node. tree node ≡
+        tree_of_class_set scope.now.flags.icase negated (longest_first written.strings)
+        (intervals_of (is_in_class (table_of scope.now.tables.now) scope.now.flags false written.members))) }
+{
+    let mut strings = value.strings;
+    sort_longest_first(&mut strings)?;
+    let contents = BracketContents {
+        invert: negated,
+        cps: close(value.set, scope)?,
+    };
+    make_strings_or_bracket(alloc, strings, contents, scope.flags.icase)
+}
+
+/// Sorts the strings by falling length. Those of one length keep their order.
+fn sort_longest_first(strings: &mut Vec<Vec<u32>>) -> Result<(), AllocError>
+    ensures { OnOk result (strings_of strings.new.items ≡ longest_first (strings_of strings.old.items)) }
+{
+    strings.sort_by_key(|string| Reverse(string.len()))
+}
+
+/// The node of these strings and a bracket: both as alternatives, or one of them where the other has nothing.
+fn make_strings_or_bracket(
+    alloc: Global,
+    strings: Vec<Vec<u32>>,
+    contents: BracketContents,
+    icase: bool,
+) -> Result<Node, AllocError>
+    ensures { IfOk result (λ node. tree node ≡ tree_of_class_set icase contents.invert (strings_of strings.items) contents.cps) }
+{
+    if strings.is_empty() {
+        return Ok(Node::Bracket(contents));
+    }
+    let strings = make_strings(alloc, strings, icase)?;
+    if contents.cps.is_empty() && !contents.invert {
+        return Ok(strings);
+    }
+    let bracket = Node::Bracket(contents);
+    Ok(Node::Alt(Box::new(alloc, strings)?, Box::new(alloc, bracket)?))
+}
+
+/// The node of these strings, tried in their order.
+fn make_strings(alloc: Global, strings: Vec<Vec<u32>>, icase: bool) -> Result<Node, AllocError>
+    ensures { IfOk result (λ node. tree node ≡ leaf (string_set (strings_of strings.items) icase)) }
+{
+    let mut alternatives = Vec::with_capacity(alloc, strings.len())?;
+    for string in strings {
+        alternatives.push(string.into_boxed_slice())?;
+    }
+    Ok(Node::StringSet {
+        alternatives,
+        icase,
+    })
 }
 
 /// The set, or its complement.

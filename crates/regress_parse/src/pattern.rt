@@ -8,36 +8,37 @@ ghost use Rattle.regress_syntax.specs.Source.{IsCodePoint};
 ghost use Rattle.regress_syntax.specs.Syntax.{Pattern};
 ghost use Rattle.regress_syntax.specs.Views.{context_of};
 ghost use Rattle.regress_parse.specs.TreeOf.{tree_of};
-ghost use Rattle.regress_parse.specs.Accepted.{is_served, IsAccepted, NoneIsAccepted, OneIsDerived, OfAccepted, Means};
+ghost use Rattle.regress_parse.specs.Accepted.{IsAccepted, NoneIsAccepted, OneIsDerived, OfAccepted, Means};
 ghost use Rattle.regress_parse.specs.Parsing.{YieldsWhole};
 
 use crate::parser::{Around, Parser};
 use regress_base::types::Flags;
-use regress_syntax::fault::{UNBALANCED, UNSUPPORTED, syntax};
+use regress_syntax::fault::{UNBALANCED, syntax};
 use regress_syntax::{Cursor, ParseFault, Scope, scan_groups};
 use regress_tree::ir::{Node, Regex};
 use regress_tree::unicode::Tables;
 use std::alloc::Global;
 
 /// Parses a pattern, a list of code points of which a surrogate is an ordinary literal, and no character of
-/// a text. `docs/GRAMMAR.md` has the rows that are served so far, under the flags i, m, s and u. Not served are
-/// `\p` and `\P` with the flag u, and the flag v.
+/// a text. `docs/GRAMMAR.md` has the rows, under the flags i, m, s, u and v. The flag v is read by itself: it asks for
+/// other classes, for `\p` and `\P`, and for properties of strings. A caller who wants JavaScript's flag v sets u too.
 ///
 /// `Syntax` is answered with one of the texts of `regress_syntax::fault`, which says where each is due:
-/// - `Unsupported syntax`, at what isn't served, and first of all under the flag v;
 /// - before the pattern is parsed, `Regular expression is too deeply nested` (`MAX_NESTING_DEPTH` levels: the
-///   whole pattern is one, and each parenthesis that is open), or `Duplicate capture group name` where two
-///   groups of one name conflict;
+///   whole pattern is one, each parenthesis that is open, and with the flag v each class that is open inside of
+///   another), or `Duplicate capture group name` where two groups of one name conflict;
 /// - past another limit, `Capture group count limit exceeded` (`MAX_CAPTURE_GROUPS`) or `Loop count limit
 ///   exceeded` (`MAX_LOOPS`, a loop being an item with a quantifier);
 /// - else where no row applies: `Unbalanced parenthesis`, or a text on an item, a group, a reference,
-///   a quantifier, an escape or a class.
+///   a quantifier, an escape, a property or a class.
 ///
 /// Of several faults that parsing meets the first from the left is told. `Memory` is answered where memory was
 /// wanting, also for the text of a fault. The time taken grows as the pattern does, with a logarithm for groups
 /// that have names, and with the flag i as that times the rows of the table; only the intervals of a class that
 /// stand in descending order are each moved for every one that follows. A reference by a name makes a node for
-/// each group that has it, so time and tree may grow as the product of both.
+/// each group that has it, so time and tree may grow as the product of both. With the flag v what a class holds is
+/// gone over once for each class around it, and for each `&&` or `--` behind it; a property is copied out of the table
+/// wherever it is named.
 pub fn try_parse(
     alloc: Global,
     pattern: &[u32],
@@ -59,10 +60,7 @@ pub fn try_parse(
     ensures well_formed { IfOk result (λ r. IsWellFormed (tree r.node)) }
     ensures flags { IfOk result (λ r. r.flags ≡ flags) }
 {
-    if !is_served(flags) {
-        return Err(syntax(alloc, UNSUPPORTED));
-    }
-    let groups = scan_groups(alloc, pattern, tables)?;
+    let groups = scan_groups(alloc, pattern, flags.unicode_sets, tables)?;
     let scope = Scope {
         flags,
         tables,
@@ -74,13 +72,6 @@ pub fn try_parse(
         node: Node::Cat(parts),
         flags,
     })
-}
-
-/// Whether the rows that are served hold under the flags.
-fn is_served(flags: Flags) -> bool
-    ensures { result ≡ is_served flags }
-{
-    !flags.unicode_sets
 }
 
 /// Parses the whole source, up to its end.

@@ -1,7 +1,8 @@
 //! The grammar, form by form.
-ghost use Rattle.std.specs.Prelude.{◌<◌, ◌≤◌, OnOk, length};
-ghost use Rattle.regress_syntax.specs.Views.{group_of, IsHead, IsSomeHead};
-ghost use Rattle.regress_syntax.specs.Rows.{Head as Written, opens};
+ghost use Rattle.std.specs.Prelude.{◌≡◌, ◌<◌, ◌≤◌, OnOk, length};
+ghost use Rattle.regress_syntax.specs.Views.{group_of, IsAtom, IsHead, IsSomeHead};
+ghost use Rattle.regress_syntax.specs.Syntax.{Atom as WrittenAtom, levels_of_atom};
+ghost use Rattle.regress_syntax.specs.Rows.{Context, Head as Written, opens};
 ghost use Rattle.regress_base.specs.Limits.{max_nesting_depth};
 ghost use Rattle.regress_parse.specs.Reader.{pattern_at, terms_at, term_at, item_behind};
 ghost use Rattle.regress_parse.specs.Parsing.{text, counted, direction_of, context_in, table_in, names_around, pattern_part, terms_part, term_part, item_part, Yields};
@@ -10,7 +11,7 @@ use crate::build::{make_alt, make_atom, make_cat, make_group, make_loop};
 use crate::parser::{Around, Parser};
 use regress_base::types::MAX_NESTING_DEPTH;
 use regress_syntax::fault::{TOO_DEEP, syntax};
-use regress_syntax::{Group, Head, ParseFault, read_head, read_times};
+use regress_syntax::{Atom, Group, Head, ParseFault, read_head, read_times};
 use regress_tree::ir::Node;
 
 impl Parser<'_> {
@@ -84,7 +85,13 @@ impl Parser<'_> {
             (item_behind pattern_at (context_in around.now) (written, text self.old)) }
     {
         match head {
-            Head::Atom(atom) => Ok(make_atom(self.cursor.alloc, atom, &around.scope)?),
+            Head::Atom(atom) => {
+                // The scan in front has refused these already.
+                if levels(&atom) > MAX_NESTING_DEPTH - around.depth {
+                    return Err(syntax(self.cursor.alloc, TOO_DEEP));
+                }
+                Ok(make_atom(self.cursor.alloc, atom, &around.scope)?)
+            }
             Head::Opens(kind) => self.consume_group(kind, around),
         }
     }
@@ -100,5 +107,15 @@ impl Parser<'_> {
         let contents = self.consume_disjunction(&around.inside(&kind))?;
         self.cursor.consume_closing()?;
         Ok(make_group(self.cursor.alloc, kind, first..self.group_count, contents)?)
+    }
+}
+
+/// How many levels of classes lie in an item.
+fn levels(atom: &Atom) -> u32
+    ensures { (ctx : Context) (a : WrittenAtom) → IsAtom ctx atom.now a → result ≡ levels_of_atom a }
+{
+    match atom {
+        Atom::ClassSet { value, .. } => value.levels,
+        _ => 0,
     }
 }

@@ -11,7 +11,7 @@ use Rattle.regress_syntax.specs.Views.{names_in}
 use Rattle.regress_syntax.proofs.laws.Sources.{on_syntax_then}
 use Rattle.regress_parse.specs.Parsing.{YieldsWhole}
 use Rattle.regress_parse.specs.TreeOf.{tree_of, tree_of_pattern}
-use Rattle.regress_parse.specs.Accepted.{is_served, Means}
+use Rattle.regress_parse.specs.Accepted.{Means}
 use Rattle.regress_parse.proofs.AcceptedLemmas.{found_names, scanned, most, scanned-is, names_found, reads_derived, derived_reads, same_derived, marks-refuse, marks-apart, limits-fit, fit-limits}
 use Rattle.regress_parse.proofs.GrammarLemmas.{pattern_at-sound}
 use Rattle.regress_parse.proofs.MeaningLemmas.{tree_of-means}
@@ -60,11 +60,10 @@ returns-clause-accepted c =
     let same = scanned-is setting t found.whole c.in_ok-groups.groups.count (names_in c.in_ok-groups.groups) found.names found.count in
     let here = scanned setting t found.whole (most setting t found.whole) in
     let read : YieldsWhole here t (Ok c.in_ok-body.body) = subst (λ ctx. YieldsWhole ctx t (Ok c.in_ok-body.body)) same c.in_ok-body.ensures in
-    let served : is_served c.args.flags ≡ true = grind arith in
     let p = read.0 in
     let few : (counts p).groups < max_capture_groups + 1 = omega (arith, read.2.groups) in
-    let derived = derived_reads setting t found.whole p served read.1 few in
-    let names = names_found setting t found.whole here p refl (pattern_at-sound here t (p, []) read.1) in (
+    let derived = derived_reads setting t found.whole p read.1 few in
+    let names = names_found setting t found.whole here p refl refl (pattern_at-sound here t (p, []) read.1) in (
       p,
       record {
         derived = derived;

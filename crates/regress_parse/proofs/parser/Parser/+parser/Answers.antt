@@ -273,6 +273,7 @@ consume_item-returns-in_ok-make_atom-in-Atom t c = record {
       let p = rw c.in-Atom.is at is_head in
       let old = c.args.self.now in
       let around = c.args.around.now in
+      let levels = c.levels.ensures (context_in around) p.0 p.2 in
       subst
       (λ (w : Head). IsSomeAnd (item_behind pattern_at (context_in around) (w, text old))
       (λ x. Builds (direction_of around) around.depth (counted old) old c.in_ok-make_atom-in-Atom.field-0
@@ -280,7 +281,7 @@ consume_item-returns-in_ok-make_atom-in-Atom t c = record {
       (sym p.1)
       (record {
         node = c.in_ok-make_atom-in-Atom.ensures p.0 p.2;
-        fits = record { groups = omega (arith, old.groups_within); loops = omega (arith, old.loops_within); levels = omega arith };
+        fits = record { groups = omega (arith, old.groups_within); loops = omega (arith, old.loops_within); levels = omega (arith, levels, c.if-levels-around.false) };
         counts = sym (added-nothing (counted old));
         rest = refl;
       });
