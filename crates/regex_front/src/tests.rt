@@ -115,8 +115,6 @@ Cat
 
 const USAGE: &str = "usage: regex-front PATTERN [FLAGS]\n";
 
-const UNSUPPORTED: &str = "error: Unsupported syntax\n";
-
 #[test]
 fn each_status_comes_with_its_output(rt: HostRuntime) -> Result<(), Fail> {
     let alloc = rt.alloc();
@@ -138,8 +136,18 @@ fn each_status_comes_with_its_output(rt: HostRuntime) -> Result<(), Fail> {
             "",
         ),
         (&["\\x4", "u"], 1, "", "error: Invalid character escape\n"),
-        (&["\\p{L}", "u"], 1, "", UNSUPPORTED),
-        (&["a", "musv"], 1, "", UNSUPPORTED),
+        (
+            &["\\p{L}", "u"],
+            1,
+            "",
+            "error: Invalid property name\n",
+        ),
+        (
+            &["[ab]", "musv"],
+            0,
+            "Cat\n..Bracket BracketContents { invert: false, cps: CodePointSet { ivs: [U+0061-U+0062] } }\n..Goal\n--\nCat\n..Bracket BracketContents { invert: false, cps: CodePointSet { ivs: [U+0061-U+0062] } }\n..Goal\n",
+            "",
+        ),
         (&[], 2, "", USAGE),
         (&["a", "s", "s"], 2, "", USAGE),
         (&["a", "ss"], 2, "", USAGE),

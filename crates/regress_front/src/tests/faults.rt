@@ -118,25 +118,6 @@ fn the_first_fault_from_the_left_is_told(rt: HostRuntime) -> Result<(), Fail> {
 }
 
 #[test]
-fn what_is_not_served_is_refused(rt: HostRuntime) -> Result<(), Fail> {
-    let rows = [
-        ("\\p{Zl}", "u"),
-        ("\\P{Zl}", "u"),
-        ("[\\p{Zl}]", "u"),
-        ("\\p{L}", "u"),
-        ("a", "v"),
-        ("a", "uv"),
-        ("a", "imsv"),
-    ];
-    for (pattern, letters) in rows {
-        let points = code_points(rt.alloc(), pattern)?;
-        let found = fault_of(rt.alloc(), &points, flags_of(letters))?;
-        assert_eq!(rt; found.as_str(), "Unsupported syntax", "{pattern} {letters}");
-    }
-    Ok(())
-}
-
-#[test]
 fn levels_groups_and_loops_have_their_limits(rt: HostRuntime) -> Result<(), Fail> {
     let rows = [
         ("(?:", "a", ")", 255, "accepted"),
