@@ -1,4 +1,4 @@
-pub mod SetRows
+pub mod ClassSetExamples
 pub mod laws
 mod ClassLemmas
 mod ClassSetLemmas
