@@ -6,11 +6,12 @@ use Rattle.std.proofs.lemmas.Bool.Decides.{nat_tests}
 use Rattle.std.specs.List.{list_any}
 use Rattle.regress_base.specs.Classes.{digits, white_space, line_terminators, word_characters}
 use Rattle.regress_base.specs.Intervals.{Bounds, code_point_max, is_member, is_within, intervals_of, IsCanonical}
-use Rattle.regress_base.proofs.laws.Sets.{canonical_is}
+use Rattle.regress_base.proofs.laws.Sets.{canonical_is, intervals_of-member}
 use Rattle.regress_tree.specs.Listing.{IsListing}
 use Rattle.regress_tree.specs.Literal.{class_of}
 use Rattle.regress_tree.specs.Table.{Table, stands_for, is_in_closure, code_points}
 use Rattle.regress_tree.proofs.laws.Literals.{listing_is_listed}
+use Rattle.regress_syntax.specs.ClassRows.{complement}
 use Rattle.regress_parse.proofs.Meanings.{empty_table, run}
 
 -- ---- classes without the flag i
@@ -78,6 +79,39 @@ letters_set = sym (canonical_is (run 97 99 ∷ []) (is_member (run 97 97 ∷ run
     same : (c : ℕ) → c ≤ code_point_max → is_member (run 97 99 ∷ []) c ≡ is_member (run 97 97 ∷ run 98 98 ∷ run 99 99 ∷ []) c
     same c h = grind (arith, nat_tests)
 
+-- `[\w--\d]`
+abbrev pub words_but_digits : List Bounds
+words_but_digits = run 0x41 0x5A ∷ run 0x5F 0x5F ∷ run 0x61 0x7A ∷ []
+
+pub words_but_digits_set : intervals_of (λ c. is_member word_characters c && not (is_member digits c)) ≡ words_but_digits
+unfolding is_member is_within
+words_but_digits_set = sym (canonical_is words_but_digits (λ c. is_member word_characters c && not (is_member digits c)) refl same)
+  where
+    same : (c : ℕ) → c ≤ code_point_max → is_member words_but_digits c ≡ (is_member word_characters c && not (is_member digits c))
+    same c h = grind (arith, nat_tests)
+
+abbrev small_letters : List Bounds
+small_letters = run 97 122 ∷ []
+
+abbrev vowels : List Bounds
+vowels = run 97 97 ∷ run 101 101 ∷ run 105 105 ∷ run 111 111 ∷ run 117 117 ∷ []
+
+-- `[[a-z]&&[^aeiou]]`
+abbrev pub consonants : List Bounds
+consonants = run 98 100 ∷ run 102 104 ∷ run 106 110 ∷ run 112 116 ∷ run 118 122 ∷ []
+
+consonants_are : (c : ℕ) → is_member consonants c ≡ (is_member small_letters c && not (is_member vowels c))
+unfolding is_member is_within
+consonants_are c = grind (arith, nat_tests)
+
+pub consonants_set : intervals_of (λ c. is_member small_letters c && is_member (complement vowels) c) ≡ consonants
+consonants_set = sym (canonical_is consonants (λ c. is_member small_letters c && is_member (complement vowels) c) refl same)
+  where
+    same : (c : ℕ) → c ≤ code_point_max → is_member consonants c ≡ (is_member small_letters c && is_member (complement vowels) c)
+    same c h =
+        consonants_are c
+        ∙ ap (λ there. is_member small_letters c && there) (sym (intervals_of-member (λ d. not (is_member vowels d)) c h))
+
 -- ---- literals with the flag i, under a table of a few letters
 
 -- the folds and capitals of a, b, k, s, e acute and theta, and what else folds to them
@@ -132,7 +166,12 @@ s_with_u = stands_for_these true 0x17F _ (record { ascending = refl; members = �
 pub theta_with_u : letters true 0x3B8 ≡ 0x398 ∷ 0x3B8 ∷ 0x3F4 ∷ []
 theta_with_u = stands_for_these true 0x3B8 _ (record { ascending = refl; members = λ x. grind (arith, nat_tests) })
 
--- ---- a class with the flag i
+-- ---- classes with the flag i
+
+-- a class that holds no character
+pub closed_nothing : intervals_of (is_in_closure few_letters []) ≡ []
+unfolding is_member is_in_closure
+closed_nothing = sym (canonical_is [] (is_in_closure few_letters []) refl (λ c h. grind arith))
 
 abbrev pub closed_k : List Bounds
 closed_k = run 0x4B 0x4B ∷ run 0x6B 0x6B ∷ run 0x212A 0x212A ∷ []

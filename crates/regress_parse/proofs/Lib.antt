@@ -21,5 +21,6 @@ pub mod CharacterMeanings
 pub mod LookaroundMeanings
 pub mod ReferenceMeanings
 pub mod ModifierMeanings
+pub mod SetMeanings
 pub mod Examples
 pub mod GroupExamples

@@ -14,14 +14,17 @@ use Rattle.regress_tree.specs.References.{back_reference}
 use Rattle.regress_tree.specs.Repetition.{repeat}
 use Rattle.regress_tree.specs.SmallTable.{small_table}
 use Rattle.regress_tree.specs.Steps.{Span, State, byte_state, one_character, hold_at, capture as captures, same_state}
-use Rattle.regress_tree.specs.Table.{Table, is_in_closure}
+use Rattle.regress_tree.specs.Strings.{any_string}
+use Rattle.regress_tree.specs.Table.{Table, named as value_named, is_in_closure}
 use Rattle.regress_tree.specs.Matching.{Setting, matches}
 use Rattle.regress_syntax.specs.ClassRows.{class_at, class_parts_by}
+use Rattle.regress_syntax.specs.ClassSets.{class_set_by, parts_by, operands_by, operand_at, set_character_at, strings_by}
 use Rattle.regress_syntax.specs.Digits.{front, behind}
 use Rattle.regress_syntax.specs.Escapes.{escape_at, unicode_at}
 use Rattle.regress_syntax.specs.Meaning.{meaning}
 use Rattle.regress_syntax.specs.Modifiers.{modifiers_at}
 use Rattle.regress_syntax.specs.Names.{name_at, rest_of_name_by}
+use Rattle.regress_syntax.specs.Properties.{property_at}
 use Rattle.regress_syntax.specs.Quantifiers.{quantifier_at}
 use Rattle.regress_syntax.specs.Rows.{Context, head_at, times_at}
 use Rattle.regress_syntax.specs.Scan.{plain as outside_classes, named_by}
@@ -90,7 +93,8 @@ context setting source = of_groups setting (named_by (walked setting.flags.unico
 
 -- the pattern that the whole source is
 unfoldable pub pattern_of : Setting → Source → Option Pattern
-unfolding context pattern_at read_terms head_at times_at quantifier_at front behind escape_at class_at class_parts_by modifiers_at
+unfolding context pattern_at read_terms head_at times_at quantifier_at front behind escape_at class_at class_parts_by
+    class_set_by parts_by operands_by operand_at set_character_at strings_by property_at value_named modifiers_at
 pattern_of setting source = whole (pattern_at (context setting source) source)
 
 -- at a place, where no group of the pattern has captured
@@ -99,7 +103,7 @@ start p place = record { place = place; captures = replicate (counts p).groups N
 
 -- the pattern's outcomes on the text from each of the places
 unfoldable pub outcomes : Setting → Source → List ℕ → List ℕ → Option (List (List State))
-unfolding pattern_of one_character hold_at captures repeat look back_reference same_state is_in_closure image small_table
+unfolding pattern_of one_character hold_at captures repeat look back_reference any_string same_state is_in_closure image small_table
 outcomes setting source text places =
     option_map (λ p. map (λ k. meaning setting text forwards p (start p k)) places) (pattern_of setting source)
 
