@@ -214,7 +214,7 @@ module _ (table : Table) where
       gives_range : (depth before levels : ℕ) (first last : Operand) (t : Source) →
           Gives (within table depth before (max (max levels (value_of first).levels) (value_of last).levels) t)
           (behind_part table depth before levels)
-          (elim (range_of table unicode inner in_negated first last) as (λ _. Found Value) [ None ↦ None | Some members ↦ Some (only members, t) ])
+          (elim (range_of first last) as (λ _. Found Value) [ None ↦ None | Some members ↦ Some (only members, t) ])
       gives_range depth before levels (character a) (character b) t = gives_points depth before levels (points_between a b) t
       gives_range depth before levels (character a) (ClassSets.class others) t = gives_none
       gives_range depth before levels (ClassSets.class value) last t = gives_none
@@ -249,7 +249,7 @@ module _ (table : Table) where
       -- ---- operators
 
       -- the same sign twice
-      pass_signs : (depth before levels k : ℕ) (t : Source) → is_quiet k ≡ true → are_at table unicode inner in_negated k t ≡ true →
+      pass_signs : (depth before levels k : ℕ) (t : Source) → is_quiet k ≡ true → are_at k t ≡ true →
           within table depth before levels t ≡ within table depth before levels (drop 2 t)
       pass_signs depth before levels k t quiet e =
           let both = and_both _ _ e in
@@ -265,7 +265,7 @@ module _ (table : Table) where
           gives_then _ (operand_at table unicode inner in_negated t) _ (gives_operand_at depth before value.levels t)
           (λ x. gives_after (same_within depth before _ (f value (value_of x.0)).levels x.1 (sym (deeper value (value_of x.0))))
           (gives_cond (is_at 93 x.1) _ _ (λ e. gives_some (f value (value_of x.0), drop 1 x.1) (pass_close depth before _ x.1 e))
-          (λ _. gives_cond (are_at table unicode inner in_negated c x.1) _ _
+          (λ _. gives_cond (are_at c x.1) _ _
           (λ e. gives_after (pass_signs depth before _ c x.1 quiet e)
           (gives_operands_by n depth before c f (f value (value_of x.0)) (drop 2 x.1) quiet deeper))
           (λ _. gives_none))))
@@ -274,10 +274,10 @@ module _ (table : Table) where
           Gives (behind_operand table depth before 0 x.0 x.1) (behind_class table depth before) (contents_behind table unicode inner in_negated x)
       gives_contents_behind depth before (first, t) =
           gives_after (same_within depth before (max 0 (value_of first).levels) (value_of first).levels t (omega arith))
-          (gives_cond (are_at table unicode inner in_negated 38 t) _ _
+          (gives_cond (are_at 38 t) _ _
           (λ e. gives_after (pass_signs depth before (value_of first).levels 38 t refl e)
           (gives_operands_by (length (drop 2 t) + 1) depth before 38 common (value_of first) (drop 2 t) refl (λ a b. refl)))
-          (λ _. gives_cond (are_at table unicode inner in_negated 45 t) _ _
+          (λ _. gives_cond (are_at 45 t) _ _
           (λ e. gives_after (pass_signs depth before (value_of first).levels 45 t refl e)
           (gives_operands_by (length (drop 2 t) + 1) depth before 45 without (value_of first) (drop 2 t) refl (λ a b. refl)))
           (λ _. gives_cond (is_at 38 t) _ _
