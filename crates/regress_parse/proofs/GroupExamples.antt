@@ -1,5 +1,5 @@
 -- How groups, names, modifiers and references are read, and their trees and marks, at worked patterns.
-use Rattle.std.proofs.Common.{◌≡◌, ℕ, Bool, false, true, List, [], ◌∷◌, Option, Some, None, option_map, refl, ◌∙◌, codes}
+use Rattle.std.proofs.Common.{◌≡◌, ℕ, Bool, false, true, List, [], ◌∷◌, Option, Some, None, option_map, refl, codes}
 use Rattle.std.specs.Char.{encode_utf8}
 use Rattle.regress_base.specs.declared.types.Flags.{Flags}
 use Rattle.regress_tree.specs.Matching.{Setting}
@@ -10,7 +10,6 @@ use Rattle.regress_syntax.specs.Scan.{Mark, opens, captures, closes, next, marks
 use Rattle.regress_syntax.specs.Source.{Source}
 use Rattle.regress_syntax.specs.Syntax.{Pattern, one, no_terms, more_terms, atom, literal, class, back_reference, by_number, group, modified, capture, look}
 use Rattle.regress_parse.specs.TreeOf.{tree_of}
-use Rattle.regress_parse.proofs.MarkLemmas.{walked, walked-marks}
 use Rattle.regress_parse.proofs.Examples.{letter, word, two, row, character, quantifier, captured_letter}
 use Rattle.regress_parse.proofs.Meanings.{no_flags, plain, named, unicode, pattern_of, run}
 
@@ -151,29 +150,24 @@ reference_to_two_groups = refl
 unfoldable HasMarks : Setting → Source → List Mark → Type 0
 unfolding pattern_of
 HasMarks setting source ms =
-    (marks setting.flags.unicode_sets setting.table outside_classes source ≡ ms) × (option_map marks_of (pattern_of setting source) ≡ Some ms)
-
-has_marks : (setting : Setting) (source : Source) (ms : List Mark) →
-    walked setting.flags.unicode_sets setting.table outside_classes source ≡ ms →
-    option_map marks_of (pattern_of setting source) ≡ Some ms → HasMarks setting source ms
-unfolding HasMarks
-has_marks setting source ms h k = (walked-marks setting.flags.unicode_sets setting.table outside_classes source ∙ h, k)
+    (marks setting.flags.unicode_sets setting.table outside_classes source ≡ ms)
+    × (option_map marks_of (pattern_of setting source) ≡ Some ms)
 
 -- parentheses in classes and behind backslashes leave no mark
 marks_of_each_kind : HasMarks named (codes "(?<a>x)(?:y)[(]\\((z)")
     (captures (Some (codes "a")) ∷ closes ∷ opens ∷ closes ∷ captures None ∷ closes ∷ [])
 unfolding HasMarks
-marks_of_each_kind = has_marks named (codes "(?<a>x)(?:y)[(]\\((z)") _ refl refl
+marks_of_each_kind = (refl, refl)
 
 marks_of_groups_in_each_other : HasMarks plain (codes "(?<!(?i:a|(b)))")
     (opens ∷ opens ∷ next ∷ captures None ∷ closes ∷ closes ∷ closes ∷ [])
 unfolding HasMarks
-marks_of_groups_in_each_other = has_marks plain (codes "(?<!(?i:a|(b)))") _ refl refl
+marks_of_groups_in_each_other = (refl, refl)
 
 -- in a class neither `[` nor an escaped `]` begins or ends anything
 marks_behind_a_class : HasMarks plain (codes "[[\\](]|(a)") (next ∷ captures None ∷ closes ∷ [])
 unfolding HasMarks
-marks_behind_a_class = has_marks plain (codes "[[\\](]|(a)") _ refl refl
+marks_behind_a_class = (refl, refl)
 
 -- whether the source is a pattern whose names conflict nowhere
 unfoldable names_apart : Source → Option Bool

@@ -2,7 +2,6 @@ pub mod ReaderLemmas
 pub mod GrammarLemmas
 pub mod CountLemmas
 pub mod StringLemmas
-pub mod MarkLemmas
 pub mod BuildLemmas
 pub mod SoFarLemmas
 pub mod AlternativesLemmas

@@ -27,10 +27,9 @@ use Rattle.regress_syntax.specs.Names.{name_at, rest_of_name_by}
 use Rattle.regress_syntax.specs.Properties.{property_at}
 use Rattle.regress_syntax.specs.Quantifiers.{quantifier_at}
 use Rattle.regress_syntax.specs.Rows.{Context, head_at, times_at}
-use Rattle.regress_syntax.specs.Scan.{plain as outside_classes, named_by}
+use Rattle.regress_syntax.specs.Scan.{marks, plain as outside_classes, named_by}
 use Rattle.regress_syntax.specs.Source.{Source, Found}
 use Rattle.regress_syntax.specs.Syntax.{Name, Pattern, counts}
-use Rattle.regress_parse.proofs.MarkLemmas.{walked}
 use Rattle.regress_parse.specs.Reader.{read_terms, pattern_at}
 use Rattle.regress_parse.specs.TreeOf.{tree_of}
 
@@ -88,8 +87,8 @@ of_groups setting names = record { setting = setting; groups = length names; nam
 
 -- the context with the groups that the scan of the source finds
 unfoldable pub context : Setting → Source → Context
-unfolding walked name_at rest_of_name_by unicode_at is_member is_within
-context setting source = of_groups setting (named_by (walked setting.flags.unicode_sets setting.table outside_classes source))
+unfolding marks name_at rest_of_name_by unicode_at is_member is_within
+context setting source = of_groups setting (named_by (marks setting.flags.unicode_sets setting.table outside_classes source))
 
 -- the pattern that the whole source is
 unfoldable pub pattern_of : Setting → Source → Option Pattern

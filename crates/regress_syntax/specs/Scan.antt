@@ -82,10 +82,14 @@ marks sets table mode [] = []
 marks sets table escape (c ∷ t) = marks sets table plain t
 marks sets table (class_escape depth deepest) (c ∷ t) = marks sets table (class depth deepest) t
 marks sets table (class depth deepest) (c ∷ t) =
-    if c == 92 then marks sets table (class_escape depth deepest) t
-    else if c == 91 && sets then marks sets table (class (depth + 1) (max deepest (depth + 1))) t
+    -- each under a name, so that it is computed only where it is asked for
+    let escaped = marks sets table (class_escape depth deepest) t in
+    let inside = marks sets table (class (depth + 1) (max deepest (depth + 1))) t in
+    let outside = marks sets table (class (depth - 1) deepest) t in
+    if c == 92 then escaped
+    else if c == 91 && sets then inside
     else if c == 93 && depth == 0 then closed_class sets deepest ++ marks sets table plain t
-    else if c == 93 then marks sets table (class (depth - 1) deepest) t
+    else if c == 93 then outside
     else marks sets table (class depth deepest) t
 marks sets table plain (c ∷ t) =
     if c == 92 then marks sets table escape t
