@@ -281,7 +281,7 @@ consume_item-returns-in_ok-make_atom-in-Atom t c = record {
       (sym p.1)
       (record {
         node = c.in_ok-make_atom-in-Atom.ensures p.0 p.2;
-        fits = record { groups = omega (arith, old.groups_within); loops = omega (arith, old.loops_within); levels = omega (arith, levels, c.if-levels-around.false) };
+        fits = record { groups = omega (arith, old.groups_within); loops = omega (arith, old.loops_within); levels = omega (arith, levels) };
         counts = sym (added-nothing (counted old));
         rest = refl;
       });
