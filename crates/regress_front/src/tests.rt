@@ -14,6 +14,7 @@ mod properties;
 mod quantifiers;
 mod references;
 mod scale;
+mod strings;
 
 use crate::codepointset::CODE_POINT_MAX;
 use crate::ir::Node;
