@@ -100,7 +100,7 @@ module _ {table : Table} where
   pass_member c t goes_on e = record { same = rw (e, goes_on) (by (c == 91)) }
     where
       by : (bracket : Bool) →
-          cond (bracket && false) (marks false table (class 1 1) t) (marks false table (class 0 0) t) ≡ marks false table (class 0 0) t
+          marks false table (cond (bracket && false) (class 1 1) (class 0 0)) t ≡ marks false table (class 0 0) t
       by true = refl
       by false = refl
 

@@ -1,6 +1,7 @@
 -- The parentheses and bars of a pattern, by a scan of its code points that knows no grammar, and by its syntax tree.
 use Rattle.std.specs.Prelude.{◌≡◌, ◌⊎◌, ◌<◌, ℕ, ◌+◌, ◌-◌, max, Bool, true, false, not, ◌&&◌, List, [], ◌∷◌, ◌++◌, drop, reverse, Option, Some, None, if◌then◌else◌, ◌==◌}
 use Rattle.std.specs.List.{list_all}
+use Rattle.std.specs.Option.{option_to_list}
 use Rattle.regress_base.specs.Limits.{max_nesting_depth}
 use Rattle.regress_tree.specs.Table.{Table}
 use Rattle.regress_syntax.specs.Source.{Source, opening, closing, bar, question_mark, is_at}
@@ -72,32 +73,33 @@ opened_at table t =
     then elim (group_name_at table (drop 1 t)) [ None ↦ opens | Some found ↦ captures (Some found.0) ]
     else captures None
 
--- the mark of a class, which only the flag v asks for
-abbrev pub closed_class : (sets : Bool) → (deepest : ℕ) → List Mark
-closed_class sets deepest = if sets then nests deepest ∷ [] else []
+-- the mode behind a code point; `sets` is the flag v, with which classes nest
+abbrev pub mode_behind : (sets : Bool) → Mode → ℕ → Mode
+mode_behind sets plain c = if c == 92 then escape else if c == 91 then class 0 0 else plain
+mode_behind sets escape c = plain
+mode_behind sets (class depth deepest) c =
+    if c == 92 then class_escape depth deepest
+    else if c == 91 && sets then class (depth + 1) (max deepest (depth + 1))
+    else if c == 93 && depth == 0 then plain
+    else if c == 93 then class (depth - 1) deepest
+    else class depth deepest
+mode_behind sets (class_escape depth deepest) c = class depth deepest
 
--- the marks of a source, from a mode on; `sets` is the flag v, with which classes nest
+-- the mark that a code point is, if any, with the source behind it
+abbrev pub mark_at : (sets : Bool) → Table → Mode → ℕ → Source → Option Mark
+mark_at sets table plain c t =
+    if c == opening then Some (opened_at table t)
+    else if c == closing then Some closes
+    else if c == bar then Some next
+    else None
+mark_at sets table escape c t = None
+mark_at sets table (class depth deepest) c t = if c == 93 && depth == 0 && sets then Some (nests deepest) else None
+mark_at sets table (class_escape depth deepest) c t = None
+
+-- the marks of a source, from a mode on: one where the first code point is one, and those from the mode behind it on
 unfoldable pub marks : (sets : Bool) → Table → Mode → Source → List Mark
 marks sets table mode [] = []
-marks sets table escape (c ∷ t) = marks sets table plain t
-marks sets table (class_escape depth deepest) (c ∷ t) = marks sets table (class depth deepest) t
-marks sets table (class depth deepest) (c ∷ t) =
-    -- each under a name, so that it is computed only where it is asked for
-    let escaped = marks sets table (class_escape depth deepest) t in
-    let inside = marks sets table (class (depth + 1) (max deepest (depth + 1))) t in
-    let outside = marks sets table (class (depth - 1) deepest) t in
-    if c == 92 then escaped
-    else if c == 91 && sets then inside
-    else if c == 93 && depth == 0 then closed_class sets deepest ++ marks sets table plain t
-    else if c == 93 then outside
-    else marks sets table (class depth deepest) t
-marks sets table plain (c ∷ t) =
-    if c == 92 then marks sets table escape t
-    else if c == 91 then marks sets table (class 0 0) t
-    else if c == opening then opened_at table t ∷ marks sets table plain t
-    else if c == closing then closes ∷ marks sets table plain t
-    else if c == bar then next ∷ marks sets table plain t
-    else marks sets table plain t
+marks sets table mode (c ∷ t) = option_to_list (mark_at sets table mode c t) ++ marks sets table (mode_behind sets mode c) t
 
 -- What a scan is good for: whatever the rows were told of groups and names, a syntax tree that the grammar derives has
 -- the source's marks.

@@ -1,10 +1,8 @@
 -- What the state of the scan stands for.
-use Rattle.std.specs.Prelude.{◌≡◌, ℕ, ◌+◌, ◌-◌, max, ◌≤◌, Bool, ◌&&◌, List, ◌++◌, map, length, reverse, Option, Some, None, option_map, is_some, filter, if◌then◌else◌, ◌==◌}
+use Rattle.std.specs.Prelude.{◌≡◌, ℕ, ◌+◌, max, ◌≤◌, Bool, List, ◌++◌, map, length, reverse, Some, option_map, is_some, filter}
 use Rattle.regress_base.specs.Limits.{max_nesting_depth}
-use Rattle.regress_tree.specs.Table.{Table}
-use Rattle.regress_syntax.specs.Source.{Source, opening, closing, bar}
 use Rattle.regress_syntax.specs.Numbering.{names_of}
-use Rattle.regress_syntax.specs.Scan.{Mark, opens, captures, closes, next, nests, Mode, plain, escape, class, class_escape, opened_at, named_by, deepest, Path, Placed, placed_by, at_the_start}
+use Rattle.regress_syntax.specs.Scan.{Mark, opens, captures, closes, next, nests, Mode, plain, escape, class, class_escape, named_by, deepest, Path, Placed, placed_by, at_the_start}
 use Rattle.regress_syntax.specs.declared.scan.mark.Mode.{Mode as CodeMode}
 use Rattle.regress_syntax.specs.declared.scan.mark.Mode.TheVariants as modes
 use Rattle.regress_syntax.specs.declared.scan.mark.Mark.{Mark as CodeMark}
@@ -33,29 +31,6 @@ depth_of plain = 0
 depth_of escape = 0
 depth_of (class depth deepest) = depth
 depth_of (class_escape depth deepest) = depth
-
--- the mode behind a code point
-abbrev pub mode_behind : (sets : Bool) → Mode → ℕ → Mode
-mode_behind sets plain c = if c == 92 then escape else if c == 91 then class 0 0 else plain
-mode_behind sets escape c = plain
-mode_behind sets (class depth deepest) c =
-    if c == 92 then class_escape depth deepest
-    else if c == 91 && sets then class (depth + 1) (max deepest (depth + 1))
-    else if c == 93 && depth == 0 then plain
-    else if c == 93 then class (depth - 1) deepest
-    else class depth deepest
-mode_behind sets (class_escape depth deepest) c = class depth deepest
-
--- the mark that a code point is, if any, with the source behind it
-abbrev pub mark_at : (sets : Bool) → Table → Mode → ℕ → Source → Option Mark
-mark_at sets table plain c t =
-    if c == opening then Some (opened_at table t)
-    else if c == closing then Some closes
-    else if c == bar then Some next
-    else None
-mark_at sets table escape c t = None
-mark_at sets table (class depth deepest) c t = if c == 93 && depth == 0 && sets then Some (nests deepest) else None
-mark_at sets table (class_escape depth deepest) c t = None
 
 -- ---- groups
 
