@@ -11,7 +11,7 @@ use crate::digits::{Read, is_decimal, is_letter};
 use crate::fault::{INVALID_PROPERTY, PROPERTY_WITHOUT_BRACE, ParseFault, syntax};
 use regress_base::codepointset::CodePointSet;
 use regress_tree::unicode::Tables;
-use std::alloc::{AllocError, Global};
+use std::alloc::AllocError;
 
 #[cfg(test)]
 mod tests;

@@ -2,6 +2,7 @@ ghost use Rattle.std.specs.Prelude.{All, IfOk};
 ghost use Rattle.regress_syntax.specs.Source.{IsCodePoint};
 
 use super::*;
+use std::alloc::Global;
 use std::test::Fail;
 
 type Ends<'a> = &'a [(u32, u32)];
