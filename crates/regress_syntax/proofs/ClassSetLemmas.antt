@@ -62,6 +62,12 @@ joined-nothing a = rw (append-nil a.members, append-nil a.strings, max-zero a.le
     max-zero : (i : ℕ) → max i 0 ≡ i
     max-zero i = omega arith
 
+pub nothing-joined : (a : Value) → joined nothing a ≡ a
+nothing-joined a = rw (zero-max a.levels) refl
+  where
+    zero-max : (i : ℕ) → max 0 i ≡ i
+    zero-max i = omega arith
+
 -- the same with one code point more
 pub with_point : (a : Value) (c : ℕ) (old : CodeValue) (set : List Bounds) → IsValue old a → IsCanonical set →
     ((n : ℕ) → is_member set n ≡ (is_member old.set n || (n == c))) →

@@ -2,6 +2,7 @@ pub mod SetRows
 pub mod laws
 mod ClassLemmas
 mod ClassSetLemmas
+mod ClassStringLemmas
 mod ConflictLemmas
 mod DigitLemmas
 mod ModifierLemmas

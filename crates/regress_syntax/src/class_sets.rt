@@ -7,6 +7,7 @@ ghost use Rattle.regress_tree.specs.TableOf.{table_of};
 
 mod character;
 mod operand;
+mod strings;
 mod value;
 
 use crate::cursor::Cursor;
