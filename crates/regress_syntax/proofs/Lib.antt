@@ -8,6 +8,7 @@ mod DigitLemmas
 mod ModifierLemmas
 mod NameLemmas
 mod NumberingLemmas
+mod PropertyLemmas
 mod ReferenceLemmas
 mod ScanLemmas
 mod ScanRows

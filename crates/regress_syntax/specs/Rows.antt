@@ -2,6 +2,7 @@
 -- the one (ECMA-262, Patterns).
 use Rattle.std.specs.Prelude.{ℕ, Bool, true, false, not, ◌&&◌, ◌||◌, [], ◌∷◌, drop, List, Option, Some, None, is_some, if◌then◌else◌, nat_le, ◌==◌}
 use Rattle.std.specs.List.{list_any}
+use Rattle.regress_base.specs.Intervals.{Bounds}
 use Rattle.regress_tree.specs.declared.ir.node.AnchorType.TheVariants.{StartOfLine, EndOfLine}
 use Rattle.regress_tree.specs.declared.ir.node.Quantifier.{Quantifier}
 use Rattle.regress_tree.specs.Matching.{Setting}
@@ -115,15 +116,16 @@ module _ (ctx : Context) where
   abbrev pub character_at : ℕ → Source → Found Atom
   character_at c t = found_map (literal ctx.setting.flags) (escape_at ctx.setting.flags.unicode (c ∷ t))
 
-  -- A property of code points, whose complement is closed with the flag i. One of strings has no complement.
+  -- a property of code points, whose complement is closed with the flag i
+  abbrev pub point_property : (negated : Bool) → List Bounds → Atom
+  point_property negated members =
+      if negated && ctx.setting.flags.icase
+      then class ctx.setting.flags false (complement members)
+      else class ctx.setting.flags negated members
+
+  -- A property. One of strings has no complement.
   abbrev pub property_atom : (negated : Bool) → Property × Source → Found Atom
-  property_atom negated (of_points members, t) =
-      Some (
-        if negated && ctx.setting.flags.icase
-        then class ctx.setting.flags false (complement members)
-        else class ctx.setting.flags negated members,
-        t
-      )
+  property_atom negated (of_points members, t) = Some (point_property negated members, t)
   property_atom negated (of_strings written, t) = if negated then None else Some (string_property ctx.setting.flags written, t)
 
   -- behind `\p` or `\P`

@@ -4,12 +4,12 @@ ghost use Rattle.regress_syntax.specs.Digits.{is_between};
 ghost use Rattle.regress_syntax.specs.Escapes.{begins_with_letter, begins_with_digit};
 ghost use Rattle.regress_syntax.specs.Quantifiers.{quantifier_at};
 ghost use Rattle.regress_syntax.specs.Reads.{ReadsAs};
-ghost use Rattle.regress_syntax.specs.Rows.{atom_by, brace_by, is_lone_backslash, escaped_at, group_number_at, numbered_at, named_at, character_at, brackets_at, property_atom_at};
+ghost use Rattle.regress_syntax.specs.Rows.{atom_by, brace_by, is_lone_backslash, escaped_at, group_number_at, numbered_at, named_at, character_at, brackets_at, point_property, property_atom_at};
 ghost use Rattle.regress_syntax.specs.Source.{IsCodePoint};
-ghost use Rattle.regress_syntax.specs.Views.{source, context_of, strings_of, IsAtom};
+ghost use Rattle.regress_syntax.specs.Views.{source, context_of, IsAtom};
 
 use crate::class::read_class;
-use crate::class_escape::class_letter;
+use crate::class_escape::{class_letter, set_is_canonical};
 use crate::class_sets::{Value, read_class_set};
 use crate::cursor::{Cursor, is_plain};
 use crate::digits::{Read, is_letter, read_count};
@@ -19,7 +19,7 @@ use crate::fault::{
     INVALID_REFERENCE, ParseFault, UNKNOWN_NAME, syntax,
 };
 use crate::names::read_group_name;
-use crate::property::{Property, read_property};
+use crate::property::{Property, is_property_letter, read_property};
 use crate::scope::Scope;
 use regress_base::charclasses::CharacterClassType;
 use regress_base::codepointset::CodePointSet;
@@ -154,9 +154,7 @@ fn read_escaped(cursor: &mut Cursor, scope: &Scope) -> Result<Atom, ParseFault>
     } else if is_lone_backslash(c, rest, scope.flags.unicode) {
         // The `c` is an item of its own.
         Ok(Atom::Literal(u32::from('\\')))
-    } else if (c == u32::from('p') || c == u32::from('P'))
-        && (scope.flags.unicode || scope.flags.unicode_sets)
-    {
+    } else if is_property_letter(c) && (scope.flags.unicode || scope.flags.unicode_sets) {
         cursor.rest = rest;
         read_property_atom(cursor, scope, c == u32::from('P'))
     } else if is_between_one_and_nine(c) {
@@ -275,39 +273,30 @@ fn read_property_atom(cursor: &mut Cursor, scope: &Scope, negated: bool) -> Resu
         (property_atom_at (context_of scope.now) negated (source cursor.old)) }
 {
     match read_property(cursor, scope.flags.unicode_sets, scope.tables)? {
-        Property::Points(set) => Ok(point_property(cursor.alloc, set, negated, scope.flags.icase)?),
+        Property::Points(set) => Ok(point_property(cursor.alloc, scope, negated, set)?),
         Property::Strings(_) if negated => Err(syntax(cursor.alloc, INVALID_ESCAPE)),
-        Property::Strings(strings) => Ok(Atom::Strings(copy_strings(cursor.alloc, strings)?)),
+        Property::Strings(strings) => Ok(Atom::Strings(Vec::from_clones(cursor.alloc, strings)?)),
     }
 }
 
-/// A property of code points. Its complement is taken here where the flag i closes it.
+/// A property of code points. With the flag i its complement is taken here, since it is closed as a set of its own.
 fn point_property(
     alloc: Global,
-    set: &CodePointSet,
+    scope: &Scope,
     negated: bool,
-    icase: bool,
+    set: &CodePointSet,
 ) -> Result<Atom, AllocError>
+    ensures { IfOk result (λ atom. IsAtom (context_of scope.now) atom (point_property (context_of scope.now) negated set.now)) }
 {
-    if negated && icase {
+    if negated && scope.flags.icase {
         return Ok(Atom::Class {
             inverted: false,
             set: set.inverted()?,
         });
     }
+    set_is_canonical(set);
     Ok(Atom::Class {
         inverted: negated,
         set: set.try_clone(alloc)?,
     })
-}
-
-/// The same strings, in memory of their own.
-fn copy_strings(alloc: Global, strings: &[Vec<u32>]) -> Result<Vec<Vec<u32>>, AllocError>
-    ensures { IfOk result (λ copies. strings_of copies.items ≡ strings_of strings.now) }
-{
-    let mut copies = Vec::with_capacity(alloc, strings.len())?;
-    for string in strings {
-        copies.push(string.clone()?)?;
-    }
-    Ok(copies)
 }

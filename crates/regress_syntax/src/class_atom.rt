@@ -12,7 +12,7 @@ use crate::escape::{escape_fault, read_escape};
 use crate::fault::{
     INVALID_PROPERTY, ParseFault, UNBALANCED_BRACKET, UNTERMINATED_ESCAPE, syntax,
 };
-use crate::property::{Property, read_property};
+use crate::property::{Property, is_property_letter, read_property};
 use regress_base::charclasses::CharacterClassType;
 use regress_base::codepointset::CodePointSet;
 use regress_tree::unicode::Tables;
@@ -76,7 +76,7 @@ fn read_escaped<'a>(
         let (atom, behind) = class_control(cursor.rest, rest);
         cursor.rest = behind;
         Ok(atom)
-    } else if (c == u32::from('p') || c == u32::from('P')) && unicode {
+    } else if is_property_letter(c) && unicode {
         cursor.rest = rest;
         read_class_property(cursor, tables, c == u32::from('P'))
     } else {

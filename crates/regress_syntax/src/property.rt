@@ -1,13 +1,13 @@
 //! Properties by a name.
-ghost use Rattle.std.specs.Prelude.{◌≡◌, string_bytes, option_map, IfOk};
+ghost use Rattle.std.specs.Prelude.{◌≡◌, ◌==◌, ◌||◌, true, [], ◌∷◌, string_bytes, option_map, IfOk, IfSome, IfNone};
 ghost use Rattle.regress_syntax.specs.Digits.{front, behind};
-ghost use Rattle.regress_syntax.specs.Properties.{is_property_character, lone_value, list_named, value_in, property_at};
+ghost use Rattle.regress_syntax.specs.Properties.{is_property_character, lone_value, list_named, value_in, closed_property, braced_property_at, property_at};
 ghost use Rattle.regress_syntax.specs.Reads.{Reads};
 ghost use Rattle.regress_syntax.specs.Views.{source, property_of};
 ghost use Rattle.regress_tree.specs.TableOf.{table_of};
 
 use crate::cursor::Cursor;
-use crate::digits::{is_decimal, is_letter};
+use crate::digits::{Read, is_decimal, is_letter};
 use crate::fault::{INVALID_PROPERTY, ParseFault, PROPERTY_WITHOUT_BRACE, syntax};
 use regress_base::codepointset::CodePointSet;
 use regress_tree::unicode::Tables;
@@ -22,8 +22,16 @@ pub(crate) enum Property<'a> {
     Strings(&'a [Vec<u32>]),
 }
 
+/// The letter behind the backslash of a property, or of its complement.
+pub(crate) fn is_property_letter(c: u32) -> bool
+    ensures { result ≡ (c == 112 || c == 80) }
+{
+    c == u32::from('p') || c == u32::from('P')
+}
+
 /// Reads a property, behind `\p` or `\P` (ECMA-262, UnicodePropertyValueExpression); `sets` is the flag v. The fault
 /// comes where no brace follows, where what is in braces is no name of the table, or where they aren't closed.
+#[tactic(auto, unfolding(crate::specs::Properties::property_at))]
 pub(crate) fn read_property<'a>(
     cursor: &mut Cursor,
     sets: bool,
@@ -34,17 +42,27 @@ pub(crate) fn read_property<'a>(
     if !cursor.try_consume('{') {
         return Err(syntax(cursor.alloc, PROPERTY_WITHOUT_BRACE));
     }
-    let name = read_word(cursor)?;
-    let found = if cursor.try_consume('=') {
-        let value = read_word(cursor)?;
-        listed_value(tables, &name, &value)
-    } else {
-        lone_value(sets, tables, &name)
-    };
-    match found {
+    match read_named(cursor, sets, tables)? {
         Some(property) if cursor.try_consume('}') => Ok(property),
         _ => Err(syntax(cursor.alloc, INVALID_PROPERTY)),
     }
+}
+
+/// Reads what stands between the braces, and looks it up.
+fn read_named<'a>(
+    cursor: &mut Cursor,
+    sets: bool,
+    tables: &'a Tables,
+) -> Result<Option<Property<'a>>, AllocError>
+    ensures { IfOk result (λ found. closed_property (option_map property_of found) (source cursor.new)
+        ≡ braced_property_at sets (table_of tables.now) (source cursor.old)) }
+{
+    let name = read_word(cursor)?;
+    if !cursor.try_consume('=') {
+        return Ok(lone_value(sets, tables, &name));
+    }
+    let value = read_word(cursor)?;
+    Ok(listed_value(tables, &name, &value))
 }
 
 /// Reads the letters, digits and low lines at the front, perhaps none.
@@ -53,14 +71,24 @@ fn read_word(cursor: &mut Cursor) -> Result<String, AllocError>
     ensures behind { IfOk result (λ word. source cursor.new ≡ behind is_property_character (source cursor.old)) }
 {
     let mut word = String::new(cursor.alloc);
-    while let Some((c, rest)) = cursor.rest.split_first() {
-        match char::from_u32(*c) {
-            Some(c) if is_property_character(u32::from(c)) => word.push(c)?,
-            _ => break,
-        }
+    while let Some((c, rest)) = property_character(cursor.rest) {
+        word.push(c)?;
         cursor.rest = rest;
     }
     Ok(word)
+}
+
+/// The letter, digit or low line at the front, and the text behind it.
+#[tactic(auto, unfolding(crate::specs::Digits::front))]
+fn property_character<'a>(text: &'a [u32]) -> Read<'a, char>
+    ensures some { IfSome result (λ found. (text.now ≡ found.0 ∷ found.1.now) × (is_property_character found.0 ≡ true)) }
+    ensures none { IfNone result (front is_property_character text.now ≡ []) }
+{
+    let (c, rest) = text.split_first()?;
+    if !is_property_character(*c) {
+        return None;
+    }
+    Some((char::from_u32(*c)?, rest))
 }
 
 /// A letter, a digit or a low line.

@@ -11,11 +11,14 @@ use Rattle.regress_syntax.specs.Digits.{is_between, is_decimal, number, front}
 use Rattle.regress_syntax.specs.Escapes.{begins_with_letter}
 use Rattle.regress_syntax.specs.Names.{group_name_at}
 use Rattle.regress_syntax.specs.Quantifiers.{quantifier_at, is_ordered}
-use Rattle.regress_syntax.specs.ClassRows.{class_letter}
-use Rattle.regress_syntax.specs.Rows.{Context, Head, single, angle_at, behind_mark_at, group_at, is_unserved, has_name, has_names, is_lone_backslash, character_at, numbered_at, named_at, escaped_by, escaped_at, brace_by, atom_by, head_by, head_at, no_quantifier_at, this_quantifier, times_at}
+use Rattle.regress_syntax.specs.Properties.{Property, of_points, of_strings, property_at}
+use Rattle.regress_syntax.specs.ClassRows.{class_letter, class_at}
+use Rattle.regress_syntax.specs.ClassSets.{class_set_at}
+use Rattle.regress_syntax.specs.Rows.{Context, Head, single, angle_at, behind_mark_at, group_at, has_name, has_names, is_lone_backslash, character_at, property_atom, property_atom_at, numbered_at, named_at, escaped_by, escaped_at, brace_by, brackets_at, atom_by, head_by, head_at, no_quantifier_at, this_quantifier, times_at}
 use Rattle.regress_syntax.proofs.laws.Behind.{behind_same, behind_drop, behind_front, behind_shorter, Ends, ends_none, ends_some, ends_behind, ends_more, ends_then, ends_map, ends_cond, escape_at-ends, quantifier_at-ends}
 use Rattle.regress_syntax.proofs.laws.NameEnds.{group_name_at-ends, modifiers_at-ends}
-use Rattle.regress_syntax.proofs.laws.Pieces.{class_at-ends}
+use Rattle.regress_syntax.proofs.laws.Pieces.{property_at-ends, class_at-ends}
+use Rattle.regress_syntax.proofs.laws.ClassSets.{class_set_at-ends}
 use Rattle.regress_syntax.proofs.laws.Sources.{Shortens, chosen}
 
 -- what is found leaves the source from its first code point on, or from its second
@@ -44,9 +47,16 @@ module _ (table : Table) where
 
 module _ (ctx : Context) where
   character_at-ends : (c : ℕ) (t : Source) → Ends (character_at ctx c t) (c ∷ t)
-  character_at-ends c t =
-      ends_cond (is_unserved ctx.setting.flags.unicode c) _ _ (c ∷ t) (ends_none (c ∷ t))
-      (ends_map _ _ (c ∷ t) (escape_at-ends ctx.setting.flags.unicode (c ∷ t)))
+  character_at-ends c t = ends_map _ _ (c ∷ t) (escape_at-ends ctx.setting.flags.unicode (c ∷ t))
+
+  property_atom-ends : (negated : Bool) (x : Property × Source) → Ends (property_atom ctx negated x) x.1
+  property_atom-ends negated (of_points members, t) = this-ends _ t
+  property_atom-ends negated (of_strings written, t) = ends_cond negated _ _ t (ends_none t) (this-ends _ t)
+
+  property_atom_at-ends : (negated : Bool) (t : Source) → Ends (property_atom_at ctx negated t) t
+  property_atom_at-ends negated t =
+      ends_then (property_at ctx.setting.flags.unicode_sets ctx.setting.table t) (property_atom ctx negated) t
+      (property_at-ends ctx.setting.flags.unicode_sets ctx.setting.table t) (property_atom-ends negated)
 
   numbered_at-ends : (c : ℕ) (t : Source) → Ends (numbered_at ctx c t) (c ∷ t)
   numbered_at-ends c t =
@@ -80,17 +90,20 @@ module _ (ctx : Context) where
                 cond (c == 98) (Some (boundary ctx.setting.flags false, t))
                 (cond (c == 66) (Some (boundary ctx.setting.flags true, t))
                 (cond (is_lone_backslash ctx.setting.flags.unicode c t) (Some (literal ctx.setting.flags 92, 99 ∷ t))
+                (cond ((c == 112 || c == 80) && (ctx.setting.flags.unicode || ctx.setting.flags.unicode_sets)) (property_atom_at ctx (c == 80) t)
                 (cond (is_between 49 57 c) (numbered_at ctx c t)
-                (cond (c == 107 && (ctx.setting.flags.unicode || has_names ctx.names)) (named_at ctx t) (character_at ctx c t)))))
+                (cond (c == 107 && (ctx.setting.flags.unicode || has_names ctx.names)) (named_at ctx t) (character_at ctx c t))))))
           ]) (c ∷ t)
       by (Some named) = next-ends _ c t
       by None =
           ends_cond (c == 98) _ _ (c ∷ t) (next-ends _ c t)
           (ends_cond (c == 66) _ _ (c ∷ t) (next-ends _ c t)
           (backslash-ends ctx.setting.flags.unicode c t _ _
+          (ends_cond ((c == 112 || c == 80) && (ctx.setting.flags.unicode || ctx.setting.flags.unicode_sets)) _ _ (c ∷ t)
+          (ends_more _ c t (property_atom_at-ends (c == 80) t))
           (ends_cond (is_between 49 57 c) _ _ (c ∷ t) (numbered_at-ends c t)
           (ends_cond (c == 107 && (ctx.setting.flags.unicode || has_names ctx.names)) _ _ (c ∷ t)
-          (ends_more _ c t (named_at-ends t)) (character_at-ends c t)))))
+          (ends_more _ c t (named_at-ends t)) (character_at-ends c t))))))
 
   escaped_at-ends : (t : Source) → Ends (escaped_at ctx t) t
   escaped_at-ends [] = ends_none []
@@ -100,13 +113,21 @@ module _ (ctx : Context) where
   brace_by-ends c t =
       ends_cond (ctx.setting.flags.unicode || is_some (quantifier_at (c ∷ t))) _ _ t (ends_none t) (this-ends _ t)
 
+  brackets_at-ends : (t : Source) → Ends (brackets_at ctx t) t
+  brackets_at-ends t =
+      ends_cond ctx.setting.flags.unicode_sets _ _ t
+      (ends_map _ (class_set_at ctx.setting.table ctx.setting.flags.unicode t) t
+      (class_set_at-ends ctx.setting.table ctx.setting.flags.unicode t))
+      (ends_map _ (class_at ctx.setting.table ctx.setting.flags.unicode t) t
+      (class_at-ends ctx.setting.table ctx.setting.flags.unicode t))
+
   atom_by-ends : (c : ℕ) (t : Source) → Ends (atom_by ctx c t) t
   atom_by-ends c t =
       ends_cond (c == full_stop) _ _ t (this-ends _ t)
       (ends_cond (c == 94) _ _ t (this-ends _ t)
       (ends_cond (c == 36) _ _ t (this-ends _ t)
       (ends_cond (c == 92) _ _ t (escaped_at-ends t)
-      (ends_cond (c == 91) _ _ t (ends_map _ _ t (class_at-ends ctx.setting.flags.unicode t))
+      (ends_cond (c == 91) _ _ t (brackets_at-ends t)
       (ends_cond (c == 123 || c == 93 || c == 125) _ _ t (brace_by-ends c t)
       (ends_cond (is_plain c) _ _ t (this-ends _ t) (ends_none t)))))))
 

@@ -1,6 +1,7 @@
 -- The parts, and whether they are inverted.
 use Rattle.std.proofs.Common.{None, Some, refl}
 use Rattle.std.proofs.lemmas.Result.{err_from_is_err_and}
+use Rattle.regress_tree.specs.TableOf.{table_of}
 use Rattle.regress_syntax.specs.Views.{source}
 use Rattle.regress_syntax.proofs.laws.Sources.{on_syntax_then}
 use Rattle.regress_syntax.proofs.ClassLemmas.{class_is}
@@ -11,7 +12,7 @@ returns-in_err-set c =
     let p = err_from_is_err_and c.from_residual.result c.from_residual.ensures.1 in
     let caret = c.try_consume-inverted in
     rw (p.1, p.2) (on_syntax_then c.in_err-set.field-0.0
-    (class_is c.args.unicode caret.result (source c.args.cursor.now) (source caret.new.self) None caret.ensures.found caret.ensures.moves)
+    (class_is (table_of c.args.tables.now) c.args.unicode caret.result (source c.args.cursor.now) (source caret.new.self) None caret.ensures.found caret.ensures.moves)
     c.in_err-set.ensures)
 
 pub returns : goal.returns
@@ -19,7 +20,7 @@ returns c =
     let caret = c.try_consume-inverted in
     let found = c.in_ok-set.ensures in (
       (caret.result, found.0),
-      class_is c.args.unicode caret.result (source c.args.cursor.now) (source caret.new.self) (Some (found.0, source c.read_parts.new.cursor))
+      class_is (table_of c.args.tables.now) c.args.unicode caret.result (source c.args.cursor.now) (source caret.new.self) (Some (found.0, source c.read_parts.new.cursor))
           caret.ensures.found caret.ensures.moves found.1,
       (refl, found.2),
     )

@@ -1,0 +1,35 @@
+-- What was found, and its atom.
+use Rattle.std.proofs.Common.{◌≡◌, ℕ, List, Some, refl, sym, ap, ◌∙◌}
+use Rattle.std.proofs.lemmas.Bool.{cond-false}
+use Rattle.std.proofs.lemmas.List.Elements.{same_from_all_zip}
+use Rattle.regress_syntax.specs.Source.{Found, ◌>>=◌}
+use Rattle.regress_syntax.specs.Properties.{Property}
+use Rattle.regress_syntax.specs.Rows.{point_property, property_atom}
+use Rattle.regress_syntax.specs.Syntax.{string_property}
+use Rattle.regress_syntax.specs.Views.{source, context_of, property_of, strings_of}
+use Rattle.regress_syntax.proofs.PropertyLemmas.{same_strings}
+use Rattle.regress_syntax.proofs.atom.read_property_atom.Goals as goal
+
+pub returns-in_ok-point_property-in-Points : goal.returns-in_ok-point_property-in-Points
+returns-in_ok-point_property-in-Points c =
+    let ctx = context_of c.args.scope.now in
+    let rest = source c.read_property.new.cursor in (
+      point_property ctx c.args.negated c.in-Points.set.now,
+      ap (λ (found : Found Property). found >>= property_atom ctx c.args.negated)
+          (c.in_ok-set.ensures ∙ ap (λ property. Some (property_of property, rest)) c.in-Points.is),
+      c.in_ok-point_property-in-Points.ensures,
+    )
+
+pub returns-in_ok-from_clones-in-Strings-2 : goal.returns-in_ok-from_clones-in-Strings-2
+returns-in_ok-from_clones-in-Strings-2 c =
+    let ctx = context_of c.args.scope.now in
+    let rest = source c.read_property.new.cursor in
+    let strings = c.in-Strings.field-0.now in
+    let copies = c.in_ok-from_clones-in-Strings-2.field-0.items in (
+      string_property ctx.setting.flags (strings_of strings),
+      ap (λ (found : Found Property). found >>= property_atom ctx c.args.negated)
+          (c.in_ok-set.ensures ∙ ap (λ property. Some (property_of property, rest)) c.in-Strings.is)
+          ∙ cond-false _ _ _ c.if-negated.false,
+      ap (λ (written : List (List ℕ)). string_property ctx.setting.flags written)
+          (sym (same_strings _ strings copies c.in_ok-from_clones-in-Strings-2.ensures.items (λ x y clones. same_from_all_zip _ _ _ clones.0 (λ c d same. same)))),
+    )
