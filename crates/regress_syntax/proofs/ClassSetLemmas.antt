@@ -9,10 +9,10 @@ use Rattle.std.specs.List.{list_any}
 use Rattle.std.specs.Ordering.{nat_cmp, is_eq}
 use Rattle.std.specs.Str.{bytes_eq}
 use Rattle.std.specs.declared.alloc.Global.{Global}
-use Rattle.regress_base.specs.Intervals.{Bounds, is_within, is_member, IsCanonical, intervals_of, code_point_max}
+use Rattle.regress_base.specs.Intervals.{Bounds, is_within, is_member, IsCanonical, IsComplement, intervals_of, code_point_max}
 use Rattle.regress_base.proofs.laws.Sets.{is_member-nil, is_member-one, is_member-append, canonical_is, or_assoc}
 use Rattle.regress_syntax.specs.declared.class_sets.value.Value.{Value as CodeValue}
-use Rattle.regress_syntax.specs.ClassRows.{one_point}
+use Rattle.regress_syntax.specs.ClassRows.{complement, one_point}
 use Rattle.regress_syntax.specs.ClassSets.{Value, nothing, only, joined, common, without, is_among, value_of_string, value_of_strings}
 use Rattle.regress_syntax.specs.Views.{HasMembers, IsValue, strings_of}
 
@@ -39,6 +39,15 @@ members_where p new canonical e = record {
   canonical = canonical;
   each = λ c. ap (λ (l : List Bounds). is_member l c) (canonical_is new p canonical (λ n h. e n));
 }
+
+pub members_complement : (set others : List Bounds) → IsComplement set others → IsCanonical others → HasMembers (complement set) others
+members_complement set others opposite canonical = record {
+  canonical = canonical;
+  each = λ c. ap (λ (l : List Bounds). is_member l c) (canonical_is others (λ n. not (is_member set n)) canonical opposite);
+}
+
+pub members_same : (set others : List Bounds) → others ≡ set → IsCanonical others → HasMembers set others
+members_same set others e canonical = record { canonical = canonical; each = λ c. ap (λ (l : List Bounds). is_member l c) e }
 
 is_itself : (c n : ℕ) → (n == c) ≡ is_within (record { first = c; last = c }) n
 unfolding is_within

@@ -1,13 +1,15 @@
 -- The strings of `\q{..}`, one code point after the other.
-use Rattle.std.proofs.Common.{◌≡◌, ℕ, zero, suc, ◌+◌, ◌<◌, ◌≤◌, Bool, true, false, cond, List, [], ◌∷◌, ◌++◌, length, drop, Some, None, refl, sym, ap, ◌∙◌, append_assoc, append-nil, add-one, arith, length-drop}
+use Rattle.std.proofs.Common.{◌≡◌, ℕ, zero, suc, ◌+◌, ◌<◌, ◌≤◌, Vec, Bool, true, false, cond, List, [], ◌∷◌, ◌++◌, length, take, drop, get_or, map, Some, None, refl, sym, ap, subst, ◌∙◌, append_assoc, append-nil, add-one, arith, length-drop}
 use Rattle.std.proofs.lemmas.Bool.{cond-true, cond-false}
+use Rattle.std.proofs.lemmas.List.{get_or-map, length-map, map-append, take_more}
 use Rattle.std.proofs.lemmas.Option.{none-some}
 use Rattle.std.proofs.lemmas.List.Elements.{All-nil, All-cons, All-append}
 use Rattle.std.specs.List.{All}
+use Rattle.std.specs.declared.alloc.Global.{Global}
 use Rattle.regress_syntax.specs.declared.class_sets.value.Value.{Value as CodeValue}
 use Rattle.regress_syntax.specs.Source.{Source, Found, ◌>>=◌, found_map, is_at, IsCodePoint}
 use Rattle.regress_syntax.specs.ClassSets.{Value, joined, value_of_string, value_of_strings, set_character_at, strings_by, quoted_at, class}
-use Rattle.regress_syntax.specs.Views.{IsValue}
+use Rattle.regress_syntax.specs.Views.{IsValue, strings_of}
 use Rattle.regress_syntax.proofs.laws.Sources.{then_same, cond_same, at_front}
 use Rattle.regress_syntax.proofs.laws.Behind.{behind_shorter}
 use Rattle.regress_syntax.proofs.laws.ClassSets.{set_character_at-shortens}
@@ -157,3 +159,22 @@ quoted unicode t inside found opens moved e =
     (strings_by-same (length t) (length (drop 1 t) + 1) unicode [] (drop 1 t)
     (omega (arith, at_front 123 t opens, length-drop 1 t)) (omega arith)
     ∙ ap (strings_from unicode []) (sym moved) ∙ e)
+
+-- ---- the strings of a property, one after the other
+
+pub string_at : (strings : List (Vec ℕ Global)) (i : ℕ) (string : Vec ℕ Global) → All (All IsCodePoint) (strings_of strings) →
+    i < length strings → string ≡ get_or strings i string → All IsCodePoint string.items
+string_at strings i string each lt is =
+    subst (All IsCodePoint) (get_or-map (λ (other : Vec ℕ Global). other.items) strings i string string.items lt ∙ ap (λ (other : Vec ℕ Global). other.items) (sym is))
+    (each i string.items (omega (arith, length-map strings (λ (other : Vec ℕ Global). other.items))))
+
+pub one_more_held : (strings : List (Vec ℕ Global)) (i : ℕ) (string : Vec ℕ Global) (copy : List ℕ) (new : CodeValue) → i < length strings →
+    string ≡ get_or strings i string → copy ≡ string.items →
+    IsValue new (joined (value_of_strings (strings_of (take i strings))) (value_of_string copy)) →
+    IsValue new (value_of_strings (strings_of (take (i + 1) strings)))
+one_more_held strings i string copy new lt is same =
+    subst (IsValue new)
+    (ap (λ s. joined (value_of_strings (strings_of (take i strings))) (value_of_string s))
+    (same ∙ ap (λ (other : Vec ℕ Global). other.items) is)
+    ∙ strings-push (strings_of (take i strings)) (get_or strings i string).items
+    ∙ ap value_of_strings (sym (ap strings_of (take_more strings i string lt) ∙ map-append (λ (other : Vec ℕ Global). other.items) (take i strings) _)))

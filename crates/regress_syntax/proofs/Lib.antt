@@ -1,6 +1,8 @@
 pub mod SetRows
 pub mod laws
+mod ClassContentsLemmas
 mod ClassLemmas
+mod ClassOperandLemmas
 mod ClassSetLemmas
 mod ClassStringLemmas
 mod ConflictLemmas
