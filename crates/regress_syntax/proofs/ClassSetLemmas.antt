@@ -10,10 +10,10 @@ use Rattle.std.specs.Ordering.{nat_cmp, is_eq}
 use Rattle.std.specs.Str.{bytes_eq}
 use Rattle.std.specs.declared.alloc.Global.{Global}
 use Rattle.regress_base.specs.Intervals.{Bounds, is_within, is_member, IsCanonical, IsComplement, intervals_of, code_point_max}
-use Rattle.regress_base.proofs.laws.Sets.{is_member-nil, is_member-one, is_member-append, canonical_is, or_assoc}
+use Rattle.regress_base.proofs.laws.Sets.{is_member-nil, is_member-one, is_member-append, canonical_is, intervals_of-agree, or_assoc}
 use Rattle.regress_syntax.specs.declared.class_sets.value.Value.{Value as CodeValue}
-use Rattle.regress_syntax.specs.ClassRows.{complement, one_point}
-use Rattle.regress_syntax.specs.ClassSets.{Value, nothing, only, joined, common, without, is_among, value_of_string, value_of_strings}
+use Rattle.regress_syntax.specs.ClassRows.{complement, complement_if, one_point}
+use Rattle.regress_syntax.specs.ClassSets.{Value, nothing, only, joined, nested, common, without, is_among, value_of_string, value_of_strings}
 use Rattle.regress_syntax.specs.Views.{HasMembers, IsValue, strings_of}
 
 -- ---- members of a set
@@ -156,3 +156,22 @@ held_where keep a b old other set strings levels p h k canonical members same ke
       ∙ ap (filter (λ s. keep (is_among b.strings s))) h.strings;
   levels = deep ∙ ap₂ max h.levels k.levels;
 }
+
+-- a class in another one
+pub held_nested : (read : Bool × Value) (negated : Bool) (old : CodeValue) (set : List Bounds) → (negated ≡ read.0) × IsValue old read.1 →
+    HasMembers (complement_if negated old.set) set →
+    IsValue (record { set = set; strings = old.strings; levels = old.levels + 1 }) (nested read)
+held_nested (negated, value) b old set (same, h) members = rw (sym same) (record {
+  members = record {
+    canonical = members.canonical;
+    each = λ c. members.each c ∙ complements b c;
+  };
+  strings = h.strings;
+  levels = ap (λ n. n + 1) h.levels;
+})
+  where
+    complements : (b : Bool) (c : ℕ) → is_member (complement_if b old.set) c ≡ is_member (complement_if b value.members) c
+    complements true c =
+        ap (λ (l : List Bounds). is_member l c) (intervals_of-agree (λ n. not (is_member old.set n)) (λ n. not (is_member value.members n))
+        (λ n le. ap not (h.members.each n)))
+    complements false c = h.members.each c

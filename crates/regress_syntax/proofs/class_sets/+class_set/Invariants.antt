@@ -26,3 +26,22 @@ decreases-read_behind l = 8 * l.inside.now.levels + 4
 
 abbrev pub decreases-read_contents : goal.decreases-read_contents
 decreases-read_contents l = 8 * l.inside.now.levels + 5
+
+abbrev pub invariant-read_parts-loop-value : goal.invariant-read_parts-loop-value
+invariant-read_parts-loop-value l =
+    (held : Value) → IsValue l.fn.value held →
+    ReadFrom (parts_at (table_of l.inside.tables.now) l.inside.unicode (inner_of l.inside) l.inside.negated) held (source l.fn.cursor)
+    (source l.cursor) l.value
+
+abbrev pub decreases-read_parts-loop-value : goal.decreases-read_parts-loop-value
+decreases-read_parts-loop-value l = length (source l.cursor)
+
+abbrev pub invariant-read_operands-loop-value : goal.invariant-read_operands-loop-value
+invariant-read_operands-loop-value l =
+    (held : Value) → IsValue l.fn.value held →
+    ReadFrom
+    (operands_at (table_of l.inside.tables.now) l.inside.unicode (inner_of l.inside) l.inside.negated (sign_of l.operator) (applied l.operator))
+    held (source l.fn.cursor) (source l.cursor) l.value
+
+abbrev pub decreases-read_operands-loop-value : goal.decreases-read_operands-loop-value
+decreases-read_operands-loop-value l = length (source l.cursor)
