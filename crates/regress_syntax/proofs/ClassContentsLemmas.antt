@@ -5,7 +5,8 @@ use Rattle.std.proofs.lemmas.Option.{none-some}
 use Rattle.regress_tree.specs.Table.{Table}
 use Rattle.regress_syntax.specs.declared.class_sets.value.Value.{Value as CodeValue}
 use Rattle.regress_syntax.specs.Source.{Source, Found, ◌>>=◌, is_at}
-use Rattle.regress_syntax.specs.ClassSets.{Value, joined, Operand, value_of, set_character_at, operand_at, part_behind, parts_by, parts_at, are_at, operands_by, operands_at}
+use Rattle.regress_syntax.specs.ClassRows.{one_point}
+use Rattle.regress_syntax.specs.ClassSets.{Value, only, joined, unless_of_strings, Operand, value_of, set_character_at, operand_at, part_behind, parts_by, parts_at, are_at, operands_by, operands_at, contents_behind, contents_at, class_set_by}
 use Rattle.regress_syntax.specs.Views.{IsValue}
 use Rattle.regress_syntax.proofs.laws.Sources.{found_then, then_same, cond_same, at_front}
 use Rattle.regress_syntax.proofs.laws.Behind.{behind_shorter, Ends}
@@ -24,7 +25,7 @@ module _ (table : Table) (unicode : Bool) (inner : Source → Found (Bool × Val
   operand_shortens (c ∷ t) x e =
       omega (arith, behind_shorter t x.1 ((operand_at-shortens table unicode inner inner_ends in_negated (c ∷ t)).each x e))
 
-  part_shortens : (t : Source) (x : Value × Source) →
+  pub part_shortens : (t : Source) (x : Value × Source) →
       operand_at table unicode inner in_negated t >>= part_behind table unicode inner in_negated ≡ Some x → length x.1 < length t
   part_shortens t x e =
       let first = found_then (operand_at table unicode inner in_negated t) (part_behind table unicode inner in_negated) x e in
@@ -96,6 +97,108 @@ module _ (table : Table) (unicode : Bool) (inner : Source → Found (Bool × Val
       (λ more. let rest = both_shorten c x.1 more in
       operands_by-same (length t) (length (drop 2 x.1) + 1) c f (f value (value_of x.0)) (drop 2 x.1) (omega arith) (omega arith))
       (λ none. refl)))
+
+  -- ---- rows of contents
+
+  pub no_contents : (t : Source) → t ≡ [] → contents_at table unicode inner in_negated t ≡ None
+  no_contents t e =
+      ap (contents_at table unicode inner in_negated) e
+      ∙ ap (λ (first : Found Operand). first >>= contents_behind table unicode inner in_negated) (no_operand [] refl)
+
+  -- a single `&` behind the first operand
+  pub ampersand_read : (first : Operand) (t mid : Source) → are_at 38 t ≡ false → are_at 45 t ≡ false → is_at 38 t ≡ true → mid ≡ drop 1 t →
+      contents_behind table unicode inner in_negated (first, t)
+      ≡ parts_at table unicode inner in_negated (joined (value_of first) (only (one_point 38))) mid
+  ampersand_read first t mid no_intersection no_subtraction single moved =
+      cond-false _ _ _ no_intersection ∙ cond-false _ _ _ no_subtraction ∙ cond-true _ _ _ single
+      ∙ ap (parts_at table unicode inner in_negated (joined (value_of first) (only (one_point 38)))) (sym moved)
+
+  pub no_first : (value : Value) (t : Source) → is_at 93 t ≡ false → operand_at table unicode inner in_negated t ≡ None →
+      parts_at table unicode inner in_negated value t ≡ None
+  no_first value t goes_on none =
+      parts_go_on value t goes_on
+      ∙ ap (λ (first : Found Operand). first >>= part_behind table unicode inner in_negated
+      >>= λ (x : Value × Source). parts_at table unicode inner in_negated (joined value x.0) x.1) none
+
+  part_read : (t : Source) (first : Operand × Source) (part : Found Value) → operand_at table unicode inner in_negated t ≡ Some first →
+      part_behind table unicode inner in_negated first ≡ part →
+      operand_at table unicode inner in_negated t >>= part_behind table unicode inner in_negated ≡ part
+  part_read t first part found e = ap (λ (x : Found Operand). x >>= part_behind table unicode inner in_negated) found ∙ e
+
+  pub no_part : (value : Value) (t : Source) (first : Operand × Source) → is_at 93 t ≡ false →
+      operand_at table unicode inner in_negated t ≡ Some first → part_behind table unicode inner in_negated first ≡ None →
+      parts_at table unicode inner in_negated value t ≡ None
+  no_part value t first goes_on found none =
+      parts_go_on value t goes_on
+      ∙ ap (λ (part : Found Value). part >>= λ (x : Value × Source). parts_at table unicode inner in_negated (joined value x.0) x.1)
+      (part_read t first None found none)
+
+  pub one_part : (value : Value) (t : Source) (first : Operand × Source) (part : Value × Source) → is_at 93 t ≡ false →
+      operand_at table unicode inner in_negated t ≡ Some first → part_behind table unicode inner in_negated first ≡ Some part →
+      parts_at table unicode inner in_negated value t ≡ parts_at table unicode inner in_negated (joined value part.0) part.1
+  one_part value t first part goes_on found e =
+      parts_go_on value t goes_on
+      ∙ ap (λ (part : Found Value). part >>= λ (x : Value × Source). parts_at table unicode inner in_negated (joined value x.0) x.1)
+      (part_read t first (Some part) found e)
+
+  pub parts_end : (t : Source) (first : Operand × Source) (part : Value × Source) → operand_at table unicode inner in_negated t ≡ Some first →
+      part_behind table unicode inner in_negated first ≡ Some part → length part.1 < length t
+  parts_end t first part found e = part_shortens t part (part_read t first (Some part) found e)
+
+  -- ---- rows of operators
+
+  behind_operand : (c : ℕ) (f : Value → Value → Value) (value : Value) → Operand × Source → Found Value
+  behind_operand c f value x =
+      cond (is_at 93 x.1) (Some (f value (value_of x.0), drop 1 x.1))
+      (cond (are_at c x.1) (operands_at table unicode inner in_negated c f (f value (value_of x.0)) (drop 2 x.1)) None)
+
+  pub no_last : (c : ℕ) (f : Value → Value → Value) (value : Value) (t : Source) → operand_at table unicode inner in_negated t ≡ None →
+      operands_at table unicode inner in_negated c f value t ≡ None
+  unfolding behind_operand
+  no_last c f value t none =
+      operands_go_on c f value t ∙ ap (λ (x : Found Operand). x >>= behind_operand c f value) none
+
+  pub last_read : (c : ℕ) (f : Value → Value → Value) (value : Value) (t : Source) (x : Operand × Source) (rest : Source) →
+      operand_at table unicode inner in_negated t ≡ Some x → is_at 93 x.1 ≡ true → rest ≡ drop 1 x.1 →
+      operands_at table unicode inner in_negated c f value t ≡ Some (f value (value_of x.0), rest)
+  unfolding behind_operand
+  last_read c f value t x rest found closes moved =
+      operands_go_on c f value t ∙ ap (λ (y : Found Operand). y >>= behind_operand c f value) found ∙ cond-true _ _ _ closes
+      ∙ ap (λ (u : Source). Some (f value (value_of x.0), u)) (sym moved)
+
+  pub more_read : (c : ℕ) (f : Value → Value → Value) (value : Value) (t : Source) (x : Operand × Source) (rest : Source) →
+      operand_at table unicode inner in_negated t ≡ Some x → is_at 93 x.1 ≡ false → are_at c x.1 ≡ true → rest ≡ drop 2 x.1 →
+      operands_at table unicode inner in_negated c f value t ≡ operands_at table unicode inner in_negated c f (f value (value_of x.0)) rest
+  unfolding behind_operand
+  more_read c f value t x rest found goes_on more moved =
+      operands_go_on c f value t ∙ ap (λ (y : Found Operand). y >>= behind_operand c f value) found ∙ cond-false _ _ _ goes_on
+      ∙ cond-true _ _ _ more ∙ ap (operands_at table unicode inner in_negated c f (f value (value_of x.0))) (sym moved)
+
+  pub none_read : (c : ℕ) (f : Value → Value → Value) (value : Value) (t : Source) (x : Operand × Source) →
+      operand_at table unicode inner in_negated t ≡ Some x → is_at 93 x.1 ≡ false → are_at c x.1 ≡ false →
+      operands_at table unicode inner in_negated c f value t ≡ None
+  unfolding behind_operand
+  none_read c f value t x found goes_on none =
+      operands_go_on c f value t ∙ ap (λ (y : Found Operand). y >>= behind_operand c f value) found ∙ cond-false _ _ _ goes_on
+      ∙ cond-false _ _ _ none
+
+-- ---- classes
+
+pub no_levels : (table : Table) (unicode : Bool) (n : ℕ) (t : Source) → n ≡ 0 → class_set_by table unicode n t ≡ None
+unfolding class_set_by
+no_levels table unicode n t e = ap (λ n. class_set_by table unicode n t) e
+
+pub class_read : (table : Table) (unicode : Bool) (n m : ℕ) (t mid : Source) (negated : Bool) (found : Found Value) → n ≡ suc m →
+    negated ≡ is_at 94 t → mid ≡ cond negated (drop 1 t) t → contents_at table unicode (class_set_by table unicode m) negated mid ≡ found →
+    class_set_by table unicode n t ≡ found >>= unless_of_strings negated
+unfolding class_set_by
+class_read table unicode n m t mid negated found one_more caret moved e =
+    ap (λ n. class_set_by table unicode n t) one_more
+    ∙ subst
+    (λ b. contents_at table unicode (class_set_by table unicode m) b (cond b (drop 1 t) t) >>= unless_of_strings b ≡ found >>= unless_of_strings negated)
+    caret
+    (ap (λ (x : Found Value). x >>= unless_of_strings negated)
+    (ap (contents_at table unicode (class_set_by table unicode m) negated) (sym moved) ∙ e))
 
 -- ---- what was read so far
 
