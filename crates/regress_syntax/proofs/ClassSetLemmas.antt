@@ -1,7 +1,7 @@
 -- What a value holds.
 use Rattle.std.proofs.Common.{◌≡◌, ℕ, ◌+◌, ◌<◌, ◌≤◌, Vec, Bool, true, false, not, ◌&&◌, ◌||◌, ◌==◌, max, List, [], ◌∷◌, ◌++◌, length, take, get_or, cond, filter, map, Some, None, refl, sym, ap, ap₂, ◌∙◌, subst, append_assoc, append-nil, arith}
 use Rattle.std.proofs.lemmas.Bool.Decides.{nat_tests}
-use Rattle.std.proofs.lemmas.List.{map-append, take_all}
+use Rattle.std.proofs.lemmas.List.{map-append, length-map, take_all}
 use Rattle.std.proofs.lemmas.List.Folds.{list_any_more}
 use Rattle.std.proofs.lemmas.Map.Text.{is_eq-slice_cmp}
 use Rattle.std.specs.Cmp.Lexicographic.{slice_cmp}
@@ -175,3 +175,7 @@ held_nested (negated, value) b old set (same, h) members = rw (sym same) (record
         ap (λ (l : List Bounds). is_member l c) (intervals_of-agree (λ n. not (is_member old.set n)) (λ n. not (is_member value.members n))
         (λ n le. ap not (h.members.each n)))
     complements false c = h.members.each c
+
+-- as many strings
+pub same_count : (held : CodeValue) (value : Value) → IsValue held value → length held.strings.items ≡ length value.strings
+same_count held value h = sym (length-map held.strings.items (λ (string : Vec ℕ Global). string.items)) ∙ ap length h.strings
