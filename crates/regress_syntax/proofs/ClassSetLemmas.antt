@@ -8,6 +8,7 @@ use Rattle.std.specs.Cmp.Lexicographic.{slice_cmp}
 use Rattle.std.specs.List.{list_any}
 use Rattle.std.specs.Ordering.{nat_cmp, is_eq}
 use Rattle.std.specs.Str.{bytes_eq}
+use Rattle.std.specs.Vec.{vec_len}
 use Rattle.std.specs.declared.alloc.Global.{Global}
 use Rattle.regress_base.specs.Intervals.{Bounds, is_within, is_member, IsCanonical, IsComplement, intervals_of, code_point_max}
 use Rattle.regress_base.proofs.laws.Sets.{is_member-nil, is_member-one, is_member-append, canonical_is, intervals_of-agree, or_assoc}
@@ -177,5 +178,5 @@ held_nested (negated, value) b old set (same, h) members = rw (sym same) (record
     complements false c = h.members.each c
 
 -- as many strings
-pub same_count : (held : CodeValue) (value : Value) → IsValue held value → length held.strings.items ≡ length value.strings
-same_count held value h = sym (length-map held.strings.items (λ (string : Vec ℕ Global). string.items)) ∙ ap length h.strings
+pub same_count : (held : CodeValue) (value : Value) → IsValue held value → vec_len held.strings ≡ length value.strings
+same_count held value h = held.strings.ok.0 ∙ sym (length-map held.strings.items (λ (string : Vec ℕ Global). string.items)) ∙ ap length h.strings

@@ -300,7 +300,7 @@ read_class_set-returns-then-not-is_empty-clause-value t c =
     (source c.try_consume-negated.new.self) c.try_consume-negated.result (Some (found.0, rest)) (omega (arith, c.if-levels-eq0.false))
     c.try_consume-negated.ensures.found c.try_consume-negated.ensures.moves found.1
     ∙ cond-true _ _ _ (ap₂ (λ a b. a && not b) c.if-negated.true
-    (ap (λ n. n == 0) (sym strings ∙ sym c.in_ok-value.value.strings.ok) ∙ sym c.is_empty.ensures ∙ c.if-not-is_empty.true)))
+    (ap (λ n. n == 0) (sym strings) ∙ sym c.is_empty.ensures ∙ c.if-not-is_empty.true)))
 
 -- a class that is not negated, or holds no string, is what it holds
 kept_class : (negated : Bool) (value : Value) (t : Source) → (negated && not (length value.strings == 0)) ≡ false →
@@ -315,7 +315,7 @@ read_class_set-returns-clause-value t c =
     let allowed : (c.try_consume-negated.result && not (length found.0.strings == 0)) ≡ false =
     elim c.else-negated.branch [
       | read_class_set-else-negated-via-then-negated+else-not-is_empty w ↦
-          ap₂ (λ a b. a && not b) w.if-negated.true (ap (λ n. n == 0) (sym strings ∙ sym c.in_ok-value.value.strings.ok) ∙ sym w.is_empty.ensures ∙ w.if-not-is_empty.false)
+          ap₂ (λ a b. a && not b) w.if-negated.true (ap (λ n. n == 0) (sym strings) ∙ sym w.is_empty.ensures ∙ w.if-not-is_empty.false)
       | read_class_set-else-negated-via-else-negated w ↦ ap (λ a. a && not (length found.0.strings == 0)) w.if-negated.false
     ] in (
       (c.try_consume-negated.result, found.0),
