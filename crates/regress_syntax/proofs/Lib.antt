@@ -12,6 +12,8 @@ mod NameLemmas
 mod NumberingLemmas
 mod PropertyLemmas
 mod ReferenceLemmas
+mod ScanClasses
 mod ScanLemmas
 mod ScanRows
+mod ScanSets
 mod ScannerLemmas

@@ -13,17 +13,20 @@ use Rattle.regress_syntax.specs.Digits.{is_between, is_decimal, is_letter, contr
 use Rattle.regress_syntax.specs.Escapes.{unicode_at, escape_at}
 use Rattle.regress_tree.specs.declared.ir.node.Quantifier.{Quantifier}
 use Rattle.regress_syntax.specs.Quantifiers.{quantifier_at, is_ordered}
-use Rattle.regress_syntax.specs.ClassRows.{ClassAtom, point, class_letter, class_control_at, class_escape_by, class_escape_at, class_atom_at, atom_members, begins_range, range_of, range_at, class_part_at, class_parts_by, class_at}
-use Rattle.regress_syntax.specs.ClassRows as ClassRows
+use Rattle.regress_syntax.specs.Properties.{Property, of_points, of_strings, property_at}
+use Rattle.regress_syntax.specs.ClassRows.{complement, class_letter, class_at}
+use Rattle.regress_syntax.specs.ClassSets.{Value, class_set_at}
 use Rattle.regress_syntax.specs.Modifiers.{is_modifier, letters_off, behind_letters_off, are_different, modifiers_at}
 use Rattle.regress_syntax.specs.Names.{is_sign, begins_name, continues_name, name_character_at, rest_of_name_by, name_at, group_name_at}
 use Rattle.regress_syntax.specs.Syntax.{Name, Atom, literal, boundary, Group, modified, capture}
 use Rattle.regress_syntax.specs.Syntax as Syntax
-use Rattle.regress_syntax.specs.Rows.{Context, Head, single, opens, angle_at, modified_at, behind_mark_at, group_at, is_unserved, has_names, has_name, is_lone_backslash, character_at, numbered_at, named_at, escaped_by, escaped_at, brace_by, atom_by, head_at, no_quantifier_at, this_quantifier, times_at}
-use Rattle.regress_syntax.specs.Scan.{Mark, captures, mark_of_group, plain, escape, class, class_escape, opened_at, marks}
+use Rattle.regress_syntax.specs.Rows.{Context, Head, single, opens, angle_at, modified_at, behind_mark_at, group_at, has_names, has_name, is_lone_backslash, character_at, property_atom, property_atom_at, numbered_at, named_at, escaped_by, escaped_at, brace_by, brackets_at, atom_by, head_at, no_quantifier_at, this_quantifier, times_at}
+use Rattle.regress_syntax.specs.Scan.{Mark, captures, mark_of_group, marks_of_atom, Mode, plain, escape, class, class_escape, opened_at, marks}
 use Rattle.regress_syntax.specs.Scan as Scan
 use Rattle.regress_syntax.proofs.DigitLemmas.{and_both, drop_one_more}
-use Rattle.regress_syntax.proofs.ScanLemmas.{is_quiet, quiet_decimal, quiet_plain, Passes, Leads, passes_same, passes_then, leads_none, leads_some, leads_behind, leads_then, leads_map, leads_cond, pass_quiet, pass_at, pass_backslash, pass_escaped, pass_behind, lead_unicode_at, lead_escape_at, lead_quantifier_at}
+use Rattle.regress_syntax.proofs.ScanLemmas.{is_quiet, quiet_decimal, quiet_plain, Passes, Leads, Gives, in_text, gives_none, gives_some, gives_after, gives_then, gives_map, gives_cond, gives_leads, passes_same, passes_then, leads_none, leads_some, leads_behind, leads_then, leads_map, leads_cond, pass_quiet, pass_at, pass_backslash, pass_escaped, pass_behind, lead_unicode_at, lead_escape_at, lead_quantifier_at}
+use Rattle.regress_syntax.proofs.ScanClasses.{lead_property_at, lead_class_at}
+use Rattle.regress_syntax.proofs.ScanSets.{gives_class_set_at}
 
 -- ---- names
 
@@ -57,280 +60,227 @@ quiet_continues table c lawful e = by (is_member table.id_continue c) refl
 quiet_modifier : (c : ℕ) → is_modifier c ≡ true → is_quiet c ≡ true
 quiet_modifier c e = grind (arith, nat_tests)
 
-module _ {table : Table} where
-  -- ---- classes
-
-  -- the backslash alone leaves the `c`
-  lead_class_control_at : (t : Source) → Leads table class_escape (99 ∷ t) class (class_control_at t)
-  unfolding marks
-  lead_class_control_at [] = leads_some (point 92, 99 ∷ []) (record { same = refl })
-  lead_class_control_at (d ∷ t) =
-      leads_cond (is_letter d || is_decimal d || d == 95) _ _
-      (λ e. leads_some (point (control d), t)
-      (passes_then (pass_escaped true 99 (d ∷ t))
-      (pass_quiet true d t (grind (arith, nat_tests)))))
-      (λ _. leads_some (point 92, 99 ∷ d ∷ t) (record { same = refl }))
-
-  lead_class_escape_by : (unicode : Bool) (c : ℕ) (t : Source) → Leads table class_escape (c ∷ t) class (class_escape_by unicode c t)
-  lead_class_escape_by unicode c t = by (class_letter c)
-    where
-      by : (letter : Option (CharacterClassType × Bool)) →
-          Leads table class_escape (c ∷ t) class
-          (elim letter as (λ _. Found ClassAtom) [
-            | Some named ↦ Some (ClassRows.class named.0 named.1, t)
-            | None ↦ cond (c == 98) (Some (point 8, t)) (cond (c == 45 && unicode) (Some (point 45, t))
-                (cond (c == 99 && not unicode) (class_control_at t) (cond ((c == 112 || c == 80) && unicode) None
-                (found_map point (escape_at unicode (c ∷ t))))))
-          ])
-      by (Some named) = leads_some (ClassRows.class named.0 named.1, t) (pass_escaped true c t)
-      by None =
-          leads_cond (c == 98) _ _ (λ _. leads_some (point 8, t) (pass_escaped true c t))
-          (λ _. leads_cond (c == 45 && unicode) _ _ (λ _. leads_some (point 45, t) (pass_escaped true c t))
-          (λ _. leads_cond (c == 99 && not unicode) _ _
-          (λ e. subst (λ k. Leads table class_escape (k ∷ t) class (class_control_at t)) (sym (eqb-true c 99 (and_both _ _ e).0)) (lead_class_control_at t))
-          (λ _. leads_cond ((c == 112 || c == 80) && unicode) _ _ (λ _. leads_none)
-          (λ _. leads_map point (escape_at unicode (c ∷ t)) (lead_escape_at true unicode (c ∷ t))))))
-
-  lead_class_escape_at : (unicode : Bool) (t : Source) → Leads table class_escape t class (class_escape_at unicode t)
-  lead_class_escape_at unicode [] = leads_none
-  lead_class_escape_at unicode (c ∷ t) = lead_class_escape_by unicode c t
-
-  lead_class_atom_at : (unicode : Bool) (t : Source) → Leads table class t class (class_atom_at unicode t)
-  unfolding marks
-  lead_class_atom_at unicode [] = leads_none
-  lead_class_atom_at unicode (c ∷ t) =
-      leads_cond (c == 93) _ _ (λ _. leads_none)
-      (λ goes_on. leads_cond (c == 92) _ _
-      (λ e. subst (λ k. Leads table class (k ∷ t) class (class_escape_at unicode t)) (sym (eqb-true c 92 e))
-      (leads_behind (pass_backslash true t) (lead_class_escape_at unicode t)))
-      (λ e. leads_some (point c, t) (record { same = rw (e, goes_on) refl })))
-
-  lead_made : (made : Option (List Bounds)) (t : Source) →
-      Leads table class t class (elim made as (λ _. Found (List Bounds)) [ None ↦ None | Some members ↦ Some (members, t) ])
-  lead_made None t = leads_none
-  lead_made (Some members) t = leads_some (members, t) passes_same
-
-  lead_range_at : (unicode : Bool) (first : ClassAtom) (t : Source) → Leads table class t class (range_at unicode first t)
-  lead_range_at unicode first t =
-      leads_then (class_atom_at unicode t) _ (lead_class_atom_at unicode t) (λ x. lead_made (range_of unicode first x.0) x.1)
-
-  -- behind a hyphen that begins a range
-  pass_hyphen : (t : Source) → begins_range t ≡ true → Passes table class t class (drop 1 t)
-  pass_hyphen t e = pass_at true 45 t refl (and_both _ _ e).0
-
-  lead_class_part_at : (unicode : Bool) (t : Source) → Leads table class t class (class_part_at unicode t)
-  lead_class_part_at unicode t =
-      leads_then (class_atom_at unicode t) _ (lead_class_atom_at unicode t)
-      (λ x. leads_cond (begins_range x.1) _ _
-      (λ e. leads_behind (pass_hyphen x.1 e) (lead_range_at unicode x.0 (drop 1 x.1)))
-      (λ _. leads_some (atom_members x.0, x.1) passes_same))
-
-  pass_bracket : (t : Source) → is_at 93 t ≡ true → Passes table class t plain (drop 1 t)
-  unfolding marks
-  pass_bracket [] e = absurd (false≢true e)
-  pass_bracket (c ∷ t) e = subst (λ k. Passes table class (k ∷ t) plain t) (sym (eqb-true c 93 e)) (record { same = refl })
-
-  lead_class_parts_by : (n : ℕ) (unicode : Bool) (t : Source) → Leads table class t plain (class_parts_by n unicode t)
-  unfolding class_parts_by
-  lead_class_parts_by zero unicode t = leads_none
-  lead_class_parts_by (suc n) unicode t =
-      leads_cond (is_at 93 t) _ _ (λ e. leads_some ([], drop 1 t) (pass_bracket t e))
-      (λ _. leads_then (class_part_at unicode t) _ (lead_class_part_at unicode t)
-      (λ x. leads_then (class_parts_by n unicode x.1) _ (lead_class_parts_by n unicode x.1)
-      (λ y. leads_some (_, y.1) passes_same)))
-
-  pass_caret : (t : Source) → Passes table class t class (cond (is_at 94 t) (drop 1 t) t)
-  pass_caret t = by (is_at 94 t) refl
-    where
-      by : (q : Bool) → is_at 94 t ≡ q → Passes table class t class (cond q (drop 1 t) t)
-      by true e = pass_at true 94 t refl e
-      by false e = passes_same
-
-  lead_class_at : (unicode : Bool) (t : Source) → Leads table class t plain (class_at unicode t)
-  unfolding class_at
-  lead_class_at unicode t =
-      leads_behind (pass_caret t)
-      (leads_then (class_parts_by (length (cond (is_at 94 t) (drop 1 t) t) + 1) unicode (cond (is_at 94 t) (drop 1 t) t)) _
-      (lead_class_parts_by (length (cond (is_at 94 t) (drop 1 t) t) + 1) unicode (cond (is_at 94 t) (drop 1 t) t))
-      (λ x. leads_some (_, x.1) passes_same))
-
+module _ {sets : Bool} {table : Table} where
   -- ---- names
 
-  lead_written_unicode : (t : Source) → Leads table plain (92 ∷ t) plain (cond (is_at 117 t) (unicode_at (drop 1 t)) None)
+  lead_written_unicode : (t : Source) → Leads sets table plain (92 ∷ t) plain (cond (is_at 117 t) (unicode_at (drop 1 t)) None)
   lead_written_unicode [] = leads_none
   lead_written_unicode (c ∷ t) =
       leads_cond (c == 117) _ _
-      (λ _. leads_behind (passes_then (pass_backslash false (c ∷ t)) (pass_escaped false c t))
-      (lead_unicode_at false t))
+      (λ _. leads_behind (passes_then (pass_backslash in_text (c ∷ t)) (pass_escaped in_text c t))
+      (lead_unicode_at in_text t))
       (λ _. leads_none)
 
   lead_name_character_at : (p : ℕ → Bool) (t : Source) → ((c : ℕ) → p c ≡ true → is_quiet c ≡ true) →
-      Leads table plain t plain (name_character_at p t)
+      Leads sets table plain t plain (name_character_at p t)
   lead_name_character_at p [] quiet = leads_none
   lead_name_character_at p (c ∷ t) quiet = by (c == 92) refl
     where
       by : (q : Bool) → (c == 92) ≡ q →
-          Leads table plain (c ∷ t) plain
+          Leads sets table plain (c ∷ t) plain
           (cond q (cond (is_at 117 t) (unicode_at (drop 1 t)) None) (Some (c, t)) >>= λ (x : ℕ × Source). cond (p x.0) (Some (x.0, x.1)) None)
       by true e =
           leads_then (cond (is_at 117 t) (unicode_at (drop 1 t)) None) _
-          (subst (λ k. Leads table plain (k ∷ t) plain (cond (is_at 117 t) (unicode_at (drop 1 t)) None)) (sym (eqb-true c 92 e)) (lead_written_unicode t))
+          (subst (λ k. Leads sets table plain (k ∷ t) plain (cond (is_at 117 t) (unicode_at (drop 1 t)) None)) (sym (eqb-true c 92 e)) (lead_written_unicode t))
           (λ x. leads_cond (p x.0) _ _ (λ _. leads_some x passes_same) (λ _. leads_none))
       by false e =
-          leads_cond (p c) _ _ (λ passes. leads_some (c, t) (pass_quiet false c t (quiet c passes)))
+          leads_cond (p c) _ _ (λ passes. leads_some (c, t) (pass_quiet in_text c t (quiet c passes)))
           (λ _. leads_none)
 
   module _ (lawful : IsLawful table) where
-    lead_rest_of_name_by : (n : ℕ) (t : Source) → Leads table plain t plain (rest_of_name_by n table t)
+    lead_rest_of_name_by : (n : ℕ) (t : Source) → Leads sets table plain t plain (rest_of_name_by n table t)
     unfolding rest_of_name_by
     lead_rest_of_name_by zero t = leads_none
     lead_rest_of_name_by (suc n) t =
-        leads_cond (is_at 62 t) _ _ (λ e. leads_some ([], drop 1 t) (pass_at false 62 t refl e))
+        leads_cond (is_at 62 t) _ _ (λ e. leads_some ([], drop 1 t) (pass_at in_text 62 t refl e))
         (λ _. leads_then (name_character_at (continues_name table) t) _
         (lead_name_character_at (continues_name table) t (λ c. quiet_continues table c lawful))
         (λ x. leads_map (λ cs. x.0 ∷ cs) (rest_of_name_by n table x.1) (lead_rest_of_name_by n x.1)))
 
-    lead_name_at : (t : Source) → Leads table plain t plain (name_at table t)
+    lead_name_at : (t : Source) → Leads sets table plain t plain (name_at table t)
     unfolding name_at
     lead_name_at t =
         leads_then (name_character_at (begins_name table) t) _
         (lead_name_character_at (begins_name table) t (λ c. quiet_begins table c lawful))
         (λ x. leads_map (λ cs. x.0 ∷ cs) (rest_of_name_by (length x.1 + 1) table x.1) (lead_rest_of_name_by (length x.1 + 1) x.1))
 
-    pub lead_group_name_at : (t : Source) → Leads table plain t plain (group_name_at table t)
+    pub lead_group_name_at : (t : Source) → Leads sets table plain t plain (group_name_at table t)
     lead_group_name_at t =
-        leads_cond (is_at 60 t) _ _ (λ e. leads_behind (pass_at false 60 t refl e) (lead_name_at (drop 1 t)))
+        leads_cond (is_at 60 t) _ _ (λ e. leads_behind (pass_at in_text 60 t refl e) (lead_name_at (drop 1 t)))
         (λ _. leads_none)
 
   -- ---- modifiers
 
-  pass_letters_off : (t : Source) → Passes table plain t plain (behind_letters_off t)
+  pass_letters_off : (t : Source) → Passes sets table plain t plain (behind_letters_off t)
   pass_letters_off t = by (is_at 45 t) refl
     where
-      by : (q : Bool) → is_at 45 t ≡ q → Passes table plain t plain (cond q (behind is_modifier (drop 1 t)) t)
-      by true e = passes_then (pass_at false 45 t refl e) (pass_behind false is_modifier quiet_modifier (drop 1 t))
+      by : (q : Bool) → is_at 45 t ≡ q → Passes sets table plain t plain (cond q (behind is_modifier (drop 1 t)) t)
+      by true e = passes_then (pass_at in_text 45 t refl e) (pass_behind in_text is_modifier quiet_modifier (drop 1 t))
       by false e = passes_same
 
-  pub lead_modifiers_at : (t : Source) → Leads table plain t plain (modifiers_at t)
+  pub lead_modifiers_at : (t : Source) → Leads sets table plain t plain (modifiers_at t)
   unfolding modifiers_at
   lead_modifiers_at t =
       let rest = behind is_modifier t in
       let letters = front is_modifier t ++ letters_off rest in
       leads_cond (not (length letters == 0) && are_different letters && is_at colon (behind_letters_off rest)) _ _
       (λ e. leads_some (_, drop 1 (behind_letters_off rest))
-      (passes_then (pass_behind false is_modifier quiet_modifier t)
-      (passes_then (pass_letters_off rest) (pass_at false colon (behind_letters_off rest) refl (and_both _ _ e).1))))
+      (passes_then (pass_behind in_text is_modifier quiet_modifier t)
+      (passes_then (pass_letters_off rest) (pass_at in_text colon (behind_letters_off rest) refl (and_both _ _ e).1))))
       (λ _. leads_none)
 
 -- ---- items that hold no pattern
 
-module _ (ctx : Context) (lawful : IsLawful ctx.setting.table) where
-  lead_character_at : (c : ℕ) (t : Source) → Leads ctx.setting.table escape (c ∷ t) plain (character_at ctx c t)
-  lead_character_at c t =
-      leads_cond (is_unserved ctx.setting.flags.unicode c) _ _ (λ _. leads_none)
-      (λ _. leads_map _ (escape_at ctx.setting.flags.unicode (c ∷ t))
-      (lead_escape_at false ctx.setting.flags.unicode (c ∷ t)))
+-- the marks from a place of the pattern on
+abbrev marks_in : Context → Mode → Source → List Mark
+marks_in ctx m t = marks ctx.setting.flags.unicode_sets ctx.setting.table m t
 
-  pass_number : (c : ℕ) (t : Source) → is_decimal c ≡ true → Passes ctx.setting.table escape (c ∷ t) plain (behind is_decimal (c ∷ t))
+-- an atom's marks, and those behind it
+abbrev behind_atom : Context → Atom → Source → List Mark
+behind_atom ctx a t = marks_of_atom a ++ marks_in ctx plain t
+
+module _ (ctx : Context) (lawful : IsLawful ctx.setting.table) where
+  -- an atom that has no mark
+  gives_unmarked : {A : Type 0} {m : Mode} {t : Source} (f : A → Atom) (found : Found A) → ((x : A) → marks_of_atom (f x) ≡ []) →
+      Leads ctx.setting.flags.unicode_sets ctx.setting.table m t plain found → Gives (marks_in ctx m t) (behind_atom ctx) (found_map f found)
+  gives_unmarked f found unmarked h =
+      gives_map (λ _. marks_in ctx plain) f found (gives_leads h) (λ x t. ap (λ ms. ms ++ marks_in ctx plain t) (sym (unmarked x)))
+
+  gives_character_at : (c : ℕ) (t : Source) → Gives (marks_in ctx escape (c ∷ t)) (behind_atom ctx) (character_at ctx c t)
+  gives_character_at c t =
+      gives_unmarked (literal ctx.setting.flags) (escape_at ctx.setting.flags.unicode (c ∷ t)) (λ x. refl)
+      (lead_escape_at in_text ctx.setting.flags.unicode (c ∷ t))
+
+  gives_property_atom : (negated : Bool) (x : Property × Source) → Gives (marks_in ctx plain x.1) (behind_atom ctx) (property_atom ctx negated x)
+  gives_property_atom negated (of_points members, t) = gives_some (_, t) (by (negated && ctx.setting.flags.icase))
+    where
+      by : (b : Bool) → marks_in ctx plain t ≡
+          behind_atom ctx (cond b (Syntax.class ctx.setting.flags false (complement members)) (Syntax.class ctx.setting.flags negated members)) t
+      by true = refl
+      by false = refl
+  gives_property_atom negated (of_strings written, t) = gives_cond negated _ _ (λ _. gives_none) (λ _. gives_some (_, t) refl)
+
+  gives_property_atom_at : (negated : Bool) (c : ℕ) (t : Source) →
+      Gives (marks_in ctx escape (c ∷ t)) (behind_atom ctx) (property_atom_at ctx negated t)
+  gives_property_atom_at negated c t =
+      gives_then (λ _. marks_in ctx plain) (property_at ctx.setting.flags.unicode_sets ctx.setting.table t) _
+      (gives_leads (leads_behind (pass_escaped in_text c t) (lead_property_at in_text ctx.setting.flags.unicode_sets ctx.setting.table t)))
+      (gives_property_atom negated)
+
+  pass_number : (c : ℕ) (t : Source) → is_decimal c ≡ true →
+      Passes ctx.setting.flags.unicode_sets ctx.setting.table escape (c ∷ t) plain (behind is_decimal (c ∷ t))
   unfolding behind
   pass_number c t e =
-      rw e (passes_then (pass_escaped false c t)
-      (pass_behind false is_decimal quiet_decimal t))
+      rw e (passes_then (pass_escaped in_text c t)
+      (pass_behind in_text is_decimal quiet_decimal t))
 
-  lead_numbered_at : (c : ℕ) (t : Source) → is_decimal c ≡ true → Leads ctx.setting.table escape (c ∷ t) plain (numbered_at ctx c t)
-  lead_numbered_at c t e =
-      leads_cond (nat_le (number 10 (front is_decimal (c ∷ t))) ctx.groups) _ _
-      (λ _. leads_some (_, behind is_decimal (c ∷ t)) (pass_number c t e))
-      (λ _. leads_cond ctx.setting.flags.unicode _ _ (λ _. leads_none)
-      (λ _. lead_character_at c t))
+  gives_numbered_at : (c : ℕ) (t : Source) → is_decimal c ≡ true → Gives (marks_in ctx escape (c ∷ t)) (behind_atom ctx) (numbered_at ctx c t)
+  gives_numbered_at c t e =
+      gives_cond (nat_le (number 10 (front is_decimal (c ∷ t))) ctx.groups) _ _
+      (λ _. gives_some (_, behind is_decimal (c ∷ t)) (pass_number c t e).same)
+      (λ _. gives_cond ctx.setting.flags.unicode _ _ (λ _. gives_none)
+      (λ _. gives_character_at c t))
 
-  lead_named_at : (t : Source) → Leads ctx.setting.table plain t plain (named_at ctx t)
-  lead_named_at t =
-      leads_then (group_name_at ctx.setting.table t) _ (lead_group_name_at lawful t)
-      (λ x. leads_cond (has_name x.0 ctx.names) _ _
-      (λ _. leads_some (_, x.1) passes_same)
-      (λ _. leads_none))
+  gives_named_at : (t : Source) → Gives (marks_in ctx plain t) (behind_atom ctx) (named_at ctx t)
+  gives_named_at t =
+      gives_then (λ _. marks_in ctx plain) (group_name_at ctx.setting.table t) _ (gives_leads (lead_group_name_at lawful t))
+      (λ x. gives_cond (has_name x.0 ctx.names) _ _
+      (λ _. gives_some (_, x.1) refl)
+      (λ _. gives_none))
 
   -- The backslash alone leaves the `c`, which is quiet.
-  pass_lone_backslash : (c : ℕ) (t : Source) → Passes ctx.setting.table escape (c ∷ t) plain (99 ∷ t)
+  same_lone_backslash : (c : ℕ) (t : Source) → marks_in ctx escape (c ∷ t) ≡ marks_in ctx plain (99 ∷ t)
   unfolding marks
-  pass_lone_backslash c t = record { same = refl }
+  same_lone_backslash c t = refl
 
-  lead_escaped_by : (c : ℕ) (t : Source) → Leads ctx.setting.table escape (c ∷ t) plain (escaped_by ctx c t)
-  lead_escaped_by c t = by (class_letter c)
+  gives_escaped_by : (c : ℕ) (t : Source) → Gives (marks_in ctx escape (c ∷ t)) (behind_atom ctx) (escaped_by ctx c t)
+  gives_escaped_by c t = by (class_letter c)
     where
       by : (letter : Option (CharacterClassType × Bool)) →
-          Leads ctx.setting.table escape (c ∷ t) plain
+          Gives (marks_in ctx escape (c ∷ t)) (behind_atom ctx)
           (elim letter as (λ _. Found Atom) [
             | Some named ↦ Some (Syntax.class_escape ctx.setting.flags named.0 named.1, t)
             | None ↦
                 cond (c == 98) (Some (boundary ctx.setting.flags false, t))
                 (cond (c == 66) (Some (boundary ctx.setting.flags true, t))
                 (cond (is_lone_backslash ctx.setting.flags.unicode c t) (Some (literal ctx.setting.flags 92, 99 ∷ t))
+                (cond ((c == 112 || c == 80) && (ctx.setting.flags.unicode || ctx.setting.flags.unicode_sets)) (property_atom_at ctx (c == 80) t)
                 (cond (is_between 49 57 c) (numbered_at ctx c t)
                 (cond (c == 107 && (ctx.setting.flags.unicode || has_names ctx.names)) (named_at ctx t)
-                (character_at ctx c t)))))
+                (character_at ctx c t))))))
           ])
-      by (Some named) = leads_some (_, t) (pass_escaped false c t)
+      by (Some named) = gives_some (_, t) (pass_escaped in_text c t).same
       by None =
-          leads_cond (c == 98) _ _ (λ _. leads_some (_, t) (pass_escaped false c t))
-          (λ _. leads_cond (c == 66) _ _ (λ _. leads_some (_, t) (pass_escaped false c t))
-          (λ _. leads_cond (is_lone_backslash ctx.setting.flags.unicode c t) _ _
-          (λ _. leads_some (_, 99 ∷ t) (pass_lone_backslash c t))
-          (λ _. leads_cond (is_between 49 57 c) _ _ (λ e. lead_numbered_at c t (grind (arith, nat_tests)))
-          (λ _. leads_cond (c == 107 && (ctx.setting.flags.unicode || has_names ctx.names)) _ _
-          (λ _. leads_behind (pass_escaped false c t) (lead_named_at t))
-          (λ _. lead_character_at c t)))))
+          gives_cond (c == 98) _ _ (λ _. gives_some (_, t) (pass_escaped in_text c t).same)
+          (λ _. gives_cond (c == 66) _ _ (λ _. gives_some (_, t) (pass_escaped in_text c t).same)
+          (λ _. gives_cond (is_lone_backslash ctx.setting.flags.unicode c t) _ _
+          (λ _. gives_some (_, 99 ∷ t) (same_lone_backslash c t))
+          (λ _. gives_cond ((c == 112 || c == 80) && (ctx.setting.flags.unicode || ctx.setting.flags.unicode_sets)) _ _
+          (λ _. gives_property_atom_at (c == 80) c t)
+          (λ _. gives_cond (is_between 49 57 c) _ _ (λ e. gives_numbered_at c t (grind (arith, nat_tests)))
+          (λ _. gives_cond (c == 107 && (ctx.setting.flags.unicode || has_names ctx.names)) _ _
+          (λ _. gives_after (pass_escaped in_text c t).same (gives_named_at t))
+          (λ _. gives_character_at c t))))))
 
-  lead_escaped_at : (t : Source) → Leads ctx.setting.table escape t plain (escaped_at ctx t)
-  lead_escaped_at [] = leads_none
-  lead_escaped_at (c ∷ t) = lead_escaped_by c t
+  gives_escaped_at : (t : Source) → Gives (marks_in ctx escape t) (behind_atom ctx) (escaped_at ctx t)
+  gives_escaped_at [] = gives_none
+  gives_escaped_at (c ∷ t) = gives_escaped_by c t
 
   -- outside a class a `]` is quiet too
-  pass_brace : (c : ℕ) (t : Source) → (c == 123 || c == 93 || c == 125) ≡ true → Passes ctx.setting.table plain (c ∷ t) plain t
+  same_brace : (c : ℕ) (t : Source) → (c == 123 || c == 93 || c == 125) ≡ true → marks_in ctx plain (c ∷ t) ≡ marks_in ctx plain t
   unfolding marks
-  pass_brace c t e =
+  same_brace c t e =
       let not_backslash : (c == 92) ≡ false = grind (arith, nat_tests) in
       let not_bracket : (c == 91) ≡ false = grind (arith, nat_tests) in
       let not_opening : (c == opening) ≡ false = grind (arith, nat_tests) in
       let not_closing : (c == closing) ≡ false = grind (arith, nat_tests) in
       let not_bar : (c == bar) ≡ false = grind (arith, nat_tests) in
-      record { same = rw (not_backslash, not_bracket, not_opening, not_closing, not_bar) refl }
+      rw (not_backslash, not_bracket, not_opening, not_closing, not_bar) refl
 
-  lead_brace_by : (c : ℕ) (t : Source) → (c == 123 || c == 93 || c == 125) ≡ true → Leads ctx.setting.table plain (c ∷ t) plain (brace_by ctx c t)
-  lead_brace_by c t e =
-      leads_cond (ctx.setting.flags.unicode || is_some (quantifier_at (c ∷ t))) _ _ (λ _. leads_none)
-      (λ _. leads_some (_, t) (pass_brace c t e))
+  gives_brace_by : (c : ℕ) (t : Source) → (c == 123 || c == 93 || c == 125) ≡ true →
+      Gives (marks_in ctx plain (c ∷ t)) (behind_atom ctx) (brace_by ctx c t)
+  gives_brace_by c t e =
+      gives_cond (ctx.setting.flags.unicode || is_some (quantifier_at (c ∷ t))) _ _ (λ _. gives_none)
+      (λ _. gives_some (_, t) (same_brace c t e))
 
-  pass_open_bracket : (t : Source) → Passes ctx.setting.table plain (91 ∷ t) class t
+  -- With the flag v a class has a mark.
+  gives_class : (sets : Bool) (t : Source) →
+      Gives (marks sets ctx.setting.table (class 0 0) t) (λ a rest. marks_of_atom a ++ marks sets ctx.setting.table plain rest)
+      (cond sets
+      (found_map (λ (x : Bool × Value). Syntax.class_set ctx.setting.flags x.0 x.1)
+      (class_set_at ctx.setting.table ctx.setting.flags.unicode t))
+      (found_map (λ (x : Bool × List Bounds). Syntax.class ctx.setting.flags x.0 x.1)
+      (class_at ctx.setting.table ctx.setting.flags.unicode t)))
+  gives_class true t = gives_map _ _ _ (gives_class_set_at ctx.setting.table ctx.setting.flags.unicode t) (λ x rest. refl)
+  gives_class false t = gives_map _ _ _ (gives_leads (lead_class_at ctx.setting.flags.unicode t)) (λ x rest. refl)
+
+  same_open_bracket : (t : Source) → marks_in ctx plain (91 ∷ t) ≡ marks_in ctx (class 0 0) t
   unfolding marks
-  pass_open_bracket t = record { same = refl }
+  same_open_bracket t = refl
 
-  lead_atom_by : (c : ℕ) (t : Source) → Leads ctx.setting.table plain (c ∷ t) plain (atom_by ctx c t)
-  lead_atom_by c t =
-      leads_cond (c == full_stop) _ _ (λ e. leads_some (_, t) (pass_at false full_stop (c ∷ t) refl e))
-      (λ _. leads_cond (c == 94) _ _ (λ e. leads_some (_, t) (pass_at false 94 (c ∷ t) refl e))
-      (λ _. leads_cond (c == 36) _ _ (λ e. leads_some (_, t) (pass_at false 36 (c ∷ t) refl e))
-      (λ _. leads_cond (c == 92) _ _
-      (λ e. subst (λ k. Leads ctx.setting.table plain (k ∷ t) plain (escaped_at ctx t)) (sym (eqb-true c 92 e))
-      (leads_behind (pass_backslash false t) (lead_escaped_at t)))
-      (λ _. leads_cond (c == 91) _ _
-      (λ e. subst
-      (λ k. Leads ctx.setting.table plain (k ∷ t) plain
-      (found_map (λ (x : Bool × List Bounds). Syntax.class ctx.setting.flags x.0 x.1) (class_at ctx.setting.flags.unicode t))) (sym (eqb-true c 91 e))
-      (leads_behind (pass_open_bracket t) (leads_map _ (class_at ctx.setting.flags.unicode t) (lead_class_at ctx.setting.flags.unicode t))))
-      (λ _. leads_cond (c == 123 || c == 93 || c == 125) _ _ (lead_brace_by c t)
-      (λ _. leads_cond (is_plain c) _ _ (λ e. leads_some (_, t) (pass_quiet false c t (quiet_plain c e)))
-      (λ _. leads_none)))))))
+  gives_atom_by : (c : ℕ) (t : Source) → Gives (marks_in ctx plain (c ∷ t)) (behind_atom ctx) (atom_by ctx c t)
+  gives_atom_by c t =
+      gives_cond (c == full_stop) _ _ (λ e. gives_some (_, t) (pass_at in_text full_stop (c ∷ t) refl e).same)
+      (λ _. gives_cond (c == 94) _ _ (λ e. gives_some (_, t) (pass_at in_text 94 (c ∷ t) refl e).same)
+      (λ _. gives_cond (c == 36) _ _ (λ e. gives_some (_, t) (pass_at in_text 36 (c ∷ t) refl e).same)
+      (λ _. gives_cond (c == 92) _ _
+      (λ e. subst (λ k. Gives (marks_in ctx plain (k ∷ t)) (behind_atom ctx) (escaped_at ctx t)) (sym (eqb-true c 92 e))
+      (gives_after (pass_backslash in_text t).same (gives_escaped_at t)))
+      (λ _. gives_cond (c == 91) _ _
+      (λ e. subst (λ k. Gives (marks_in ctx plain (k ∷ t)) (behind_atom ctx) (brackets_at ctx t)) (sym (eqb-true c 91 e))
+      (gives_after (same_open_bracket t) (gives_class ctx.setting.flags.unicode_sets t)))
+      (λ _. gives_cond (c == 123 || c == 93 || c == 125) _ _ (gives_brace_by c t)
+      (λ _. gives_cond (is_plain c) _ _ (λ e. gives_some (_, t) (pass_quiet in_text c t (quiet_plain c e)).same)
+      (λ _. gives_none)))))))
 
   -- ---- quantifiers
 
-  pub lead_times_at : (allowed : Bool) (t : Source) → Leads ctx.setting.table plain t plain (times_at ctx allowed t)
+  pub lead_times_at : (allowed : Bool) (t : Source) → Leads ctx.setting.flags.unicode_sets ctx.setting.table plain t plain (times_at ctx allowed t)
   unfolding times_at
   lead_times_at allowed t = by (quantifier_at t) (lead_quantifier_at t)
     where
-      by : (found : Found Quantifier) → Leads ctx.setting.table plain t plain found →
-          Leads ctx.setting.table plain t plain (elim found as (λ _. Found (Option Quantifier)) [
+      by : (found : Found Quantifier) → Leads ctx.setting.flags.unicode_sets ctx.setting.table plain t plain found →
+          Leads ctx.setting.flags.unicode_sets ctx.setting.table plain t plain (elim found as (λ _. Found (Option Quantifier)) [
             | None ↦ no_quantifier_at ctx t
             | Some x ↦ this_quantifier ctx allowed x
           ])
@@ -341,7 +291,7 @@ module _ (ctx : Context) (lawful : IsLawful ctx.setting.table) where
 
 -- what an item begins with has these marks
 abbrev pub marks_of_head : Head → List Mark
-marks_of_head (single a) = []
+marks_of_head (single a) = marks_of_atom a
 marks_of_head (opens kind) = mark_of_group kind ∷ []
 
 module _ (table : Table) where
@@ -364,9 +314,26 @@ module _ (table : Table) where
       by true = no_name_at k (drop 1 t) backslash begins e
       by false = refl
 
--- Whatever head is found, the marks are its own and those behind it.
-pub record Gives (table : Table) (ms : List Mark) (found : Found Head) : Type 0 where
-  pub each : (x : Head × Source) → found ≡ Some x → ms ≡ marks_of_head x.0 ++ marks table plain x.1
+module _ {table : Table} (lawful : IsLawful table) where
+  -- what is no word character begins no name
+  begins_none : (c : ℕ) → c < 0x80 → is_member word_characters c ≡ false → is_sign c ≡ false → begins_name table c ≡ false
+  begins_none c low no_word no_sign = by (is_member table.id_start c) refl
+    where
+      by : (q : Bool) → is_member table.id_start c ≡ q → (scalar c && (is_sign c || q)) ≡ false
+      by true member = absurd (false≢true (sym no_word ∙ lawful.id_start_ascii c low member))
+      by false absent = rw no_sign (elim (scalar c) as (λ b. (b && false) ≡ false) [ true ↦ refl | false ↦ refl ])
+
+  equals_begins_none : begins_name table 61 ≡ false
+  unfolding is_member is_within
+  equals_begins_none = begins_none 61 (omega arith) refl refl
+
+  exclamation_begins_none : begins_name table 33 ≡ false
+  unfolding is_member is_within
+  exclamation_begins_none = begins_none 33 (omega arith) refl refl
+
+-- the marks of what an item begins with, and those behind it
+abbrev pub behind_head : (sets : Bool) (table : Table) → Head → Source → List Mark
+behind_head sets table head t = marks_of_head head ++ marks sets table plain t
 
 -- the mark of a parenthesis with `?`, as a name is found behind that
 abbrev named_mark : Found Name → Mark
@@ -377,103 +344,71 @@ other_at : (k j : ℕ) (t : Source) → (k == j) ≡ false → is_at k t ≡ tru
 other_at k j [] other e = refl
 other_at k j (c ∷ t) other e = subst (λ d. (d == j) ≡ false) (sym (eqb-true c k e)) other
 
-module _ {table : Table} where
-  gives_none : {ms : List Mark} → Gives table ms None
-  gives_none = record { each = λ x e. absurd (none-some x e) }
-
-  gives_some : {ms : List Mark} (x : Head × Source) → ms ≡ marks_of_head x.0 ++ marks table plain x.1 → Gives table ms (Some x)
-  gives_some {ms} x h =
-      record { each = λ y e. subst (λ (z : Head × Source). ms ≡ marks_of_head z.0 ++ marks table plain z.1) (same_Some x y e) h }
-
-  gives_cond : {ms : List Mark} (b : Bool) (x y : Found Head) → (b ≡ true → Gives table ms x) → (b ≡ false → Gives table ms y) →
-      Gives table ms (cond b x y)
-  gives_cond true x y h k = h refl
-  gives_cond false x y h k = k refl
-
+module _ {sets : Bool} {table : Table} where
   -- what was read has this mark
-  gives_map : {A : Type 0} {t : Source} (m : Mark) (f : A → Head) (found : Found A) → Leads table plain t plain found →
-      ((x : A) → marks_of_head (f x) ≡ m ∷ []) → Gives table (m ∷ marks table plain t) (found_map f found)
-  gives_map m f None h same = gives_none
-  gives_map m f (Some x) h same =
-      gives_some (f x.0, x.1) (ap (λ ms. m ∷ ms) (h.each x refl).same ∙ ap (λ ms. ms ++ marks table plain x.1) (sym (same x.0)))
-
-  gives_single : {t : Source} (found : Found Atom) → Leads table plain t plain found → Gives table (marks table plain t) (found_map single found)
-  gives_single None h = gives_none
-  gives_single (Some x) h = gives_some (single x.0, x.1) (h.each x refl).same
+  gives_marked : {A : Type 0} {t : Source} (m : Mark) (f : A → Head) (found : Found A) → Leads sets table plain t plain found →
+      ((x : A) → marks_of_head (f x) ≡ m ∷ []) → Gives (m ∷ marks sets table plain t) (behind_head sets table) (found_map f found)
+  gives_marked m f None h same = gives_none
+  gives_marked m f (Some x) h same =
+      gives_some (f x.0, x.1) (ap (λ ms. m ∷ ms) (h.each x refl).same ∙ ap (λ ms. ms ++ marks sets table plain x.1) (sym (same x.0)))
 
   -- a name has its mark
-  gives_named : {t : Source} (found : Found Name) → Leads table plain t plain found →
-      Gives table (named_mark found ∷ marks table plain t) (found_map (λ name. opens (capture (Some name))) found)
+  gives_named : {t : Source} (found : Found Name) → Leads sets table plain t plain found →
+      Gives (named_mark found ∷ marks sets table plain t) (behind_head sets table) (found_map (λ name. opens (capture (Some name))) found)
   gives_named None h = gives_none
   gives_named (Some x) h = gives_some (opens (capture (Some x.0)), x.1) (ap (λ ms. captures (Some x.0) ∷ ms) (h.each x refl).same)
 
   -- a group without a name
   nameless : (kind : Group) (t rest : Source) → mark_of_group kind ≡ Scan.opens → group_name_at table t ≡ None →
-      Passes table plain t plain rest → Gives table (named_mark (group_name_at table t) ∷ marks table plain t) (Some (opens kind, rest))
+      Passes sets table plain t plain rest → Gives (named_mark (group_name_at table t) ∷ marks sets table plain t) (behind_head sets table) (Some (opens kind, rest))
   nameless kind t rest opens_none none h =
       gives_some (opens kind, rest) (ap₂ (λ a b. a ∷ b) (ap named_mark none ∙ sym opens_none) h.same)
 
-  pass_two : (k : ℕ) (t : Source) → is_quiet k ≡ true → is_at 60 t ≡ true → is_at k (drop 1 t) ≡ true → Passes table plain t plain (drop 2 t)
+  pass_two : (k : ℕ) (t : Source) → is_quiet k ≡ true → is_at 60 t ≡ true → is_at k (drop 1 t) ≡ true → Passes sets table plain t plain (drop 2 t)
   pass_two k t quiet e next =
-      subst (λ u. Passes table plain t plain u) (drop_one_more t) (passes_then (pass_at false 60 t refl e) (pass_at false k (drop 1 t) quiet next))
+      subst (λ u. Passes sets table plain t plain u) (drop_one_more t) (passes_then (pass_at in_text 60 t refl e) (pass_at in_text k (drop 1 t) quiet next))
 
-  module _ (lawful : IsLawful table) where
-    -- what is no word character begins no name
-    begins_none : (c : ℕ) → c < 0x80 → is_member word_characters c ≡ false → is_sign c ≡ false → begins_name table c ≡ false
-    begins_none c low no_word no_sign = by (is_member table.id_start c) refl
-      where
-        by : (q : Bool) → is_member table.id_start c ≡ q → (scalar c && (is_sign c || q)) ≡ false
-        by true member = absurd (false≢true (sym no_word ∙ lawful.id_start_ascii c low member))
-        by false absent = rw no_sign (elim (scalar c) as (λ b. (b && false) ≡ false) [ true ↦ refl | false ↦ refl ])
+module _ (sets : Bool) {table : Table} (lawful : IsLawful table) where
+  gives_angle_at : (t : Source) → is_at 60 t ≡ true → Gives (named_mark (group_name_at table t) ∷ marks sets table plain t) (behind_head sets table) (angle_at table t)
+  gives_angle_at t e =
+      gives_cond (is_at 61 (drop 1 t)) _ _
+      (λ equals. nameless _ t (drop 2 t) refl (no_group_name_at table 61 t refl (equals_begins_none lawful) equals) (pass_two 61 t refl e equals))
+      (λ _. gives_cond (is_at 33 (drop 1 t)) _ _
+      (λ mark. nameless _ t (drop 2 t) refl (no_group_name_at table 33 t refl (exclamation_begins_none lawful) mark) (pass_two 33 t refl e mark))
+      (λ _. gives_named (group_name_at table t) (lead_group_name_at lawful t)))
 
-    equals_begins_none : begins_name table 61 ≡ false
-    unfolding is_member is_within
-    equals_begins_none = begins_none 61 (omega arith) refl refl
+  -- a sign that opens no capture group
+  gives_sign : (kind : Group) (k : ℕ) (t : Source) → mark_of_group kind ≡ Scan.opens → is_quiet k ≡ true → (k == 60) ≡ false → is_at k t ≡ true →
+      Gives (named_mark (group_name_at table t) ∷ marks sets table plain t) (behind_head sets table) (Some (opens kind, drop 1 t))
+  gives_sign kind k t same quiet other e = nameless kind t (drop 1 t) same (no_angle table t (other_at k 60 t other e)) (pass_at in_text k t quiet e)
 
-    exclamation_begins_none : begins_name table 33 ≡ false
-    unfolding is_member is_within
-    exclamation_begins_none = begins_none 33 (omega arith) refl refl
+  gives_behind_mark_at : (t : Source) → Gives (named_mark (group_name_at table t) ∷ marks sets table plain t) (behind_head sets table) (behind_mark_at table t)
+  gives_behind_mark_at t =
+      gives_cond (is_at colon t) _ _ (gives_sign _ colon t refl refl refl)
+      (λ _. gives_cond (is_at 61 t) _ _ (gives_sign _ 61 t refl refl refl)
+      (λ _. gives_cond (is_at 33 t) _ _ (gives_sign _ 33 t refl refl refl)
+      (λ _. gives_cond (is_at 60 t) _ _ (gives_angle_at t)
+      (λ other. subst (λ found. Gives (named_mark found ∷ marks sets table plain t) (behind_head sets table) (modified_at t)) (sym (no_angle table t other))
+      (gives_marked Scan.opens (λ change. opens (modified change)) (modifiers_at t) (lead_modifiers_at t) (λ change. refl))))))
 
-    -- ---- parentheses
+  gives_group_at : (t : Source) → Gives (opened_at table t ∷ marks sets table plain t) (behind_head sets table) (group_at table t)
+  gives_group_at t = by (is_at question_mark t) refl
+    where
+      by : (q : Bool) → is_at question_mark t ≡ q →
+          Gives (cond q (named_mark (group_name_at table (drop 1 t))) (captures None) ∷ marks sets table plain t) (behind_head sets table)
+          (cond q (behind_mark_at table (drop 1 t)) (Some (opens (capture None), t)))
+      by true e =
+          subst (λ ms. Gives (named_mark (group_name_at table (drop 1 t)) ∷ ms) (behind_head sets table) (behind_mark_at table (drop 1 t)))
+          (sym (pass_at in_text question_mark t refl e).same) (gives_behind_mark_at (drop 1 t))
+      by false e = gives_some (opens (capture None), t) refl
 
-    gives_angle_at : (t : Source) → is_at 60 t ≡ true → Gives table (named_mark (group_name_at table t) ∷ marks table plain t) (angle_at table t)
-    gives_angle_at t e =
-        gives_cond (is_at 61 (drop 1 t)) _ _
-        (λ equals. nameless _ t (drop 2 t) refl (no_group_name_at table 61 t refl equals_begins_none equals) (pass_two 61 t refl e equals))
-        (λ _. gives_cond (is_at 33 (drop 1 t)) _ _
-        (λ mark. nameless _ t (drop 2 t) refl (no_group_name_at table 33 t refl exclamation_begins_none mark) (pass_two 33 t refl e mark))
-        (λ _. gives_named (group_name_at table t) (lead_group_name_at lawful t)))
-
-    -- a sign that opens no capture group
-    gives_sign : (kind : Group) (k : ℕ) (t : Source) → mark_of_group kind ≡ Scan.opens → is_quiet k ≡ true → (k == 60) ≡ false → is_at k t ≡ true →
-        Gives table (named_mark (group_name_at table t) ∷ marks table plain t) (Some (opens kind, drop 1 t))
-    gives_sign kind k t same quiet other e = nameless kind t (drop 1 t) same (no_angle table t (other_at k 60 t other e)) (pass_at false k t quiet e)
-
-    gives_behind_mark_at : (t : Source) → Gives table (named_mark (group_name_at table t) ∷ marks table plain t) (behind_mark_at table t)
-    gives_behind_mark_at t =
-        gives_cond (is_at colon t) _ _ (gives_sign _ colon t refl refl refl)
-        (λ _. gives_cond (is_at 61 t) _ _ (gives_sign _ 61 t refl refl refl)
-        (λ _. gives_cond (is_at 33 t) _ _ (gives_sign _ 33 t refl refl refl)
-        (λ _. gives_cond (is_at 60 t) _ _ (gives_angle_at t)
-        (λ other. subst (λ found. Gives table (named_mark found ∷ marks table plain t) (modified_at t)) (sym (no_angle table t other))
-        (gives_map Scan.opens (λ change. opens (modified change)) (modifiers_at t) (lead_modifiers_at t) (λ change. refl))))))
-
-    gives_group_at : (t : Source) → Gives table (opened_at table t ∷ marks table plain t) (group_at table t)
-    gives_group_at t = by (is_at question_mark t) refl
-      where
-        by : (q : Bool) → is_at question_mark t ≡ q →
-            Gives table (cond q (named_mark (group_name_at table (drop 1 t))) (captures None) ∷ marks table plain t)
-            (cond q (behind_mark_at table (drop 1 t)) (Some (opens (capture None), t)))
-        by true e =
-            subst (λ ms. Gives table (named_mark (group_name_at table (drop 1 t)) ∷ ms) (behind_mark_at table (drop 1 t)))
-            (sym (pass_at false question_mark t refl e).same) (gives_behind_mark_at (drop 1 t))
-        by false e = gives_some (opens (capture None), t) refl
-
-pub gives_head_at : (ctx : Context) → IsLawful ctx.setting.table → (t : Source) → Gives ctx.setting.table (marks ctx.setting.table plain t) (head_at ctx t)
+pub gives_head_at : (ctx : Context) → IsLawful ctx.setting.table → (t : Source) →
+    Gives (marks_in ctx plain t) (behind_head ctx.setting.flags.unicode_sets ctx.setting.table) (head_at ctx t)
 unfolding head_at marks
 gives_head_at ctx lawful [] = gives_none
 gives_head_at ctx lawful (c ∷ t) =
     gives_cond (c == opening) _ _
-    (λ e. subst (λ k. Gives ctx.setting.table (marks ctx.setting.table plain (k ∷ t)) (group_at ctx.setting.table t)) (sym (eqb-true c opening e))
-    (gives_group_at lawful t))
-    (λ _. gives_single (atom_by ctx c t) (lead_atom_by ctx lawful c t))
+    (λ e. subst (λ k. Gives (marks_in ctx plain (k ∷ t)) (behind_head ctx.setting.flags.unicode_sets ctx.setting.table) (group_at ctx.setting.table t))
+    (sym (eqb-true c opening e))
+    (gives_group_at ctx.setting.flags.unicode_sets lawful t))
+    (λ _. gives_map (behind_atom ctx) single (atom_by ctx c t) (gives_atom_by ctx lawful c t) (λ a rest. refl))

@@ -1,13 +1,13 @@
 -- The state of a scan, and the marks that it passes.
-use Rattle.std.proofs.Common.{◌≡◌, ℕ, ◌+◌, ◌≤◌, Bool, true, false, cond, not, ◌==◌, ◌&&◌, Result, Ok, Err, List, [], ◌∷◌, ◌++◌, map, reverse, length, Option, Some, None, option_map, Vec, filter, is_some, ap₂, true≢false, refl, sym, ap, ◌∙◌, subst, arith, ◌≢◌, ⊎_elim, option_to_list, append-nil}
+use Rattle.std.proofs.Common.{◌≡◌, ℕ, ◌+◌, ◌-◌, max, ◌≤◌, Bool, true, false, cond, not, ◌==◌, ◌&&◌, Result, Ok, Err, List, [], ◌∷◌, ◌++◌, map, reverse, length, Option, Some, None, option_map, Vec, filter, is_some, ap₂, true≢false, refl, sym, ap, ◌∙◌, subst, arith, ◌≢◌, ⊎_elim, option_to_list, append-nil}
 use Rattle.std.specs.List.{list_all, zip}
 use Rattle.std.specs.declared.alloc.Global.{Global}
 use Rattle.std.proofs.lemmas.Bool.{and_left, cases_eq, ne_eqb}
 use Rattle.std.proofs.lemmas.List.{map-append}
 use Rattle.regress_tree.specs.Table.{Table}
 use Rattle.regress_syntax.specs.Source.{Source, opening, closing, bar}
-use Rattle.regress_syntax.specs.Scan.{Mode, plain, escape, class, class_escape, marks, opened_at, Mark, opens, captures, closes, next, agree, deepest, Path, Placed, placed_by, at_the_start, same_name, conflict, are_apart}
-use Rattle.regress_syntax.specs.Scanning.{mode_behind, mark_at, has_name, placed_of, path_of, Behind}
+use Rattle.regress_syntax.specs.Scan.{Mode, plain, escape, class, class_escape, marks, opened_at, Mark, opens, captures, closes, next, nests, closed_class, agree, deepest, Path, Placed, placed_by, at_the_start, same_name, conflict, are_apart}
+use Rattle.regress_syntax.specs.Scanning.{depth_of, mode_behind, mark_at, has_name, placed_of, path_of, Behind}
 use Rattle.regress_syntax.specs.Fault.{RefusedOnlyIf}
 use Rattle.regress_syntax.specs.declared.fault.ParseFault.{ParseFault}
 use Rattle.regress_syntax.proofs.laws.Sources.{on_syntax_then}
@@ -88,6 +88,7 @@ deepest_above n (opens ∷ ms) = omega arith
 deepest_above n (captures name ∷ ms) = omega arith
 deepest_above n (closes ∷ ms) = omega arith
 deepest_above n (next ∷ ms) = omega arith
+deepest_above n (nests levels ∷ ms) = omega (arith, deepest_above n ms)
 
 -- what is refused for one reason is refused for any that follows
 pub refused_then : {X P Q : Type 0} (answer : Result X ParseFault) → (P → Q) → RefusedOnlyIf answer P → RefusedOnlyIf answer Q
@@ -104,64 +105,111 @@ deeper_behind_captures all rest scanner name behind = omega (arith, behind.depth
 
 -- ---- from one code point to the next
 
-class_behind : (table : Table) (c : ℕ) (t : Source) (backslash bracket : Bool) →
-    cond backslash (marks table class_escape t) (cond bracket (marks table plain t) (marks table class t)) ≡
-    marks table (cond backslash class_escape (cond bracket plain class)) t
-class_behind table c t true bracket = refl
-class_behind table c t false true = refl
-class_behind table c t false false = refl
+-- in a class
+abbrev SameInClass : (sets : Bool) (table : Table) (depth deepest c : ℕ) (t : Source) → Type 0
+SameInClass sets table depth deepest c t =
+    marks sets table (class depth deepest) (c ∷ t) ≡
+    option_to_list (mark_at sets table (class depth deepest) c t) ++ marks sets table (mode_behind sets (class depth deepest) c) t
 
-plain_behind : (table : Table) (c : ℕ) (t : Source) →
-    marks table plain (c ∷ t) ≡ option_to_list (mark_at table plain c t) ++ marks table (mode_behind plain c) t
+class_behind : (sets : Bool) (table : Table) (depth deepest c : ℕ) (t : Source) → SameInClass sets table depth deepest c t
 unfolding marks
-plain_behind table c t =
-    ⊎_elim (λ (e : c ≡ 92). subst (λ (k : ℕ). marks table plain (k ∷ t) ≡ option_to_list (mark_at table plain k t) ++ marks table (mode_behind plain k) t) (sym e) refl)
+class_behind sets table depth deepest c t =
+    ⊎_elim (λ (e : c ≡ 92). subst (λ (k : ℕ). SameInClass sets table depth deepest k t) (sym e) refl)
     (λ (not92 : c ≢ 92).
-    ⊎_elim (λ (e : c ≡ 91). subst (λ (k : ℕ). marks table plain (k ∷ t) ≡ option_to_list (mark_at table plain k t) ++ marks table (mode_behind plain k) t) (sym e) refl)
+    ⊎_elim (λ (e : c ≡ 91). subst (λ (k : ℕ). SameInClass sets table depth deepest k t) (sym e) (opened sets))
+    (λ (not91 : c ≢ 91).
+    rw (ne_eqb c 92 not92, ne_eqb c 91 not91) (other sets (c == 93) (depth == 0)))
+    (cases_eq c 91))
+    (cases_eq c 92)
+  where
+    opened : (flag : Bool) →
+        cond flag (marks sets table (class (depth + 1) (max deepest (depth + 1))) t) (marks sets table (class depth deepest) t) ≡
+        marks sets table (cond flag (class (depth + 1) (max deepest (depth + 1))) (class depth deepest)) t
+    opened true = refl
+    opened false = refl
+
+    other : (flag bracket outermost : Bool) →
+        cond (bracket && outermost) (closed_class flag deepest ++ marks sets table plain t)
+        (cond bracket (marks sets table (class (depth - 1) deepest) t) (marks sets table (class depth deepest) t)) ≡
+        option_to_list (cond (bracket && outermost && flag) (Some (nests deepest)) None) ++
+        marks sets table (cond (bracket && outermost) plain (cond bracket (class (depth - 1) deepest) (class depth deepest))) t
+    other true true true = refl
+    other false true true = refl
+    other flag true false = refl
+    other flag false outermost = refl
+
+plain_behind : (sets : Bool) (table : Table) (c : ℕ) (t : Source) →
+    marks sets table plain (c ∷ t) ≡ option_to_list (mark_at sets table plain c t) ++ marks sets table (mode_behind sets plain c) t
+unfolding marks
+plain_behind sets table c t =
+    ⊎_elim (λ (e : c ≡ 92). subst (λ (k : ℕ). marks sets table plain (k ∷ t) ≡ option_to_list (mark_at sets table plain k t) ++ marks sets table (mode_behind sets plain k) t) (sym e) refl)
+    (λ (not92 : c ≢ 92).
+    ⊎_elim (λ (e : c ≡ 91). subst (λ (k : ℕ). marks sets table plain (k ∷ t) ≡ option_to_list (mark_at sets table plain k t) ++ marks sets table (mode_behind sets plain k) t) (sym e) refl)
     (λ (not91 : c ≢ 91).
     rw (ne_eqb c 92 not92, ne_eqb c 91 not91) (other (c == opening) (c == closing) (c == bar)))
     (cases_eq c 91))
     (cases_eq c 92)
   where
     other : (opens closes' bars : Bool) →
-        cond opens (opened_at table t ∷ marks table plain t) (cond closes' (closes ∷ marks table plain t) (cond bars (next ∷ marks table plain t) (marks table plain t))) ≡
-        option_to_list (cond opens (Some (opened_at table t)) (cond closes' (Some closes) (cond bars (Some next) None))) ++ marks table plain t
+        cond opens (opened_at table t ∷ marks sets table plain t) (cond closes' (closes ∷ marks sets table plain t) (cond bars (next ∷ marks sets table plain t) (marks sets table plain t))) ≡
+        option_to_list (cond opens (Some (opened_at table t)) (cond closes' (Some closes) (cond bars (Some next) None))) ++ marks sets table plain t
     other true closes' bars = refl
     other false true bars = refl
     other false false true = refl
     other false false false = refl
 
-marks_behind : (table : Table) (mode : Mode) (c : ℕ) (t : Source) →
-    marks table mode (c ∷ t) ≡ option_to_list (mark_at table mode c t) ++ marks table (mode_behind mode c) t
+marks_behind : (sets : Bool) (table : Table) (mode : Mode) (c : ℕ) (t : Source) →
+    marks sets table mode (c ∷ t) ≡ option_to_list (mark_at sets table mode c t) ++ marks sets table (mode_behind sets mode c) t
 unfolding marks
-marks_behind table plain c t = plain_behind table c t
-marks_behind table escape c t = refl
-marks_behind table class c t = class_behind table c t (c == 92) (c == 93)
-marks_behind table class_escape c t = refl
+marks_behind sets table plain c t = plain_behind sets table c t
+marks_behind sets table escape c t = refl
+marks_behind sets table (class depth deepest) c t = class_behind sets table depth deepest c t
+marks_behind sets table (class_escape depth deepest) c t = refl
+
+-- a code point opens one class at most
+pub depth-mode_behind : (sets : Bool) (mode : Mode) (c : ℕ) → depth_of (mode_behind sets mode c) ≤ depth_of mode + 1
+depth-mode_behind sets plain c = by (c == 92) (c == 91)
+  where
+    by : (backslash bracket : Bool) → depth_of (cond backslash escape (cond bracket (class 0 0) plain)) ≤ 0 + 1
+    by true bracket = omega arith
+    by false true = omega arith
+    by false false = omega arith
+depth-mode_behind sets escape c = omega arith
+depth-mode_behind sets (class depth deepest) c = by (c == 92) (c == 91 && sets) (c == 93 && depth == 0) (c == 93)
+  where
+    by : (backslash opened outermost bracket : Bool) →
+        depth_of (cond backslash (class_escape depth deepest) (cond opened (class (depth + 1) (max deepest (depth + 1)))
+        (cond outermost plain (cond bracket (class (depth - 1) deepest) (class depth deepest))))) ≤ depth + 1
+    by true opened outermost bracket = omega arith
+    by false true outermost bracket = omega arith
+    by false false true bracket = omega arith
+    by false false false true = omega arith
+    by false false false false = omega arith
+depth-mode_behind sets (class_escape depth deepest) c = omega arith
 
 -- what stands at a mark
-pub at_mark : (table : Table) (mode : Mode) (c : ℕ) (rest t : Source) (all : List Mark) (mark : Mark) (scanner : Scanner) →
-    rest ≡ c ∷ t → mark_at table mode c t ≡ Some mark →
-    Behind all (marks table mode rest) scanner → Behind all (mark ∷ marks table (mode_behind mode c) t) scanner
-at_mark table mode c rest t all mark scanner split marked behind =
-    let whole : marks table mode rest ≡ mark ∷ marks table (mode_behind mode c) t =
-    ap (marks table mode) split ∙ marks_behind table mode c t
-    ∙ ap (λ (found : Option Mark). option_to_list found ++ marks table (mode_behind mode c) t) marked in
+pub at_mark : (sets : Bool) (table : Table) (mode : Mode) (c : ℕ) (rest t : Source) (all : List Mark) (mark : Mark) (scanner : Scanner) →
+    rest ≡ c ∷ t → mark_at sets table mode c t ≡ Some mark →
+    Behind all (marks sets table mode rest) scanner → Behind all (mark ∷ marks sets table (mode_behind sets mode c) t) scanner
+at_mark sets table mode c rest t all mark scanner split marked behind =
+    let whole : marks sets table mode rest ≡ mark ∷ marks sets table (mode_behind sets mode c) t =
+    ap (marks sets table mode) split ∙ marks_behind sets table mode c t
+    ∙ ap (λ (found : Option Mark). option_to_list found ++ marks sets table (mode_behind sets mode c) t) marked in
     subst (λ (ms : List Mark). Behind all ms scanner) whole behind
 
 -- what stands at a code point that is no mark
-pub at_no_mark : (table : Table) (mode : Mode) (c : ℕ) (rest t : Source) (all : List Mark) (scanner : Scanner) →
-    rest ≡ c ∷ t → mark_at table mode c t ≡ None →
-    Behind all (marks table mode rest) scanner → Behind all (marks table (mode_behind mode c) t) scanner
-at_no_mark table mode c rest t all scanner split marked behind =
-    let whole : marks table mode rest ≡ marks table (mode_behind mode c) t =
-    ap (marks table mode) split ∙ marks_behind table mode c t
-    ∙ ap (λ (found : Option Mark). option_to_list found ++ marks table (mode_behind mode c) t) marked in
+pub at_no_mark : (sets : Bool) (table : Table) (mode : Mode) (c : ℕ) (rest t : Source) (all : List Mark) (scanner : Scanner) →
+    rest ≡ c ∷ t → mark_at sets table mode c t ≡ None →
+    Behind all (marks sets table mode rest) scanner → Behind all (marks sets table (mode_behind sets mode c) t) scanner
+at_no_mark sets table mode c rest t all scanner split marked behind =
+    let whole : marks sets table mode rest ≡ marks sets table (mode_behind sets mode c) t =
+    ap (marks sets table mode) split ∙ marks_behind sets table mode c t
+    ∙ ap (λ (found : Option Mark). option_to_list found ++ marks sets table (mode_behind sets mode c) t) marked in
     subst (λ (ms : List Mark). Behind all ms scanner) whole behind
 
 -- nothing is left
-pub all_passed : (table : Table) (mode : Mode) (rest : Source) (all : List Mark) (scanner : Scanner) → length rest ≡ 0 →
-    Behind all (marks table mode rest) scanner → Behind all [] scanner
+pub all_passed : (sets : Bool) (table : Table) (mode : Mode) (rest : Source) (all : List Mark) (scanner : Scanner) → length rest ≡ 0 →
+    Behind all (marks sets table mode rest) scanner → Behind all [] scanner
 unfolding marks
-all_passed table mode [] all scanner e behind = behind
-all_passed table mode (c ∷ t) all scanner e behind = absurd (omega arith)
+all_passed sets table mode [] all scanner e behind = behind
+all_passed sets table mode (c ∷ t) all scanner e behind = absurd (omega arith)

@@ -26,6 +26,13 @@ mark_of code_marks.Closes = closes
 mark_of code_marks.Next = next
 mark_of (code_marks.Nests levels) = nests levels
 
+-- how many classes are open inside the outermost
+abbrev pub depth_of : Mode → ℕ
+depth_of plain = 0
+depth_of escape = 0
+depth_of (class depth deepest) = depth
+depth_of (class_escape depth deepest) = depth
+
 -- the mode behind a code point
 abbrev pub mode_behind : (sets : Bool) → Mode → ℕ → Mode
 mode_behind sets plain c = if c == 92 then escape else if c == 91 then class 0 0 else plain

@@ -27,6 +27,9 @@ use regress_base::types::MAX_NESTING_DEPTH;
 use regress_tree::ir::AnchorType;
 use std::alloc::{AllocError, Global};
 
+#[cfg(test)]
+mod tests;
+
 /// An item that holds no pattern.
 #[derive(Drop)]
 pub enum Atom {
@@ -96,12 +99,7 @@ fn read_brackets(cursor: &mut Cursor, scope: &Scope) -> Result<Atom, ParseFault>
     ensures { ReadsAs (IsAtom (context_of scope.now)) (source cursor.new) result (brackets_at (context_of scope.now) (source cursor.old)) }
 {
     if scope.flags.unicode_sets {
-        let class = read_class_set(
-            cursor,
-            scope.tables,
-            scope.flags.unicode,
-            MAX_NESTING_DEPTH,
-        )?;
+        let class = read_class_set(cursor, scope.tables, scope.flags.unicode, MAX_NESTING_DEPTH)?;
         return Ok(Atom::ClassSet {
             negated: class.negated,
             value: class.value,

@@ -26,7 +26,11 @@ pub(crate) struct Class {
 }
 
 /// Reads a class, behind its `[` (ECMA-262, CharacterClass with annex B).
-pub(crate) fn read_class(cursor: &mut Cursor, tables: &Tables, unicode: bool) -> Result<Class, ParseFault>
+pub(crate) fn read_class(
+    cursor: &mut Cursor,
+    tables: &Tables,
+    unicode: bool,
+) -> Result<Class, ParseFault>
     ensures { ReadsAs IsClassRead (source cursor.new) result (class_at (table_of tables.now) unicode (source cursor.old)) }
 {
     let inverted = cursor.try_consume('^');
@@ -35,7 +39,11 @@ pub(crate) fn read_class(cursor: &mut Cursor, tables: &Tables, unicode: bool) ->
 }
 
 /// Reads the parts of a class, and the `]` behind them.
-fn read_parts(cursor: &mut Cursor, tables: &Tables, unicode: bool) -> Result<CodePointSet, ParseFault>
+fn read_parts(
+    cursor: &mut Cursor,
+    tables: &Tables,
+    unicode: bool,
+) -> Result<CodePointSet, ParseFault>
     ensures { let t = source cursor.old in
         ReadsAs (λ set members. HasMembers members set) (source cursor.new) result (class_parts_by (table_of tables.now) unicode (length t + 1) t) }
 {
@@ -49,7 +57,12 @@ fn read_parts(cursor: &mut Cursor, tables: &Tables, unicode: bool) -> Result<Cod
 }
 
 /// Reads an atom or a range, and adds what it holds.
-fn read_part(cursor: &mut Cursor, tables: &Tables, unicode: bool, set: &mut CodePointSet) -> Result<(), ParseFault>
+fn read_part(
+    cursor: &mut Cursor,
+    tables: &Tables,
+    unicode: bool,
+    set: &mut CodePointSet,
+) -> Result<(), ParseFault>
     ensures { ReadsAs (λ _ members. Adds members set.old set.new) (source cursor.new) result (class_part_at (table_of tables.now) unicode (source cursor.old)) }
 {
     let first = read_class_atom(cursor, tables, unicode)?;
@@ -137,7 +150,10 @@ fn add_atom(set: &mut CodePointSet, alloc: Global, atom: ClassAtom) -> Result<()
             let members = class_members(alloc, kind, negated)?;
             add_intervals(set, members.intervals())
         }
-        ClassAtom::Property { set: members, negated } => add_members(set, members, negated),
+        ClassAtom::Property {
+            set: members,
+            negated,
+        } => add_members(set, members, negated),
     }
 }
 

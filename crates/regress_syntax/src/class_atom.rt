@@ -9,9 +9,7 @@ use crate::class_escape::class_letter;
 use crate::cursor::Cursor;
 use crate::digits::{control, is_decimal, is_letter};
 use crate::escape::{escape_fault, read_escape};
-use crate::fault::{
-    INVALID_PROPERTY, ParseFault, UNBALANCED_BRACKET, UNTERMINATED_ESCAPE, syntax,
-};
+use crate::fault::{INVALID_PROPERTY, ParseFault, UNBALANCED_BRACKET, UNTERMINATED_ESCAPE, syntax};
 use crate::property::{Property, is_property_letter, read_property};
 use regress_base::charclasses::CharacterClassType;
 use regress_base::codepointset::CodePointSet;

@@ -36,7 +36,7 @@ impl Head {
     }
 }
 
-/// Reads what the next item begins with. The fault comes where no row applies that is served.
+/// Reads what the next item begins with. The fault comes where no row applies.
 #[tactic(auto, unfolding(crate::specs::Rows::head_at))]
 pub fn read_head(cursor: &mut Cursor, scope: &Scope) -> Result<Head, ParseFault>
     ensures { ReadsAs (IsHead (context_of scope.now)) (source cursor.new) result (head_at (context_of scope.now) (source cursor.old)) }

@@ -8,10 +8,13 @@ ghost use Rattle.regress_tree.specs.TableOf.{table_of};
 
 use crate::cursor::Cursor;
 use crate::digits::{Read, is_decimal, is_letter};
-use crate::fault::{INVALID_PROPERTY, ParseFault, PROPERTY_WITHOUT_BRACE, syntax};
+use crate::fault::{INVALID_PROPERTY, PROPERTY_WITHOUT_BRACE, ParseFault, syntax};
 use regress_base::codepointset::CodePointSet;
 use regress_tree::unicode::Tables;
-use std::alloc::{AllocError, Global};
+use std::alloc::AllocError;
+
+#[cfg(test)]
+mod tests;
 
 /// What a name stands for.
 #[derive(Clone, Copy)]

@@ -1,77 +1,85 @@
 -- A scan that knows no grammar gives the marks of each syntax tree that the grammar derives, and what they say of it.
-use Rattle.std.proofs.Common.{◌≡◌, ℕ, ◌+◌, ◌-◌, ◌≤◌, max, List, [], ◌∷◌, ◌++◌, refl, sym, ap, ap₂, ◌∙◌, subst, arith, append_assoc, append-nil}
+use Rattle.std.proofs.Common.{◌≡◌, ℕ, ◌+◌, ◌-◌, ◌≤◌, max, Bool, List, [], ◌∷◌, ◌++◌, refl, sym, ap, ap₂, ◌∙◌, subst, arith, append_assoc, append-nil}
 use Rattle.regress_tree.specs.Table.{Table, IsLawful}
 use Rattle.regress_syntax.specs.Source.{Source, closing, bar}
-use Rattle.regress_syntax.specs.Syntax.{Group, grouping, modified, capture, look, Pattern, Terms, Item, one, either, no_terms, more_terms, atom, group, names, names_of_group, names_of_terms, names_of_item, levels, levels_of_terms, levels_of_item}
+use Rattle.regress_syntax.specs.Syntax.{Atom, literal, dot, anchor, boundary, class_escape, class, class_set, string_property, back_reference, levels_of_atom, Group, grouping, modified, capture, look, Pattern, Terms, Item, one, either, no_terms, more_terms, atom, group, names, names_of_group, names_of_terms, names_of_item, levels, levels_of_terms, levels_of_item}
 use Rattle.regress_syntax.specs.Rows.{Context, inside, single, opens, head_of_item, allows}
 use Rattle.regress_syntax.specs.Grammar.{IsPattern, AreTerms, IsItem}
-use Rattle.regress_syntax.specs.Scan.{Mark, captures, closes, next, mark_of_group, marks_of, marks_of_terms, marks_of_item, plain, marks, GivesMarks, named_by, deepest}
+use Rattle.regress_syntax.specs.Scan.{Mark, captures, closes, next, nests, mark_of_group, marks_of_atom, marks_of, marks_of_terms, marks_of_item, plain, marks, GivesMarks, named_by, deepest}
 use Rattle.regress_syntax.specs.Scan as Scan
 use Rattle.regress_syntax.proofs.ScanRows.{gives_head_at, lead_times_at}
 
 -- ---- by the grammar
 
--- a group changes flags alone
-same_table : (kind : Group) (ctx : Context) → (inside kind ctx).setting.table ≡ ctx.setting.table
-same_table grouping ctx = refl
-same_table (modified change) ctx = refl
-same_table (capture name) ctx = refl
-same_table (look negate direction) ctx = refl
-
-marks_behind_bar : (table : Table) (t : Source) → marks table plain (bar ∷ t) ≡ next ∷ marks table plain t
+marks_behind_bar : (sets : Bool) (table : Table) (t : Source) → marks sets table plain (bar ∷ t) ≡ next ∷ marks sets table plain t
 unfolding marks
-marks_behind_bar table t = refl
+marks_behind_bar sets table t = refl
 
-marks_behind_closing : (table : Table) (t : Source) → marks table plain (closing ∷ t) ≡ closes ∷ marks table plain t
+marks_behind_closing : (sets : Bool) (table : Table) (t : Source) → marks sets table plain (closing ∷ t) ≡ closes ∷ marks sets table plain t
 unfolding marks
-marks_behind_closing table t = refl
+marks_behind_closing sets table t = refl
 
 -- the marks of two parts in a row
 joined : (xs ys rest : List Mark) {all behind : List Mark} → all ≡ xs ++ behind → behind ≡ ys ++ rest →
     all ≡ (xs ++ ys) ++ rest
 joined xs ys rest h k = h ∙ ap (λ zs. xs ++ zs) k ∙ sym (append_assoc xs ys rest)
 
-module _ (table : Table) (lawful : IsLawful table) where
-  lawful_at : (ctx : Context) → ctx.setting.table ≡ table → IsLawful ctx.setting.table
-  lawful_at ctx same = subst IsLawful (sym same) lawful
+-- what the marks ask of a context: the flag v and the table
+abbrev told : Context → Bool × Table
+told ctx = (ctx.setting.flags.unicode_sets, ctx.setting.table)
+
+abbrev marks_from : Bool × Table → Source → List Mark
+marks_from (sets, table) t = marks sets table plain t
+
+-- a group changes other flags alone
+same_told : (kind : Group) (ctx : Context) → told (inside kind ctx) ≡ told ctx
+same_told grouping ctx = refl
+same_told (modified change) ctx = refl
+same_told (capture name) ctx = refl
+same_told (look negate direction) ctx = refl
+
+module _ (by : Bool × Table) (lawful : IsLawful by.1) where
+  lawful_at : (ctx : Context) → told ctx ≡ by → IsLawful ctx.setting.table
+  lawful_at ctx same = subst (λ (u : Bool × Table). IsLawful u.1) (sym same) lawful
 
   mutual
-    pub marks_of_pattern : (ctx : Context) (p : Pattern) (t rest : Source) → ctx.setting.table ≡ table → IsPattern ctx p t rest →
-        marks table plain t ≡ marks_of p ++ marks table plain rest
+    marks_of_pattern : (ctx : Context) (p : Pattern) (t rest : Source) → told ctx ≡ by → IsPattern ctx p t rest →
+        marks_from by t ≡ marks_of p ++ marks_from by rest
     marks_of_pattern ctx (one ts) t rest same h = marks_of_all ctx ts t rest same h.0
     marks_of_pattern ctx (either ts p) t rest same (mid, first, others) =
         joined (marks_of_terms ts) (next ∷ marks_of p) _ (marks_of_all ctx ts t (bar ∷ mid) same first)
-        (marks_behind_bar table mid ∙ ap (λ ms. next ∷ ms) (marks_of_pattern ctx p mid rest same others))
+        (marks_behind_bar by.0 by.1 mid ∙ ap (λ ms. next ∷ ms) (marks_of_pattern ctx p mid rest same others))
 
-    marks_of_all : (ctx : Context) (ts : Terms) (t rest : Source) → ctx.setting.table ≡ table → AreTerms ctx ts t rest →
-        marks table plain t ≡ marks_of_terms ts ++ marks table plain rest
-    marks_of_all ctx no_terms t rest same h = ap (marks table plain) h.1
+    marks_of_all : (ctx : Context) (ts : Terms) (t rest : Source) → told ctx ≡ by → AreTerms ctx ts t rest →
+        marks_from by t ≡ marks_of_terms ts ++ marks_from by rest
+    marks_of_all ctx no_terms t rest same h = ap (marks_from by) h.1
     marks_of_all ctx (more_terms x q xs) t rest same (mid, behind, first, times, others) =
         joined (marks_of_item x) (marks_of_terms xs) _ (marks_of_one ctx x t mid same first)
-        (subst (λ u. marks u plain mid ≡ marks u plain behind) same
+        (subst (λ u. marks_from u mid ≡ marks_from u behind) same
         (((lead_times_at ctx (lawful_at ctx same) (allows ctx.setting.flags.unicode (head_of_item x)) mid).each (q, behind) times).same)
         ∙ marks_of_all ctx xs behind rest same others)
 
-    marks_of_one : (ctx : Context) (x : Item) (t rest : Source) → ctx.setting.table ≡ table → IsItem ctx x t rest →
-        marks table plain t ≡ marks_of_item x ++ marks table plain rest
+    marks_of_one : (ctx : Context) (x : Item) (t rest : Source) → told ctx ≡ by → IsItem ctx x t rest →
+        marks_from by t ≡ marks_of_item x ++ marks_from by rest
     marks_of_one ctx (atom a) t rest same h =
-        subst (λ u. marks u plain t ≡ marks u plain rest) same
+        subst (λ u. marks_from u t ≡ marks_of_atom a ++ marks_from u rest) same
         ((gives_head_at ctx (lawful_at ctx same) t).each (single a, rest) h)
     marks_of_one ctx (group kind p) t rest same (mid, head, body) =
-        subst (λ u. marks u plain t ≡ mark_of_group kind ∷ marks u plain mid) same
+        subst (λ u. marks_from u t ≡ mark_of_group kind ∷ marks_from u mid) same
         ((gives_head_at ctx (lawful_at ctx same) t).each (opens kind, mid) head)
         ∙ ap (λ ms. mark_of_group kind ∷ ms)
-        (joined (marks_of p) (closes ∷ []) _ (marks_of_pattern (inside kind ctx) p mid (closing ∷ rest) (same_table kind ctx ∙ same) body)
-        (marks_behind_closing table rest))
+        (joined (marks_of p) (closes ∷ []) _ (marks_of_pattern (inside kind ctx) p mid (closing ∷ rest) (same_told kind ctx ∙ same) body)
+        (marks_behind_closing by.0 by.1 rest))
 
-nothing_behind : (table : Table) → marks table plain [] ≡ []
+nothing_behind : (sets : Bool) (table : Table) → marks sets table plain [] ≡ []
 unfolding marks
-nothing_behind table = refl
+nothing_behind sets table = refl
 
 -- whatever the rows were told of groups and names
-pub gives_marks : (table : Table) (t : Source) → IsLawful table → GivesMarks table t
-gives_marks table t lawful ctx p same h =
-    sym (marks_of_pattern table lawful ctx p t [] same h ∙ ap (λ ms. marks_of p ++ ms) (nothing_behind table) ∙ append-nil (marks_of p))
+pub gives_marks : (sets : Bool) (table : Table) (t : Source) → IsLawful table → GivesMarks sets table t
+gives_marks sets table t lawful ctx p flag same h =
+    sym (marks_of_pattern (sets, table) lawful ctx p t [] (ap₂ (λ a b. (a, b)) flag same) h
+    ∙ ap (λ ms. marks_of p ++ ms) (nothing_behind sets table) ∙ append-nil (marks_of p))
 
 -- ---- by the syntax tree
 
@@ -81,6 +89,18 @@ named_by-append (Scan.opens ∷ xs) ys = named_by-append xs ys
 named_by-append (captures name ∷ xs) ys = ap (λ zs. name ∷ zs) (named_by-append xs ys)
 named_by-append (closes ∷ xs) ys = named_by-append xs ys
 named_by-append (next ∷ xs) ys = named_by-append xs ys
+named_by-append (nests levels ∷ xs) ys = named_by-append xs ys
+
+named_by-atom : (a : Atom) → named_by (marks_of_atom a) ≡ []
+named_by-atom (literal flags c) = refl
+named_by-atom (dot flags) = refl
+named_by-atom (anchor flags kind) = refl
+named_by-atom (boundary flags inverted) = refl
+named_by-atom (class_escape flags kind negated) = refl
+named_by-atom (class flags inverted members) = refl
+named_by-atom (class_set flags negated value) = refl
+named_by-atom (string_property flags written) = refl
+named_by-atom (back_reference flags to) = refl
 
 named_by-group : (kind : Group) (ms : List Mark) → named_by (mark_of_group kind ∷ ms) ≡ names_of_group kind ++ named_by ms
 named_by-group grouping ms = refl
@@ -101,7 +121,7 @@ mutual
       named_by-append (marks_of_item x) (marks_of_terms xs) ∙ ap₂ (λ ys zs. ys ++ zs) (named_by-item x) (named_by-terms xs)
 
   named_by-item : (x : Item) → named_by (marks_of_item x) ≡ names_of_item x
-  named_by-item (atom a) = refl
+  named_by-item (atom a) = named_by-atom a
   named_by-item (group kind p) =
       named_by-group kind (marks_of p ++ closes ∷ [])
       ∙ ap (λ zs. names_of_group kind ++ zs)
@@ -114,6 +134,18 @@ deepest-least n (Scan.opens ∷ ms) = omega arith
 deepest-least n (captures name ∷ ms) = omega arith
 deepest-least n (closes ∷ ms) = omega arith
 deepest-least n (next ∷ ms) = omega arith
+deepest-least n (nests levels ∷ ms) = omega (arith, deepest-least n ms)
+
+deepest-atom : (n : ℕ) (a : Atom) (ms : List Mark) → deepest n (marks_of_atom a ++ ms) ≡ max (n + levels_of_atom a) (deepest n ms)
+deepest-atom n (literal flags c) ms = omega (arith, deepest-least n ms)
+deepest-atom n (dot flags) ms = omega (arith, deepest-least n ms)
+deepest-atom n (anchor flags kind) ms = omega (arith, deepest-least n ms)
+deepest-atom n (boundary flags inverted) ms = omega (arith, deepest-least n ms)
+deepest-atom n (class_escape flags kind negated) ms = omega (arith, deepest-least n ms)
+deepest-atom n (class flags inverted members) ms = omega (arith, deepest-least n ms)
+deepest-atom n (class_set flags negated value) ms = refl
+deepest-atom n (string_property flags written) ms = omega (arith, deepest-least n ms)
+deepest-atom n (back_reference flags to) ms = omega (arith, deepest-least n ms)
 
 deepest-group : (n : ℕ) (kind : Group) (ms : List Mark) → deepest n (mark_of_group kind ∷ ms) ≡ max n (deepest (n + 1) ms)
 deepest-group n grouping ms = refl
@@ -150,7 +182,7 @@ mutual
 
   deepest-item : (n : ℕ) (x : Item) (ms : List Mark) → 1 ≤ n →
       deepest n (marks_of_item x ++ ms) ≡ max (n + levels_of_item x) (deepest n ms)
-  deepest-item n (atom a) ms h = omega (arith, deepest-least n ms)
+  deepest-item n (atom a) ms h = deepest-atom n a ms
   deepest-item n (group kind p) ms h =
       let back : max 1 (n + 1 - 1) ≡ n = omega arith in
       omega (

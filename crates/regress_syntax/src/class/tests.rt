@@ -3,7 +3,8 @@ ghost use Rattle.regress_syntax.specs.Source.{IsCodePoint};
 
 use super::*;
 use crate::fault::{
-    INVALID_ESCAPE, INVALID_UNICODE_ESCAPE, UNBALANCED_BRACKET, UNSUPPORTED, UNTERMINATED_ESCAPE,
+    INVALID_ESCAPE, INVALID_PROPERTY, INVALID_UNICODE_ESCAPE, PROPERTY_WITHOUT_BRACE,
+    UNBALANCED_BRACKET, UNTERMINATED_ESCAPE,
 };
 use std::test::Fail;
 
@@ -26,7 +27,7 @@ fn read(alloc: Global, text: &str, unicode: bool) -> Result<(Class, usize), Pars
         rest: &source,
         alloc,
     };
-    let class = read_class(&mut cursor, unicode)?;
+    let class = read_class(&mut cursor, &Tables::small(alloc)?, unicode)?;
     Ok((class, cursor.rest.len()))
 }
 
@@ -48,7 +49,7 @@ fn has(set: &CodePointSet, ends: Ends) -> bool {
 
 #[test]
 fn classes_hold_their_parts(rt: HostRuntime) -> Result<(), Fail> {
-    let rows: [(&str, Ends); 14] = [
+    let rows: [(&str, Ends); 15] = [
         ("]", &[]),
         ("\\477]", &[(0x27, 0x27), (0x37, 0x37)]),
         ("\\c_]", &[(0x1F, 0x1F)]),
@@ -76,6 +77,10 @@ fn classes_hold_their_parts(rt: HostRuntime) -> Result<(), Fail> {
             ],
         ),
         ("\\x41-\\x5A]", &[(0x41, 0x5A)]),
+        (
+            "\\p{Z}]",
+            &[(0x5A, 0x5A), (0x70, 0x70), (0x7B, 0x7B), (0x7D, 0x7D)],
+        ),
         ("z-za^]", &[(0x5E, 0x5E), (0x61, 0x61), (0x7A, 0x7A)]),
     ];
     for (text, wanted) in rows {
@@ -89,10 +94,14 @@ fn classes_hold_their_parts(rt: HostRuntime) -> Result<(), Fail> {
 
 #[test]
 fn escapes_differ_with_the_flag_u(rt: HostRuntime) -> Result<(), Fail> {
-    let rows: [(&str, Ends); 3] = [
+    let rows: [(&str, Ends); 7] = [
         ("\\-]", &[(0x2D, 0x2D)]),
         ("\\u{1F600}-\\u{1F602}]", &[(0x1F600, 0x1F602)]),
         ("\\d-]", &[(0x2D, 0x2D), (0x30, 0x39)]),
+        ("\\p{Zp}a]", &[(0x61, 0x61), (0x2029, 0x2029)]),
+        ("\\P{Any}]", &[]),
+        ("\\P{ASCII}]", &[(0x80, 0x10FFFF)]),
+        ("\\p{Zl}-]", &[(0x2D, 0x2D), (0x2028, 0x2028)]),
     ];
     for (text, wanted) in rows {
         let (class, _) = read(rt.alloc(), text, true)?;
@@ -114,7 +123,7 @@ fn a_caret_inverts_and_what_stands_behind_is_left(rt: HostRuntime) -> Result<(),
 
 #[test]
 fn faults_say_what_is_wrong(rt: HostRuntime) -> Result<(), Fail> {
-    let rows: [(&'static str, bool, &'static str); 11] = [
+    let rows: [(&'static str, bool, &'static str); 14] = [
         ("b-a]", false, REVERSED_RANGE),
         ("\\d-z]", true, INVALID_RANGE),
         ("a-\\w]", true, INVALID_RANGE),
@@ -122,7 +131,10 @@ fn faults_say_what_is_wrong(rt: HostRuntime) -> Result<(), Fail> {
         ("", false, UNBALANCED_BRACKET),
         ("a-", false, UNBALANCED_BRACKET),
         ("\\", false, UNTERMINATED_ESCAPE),
-        ("\\p{L}]", true, UNSUPPORTED),
+        ("\\p{L}]", true, INVALID_PROPERTY),
+        ("\\p{Emoji_Keycap_Sequence}]", true, INVALID_PROPERTY),
+        ("\\pL]", true, PROPERTY_WITHOUT_BRACE),
+        ("\\p{Zl}-a]", true, INVALID_RANGE),
         ("\\u{110000}]", true, INVALID_UNICODE_ESCAPE),
         ("\\c1]", true, INVALID_ESCAPE),
         ("\\a]", true, INVALID_ESCAPE),

@@ -1,8 +1,8 @@
 //! What tells the capture groups of a pattern apart.
-ghost use Rattle.std.specs.Prelude.{◌≡◌, option_map, IfOk};
+ghost use Rattle.std.specs.Prelude.{◌≡◌, ◌<◌, ◌+◌, ◌^◌, option_map, IfOk};
 ghost use Rattle.regress_tree.specs.TableOf.{table_of};
 ghost use Rattle.regress_syntax.specs.Scan.{opened_at};
-ghost use Rattle.regress_syntax.specs.Scanning.{mode_of, mark_of, mode_behind, mark_at};
+ghost use Rattle.regress_syntax.specs.Scanning.{mode_of, mark_of, depth_of, mode_behind, mark_at};
 
 use crate::digits::after;
 use crate::names::{Name, read_group_name};
@@ -26,7 +26,7 @@ pub(super) enum Mode {
     },
 }
 
-/// A parenthesis or a bar.
+/// A parenthesis, a bar, or with the flag v a class.
 #[derive(Drop)]
 pub(super) enum Mark {
     /// A parenthesis that opens no capture group.
@@ -43,6 +43,7 @@ pub(super) enum Mark {
 impl Mode {
     /// The mode behind a code point.
     pub(super) fn behind(self, c: u32, sets: bool) -> Mode
+        requires { depth_of (mode_of self) + 1 < 2 ^ 64 }
         ensures { mode_of result ≡ mode_behind sets (mode_of self) c }
     {
         match (self, char::from_u32(c)) {

@@ -83,7 +83,7 @@ impl Scanner {
     fn hold(&self, levels: usize) -> Result<(), ParseFault>
         ensures refused { RefusedOnlyIf result (max_nesting_depth < length (path_of self.now) + levels) }
     {
-        if levels > MAX_NESTING_DEPTH as usize - self.path.len() {
+        if self.path.len().saturating_add(levels) > MAX_NESTING_DEPTH as usize {
             return Err(syntax(self.alloc, TOO_DEEP));
         }
         Ok(())

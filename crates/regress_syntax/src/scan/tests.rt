@@ -21,17 +21,47 @@ fn repeated(alloc: Global, text: &str, times: usize, last: &str) -> Result<Strin
     Ok(all)
 }
 
-fn scanned(alloc: Global, tables: &Tables, text: &str) -> Result<Groups, ParseFault> {
+/// So many times the first text, what stands inside, and so many times the second.
+fn around(
+    alloc: Global,
+    open: &str,
+    times: usize,
+    inside: &str,
+    close: &str,
+) -> Result<String, AllocError> {
+    let mut all = repeated(alloc, open, times, inside)?;
+    for _ in 0..times {
+        all.push_str(close)?;
+    }
+    Ok(all)
+}
+
+fn scanned_by(
+    alloc: Global,
+    tables: &Tables,
+    sets: bool,
+    text: &str,
+) -> Result<Groups, ParseFault> {
     let pattern = code_points(alloc, text)?;
-    scan(alloc, &pattern, tables)
+    scan(alloc, &pattern, sets, tables)
+}
+
+/// Without the flag v.
+fn scanned(alloc: Global, tables: &Tables, text: &str) -> Result<Groups, ParseFault> {
+    scanned_by(alloc, tables, false, text)
 }
 
 /// What the fault says, or nothing.
-fn fault(alloc: Global, tables: &Tables, text: &str) -> Result<String, AllocError> {
-    match scanned(alloc, tables, text) {
+fn fault_by(alloc: Global, tables: &Tables, sets: bool, text: &str) -> Result<String, AllocError> {
+    match scanned_by(alloc, tables, sets, text) {
         Err(fault) => format!(in alloc; "{fault}"),
         Ok(_) => Ok(String::new(alloc)),
     }
+}
+
+/// Without the flag v.
+fn fault(alloc: Global, tables: &Tables, text: &str) -> Result<String, AllocError> {
+    fault_by(alloc, tables, false, text)
 }
 
 /// The names, each with a comma behind it.
@@ -140,6 +170,77 @@ fn levels(rt: HostRuntime) -> Result<(), Fail> {
     assert_eq!(rt; fault(alloc, &tables, &too_deep)?.as_str(), TOO_DEEP);
     let flat = repeated(alloc, "(?:a)", 1000, "a")?;
     assert_eq!(rt; fault(alloc, &tables, &flat)?.as_str(), "");
+    Ok(())
+}
+
+#[test]
+fn groups_beside_classes_that_nest(rt: HostRuntime) -> Result<(), Fail> {
+    let alloc = rt.alloc();
+    let tables = Tables::small(alloc)?;
+    let rows = [
+        ("[[\\(]b]\\1(a)", ","),
+        ("[[a](b]", ""),
+        ("[a[b[(]](](c)", ","),
+        ("[[(]&&[)|]](?<a>x)", "a,"),
+        ("[\\[(](a)", ","),
+        ("[\\](](a)", ","),
+        ("[[\\](]](a)", ","),
+        ("[a]]([(])", ","),
+        ("[\\q{(|)}](a)", ","),
+        ("[[a](b)", ""),
+    ];
+    for (text, expected) in rows {
+        let groups = scanned_by(alloc, &tables, true, text)?;
+        assert_eq!(rt; names(alloc, &groups)?.as_str(), expected, "{text}");
+    }
+    Ok(())
+}
+
+#[test]
+fn without_the_flag_v_a_class_ends_at_the_first_bracket(rt: HostRuntime) -> Result<(), Fail> {
+    let alloc = rt.alloc();
+    let tables = Tables::small(alloc)?;
+    let rows = [
+        ("[[a](b)", ","),
+        ("[[](b)", ","),
+        ("[a[b[(]](c](d)", ",,"),
+        ("[[\\](]](a)", ","),
+    ];
+    for (text, expected) in rows {
+        let groups = scanned(alloc, &tables, text)?;
+        assert_eq!(rt; names(alloc, &groups)?.as_str(), expected, "{text}");
+    }
+    let brackets = repeated(alloc, "[", 5000, "a]")?;
+    assert_eq!(rt; fault(alloc, &tables, &brackets)?.as_str(), "");
+    Ok(())
+}
+
+#[test]
+fn levels_of_classes(rt: HostRuntime) -> Result<(), Fail> {
+    let alloc = rt.alloc();
+    let tables = Tables::small(alloc)?;
+    let too_deep = "Regular expression is too deeply nested";
+    // how many classes lie inside the outermost, and in how many groups that lies
+    let rows = [
+        (255, 0, ""),
+        (256, 0, too_deep),
+        (4999, 0, too_deep),
+        (55, 200, ""),
+        (56, 200, too_deep),
+        (57, 200, too_deep),
+        (0, 255, ""),
+    ];
+    for (classes, groups, expected) in rows {
+        let class = around(alloc, "[", classes + 1, "a", "]")?;
+        let pattern = around(alloc, "(", groups, &class, ")")?;
+        assert_eq!(rt;
+            fault_by(alloc, &tables, true, &pattern)?.as_str(),
+            expected,
+            "{classes} in {groups}"
+        );
+    }
+    let flat = repeated(alloc, "[[a][b]]", 1000, "[[a]")?;
+    assert_eq!(rt; fault_by(alloc, &tables, true, &flat)?.as_str(), "");
     Ok(())
 }
 

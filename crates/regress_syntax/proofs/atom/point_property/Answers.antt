@@ -1,5 +1,5 @@
 -- The complement is a set of its own.
-use Rattle.std.proofs.Common.{◌&&◌, List, refl, ap, ap₂, ◌∙◌}
+use Rattle.std.proofs.Common.{◌&&◌, List, refl, ap, ap₂}
 use Rattle.std.proofs.lemmas.Bool.{cond-true}
 use Rattle.regress_base.specs.Intervals.{Bounds, is_member}
 use Rattle.regress_syntax.specs.ClassRows.{complement}

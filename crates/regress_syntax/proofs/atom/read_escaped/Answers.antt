@@ -1,5 +1,5 @@
 -- A property is tried before the references and the escapes of characters.
-use Rattle.std.proofs.Common.{◌≡◌, ℕ, true, Bool, ◌||◌, ◌==◌, ◌-◌, ◌∷◌, length, take, drop, arith, rules, length-drop, sym, ap, ap₂, subst, ◌∙◌}
+use Rattle.std.proofs.Common.{◌≡◌, ℕ, true, ◌||◌, ◌==◌, ◌-◌, ◌∷◌, length, take, drop, arith, rules, length-drop, sym, ap, ap₂, subst, ◌∙◌}
 use Rattle.std.proofs.lemmas.List.{take_all}
 use Rattle.regress_syntax.specs.Reads.{ReadsAs}
 use Rattle.regress_syntax.specs.Rows.{escaped_at, property_atom_at}

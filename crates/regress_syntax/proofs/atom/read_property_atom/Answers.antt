@@ -1,5 +1,5 @@
 -- What was found, and its atom.
-use Rattle.std.proofs.Common.{◌≡◌, ℕ, List, Some, refl, sym, ap, ◌∙◌}
+use Rattle.std.proofs.Common.{ℕ, List, Some, sym, ap, ◌∙◌}
 use Rattle.std.proofs.lemmas.Bool.{cond-false}
 use Rattle.std.proofs.lemmas.List.Elements.{same_from_all_zip}
 use Rattle.regress_syntax.specs.Source.{Found, ◌>>=◌}

@@ -1,7 +1,6 @@
 -- The complement is added by its intervals.
-use Rattle.std.proofs.Common.{sym, subst, ap, ◌∙◌, ◌||◌, Bool}
+use Rattle.std.proofs.Common.{sym, subst, Bool}
 use Rattle.std.proofs.lemmas.Result.{on_ok_weaker}
-use Rattle.regress_base.specs.Intervals.{is_member}
 use Rattle.regress_syntax.specs.ClassRows.{complement_if}
 use Rattle.regress_syntax.specs.Views.{Adds}
 use Rattle.regress_syntax.proofs.ClassLemmas.{adds_complement}

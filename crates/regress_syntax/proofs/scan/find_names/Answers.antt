@@ -1,45 +1,48 @@
-use Rattle.std.proofs.Common.{inl, inr, sym, ap, ◌∙◌}
+use Rattle.std.proofs.Common.{length, inl, inr, sym, ap, ◌∙◌, arith}
 use Rattle.std.proofs.lemmas.Result.{err_from_is_err_and}
 use Rattle.std.specs.Option.{option_map}
 use Rattle.regress_tree.specs.TableOf.{table_of}
 use Rattle.regress_syntax.specs.Scan.{plain, marks}
 use Rattle.regress_syntax.specs.Scanning.{mode_of, mark_of}
 use Rattle.regress_syntax.proofs.laws.Sources.{on_syntax_then}
-use Rattle.regress_syntax.proofs.ScannerLemmas.{refused_then, at_mark, at_no_mark, all_passed}
+use Rattle.regress_syntax.proofs.ScannerLemmas.{depth-mode_behind, refused_then, at_mark, at_no_mark, all_passed}
 use Rattle.regress_syntax.proofs.scan.find_names.Goals as goal
 use Rattle.regress_syntax.proofs.scan.find_names.Goals.{in-Some-2+in_ok-pass, in_default-2}
 
 pub returns-in_err-pass-clause-refused : goal.returns-in_err-pass-clause-refused
 returns-in_err-pass-clause-refused c =
     let p = err_from_is_err_and c.from_residual-in_err-pass.result c.from_residual-in_err-pass.ensures.1 in
-    let here = at_mark (table_of c.args.tables.now) (mode_of c.loop-c.mode) _ _ _ _ (mark_of c.in-Some-2.mark) c.loop-c.scanner c.in-Some.ensures.cases.0
-    (sym c.in_ok-mark.ensures ∙ ap (option_map mark_of) c.in-Some-2.is) c.loop-c.invariant in
+    let here = at_mark c.args.sets (table_of c.args.tables.now) (mode_of c.loop-c.mode) _ _ _ _ (mark_of c.in-Some-2.mark) c.loop-c.scanner c.in-Some.ensures.cases.0
+    (sym c.in_ok-mark.ensures ∙ ap (option_map mark_of) c.in-Some-2.is) c.loop-c.invariant.found in
     rw (p.1, p.2) (on_syntax_then c.in_err-pass.field-0.0 inr (c.in_err-pass.ensures.refused _ _ here))
 
 pub loop-c-preserved : goal.loop-c-preserved
 loop-c-preserved c =
     let table = table_of c.args.tables.now in
-    let all = marks table plain c.args.pattern.now in
-    rw c.behind-mode.ensures (elim c.match-branch-3.branch [
-      | in-Some-2+in_ok-pass w ↦
-          rw w.scanner-is (w.in_ok-pass.ensures.ok _ _
-          (at_mark table (mode_of c.loop-c.mode) _ _ _ all (mark_of w.in-Some-2.mark) c.loop-c.scanner c.in-Some.ensures.cases.0
-          (sym c.in_ok-mark.ensures ∙ ap (option_map mark_of) w.in-Some-2.is) c.loop-c.invariant))
-      | in_default-2 w ↦
-          rw w.scanner-is
-          (at_no_mark table (mode_of c.loop-c.mode) _ _ _ all c.loop-c.scanner c.in-Some.ensures.cases.0
-          (sym c.in_ok-mark.ensures ∙ ap (option_map mark_of) w.in_default-2.is) c.loop-c.invariant)
-    ])
+    let all = marks c.args.sets table plain c.args.pattern.now in
+    rw c.behind-mode.ensures (record {
+      found = elim c.match-branch-3.branch [
+        | in-Some-2+in_ok-pass w ↦
+            rw w.scanner-is (w.in_ok-pass.ensures.ok _ _
+            (at_mark c.args.sets table (mode_of c.loop-c.mode) _ _ _ all (mark_of w.in-Some-2.mark) c.loop-c.scanner c.in-Some.ensures.cases.0
+            (sym c.in_ok-mark.ensures ∙ ap (option_map mark_of) w.in-Some-2.is) c.loop-c.invariant.found))
+        | in_default-2 w ↦
+            rw w.scanner-is
+            (at_no_mark c.args.sets table (mode_of c.loop-c.mode) _ _ _ all c.loop-c.scanner c.in-Some.ensures.cases.0
+            (sym c.in_ok-mark.ensures ∙ ap (option_map mark_of) w.in_default-2.is) c.loop-c.invariant.found)
+      ];
+      depth = omega (arith, depth-mode_behind c.args.sets (mode_of c.loop-c.mode) c.in-Some.c.now, ap length c.in-Some.ensures.cases.0);
+    })
 
 pub returns-clause-names : goal.returns-clause-names
 returns-clause-names c =
-    c.finish.ensures.names _ (all_passed (table_of c.args.tables.now) (mode_of c.loop-c.mode) _ _ c.loop-c.scanner c.in_default.ensures.cases c.loop-c.invariant)
+    c.finish.ensures.names _ (all_passed c.args.sets (table_of c.args.tables.now) (mode_of c.loop-c.mode) _ _ c.loop-c.scanner c.in_default.ensures.cases c.loop-c.invariant.found)
 
 pub returns-clause-apart : goal.returns-clause-apart
 returns-clause-apart c =
-    c.finish.ensures.apart _ (all_passed (table_of c.args.tables.now) (mode_of c.loop-c.mode) _ _ c.loop-c.scanner c.in_default.ensures.cases c.loop-c.invariant)
+    c.finish.ensures.apart _ (all_passed c.args.sets (table_of c.args.tables.now) (mode_of c.loop-c.mode) _ _ c.loop-c.scanner c.in_default.ensures.cases c.loop-c.invariant.found)
 
 pub returns-clause-refused : goal.returns-clause-refused
 returns-clause-refused c =
     refused_then c.finish.result inl
-    (c.finish.ensures.refused _ (all_passed (table_of c.args.tables.now) (mode_of c.loop-c.mode) _ _ c.loop-c.scanner c.in_default.ensures.cases c.loop-c.invariant))
+    (c.finish.ensures.refused _ (all_passed c.args.sets (table_of c.args.tables.now) (mode_of c.loop-c.mode) _ _ c.loop-c.scanner c.in_default.ensures.cases c.loop-c.invariant.found))

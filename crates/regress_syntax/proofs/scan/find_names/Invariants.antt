@@ -1,13 +1,16 @@
--- What was found so far, and what the marks of the rest give, is what the marks of the whole give.
-use Rattle.std.proofs.Common.{length}
+-- What was found so far, and what the marks of the rest give, is what the marks of the whole give. No more classes are open
+-- than code points are passed.
+use Rattle.std.proofs.Common.{◌+◌, ◌≤◌, length}
 use Rattle.regress_tree.specs.TableOf.{table_of}
 use Rattle.regress_syntax.specs.Scan.{plain, marks}
-use Rattle.regress_syntax.specs.Scanning.{mode_of, Behind}
+use Rattle.regress_syntax.specs.Scanning.{mode_of, depth_of, Behind}
 use Rattle.regress_syntax.proofs.scan.find_names.Given as goal
 
 abbrev pub invariant-loop-c : goal.invariant-loop-c
-invariant-loop-c l =
-    Behind (marks (table_of l.tables) plain l.pattern) (marks (table_of l.tables) (mode_of l.mode) l.rest) l.scanner
+invariant-loop-c l = record {
+  found : Behind (marks l.sets (table_of l.tables) plain l.pattern) (marks l.sets (table_of l.tables) (mode_of l.mode) l.rest) l.scanner;
+  depth : depth_of (mode_of l.mode) + length l.rest ≤ length l.pattern;
+}
 
 abbrev pub decreases-loop-c : goal.decreases-loop-c
 decreases-loop-c l = length l.rest

@@ -3,10 +3,10 @@ use Rattle.regress_syntax.proofs.laws.Scan.{gives_marks}
 use Rattle.regress_syntax.proofs.scan.scan.Goals as goal
 
 pub returns-in_err-names-clause-whole : goal.returns-in_err-names-clause-whole
-returns-in_err-names-clause-whole c = gives_marks (table_of c.args.tables.now) c.args.pattern.now c.args.tables.now.sound.lawful
+returns-in_err-names-clause-whole c = gives_marks c.args.sets (table_of c.args.tables.now) c.args.pattern.now c.args.tables.now.sound.lawful
 
 pub returns-in_err-new-clause-whole : goal.returns-in_err-new-clause-whole
-returns-in_err-new-clause-whole c = gives_marks (table_of c.args.tables.now) c.args.pattern.now c.args.tables.now.sound.lawful
+returns-in_err-new-clause-whole c = gives_marks c.args.sets (table_of c.args.tables.now) c.args.pattern.now c.args.tables.now.sound.lawful
 
 pub returns-clause-whole : goal.returns-clause-whole
-returns-clause-whole c = gives_marks (table_of c.args.tables.now) c.args.pattern.now c.args.tables.now.sound.lawful
+returns-clause-whole c = gives_marks c.args.sets (table_of c.args.tables.now) c.args.pattern.now c.args.tables.now.sound.lawful

@@ -1,0 +1,161 @@
+-- A scan passes properties, and classes without the flag v.
+use Rattle.std.proofs.Common.{◌≡◌, ℕ, zero, suc, ◌+◌, max, Bool, true, false, not, cond, ◌&&◌, ◌||◌, ◌==◌, List, [], ◌∷◌, ◌++◌, length, drop, Option, Some, None, option_map, refl, sym, ap, ◌∙◌, subst, arith, eqb-true, add-one}
+use Rattle.std.proofs.lemmas.Bool.{false≢true}
+use Rattle.std.proofs.lemmas.Bool.Decides.{nat_tests}
+use Rattle.regress_base.specs.Intervals.{Bounds}
+use Rattle.regress_base.specs.Limits.{max_nesting_depth}
+use Rattle.regress_base.specs.declared.charclasses.CharacterClassType.{CharacterClassType}
+use Rattle.regress_tree.specs.Table.{Table}
+use Rattle.regress_syntax.specs.Source.{Source, Found, ◌>>=◌, found_map, is_at}
+use Rattle.regress_syntax.specs.Digits.{is_decimal, is_letter, control, front, behind}
+use Rattle.regress_syntax.specs.Escapes.{escape_at}
+use Rattle.regress_syntax.specs.Properties.{Property, of_points, of_strings, points_of, is_property_character, list_named, lone_value, value_in, closed_property, property_at}
+use Rattle.regress_syntax.specs.ClassRows.{ClassAtom, point, set, complement_if, class_letter, class_members, class_control_at, class_property, class_property_at, class_escape_by, class_escape_at, class_atom_at, atom_members, one_point, begins_range, points_between, range_of, range_at, class_part_at, class_parts_by, class_at}
+use Rattle.regress_syntax.specs.Scan.{Mark, nests, plain, class, class_escape, marks}
+use Rattle.regress_syntax.proofs.DigitLemmas.{and_both, drop_one_more}
+use Rattle.regress_syntax.proofs.ScanLemmas.{is_quiet, Passes, Leads, Gives, Home, in_class, home, behind_backslash, passes_same, passes_then, leads_none, leads_some, leads_behind, leads_then, leads_map, leads_cond, gives_none, gives_some, gives_after, gives_then, gives_map, gives_cond, gives_leads, pass_quiet, pass_at, pass_backslash, pass_escaped, pass_behind, lead_escape_at}
+
+-- a class may hold anything, or nothing
+lead_made : {A : Type 0} {sets : Bool} {table : Table} (w : Home) (f : List Bounds → A) (made : Option (List Bounds)) (t : Source) →
+    Leads sets table (home w) t (home w) (elim made as (λ _. Found A) [ None ↦ None | Some members ↦ Some (f members, t) ])
+lead_made w f None t = leads_none
+lead_made w f (Some members) t = leads_some (f members, t) passes_same
+
+-- ---- properties
+
+quiet_property : (c : ℕ) → is_property_character c ≡ true → is_quiet c ≡ true
+quiet_property c e = grind (arith, nat_tests)
+
+module _ {sets : Bool} {table : Table} (w : Home) where
+  lead_closed_property : (property : Option Property) (t : Source) → Leads sets table (home w) t (home w) (closed_property property t)
+  lead_closed_property None t = leads_none
+  lead_closed_property (Some property) t =
+      leads_cond (is_at 125 t) _ _ (λ e. leads_some (property, drop 1 t) (pass_at w 125 t refl e)) (λ _. leads_none)
+
+  pass_word : (t : Source) → Passes sets table (home w) t (home w) (behind is_property_character t)
+  pass_word t = pass_behind w is_property_character quiet_property t
+
+  pub lead_property_at : (of_sets : Bool) (from : Table) (t : Source) → Leads sets table (home w) t (home w) (property_at of_sets from t)
+  unfolding property_at
+  lead_property_at of_sets from t =
+      let rest = behind is_property_character (drop 1 t) in
+      leads_cond (is_at 123 t) _ _
+      (λ e. leads_behind (passes_then (pass_at w 123 t refl e) (pass_word (drop 1 t)))
+      (leads_cond (is_at 61 rest) _ _
+      (λ equals. leads_behind (passes_then (pass_at w 61 rest refl equals) (pass_word (drop 1 rest)))
+      (lead_closed_property _ (behind is_property_character (drop 1 rest))))
+      (λ _. lead_closed_property _ rest)))
+      (λ _. leads_none)
+
+-- ---- classes
+
+module _ {table : Table} where
+  -- the backslash alone leaves the `c`
+  lead_class_control_at : (t : Source) → Leads false table (class_escape 0 0) (99 ∷ t) (class 0 0) (class_control_at t)
+  unfolding marks
+  lead_class_control_at [] = leads_some (point 92, 99 ∷ []) (record { same = refl })
+  lead_class_control_at (d ∷ t) =
+      leads_cond (is_letter d || is_decimal d || d == 95) _ _
+      (λ e. leads_some (point (control d), t)
+      (passes_then (pass_escaped (in_class 0 0) 99 (d ∷ t))
+      (pass_quiet (in_class 0 0) d t (grind (arith, nat_tests)))))
+      (λ _. leads_some (point 92, 99 ∷ d ∷ t) (record { same = refl }))
+
+  lead_class_property_at : (negated : Bool) (c : ℕ) (t : Source) →
+      Leads false table (class_escape 0 0) (c ∷ t) (class 0 0) (class_property_at table negated t)
+  lead_class_property_at negated c t =
+      leads_behind (pass_escaped (in_class 0 0) c t)
+      (leads_then (property_at false table t) _ (lead_property_at (in_class 0 0) false table t)
+      (λ x. lead_made (in_class 0 0) (λ members. set (complement_if negated members)) (points_of x.0) x.1))
+
+  lead_class_escape_by : (unicode : Bool) (c : ℕ) (t : Source) →
+      Leads false table (class_escape 0 0) (c ∷ t) (class 0 0) (class_escape_by table unicode c t)
+  lead_class_escape_by unicode c t = by (class_letter c)
+    where
+      by : (letter : Option (CharacterClassType × Bool)) →
+          Leads false table (class_escape 0 0) (c ∷ t) (class 0 0)
+          (elim letter as (λ _. Found ClassAtom) [
+            | Some named ↦ Some (set (class_members named), t)
+            | None ↦ cond (c == 98) (Some (point 8, t)) (cond (c == 45 && unicode) (Some (point 45, t))
+                (cond (c == 99 && not unicode) (class_control_at t)
+                (cond ((c == 112 || c == 80) && unicode) (class_property_at table (c == 80) t)
+                (found_map point (escape_at unicode (c ∷ t))))))
+          ])
+      by (Some named) = leads_some (set (class_members named), t) (pass_escaped (in_class 0 0) c t)
+      by None =
+          leads_cond (c == 98) _ _ (λ _. leads_some (point 8, t) (pass_escaped (in_class 0 0) c t))
+          (λ _. leads_cond (c == 45 && unicode) _ _ (λ _. leads_some (point 45, t) (pass_escaped (in_class 0 0) c t))
+          (λ _. leads_cond (c == 99 && not unicode) _ _
+          (λ e. subst (λ k. Leads false table (class_escape 0 0) (k ∷ t) (class 0 0) (class_control_at t)) (sym (eqb-true c 99 (and_both _ _ e).0))
+          (lead_class_control_at t))
+          (λ _. leads_cond ((c == 112 || c == 80) && unicode) _ _ (λ _. lead_class_property_at (c == 80) c t)
+          (λ _. leads_map point (escape_at unicode (c ∷ t)) (lead_escape_at (in_class 0 0) unicode (c ∷ t))))))
+
+  lead_class_escape_at : (unicode : Bool) (t : Source) → Leads false table (class_escape 0 0) t (class 0 0) (class_escape_at table unicode t)
+  lead_class_escape_at unicode [] = leads_none
+  lead_class_escape_at unicode (c ∷ t) = lead_class_escape_by unicode c t
+
+  -- a `[` opens no class here
+  pass_member : (c : ℕ) (t : Source) → (c == 93) ≡ false → (c == 92) ≡ false → Passes false table (class 0 0) (c ∷ t) (class 0 0) t
+  unfolding marks
+  pass_member c t goes_on e = record { same = rw (e, goes_on) (by (c == 91)) }
+    where
+      by : (bracket : Bool) →
+          cond (bracket && false) (marks false table (class 1 1) t) (marks false table (class 0 0) t) ≡ marks false table (class 0 0) t
+      by true = refl
+      by false = refl
+
+  lead_class_atom_at : (unicode : Bool) (t : Source) → Leads false table (class 0 0) t (class 0 0) (class_atom_at table unicode t)
+  lead_class_atom_at unicode [] = leads_none
+  lead_class_atom_at unicode (c ∷ t) =
+      leads_cond (c == 93) _ _ (λ _. leads_none)
+      (λ goes_on. leads_cond (c == 92) _ _
+      (λ e. subst (λ k. Leads false table (class 0 0) (k ∷ t) (class 0 0) (class_escape_at table unicode t)) (sym (eqb-true c 92 e))
+      (leads_behind (pass_backslash (in_class 0 0) t) (lead_class_escape_at unicode t)))
+      (λ e. leads_some (point c, t) (pass_member c t goes_on e)))
+
+  lead_range_at : (unicode : Bool) (first : ClassAtom) (t : Source) → Leads false table (class 0 0) t (class 0 0) (range_at table unicode first t)
+  lead_range_at unicode first t =
+      leads_then (class_atom_at table unicode t) _ (lead_class_atom_at unicode t)
+      (λ x. lead_made (in_class 0 0) (λ members. members) (range_of unicode first x.0) x.1)
+
+  -- behind a hyphen that begins a range
+  pass_hyphen : (t : Source) → begins_range t ≡ true → Passes false table (class 0 0) t (class 0 0) (drop 1 t)
+  pass_hyphen t e = pass_at (in_class 0 0) 45 t refl (and_both _ _ e).0
+
+  lead_class_part_at : (unicode : Bool) (t : Source) → Leads false table (class 0 0) t (class 0 0) (class_part_at table unicode t)
+  lead_class_part_at unicode t =
+      leads_then (class_atom_at table unicode t) _ (lead_class_atom_at unicode t)
+      (λ x. leads_cond (begins_range x.1) _ _
+      (λ e. leads_behind (pass_hyphen x.1 e) (lead_range_at unicode x.0 (drop 1 x.1)))
+      (λ _. leads_some (atom_members x.0, x.1) passes_same))
+
+  pass_bracket : (t : Source) → is_at 93 t ≡ true → Passes false table (class 0 0) t plain (drop 1 t)
+  unfolding marks
+  pass_bracket [] e = absurd (false≢true e)
+  pass_bracket (c ∷ t) e = subst (λ k. Passes false table (class 0 0) (k ∷ t) plain t) (sym (eqb-true c 93 e)) (record { same = refl })
+
+  lead_class_parts_by : (n : ℕ) (unicode : Bool) (t : Source) → Leads false table (class 0 0) t plain (class_parts_by table unicode n t)
+  unfolding class_parts_by
+  lead_class_parts_by zero unicode t = leads_none
+  lead_class_parts_by (suc n) unicode t =
+      leads_cond (is_at 93 t) _ _ (λ e. leads_some ([], drop 1 t) (pass_bracket t e))
+      (λ _. leads_then (class_part_at table unicode t) _ (lead_class_part_at unicode t)
+      (λ x. leads_then (class_parts_by table unicode n x.1) _ (lead_class_parts_by n unicode x.1)
+      (λ y. leads_some (_, y.1) passes_same)))
+
+-- a `^` that may stand at the front of a class
+pub pass_caret : {sets : Bool} {table : Table} (w : Home) (t : Source) → Passes sets table (home w) t (home w) (cond (is_at 94 t) (drop 1 t) t)
+pass_caret {sets} {table} w t = by (is_at 94 t) refl
+  where
+    by : (q : Bool) → is_at 94 t ≡ q → Passes sets table (home w) t (home w) (cond q (drop 1 t) t)
+    by true e = pass_at w 94 t refl e
+    by false e = passes_same
+
+pub lead_class_at : {table : Table} (unicode : Bool) (t : Source) → Leads false table (class 0 0) t plain (class_at table unicode t)
+unfolding class_at
+lead_class_at {table} unicode t =
+    leads_behind (pass_caret (in_class 0 0) t)
+    (leads_then (class_parts_by table unicode (length (cond (is_at 94 t) (drop 1 t) t) + 1) (cond (is_at 94 t) (drop 1 t) t)) _
+    (lead_class_parts_by (length (cond (is_at 94 t) (drop 1 t) t) + 1) unicode (cond (is_at 94 t) (drop 1 t) t))
+    (λ x. leads_some (_, x.1) passes_same))

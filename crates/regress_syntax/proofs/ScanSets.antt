@@ -1,0 +1,325 @@
+-- What a scan gives of classes with the flag v.
+use Rattle.std.proofs.Common.{◌≡◌, ℕ, zero, suc, ◌+◌, ◌-◌, max, Bool, true, false, not, cond, ◌&&◌, ◌||◌, ◌==◌, List, [], ◌∷◌, ◌++◌, length, drop, Option, Some, None, refl, sym, ap, ◌∙◌, subst, ap₂, arith, eqb-true, add-one}
+use Rattle.std.proofs.lemmas.Bool.{false≢true}
+use Rattle.std.proofs.lemmas.Bool.Decides.{nat_tests}
+use Rattle.regress_base.specs.Intervals.{Bounds}
+use Rattle.regress_base.specs.Limits.{max_nesting_depth}
+use Rattle.regress_base.specs.declared.charclasses.CharacterClassType.{CharacterClassType}
+use Rattle.regress_tree.specs.Table.{Table}
+use Rattle.regress_syntax.specs.Source.{Source, Found, ◌>>=◌, found_map, is_at}
+use Rattle.regress_syntax.specs.Escapes.{escape_at}
+use Rattle.regress_syntax.specs.Properties.{Property, of_points, of_strings, property_at}
+use Rattle.regress_syntax.specs.ClassRows.{complement_if, class_letter, class_members, one_point, points_between}
+use Rattle.regress_syntax.specs.ClassSets.{Value, only, joined, common, without, value_of_string, value_of_strings, nested, unless_of_strings, Operand, character, value_of, is_set_syntax, is_double, begins_double, is_reserved, escaped_character_at, set_character_at, strings_by, quoted_at, property_operand, escaped_operand_at, operand_at, range_of, range_at, part_behind, parts_by, parts_at, are_at, operands_by, operands_at, contents_behind, contents_at, class_set_by, class_set_at}
+use Rattle.regress_syntax.specs.ClassSets as ClassSets
+use Rattle.regress_syntax.specs.Scan.{Mark, nests, plain, class, class_escape, marks}
+use Rattle.regress_syntax.proofs.DigitLemmas.{and_both, drop_one_more}
+use Rattle.regress_syntax.proofs.ScanLemmas.{is_quiet, Passes, Leads, Gives, Home, in_class, home, behind_backslash, passes_same, passes_then, leads_none, leads_some, leads_behind, leads_then, leads_map, leads_cond, gives_none, gives_some, gives_after, gives_then, gives_map, gives_cond, gives_leads, pass_quiet, pass_at, pass_backslash, pass_escaped, lead_escape_at}
+use Rattle.regress_syntax.proofs.ScanClasses.{lead_property_at, pass_caret}
+
+-- ---- characters and strings
+
+module _ {table : Table} (unicode : Bool) where
+  lead_escaped_character_at : (w : Home) (t : Source) → Leads true table (behind_backslash w) t (home w) (escaped_character_at unicode t)
+  lead_escaped_character_at w [] = leads_none
+  lead_escaped_character_at w (c ∷ t) =
+      leads_cond (c == 98) _ _ (λ _. leads_some (8, t) (pass_escaped w c t))
+      (λ _. leads_cond (is_reserved c) _ _ (λ _. leads_some (c, t) (pass_escaped w c t))
+      (λ _. lead_escape_at w unicode (c ∷ t)))
+
+  lead_set_character_at : (w : Home) (t : Source) → Leads true table (home w) t (home w) (set_character_at unicode t)
+  unfolding set_character_at
+  lead_set_character_at w [] = leads_none
+  lead_set_character_at w (c ∷ t) =
+      leads_cond (c == 92) _ _
+      (λ e. subst (λ k. Leads true table (home w) (k ∷ t) (home w) (escaped_character_at unicode t)) (sym (eqb-true c 92 e))
+      (leads_behind (pass_backslash w t) (lead_escaped_character_at w t)))
+      (λ _. leads_cond (is_set_syntax c || (is_double c && begins_double t)) _ _ (λ _. leads_none)
+      (λ e. leads_some (c, t) (pass_quiet w c t (quiet_member c _ e))))
+    where
+      quiet_member : (c : ℕ) (other : Bool) → (is_set_syntax c || other) ≡ false → is_quiet c ≡ true
+      quiet_member c other e = grind (arith, nat_tests)
+
+  -- in a class a `|` is quiet too
+  pass_bar : (depth deepest : ℕ) (t : Source) → is_at 124 t ≡ true → Passes true table (class depth deepest) t (class depth deepest) (drop 1 t)
+  unfolding marks
+  pass_bar depth deepest [] e = absurd (false≢true e)
+  pass_bar depth deepest (c ∷ t) e =
+      subst (λ k. Passes true table (class depth deepest) (k ∷ t) (class depth deepest) t) (sym (eqb-true c 124 e)) (record { same = refl })
+
+  lead_strings_by : (n depth deepest : ℕ) (s : List ℕ) (t : Source) →
+      Leads true table (class depth deepest) t (class depth deepest) (strings_by n unicode s t)
+  unfolding strings_by
+  lead_strings_by zero depth deepest s t = leads_none
+  lead_strings_by (suc n) depth deepest s t =
+      leads_cond (is_at 125 t) _ _ (λ e. leads_some (_, drop 1 t) (pass_at (in_class depth deepest) 125 t refl e))
+      (λ _. leads_cond (is_at 124 t) _ _
+      (λ e. leads_behind (pass_bar depth deepest t e)
+      (leads_map _ (strings_by n unicode [] (drop 1 t)) (lead_strings_by n depth deepest [] (drop 1 t))))
+      (λ _. leads_then (set_character_at unicode t) _ (lead_set_character_at (in_class depth deepest) t)
+      (λ x. lead_strings_by n depth deepest (s ++ x.0 ∷ []) x.1)))
+
+-- ---- how deep classes lie
+
+-- The marks in a class at this depth, where so many levels lie in it so far, and `before` the deepest in front of it.
+abbrev within : (table : Table) (depth before levels : ℕ) → Source → List Mark
+within table depth before levels t = marks true table (class depth (max before (depth + levels))) t
+
+-- behind its `]`
+abbrev closed : (table : Table) (depth before levels : ℕ) → Source → List Mark
+closed table zero before levels t = nests (max before (zero + levels)) ∷ marks true table plain t
+closed table (suc depth) before levels t = marks true table (class depth (max before (suc depth + levels))) t
+
+-- What stands behind the `[` of a class gives this, wherever the class lies.
+pub record GivesInner (table : Table) (inner : Source → Found (Bool × Value)) : Type 0 where
+  pub each : (depth before : ℕ) (t : Source) → Gives (within table depth before 0 t) (λ x. closed table depth before x.1.levels) (inner t)
+
+-- Where so many levels lie in a class, and then an operand with these.
+abbrev behind_operand : (table : Table) (depth before levels : ℕ) → Operand → Source → List Mark
+behind_operand table depth before levels o t = within table depth before (max levels (value_of o).levels) t
+
+abbrev behind_part : (table : Table) (depth before levels : ℕ) → Value → Source → List Mark
+behind_part table depth before levels v t = within table depth before (max levels v.levels) t
+
+abbrev behind_class : (table : Table) (depth before : ℕ) → Value → Source → List Mark
+behind_class table depth before v t = closed table depth before v.levels t
+
+flat_string : (s : List ℕ) → (value_of_string s).levels ≡ 0
+flat_string [] = refl
+flat_string (c ∷ []) = refl
+flat_string (c ∷ d ∷ cs) = refl
+
+flat_strings : (ss : List (List ℕ)) → (value_of_strings ss).levels ≡ 0
+flat_strings [] = refl
+flat_strings (s ∷ ss) = omega (arith, flat_string s, flat_strings ss)
+
+module _ (table : Table) where
+  pass_close : (depth before levels : ℕ) (t : Source) → is_at 93 t ≡ true → within table depth before levels t ≡ closed table depth before levels (drop 1 t)
+  unfolding marks
+  pass_close depth before levels [] e = absurd (false≢true e)
+  pass_close zero before levels (c ∷ t) e =
+      subst (λ k. within table zero before levels (k ∷ t) ≡ closed table zero before levels t) (sym (eqb-true c 93 e)) refl
+  pass_close (suc depth) before levels (c ∷ t) e =
+      let inner : (suc depth == 0) ≡ false = grind (arith, nat_tests) in
+      let outside : suc depth - 1 ≡ depth = omega arith in
+      subst (λ k. within table (suc depth) before levels (k ∷ t) ≡ closed table (suc depth) before levels t) (sym (eqb-true c 93 e))
+      (rw (inner, outside) refl)
+
+  pass_open : (depth before levels : ℕ) (t : Source) → is_at 91 t ≡ true →
+      within table depth before levels t ≡ within table (suc depth) (max before (depth + levels)) 0 (drop 1 t)
+  unfolding marks
+  pass_open depth before levels [] e = absurd (false≢true e)
+  pass_open depth before levels (c ∷ t) e =
+      subst (λ k. within table depth before levels (k ∷ t) ≡ within table (suc depth) (max before (depth + levels)) 0 t) (sym (eqb-true c 91 e))
+      (ap₂ (λ d k. marks true table (class d k) t) (add-one depth) same)
+    where
+      same : max (max before (depth + levels)) (depth + 1) ≡ max (max before (depth + levels)) (suc depth + 0)
+      same = omega arith
+
+  -- levels that come to the same
+  same_within : (depth before levels more : ℕ) (t : Source) → levels ≡ more → within table depth before levels t ≡ within table depth before more t
+  same_within depth before levels more t e = ap (λ n. within table depth before n t) e
+
+  -- an operand that holds no class
+  gives_flat : {A : Type 0} (depth before levels : ℕ) (m : List Mark) (f : A → Operand) (found : Found A) → ((x : A) → (value_of (f x)).levels ≡ 0) →
+      Gives m (λ _. within table depth before levels) found → Gives m (behind_operand table depth before levels) (found_map f found)
+  gives_flat depth before levels m f found flat h =
+      gives_map (λ _. within table depth before levels) f found h
+      (λ x t. same_within depth before levels (max levels (value_of (f x)).levels) t (omega (arith, flat x)))
+
+  module _ (unicode : Bool) where
+    -- the class in which so many levels lie
+    abbrev at_levels : (depth before levels : ℕ) → Home
+    at_levels depth before levels = in_class depth (max before (depth + levels))
+
+    gives_quoted_at : (depth before levels : ℕ) (t : Source) →
+        Gives (within table depth before levels t) (behind_operand table depth before levels) (quoted_at unicode t)
+    gives_quoted_at depth before levels t =
+        gives_cond (is_at 123 t) _ _
+        (λ e. gives_flat depth before levels _ (λ ss. ClassSets.class (value_of_strings ss)) (strings_by (length t) unicode [] (drop 1 t)) flat_strings
+        (gives_leads (leads_behind (pass_at (at_levels depth before levels) 123 t refl e)
+        (lead_strings_by unicode (length t) depth (max before (depth + levels)) [] (drop 1 t)))))
+        (λ _. gives_none)
+
+    gives_property_operand : (depth before levels : ℕ) (in_negated negated : Bool) (x : Property × Source) →
+        Gives (within table depth before levels x.1) (behind_operand table depth before levels) (property_operand in_negated negated x)
+    gives_property_operand depth before levels in_negated negated (of_points members, t) =
+        gives_some (_, t) (same_within depth before levels (max levels 0) t (omega arith))
+    gives_property_operand depth before levels in_negated negated (of_strings written, t) =
+        gives_cond (in_negated || negated) _ _ (λ _. gives_none)
+        (λ _. gives_some (_, t)
+        (same_within depth before levels (max levels (value_of_strings written).levels) t (omega (arith, flat_strings written))))
+
+    gives_escaped_by : (depth before levels : ℕ) (in_negated : Bool) (c : ℕ) (t : Source) (letter : Option (CharacterClassType × Bool)) →
+        Gives (marks true table (behind_backslash (at_levels depth before levels)) (c ∷ t)) (behind_operand table depth before levels)
+        (elim letter as (λ _. Found Operand) [
+          | Some named ↦ Some (ClassSets.class (only (class_members named)), t)
+          | None ↦
+              cond (c == 113) (quoted_at unicode t) (cond (c == 112 || c == 80) (property_at true table t >>= property_operand in_negated (c == 80))
+              (found_map character (escaped_character_at unicode (c ∷ t))))
+        ])
+    gives_escaped_by depth before levels in_negated c t (Some named) =
+        gives_after (pass_escaped (at_levels depth before levels) c t).same
+        (gives_some (_, t) (same_within depth before levels (max levels 0) t (omega arith)))
+    gives_escaped_by depth before levels in_negated c t None =
+        gives_cond (c == 113) _ _
+        (λ _. gives_after (pass_escaped (at_levels depth before levels) c t).same (gives_quoted_at depth before levels t))
+        (λ _. gives_cond (c == 112 || c == 80) _ _
+        (λ _. gives_after (pass_escaped (at_levels depth before levels) c t).same
+        (gives_then (λ _. within table depth before levels) (property_at true table t) _
+        (gives_leads (lead_property_at (at_levels depth before levels) true table t))
+        (gives_property_operand depth before levels in_negated (c == 80))))
+        (λ _. gives_flat depth before levels _ character (escaped_character_at unicode (c ∷ t)) (λ x. refl)
+        (gives_leads (lead_escaped_character_at unicode (at_levels depth before levels) (c ∷ t)))))
+
+    -- behind a backslash
+    gives_escaped_operand_at : (depth before levels : ℕ) (in_negated : Bool) (t : Source) →
+        Gives (marks true table (behind_backslash (at_levels depth before levels)) t) (behind_operand table depth before levels)
+        (escaped_operand_at table unicode in_negated t)
+    gives_escaped_operand_at depth before levels in_negated [] = gives_none
+    gives_escaped_operand_at depth before levels in_negated (c ∷ t) =
+        gives_escaped_by depth before levels in_negated c t (class_letter c)
+
+    -- a backslash at the front
+    pass_backslash_at : (w : Home) (t : Source) → is_at 92 t ≡ true → Passes true table (home w) t (behind_backslash w) (drop 1 t)
+    pass_backslash_at w [] e = absurd (false≢true e)
+    pass_backslash_at w (c ∷ t) e =
+        subst (λ k. Passes true table (home w) (k ∷ t) (behind_backslash w) t) (sym (eqb-true c 92 e)) (pass_backslash w t)
+
+    module _ (inner : Source → Found (Bool × Value)) (gives_inner : GivesInner table inner) (in_negated : Bool) where
+      gives_operand_at : (depth before levels : ℕ) (t : Source) →
+          Gives (within table depth before levels t) (behind_operand table depth before levels) (operand_at table unicode inner in_negated t)
+      unfolding operand_at
+      gives_operand_at depth before levels t =
+          gives_cond (is_at 91 t) _ _
+          (λ e. gives_after (pass_open depth before levels t e)
+          (gives_map _ (λ inside. ClassSets.class (nested inside)) (inner (drop 1 t))
+          (gives_inner.each (suc depth) (max before (depth + levels)) (drop 1 t))
+          (λ x rest. ap (λ k. marks true table (class depth k) rest) (omega arith))))
+          (λ _. gives_cond (is_at 92 t) _ _
+          (λ e. gives_after (pass_backslash_at (at_levels depth before levels) t e).same
+          (gives_escaped_operand_at depth before levels in_negated (drop 1 t)))
+          (λ _. gives_flat depth before levels _ character (set_character_at unicode t) (λ x. refl)
+          (gives_leads (lead_set_character_at unicode (at_levels depth before levels) t))))
+
+      -- ---- parts
+
+      gives_points : (depth before levels : ℕ) (made : Option (List Bounds)) (t : Source) →
+          Gives (within table depth before (max (max levels 0) 0) t) (behind_part table depth before levels)
+          (elim made as (λ _. Found Value) [ None ↦ None | Some members ↦ Some (only members, t) ])
+      gives_points depth before levels None t = gives_none
+      gives_points depth before levels (Some members) t =
+          gives_some (only members, t) (same_within depth before (max (max levels 0) 0) (max levels 0) t (omega arith))
+
+      gives_range : (depth before levels : ℕ) (first last : Operand) (t : Source) →
+          Gives (within table depth before (max (max levels (value_of first).levels) (value_of last).levels) t)
+          (behind_part table depth before levels)
+          (elim (range_of table unicode inner in_negated first last) as (λ _. Found Value) [ None ↦ None | Some members ↦ Some (only members, t) ])
+      gives_range depth before levels (character a) (character b) t = gives_points depth before levels (points_between a b) t
+      gives_range depth before levels (character a) (ClassSets.class others) t = gives_none
+      gives_range depth before levels (ClassSets.class value) last t = gives_none
+
+      -- the quiet code point at the front
+      pass_sign : (depth before levels k : ℕ) (t : Source) → is_quiet k ≡ true → is_at k t ≡ true →
+          within table depth before levels t ≡ within table depth before levels (drop 1 t)
+      pass_sign depth before levels k t quiet e = (pass_at (at_levels depth before levels) k t quiet e).same
+
+      gives_part_behind : (depth before levels : ℕ) (x : Operand × Source) →
+          Gives (behind_operand table depth before levels x.0 x.1) (behind_part table depth before levels)
+          (part_behind table unicode inner in_negated x)
+      gives_part_behind depth before levels (first, t) =
+          gives_cond (is_at 45 t) _ _
+          (λ e. gives_after (pass_sign depth before (max levels (value_of first).levels) 45 t refl e)
+          (gives_then _ (operand_at table unicode inner in_negated (drop 1 t)) _
+          (gives_operand_at depth before (max levels (value_of first).levels) (drop 1 t))
+          (λ x. gives_range depth before levels first x.0 x.1)))
+          (λ _. gives_some (value_of first, t) refl)
+
+      gives_parts_by : (n depth before : ℕ) (value : Value) (t : Source) →
+          Gives (within table depth before value.levels t) (behind_class table depth before) (parts_by table unicode inner in_negated n value t)
+      unfolding parts_by
+      gives_parts_by zero depth before value t = gives_none
+      gives_parts_by (suc n) depth before value t =
+          gives_cond (is_at 93 t) _ _ (λ e. gives_some (value, drop 1 t) (pass_close depth before value.levels t e))
+          (λ _. gives_then (behind_part table depth before value.levels) (operand_at table unicode inner in_negated t >>= part_behind table unicode inner in_negated) _
+          (gives_then _ (operand_at table unicode inner in_negated t) _ (gives_operand_at depth before value.levels t)
+          (gives_part_behind depth before value.levels))
+          (λ x. gives_parts_by n depth before (joined value x.0) x.1))
+
+      -- ---- operators
+
+      -- the same sign twice
+      pass_signs : (depth before levels k : ℕ) (t : Source) → is_quiet k ≡ true → are_at table unicode inner in_negated k t ≡ true →
+          within table depth before levels t ≡ within table depth before levels (drop 2 t)
+      pass_signs depth before levels k t quiet e =
+          let both = and_both _ _ e in
+          pass_sign depth before levels k t quiet both.0 ∙ pass_sign depth before levels k (drop 1 t) quiet both.1
+          ∙ ap (within table depth before levels) (drop_one_more t)
+
+      gives_operands_by : (n depth before c : ℕ) (f : Value → Value → Value) (value : Value) (t : Source) → is_quiet c ≡ true →
+          ((a b : Value) → (f a b).levels ≡ max a.levels b.levels) →
+          Gives (within table depth before value.levels t) (behind_class table depth before) (operands_by table unicode inner in_negated n c f value t)
+      unfolding operands_by
+      gives_operands_by zero depth before c f value t quiet deeper = gives_none
+      gives_operands_by (suc n) depth before c f value t quiet deeper =
+          gives_then _ (operand_at table unicode inner in_negated t) _ (gives_operand_at depth before value.levels t)
+          (λ x. gives_after (same_within depth before _ (f value (value_of x.0)).levels x.1 (sym (deeper value (value_of x.0))))
+          (gives_cond (is_at 93 x.1) _ _ (λ e. gives_some (f value (value_of x.0), drop 1 x.1) (pass_close depth before _ x.1 e))
+          (λ _. gives_cond (are_at table unicode inner in_negated c x.1) _ _
+          (λ e. gives_after (pass_signs depth before _ c x.1 quiet e)
+          (gives_operands_by n depth before c f (f value (value_of x.0)) (drop 2 x.1) quiet deeper))
+          (λ _. gives_none))))
+
+      gives_contents_behind : (depth before : ℕ) (x : Operand × Source) →
+          Gives (behind_operand table depth before 0 x.0 x.1) (behind_class table depth before) (contents_behind table unicode inner in_negated x)
+      gives_contents_behind depth before (first, t) =
+          gives_after (same_within depth before (max 0 (value_of first).levels) (value_of first).levels t (omega arith))
+          (gives_cond (are_at table unicode inner in_negated 38 t) _ _
+          (λ e. gives_after (pass_signs depth before (value_of first).levels 38 t refl e)
+          (gives_operands_by (length (drop 2 t) + 1) depth before 38 common (value_of first) (drop 2 t) refl (λ a b. refl)))
+          (λ _. gives_cond (are_at table unicode inner in_negated 45 t) _ _
+          (λ e. gives_after (pass_signs depth before (value_of first).levels 45 t refl e)
+          (gives_operands_by (length (drop 2 t) + 1) depth before 45 without (value_of first) (drop 2 t) refl (λ a b. refl)))
+          (λ _. gives_cond (is_at 38 t) _ _
+          (λ e. gives_after
+          (pass_sign depth before (value_of first).levels 38 t refl e
+          ∙ same_within depth before (value_of first).levels (max (value_of first).levels 0) (drop 1 t) (omega arith))
+          (gives_parts_by (length (drop 1 t) + 1) depth before (joined (value_of first) (only (one_point 38))) (drop 1 t)))
+          (λ _. gives_after (same_within depth before (value_of first).levels (max 0 (value_of first).levels) t (omega arith))
+          (gives_then (behind_part table depth before 0) (part_behind table unicode inner in_negated (first, t)) _
+          (gives_part_behind depth before 0 (first, t))
+          (λ x. gives_after (same_within depth before (max 0 x.0.levels) x.0.levels x.1 (omega arith))
+          (gives_parts_by (length x.1 + 1) depth before x.0 x.1)))))))
+
+      gives_contents_at : (depth before : ℕ) (t : Source) →
+          Gives (within table depth before 0 t) (behind_class table depth before) (contents_at table unicode inner in_negated t)
+      gives_contents_at depth before t =
+          gives_cond (is_at 93 t) _ _ (λ e. gives_some (_, drop 1 t) (pass_close depth before 0 t e))
+          (λ _. gives_then _ (operand_at table unicode inner in_negated t) _ (gives_operand_at depth before 0 t)
+          (gives_contents_behind depth before))
+
+    gives_unless_of_strings : (depth before : ℕ) (negated : Bool) (x : Value × Source) →
+        Gives (behind_class table depth before x.0 x.1) (λ inside. behind_class table depth before inside.1) (unless_of_strings negated x)
+    gives_unless_of_strings depth before negated (v, t) =
+        gives_cond (negated && not (length v.strings == 0)) _ _ (λ _. gives_none) (λ _. gives_some ((negated, v), t) refl)
+
+    gives_class_set_by : (n : ℕ) → GivesInner table (class_set_by table unicode n)
+    unfolding class_set_by
+    gives_class_set_by zero = record { each = λ depth before t. gives_none }
+    gives_class_set_by (suc n) = record {
+      each = λ depth before t.
+          gives_after (pass_caret (at_levels depth before 0) t).same
+          (gives_then (behind_class table depth before)
+          (contents_at table unicode (class_set_by table unicode n) (is_at 94 t) (cond (is_at 94 t) (drop 1 t) t)) _
+          (gives_contents_at (class_set_by table unicode n) (gives_class_set_by n) (is_at 94 t) depth before (cond (is_at 94 t) (drop 1 t) t))
+          (gives_unless_of_strings depth before (is_at 94 t)));
+    }
+
+    -- the outermost class has the mark that says how many levels lie in it
+    pub gives_class_set_at : (t : Source) →
+        Gives (marks true table (class 0 0) t) (λ x rest. nests x.1.levels ∷ marks true table plain rest) (class_set_at table unicode t)
+    gives_class_set_at t = record {
+      each = λ x e.
+          ap (λ k. marks true table (class 0 k) t) (omega arith) ∙ ((gives_class_set_by max_nesting_depth).each 0 0 t).each x e
+          ∙ ap (λ k. nests k ∷ marks true table plain x.1) (omega arith);
+    }
