@@ -1,13 +1,13 @@
 -- Each answer is a lemma on what was read, at the values of the call.
-use Rattle.std.proofs.Common.{◌≡◌, ℕ, Bool, true, false, not, ◌&&◌, ◌==◌, ◌-◌, suc, Some, None, length, drop, refl, sym, ap, ap₂, subst, arith, length-drop, ◌∙◌}
+use Rattle.std.proofs.Common.{◌≡◌, Bool, false, not, ◌&&◌, ◌==◌, ◌-◌, Some, None, length, drop, refl, sym, ap, ap₂, subst, arith, length-drop, ◌∙◌}
 use Rattle.std.proofs.lemmas.Bool.{cond-true, cond-false}
 use Rattle.std.proofs.lemmas.Result.{err_from_is_err_and}
 use Rattle.regress_tree.specs.TableOf.{table_of}
 use Rattle.regress_syntax.specs.declared.class_sets.Inside.{Inside}
 use Rattle.regress_syntax.specs.ClassRows.{one_point}
-use Rattle.regress_syntax.specs.ClassSets.{Value, only, joined, nested, unless_of_strings, set_character_at, Operand, character, class, value_of, operand_at, part_behind, contents_behind, are_at}
+use Rattle.regress_syntax.specs.ClassSets.{Value, only, joined, nested, unless_of_strings, set_character_at, character, class, value_of, are_at}
 use Rattle.regress_syntax.specs.Reads.{ReadsAs}
-use Rattle.regress_syntax.specs.Source.{Source, Found, is_at}
+use Rattle.regress_syntax.specs.Source.{Source, is_at}
 use Rattle.regress_syntax.specs.Views.{source, IsValue, IsOperand, inner_of, sign_of, applied}
 use Rattle.regress_syntax.proofs.laws.Sources.{on_syntax, on_syntax_then}
 use Rattle.regress_syntax.proofs.laws.Behind.{Ends}

@@ -1,4 +1,4 @@
-use Rattle.std.proofs.Common.{◌≡◌, ◌||◌, List, [], ◌∷◌, ap, sym, ◌∙◌}
+use Rattle.std.proofs.Common.{◌||◌, List, [], ◌∷◌, ap, sym, ◌∙◌}
 use Rattle.regress_base.specs.Intervals.{Bounds, is_within, is_member}
 use Rattle.regress_base.proofs.laws.Sets.{is_member-nil, is_member-one}
 use Rattle.regress_syntax.proofs.class_sets.range_value.Goals as goal

@@ -1,7 +1,7 @@
-use Rattle.std.proofs.Common.{◌≡◌, Bool, ◌∷◌, Some, rules, refl, sym, ◌∙◌}
+use Rattle.std.proofs.Common.{◌≡◌, Bool, ◌∷◌, rules, refl, sym, ◌∙◌}
 use Rattle.regress_base.specs.declared.charclasses.CharacterClassType.{CharacterClassType}
 use Rattle.regress_tree.specs.TableOf.{table_of}
-use Rattle.regress_syntax.specs.ClassRows.{class_letter, class_members}
+use Rattle.regress_syntax.specs.ClassRows.{class_members}
 use Rattle.regress_syntax.specs.ClassSets.{only, class}
 use Rattle.regress_syntax.specs.Views.{source}
 use Rattle.regress_syntax.proofs.ClassOperandLemmas.{class_escape_read}

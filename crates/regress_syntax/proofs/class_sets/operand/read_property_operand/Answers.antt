@@ -1,13 +1,13 @@
 -- What was found, and what it holds.
-use Rattle.std.proofs.Common.{◌≡◌, ◌||◌, true, false, List, Some, refl, ap, ap₂, ◌∙◌}
+use Rattle.std.proofs.Common.{◌||◌, true, Some, refl, ap, ap₂, ◌∙◌}
 use Rattle.std.proofs.lemmas.Bool.{cond-false}
 use Rattle.regress_tree.specs.TableOf.{table_of}
 use Rattle.regress_syntax.specs.ClassRows.{complement_if}
 use Rattle.regress_syntax.specs.ClassSets.{only, class, value_of_strings, property_operand}
-use Rattle.regress_syntax.specs.Properties.{Property, of_strings, property_at}
+use Rattle.regress_syntax.specs.Properties.{Property, of_strings}
 use Rattle.regress_syntax.specs.Source.{Found, ◌>>=◌}
 use Rattle.regress_syntax.specs.Views.{source, property_of, strings_of}
-use Rattle.regress_syntax.proofs.laws.ClassStrings.{PropertyInRange, property_at-in_range}
+use Rattle.regress_syntax.proofs.laws.ClassStrings.{property_at-in_range}
 use Rattle.regress_syntax.proofs.class_sets.operand.read_property_operand.Goals as goal
 
 pub string_value-requires : goal.string_value-requires

@@ -1,9 +1,7 @@
 -- A turn adds one string.
 use Rattle.std.proofs.Common.{sym, subst, ◌∙◌}
 use Rattle.std.specs.List.{All}
-use Rattle.regress_syntax.specs.ClassSets.{value_of_strings}
 use Rattle.regress_syntax.specs.Source.{IsCodePoint}
-use Rattle.regress_syntax.specs.Views.{strings_of, IsValue}
 use Rattle.regress_syntax.proofs.ClassStringLemmas.{string_at, one_more_held}
 use Rattle.regress_syntax.proofs.class_sets.operand.string_value.Goals as goal
 

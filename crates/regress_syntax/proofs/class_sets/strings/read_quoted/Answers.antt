@@ -1,4 +1,4 @@
-use Rattle.std.proofs.Common.{◌≡◌, sym, ap, refl, ◌∙◌}
+use Rattle.std.proofs.Common.{sym, refl, ◌∙◌}
 use Rattle.std.proofs.lemmas.Bool.{cond-true}
 use Rattle.regress_syntax.specs.ClassSets.{class, value_of_strings}
 use Rattle.regress_syntax.specs.Views.{source}

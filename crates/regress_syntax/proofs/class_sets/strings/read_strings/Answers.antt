@@ -1,9 +1,8 @@
 -- A turn reads one character more, or begins one more string.
-use Rattle.std.proofs.Common.{◌≡◌, false, length, sym, ap, subst, arith, length-drop, ◌∙◌}
+use Rattle.std.proofs.Common.{◌≡◌, length, sym, ap, arith, ◌∙◌}
 use Rattle.std.proofs.lemmas.Bool.{cond-true, cond-false}
 use Rattle.std.proofs.lemmas.Result.{err_from_is_err_and}
-use Rattle.regress_syntax.specs.ClassSets.{value_of_strings, set_character_at}
-use Rattle.regress_syntax.specs.Source.{is_at}
+use Rattle.regress_syntax.specs.ClassSets.{value_of_strings}
 use Rattle.regress_syntax.specs.Views.{source}
 use Rattle.regress_syntax.proofs.laws.Sources.{on_syntax, on_syntax_then}
 use Rattle.regress_syntax.proofs.ReferenceLemmas.{length-none}
