@@ -64,11 +64,7 @@ pub(super) fn read_escaped(cursor: &mut Cursor, inside: &Inside) -> Result<Opera
 }
 
 /// A class by an escape, or its complement.
-fn class_value(
-    alloc: Global,
-    kind: CharacterClassType,
-    negated: bool,
-) -> Result<Value, AllocError>
+fn class_value(alloc: Global, kind: CharacterClassType, negated: bool) -> Result<Value, AllocError>
     ensures { IfOk result (λ held. IsValue held (only (class_members (kind, negated)))) }
 {
     let set = class_members(alloc, kind, negated)?;

@@ -52,13 +52,19 @@ fn has(set: &CodePointSet, ends: Ends) -> bool {
 /// Whether these are exactly the strings, which are ASCII.
 fn holds(strings: &[Vec<u32>], texts: &[&str]) -> bool {
     strings.len() == texts.len()
-        && strings.iter().zip(texts).all(|(string, text)| is_text(string, text))
+        && strings
+            .iter()
+            .zip(texts)
+            .all(|(string, text)| is_text(string, text))
 }
 
 fn is_text(string: &[u32], text: &str) -> bool {
     let bytes = text.as_bytes();
     string.len() == bytes.len()
-        && string.iter().zip(bytes).all(|(c, byte)| *c == u32::from(*byte))
+        && string
+            .iter()
+            .zip(bytes)
+            .all(|(c, byte)| *c == u32::from(*byte))
 }
 
 /// The text, so often.
