@@ -1,19 +1,20 @@
 -- What a value holds.
 use Rattle.std.proofs.Common.{◌≡◌, ℕ, ◌+◌, ◌<◌, ◌≤◌, Vec, Bool, true, false, not, ◌&&◌, ◌||◌, ◌==◌, max, List, [], ◌∷◌, ◌++◌, length, take, get_or, cond, filter, map, Some, None, refl, sym, ap, ap₂, ◌∙◌, subst, append_assoc, append-nil, arith}
 use Rattle.std.proofs.lemmas.Bool.Decides.{nat_tests}
-use Rattle.std.proofs.lemmas.List.{map-append, take_all}
+use Rattle.std.proofs.lemmas.List.{map-append, length-map, take_all}
 use Rattle.std.proofs.lemmas.List.Folds.{list_any_more}
 use Rattle.std.proofs.lemmas.Map.Text.{is_eq-slice_cmp}
 use Rattle.std.specs.Cmp.Lexicographic.{slice_cmp}
 use Rattle.std.specs.List.{list_any}
 use Rattle.std.specs.Ordering.{nat_cmp, is_eq}
 use Rattle.std.specs.Str.{bytes_eq}
+use Rattle.std.specs.Vec.{vec_len}
 use Rattle.std.specs.declared.alloc.Global.{Global}
-use Rattle.regress_base.specs.Intervals.{Bounds, is_within, is_member, IsCanonical, intervals_of, code_point_max}
-use Rattle.regress_base.proofs.laws.Sets.{is_member-nil, is_member-one, is_member-append, canonical_is, or_assoc}
+use Rattle.regress_base.specs.Intervals.{Bounds, is_within, is_member, IsCanonical, IsComplement, intervals_of, code_point_max}
+use Rattle.regress_base.proofs.laws.Sets.{is_member-nil, is_member-one, is_member-append, canonical_is, intervals_of-agree, or_assoc}
 use Rattle.regress_syntax.specs.declared.class_sets.value.Value.{Value as CodeValue}
-use Rattle.regress_syntax.specs.ClassRows.{one_point}
-use Rattle.regress_syntax.specs.ClassSets.{Value, nothing, only, joined, common, without, is_among, value_of_string, value_of_strings}
+use Rattle.regress_syntax.specs.ClassRows.{complement, complement_if, one_point}
+use Rattle.regress_syntax.specs.ClassSets.{Value, nothing, only, joined, nested, common, without, is_among, value_of_string, value_of_strings}
 use Rattle.regress_syntax.specs.Views.{HasMembers, IsValue, strings_of}
 
 -- ---- members of a set
@@ -40,6 +41,15 @@ members_where p new canonical e = record {
   each = λ c. ap (λ (l : List Bounds). is_member l c) (canonical_is new p canonical (λ n h. e n));
 }
 
+pub members_complement : (set others : List Bounds) → IsComplement set others → IsCanonical others → HasMembers (complement set) others
+members_complement set others opposite canonical = record {
+  canonical = canonical;
+  each = λ c. ap (λ (l : List Bounds). is_member l c) (canonical_is others (λ n. not (is_member set n)) canonical opposite);
+}
+
+pub members_same : (set others : List Bounds) → others ≡ set → IsCanonical others → HasMembers set others
+members_same set others e canonical = record { canonical = canonical; each = λ c. ap (λ (l : List Bounds). is_member l c) e }
+
 is_itself : (c n : ℕ) → (n == c) ≡ is_within (record { first = c; last = c }) n
 unfolding is_within
 is_itself c n = grind (arith, nat_tests)
@@ -61,6 +71,12 @@ joined-nothing a = rw (append-nil a.members, append-nil a.strings, max-zero a.le
   where
     max-zero : (i : ℕ) → max i 0 ≡ i
     max-zero i = omega arith
+
+pub nothing-joined : (a : Value) → joined nothing a ≡ a
+nothing-joined a = rw (zero-max a.levels) refl
+  where
+    zero-max : (i : ℕ) → max 0 i ≡ i
+    zero-max i = omega arith
 
 -- the same with one code point more
 pub with_point : (a : Value) (c : ℕ) (old : CodeValue) (set : List Bounds) → IsValue old a → IsCanonical set →
@@ -141,3 +157,26 @@ held_where keep a b old other set strings levels p h k canonical members same ke
       ∙ ap (filter (λ s. keep (is_among b.strings s))) h.strings;
   levels = deep ∙ ap₂ max h.levels k.levels;
 }
+
+-- a class in another one
+pub held_nested : (read : Bool × Value) (negated : Bool) (old : CodeValue) (set : List Bounds) → (negated ≡ read.0) × IsValue old read.1 →
+    HasMembers (complement_if negated old.set) set →
+    IsValue (record { set = set; strings = old.strings; levels = old.levels + 1 }) (nested read)
+held_nested (negated, value) b old set (same, h) members = rw (sym same) (record {
+  members = record {
+    canonical = members.canonical;
+    each = λ c. members.each c ∙ complements b c;
+  };
+  strings = h.strings;
+  levels = ap (λ n. n + 1) h.levels;
+})
+  where
+    complements : (b : Bool) (c : ℕ) → is_member (complement_if b old.set) c ≡ is_member (complement_if b value.members) c
+    complements true c =
+        ap (λ (l : List Bounds). is_member l c) (intervals_of-agree (λ n. not (is_member old.set n)) (λ n. not (is_member value.members n))
+        (λ n le. ap not (h.members.each n)))
+    complements false c = h.members.each c
+
+-- as many strings
+pub same_count : (held : CodeValue) (value : Value) → IsValue held value → vec_len held.strings ≡ length value.strings
+same_count held value h = held.strings.ok.0 ∙ sym (length-map held.strings.items (λ (string : Vec ℕ Global). string.items)) ∙ ap length h.strings

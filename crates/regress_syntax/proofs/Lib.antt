@@ -1,7 +1,10 @@
 pub mod ClassSetExamples
 pub mod laws
+mod ClassContentsLemmas
 mod ClassLemmas
+mod ClassOperandLemmas
 mod ClassSetLemmas
+mod ClassStringLemmas
 mod ConflictLemmas
 mod DigitLemmas
 mod ModifierLemmas

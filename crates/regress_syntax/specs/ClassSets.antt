@@ -138,6 +138,10 @@ property_operand in_negated negated (of_points members, t) = Some (class (only (
 property_operand in_negated negated (of_strings written, t) =
     if in_negated || negated then None else Some (class (value_of_strings written), t)
 
+-- behind `\p` or `\P`
+abbrev pub property_operand_at : Table → (in_negated negated : Bool) → Source → Found Operand
+property_operand_at table in_negated negated t = property_at true table t >>= property_operand in_negated negated
+
 -- an operator: twice the same code point
 abbrev pub are_at : ℕ → Source → Bool
 are_at c t = is_at c t && is_at c (drop 1 t)
@@ -151,7 +155,7 @@ module _ (table : Table) (unicode : Bool) where
         | Some named ↦ Some (class (only (class_members named)), t)
         | None ↦
             if c == 113 then quoted_at unicode t
-            else if c == 112 || c == 80 then property_at true table t >>= property_operand in_negated (c == 80)
+            else if c == 112 || c == 80 then property_operand_at table in_negated (c == 80) t
             else found_map character (escaped_character_at unicode (c ∷ t))
       ]
 

@@ -10,29 +10,8 @@ use Rattle.regress_syntax.specs.Escapes.{escape_at}
 use Rattle.regress_syntax.specs.Properties.{Property, of_points, of_strings, is_property_character, list_named, lone_value, value_in, closed_property, braced_property_at, property_at}
 use Rattle.regress_syntax.specs.ClassRows.{class_letter, class_members, one_point, complement_if, points_between}
 use Rattle.regress_syntax.specs.ClassSets.{Value, nothing, only, joined, common, without, value_of_strings, nested, unless_of_strings, Operand, character, class, value_of, is_set_syntax, is_double, begins_double, is_reserved, escaped_character_at, set_character_at, strings_by, quoted_at, property_operand, escaped_operand_at, operand_at, range_of, range_at, part_behind, parts_by, parts_at, are_at, operands_by, operands_at, contents_behind, contents_at, class_set_by, class_set_at}
+use Rattle.regress_syntax.proofs.laws.Pieces.{property_at-ends}
 use Rattle.regress_syntax.proofs.laws.Behind.{IsBehind, behind_same, behind_drop, behind_behind, behind_front, behind_shorter, Ends, ends_none, ends_some, ends_behind, ends_more, ends_then, ends_map, ends_cond, escape_at-ends}
-
--- ---- what stands behind a property
-
-closed_property-ends : (found : Option Property) (t : Source) → Ends (closed_property found t) t
-closed_property-ends None t = ends_none t
-closed_property-ends (Some property) t = ends_cond (is_at 125 t) _ _ t (ends_some (property, drop 1 t) t (behind_drop 1 t)) (ends_none t)
-
-braced_property_at-ends : (sets : Bool) (table : Table) (t : Source) → Ends (braced_property_at sets table t) t
-braced_property_at-ends sets table t =
-    let rest = behind is_property_character t in
-    let last = behind is_property_character (drop 1 rest) in
-    ends_cond (is_at 61 rest) _ _ t
-    (ends_behind _ t last
-    (behind_behind _ _ _ (behind_front is_property_character t)
-    (behind_behind _ _ _ (behind_drop 1 rest) (behind_front is_property_character (drop 1 rest))))
-    (closed_property-ends _ last))
-    (ends_behind _ t rest (behind_front is_property_character t) (closed_property-ends _ rest))
-
-property_at-ends : (sets : Bool) (table : Table) (t : Source) → Ends (property_at sets table t) t
-unfolding property_at
-property_at-ends sets table t =
-    ends_cond (is_at 123 t) _ _ t (ends_behind _ t (drop 1 t) (behind_drop 1 t) (braced_property_at-ends sets table (drop 1 t))) (ends_none t)
 
 -- ---- what stands behind an operand
 

@@ -1,5 +1,5 @@
--- The strings of a class with the flag v, and those of a property, are of code points.
-use Rattle.std.proofs.Common.{◌≡◌, ℕ, zero, suc, ◌+◌, ◌≤◌, Bool, true, false, not, ◌&&◌, ◌||◌, ◌==◌, nat_le, nat_lt, IsTrue, cond, List, [], ◌∷◌, ◌++◌, length, drop, filter, Option, Some, None, refl, subst, arith, leb-true}
+-- The strings of a class with the flag v, and those of a property, are of code points. Classes lie in it no deeper than the bound.
+use Rattle.std.proofs.Common.{◌≡◌, ℕ, zero, suc, ◌+◌, ◌<◌, ◌≤◌, Bool, true, false, not, ◌&&◌, ◌||◌, ◌==◌, nat_le, nat_lt, IsTrue, cond, List, [], ◌∷◌, ◌++◌, length, drop, filter, Option, Some, None, refl, subst, arith, leb-true}
 use Rattle.std.proofs.lemmas.List.Elements.{All-head, All-nil, All-cons, All-append, All-drop, All-filter}
 use Rattle.std.specs.List.{All, list_all}
 use Rattle.std.specs.Option.{IfSome, option_map, option_or}
@@ -29,9 +29,17 @@ PropertyInRange (of_strings written) = OfCodePoints written
 abbrev pub ValueInRange : Value → Type 0
 ValueInRange value = OfCodePoints value.strings
 
-abbrev pub OperandInRange : Operand → Type 0
-OperandInRange (character c) = IsCodePoint c
-OperandInRange (class value) = ValueInRange value
+-- What holds of a value by its operands: of code points, of strings of them, and of what is made of two such values.
+record IsKept (P : Value → Type 0) : Type 0 where
+  points : (members : List Bounds) → P (only members)
+  strings : (ss : List (List ℕ)) → OfCodePoints ss → P (value_of_strings ss)
+  joins : (a b : Value) → P a → P b → P (joined a b)
+  intersects : (a b : Value) → P a → P b → P (common a b)
+  subtracts : (a b : Value) → P a → P b → P (without a b)
+
+abbrev Holds : (Value → Type 0) → Operand → Type 0
+Holds P (character c) = IsCodePoint c
+Holds P (class value) = P value
 
 -- ---- properties
 
@@ -116,31 +124,7 @@ finds_map : {A B : Type 0} (P : A → Type 0) (Q : B → Type 0) (f : A → B) (
 finds_map P Q f None k h = finds_none Q
 finds_map P Q f (Some x) k h = finds_some Q (f x.0, x.1) (k x.0 (h.each x refl))
 
-value_of_string-in_range : (s : List ℕ) → All IsCodePoint s → ValueInRange (value_of_string s)
-value_of_string-in_range [] all = All-nil _
-value_of_string-in_range (c ∷ []) all = All-nil _
-value_of_string-in_range (c ∷ d ∷ cs) all = All-cons (All IsCodePoint) (c ∷ d ∷ cs) [] all (All-nil _)
-
-joined-in_range : (a b : Value) → ValueInRange a → ValueInRange b → ValueInRange (joined a b)
-joined-in_range a b h k = All-append (All IsCodePoint) a.strings b.strings h k
-
-value_of_strings-in_range : (ss : List (List ℕ)) → OfCodePoints ss → ValueInRange (value_of_strings ss)
-value_of_strings-in_range [] h = All-nil _
-value_of_strings-in_range (s ∷ ss) h =
-    joined-in_range (value_of_string s) (value_of_strings ss) (value_of_string-in_range s (All-head (All IsCodePoint) s ss h))
-    (value_of_strings-in_range ss (All-drop (All IsCodePoint) 1 (s ∷ ss) h))
-
-common-in_range : (a b : Value) → ValueInRange a → ValueInRange b → ValueInRange (common a b)
-common-in_range a b h k = All-filter (is_among b.strings) (All IsCodePoint) a.strings h
-
-without-in_range : (a b : Value) → ValueInRange a → ValueInRange b → ValueInRange (without a b)
-without-in_range a b h k = All-filter (λ s. not (is_among b.strings s)) (All IsCodePoint) a.strings h
-
-value_of-in_range : (x : Operand) → OperandInRange x → ValueInRange (value_of x)
-value_of-in_range (character c) h = All-nil _
-value_of-in_range (class value) h = h
-
--- ---- operands
+-- ---- characters and strings
 
 escaped_character_at-in_range : (unicode : Bool) (t : Source) → All IsCodePoint t → Finds IsCodePoint (escaped_character_at unicode t)
 escaped_character_at-in_range unicode [] all = finds_none _
@@ -173,138 +157,204 @@ strings_by-in_range (suc n) unicode s t h all =
     (λ x c_in rest. strings_by-in_range n unicode (s ++ x.0 ∷ []) x.1
     (All-append IsCodePoint s (x.0 ∷ []) h (All-cons IsCodePoint x.0 [] c_in (All-nil _))) rest)))
 
-quoted_at-in_range : (unicode : Bool) (t : Source) → All IsCodePoint t → Finds OperandInRange (quoted_at unicode t)
-quoted_at-in_range unicode t all =
-    finds_cond _ (is_at 123 t) _ _
-    (λ _. finds_map OfCodePoints OperandInRange _ (strings_by (length t) unicode [] (drop 1 t)) value_of_strings-in_range
-    (strings_by-in_range (length t) unicode [] (drop 1 t) (All-nil _) (All-drop IsCodePoint 1 t all)))
-    (λ _. finds_none _)
+-- ---- whatever is kept
 
-property_operand-in_range : (in_negated negated : Bool) (x : Property × Source) → PropertyInRange x.0 →
-    Finds OperandInRange (property_operand in_negated negated x)
-property_operand-in_range in_negated negated (of_points members, t) h = finds_some _ (class (only (complement_if negated members)), t) (All-nil _)
-property_operand-in_range in_negated negated (of_strings written, t) h =
-    finds_cond _ (in_negated || negated) _ _ (λ _. finds_none _)
-    (λ _. finds_some _ (class (value_of_strings written), t) (value_of_strings-in_range written h))
+module _ (P : Value → Type 0) (kept : IsKept P) where
+  value_of-kept : (x : Operand) → Holds P x → P (value_of x)
+  value_of-kept (character c) h = kept.points (one_point c)
+  value_of-kept (class value) h = h
+
+  quoted_at-kept : (unicode : Bool) (t : Source) → All IsCodePoint t → Finds (Holds P) (quoted_at unicode t)
+  quoted_at-kept unicode t all =
+      finds_cond _ (is_at 123 t) _ _
+      (λ _. finds_map OfCodePoints (Holds P) _ (strings_by (length t) unicode [] (drop 1 t)) kept.strings
+      (strings_by-in_range (length t) unicode [] (drop 1 t) (All-nil _) (All-drop IsCodePoint 1 t all)))
+      (λ _. finds_none _)
+
+  property_operand-kept : (in_negated negated : Bool) (x : Property × Source) → PropertyInRange x.0 →
+      Finds (Holds P) (property_operand in_negated negated x)
+  property_operand-kept in_negated negated (of_points members, t) h =
+      finds_some _ (class (only (complement_if negated members)), t) (kept.points (complement_if negated members))
+  property_operand-kept in_negated negated (of_strings written, t) h =
+      finds_cond _ (in_negated || negated) _ _ (λ _. finds_none _)
+      (λ _. finds_some _ (class (value_of_strings written), t) (kept.strings written h))
+
+  module _ (table : Table) (lawful : IsLawful table) (unicode : Bool) where
+    escaped_operand_at-kept : (in_negated : Bool) (t : Source) → All IsCodePoint t →
+        Finds (Holds P) (escaped_operand_at table unicode in_negated t)
+    escaped_operand_at-kept in_negated [] all = finds_none _
+    escaped_operand_at-kept in_negated (c ∷ t) all =
+        elim (class_letter c) as (λ named. Finds (Holds P) (elim named as (λ _. Found Operand) [
+          | Some name ↦ Some (class (only (class_members name)), t)
+          | None ↦ cond (c == 113) (quoted_at unicode t)
+              (cond (c == 112 || c == 80) (property_at true table t >>= property_operand in_negated (c == 80))
+              (found_map character (escaped_character_at unicode (c ∷ t))))
+        ])) [
+          | Some name ↦ finds_some _ (class (only (class_members name)), t) (kept.points (class_members name))
+          | None ↦
+              finds_cond _ (c == 113) _ _ (λ _. quoted_at-kept unicode t (All-drop IsCodePoint 1 (c ∷ t) all))
+              (λ _. finds_cond _ (c == 112 || c == 80) _ _
+              (λ _. finds_then PropertyInRange (Holds P) (property_at true table t) _ (property_at-in_range table lawful true t)
+              (property_operand-kept in_negated (c == 80)))
+              (λ _. finds_map IsCodePoint (Holds P) character _ (λ d h. h) (escaped_character_at-in_range unicode (c ∷ t) all)))
+        ]
+
+    module _ (inner : Source → Found (Bool × Value)) (inner_ends : (t : Source) → Ends (inner t) t)
+        (I : Bool × Value → Type 0) (nest : (found : Bool × Value) → I found → P (nested found))
+        (inner_in : (t : Source) → All IsCodePoint t → Finds I (inner t)) (in_negated : Bool) where
+      operand_at-kept : (t : Source) → All IsCodePoint t → Finds (Holds P) (operand_at table unicode inner in_negated t)
+      unfolding operand_at
+      operand_at-kept t all =
+          let rest = All-drop IsCodePoint 1 t all in
+          finds_cond _ (is_at 91 t) _ _
+          (λ _. finds_map I (Holds P) _ (inner (drop 1 t)) nest (inner_in (drop 1 t) rest))
+          (λ _. finds_cond _ (is_at 92 t) _ _ (λ _. escaped_operand_at-kept in_negated (drop 1 t) rest)
+          (λ _. finds_map IsCodePoint (Holds P) character (set_character_at unicode t) (λ c h. h) (set_character_at-in_range unicode t all)))
+
+      made-kept : (made : Option (List Bounds)) (t : Source) →
+          Finds P (elim made as (λ _. Found Value) [ None ↦ None | Some members ↦ Some (only members, t) ])
+      made-kept None t = finds_none _
+      made-kept (Some members) t = finds_some _ (only members, t) (kept.points members)
+
+      part_behind-kept : (x : Operand × Source) → Holds P x.0 → All IsCodePoint x.1 →
+          Finds P (part_behind table unicode inner in_negated x)
+      part_behind-kept (first, t) h all =
+          finds_cond _ (is_at 45 t) _ _
+          (λ _. finds_then (Holds P) P (operand_at table unicode inner in_negated (drop 1 t)) _
+          (operand_at-kept (drop 1 t) (All-drop IsCodePoint 1 t all)) (λ x _. made-kept (range_of first x.0) x.1))
+          (λ _. finds_some _ (value_of first, t) (value_of-kept first h))
+
+      operand_ends : (t : Source) → Ends (operand_at table unicode inner in_negated t) t
+      operand_ends = operand_at-ends table unicode inner inner_ends in_negated
+
+      behind_ends : (x : Operand × Source) → Ends (part_behind table unicode inner in_negated x) x.1
+      behind_ends = part_behind-ends table unicode inner inner_ends in_negated
+
+      parts_by-kept : (n : ℕ) (value : Value) (t : Source) → P value → All IsCodePoint t →
+          Finds P (parts_by table unicode inner in_negated n value t)
+      unfolding parts_by
+      parts_by-kept zero value t h all = finds_none _
+      parts_by-kept (suc n) value t h all =
+          finds_cond _ (is_at 93 t) _ _ (λ _. finds_some _ (value, drop 1 t) h)
+          (λ _. finds_next P P _ _ t
+          (finds_next (Holds P) P (operand_at table unicode inner in_negated t) _ t (operand_at-kept t all) (operand_ends t) all
+          part_behind-kept)
+          (ends_then _ _ t (operand_ends t) behind_ends) all
+          (λ x k rest. parts_by-kept n (joined value x.0) x.1 (kept.joins value x.0 h k) rest))
+
+      operands_by-kept : (n c : ℕ) (f : Value → Value → Value) (value : Value) (t : Source) →
+          ((a b : Value) → P a → P b → P (f a b)) → P value → All IsCodePoint t →
+          Finds P (operands_by table unicode inner in_negated n c f value t)
+      unfolding operands_by
+      operands_by-kept zero c f value t keeps h all = finds_none _
+      operands_by-kept (suc n) c f value t keeps h all =
+          finds_next (Holds P) P (operand_at table unicode inner in_negated t) _ t (operand_at-kept t all) (operand_ends t) all
+          (λ x k rest.
+          let made = keeps value (value_of x.0) h (value_of-kept x.0 k) in
+          finds_cond _ (is_at 93 x.1) _ _ (λ _. finds_some _ (f value (value_of x.0), drop 1 x.1) made)
+          (λ _. finds_cond _ (are_at c x.1) _ _
+          (λ _. operands_by-kept n c f (f value (value_of x.0)) (drop 2 x.1) keeps made (All-drop IsCodePoint 2 x.1 rest))
+          (λ _. finds_none _)))
+
+      contents_behind-kept : (x : Operand × Source) → Holds P x.0 → All IsCodePoint x.1 →
+          Finds P (contents_behind table unicode inner in_negated x)
+      contents_behind-kept (first, t) h all =
+          let held = value_of-kept first h in
+          let one = All-drop IsCodePoint 1 t all in
+          let two = All-drop IsCodePoint 2 t all in
+          finds_cond _ (are_at 38 t) _ _
+          (λ _. operands_by-kept _ 38 common (value_of first) (drop 2 t) kept.intersects held two)
+          (λ _. finds_cond _ (are_at 45 t) _ _
+          (λ _. operands_by-kept _ 45 without (value_of first) (drop 2 t) kept.subtracts held two)
+          (λ _. finds_cond _ (is_at 38 t) _ _
+          (λ _. parts_by-kept _ (joined (value_of first) (only (one_point 38))) (drop 1 t)
+          (kept.joins (value_of first) (only (one_point 38)) held (kept.points (one_point 38))) one)
+          (λ _. finds_next P P (part_behind table unicode inner in_negated (first, t)) _ t
+          (part_behind-kept (first, t) h all) (behind_ends (first, t)) all
+          (λ x k rest. parts_by-kept (length x.1 + 1) x.0 x.1 k rest))))
+
+      contents_at-kept : (t : Source) → All IsCodePoint t → Finds P (contents_at table unicode inner in_negated t)
+      contents_at-kept t all =
+          finds_cond _ (is_at 93 t) _ _ (λ _. finds_some _ (nothing, drop 1 t) (kept.points []))
+          (λ _. finds_next (Holds P) P (operand_at table unicode inner in_negated t) _ t (operand_at-kept t all) (operand_ends t) all
+          contents_behind-kept)
+
+inside-in_range : (t : Source) → All IsCodePoint t → All IsCodePoint (cond (is_at 94 t) (drop 1 t) t)
+inside-in_range t all =
+    elim (is_at 94 t) as (λ b. All IsCodePoint (cond b (drop 1 t) t)) [ true ↦ All-drop IsCodePoint 1 t all | false ↦ all ]
+
+unless_of_strings-kept : (P : Value → Type 0) (negated : Bool) (x : Value × Source) → P x.0 →
+    Finds (λ found. P found.1) (unless_of_strings negated x)
+unless_of_strings-kept P negated (v, t) h =
+    finds_cond _ (negated && not (length v.strings == 0)) _ _ (λ _. finds_none _) (λ _. finds_some _ ((negated, v), t) h)
+
+-- ---- strings of code points
+
+value_of_string-in_range : (s : List ℕ) → All IsCodePoint s → ValueInRange (value_of_string s)
+value_of_string-in_range [] all = All-nil _
+value_of_string-in_range (c ∷ []) all = All-nil _
+value_of_string-in_range (c ∷ d ∷ cs) all = All-cons (All IsCodePoint) (c ∷ d ∷ cs) [] all (All-nil _)
+
+value_of_strings-in_range : (ss : List (List ℕ)) → OfCodePoints ss → ValueInRange (value_of_strings ss)
+value_of_strings-in_range [] h = All-nil _
+value_of_strings-in_range (s ∷ ss) h =
+    All-append (All IsCodePoint) (value_of_string s).strings (value_of_strings ss).strings
+    (value_of_string-in_range s (All-head (All IsCodePoint) s ss h))
+    (value_of_strings-in_range ss (All-drop (All IsCodePoint) 1 (s ∷ ss) h))
+
+strings_kept : IsKept ValueInRange
+strings_kept = record {
+  points = λ members. All-nil _;
+  strings = value_of_strings-in_range;
+  joins = λ a b. All-append (All IsCodePoint) a.strings b.strings;
+  intersects = λ a b h k. All-filter (is_among b.strings) (All IsCodePoint) a.strings h;
+  subtracts = λ a b h k. All-filter (λ s. not (is_among b.strings s)) (All IsCodePoint) a.strings h;
+}
+
+-- ---- levels
+
+level_of_string : (s : List ℕ) → (value_of_string s).levels ≡ 0
+level_of_string [] = refl
+level_of_string (c ∷ []) = refl
+level_of_string (c ∷ d ∷ cs) = refl
+
+level_of_strings : (ss : List (List ℕ)) → (value_of_strings ss).levels ≡ 0
+level_of_strings [] = refl
+level_of_strings (s ∷ ss) = omega (arith, level_of_string s, level_of_strings ss)
+
+levels_kept : (n : ℕ) → IsKept (λ value. value.levels ≤ n)
+levels_kept n = record {
+  points = λ members. omega arith;
+  strings = λ ss h. omega (arith, level_of_strings ss);
+  joins = λ a b h k. omega (arith, h, k);
+  intersects = λ a b h k. omega (arith, h, k);
+  subtracts = λ a b h k. omega (arith, h, k);
+}
+
+-- ---- classes
 
 module _ (table : Table) (lawful : IsLawful table) (unicode : Bool) where
-  escaped_operand_at-in_range : (in_negated : Bool) (t : Source) → All IsCodePoint t →
-      Finds OperandInRange (escaped_operand_at table unicode in_negated t)
-  escaped_operand_at-in_range in_negated [] all = finds_none _
-  escaped_operand_at-in_range in_negated (c ∷ t) all =
-      elim (class_letter c) as (λ named. Finds OperandInRange (elim named as (λ _. Found Operand) [
-        | Some name ↦ Some (class (only (class_members name)), t)
-        | None ↦ cond (c == 113) (quoted_at unicode t)
-            (cond (c == 112 || c == 80) (property_at true table t >>= property_operand in_negated (c == 80))
-            (found_map character (escaped_character_at unicode (c ∷ t))))
-      ])) [
-        | Some name ↦ finds_some _ (class (only (class_members name)), t) (All-nil _)
-        | None ↦
-            finds_cond _ (c == 113) _ _ (λ _. quoted_at-in_range unicode t (All-drop IsCodePoint 1 (c ∷ t) all))
-            (λ _. finds_cond _ (c == 112 || c == 80) _ _
-            (λ _. finds_then PropertyInRange OperandInRange (property_at true table t) _ (property_at-in_range table lawful true t)
-            (property_operand-in_range in_negated (c == 80)))
-            (λ _. finds_map IsCodePoint OperandInRange character _ (λ d h. h) (escaped_character_at-in_range unicode (c ∷ t) all)))
-      ]
-
-  module _ (inner : Source → Found (Bool × Value)) (inner_ends : (t : Source) → Ends (inner t) t)
-      (inner_in : (t : Source) → All IsCodePoint t → Finds (λ found. ValueInRange found.1) (inner t)) (in_negated : Bool) where
-    operand_at-in_range : (t : Source) → All IsCodePoint t → Finds OperandInRange (operand_at table unicode inner in_negated t)
-    unfolding operand_at
-    operand_at-in_range t all =
-        let rest = All-drop IsCodePoint 1 t all in
-        finds_cond _ (is_at 91 t) _ _
-        (λ _. finds_map (λ found. ValueInRange found.1) OperandInRange _ (inner (drop 1 t)) (λ found h. h) (inner_in (drop 1 t) rest))
-        (λ _. finds_cond _ (is_at 92 t) _ _ (λ _. escaped_operand_at-in_range in_negated (drop 1 t) rest)
-        (λ _. finds_map IsCodePoint OperandInRange character (set_character_at unicode t) (λ c h. h) (set_character_at-in_range unicode t all)))
-
-    made-in_range : (made : Option (List Bounds)) (t : Source) →
-        Finds ValueInRange (elim made as (λ _. Found Value) [ None ↦ None | Some members ↦ Some (only members, t) ])
-    made-in_range None t = finds_none _
-    made-in_range (Some members) t = finds_some _ (only members, t) (All-nil _)
-
-    part_behind-in_range : (x : Operand × Source) → OperandInRange x.0 → All IsCodePoint x.1 →
-        Finds ValueInRange (part_behind table unicode inner in_negated x)
-    part_behind-in_range (first, t) h all =
-        finds_cond _ (is_at 45 t) _ _
-        (λ _. finds_then OperandInRange ValueInRange (operand_at table unicode inner in_negated (drop 1 t)) _
-        (operand_at-in_range (drop 1 t) (All-drop IsCodePoint 1 t all)) (λ x _. made-in_range (range_of first x.0) x.1))
-        (λ _. finds_some _ (value_of first, t) (value_of-in_range first h))
-
-    operand_ends : (t : Source) → Ends (operand_at table unicode inner in_negated t) t
-    operand_ends = operand_at-ends table unicode inner inner_ends in_negated
-
-    behind_ends : (x : Operand × Source) → Ends (part_behind table unicode inner in_negated x) x.1
-    behind_ends = part_behind-ends table unicode inner inner_ends in_negated
-
-    parts_by-in_range : (n : ℕ) (value : Value) (t : Source) → ValueInRange value → All IsCodePoint t →
-        Finds ValueInRange (parts_by table unicode inner in_negated n value t)
-    unfolding parts_by
-    parts_by-in_range zero value t h all = finds_none _
-    parts_by-in_range (suc n) value t h all =
-        finds_cond _ (is_at 93 t) _ _ (λ _. finds_some _ (value, drop 1 t) h)
-        (λ _. finds_next ValueInRange ValueInRange _ _ t
-        (finds_next OperandInRange ValueInRange (operand_at table unicode inner in_negated t) _ t (operand_at-in_range t all) (operand_ends t) all
-        part_behind-in_range)
-        (ends_then _ _ t (operand_ends t) behind_ends) all
-        (λ x k rest. parts_by-in_range n (joined value x.0) x.1 (joined-in_range value x.0 h k) rest))
-
-    operands_by-in_range : (n c : ℕ) (f : Value → Value → Value) (value : Value) (t : Source) →
-        ((a b : Value) → ValueInRange a → ValueInRange b → ValueInRange (f a b)) → ValueInRange value → All IsCodePoint t →
-        Finds ValueInRange (operands_by table unicode inner in_negated n c f value t)
-    unfolding operands_by
-    operands_by-in_range zero c f value t keeps h all = finds_none _
-    operands_by-in_range (suc n) c f value t keeps h all =
-        finds_next OperandInRange ValueInRange (operand_at table unicode inner in_negated t) _ t (operand_at-in_range t all) (operand_ends t) all
-        (λ x k rest.
-        let made = keeps value (value_of x.0) h (value_of-in_range x.0 k) in
-        finds_cond _ (is_at 93 x.1) _ _ (λ _. finds_some _ (f value (value_of x.0), drop 1 x.1) made)
-        (λ _. finds_cond _ (are_at c x.1) _ _
-        (λ _. operands_by-in_range n c f (f value (value_of x.0)) (drop 2 x.1) keeps made (All-drop IsCodePoint 2 x.1 rest))
-        (λ _. finds_none _)))
-
-    contents_behind-in_range : (x : Operand × Source) → OperandInRange x.0 → All IsCodePoint x.1 →
-        Finds ValueInRange (contents_behind table unicode inner in_negated x)
-    contents_behind-in_range (first, t) h all =
-        let held = value_of-in_range first h in
-        let one = All-drop IsCodePoint 1 t all in
-        let two = All-drop IsCodePoint 2 t all in
-        finds_cond _ (are_at 38 t) _ _
-        (λ _. operands_by-in_range _ 38 common (value_of first) (drop 2 t) common-in_range held two)
-        (λ _. finds_cond _ (are_at 45 t) _ _
-        (λ _. operands_by-in_range _ 45 without (value_of first) (drop 2 t) without-in_range held two)
-        (λ _. finds_cond _ (is_at 38 t) _ _
-        (λ _. parts_by-in_range _ (joined (value_of first) (only (one_point 38))) (drop 1 t)
-        (joined-in_range (value_of first) (only (one_point 38)) held (All-nil _)) one)
-        (λ _. finds_next ValueInRange ValueInRange (part_behind table unicode inner in_negated (first, t)) _ t
-        (part_behind-in_range (first, t) h all) (behind_ends (first, t)) all
-        (λ x k rest. parts_by-in_range (length x.1 + 1) x.0 x.1 k rest))))
-
-    contents_at-in_range : (t : Source) → All IsCodePoint t → Finds ValueInRange (contents_at table unicode inner in_negated t)
-    contents_at-in_range t all =
-        finds_cond _ (is_at 93 t) _ _ (λ _. finds_some _ (nothing, drop 1 t) (All-nil _))
-        (λ _. finds_next OperandInRange ValueInRange (operand_at table unicode inner in_negated t) _ t (operand_at-in_range t all) (operand_ends t) all
-        contents_behind-in_range)
-
-  unless_of_strings-in_range : (negated : Bool) (x : Value × Source) → ValueInRange x.0 →
-      Finds (λ found. ValueInRange found.1) (unless_of_strings negated x)
-  unless_of_strings-in_range negated (v, t) h =
-      finds_cond _ (negated && not (length v.strings == 0)) _ _ (λ _. finds_none _) (λ _. finds_some _ ((negated, v), t) h)
-
-  inside-in_range : (t : Source) → All IsCodePoint t → All IsCodePoint (cond (is_at 94 t) (drop 1 t) t)
-  inside-in_range t all =
-      elim (is_at 94 t) as (λ b. All IsCodePoint (cond b (drop 1 t) t)) [ true ↦ All-drop IsCodePoint 1 t all | false ↦ all ]
-
-  pub class_set_by-in_range : (n : ℕ) (t : Source) → All IsCodePoint t → Finds (λ found. ValueInRange found.1) (class_set_by table unicode n t)
+  class_set_by-in_range : (n : ℕ) (t : Source) → All IsCodePoint t → Finds (λ found. ValueInRange found.1) (class_set_by table unicode n t)
   unfolding class_set_by
   class_set_by-in_range zero t all = finds_none _
   class_set_by-in_range (suc n) t all =
       finds_then ValueInRange _ _ _
-      (contents_at-in_range (class_set_by table unicode n) (class_set_by-ends table unicode n) (class_set_by-in_range n) (is_at 94 t)
-      (cond (is_at 94 t) (drop 1 t) t) (inside-in_range t all))
-      (unless_of_strings-in_range (is_at 94 t))
+      (contents_at-kept ValueInRange strings_kept table lawful unicode (class_set_by table unicode n) (class_set_by-ends table unicode n)
+      (λ found. ValueInRange found.1) (λ found h. h) (class_set_by-in_range n) (is_at 94 t) (cond (is_at 94 t) (drop 1 t) t) (inside-in_range t all))
+      (unless_of_strings-kept ValueInRange (is_at 94 t))
 
   -- the strings that a class holds
   pub class_set_at-in_range : (t : Source) → All IsCodePoint t →
       Finds (λ found. All (All IsCodePoint) found.1.strings) (class_set_at table unicode t)
   class_set_at-in_range t all = class_set_by-in_range max_nesting_depth t all
+
+  -- how deep classes lie in it
+  pub class_set_by-levels : (n : ℕ) (t : Source) → All IsCodePoint t → Finds (λ found. found.1.levels < n) (class_set_by table unicode n t)
+  unfolding class_set_by
+  class_set_by-levels zero t all = finds_none _
+  class_set_by-levels (suc n) t all =
+      finds_then (λ value. value.levels ≤ n) _ _ _
+      (contents_at-kept (λ value. value.levels ≤ n) (levels_kept n) table lawful unicode (class_set_by table unicode n)
+      (class_set_by-ends table unicode n) (λ found. found.1.levels < n) (λ found h. omega (arith, h)) (class_set_by-levels n) (is_at 94 t)
+      (cond (is_at 94 t) (drop 1 t) t) (inside-in_range t all))
+      (λ x h. unless_of_strings-kept (λ value. value.levels < suc n) (is_at 94 t) x (omega (arith, h)))

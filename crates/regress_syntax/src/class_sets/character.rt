@@ -25,43 +25,15 @@ const SET_SYNTAX: [u32; 10] = [
 
 /// Those that stand for themselves, but not before another of these.
 const DOUBLES: [u32; 19] = [
-    '&' as u32,
-    '!' as u32,
-    '#' as u32,
-    '$' as u32,
-    '%' as u32,
-    '*' as u32,
-    '+' as u32,
-    ',' as u32,
-    '.' as u32,
-    ':' as u32,
-    ';' as u32,
-    '<' as u32,
-    '=' as u32,
-    '>' as u32,
-    '?' as u32,
-    '@' as u32,
-    '^' as u32,
-    '`' as u32,
-    '~' as u32,
+    '&' as u32, '!' as u32, '#' as u32, '$' as u32, '%' as u32, '*' as u32, '+' as u32, ',' as u32,
+    '.' as u32, ':' as u32, ';' as u32, '<' as u32, '=' as u32, '>' as u32, '?' as u32, '@' as u32,
+    '^' as u32, '`' as u32, '~' as u32,
 ];
 
 /// Those that stand for themselves behind a backslash, beside those of any escape.
 const RESERVED: [u32; 14] = [
-    '&' as u32,
-    '-' as u32,
-    '!' as u32,
-    '#' as u32,
-    '%' as u32,
-    ',' as u32,
-    ':' as u32,
-    ';' as u32,
-    '<' as u32,
-    '=' as u32,
-    '>' as u32,
-    '@' as u32,
-    '`' as u32,
-    '~' as u32,
+    '&' as u32, '-' as u32, '!' as u32, '#' as u32, '%' as u32, ',' as u32, ':' as u32, ';' as u32,
+    '<' as u32, '=' as u32, '>' as u32, '@' as u32, '`' as u32, '~' as u32,
 ];
 
 /// Reads a character (this project's profile of ECMA-262, ClassSetCharacter). The fault comes where a code point doesn't
@@ -84,10 +56,7 @@ pub(super) fn read_set_character(cursor: &mut Cursor, unicode: bool) -> Result<u
 }
 
 /// Reads the escape of a character, behind its backslash.
-pub(super) fn read_escaped_character(
-    cursor: &mut Cursor,
-    unicode: bool,
-) -> Result<u32, ParseFault>
+pub(super) fn read_escaped_character(cursor: &mut Cursor, unicode: bool) -> Result<u32, ParseFault>
     ensures value { Reads (λ c. c) (source cursor.new) result (escaped_character_at unicode (source cursor.old)) }
     ensures in_range { IfOk result IsCodePoint }
 {

@@ -1,5 +1,5 @@
 -- A turn adds one string.
-use Rattle.std.proofs.Common.{◌≡◌, ap, ◌∙◌}
+use Rattle.std.proofs.Common.{◌∙◌}
 use Rattle.regress_syntax.proofs.ClassSetLemmas.{one_more_string, all_strings}
 use Rattle.regress_syntax.proofs.class_sets.value.string_set.Goals as goal
 

@@ -1,5 +1,4 @@
-use Rattle.std.proofs.Common.{◌≡◌, ℕ, ◌||◌, ◌==◌, List, get_or, sym, ap, subst, arith, ◌∙◌}
-use Rattle.regress_base.specs.Intervals.{is_member}
+use Rattle.std.proofs.Common.{get_or, sym, ap, subst, arith, ◌∙◌}
 use Rattle.regress_syntax.specs.ClassSets.{Value, joined, value_of_string}
 use Rattle.regress_syntax.specs.Views.{IsValue}
 use Rattle.regress_syntax.proofs.ClassSetLemmas.{with_point, one_character}

@@ -1,7 +1,4 @@
-use Rattle.std.proofs.Common.{◌≡◌, ◌&&◌, not, max, List, ap, ◌∙◌}
-use Rattle.std.specs.BTreeSet.{contains_by}
-use Rattle.std.specs.Cmp.Lexicographic.{slice_cmp}
-use Rattle.std.specs.Ordering.{nat_cmp}
+use Rattle.std.proofs.Common.{◌&&◌, not, max, List, ap, ◌∙◌}
 use Rattle.regress_base.specs.Intervals.{Bounds, is_member}
 use Rattle.regress_syntax.specs.ClassSets.{is_among}
 use Rattle.regress_syntax.specs.Views.{strings_of}

@@ -1,4 +1,4 @@
-use Rattle.std.proofs.Common.{◌≡◌, ◌||◌, ◌++◌, max, List, ap, ap₂, ◌∙◌}
+use Rattle.std.proofs.Common.{◌||◌, ◌++◌, max, List, ap, ap₂, ◌∙◌}
 use Rattle.std.proofs.lemmas.List.{map-append}
 use Rattle.regress_base.specs.Intervals.{Bounds, is_member}
 use Rattle.regress_syntax.specs.Views.{strings_of}

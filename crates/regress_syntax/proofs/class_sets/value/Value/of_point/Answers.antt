@@ -1,4 +1,4 @@
-use Rattle.std.proofs.Common.{◌≡◌, ℕ, ◌||◌, ◌==◌, List, [], ap, sym, ◌∙◌}
+use Rattle.std.proofs.Common.{◌||◌, ◌==◌, List, ap, ◌∙◌}
 use Rattle.regress_base.specs.Intervals.{Bounds, is_member}
 use Rattle.regress_base.proofs.laws.Sets.{is_member-nil}
 use Rattle.regress_syntax.specs.ClassRows.{one_point}
