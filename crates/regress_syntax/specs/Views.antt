@@ -1,7 +1,6 @@
 -- What the values of the code stand for.
 use Rattle.std.specs.Prelude.{◌≡◌, ◌≢◌, ℕ, Vec, Bool, ◌||◌, List, [], map, Option, option_map, if◌then◌else◌}
 use Rattle.std.specs.declared.alloc.Global.{Global}
-
 use Rattle.regress_base.specs.Intervals.{Bounds, is_member, IsCanonical}
 use Rattle.regress_base.specs.declared.types.Flags.{Flags}
 use Rattle.regress_tree.specs.Reading.{Direction, forwards, backwards}
