@@ -136,12 +136,7 @@ fn each_status_comes_with_its_output(rt: HostRuntime) -> Result<(), Fail> {
             "",
         ),
         (&["\\x4", "u"], 1, "", "error: Invalid character escape\n"),
-        (
-            &["\\p{L}", "u"],
-            1,
-            "",
-            "error: Invalid property name\n",
-        ),
+        (&["\\p{L}", "u"], 1, "", "error: Invalid property name\n"),
         (
             &["[ab]", "musv"],
             0,

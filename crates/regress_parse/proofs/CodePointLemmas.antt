@@ -7,7 +7,7 @@ use Rattle.regress_base.specs.Intervals.{Bounds}
 use Rattle.regress_base.specs.declared.charclasses.CharacterClassType.{CharacterClassType}
 use Rattle.regress_tree.specs.Table.{Table, IsLawful}
 use Rattle.regress_syntax.specs.ClassRows.{complement, class_letter, class_at}
-use Rattle.regress_syntax.specs.ClassSets.{Value, class_set_at}
+use Rattle.regress_syntax.specs.ClassSets.{Value}
 use Rattle.regress_syntax.specs.Digits.{is_between, is_decimal, digit, number_from, number, front}
 use Rattle.regress_syntax.specs.Escapes.{escape_at}
 use Rattle.regress_syntax.specs.Modifiers.{Change, modifiers_at}

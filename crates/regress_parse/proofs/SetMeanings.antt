@@ -2,7 +2,7 @@
 use Rattle.std.proofs.Common.{true, [], ◌∷◌, refl, codes}
 use Rattle.regress_tree.specs.Matching.{Setting}
 use Rattle.regress_parse.proofs.CharacterSets.{own_set, few_letters, k_set, closed_nothing, words_but_digits, words_but_digits_set, consonants, consonants_set}
-use Rattle.regress_parse.proofs.Meanings.{run, no_flags, plain, unicode, icase, Gives, from, at}
+use Rattle.regress_parse.proofs.Meanings.{run, no_flags, plain, unicode, Gives, from, at}
 
 -- settings with the flag v
 abbrev with_v : Setting

@@ -1,5 +1,5 @@
 -- What a class with the flag v holds, operand by operand.
-use Rattle.std.proofs.Common.{◌≡◌, ℕ, zero, suc, ◌+◌, ◌<◌, ◌≤◌, Bool, true, false, cond, List, [], ◌∷◌, length, drop, Option, Some, None, refl, sym, ap, ◌∙◌, subst, add-one, arith, length-drop}
+use Rattle.std.proofs.Common.{◌≡◌, ℕ, zero, suc, ◌+◌, ◌<◌, ◌≤◌, Bool, true, false, cond, [], ◌∷◌, length, drop, Some, None, refl, sym, ap, ◌∙◌, subst, add-one, arith, length-drop}
 use Rattle.std.proofs.lemmas.Bool.{cond-true, cond-false}
 use Rattle.std.proofs.lemmas.Option.{none-some}
 use Rattle.regress_tree.specs.Table.{Table}
@@ -8,7 +8,7 @@ use Rattle.regress_syntax.specs.Source.{Source, Found, ◌>>=◌, is_at}
 use Rattle.regress_syntax.specs.ClassRows.{one_point}
 use Rattle.regress_syntax.specs.ClassSets.{Value, only, joined, unless_of_strings, Operand, value_of, set_character_at, operand_at, part_behind, parts_by, parts_at, are_at, operands_by, operands_at, contents_behind, contents_at, class_set_by}
 use Rattle.regress_syntax.specs.Views.{IsValue}
-use Rattle.regress_syntax.proofs.laws.Sources.{found_then, then_same, cond_same, at_front}
+use Rattle.regress_syntax.proofs.laws.Sources.{found_then, then_same, cond_same}
 use Rattle.regress_syntax.proofs.laws.Behind.{behind_shorter, Ends}
 use Rattle.regress_syntax.proofs.laws.ClassSets.{operand_at-shortens, part_behind-ends}
 

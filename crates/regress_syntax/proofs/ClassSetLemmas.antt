@@ -1,7 +1,7 @@
 -- What a value holds.
-use Rattle.std.proofs.Common.{◌≡◌, ℕ, ◌+◌, ◌<◌, ◌≤◌, Vec, Bool, true, false, not, ◌&&◌, ◌||◌, ◌==◌, max, List, [], ◌∷◌, ◌++◌, length, take, get_or, cond, filter, map, Some, None, refl, sym, ap, ap₂, ◌∙◌, subst, append_assoc, append-nil, arith}
+use Rattle.std.proofs.Common.{◌≡◌, ℕ, ◌+◌, ◌<◌, ◌≤◌, Vec, Bool, true, false, not, ◌&&◌, ◌||◌, ◌==◌, max, List, [], ◌∷◌, ◌++◌, length, take, get_or, cond, filter, refl, sym, ap, ap₂, ◌∙◌, subst, append_assoc, append-nil, arith}
 use Rattle.std.proofs.lemmas.Bool.Decides.{nat_tests}
-use Rattle.std.proofs.lemmas.List.{map-append, length-map, take_all}
+use Rattle.std.proofs.lemmas.List.{length-map, take_all}
 use Rattle.std.proofs.lemmas.List.Folds.{list_any_more}
 use Rattle.std.proofs.lemmas.Map.Text.{is_eq-slice_cmp}
 use Rattle.std.specs.Cmp.Lexicographic.{slice_cmp}
@@ -10,11 +10,11 @@ use Rattle.std.specs.Ordering.{nat_cmp, is_eq}
 use Rattle.std.specs.Str.{bytes_eq}
 use Rattle.std.specs.Vec.{vec_len}
 use Rattle.std.specs.declared.alloc.Global.{Global}
-use Rattle.regress_base.specs.Intervals.{Bounds, is_within, is_member, IsCanonical, IsComplement, intervals_of, code_point_max}
-use Rattle.regress_base.proofs.laws.Sets.{is_member-nil, is_member-one, is_member-append, canonical_is, intervals_of-agree, or_assoc}
+use Rattle.regress_base.specs.Intervals.{Bounds, is_within, is_member, IsCanonical, IsComplement, intervals_of}
+use Rattle.regress_base.proofs.laws.Sets.{is_member-one, is_member-append, canonical_is, intervals_of-agree}
 use Rattle.regress_syntax.specs.declared.class_sets.value.Value.{Value as CodeValue}
 use Rattle.regress_syntax.specs.ClassRows.{complement, complement_if, one_point}
-use Rattle.regress_syntax.specs.ClassSets.{Value, nothing, only, joined, nested, common, without, is_among, value_of_string, value_of_strings}
+use Rattle.regress_syntax.specs.ClassSets.{Value, nothing, only, joined, nested, is_among, value_of_string}
 use Rattle.regress_syntax.specs.Views.{HasMembers, IsValue, strings_of}
 
 -- ---- members of a set

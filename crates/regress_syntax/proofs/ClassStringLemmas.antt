@@ -1,5 +1,5 @@
 -- The strings of `\q{..}`, one code point after the other.
-use Rattle.std.proofs.Common.{◌≡◌, ℕ, zero, suc, ◌+◌, ◌<◌, ◌≤◌, Vec, Bool, true, false, cond, List, [], ◌∷◌, ◌++◌, length, take, drop, get_or, map, Some, None, refl, sym, ap, subst, ◌∙◌, append_assoc, append-nil, add-one, arith, length-drop}
+use Rattle.std.proofs.Common.{◌≡◌, ℕ, zero, suc, ◌+◌, ◌<◌, Vec, Bool, true, false, List, [], ◌∷◌, ◌++◌, length, take, drop, get_or, Some, None, refl, sym, ap, subst, ◌∙◌, append_assoc, add-one, arith, length-drop}
 use Rattle.std.proofs.lemmas.Bool.{cond-true, cond-false}
 use Rattle.std.proofs.lemmas.List.{get_or-map, length-map, map-append, take_more}
 use Rattle.std.proofs.lemmas.Option.{none-some}
@@ -8,7 +8,7 @@ use Rattle.std.specs.List.{All}
 use Rattle.std.specs.declared.alloc.Global.{Global}
 use Rattle.regress_syntax.specs.declared.class_sets.value.Value.{Value as CodeValue}
 use Rattle.regress_syntax.specs.Source.{Source, Found, ◌>>=◌, found_map, is_at, IsCodePoint}
-use Rattle.regress_syntax.specs.ClassSets.{Value, joined, value_of_string, value_of_strings, set_character_at, strings_by, quoted_at, class}
+use Rattle.regress_syntax.specs.ClassSets.{joined, value_of_string, value_of_strings, set_character_at, strings_by, quoted_at, class}
 use Rattle.regress_syntax.specs.Views.{IsValue, strings_of}
 use Rattle.regress_syntax.proofs.laws.Sources.{then_same, cond_same, at_front}
 use Rattle.regress_syntax.proofs.laws.Behind.{behind_shorter}

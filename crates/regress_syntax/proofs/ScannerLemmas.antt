@@ -1,12 +1,12 @@
 -- The state of a scan, and the marks that it passes.
-use Rattle.std.proofs.Common.{◌≡◌, ℕ, ◌+◌, ◌-◌, max, ◌≤◌, Bool, true, false, cond, not, ◌==◌, ◌&&◌, Result, Ok, Err, List, [], ◌∷◌, ◌++◌, map, reverse, length, Option, Some, None, option_map, Vec, filter, is_some, ap₂, true≢false, refl, sym, ap, ◌∙◌, subst, arith, ◌≢◌, ⊎_elim, option_to_list, append-nil}
+use Rattle.std.proofs.Common.{◌≡◌, ℕ, ◌+◌, ◌-◌, max, ◌≤◌, Bool, true, false, cond, not, ◌==◌, ◌&&◌, Result, Ok, Err, List, [], ◌∷◌, ◌++◌, map, reverse, length, Option, Some, None, option_map, Vec, filter, is_some, ap₂, true≢false, refl, sym, ap, ◌∙◌, subst, arith, option_to_list, append-nil}
 use Rattle.std.specs.List.{list_all, zip}
 use Rattle.std.specs.declared.alloc.Global.{Global}
-use Rattle.std.proofs.lemmas.Bool.{and_left, cases_eq, ne_eqb}
+use Rattle.std.proofs.lemmas.Bool.{and_left}
 use Rattle.std.proofs.lemmas.List.{map-append}
 use Rattle.regress_tree.specs.Table.{Table}
-use Rattle.regress_syntax.specs.Source.{Source, opening, closing, bar}
-use Rattle.regress_syntax.specs.Scan.{Mode, plain, escape, class, class_escape, marks, opened_at, Mark, opens, captures, closes, next, nests, mode_behind, mark_at, agree, deepest, Path, Placed, placed_by, at_the_start, same_name, conflict, are_apart}
+use Rattle.regress_syntax.specs.Source.{Source}
+use Rattle.regress_syntax.specs.Scan.{Mode, plain, escape, class, class_escape, marks, Mark, opens, captures, closes, next, nests, mode_behind, mark_at, agree, deepest, Path, Placed, placed_by, at_the_start, same_name, conflict, are_apart}
 use Rattle.regress_syntax.specs.Scanning.{depth_of, has_name, placed_of, path_of, Behind}
 use Rattle.regress_syntax.specs.Fault.{RefusedOnlyIf}
 use Rattle.regress_syntax.specs.declared.fault.ParseFault.{ParseFault}

@@ -1,5 +1,5 @@
 -- Classes with the flag v (this project's profile of ECMA-262, ClassSetExpression).
-use Rattle.std.specs.Prelude.{ℕ, zero, suc, ◌+◌, max, Bool, true, false, not, ◌&&◌, ◌||◌, List, [], ◌∷◌, ◌++◌, length, drop, filter, Option, Some, None, if◌then◌else◌, nat_le, ◌==◌, codes}
+use Rattle.std.specs.Prelude.{ℕ, zero, suc, ◌+◌, max, Bool, true, false, not, ◌&&◌, ◌||◌, List, [], ◌∷◌, ◌++◌, length, drop, filter, Option, Some, None, if◌then◌else◌, ◌==◌, codes}
 use Rattle.std.specs.List.{list_any}
 use Rattle.std.specs.Str.{bytes_eq}
 use Rattle.regress_base.specs.Intervals.{Bounds, is_member, intervals_of}
@@ -8,7 +8,7 @@ use Rattle.regress_tree.specs.Table.{Table}
 use Rattle.regress_syntax.specs.Source.{Source, Found, ◌>>=◌, found_map, is_at}
 use Rattle.regress_syntax.specs.Escapes.{escape_at}
 use Rattle.regress_syntax.specs.Properties.{Property, of_points, of_strings, property_at}
-use Rattle.regress_syntax.specs.ClassRows.{complement, complement_if, class_letter, class_members, one_point, points_between}
+use Rattle.regress_syntax.specs.ClassRows.{complement_if, class_letter, class_members, one_point, points_between}
 
 -- ---- what a class holds
 

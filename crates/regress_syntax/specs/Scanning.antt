@@ -1,5 +1,5 @@
 -- What the state of the scan stands for.
-use Rattle.std.specs.Prelude.{◌≡◌, ℕ, ◌+◌, max, ◌≤◌, Bool, List, ◌++◌, map, length, reverse, Some, option_map, is_some, filter}
+use Rattle.std.specs.Prelude.{◌≡◌, ℕ, max, ◌≤◌, Bool, List, ◌++◌, map, length, reverse, Some, option_map, is_some, filter}
 use Rattle.regress_base.specs.Limits.{max_nesting_depth}
 use Rattle.regress_syntax.specs.Numbering.{names_of}
 use Rattle.regress_syntax.specs.Scan.{Mark, opens, captures, closes, next, nests, Mode, plain, escape, class, class_escape, named_by, deepest, Path, Placed, placed_by, at_the_start}

@@ -39,7 +39,12 @@ fn a_class_with_v_is_the_set_that_its_contents_make(rt: HostRuntime) -> Result<(
         ("[\\q{\\d}]", "v", false, "U+0064-U+0064"),
         ("[\\q{a|b}]", "v", false, "U+0061-U+0062"),
         ("[^\\q{a}]", "v", true, "U+0061-U+0061"),
-        ("[\\&\\-\\!]", "uv", false, "U+0021-U+0021, U+0026-U+0026, U+002D-U+002D"),
+        (
+            "[\\&\\-\\!]",
+            "uv",
+            false,
+            "U+0021-U+0021, U+0026-U+0026, U+002D-U+002D",
+        ),
         ("[[[a]][b]]", "v", false, "U+0061-U+0062"),
         ("[^\\d]", "v", true, "U+0030-U+0039"),
         ("[\\D&&\\w&&[a-c]]", "v", false, "U+0061-U+0063"),

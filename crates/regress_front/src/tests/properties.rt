@@ -42,7 +42,12 @@ fn a_property_is_what_the_table_gives(rt: HostRuntime) -> Result<(), Fail> {
 fn a_property_with_i_is_complemented_before_it_is_closed(rt: HostRuntime) -> Result<(), Fail> {
     let rows = [
         ("\\P{Zl}", "iu", false, "U+0000-U+2027, U+2029-U+10FFFF"),
-        ("\\P{ASCII_Hex_Digit}", "iu", false, "U+0000-U+002F, U+003A-U+0040, U+0047-U+0060, U+0067-U+10FFFF"),
+        (
+            "\\P{ASCII_Hex_Digit}",
+            "iu",
+            false,
+            "U+0000-U+002F, U+003A-U+0040, U+0047-U+0060, U+0067-U+10FFFF",
+        ),
         (
             "\\p{ASCII}",
             "iu",

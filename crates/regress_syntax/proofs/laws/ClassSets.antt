@@ -1,17 +1,14 @@
 -- Classes with the flag v, read from the front of a source.
-use Rattle.std.proofs.Common.{◌≡◌, ℕ, zero, suc, ◌+◌, ◌<◌, ◌≤◌, Bool, true, false, not, ◌&&◌, ◌||◌, ◌==◌, cond, List, [], ◌∷◌, ◌++◌, length, drop, Option, Some, None, refl, sym, ap, ◌∙◌, subst, arith}
-use Rattle.std.proofs.lemmas.Option.{none-some}
+use Rattle.std.proofs.Common.{ℕ, zero, suc, ◌+◌, Bool, true, false, not, ◌&&◌, ◌||◌, ◌==◌, cond, List, [], ◌∷◌, ◌++◌, length, drop, Option, Some, None}
 use Rattle.regress_base.specs.Intervals.{Bounds}
 use Rattle.regress_base.specs.Limits.{max_nesting_depth}
 use Rattle.regress_tree.specs.Table.{Table}
 use Rattle.regress_syntax.specs.Source.{Source, Found, ◌>>=◌, found_map, is_at}
-use Rattle.regress_syntax.specs.Digits.{behind}
-use Rattle.regress_syntax.specs.Escapes.{escape_at}
-use Rattle.regress_syntax.specs.Properties.{Property, of_points, of_strings, is_property_character, list_named, lone_value, value_in, closed_property, braced_property_at, property_at}
-use Rattle.regress_syntax.specs.ClassRows.{class_letter, class_members, one_point, complement_if, points_between}
-use Rattle.regress_syntax.specs.ClassSets.{Value, nothing, only, joined, common, without, value_of_strings, nested, unless_of_strings, Operand, character, class, value_of, is_set_syntax, is_double, begins_double, is_reserved, escaped_character_at, set_character_at, strings_by, quoted_at, property_operand, escaped_operand_at, operand_at, range_of, range_at, part_behind, parts_by, parts_at, are_at, operands_by, operands_at, contents_behind, contents_at, class_set_by, class_set_at}
+use Rattle.regress_syntax.specs.Properties.{Property, of_points, of_strings, property_at}
+use Rattle.regress_syntax.specs.ClassRows.{class_letter, class_members, one_point}
+use Rattle.regress_syntax.specs.ClassSets.{Value, only, joined, common, without, unless_of_strings, Operand, character, class, value_of, is_set_syntax, is_double, begins_double, is_reserved, escaped_character_at, set_character_at, strings_by, quoted_at, property_operand, escaped_operand_at, operand_at, range_of, range_at, part_behind, parts_by, are_at, operands_by, contents_behind, contents_at, class_set_by, class_set_at}
 use Rattle.regress_syntax.proofs.laws.Pieces.{property_at-ends}
-use Rattle.regress_syntax.proofs.laws.Behind.{IsBehind, behind_same, behind_drop, behind_behind, behind_front, behind_shorter, Ends, ends_none, ends_some, ends_behind, ends_more, ends_then, ends_map, ends_cond, escape_at-ends}
+use Rattle.regress_syntax.proofs.laws.Behind.{IsBehind, behind_same, behind_drop, Ends, ends_none, ends_some, ends_behind, ends_more, ends_then, ends_map, ends_cond, escape_at-ends}
 
 -- ---- what stands behind an operand
 

@@ -1,18 +1,17 @@
 -- The strings of a class with the flag v, and those of a property, are of code points. Classes lie in it no deeper than the bound.
-use Rattle.std.proofs.Common.{◌≡◌, ℕ, zero, suc, ◌+◌, ◌<◌, ◌≤◌, Bool, true, false, not, ◌&&◌, ◌||◌, ◌==◌, nat_le, nat_lt, IsTrue, cond, List, [], ◌∷◌, ◌++◌, length, drop, filter, Option, Some, None, refl, subst, arith, leb-true}
+use Rattle.std.proofs.Common.{◌≡◌, ℕ, zero, suc, ◌+◌, ◌<◌, ◌≤◌, Bool, true, false, not, ◌&&◌, ◌||◌, ◌==◌, nat_le, cond, List, [], ◌∷◌, ◌++◌, length, drop, Option, Some, None, refl, arith, leb-true}
 use Rattle.std.proofs.lemmas.List.Elements.{All-head, All-nil, All-cons, All-append, All-drop, All-filter}
 use Rattle.std.specs.List.{All, list_all}
 use Rattle.std.specs.Option.{IfSome, option_map, option_or}
 use Rattle.std.specs.Str.{bytes_eq}
 use Rattle.regress_base.specs.Intervals.{Bounds, code_point_max}
 use Rattle.regress_base.specs.Limits.{max_nesting_depth}
-use Rattle.regress_tree.specs.Table.{Table, Named, named, is_string, HasStrings, IsLawful}
+use Rattle.regress_tree.specs.Table.{Table, Named, named, is_string, IsLawful}
 use Rattle.regress_syntax.specs.Source.{Source, Found, ◌>>=◌, found_map, IsCodePoint, is_at}
 use Rattle.regress_syntax.specs.Digits.{front, behind}
-use Rattle.regress_syntax.specs.Escapes.{escape_at}
 use Rattle.regress_syntax.specs.Properties.{Property, of_points, of_strings, is_property_character, list_named, strings_named, lone_value, value_in, closed_property, property_at}
-use Rattle.regress_syntax.specs.ClassRows.{class_letter, class_members, one_point, complement_if, points_between}
-use Rattle.regress_syntax.specs.ClassSets.{Value, nothing, only, joined, common, without, is_among, value_of_string, value_of_strings, nested, unless_of_strings, Operand, character, class, value_of, is_set_syntax, is_double, begins_double, is_reserved, escaped_character_at, set_character_at, strings_by, quoted_at, property_operand, escaped_operand_at, operand_at, range_of, range_at, part_behind, parts_by, are_at, operands_by, contents_behind, contents_at, class_set_by, class_set_at}
+use Rattle.regress_syntax.specs.ClassRows.{class_letter, class_members, one_point, complement_if}
+use Rattle.regress_syntax.specs.ClassSets.{Value, nothing, only, joined, common, without, is_among, value_of_string, value_of_strings, nested, unless_of_strings, Operand, character, class, value_of, is_set_syntax, is_double, begins_double, is_reserved, escaped_character_at, set_character_at, strings_by, quoted_at, property_operand, escaped_operand_at, operand_at, range_of, part_behind, parts_by, are_at, operands_by, contents_behind, contents_at, class_set_by, class_set_at}
 use Rattle.regress_syntax.proofs.DigitLemmas.{and_both}
 use Rattle.regress_syntax.proofs.laws.Behind.{Ends, ends_then, behind_all}
 use Rattle.regress_syntax.proofs.laws.InRange.{Finds, finds_none, finds_some, finds_cond, finds_then, escape_at-in_range}
