@@ -15,11 +15,11 @@ use Rattle.regress_syntax.specs.Names.{group_name_at}
 use Rattle.regress_syntax.specs.Properties.{Property, of_points, of_strings, property_at}
 use Rattle.regress_syntax.specs.Quantifiers.{quantifier_at}
 use Rattle.regress_syntax.specs.Rows.{Context, Head, single, opens, angle_at, behind_mark_at, group_at, property_atom, property_atom_at, is_lone_backslash, has_name, has_names, character_at, numbered_at, named_at, escaped_by, escaped_at, brace_by, brackets_at, atom_by, head_at}
-use Rattle.regress_syntax.specs.Source.{Source, Found, found_map, IsCodePoint, opening, full_stop, colon, question_mark, is_at, is_plain}
+use Rattle.regress_syntax.specs.Source.{Source, Found, IsCodePoint, opening, full_stop, colon, question_mark, is_at, is_plain}
 use Rattle.regress_syntax.specs.Syntax.{Target, by_number, by_name, Atom, literal, dot, anchor, boundary, class_escape, class, class_set, string_property, back_reference, Group, grouping, modified, capture, look}
 use Rattle.regress_syntax.proofs.laws.Behind.{Ends, behind_all}
 use Rattle.regress_syntax.proofs.laws.ClassStrings.{OfCodePoints, PropertyInRange, property_at-in_range, class_set_at-in_range}
-use Rattle.regress_syntax.proofs.laws.InRange.{Finds, finds_none, finds_some, finds_cond, finds_then, escape_at-in_range}
+use Rattle.regress_syntax.proofs.laws.InRange.{Finds, finds_none, finds_some, finds_cond, finds_then, finds_map, escape_at-in_range}
 use Rattle.regress_syntax.proofs.laws.NameEnds.{IsName, name_characters}
 
 -- the source is made of code points
@@ -32,10 +32,6 @@ rest_of {c} {rest} all = record { each = All-tail IsCodePoint c rest all.each }
 pub behind_found : {A : Type 0} (found : Found A) (t : Source) (x : A × Source) → Ends found t → found ≡ Some x → AreCodePoints t →
     AreCodePoints x.1
 behind_found found t x ends e all = record { each = behind_all t x.1 (ends.each x e) all.each }
-
-finds_map : {A B : Type 0} (P : A → Type 0) (Q : B → Type 0) (f : A → B) (found : Found A) → ((x : A) → P x → Q (f x)) →
-    Finds P found → Finds Q (found_map f found)
-finds_map P Q f found k h = finds_then P Q found _ h (λ x holds. finds_some Q (f x.0, x.1) (k x.0 holds))
 
 -- whatever is found is something
 finds_any : {A : Type 0} (found : Found A) → Finds (λ _. Unit {0}) found

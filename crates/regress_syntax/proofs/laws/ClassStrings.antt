@@ -14,7 +14,7 @@ use Rattle.regress_syntax.specs.ClassRows.{class_letter, class_members, one_poin
 use Rattle.regress_syntax.specs.ClassSets.{Value, nothing, only, joined, common, without, is_among, value_of_string, value_of_strings, nested, unless_of_strings, Operand, character, class, value_of, is_set_syntax, is_double, begins_double, is_reserved, escaped_character_at, set_character_at, strings_by, quoted_at, property_operand, escaped_operand_at, operand_at, range_of, part_behind, parts_by, are_at, operands_by, contents_behind, contents_at, class_set_by, class_set_at}
 use Rattle.regress_syntax.proofs.DigitLemmas.{and_both}
 use Rattle.regress_syntax.proofs.laws.Behind.{Ends, ends_then, behind_all}
-use Rattle.regress_syntax.proofs.laws.InRange.{Finds, finds_none, finds_some, finds_cond, finds_then, escape_at-in_range}
+use Rattle.regress_syntax.proofs.laws.InRange.{Finds, finds_none, finds_some, finds_cond, finds_then, finds_map, escape_at-in_range}
 use Rattle.regress_syntax.proofs.laws.ClassSets.{set_character_at-ends, operand_at-ends, part_behind-ends, class_set_by-ends}
 
 abbrev pub OfCodePoints : List (List ℕ) → Type 0
@@ -117,11 +117,6 @@ finds_next : {A B : Type 0} (P : A → Type 0) (Q : B → Type 0) (found : Found
     Finds Q (found >>= next)
 finds_next P Q None next t h e all k = finds_none Q
 finds_next P Q (Some x) next t h e all k = k x (h.each x refl) (behind_all t x.1 (e.each x refl) all)
-
-finds_map : {A B : Type 0} (P : A → Type 0) (Q : B → Type 0) (f : A → B) (found : Found A) → ((x : A) → P x → Q (f x)) → Finds P found →
-    Finds Q (found_map f found)
-finds_map P Q f None k h = finds_none Q
-finds_map P Q f (Some x) k h = finds_some Q (f x.0, x.1) (k x.0 (h.each x refl))
 
 -- ---- characters and strings
 

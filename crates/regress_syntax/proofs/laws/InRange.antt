@@ -5,7 +5,7 @@ use Rattle.std.proofs.lemmas.List.Elements.{All-head}
 use Rattle.std.specs.List.{All, list_all}
 use Rattle.std.specs.Option.{IfSome, option_map}
 use Rattle.regress_base.specs.Intervals.{code_point_max}
-use Rattle.regress_syntax.specs.Source.{Source, Found, ◌>>=◌, IsCodePoint, is_at}
+use Rattle.regress_syntax.specs.Source.{Source, Found, ◌>>=◌, found_map, IsCodePoint, is_at}
 use Rattle.regress_syntax.specs.Digits.{is_between, is_letter, is_octal, is_hex, control, number, front, behind, hex_at}
 use Rattle.regress_syntax.specs.Escapes.{braced_hex_at, second_half_at, paired, with_second_half, unicode_at, or_itself, octal_digits, letter_escape, begins_with_digit, is_syntax_character, control_at, other_escape, escape_at}
 use Rattle.regress_syntax.proofs.DigitLemmas.{and_both, hex_fits, octal_number_fits}
@@ -29,6 +29,11 @@ pub finds_then : {A B : Type 0} (P : A → Type 0) (Q : B → Type 0) (found : F
     Finds P found → ((x : A × Source) → P x.0 → Finds Q (next x)) → Finds Q (found >>= next)
 finds_then P Q None next h k = finds_none Q
 finds_then P Q (Some x) next h k = k x (h.each x refl)
+
+pub finds_map : {A B : Type 0} (P : A → Type 0) (Q : B → Type 0) (f : A → B) (found : Found A) → ((x : A) → P x → Q (f x)) →
+    Finds P found → Finds Q (found_map f found)
+finds_map P Q f None k h = finds_none Q
+finds_map P Q f (Some x) k h = finds_some Q (f x.0, x.1) (k x.0 (h.each x refl))
 
 hex_at-in_range : (n : ℕ) (t : Source) → n ≤ 4 → Finds (λ x. x < 0x10000) (hex_at n t)
 hex_at-in_range n t few =

@@ -5,13 +5,13 @@ use Rattle.std.specs.Char.{IsScalar}
 use Rattle.std.proofs.lemmas.List.Elements.{All-nil, All-cons}
 use Rattle.regress_tree.specs.Table.{Table}
 use Rattle.regress_tree.specs.Reading.{IsText}
-use Rattle.regress_syntax.specs.Source.{Source, Found, found_map, is_at}
+use Rattle.regress_syntax.specs.Source.{Source, Found, is_at}
 use Rattle.regress_syntax.specs.Digits.{behind}
 use Rattle.regress_syntax.specs.Syntax.{Name}
 use Rattle.regress_syntax.specs.Names.{begins_name, continues_name, written_at, name_character_at, rest_of_name_by, name_at, group_name_at}
 use Rattle.regress_syntax.specs.Modifiers.{is_modifier, behind_letters_off, modifiers_at}
 use Rattle.regress_syntax.proofs.DigitLemmas.{and_both}
-use Rattle.regress_syntax.proofs.laws.InRange.{Finds, finds_none, finds_some, finds_cond, finds_then}
+use Rattle.regress_syntax.proofs.laws.InRange.{Finds, finds_none, finds_some, finds_cond, finds_then, finds_map}
 use Rattle.regress_syntax.proofs.laws.Behind.{IsBehind, behind_same, behind_behind, behind_drop, behind_front, behind_shorter, Ends, ends_none, ends_some, ends_behind, ends_more, ends_then, ends_map, ends_cond, unicode_at-ends}
 
 -- What is read of a character takes one code point at least.
@@ -84,10 +84,6 @@ name_character_at-scalar p t scalars =
     finds_then (λ _. Unit {0}) IsScalar (written_at t) _ (record { each = λ x e. tt })
     (λ x _. finds_cond IsScalar (p x.0) _ _ (λ e. finds_some IsScalar x (scalars x.0 e)) (λ e. finds_none IsScalar))
 
-finds_map : {A B : Type 0} (P : A → Type 0) (Q : B → Type 0) (f : A → B) (found : Found A) → Finds P found →
-    ((x : A) → P x → Q (f x)) → Finds Q (found_map f found)
-finds_map P Q f found h k = finds_then P Q found _ h (λ x holds. finds_some Q (f x.0, x.1) (k x.0 holds))
-
 rest_of_name_by-text : (n : ℕ) (table : Table) (t : Source) → Finds IsText (rest_of_name_by n table t)
 unfolding rest_of_name_by
 rest_of_name_by-text zero table t = finds_none IsText
@@ -95,8 +91,8 @@ rest_of_name_by-text (suc n) table t =
     finds_cond IsText (is_at 62 t) _ _ (λ _. finds_some IsText ([], drop 1 t) (All-nil IsScalar))
     (λ _. finds_then IsScalar IsText (name_character_at (continues_name table) t) _
     (name_character_at-scalar (continues_name table) t (continues_scalar table))
-    (λ x holds. finds_map IsText IsText (λ cs. x.0 ∷ cs) (rest_of_name_by n table x.1) (rest_of_name_by-text n table x.1)
-    (λ cs text. All-cons IsScalar x.0 cs holds text)))
+    (λ x holds. finds_map IsText IsText (λ cs. x.0 ∷ cs) (rest_of_name_by n table x.1)
+    (λ cs text. All-cons IsScalar x.0 cs holds text) (rest_of_name_by-text n table x.1)))
 
 -- What may stand as a name: a text, and not an empty one.
 pub record IsName (name : Name) : Type 0 where
@@ -112,7 +108,7 @@ name_at-name table t =
     finds_then IsScalar IsName (name_character_at (begins_name table) t) _
     (name_character_at-scalar (begins_name table) t (begins_scalar table))
     (λ x holds. finds_map IsText IsName (λ cs. x.0 ∷ cs) (rest_of_name_by (length x.1 + 1) table x.1)
-    (rest_of_name_by-text (length x.1 + 1) table x.1) (λ cs text. cons_name x.0 cs holds text))
+    (λ cs text. cons_name x.0 cs holds text) (rest_of_name_by-text (length x.1 + 1) table x.1))
 
 pub name_characters : (table : Table) (t : Source) → Finds IsName (group_name_at table t)
 name_characters table t =
