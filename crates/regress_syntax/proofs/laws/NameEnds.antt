@@ -5,7 +5,7 @@ use Rattle.std.specs.Char.{IsScalar}
 use Rattle.std.proofs.lemmas.List.Elements.{All-nil, All-cons}
 use Rattle.regress_tree.specs.Table.{Table}
 use Rattle.regress_tree.specs.Reading.{IsText}
-use Rattle.regress_syntax.specs.Source.{Source, Found, is_at}
+use Rattle.regress_syntax.specs.Source.{Source, is_at}
 use Rattle.regress_syntax.specs.Digits.{behind}
 use Rattle.regress_syntax.specs.Syntax.{Name}
 use Rattle.regress_syntax.specs.Names.{begins_name, continues_name, written_at, name_character_at, rest_of_name_by, name_at, group_name_at}
