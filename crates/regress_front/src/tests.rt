@@ -17,14 +17,12 @@ mod scale;
 mod strings;
 
 use crate::codepointset::CODE_POINT_MAX;
-use crate::ir::Node;
 use crate::optimizer::{optimize, parse_and_optimize};
 use crate::parse::{ParseFault, try_parse};
 use crate::types::{Flags, MAX_CAPTURE_GROUPS, MAX_CHAR_SET_LENGTH, MAX_LOOPS, MAX_NESTING_DEPTH};
 use crate::unicode::Tables;
 use caller::{code_points, optimized_text};
 use std::alloc::Global;
-use std::boxed::BoxedSlice;
 use std::test::Fail;
 
 /// What a pattern comes to.
@@ -94,42 +92,6 @@ fn parsed(alloc: Global, pattern: &str, letters: &str) -> Result<String, Fail> {
     match answer_to(alloc, &points, flags_of(letters))? {
         Answer::Trees(parsed, _) => Ok(parsed),
         Answer::Fault(text) => Ok(format!(in alloc; "error: {text}")?),
-    }
-}
-
-/// The strings of the set that the parsed tree begins with, with `|` between them; nothing where it begins with none.
-fn strings(alloc: Global, pattern: &str, letters: &str) -> Result<String, Fail> {
-    let points = code_points(alloc, pattern)?;
-    let tables = Tables::small(alloc)?;
-    let mut text = String::new(alloc);
-    let Ok(regex) = try_parse(alloc, &points, flags_of(letters), &tables) else {
-        return Ok(text);
-    };
-    let Some(alternatives) = first_strings(&regex.node) else {
-        return Ok(text);
-    };
-    for string in alternatives {
-        if !text.is_empty() {
-            text.push('|')?;
-        }
-        for c in string.iter() {
-            text.push(char::from_u32(*c).unwrap_or(char::REPLACEMENT_CHARACTER))?;
-        }
-    }
-    Ok(text)
-}
-
-fn first_strings(node: &Node) -> Option<&[BoxedSlice<u32>]> {
-    let Node::Cat(parts) = node else {
-        return None;
-    };
-    let body = match parts.first()? {
-        Node::Alt(left, _) => left,
-        body => body,
-    };
-    match body {
-        Node::StringSet { alternatives, .. } => Some(alternatives.as_slice()),
-        _ => None,
     }
 }
 

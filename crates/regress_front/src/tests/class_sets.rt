@@ -1,7 +1,7 @@
 //! Classes with the flag v.
 
 use super::caller::code_points;
-use super::{bracket, fault_of, flags_of, optimized_text, parsed, repeated, strings};
+use super::{bracket, fault_of, flags_of, optimized_text, parsed, repeated};
 use std::test::Fail;
 
 #[test]
@@ -111,22 +111,6 @@ fn strings_stand_beside_the_set(rt: HostRuntime) -> Result<(), Fail> {
     for (pattern, letters, want) in rows {
         let found = parsed(rt.alloc(), pattern, letters)?;
         assert_eq!(rt; found.as_str(), want, "{pattern} {letters}");
-    }
-    Ok(())
-}
-
-#[test]
-fn strings_stand_longest_first_and_else_as_they_were_read(rt: HostRuntime) -> Result<(), Fail> {
-    let rows = [
-        ("[a-c\\q{xy}]", "xy"),
-        ("[\\q{abc|de|fgh}]", "abc|fgh|de"),
-        ("[\\q{ab|c|abc}--c]", "abc|ab"),
-        ("[\\q{ab|cd}[\\q{ef|ab|xyz}]]", "xyz|ab|cd|ef|ab"),
-        ("[\\q{ab|cd|ab}&&\\q{ef|ab}]", "ab|ab"),
-    ];
-    for (pattern, want) in rows {
-        let found = strings(rt.alloc(), pattern, "v")?;
-        assert_eq!(rt; found.as_str(), want, "{pattern}");
     }
     Ok(())
 }

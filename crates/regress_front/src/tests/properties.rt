@@ -1,7 +1,7 @@
 //! Properties, over the small table.
 
 use super::caller::code_points;
-use super::{bracket, fault_of, flags_of, parsed, strings};
+use super::{bracket, fault_of, flags_of, parsed};
 use std::test::Fail;
 
 #[test]
@@ -106,21 +106,6 @@ fn a_property_of_strings_wants_v_and_has_no_complement(rt: HostRuntime) -> Resul
         let found = parsed(rt.alloc(), pattern, letters)?;
         assert_eq!(rt; found.as_str(), want, "{pattern} {letters}");
     }
-    Ok(())
-}
-
-#[test]
-fn a_property_of_strings_keeps_their_order(rt: HostRuntime) -> Result<(), Fail> {
-    let mut keys = String::new(rt.alloc());
-    for key in "#*0123456789".chars() {
-        if !keys.is_empty() {
-            keys.push('|')?;
-        }
-        keys.push(key)?;
-        keys.push_str("\u{FE0F}\u{20E3}")?;
-    }
-    let found = strings(rt.alloc(), "\\p{Emoji_Keycap_Sequence}", "v")?;
-    assert_eq!(rt; found.as_str(), keys.as_str());
     Ok(())
 }
 

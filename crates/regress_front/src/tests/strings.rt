@@ -45,6 +45,8 @@ fn strings_stand_longest_first_and_else_as_they_were_read(rt: HostRuntime) -> Re
         ("[a-c\\q{xy}]", "xy|"),
         ("[\\q{abc|de|fgh}]", "abc|fgh|de|"),
         ("[\\q{ab|c|abc}--c]", "abc|ab|"),
+        ("[\\q{ab|cd}[\\q{ef|ab|xyz}]]", "xyz|ab|cd|ef|ab|"),
+        ("[\\q{ab|cd|ab}&&\\q{ef|ab}]", "ab|ab|"),
     ];
     for (pattern, want) in rows {
         let Ok(found) = strings(rt.alloc(), pattern, "v") else {
