@@ -43,8 +43,10 @@ fn bracket(alloc: Global, invert: bool) -> Result<BracketContents, AllocError> {
     Ok(BracketContents { invert, cps })
 }
 
+// Rows that take memory stand one by one: the proof of a table of them looks at each row that may be dropped.
+
 #[test]
-fn each_leaf_is_one_line(rt: HostRuntime) -> Result<(), Fail> {
+fn a_leaf_is_one_line(rt: HostRuntime) -> Result<(), Fail> {
     let alloc = rt.alloc();
     let rows = [
         (Node::Empty, "Empty\n"),
@@ -56,19 +58,23 @@ fn each_leaf_is_one_line(rt: HostRuntime) -> Result<(), Fail> {
             "MatchAnyExceptLineTerminator\n",
         ),
         (
-            Node::ByteSequence(vec![in alloc; 0x61, 0x62]?),
-            "ByteSeq2 0x6162\n",
+            Node::BackRef {
+                group: 1,
+                icase: true,
+            },
+            "BackRef 1 \n",
         ),
-        (
-            Node::ByteSet(vec![in alloc; 0x4b, 0x6b]?),
-            "ByteSet2 0x4b 0x6b\n",
-        ),
-        (Node::ByteSet(Vec::new(alloc)), "ByteSet0\n"),
-        (
-            Node::CharSet(vec![in alloc; 0x4b, 0x6b]?),
-            "CharSet 0x4b, 0x6b\n",
-        ),
-        (Node::CharSet(Vec::new(alloc)), "CharSet \n"),
+    ];
+    for (node, line) in rows {
+        assert_eq!(rt; printed(alloc, node)?.as_str(), line);
+    }
+    Ok(())
+}
+
+#[test]
+fn an_assertion_is_one_line(rt: HostRuntime) -> Result<(), Fail> {
+    let alloc = rt.alloc();
+    let rows = [
         (
             Node::Anchor {
                 anchor_type: AnchorType::StartOfLine,
@@ -97,27 +103,31 @@ fn each_leaf_is_one_line(rt: HostRuntime) -> Result<(), Fail> {
             },
             "WordBoundary \"\\\\B\" \n",
         ),
-        (
-            Node::Bracket(bracket(alloc, false)?),
-            "Bracket BracketContents { invert: false, cps: CodePointSet { ivs: [U+0026-U+0026, U+0061-U+0062] } }\n",
-        ),
-        (
-            Node::BackRef {
-                group: 1,
-                icase: true,
-            },
-            "BackRef 1 \n",
-        ),
-        (
-            Node::StringSet {
-                alternatives: vec![in alloc;
-                    BoxedSlice::from_slice(alloc, &[97, 98])?,
-                    BoxedSlice::from_slice(alloc, &[97])?,
-                ]?,
-                icase: false,
-            },
-            "StringSet count=2, icase=false\n",
-        ),
+    ];
+    for (node, line) in rows {
+        assert_eq!(rt; printed(alloc, node)?.as_str(), line);
+    }
+    Ok(())
+}
+
+#[test]
+fn a_list_is_one_line(rt: HostRuntime) -> Result<(), Fail> {
+    let alloc = rt.alloc();
+    let node = Node::ByteSequence(vec![in alloc; 0x61, 0x62]?);
+    assert_eq!(rt; printed(alloc, node)?.as_str(), "ByteSeq2 0x6162\n");
+    let node = Node::ByteSet(vec![in alloc; 0x4b, 0x6b]?);
+    assert_eq!(rt; printed(alloc, node)?.as_str(), "ByteSet2 0x4b 0x6b\n");
+    let node = Node::CharSet(vec![in alloc; 0x4b, 0x6b]?);
+    assert_eq!(rt; printed(alloc, node)?.as_str(), "CharSet 0x4b, 0x6b\n");
+    Ok(())
+}
+
+#[test]
+fn an_empty_list_is_one_line(rt: HostRuntime) -> Result<(), Fail> {
+    let alloc = rt.alloc();
+    let rows = [
+        (Node::ByteSet(Vec::new(alloc)), "ByteSet0\n"),
+        (Node::CharSet(Vec::new(alloc)), "CharSet \n"),
         (
             Node::StringSet {
                 alternatives: Vec::new(alloc),
@@ -129,6 +139,32 @@ fn each_leaf_is_one_line(rt: HostRuntime) -> Result<(), Fail> {
     for (node, line) in rows {
         assert_eq!(rt; printed(alloc, node)?.as_str(), line);
     }
+    Ok(())
+}
+
+#[test]
+fn a_bracket_is_one_line(rt: HostRuntime) -> Result<(), Fail> {
+    let alloc = rt.alloc();
+    assert_eq!(rt;
+        printed(alloc, Node::Bracket(bracket(alloc, false)?))?.as_str(),
+        "Bracket BracketContents { invert: false, cps: CodePointSet { ivs: [U+0026-U+0026, U+0061-U+0062] } }\n"
+    );
+    Ok(())
+}
+
+#[test]
+fn a_string_set_tells_how_many(rt: HostRuntime) -> Result<(), Fail> {
+    let alloc = rt.alloc();
+    let ab = BoxedSlice::from_slice(alloc, &[97, 98])?;
+    let a = BoxedSlice::from_slice(alloc, &[97])?;
+    let node = Node::StringSet {
+        alternatives: vec![in alloc; ab, a]?,
+        icase: false,
+    };
+    assert_eq!(rt;
+        printed(alloc, node)?.as_str(),
+        "StringSet count=2, icase=false\n"
+    );
     Ok(())
 }
 

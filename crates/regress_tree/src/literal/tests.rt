@@ -74,12 +74,19 @@ fn characters_in_a_row_are_one_sequence(rt: HostRuntime) -> Result<(), Fail> {
 }
 
 #[test]
-fn pieces_are_copied_and_become_nodes(rt: HostRuntime) -> Result<(), Fail> {
+fn pieces_are_copied(rt: HostRuntime) -> Result<(), Fail> {
     let alloc = rt.alloc();
     let pieces = lowered(alloc, &[0xD800, 0x61, 0x6B, 0x21], true, true)?;
     for piece in &pieces {
         assert_eq!(rt; &piece.try_clone(alloc)?, piece);
     }
+    Ok(())
+}
+
+#[test]
+fn pieces_become_nodes(rt: HostRuntime) -> Result<(), Fail> {
+    let alloc = rt.alloc();
+    let pieces = lowered(alloc, &[0xD800, 0x61, 0x6B, 0x21], true, true)?;
     let nodes = Piece::into_nodes(alloc, pieces)?;
     assert_eq!(rt; nodes.len(), 4);
     assert!(rt; matches!(&nodes[0], Node::Char { c: 0xD800 }));
