@@ -5,6 +5,7 @@ mod caller;
 mod class_sets;
 mod classes;
 mod escapes;
+mod expect;
 mod faults;
 mod literals;
 mod lookarounds;
@@ -22,6 +23,7 @@ use crate::parse::{ParseFault, try_parse};
 use crate::types::{Flags, MAX_CAPTURE_GROUPS, MAX_CHAR_SET_LENGTH, MAX_LOOPS, MAX_NESTING_DEPTH};
 use crate::unicode::Tables;
 use caller::{code_points, optimized_text};
+use expect::{both, expect_answers, expect_bodies, expect_trees};
 use std::alloc::Global;
 use std::test::Fail;
 
@@ -116,65 +118,59 @@ fn fault_of(alloc: Global, points: &[u32], flags: Flags) -> Result<String, Fail>
 
 #[test]
 fn patterns_have_their_trees(rt: HostRuntime) -> Result<(), Fail> {
-    let any = "MatchAnyExceptLineTerminator";
-    let rows = [
-        ("", "..Empty\n", "..Empty\n"),
-        (
-            "()",
-            "..CaptureGroup 0\n....Empty\n",
-            "..CaptureGroup 0\n....Empty\n",
-        ),
-        ("(?:)", "..Empty\n", "..Empty\n"),
-        (
-            "|",
-            "..Alt\n....Empty\n....Empty\n",
-            "..Alt\n....Empty\n....Empty\n",
-        ),
-        ("a", "..'97'\n", "..'97'\n"),
-        (
-            "a|b|c",
-            "..Alt\n....'97'\n....Alt\n......'98'\n......'99'\n",
-            "..Alt\n....'97'\n....Alt\n......'98'\n......'99'\n",
-        ),
-        (
-            "((?:ab)c)",
-            "..CaptureGroup 0\n....Cat\n......Cat\n........'97'\n........'98'\n......'99'\n",
-            "..CaptureGroup 0\n....Cat\n......'97'\n......'98'\n......'99'\n",
-        ),
-        ("ab", "..Cat\n....'97'\n....'98'\n", "..'97'\n..'98'\n"),
-        ("\u{0}", "..'0'\n", "..'0'\n"),
-        ("\u{10FFFF}", "..'1114111'\n", "..'1114111'\n"),
-    ];
-    for (pattern, parsed, optimized) in rows {
-        let points = code_points(rt.alloc(), pattern)?;
-        let Answer::Trees(first, second) = answer_to(rt.alloc(), &points, Flags::default())? else {
-            assert!(rt; false, "{pattern} is refused");
-            return Ok(());
-        };
-        let want = format!(in rt.alloc(); "Cat\n{parsed}..Goal\n")?;
-        assert_eq!(rt; first.as_str(), want.as_str(), "parsed {pattern}");
-        let want = format!(in rt.alloc(); "Cat\n{optimized}..Goal\n")?;
-        assert_eq!(rt; second.as_str(), want.as_str(), "optimized {pattern}");
-    }
-    for (flags, line) in [(Flags::default(), any), (dot_all(), "MatchAny")] {
-        let Answer::Trees(first, _) = answer_to(rt.alloc(), &[u32::from(b'.')], flags)? else {
-            assert!(rt; false, "a dot is refused");
-            return Ok(());
-        };
-        let want = format!(in rt.alloc(); "Cat\n..{line}\n..Goal\n")?;
-        assert_eq!(rt; first.as_str(), want.as_str());
-    }
-    Ok(())
+    expect_trees(
+        &rt,
+        rt.alloc(),
+        &[
+            ("", "..Empty\n", "..Empty\n"),
+            (
+                "()",
+                "..CaptureGroup 0\n....Empty\n",
+                "..CaptureGroup 0\n....Empty\n",
+            ),
+            ("(?:)", "..Empty\n", "..Empty\n"),
+            (
+                "|",
+                "..Alt\n....Empty\n....Empty\n",
+                "..Alt\n....Empty\n....Empty\n",
+            ),
+            ("a", "..'97'\n", "..'97'\n"),
+            (
+                "a|b|c",
+                "..Alt\n....'97'\n....Alt\n......'98'\n......'99'\n",
+                "..Alt\n....'97'\n....Alt\n......'98'\n......'99'\n",
+            ),
+            (
+                "((?:ab)c)",
+                "..CaptureGroup 0\n....Cat\n......Cat\n........'97'\n........'98'\n......'99'\n",
+                "..CaptureGroup 0\n....Cat\n......'97'\n......'98'\n......'99'\n",
+            ),
+            ("ab", "..Cat\n....'97'\n....'98'\n", "..'97'\n..'98'\n"),
+            ("\u{0}", "..'0'\n", "..'0'\n"),
+            ("\u{10FFFF}", "..'1114111'\n", "..'1114111'\n"),
+        ],
+    )
+}
+
+#[test]
+fn a_dot_is_any_character_or_none_that_ends_a_line(rt: HostRuntime) -> Result<(), Fail> {
+    expect_bodies(
+        &rt,
+        rt.alloc(),
+        &[
+            (".", "", "..MatchAnyExceptLineTerminator\n"),
+            (".", "s", "..MatchAny\n"),
+        ],
+    )
 }
 
 #[test]
 fn a_lone_surrogate_is_a_literal(rt: HostRuntime) -> Result<(), Fail> {
-    let Answer::Trees(first, second) = answer_to(rt.alloc(), &[0xD800], Flags::default())? else {
-        assert!(rt; false, "a surrogate is refused");
-        return Ok(());
-    };
-    assert_eq!(rt; first.as_str(), "Cat\n..'55296'\n..Goal\n");
-    assert_eq!(rt; second.as_str(), "Cat\n..'55296'\n..Goal\n");
+    let found = both(rt.alloc(), &[0xD800], "")?;
+    assert_eq!(rt;
+        found.as_str(),
+        "Cat\n..'55296'\n..Goal\n--\nCat\n..'55296'\n..Goal\n"
+    );
     Ok(())
 }
 
@@ -183,91 +179,75 @@ fn a_lone_surrogate_is_a_literal(rt: HostRuntime) -> Result<(), Fail> {
 // printer were called on the code points, over a small Unicode table.
 #[test]
 fn answers_are_those_of_the_rust_crate(rt: HostRuntime) -> Result<(), Fail> {
-    let rows = [
-        (
-            Flags::default(),
-            "(?:a|b|c|d)",
-            "Cat\n..Alt\n....'97'\n....Alt\n......'98'\n......Alt\n........'99'\n........'100'\n..Goal\n--\nCat\n..Alt\n....'97'\n....Alt\n......'98'\n......Alt\n........'99'\n........'100'\n..Goal\n",
-        ),
-        (
-            Flags::default(),
-            "ab(?:cd)ef",
-            "Cat\n..Cat\n....'97'\n....'98'\n....Cat\n......'99'\n......'100'\n....'101'\n....'102'\n..Goal\n--\nCat\n..'97'\n..'98'\n..'99'\n..'100'\n..'101'\n..'102'\n..Goal\n",
-        ),
-        (
-            Flags::default(),
-            "(||)",
-            "Cat\n..CaptureGroup 0\n....Alt\n......Empty\n......Alt\n........Empty\n........Empty\n..Goal\n--\nCat\n..CaptureGroup 0\n....Alt\n......Empty\n......Alt\n........Empty\n........Empty\n..Goal\n",
-        ),
-        (
-            Flags::default(),
-            "((?:\u{E000}(?:)0a)1)",
-            "Cat\n..CaptureGroup 0\n....Cat\n......Cat\n........'57344'\n........Empty\n........'48'\n........'97'\n......'49'\n..Goal\n--\nCat\n..CaptureGroup 0\n....Cat\n......'57344'\n......Empty\n......'48'\n......'97'\n......'49'\n..Goal\n",
-        ),
-        (
-            dot_all(),
-            "(S)b\u{D7FF}",
-            "Cat\n..Cat\n....CaptureGroup 0\n......'83'\n....'98'\n....'55295'\n..Goal\n--\nCat\n..CaptureGroup 0\n....'83'\n..'98'\n..'55295'\n..Goal\n",
-        ),
-        (
-            Flags::default(),
-            "(?:a:b|c|)",
-            "Cat\n..Alt\n....Cat\n......'97'\n......'58'\n......'98'\n....Alt\n......'99'\n......Empty\n..Goal\n--\nCat\n..Alt\n....Cat\n......'97'\n......'58'\n......'98'\n....Alt\n......'99'\n......Empty\n..Goal\n",
-        ),
-        (
-            Flags::default(),
-            "(:<1>x)",
-            "Cat\n..CaptureGroup 0\n....Cat\n......'58'\n......'60'\n......'49'\n......'62'\n......'120'\n..Goal\n--\nCat\n..CaptureGroup 0\n....Cat\n......'58'\n......'60'\n......'49'\n......'62'\n......'120'\n..Goal\n",
-        ),
-        (
-            dot_all(),
-            "1(a)",
-            "Cat\n..Cat\n....'49'\n....CaptureGroup 0\n......'97'\n..Goal\n--\nCat\n..'49'\n..CaptureGroup 0\n....'97'\n..Goal\n",
-        ),
-        (
-            Flags::default(),
-            "((a))",
-            "Cat\n..CaptureGroup 0\n....CaptureGroup 1\n......'97'\n..Goal\n--\nCat\n..CaptureGroup 0\n....CaptureGroup 1\n......'97'\n..Goal\n",
-        ),
-        (Flags::default(), "(a))", "error: Unbalanced parenthesis"),
-        (
-            Flags::default(),
-            "((?:)ab)c)",
-            "error: Unbalanced parenthesis",
-        ),
-        (Flags::default(), "&2a((b)", "error: Unbalanced parenthesis"),
-        (
-            Flags::default(),
-            "(?:(?:(?:(",
-            "error: Unbalanced parenthesis",
-        ),
-        (Flags::default(), "2(a)<b(", "error: Unbalanced parenthesis"),
-    ];
-    for (flags, pattern, want) in rows {
-        let points = code_points(rt.alloc(), pattern)?;
-        let found = match answer_to(rt.alloc(), &points, flags)? {
-            Answer::Trees(first, second) => format!(in rt.alloc(); "{first}--\n{second}")?,
-            Answer::Fault(text) => format!(in rt.alloc(); "error: {text}")?,
-        };
-        assert_eq!(rt; found.as_str(), want, "{pattern}");
-    }
-    Ok(())
+    expect_answers(
+        &rt,
+        rt.alloc(),
+        &[
+            (
+                "",
+                "(?:a|b|c|d)",
+                "Cat\n..Alt\n....'97'\n....Alt\n......'98'\n......Alt\n........'99'\n........'100'\n..Goal\n--\nCat\n..Alt\n....'97'\n....Alt\n......'98'\n......Alt\n........'99'\n........'100'\n..Goal\n",
+            ),
+            (
+                "",
+                "ab(?:cd)ef",
+                "Cat\n..Cat\n....'97'\n....'98'\n....Cat\n......'99'\n......'100'\n....'101'\n....'102'\n..Goal\n--\nCat\n..'97'\n..'98'\n..'99'\n..'100'\n..'101'\n..'102'\n..Goal\n",
+            ),
+            (
+                "",
+                "(||)",
+                "Cat\n..CaptureGroup 0\n....Alt\n......Empty\n......Alt\n........Empty\n........Empty\n..Goal\n--\nCat\n..CaptureGroup 0\n....Alt\n......Empty\n......Alt\n........Empty\n........Empty\n..Goal\n",
+            ),
+            (
+                "",
+                "((?:\u{E000}(?:)0a)1)",
+                "Cat\n..CaptureGroup 0\n....Cat\n......Cat\n........'57344'\n........Empty\n........'48'\n........'97'\n......'49'\n..Goal\n--\nCat\n..CaptureGroup 0\n....Cat\n......'57344'\n......Empty\n......'48'\n......'97'\n......'49'\n..Goal\n",
+            ),
+            (
+                "s",
+                "(S)b\u{D7FF}",
+                "Cat\n..Cat\n....CaptureGroup 0\n......'83'\n....'98'\n....'55295'\n..Goal\n--\nCat\n..CaptureGroup 0\n....'83'\n..'98'\n..'55295'\n..Goal\n",
+            ),
+            (
+                "",
+                "(?:a:b|c|)",
+                "Cat\n..Alt\n....Cat\n......'97'\n......'58'\n......'98'\n....Alt\n......'99'\n......Empty\n..Goal\n--\nCat\n..Alt\n....Cat\n......'97'\n......'58'\n......'98'\n....Alt\n......'99'\n......Empty\n..Goal\n",
+            ),
+            (
+                "",
+                "(:<1>x)",
+                "Cat\n..CaptureGroup 0\n....Cat\n......'58'\n......'60'\n......'49'\n......'62'\n......'120'\n..Goal\n--\nCat\n..CaptureGroup 0\n....Cat\n......'58'\n......'60'\n......'49'\n......'62'\n......'120'\n..Goal\n",
+            ),
+            (
+                "s",
+                "1(a)",
+                "Cat\n..Cat\n....'49'\n....CaptureGroup 0\n......'97'\n..Goal\n--\nCat\n..'49'\n..CaptureGroup 0\n....'97'\n..Goal\n",
+            ),
+            (
+                "",
+                "((a))",
+                "Cat\n..CaptureGroup 0\n....CaptureGroup 1\n......'97'\n..Goal\n--\nCat\n..CaptureGroup 0\n....CaptureGroup 1\n......'97'\n..Goal\n",
+            ),
+            ("", "(a))", "error: Unbalanced parenthesis"),
+            ("", "((?:)ab)c)", "error: Unbalanced parenthesis"),
+            ("", "&2a((b)", "error: Unbalanced parenthesis"),
+            ("", "(?:(?:(?:(", "error: Unbalanced parenthesis"),
+            ("", "2(a)<b(", "error: Unbalanced parenthesis"),
+        ],
+    )
 }
 
 #[test]
 fn a_deep_line_counts_its_levels(rt: HostRuntime) -> Result<(), Fail> {
     let alloc = rt.alloc();
     let points = repeated(alloc, "(", "a", ")", 125)?;
-    let Answer::Trees(parsed, _) = answer_to(alloc, &points, Flags::default())? else {
-        assert!(rt; false, "125 groups are refused");
-        return Ok(());
-    };
+    let found = both(alloc, &points, "")?;
     let mut want = String::new(alloc);
     for _ in 0..120 {
         want.push_str("..")?;
     }
     want.push_str("(+1).. CaptureGroup 120")?;
-    assert!(rt; parsed.as_str().lines().any(|line| line == want.as_str()));
+    assert!(rt; found.as_str().lines().any(|line| line == want.as_str()));
     Ok(())
 }
 

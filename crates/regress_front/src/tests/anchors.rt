@@ -1,7 +1,8 @@
 //! Anchors and word boundaries.
 
 use super::caller::code_points;
-use super::{flags_of, parsed, whole};
+use super::expect::expect_bodies;
+use super::flags_of;
 use crate::ir::Node;
 use crate::parse::{ParseFault, try_parse};
 use crate::unicode::Tables;
@@ -10,26 +11,24 @@ use std::test::Fail;
 
 #[test]
 fn assertions_have_their_lines(rt: HostRuntime) -> Result<(), Fail> {
-    let rows = [
-        ("^", "", "..Anchor StartOfLine multiline=false\n"),
-        ("^", "isu", "..Anchor StartOfLine multiline=false\n"),
-        ("^", "m", "..Anchor StartOfLine multiline=true\n"),
-        ("$", "", "..Anchor EndOfLine multiline=false\n"),
-        ("$", "m", "..Anchor EndOfLine multiline=true\n"),
-        ("\\b", "", "..WordBoundary \"\\\\b\" \n"),
-        ("\\B", "", "..WordBoundary \"\\\\B\" \n"),
-        (
-            "\\b+",
-            "",
-            "..Loop (groups 0..0) Quantifier { min: 1, max: None, greedy: true }\n....WordBoundary \"\\\\b\" \n",
-        ),
-    ];
-    for (pattern, letters, body) in rows {
-        let found = parsed(rt.alloc(), pattern, letters)?;
-        let want = whole(rt.alloc(), body)?;
-        assert_eq!(rt; found.as_str(), want.as_str(), "{pattern} {letters}");
-    }
-    Ok(())
+    expect_bodies(
+        &rt,
+        rt.alloc(),
+        &[
+            ("^", "", "..Anchor StartOfLine multiline=false\n"),
+            ("^", "isu", "..Anchor StartOfLine multiline=false\n"),
+            ("^", "m", "..Anchor StartOfLine multiline=true\n"),
+            ("$", "", "..Anchor EndOfLine multiline=false\n"),
+            ("$", "m", "..Anchor EndOfLine multiline=true\n"),
+            ("\\b", "", "..WordBoundary \"\\\\b\" \n"),
+            ("\\B", "", "..WordBoundary \"\\\\B\" \n"),
+            (
+                "\\b+",
+                "",
+                "..Loop (groups 0..0) Quantifier { min: 1, max: None, greedy: true }\n....WordBoundary \"\\\\b\" \n",
+            ),
+        ],
+    )
 }
 
 /// Whether the pattern's first node is a word boundary, inverted, and with both flags.

@@ -1,169 +1,185 @@
 //! Quantified items, with the range of the groups inside.
 
-use super::caller::code_points;
-use super::{Answer, answer_to, flags_of, parsed, whole};
+use super::expect::{expect_answers, expect_bodies, expect_trees};
 use std::test::Fail;
 
 #[test]
 fn a_quantified_item_is_a_loop(rt: HostRuntime) -> Result<(), Fail> {
-    let rows = [
-        (
-            "a*",
-            "..Loop (groups 0..0) Quantifier { min: 0, max: None, greedy: true }\n....'97'\n",
-        ),
-        (
-            "a+",
-            "..Loop (groups 0..0) Quantifier { min: 1, max: None, greedy: true }\n....'97'\n",
-        ),
-        (
-            "a?",
-            "..Loop (groups 0..0) Quantifier { min: 0, max: Some(1), greedy: true }\n....'97'\n",
-        ),
-        (
-            "a*?",
-            "..Loop (groups 0..0) Quantifier { min: 0, max: None, greedy: false }\n....'97'\n",
-        ),
-        (
-            "a??",
-            "..Loop (groups 0..0) Quantifier { min: 0, max: Some(1), greedy: false }\n....'97'\n",
-        ),
-        (
-            ".+?",
-            "..Loop (groups 0..0) Quantifier { min: 1, max: None, greedy: false }\n....MatchAnyExceptLineTerminator\n",
-        ),
-        (
-            "x{0}",
-            "..Loop (groups 0..0) Quantifier { min: 0, max: Some(0), greedy: true }\n....'120'\n",
-        ),
-        (
-            "a{2}",
-            "..Loop (groups 0..0) Quantifier { min: 2, max: Some(2), greedy: true }\n....'97'\n",
-        ),
-        (
-            "a{2,}",
-            "..Loop (groups 0..0) Quantifier { min: 2, max: None, greedy: true }\n....'97'\n",
-        ),
-        (
-            "a{2,}?",
-            "..Loop (groups 0..0) Quantifier { min: 2, max: None, greedy: false }\n....'97'\n",
-        ),
-        (
-            "a{2,3}",
-            "..Loop (groups 0..0) Quantifier { min: 2, max: Some(3), greedy: true }\n....'97'\n",
-        ),
-        (
-            "a{007}",
-            "..Loop (groups 0..0) Quantifier { min: 7, max: Some(7), greedy: true }\n....'97'\n",
-        ),
-        (
-            "(?:ab){2}",
-            "..Loop (groups 0..0) Quantifier { min: 2, max: Some(2), greedy: true }\n....Cat\n......'97'\n......'98'\n",
-        ),
-        (
-            "ab*",
-            "..Cat\n....'97'\n....Loop (groups 0..0) Quantifier { min: 0, max: None, greedy: true }\n......'98'\n",
-        ),
-        (
-            "(?:a|b){3,5}",
-            "..Loop (groups 0..0) Quantifier { min: 3, max: Some(5), greedy: true }\n....Alt\n......'97'\n......'98'\n",
-        ),
-        (
-            "a|b*",
-            "..Alt\n....'97'\n....Loop (groups 0..0) Quantifier { min: 0, max: None, greedy: true }\n......'98'\n",
-        ),
-        (
-            "(?:)*",
-            "..Loop (groups 0..0) Quantifier { min: 0, max: None, greedy: true }\n....Empty\n",
-        ),
-        (
-            "(?:(?:(?:(?:a{5}){5}){5}){5}){5}",
-            "..Loop (groups 0..0) Quantifier { min: 5, max: Some(5), greedy: true }\n....Loop (groups 0..0) Quantifier { min: 5, max: Some(5), greedy: true }\n......Loop (groups 0..0) Quantifier { min: 5, max: Some(5), greedy: true }\n........Loop (groups 0..0) Quantifier { min: 5, max: Some(5), greedy: true }\n..........Loop (groups 0..0) Quantifier { min: 5, max: Some(5), greedy: true }\n............'97'\n",
-        ),
-        (
-            "[]|a",
-            "..Alt\n....Bracket BracketContents { invert: false, cps: CodePointSet { ivs: [] } }\n....'97'\n",
-        ),
-        (
-            "[](a)",
-            "..Cat\n....Bracket BracketContents { invert: false, cps: CodePointSet { ivs: [] } }\n....CaptureGroup 0\n......'97'\n",
-        ),
-    ];
-    for (pattern, body) in rows {
-        let found = parsed(rt.alloc(), pattern, "")?;
-        let want = whole(rt.alloc(), body)?;
-        assert_eq!(rt; found.as_str(), want.as_str(), "{pattern}");
-    }
-    Ok(())
+    expect_bodies(
+        &rt,
+        rt.alloc(),
+        &[
+            (
+                "a*",
+                "",
+                "..Loop (groups 0..0) Quantifier { min: 0, max: None, greedy: true }\n....'97'\n",
+            ),
+            (
+                "a+",
+                "",
+                "..Loop (groups 0..0) Quantifier { min: 1, max: None, greedy: true }\n....'97'\n",
+            ),
+            (
+                "a?",
+                "",
+                "..Loop (groups 0..0) Quantifier { min: 0, max: Some(1), greedy: true }\n....'97'\n",
+            ),
+            (
+                "a*?",
+                "",
+                "..Loop (groups 0..0) Quantifier { min: 0, max: None, greedy: false }\n....'97'\n",
+            ),
+            (
+                "a??",
+                "",
+                "..Loop (groups 0..0) Quantifier { min: 0, max: Some(1), greedy: false }\n....'97'\n",
+            ),
+            (
+                ".+?",
+                "",
+                "..Loop (groups 0..0) Quantifier { min: 1, max: None, greedy: false }\n....MatchAnyExceptLineTerminator\n",
+            ),
+            (
+                "x{0}",
+                "",
+                "..Loop (groups 0..0) Quantifier { min: 0, max: Some(0), greedy: true }\n....'120'\n",
+            ),
+            (
+                "a{2}",
+                "",
+                "..Loop (groups 0..0) Quantifier { min: 2, max: Some(2), greedy: true }\n....'97'\n",
+            ),
+            (
+                "a{2,}",
+                "",
+                "..Loop (groups 0..0) Quantifier { min: 2, max: None, greedy: true }\n....'97'\n",
+            ),
+            (
+                "a{2,}?",
+                "",
+                "..Loop (groups 0..0) Quantifier { min: 2, max: None, greedy: false }\n....'97'\n",
+            ),
+            (
+                "a{2,3}",
+                "",
+                "..Loop (groups 0..0) Quantifier { min: 2, max: Some(3), greedy: true }\n....'97'\n",
+            ),
+            (
+                "a{007}",
+                "",
+                "..Loop (groups 0..0) Quantifier { min: 7, max: Some(7), greedy: true }\n....'97'\n",
+            ),
+            (
+                "(?:ab){2}",
+                "",
+                "..Loop (groups 0..0) Quantifier { min: 2, max: Some(2), greedy: true }\n....Cat\n......'97'\n......'98'\n",
+            ),
+            (
+                "ab*",
+                "",
+                "..Cat\n....'97'\n....Loop (groups 0..0) Quantifier { min: 0, max: None, greedy: true }\n......'98'\n",
+            ),
+            (
+                "(?:a|b){3,5}",
+                "",
+                "..Loop (groups 0..0) Quantifier { min: 3, max: Some(5), greedy: true }\n....Alt\n......'97'\n......'98'\n",
+            ),
+            (
+                "a|b*",
+                "",
+                "..Alt\n....'97'\n....Loop (groups 0..0) Quantifier { min: 0, max: None, greedy: true }\n......'98'\n",
+            ),
+            (
+                "(?:)*",
+                "",
+                "..Loop (groups 0..0) Quantifier { min: 0, max: None, greedy: true }\n....Empty\n",
+            ),
+            (
+                "(?:(?:(?:(?:a{5}){5}){5}){5}){5}",
+                "",
+                "..Loop (groups 0..0) Quantifier { min: 5, max: Some(5), greedy: true }\n....Loop (groups 0..0) Quantifier { min: 5, max: Some(5), greedy: true }\n......Loop (groups 0..0) Quantifier { min: 5, max: Some(5), greedy: true }\n........Loop (groups 0..0) Quantifier { min: 5, max: Some(5), greedy: true }\n..........Loop (groups 0..0) Quantifier { min: 5, max: Some(5), greedy: true }\n............'97'\n",
+            ),
+            (
+                "[]|a",
+                "",
+                "..Alt\n....Bracket BracketContents { invert: false, cps: CodePointSet { ivs: [] } }\n....'97'\n",
+            ),
+            (
+                "[](a)",
+                "",
+                "..Cat\n....Bracket BracketContents { invert: false, cps: CodePointSet { ivs: [] } }\n....CaptureGroup 0\n......'97'\n",
+            ),
+        ],
+    )
 }
 
 #[test]
 fn numbers_past_the_greatest_are_the_greatest(rt: HostRuntime) -> Result<(), Fail> {
-    let rows = [
-        (
-            "a{99999999999999999999}",
-            "..Loop (groups 0..0) Quantifier { min: 18446744073709551615, max: Some(18446744073709551615), greedy: true }\n....'97'\n",
-        ),
-        (
-            "a{2,99999999999999999999}",
-            "..Loop (groups 0..0) Quantifier { min: 2, max: Some(18446744073709551615), greedy: true }\n....'97'\n",
-        ),
-        (
-            "a{18446744073709551614,18446744073709551616}?",
-            "..Loop (groups 0..0) Quantifier { min: 18446744073709551614, max: Some(18446744073709551615), greedy: false }\n....'97'\n",
-        ),
-    ];
-    for (pattern, body) in rows {
-        let found = parsed(rt.alloc(), pattern, "")?;
-        let want = whole(rt.alloc(), body)?;
-        assert_eq!(rt; found.as_str(), want.as_str(), "{pattern}");
-    }
-    Ok(())
+    expect_bodies(
+        &rt,
+        rt.alloc(),
+        &[
+            (
+                "a{99999999999999999999}",
+                "",
+                "..Loop (groups 0..0) Quantifier { min: 18446744073709551615, max: Some(18446744073709551615), greedy: true }\n....'97'\n",
+            ),
+            (
+                "a{2,99999999999999999999}",
+                "",
+                "..Loop (groups 0..0) Quantifier { min: 2, max: Some(18446744073709551615), greedy: true }\n....'97'\n",
+            ),
+            (
+                "a{18446744073709551614,18446744073709551616}?",
+                "",
+                "..Loop (groups 0..0) Quantifier { min: 18446744073709551614, max: Some(18446744073709551615), greedy: false }\n....'97'\n",
+            ),
+        ],
+    )
 }
 
 #[test]
 fn a_loop_has_the_range_of_its_groups(rt: HostRuntime) -> Result<(), Fail> {
-    let rows = [
-        (
-            "(x){0}",
-            "..Loop (groups 0..1) Quantifier { min: 0, max: Some(0), greedy: true }\n....CaptureGroup 0\n......'120'\n",
-        ),
-        (
-            "(a)b*",
-            "..Cat\n....CaptureGroup 0\n......'97'\n....Loop (groups 1..1) Quantifier { min: 0, max: None, greedy: true }\n......'98'\n",
-        ),
-        (
-            "(a)(b)*",
-            "..Cat\n....CaptureGroup 0\n......'97'\n....Loop (groups 1..2) Quantifier { min: 0, max: None, greedy: true }\n......CaptureGroup 1\n........'98'\n",
-        ),
-        (
-            "(?:(a)(b*))+(c)?",
-            "..Cat\n....Loop (groups 0..2) Quantifier { min: 1, max: None, greedy: true }\n......Cat\n........CaptureGroup 0\n..........'97'\n........CaptureGroup 1\n..........Loop (groups 2..2) Quantifier { min: 0, max: None, greedy: true }\n............'98'\n....Loop (groups 2..3) Quantifier { min: 0, max: Some(1), greedy: true }\n......CaptureGroup 2\n........'99'\n",
-        ),
-    ];
-    for (pattern, body) in rows {
-        let found = parsed(rt.alloc(), pattern, "")?;
-        let want = whole(rt.alloc(), body)?;
-        assert_eq!(rt; found.as_str(), want.as_str(), "{pattern}");
-    }
-    Ok(())
+    expect_bodies(
+        &rt,
+        rt.alloc(),
+        &[
+            (
+                "(x){0}",
+                "",
+                "..Loop (groups 0..1) Quantifier { min: 0, max: Some(0), greedy: true }\n....CaptureGroup 0\n......'120'\n",
+            ),
+            (
+                "(a)b*",
+                "",
+                "..Cat\n....CaptureGroup 0\n......'97'\n....Loop (groups 1..1) Quantifier { min: 0, max: None, greedy: true }\n......'98'\n",
+            ),
+            (
+                "(a)(b)*",
+                "",
+                "..Cat\n....CaptureGroup 0\n......'97'\n....Loop (groups 1..2) Quantifier { min: 0, max: None, greedy: true }\n......CaptureGroup 1\n........'98'\n",
+            ),
+            (
+                "(?:(a)(b*))+(c)?",
+                "",
+                "..Cat\n....Loop (groups 0..2) Quantifier { min: 1, max: None, greedy: true }\n......Cat\n........CaptureGroup 0\n..........'97'\n........CaptureGroup 1\n..........Loop (groups 2..2) Quantifier { min: 0, max: None, greedy: true }\n............'98'\n....Loop (groups 2..3) Quantifier { min: 0, max: Some(1), greedy: true }\n......CaptureGroup 2\n........'99'\n",
+            ),
+        ],
+    )
 }
 
 #[test]
 fn the_body_of_a_loop_is_flattened(rt: HostRuntime) -> Result<(), Fail> {
-    let points = code_points(rt.alloc(), "(?:(?:ab)c)*")?;
-    let Answer::Trees(_, second) = answer_to(rt.alloc(), &points, flags_of(""))? else {
-        assert!(rt; false, "it is refused");
-        return Ok(());
-    };
-    let body =
+    let first =
+        "..Loop (groups 0..0) Quantifier { min: 0, max: None, greedy: true }\n....Cat\n......Cat\n........'97'\n........'98'\n......'99'\n";
+    let second =
         "..Loop (groups 0..0) Quantifier { min: 0, max: None, greedy: true }\n....Cat\n......'97'\n......'98'\n......'99'\n";
-    assert_eq!(rt; second.as_str(), whole(rt.alloc(), body)?.as_str());
-    Ok(())
+    expect_trees(&rt, rt.alloc(), &[("(?:(?:ab)c)*", first, second)])
 }
 
 const ASSIGNMENT: &str = "^\\s*([a-z_]\\w*)\\s*=\\s*(\\d+|0x[0-9a-f]{1,8})\\s*;?$";
 
-const PARSED_ASSIGNMENT: &str = "\
+const TREES_OF_ASSIGNMENT: &str = "\
 Cat
 ..Cat
 ....Anchor StartOfLine multiline=false
@@ -194,9 +210,7 @@ Cat
 ......'59'
 ....Anchor EndOfLine multiline=false
 ..Goal
-";
-
-const FLAT_ASSIGNMENT: &str = "\
+--
 Cat
 ..Anchor StartOfLine multiline=false
 ..Loop (groups 0..0) Quantifier { min: 0, max: None, greedy: true }
@@ -230,12 +244,5 @@ Cat
 
 #[test]
 fn a_pattern_of_every_kind_has_its_trees(rt: HostRuntime) -> Result<(), Fail> {
-    let points = code_points(rt.alloc(), ASSIGNMENT)?;
-    let Answer::Trees(first, second) = answer_to(rt.alloc(), &points, flags_of("i"))? else {
-        assert!(rt; false, "it is refused");
-        return Ok(());
-    };
-    assert_eq!(rt; first.as_str(), PARSED_ASSIGNMENT);
-    assert_eq!(rt; second.as_str(), FLAT_ASSIGNMENT);
-    Ok(())
+    expect_answers(&rt, rt.alloc(), &[("i", ASSIGNMENT, TREES_OF_ASSIGNMENT)])
 }

@@ -1,7 +1,8 @@
 //! References to groups, by number and by name.
 
 use super::caller::code_points;
-use super::{fault_of, flags_of, parsed, whole};
+use super::expect::{expect_bodies, expect_faults};
+use super::flags_of;
 use crate::ir::Node;
 use crate::parse::{ParseFault, try_parse};
 use crate::unicode::Tables;
@@ -10,60 +11,61 @@ use std::test::Fail;
 
 #[test]
 fn a_number_refers_where_there_are_so_many_groups(rt: HostRuntime) -> Result<(), Fail> {
-    let rows = [
-        (
-            "[(]\\1(a)",
-            "..Cat\n....Bracket BracketContents { invert: false, cps: CodePointSet { ivs: [U+0028-U+0028] } }\n....BackRef 1 \n....CaptureGroup 0\n......'97'\n",
-        ),
-        ("\\2(a)", "..Cat\n....'2'\n....CaptureGroup 0\n......'97'\n"),
-        (
-            "\\10(a)",
-            "..Cat\n....'8'\n....CaptureGroup 0\n......'97'\n",
-        ),
-        ("\\8", "..'56'\n"),
-    ];
-    for (pattern, body) in rows {
-        let found = parsed(rt.alloc(), pattern, "")?;
-        let want = whole(rt.alloc(), body)?;
-        assert_eq!(rt; found.as_str(), want.as_str(), "{pattern}");
-    }
-    Ok(())
+    expect_bodies(
+        &rt,
+        rt.alloc(),
+        &[
+            (
+                "[(]\\1(a)",
+                "",
+                "..Cat\n....Bracket BracketContents { invert: false, cps: CodePointSet { ivs: [U+0028-U+0028] } }\n....BackRef 1 \n....CaptureGroup 0\n......'97'\n",
+            ),
+            (
+                "\\2(a)",
+                "",
+                "..Cat\n....'2'\n....CaptureGroup 0\n......'97'\n",
+            ),
+            (
+                "\\10(a)",
+                "",
+                "..Cat\n....'8'\n....CaptureGroup 0\n......'97'\n",
+            ),
+            ("\\8", "", "..'56'\n"),
+        ],
+    )
 }
 
 #[test]
 fn a_name_refers_to_each_group_of_that_name(rt: HostRuntime) -> Result<(), Fail> {
-    let rows = [
-        (
-            "(?<a>x)|(?<a>y)\\k<a>",
-            "..Alt\n....CaptureGroup 0 \"a\"\n......'120'\n....Cat\n......CaptureGroup 1 \"a\"\n........'121'\n......Alt\n........BackRef 1 \n........BackRef 2 \n",
-        ),
-        ("\\k", "..'107'\n"),
-    ];
-    for (pattern, body) in rows {
-        let found = parsed(rt.alloc(), pattern, "")?;
-        let want = whole(rt.alloc(), body)?;
-        assert_eq!(rt; found.as_str(), want.as_str(), "{pattern}");
-    }
-    Ok(())
+    expect_bodies(
+        &rt,
+        rt.alloc(),
+        &[
+            (
+                "(?<a>x)|(?<a>y)\\k<a>",
+                "",
+                "..Alt\n....CaptureGroup 0 \"a\"\n......'120'\n....Cat\n......CaptureGroup 1 \"a\"\n........'121'\n......Alt\n........BackRef 1 \n........BackRef 2 \n",
+            ),
+            ("\\k", "", "..'107'\n"),
+        ],
+    )
 }
 
 #[test]
 fn references_have_their_faults(rt: HostRuntime) -> Result<(), Fail> {
-    let rows = [
-        ("\\2(a)", "u", "Invalid character escape"),
-        ("\\k", "u", "Invalid named backreference syntax"),
-        (
-            "(?<a>x)\\k<b>",
-            "",
-            "Backreference to invalid named capture group: b",
-        ),
-    ];
-    for (pattern, letters, want) in rows {
-        let points = code_points(rt.alloc(), pattern)?;
-        let found = fault_of(rt.alloc(), &points, flags_of(letters))?;
-        assert_eq!(rt; found.as_str(), want, "{pattern} {letters}");
-    }
-    Ok(())
+    expect_faults(
+        &rt,
+        rt.alloc(),
+        &[
+            ("\\2(a)", "u", "Invalid character escape"),
+            ("\\k", "u", "Invalid named backreference syntax"),
+            (
+                "(?<a>x)\\k<b>",
+                "",
+                "Backreference to invalid named capture group: b",
+            ),
+        ],
+    )
 }
 
 /// The number of the group to which the first item refers.

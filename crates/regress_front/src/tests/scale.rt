@@ -1,4 +1,5 @@
 //! Large patterns, of which each part comes out.
+ghost use Rattle.std.specs.Prelude.{◌≤◌};
 
 use super::caller::code_points;
 use super::flags_of;
@@ -6,7 +7,7 @@ use crate::ir::Node;
 use crate::optimizer::parse_and_optimize;
 use crate::parse::ParseFault;
 use crate::unicode::Tables;
-use std::alloc::Global;
+use std::alloc::{AllocError, Global};
 use std::test::Fail;
 
 /// The parts of the optimized tree of a pattern, and the intervals of the first if it is a bracket.
@@ -25,6 +26,21 @@ fn counted(alloc: Global, pattern: &str, letters: &str) -> Result<(usize, usize)
     Ok((parts.len(), intervals))
 }
 
+/// The same of the item so many times, behind the front; (0, 0) where that is refused.
+fn counted_times(
+    alloc: Global,
+    front: &str,
+    item: &str,
+    letters: &str,
+    times: usize,
+) -> Result<(usize, usize), AllocError> {
+    let mut pattern = String::from_str(alloc, front)?;
+    for _ in 0..times {
+        pattern.push_str(item)?;
+    }
+    Ok(counted(alloc, pattern.as_str(), letters).unwrap_or((0, 0)))
+}
+
 #[test]
 fn many_items_are_parsed_and_optimized(rt: HostRuntime) -> Result<(), Fail> {
     let rows = [
@@ -39,42 +55,41 @@ fn many_items_are_parsed_and_optimized(rt: HostRuntime) -> Result<(), Fail> {
         ("(?i:a)", "", 33_000, 33_001),
     ];
     for (item, letters, times, want) in rows {
-        let mut pattern = String::new(rt.alloc());
-        for _ in 0..times {
-            pattern.push_str(item)?;
-        }
-        let (parts, _) = counted(rt.alloc(), pattern.as_str(), letters).unwrap_or((0, 0));
+        let (parts, _) = counted_times(rt.alloc(), "", item, letters, times)?;
         assert_eq!(rt; parts, want, "{item} {times} times");
     }
     Ok(())
 }
 
 #[test]
-fn a_class_of_many_ranges_is_parsed(rt: HostRuntime) -> Result<(), Fail> {
-    let ranges: u32 = 10_000;
-    let mut pattern = String::from_str(rt.alloc(), "[")?;
+fn many_references_by_name_are_parsed(rt: HostRuntime) -> Result<(), Fail> {
+    let (parts, _) = counted_times(rt.alloc(), "(?<a>x)", "\\k<a>", "", 10_000)?;
+    assert_eq!(rt; parts, 10_002);
+    Ok(())
+}
+
+/// A class of so many ranges.
+fn class_of_ranges(alloc: Global, ranges: u32) -> Result<String, AllocError>
+    requires { ranges ≤ 10000 }
+{
+    let mut pattern = String::from_str(alloc, "[")?;
     for i in 0..ranges {
         let first = 0x100000 + 3 * i;
         let last = first + 1;
-        let range = format!(in rt.alloc(); "\\u{{{first:x}}}-\\u{{{last:x}}}")?;
+        let range = format!(in alloc; "\\u{{{first:x}}}-\\u{{{last:x}}}")?;
         pattern.push_str(range.as_str())?;
     }
     pattern.push_str("]")?;
+    Ok(pattern)
+}
+
+#[test]
+fn a_class_of_many_ranges_is_parsed(rt: HostRuntime) -> Result<(), Fail> {
+    let pattern = class_of_ranges(rt.alloc(), 10_000)?;
     for letters in ["", "i", "iu"] {
         let found = counted(rt.alloc(), pattern.as_str(), letters).unwrap_or((0, 0));
         assert_eq!(rt; found, (2, 10_000), "{letters}");
     }
-    Ok(())
-}
-
-#[test]
-fn many_references_by_name_are_parsed(rt: HostRuntime) -> Result<(), Fail> {
-    let mut pattern = String::from_str(rt.alloc(), "(?<a>x)")?;
-    for _ in 0..10_000 {
-        pattern.push_str("\\k<a>")?;
-    }
-    let (parts, _) = counted(rt.alloc(), pattern.as_str(), "").unwrap_or((0, 0));
-    assert_eq!(rt; parts, 10_002);
     Ok(())
 }
 

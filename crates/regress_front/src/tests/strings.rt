@@ -7,6 +7,7 @@ use crate::parse::{ParseFault, try_parse};
 use crate::unicode::Tables;
 use std::alloc::Global;
 use std::boxed::BoxedSlice;
+use std::process::Abort;
 use std::test::Fail;
 
 /// The strings with which the tree begins, each with a `|` behind it.
@@ -39,23 +40,28 @@ fn first_strings(node: &Node) -> &[BoxedSlice<u32>] {
     }
 }
 
-#[test]
-fn strings_stand_longest_first_and_else_as_they_were_read(rt: HostRuntime) -> Result<(), Fail> {
-    let rows = [
-        ("[a-c\\q{xy}]", "xy|"),
-        ("[\\q{abc|de|fgh}]", "abc|fgh|de|"),
-        ("[\\q{ab|c|abc}--c]", "abc|ab|"),
-        ("[\\q{ab|cd}[\\q{ef|ab|xyz}]]", "xyz|ab|cd|ef|ab|"),
-        ("[\\q{ab|cd|ab}&&\\q{ef|ab}]", "ab|ab|"),
-    ];
+/// The strings of that class stand so.
+fn expect_strings(rt: &impl Abort, alloc: Global, rows: &[(&str, &str)]) -> Result<(), Fail> {
     for (pattern, want) in rows {
-        let Ok(found) = strings(rt.alloc(), pattern, "v") else {
-            assert!(rt; false, "{pattern} is refused");
-            return Ok(());
-        };
-        assert_eq!(rt; found.as_str(), want, "{pattern}");
+        let found = strings(alloc, pattern, "v").ok();
+        assert_eq!(rt; found.as_deref(), Some(*want), "{pattern}");
     }
     Ok(())
+}
+
+#[test]
+fn strings_stand_longest_first_and_else_as_they_were_read(rt: HostRuntime) -> Result<(), Fail> {
+    expect_strings(
+        &rt,
+        rt.alloc(),
+        &[
+            ("[a-c\\q{xy}]", "xy|"),
+            ("[\\q{abc|de|fgh}]", "abc|fgh|de|"),
+            ("[\\q{ab|c|abc}--c]", "abc|ab|"),
+            ("[\\q{ab|cd}[\\q{ef|ab|xyz}]]", "xyz|ab|cd|ef|ab|"),
+            ("[\\q{ab|cd|ab}&&\\q{ef|ab}]", "ab|ab|"),
+        ],
+    )
 }
 
 #[test]
@@ -65,10 +71,9 @@ fn a_property_of_strings_keeps_the_order_of_the_table(rt: HostRuntime) -> Result
         want.push(key)?;
         want.push_str("\u{FE0F}\u{20E3}|")?;
     }
-    let Ok(found) = strings(rt.alloc(), "\\p{Emoji_Keycap_Sequence}", "v") else {
-        assert!(rt; false, "it is refused");
-        return Ok(());
-    };
-    assert_eq!(rt; found.as_str(), want.as_str());
-    Ok(())
+    expect_strings(
+        &rt,
+        rt.alloc(),
+        &[("\\p{Emoji_Keycap_Sequence}", want.as_str())],
+    )
 }

@@ -91,25 +91,30 @@ fn is_run(set: Option<&CodePointSet>, first: u32, last: u32) -> bool
 #[test]
 fn lists_of_the_small_table(rt: HostRuntime) -> Result<(), Fail> {
     let tables = Tables::small(rt.alloc())?;
-    assert!(rt; is_run(tables.binary("ASCII"), 0, 0x7F));
-    assert!(rt; is_run(tables.binary("Any"), 0, 0x10FFFF));
-    assert!(rt; is_run(tables.binary("ASCII_Hex_Digit"), 0x30, 0x39));
-    assert!(rt; is_run(tables.binary("ASCII_Hex_Digit"), 0x41, 0x46));
-    assert!(rt; is_run(tables.binary("ASCII_Hex_Digit"), 0x61, 0x66));
-    assert!(rt; is_run(tables.general_category("Zl"), 0x2028, 0x2028));
-    assert!(rt; is_run(tables.general_category("Line_Separator"), 0x2028, 0x2028));
-    assert!(rt; is_run(tables.general_category("Zp"), 0x2029, 0x2029));
-    assert!(rt;
-        is_run(
-            tables.general_category("Paragraph_Separator"),
-            0x2029,
-            0x2029
-        )
-    );
-    assert!(rt; is_run(tables.script("Ogam"), 0x1680, 0x169C));
-    assert!(rt; is_run(tables.script("Ogham"), 0x1680, 0x169C));
-    assert!(rt; is_run(tables.script_extensions("Ogam"), 0x1680, 0x169C));
-    assert!(rt; is_run(tables.script_extensions("Ogham"), 0x1680, 0x169C));
+    for (name, first, last) in [
+        ("ASCII", 0, 0x7F),
+        ("Any", 0, 0x10FFFF),
+        ("ASCII_Hex_Digit", 0x30, 0x39),
+        ("ASCII_Hex_Digit", 0x41, 0x46),
+        ("ASCII_Hex_Digit", 0x61, 0x66),
+    ] {
+        assert!(rt; is_run(tables.binary(name), first, last), "{name}");
+    }
+    for (name, c) in [
+        ("Zl", 0x2028),
+        ("Line_Separator", 0x2028),
+        ("Zp", 0x2029),
+        ("Paragraph_Separator", 0x2029),
+    ] {
+        assert!(rt; is_run(tables.general_category(name), c, c), "{name}");
+    }
+    for name in ["Ogam", "Ogham"] {
+        assert!(rt; is_run(tables.script(name), 0x1680, 0x169C), "{name}");
+        assert!(rt;
+            is_run(tables.script_extensions(name), 0x1680, 0x169C),
+            "{name}"
+        );
+    }
     Ok(())
 }
 

@@ -3,6 +3,7 @@ ghost use Rattle.std.specs.Prelude.{◌≤◌};
 use crate::unicode::{FoldRange, Tables, TablesError};
 use regress_base::codepointset::{CodePointSet, Interval};
 use std::alloc::{AllocError, Global};
+use std::process::Abort;
 use std::test::Fail;
 
 /// The table of these rows alone.
@@ -59,12 +60,19 @@ fn with_string(alloc: Global, string: Vec<u32>) -> Result<Tables, TablesError> {
     )
 }
 
-/// What a refusal prints, and `accepted` for a table.
-fn told(alloc: Global, answer: Result<Tables, TablesError>) -> Result<String, Fail> {
-    match answer {
-        Ok(_) => Ok(String::from_str(alloc, "accepted")?),
-        Err(error) => Ok(format!(in alloc; "{error}")?),
-    }
+/// A refusal prints so, and a table is `accepted`.
+fn expect_told(
+    rt: &impl Abort,
+    alloc: Global,
+    answer: Result<Tables, TablesError>,
+    want: &str,
+) -> Result<(), Fail> {
+    let found = match answer {
+        Ok(_) => String::from_str(alloc, "accepted")?,
+        Err(error) => format!(in alloc; "{error}")?,
+    };
+    assert_eq!(rt; found.as_str(), want);
+    Ok(())
 }
 
 fn one_set(alloc: Global, first: u32, last: u32) -> Result<CodePointSet, AllocError>
@@ -109,31 +117,29 @@ fn four_to_one(alloc: Global) -> Result<Vec<FoldRange>, AllocError> {
 fn rows_that_make_no_map_are_refused(rt: HostRuntime) -> Result<(), Fail> {
     let alloc = rt.alloc();
     let answer = with_rows(alloc, chain(alloc)?, Vec::new(alloc));
-    assert_eq!(rt; told(alloc, answer)?.as_str(), "NotIdempotent(Fold)");
+    expect_told(&rt, alloc, answer, "NotIdempotent(Fold)")?;
     let answer = with_rows(alloc, turned(alloc)?, Vec::new(alloc));
-    assert_eq!(rt; told(alloc, answer)?.as_str(), "RangeOrder(Fold)");
+    expect_told(&rt, alloc, answer, "RangeOrder(Fold)")?;
     let rows = vec![in alloc; FoldRange::from(0x41, 1, -66, 1)]?;
     let answer = with_rows(alloc, rows, Vec::new(alloc));
-    assert_eq!(rt; told(alloc, answer)?.as_str(), "TargetOutOfRange(Fold)");
+    expect_told(&rt, alloc, answer, "TargetOutOfRange(Fold)")?;
     let rows = vec![in alloc; FoldRange::from(0xFFFFE, 1, 65538, 1)]?;
     let answer = with_rows(alloc, Vec::new(alloc), rows);
-    assert_eq!(rt; told(alloc, answer)?.as_str(), "TargetOutOfRange(Upper)");
-    Ok(())
+    expect_told(&rt, alloc, answer, "TargetOutOfRange(Upper)")
 }
 
 #[test]
 fn at_most_four_code_points_have_one_image(rt: HostRuntime) -> Result<(), Fail> {
     let alloc = rt.alloc();
     let answer = with_rows(alloc, four_to_one(alloc)?, Vec::new(alloc));
-    assert_eq!(rt; told(alloc, answer)?.as_str(), "ClassTooLarge(Fold)");
+    expect_told(&rt, alloc, answer, "ClassTooLarge(Fold)")?;
     let rows = vec![in alloc;
         FoldRange::from(0x41, 1, 32, 1),
         FoldRange::from(0x42, 1, 31, 1),
         FoldRange::from(0x43, 1, 30, 1),
     ]?;
     let answer = with_rows(alloc, rows, Vec::new(alloc));
-    assert_eq!(rt; told(alloc, answer)?.as_str(), "accepted");
-    Ok(())
+    expect_told(&rt, alloc, answer, "accepted")
 }
 
 #[test]
@@ -143,47 +149,43 @@ fn punctuation_is_in_no_name(rt: HostRuntime) -> Result<(), Fail> {
         let id_continue = one_set(alloc, c, c)?;
         let none = CodePointSet::new(alloc);
         let answer = with_identifiers(alloc, Vec::new(alloc), none, id_continue, Vec::new(alloc));
-        assert_eq!(rt; told(alloc, answer)?.as_str(), "IdentifierPunctuation");
+        expect_told(&rt, alloc, answer, "IdentifierPunctuation")?;
     }
     let beyond = one_set(alloc, 0x80, 0x10FFFF)?;
     let low_line = one_set(alloc, 0x5F, 0x5F)?;
     let answer = with_identifiers(alloc, Vec::new(alloc), beyond, low_line, Vec::new(alloc));
-    assert_eq!(rt; told(alloc, answer)?.as_str(), "accepted");
-    Ok(())
+    expect_told(&rt, alloc, answer, "accepted")
 }
 
 #[test]
 fn strings_are_of_code_points(rt: HostRuntime) -> Result<(), Fail> {
     let alloc = rt.alloc();
     let answer = with_string(alloc, Vec::new(alloc));
-    assert_eq!(rt; told(alloc, answer)?.as_str(), "BadString");
+    expect_told(&rt, alloc, answer, "BadString")?;
     let answer = with_string(alloc, vec![in alloc; 0x61, 0x110000]?);
-    assert_eq!(rt; told(alloc, answer)?.as_str(), "BadString");
+    expect_told(&rt, alloc, answer, "BadString")?;
     let answer = with_string(alloc, vec![in alloc; 0x61, 0x10FFFF]?);
-    assert_eq!(rt; told(alloc, answer)?.as_str(), "accepted");
-    Ok(())
+    expect_told(&rt, alloc, answer, "accepted")
 }
 
 #[test]
 fn the_first_refusal_is_told(rt: HostRuntime) -> Result<(), Fail> {
     let alloc = rt.alloc();
     let answer = with_rows(alloc, chain(alloc)?, turned(alloc)?);
-    assert_eq!(rt; told(alloc, answer)?.as_str(), "RangeOrder(Upper)");
+    expect_told(&rt, alloc, answer, "RangeOrder(Upper)")?;
     let answer = with_rows(alloc, turned(alloc)?, turned(alloc)?);
-    assert_eq!(rt; told(alloc, answer)?.as_str(), "RangeOrder(Fold)");
+    expect_told(&rt, alloc, answer, "RangeOrder(Fold)")?;
     let dollar = one_set(alloc, 0x24, 0x24)?;
     let none = CodePointSet::new(alloc);
     let answer = with_identifiers(alloc, four_to_one(alloc)?, dollar, none, Vec::new(alloc));
-    assert_eq!(rt; told(alloc, answer)?.as_str(), "ClassTooLarge(Fold)");
-    Ok(())
+    expect_told(&rt, alloc, answer, "ClassTooLarge(Fold)")
 }
 
 #[test]
 fn want_of_memory_is_told_as_such(rt: HostRuntime) -> Result<(), Fail> {
     let alloc = rt.alloc();
     let answer = Err(TablesError::from(AllocError));
-    assert_eq!(rt; told(alloc, answer)?.as_str(), "out of memory");
-    Ok(())
+    expect_told(&rt, alloc, answer, "out of memory")
 }
 
 #[test]
