@@ -21,6 +21,8 @@ mod quantifier;
 mod scan;
 mod scope;
 #[cfg(test)]
+mod test_support;
+#[cfg(test)]
 mod tests;
 
 pub use atom::Atom;

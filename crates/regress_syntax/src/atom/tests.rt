@@ -1,24 +1,10 @@
-ghost use Rattle.std.specs.Prelude.{All, IfOk};
-ghost use Rattle.regress_syntax.specs.Source.{IsCodePoint};
-
 use super::*;
 use crate::fault::{INVALID_PROPERTY, PROPERTY_WITHOUT_BRACE};
 use crate::groups::Groups;
+use crate::test_support::{are_keycaps, code_points, expect_answers, expect_by_letters, told};
 use regress_base::types::Flags;
 use regress_tree::unicode::Tables;
 use std::test::Fail;
-
-type Ends<'a> = &'a [(u32, u32)];
-
-/// The code points of ASCII text.
-fn code_points(alloc: Global, text: &str) -> Result<Vec<u32>, AllocError>
-    ensures { IfOk result (λ source. All IsCodePoint source.items) }
-{
-    text.as_bytes()
-        .iter()
-        .map(|byte| u32::from(*byte))
-        .collect(alloc)
-}
 
 /// These letters are on.
 fn flags(letters: &str) -> Flags {
@@ -52,80 +38,73 @@ fn read(alloc: Global, text: &str, letters: &str) -> Result<Atom, ParseFault> {
 }
 
 /// What the fault says, or nothing.
-fn fault(alloc: Global, text: &str, letters: &str) -> Result<String, AllocError> {
-    match read(alloc, text, letters) {
-        Err(fault) => format!(in alloc; "{fault}"),
-        Ok(_) => Ok(String::new(alloc)),
-    }
+fn fault(alloc: Global, text: &str, letters: &str) -> Result<String, Fail> {
+    told(alloc, read(alloc, text, letters))
 }
 
-/// Whether the atom is a class of exactly these intervals.
-fn is_class(atom: &Atom, wanted: bool, ends: Ends) -> bool {
-    let Atom::Class { inverted, set } = atom else {
-        return false;
-    };
-    let intervals = set.intervals();
-    *inverted == wanted
-        && intervals.len() == ends.len()
-        && intervals.iter().zip(ends).all(|(interval, (first, last))| interval.first() == *first
-            && interval.last() == *last)
+/// The code point of a literal, or the intervals of a class, behind `^` where it is inverted.
+fn atom(alloc: Global, text: &str, letters: &str) -> Result<String, Fail> {
+    match read(alloc, text, letters)? {
+        Atom::Literal(c) => Ok(format!(in alloc; "U+{c:04X}")?),
+        Atom::Class { inverted, set } => {
+            let caret = if inverted { "^" } else { "" };
+            Ok(format!(in alloc; "{caret}{:?}", set.intervals())?)
+        }
+        _ => Ok(String::from_str(alloc, "another atom")?),
+    }
 }
 
 #[test]
 fn a_complement_is_inverted_but_taken_with_the_flag_i(rt: HostRuntime) -> Result<(), Fail> {
-    let line: Ends = &[(0x2028, 0x2028)];
-    let others: Ends = &[(0, 0x2027), (0x2029, 0x10FFFF)];
-    let rows = [
-        ("p{Zl}", "u", false, line),
-        ("p{Zl}", "v", false, line),
-        ("p{Zl}", "iu", false, line),
-        ("P{Zl}", "u", true, line),
-        ("P{Zl}", "uv", true, line),
-        ("P{Zl}", "iu", false, others),
-        ("P{Zl}", "iv", false, others),
-    ];
-    for (text, letters, inverted, ends) in rows {
-        let atom = read(rt.alloc(), text, letters)?;
-        assert!(rt; is_class(&atom, inverted, ends), "{text} {letters}");
-    }
-    Ok(())
+    let line = "[U+2028-U+2028]";
+    let others = "[U+0000-U+2027, U+2029-U+10FFFF]";
+    expect_by_letters(
+        &rt,
+        rt.alloc(),
+        atom,
+        &[
+            ("p{Zl}", "u", line),
+            ("p{Zl}", "v", line),
+            ("p{Zl}", "iu", line),
+            ("P{Zl}", "u", "^[U+2028-U+2028]"),
+            ("P{Zl}", "uv", "^[U+2028-U+2028]"),
+            ("P{Zl}", "iu", others),
+            ("P{Zl}", "iv", others),
+        ],
+    )
 }
 
 #[test]
 fn a_property_of_strings_has_them_in_their_order(rt: HostRuntime) -> Result<(), Fail> {
     let atom = read(rt.alloc(), "p{Emoji_Keycap_Sequence}", "v")?;
-    let Atom::Strings(strings) = atom else {
-        return Err(Fail::from(AllocError));
-    };
-    assert_eq!(rt; strings.len(), 12);
-    for (string, key) in strings.iter().zip(b"#*0123456789") {
-        assert!(rt; string.as_slice() == [u32::from(*key), 0xFE0F, 0x20E3].as_slice());
-    }
+    assert!(rt; matches!(&atom, Atom::Strings(strings) if are_keycaps(strings)));
     Ok(())
 }
 
 #[test]
 fn p_is_a_letter_without_the_flags_u_and_v(rt: HostRuntime) -> Result<(), Fail> {
-    for (text, letter) in [("p{Zl}", 0x70), ("P{Zl}", 0x50), ("p", 0x70)] {
-        let atom = read(rt.alloc(), text, "i")?;
-        assert!(rt; matches!(&atom, Atom::Literal(c) if *c == letter), "{text}");
-    }
-    Ok(())
+    expect_answers(
+        &rt,
+        rt.alloc(),
+        atom,
+        "i",
+        &[("p{Zl}", "U+0070"), ("P{Zl}", "U+0050"), ("p", "U+0070")],
+    )
 }
 
 #[test]
 fn faults_say_what_is_wrong(rt: HostRuntime) -> Result<(), Fail> {
-    let rows = [
-        ("p", "u", PROPERTY_WITHOUT_BRACE),
-        ("PZl", "v", PROPERTY_WITHOUT_BRACE),
-        ("p{Foo}", "u", INVALID_PROPERTY),
-        ("p{Emoji_Keycap_Sequence}", "u", INVALID_PROPERTY),
-        ("P{Emoji_Keycap_Sequence}", "u", INVALID_PROPERTY),
-        ("P{Emoji_Keycap_Sequence}", "v", INVALID_ESCAPE),
-    ];
-    for (text, letters, wanted) in rows {
-        let told = fault(rt.alloc(), text, letters)?;
-        assert_eq!(rt; told.as_str(), wanted, "{text} {letters}");
-    }
-    Ok(())
+    expect_by_letters(
+        &rt,
+        rt.alloc(),
+        fault,
+        &[
+            ("p", "u", PROPERTY_WITHOUT_BRACE),
+            ("PZl", "v", PROPERTY_WITHOUT_BRACE),
+            ("p{Foo}", "u", INVALID_PROPERTY),
+            ("p{Emoji_Keycap_Sequence}", "u", INVALID_PROPERTY),
+            ("P{Emoji_Keycap_Sequence}", "u", INVALID_PROPERTY),
+            ("P{Emoji_Keycap_Sequence}", "v", INVALID_ESCAPE),
+        ],
+    )
 }

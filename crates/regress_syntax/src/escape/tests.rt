@@ -1,14 +1,7 @@
 use super::*;
+use crate::test_support::code_points;
 use std::alloc::{AllocError, Global};
 use std::test::Fail;
-
-fn code_points(alloc: Global, text: &str) -> Result<Vec<u32>, AllocError> {
-    let mut code_points = Vec::new(alloc);
-    for c in text.chars() {
-        code_points.push(u32::from(c))?;
-    }
-    Ok(code_points)
-}
 
 /// Whether an escape is read as the value, with `left` behind it.
 fn reads(

@@ -1,19 +1,31 @@
 use super::*;
+use crate::test_support::code_points;
 use std::alloc::{AllocError, Global};
 use std::test::Fail;
 
-fn code_points(alloc: Global, text: &str) -> Result<Vec<u32>, AllocError> {
-    let mut code_points = Vec::new(alloc);
-    for c in text.chars() {
-        code_points.push(u32::from(c))?;
-    }
-    Ok(code_points)
+/// Whether the change is read from the text, with so much left behind it.
+fn reads(alloc: Global, text: &str, wanted: Change, left: usize) -> Result<bool, AllocError> {
+    let text = code_points(alloc, text)?;
+    Ok(match read_modifiers(&text) {
+        Some((found, rest)) => {
+            found.icase == wanted.icase
+                && found.multiline == wanted.multiline
+                && found.dot_all == wanted.dot_all
+                && rest.len() == left
+        }
+        None => false,
+    })
+}
+
+fn refuses(alloc: Global, text: &str) -> Result<bool, AllocError> {
+    let text = code_points(alloc, text)?;
+    Ok(read_modifiers(&text).is_none())
 }
 
 #[test]
 fn modifiers(rt: HostRuntime) -> Result<(), Fail> {
     let (on, off) = (Some(true), Some(false));
-    let rows = [
+    for (text, icase, multiline, dot_all, left) in [
         ("i:", on, None, None, 0),
         ("i:a)", on, None, None, 2),
         ("m:", None, on, None, 0),
@@ -25,30 +37,24 @@ fn modifiers(rt: HostRuntime) -> Result<(), Fail> {
         ("-ims:", off, off, off, 0),
         ("i-m:", on, off, None, 0),
         ("ms-i:i", off, on, on, 1),
-    ];
-    for (text, icase, multiline, dot_all, left) in rows {
-        let code_points = code_points(rt.alloc(), text)?;
-        let found = read_modifiers(&code_points);
-        assert!(rt; found.is_some(), "{text}");
-        if let Some((change, rest)) = found {
-            assert_eq!(rt; change.icase, icase, "{text}");
-            assert_eq!(rt; change.multiline, multiline, "{text}");
-            assert_eq!(rt; change.dot_all, dot_all, "{text}");
-            assert_eq!(rt; rest.len(), left, "{text}");
-        }
+    ] {
+        let wanted = Change {
+            icase,
+            multiline,
+            dot_all,
+        };
+        assert!(rt; reads(rt.alloc(), text, wanted, left)?, "{text}");
     }
     Ok(())
 }
 
 #[test]
 fn no_modifiers(rt: HostRuntime) -> Result<(), Fail> {
-    let rows = [
+    for text in [
         "", ":", "-:", "q:", "iq:", "I:", "u:", "i", "i-", "i-m", "ii:", "i-i:", "-ss:", "imsi:",
         "i--m:", "i-m-s:", "i m:",
-    ];
-    for text in rows {
-        let code_points = code_points(rt.alloc(), text)?;
-        assert!(rt; read_modifiers(&code_points).is_none(), "{text}");
+    ] {
+        assert!(rt; refuses(rt.alloc(), text)?, "{text}");
     }
     Ok(())
 }

@@ -1,18 +1,30 @@
 use super::*;
+use crate::test_support::code_points;
 use std::alloc::{AllocError, Global};
 use std::test::Fail;
 
-fn code_points(alloc: Global, text: &str) -> Result<Vec<u32>, AllocError> {
-    let mut code_points = Vec::new(alloc);
-    for c in text.chars() {
-        code_points.push(u32::from(c))?;
-    }
-    Ok(code_points)
+/// Whether the quantifier is read from the text, with so much left behind it.
+fn reads(alloc: Global, text: &str, wanted: Quantifier, left: usize) -> Result<bool, AllocError> {
+    let text = code_points(alloc, text)?;
+    Ok(match read_quantifier(&text) {
+        Some((found, rest)) => {
+            found.min == wanted.min
+                && found.max == wanted.max
+                && found.greedy == wanted.greedy
+                && rest.len() == left
+        }
+        None => false,
+    })
+}
+
+fn refuses(alloc: Global, text: &str) -> Result<bool, AllocError> {
+    let text = code_points(alloc, text)?;
+    Ok(read_quantifier(&text).is_none())
 }
 
 #[test]
 fn quantifiers(rt: HostRuntime) -> Result<(), Fail> {
-    let rows = [
+    for (text, min, max, greedy, left) in [
         ("*", 0, None, true, 0),
         ("*?", 0, None, false, 0),
         ("**", 0, None, true, 1),
@@ -32,17 +44,9 @@ fn quantifiers(rt: HostRuntime) -> Result<(), Fail> {
             true,
             0,
         ),
-    ];
-    for (text, min, max, greedy, left) in rows {
-        let code_points = code_points(rt.alloc(), text)?;
-        let found = read_quantifier(&code_points);
-        assert!(rt; found.is_some(), "{text}");
-        if let Some((quantifier, rest)) = found {
-            assert_eq!(rt; quantifier.min, min, "{text}");
-            assert_eq!(rt; quantifier.max, max, "{text}");
-            assert_eq!(rt; quantifier.greedy, greedy, "{text}");
-            assert_eq!(rt; rest.len(), left, "{text}");
-        }
+    ] {
+        let wanted = Quantifier { min, max, greedy };
+        assert!(rt; reads(rt.alloc(), text, wanted, left)?, "{text}");
     }
     Ok(())
 }
@@ -52,8 +56,7 @@ fn no_quantifiers(rt: HostRuntime) -> Result<(), Fail> {
     for text in [
         "", "a", "{", "{}", "{,5}", "{2", "{2,", "{2,3", "{a}", "{2,a}", "{2;3}",
     ] {
-        let code_points = code_points(rt.alloc(), text)?;
-        assert!(rt; read_quantifier(&code_points).is_none(), "{text}");
+        assert!(rt; refuses(rt.alloc(), text)?, "{text}");
     }
     Ok(())
 }
