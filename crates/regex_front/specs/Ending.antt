@@ -1,7 +1,7 @@
 -- How a run of the program ends.
 use Rattle.std.specs.Prelude.{◌≡◌, ℕ, Option, Some, None, Result, Ok, Err}
-use Rattle.regress_syntax.specs.declared.fault.ParseFault.{ParseFault}
-use Rattle.regress_syntax.specs.declared.fault.ParseFault.TheVariants as fault
+use Rattle.regress_front.specs.declared.parse.ParseFault.{ParseFault}
+use Rattle.regress_front.specs.declared.parse.ParseFault.TheVariants as fault
 use Rattle.regex_front.specs.declared.failure.Failure.{Failure}
 use Rattle.regex_front.specs.declared.failure.Failure.TheVariants.{Syntax, Usage, Memory, Output}
 use Rattle.regex_front.specs.Request.{Request}

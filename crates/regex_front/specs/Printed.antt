@@ -1,13 +1,13 @@
 -- What is printed of a pattern: the one place that cites the library's words.
 use Rattle.std.specs.Prelude.{◌≡◌}
-use Rattle.regress_tree.specs.Matching.{Setting}
-use Rattle.regress_tree.specs.SmallTable.{small_table}
-use Rattle.regress_tree.specs.Tree.{tree}
-use Rattle.regress_tree.specs.WellFormed.{captures}
-use Rattle.regress_tree.specs.Shapes.{IsNormal}
-use Rattle.regress_syntax.specs.Syntax.{Pattern}
-use Rattle.regress_parse.specs.TreeOf.{tree_of}
-use Rattle.regress_parse.specs.Accepted as parse
+use Rattle.regress_front.specs.Setting.{Setting}
+use Rattle.regress_front.specs.SmallTable.{small_table}
+use Rattle.regress_front.specs.Tree.{tree}
+use Rattle.regress_front.specs.WellFormed.{captures}
+use Rattle.regress_front.specs.Shapes.{IsNormal}
+use Rattle.regress_front.specs.Syntax.{Pattern}
+use Rattle.regress_front.specs.TreeOf.{tree_of}
+use Rattle.regress_front.specs.Accepted as parse
 use Rattle.regex_front.specs.declared.trees.Trees.{Trees}
 use Rattle.regex_front.specs.Request.{Request}
 

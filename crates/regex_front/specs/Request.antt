@@ -1,7 +1,7 @@
 -- What the program is asked.
 use Rattle.std.specs.Prelude.{ℕ, true, false, List, [], ◌∷◌, Option, Some, None, option_map, option_and_then, if◌then◌else◌, ◌==◌, chars, String, string_bytes}
 use Rattle.std.specs.declared.alloc.Global.{Global}
-use Rattle.regress_base.specs.declared.types.Flags.{Flags}
+use Rattle.regress_front.specs.declared.types.Flags.{Flags}
 
 -- a pattern, by its characters, and the flags
 abbrev pub Request : Type 0

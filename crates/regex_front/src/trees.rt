@@ -1,6 +1,6 @@
 //! From a pattern to the two trees that are printed of it.
 ghost use Rattle.std.specs.Prelude.{◌≡◌, ◌≤◌, All, IfOk, chars};
-ghost use Rattle.regress_syntax.specs.Fault.{RefusedOnlyIf};
+ghost use Rattle.regress_front.specs.Fault.{RefusedOnlyIf};
 ghost use Rattle.regex_front.specs.Printed.{AreTreesOf, NoneIsAccepted};
 
 use regress_front::codepointset::CODE_POINT_MAX;

@@ -1,5 +1,1 @@
-pub mod Law
-pub mod Sweep
-pub mod Spine
-pub mod Splice
 pub mod Optimized

@@ -7,7 +7,7 @@ use Rattle.regress_tree.specs.Tree.{tree}
 use Rattle.regress_tree.specs.WellFormed.{IsWellFormed, captures}
 use Rattle.regress_tree.specs.Units.{units, unrolling, loops, account}
 use Rattle.regress_tree.specs.Shapes.{IsNormal}
-use Rattle.regress_opt.specs.Law.{MeansTheSame}
+use Rattle.regress_rewrite.specs.Law.{MeansTheSame}
 
 -- The tree means the same, in normal form unless memory was wanting, and as it was where it had that form.
 pub record IsOptimized (old : Regex) (answer : Regex × Result (Unit {0}) AllocError) : Type 0 where

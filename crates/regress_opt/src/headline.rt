@@ -1,12 +1,13 @@
 //! From the text of a pattern to its tree in normal form.
 ghost use Rattle.std.specs.Prelude.{◌≡◌, ◌≤◌, ◌+◌, ◌*◌, All, IfOk, OnOk, IsOkAnd, MatchResult};
 ghost use Rattle.regress_base.specs.Intervals.{code_point_max};
-ghost use Rattle.regress_tree.specs.TableOf.{table_of, setting_of};
+ghost use Rattle.regress_unicode.specs.TableOf.{table_of};
+ghost use Rattle.regress_tree.specs.Setting.{setting_of};
 ghost use Rattle.regress_tree.specs.Tree.{tree};
 ghost use Rattle.regress_tree.specs.WellFormed.{IsWellFormed, captures};
 ghost use Rattle.regress_tree.specs.Units.{units, unrolling, loops};
 ghost use Rattle.regress_tree.specs.Shapes.{IsNormal};
-ghost use Rattle.regress_syntax.specs.Fault.{RefusedOnlyIf};
+ghost use Rattle.regress_lexical.specs.Fault.{RefusedOnlyIf};
 ghost use Rattle.regress_syntax.specs.Syntax.{Pattern};
 ghost use Rattle.regress_parse.specs.TreeOf.{tree_of};
 ghost use Rattle.regress_parse.specs.Accepted.{IsAccepted, NoneIsAccepted, OneIsDerived, OfAccepted, Means};
@@ -17,7 +18,7 @@ use regress_base::types::Flags;
 use regress_parse::try_parse;
 use regress_syntax::ParseFault;
 use regress_tree::ir::Regex;
-use regress_tree::unicode::Tables;
+use regress_unicode::Tables;
 use std::alloc::{AllocError, Global};
 
 /// Parses a pattern as `try_parse` does, and then runs `optimize` on its tree, whose answer stands

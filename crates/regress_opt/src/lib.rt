@@ -1,16 +1,11 @@
-//! Rewriting of trees: the law of a rewrite, the passes that run one, and the rewrites.
+//! The optimizer: a tree brought into normal form, and from the text of a pattern to such a tree.
 #![tactic(auto)]
 
-mod flatten;
 mod headline;
 mod optimizer;
-mod pass;
-mod rewrite;
-mod spine;
 #[cfg(test)]
 mod tests;
 
 pub use headline::parse_and_optimize;
 pub use optimizer::optimize;
-pub use pass::run_pass;
-pub use rewrite::{PassAction, Rewrite};
+pub use regress_rewrite::{PassAction, Rewrite, run_pass};

@@ -2,9 +2,9 @@ ghost use Rattle.std.specs.Prelude.{◌≡◌, IfOk, Bool, true, false};
 ghost use Rattle.regress_tree.specs.Tree.{tree, leaf, goal, char, cat, alt, wrapped, lookaround, no_trees, more_trees};
 ghost use Rattle.regress_tree.specs.WellFormed.{IsWellFormed};
 
-use crate::flatten::Flatten;
 use crate::{PassAction, Rewrite, optimize, run_pass};
 use regress_base::types::Flags;
+use regress_rewrite::flatten::Flatten;
 use regress_tree::ir::{Node, Regex, Walk};
 use std::alloc::{AllocError, Global};
 use std::fmt::Write;

@@ -4,8 +4,8 @@ use Rattle.std.proofs.Common.{◌≡◌, ◌+◌, ◌<◌, ℕ, min, List, [], l
 use Rattle.std.proofs.lemmas.Option.{same_Some}
 use Rattle.std.proofs.lemmas.Bool.{false≢true}
 use Rattle.regress_base.specs.Limits.{max_capture_groups}
-use Rattle.regress_tree.specs.Matching.{Setting}
-use Rattle.regress_syntax.specs.Source.{Source}
+use Rattle.regress_tree.specs.Setting.{Setting}
+use Rattle.regress_lexical.specs.Source.{Source}
 use Rattle.regress_syntax.specs.Syntax.{Name, Pattern, nothing_counted, counts, names}
 use Rattle.regress_syntax.specs.Rows.{Context}
 use Rattle.regress_syntax.specs.Grammar.{IsPattern}

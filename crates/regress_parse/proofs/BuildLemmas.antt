@@ -6,11 +6,11 @@ use Rattle.regress_base.specs.Intervals.{Bounds, is_member, IsCanonical, IsCompl
 use Rattle.regress_base.proofs.laws.Sets.{canonical_is, intervals_of-member}
 use Rattle.regress_tree.specs.declared.ir.node.Node.{Node}
 use Rattle.regress_tree.specs.Reading.{Direction}
-use Rattle.regress_tree.specs.Table.{Table, is_in_closure}
-use Rattle.regress_tree.proofs.laws.Closures.{closure_same}
+use Rattle.regress_unicode.specs.Table.{Table, is_in_closure}
+use Rattle.regress_unicode.proofs.laws.Closures.{closure_same}
 use Rattle.regress_tree.specs.Tree.{Tree, tree, trees, leaf, back_ref, alt, cat, row_append, row_reverse, no_trees, more_trees}
 use Rattle.regress_syntax.specs.Meaning.{is_in_class}
-use Rattle.regress_syntax.specs.Views.{HasMembers}
+use Rattle.regress_classes.specs.ClassViews.{HasMembers}
 use Rattle.regress_parse.specs.TreeOf.{turned, joined, tree_of_references}
 use Rattle.regress_parse.specs.Parsing.{alternatives}
 

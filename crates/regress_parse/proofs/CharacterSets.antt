@@ -7,11 +7,11 @@ use Rattle.std.specs.List.{list_any}
 use Rattle.regress_base.specs.Classes.{digits, white_space, line_terminators, word_characters}
 use Rattle.regress_base.specs.Intervals.{Bounds, code_point_max, is_member, is_within, intervals_of, IsCanonical}
 use Rattle.regress_base.proofs.laws.Sets.{canonical_is, intervals_of-member}
-use Rattle.regress_tree.specs.Listing.{IsListing}
+use Rattle.regress_unicode.specs.Listing.{IsListing}
 use Rattle.regress_tree.specs.Literal.{class_of}
-use Rattle.regress_tree.specs.Table.{Table, stands_for, is_in_closure, code_points}
+use Rattle.regress_unicode.specs.Table.{Table, stands_for, is_in_closure, code_points}
 use Rattle.regress_tree.proofs.laws.Literals.{listing_is_listed}
-use Rattle.regress_syntax.specs.ClassRows.{complement}
+use Rattle.regress_classes.specs.ClassRows.{complement}
 use Rattle.regress_parse.proofs.Meanings.{empty_table, run}
 
 -- ---- classes without the flag i

@@ -5,21 +5,21 @@ use Rattle.std.proofs.lemmas.Bool.Decides.{nat_tests}
 use Rattle.std.proofs.lemmas.List.Elements.{All-head, All-tail}
 use Rattle.regress_base.specs.Intervals.{Bounds}
 use Rattle.regress_base.specs.declared.charclasses.CharacterClassType.{CharacterClassType}
-use Rattle.regress_tree.specs.Table.{Table, IsLawful}
-use Rattle.regress_syntax.specs.ClassRows.{complement, class_letter, class_at}
-use Rattle.regress_syntax.specs.ClassSets.{Value}
-use Rattle.regress_syntax.specs.Digits.{is_between, is_decimal, digit, number_from, number, front}
-use Rattle.regress_syntax.specs.Escapes.{escape_at}
-use Rattle.regress_syntax.specs.Modifiers.{Change, modifiers_at}
+use Rattle.regress_unicode.specs.Table.{Table, IsLawful}
+use Rattle.regress_classes.specs.ClassRows.{complement, class_letter, class_at}
+use Rattle.regress_classes.specs.ClassSets.{Value}
+use Rattle.regress_lexical.specs.Digits.{is_between, is_decimal, digit, number_from, number, front}
+use Rattle.regress_lexical.specs.Escapes.{escape_at}
+use Rattle.regress_lexical.specs.Modifiers.{Change, modifiers_at}
 use Rattle.regress_syntax.specs.Names.{group_name_at}
-use Rattle.regress_syntax.specs.Properties.{Property, of_points, of_strings, property_at}
-use Rattle.regress_syntax.specs.Quantifiers.{quantifier_at}
+use Rattle.regress_classes.specs.Properties.{Property, of_points, of_strings, property_at}
+use Rattle.regress_lexical.specs.Quantifiers.{quantifier_at}
 use Rattle.regress_syntax.specs.Rows.{Context, Head, single, opens, angle_at, behind_mark_at, group_at, property_atom, property_atom_at, is_lone_backslash, has_name, has_names, character_at, numbered_at, named_at, escaped_by, escaped_at, brace_by, brackets_at, atom_by, head_at}
-use Rattle.regress_syntax.specs.Source.{Source, Found, IsCodePoint, opening, full_stop, colon, question_mark, is_at, is_plain}
+use Rattle.regress_lexical.specs.Source.{Source, Found, IsCodePoint, opening, full_stop, colon, question_mark, is_at, is_plain}
 use Rattle.regress_syntax.specs.Syntax.{Target, by_number, by_name, Atom, literal, dot, anchor, boundary, class_escape, class, class_set, string_property, back_reference, Group, grouping, modified, capture, look}
-use Rattle.regress_syntax.proofs.laws.Behind.{Ends, behind_all}
-use Rattle.regress_syntax.proofs.laws.ClassStrings.{OfCodePoints, PropertyInRange, property_at-in_range, class_set_at-in_range}
-use Rattle.regress_syntax.proofs.laws.InRange.{Finds, finds_none, finds_some, finds_cond, finds_then, finds_map, escape_at-in_range}
+use Rattle.regress_lexical.proofs.laws.Behind.{Ends, behind_all}
+use Rattle.regress_classes.proofs.laws.ClassStrings.{OfCodePoints, PropertyInRange, property_at-in_range, class_set_at-in_range}
+use Rattle.regress_lexical.proofs.laws.InRange.{Finds, finds_none, finds_some, finds_cond, finds_then, finds_map, escape_at-in_range}
 use Rattle.regress_syntax.proofs.laws.NameEnds.{IsName, name_characters}
 
 -- the source is made of code points

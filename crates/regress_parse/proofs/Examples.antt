@@ -1,7 +1,7 @@
 -- The definitions at worked patterns, by computation.
 use Rattle.std.proofs.Common.{◌≡◌, ℕ, ◌-◌, ◌^◌, false, true, List, [], ◌∷◌, Option, Some, None, refl, codes}
 use Rattle.regress_tree.specs.declared.ir.node.Quantifier.{Quantifier}
-use Rattle.regress_tree.specs.Matching.{Setting}
+use Rattle.regress_tree.specs.Setting.{Setting}
 use Rattle.regress_tree.specs.Reading.{forwards, backwards}
 use Rattle.regress_tree.specs.Shapes.{is_flattened_away}
 use Rattle.regress_tree.specs.Steps.{one_character, capture as captures, same_state}

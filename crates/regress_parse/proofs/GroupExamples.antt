@@ -2,12 +2,12 @@
 use Rattle.std.proofs.Common.{◌≡◌, ℕ, Bool, false, true, List, [], ◌∷◌, Option, Some, None, option_map, refl, codes}
 use Rattle.std.specs.Char.{encode_utf8}
 use Rattle.regress_base.specs.declared.types.Flags.{Flags}
-use Rattle.regress_tree.specs.Matching.{Setting}
+use Rattle.regress_tree.specs.Setting.{Setting}
 use Rattle.regress_tree.specs.Reading.{forwards}
 use Rattle.regress_tree.specs.Tree.{Tree, leaf, goal, back_ref, cat, alt, wrapped, capture_group, lookaround}
-use Rattle.regress_syntax.specs.Modifiers.{Change}
+use Rattle.regress_lexical.specs.Modifiers.{Change}
 use Rattle.regress_syntax.specs.Scan.{Mark, opens, captures, closes, next, marks, plain as outside_classes, marks_of, has_apart_names}
-use Rattle.regress_syntax.specs.Source.{Source}
+use Rattle.regress_lexical.specs.Source.{Source}
 use Rattle.regress_syntax.specs.Syntax.{Pattern, one, no_terms, more_terms, atom, literal, class, back_reference, by_number, group, modified, capture, look}
 use Rattle.regress_parse.specs.TreeOf.{tree_of}
 use Rattle.regress_parse.proofs.Examples.{letter, word, two, row, character, quantifier, captured_letter}

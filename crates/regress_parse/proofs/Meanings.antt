@@ -7,28 +7,29 @@ use Rattle.std.specs.Str.{chars}
 use Rattle.std.proofs.Math.ListN.{replicate}
 use Rattle.regress_base.specs.declared.types.Flags.{Flags}
 use Rattle.regress_base.specs.Intervals.{Bounds, is_member, is_within}
-use Rattle.regress_tree.specs.FoldRows.{image}
+use Rattle.regress_unicode.specs.FoldRows.{image}
 use Rattle.regress_tree.specs.Lookaround.{look}
 use Rattle.regress_tree.specs.Reading.{forwards, byte_place, character_at, read_after, read_before}
 use Rattle.regress_tree.specs.References.{back_reference}
 use Rattle.regress_tree.specs.Repetition.{repeat}
-use Rattle.regress_tree.specs.SmallTable.{small_table}
+use Rattle.regress_unicode.specs.SmallTable.{small_table}
 use Rattle.regress_tree.specs.Steps.{Span, State, byte_state, one_character, hold_at, capture as captures, same_state}
 use Rattle.regress_tree.specs.Strings.{any_string}
-use Rattle.regress_tree.specs.Table.{Table, named as value_named, is_in_closure}
-use Rattle.regress_tree.specs.Matching.{Setting, matches}
-use Rattle.regress_syntax.specs.ClassRows.{class_at, class_parts_by}
-use Rattle.regress_syntax.specs.ClassSets.{class_set_by, parts_by, operands_by, operand_at, set_character_at, strings_by}
-use Rattle.regress_syntax.specs.Digits.{front, behind}
-use Rattle.regress_syntax.specs.Escapes.{escape_at, unicode_at}
+use Rattle.regress_unicode.specs.Table.{Table, named as value_named, is_in_closure}
+use Rattle.regress_tree.specs.Matching.{matches}
+use Rattle.regress_tree.specs.Setting.{Setting}
+use Rattle.regress_classes.specs.ClassRows.{class_at, class_parts_by}
+use Rattle.regress_classes.specs.ClassSets.{class_set_by, parts_by, operands_by, operand_at, set_character_at, strings_by}
+use Rattle.regress_lexical.specs.Digits.{front, behind}
+use Rattle.regress_lexical.specs.Escapes.{escape_at, unicode_at}
 use Rattle.regress_syntax.specs.Meaning.{meaning}
-use Rattle.regress_syntax.specs.Modifiers.{modifiers_at}
+use Rattle.regress_lexical.specs.Modifiers.{modifiers_at}
 use Rattle.regress_syntax.specs.Names.{name_at, rest_of_name_by}
-use Rattle.regress_syntax.specs.Properties.{property_at}
-use Rattle.regress_syntax.specs.Quantifiers.{quantifier_at}
+use Rattle.regress_classes.specs.Properties.{property_at}
+use Rattle.regress_lexical.specs.Quantifiers.{quantifier_at}
 use Rattle.regress_syntax.specs.Rows.{Context, head_at, times_at}
 use Rattle.regress_syntax.specs.Scan.{marks, plain as outside_classes, named_by}
-use Rattle.regress_syntax.specs.Source.{Source, Found}
+use Rattle.regress_lexical.specs.Source.{Source, Found}
 use Rattle.regress_syntax.specs.Syntax.{Name, Pattern, counts}
 use Rattle.regress_parse.specs.Reader.{read_terms, pattern_at}
 use Rattle.regress_parse.specs.TreeOf.{tree_of}

@@ -1,6 +1,6 @@
 -- What modifiers of a group switch, and where.
 use Rattle.std.proofs.Common.{[], ◌∷◌, refl, codes}
-use Rattle.regress_tree.specs.Matching.{Setting}
+use Rattle.regress_tree.specs.Setting.{Setting}
 use Rattle.regress_parse.proofs.CharacterSets.{few_letters, a_in_two_cases, b_in_two_cases}
 use Rattle.regress_parse.proofs.CharacterMeanings.{few_icase}
 use Rattle.regress_parse.proofs.Meanings.{plain, dot_all, icase_unicode, Gives, from, at, span}

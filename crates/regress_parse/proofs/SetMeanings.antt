@@ -1,6 +1,6 @@
 -- What classes with the flag v and properties match: strings, operators, and classes in each other.
 use Rattle.std.proofs.Common.{true, [], ◌∷◌, refl, codes}
-use Rattle.regress_tree.specs.Matching.{Setting}
+use Rattle.regress_tree.specs.Setting.{Setting}
 use Rattle.regress_parse.proofs.CharacterSets.{own_set, few_letters, k_set, closed_nothing, words_but_digits, words_but_digits_set, consonants, consonants_set}
 use Rattle.regress_parse.proofs.Meanings.{run, no_flags, plain, unicode, Gives, from, at}
 

@@ -5,12 +5,12 @@ use Rattle.std.proofs.lemmas.Option.{same_Some}
 use Rattle.std.proofs.lemmas.Bool.{cond-true, cond-false}
 use Rattle.regress_tree.specs.declared.ir.node.Node.{Node}
 use Rattle.regress_tree.specs.Reading.{Direction}
-use Rattle.regress_tree.specs.Table.{Table}
+use Rattle.regress_unicode.specs.Table.{Table}
 use Rattle.regress_tree.specs.Tree.{row_append, tree, trees, no_trees, more_trees}
-use Rattle.regress_syntax.specs.Source.{Source, Found, ◌>>=◌, ends_alternative}
+use Rattle.regress_lexical.specs.Source.{Source, Found, ◌>>=◌, ends_alternative}
 use Rattle.regress_syntax.specs.Syntax.{Name, Terms, no_terms, more_terms, Counts, added, counts_of_terms, counts_of_term, levels_of_terms}
 use Rattle.regress_syntax.specs.Rows.{Context}
-use Rattle.regress_syntax.proofs.laws.Sources.{found_then, to_each, from_each}
+use Rattle.regress_lexical.proofs.laws.Sources.{found_then, to_each, from_each}
 use Rattle.regress_parse.specs.Reader.{Term, terms_at, term_at}
 use Rattle.regress_parse.specs.TreeOf.{trees_of_terms}
 use Rattle.regress_parse.specs.Parsing.{Fits, terms_part, term_part}

@@ -8,7 +8,7 @@ use Rattle.std.specs.Ordering.{nat_cmp, is_lt}
 use Rattle.std.specs.declared.alloc.Global.{Global}
 use Rattle.std.specs.declared.cmp.Reverse.{Reverse}
 use Rattle.regress_syntax.specs.Meaning.{inserted, longest_first}
-use Rattle.regress_syntax.specs.Views.{strings_of}
+use Rattle.regress_classes.specs.ClassViews.{strings_of}
 
 abbrev IsShorter : ℕ → List ℕ → Type 0
 IsShorter n s = length s < n

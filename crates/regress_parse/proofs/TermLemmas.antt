@@ -2,12 +2,12 @@
 use Rattle.std.proofs.Common.{◌≡◌, ℕ, ◌+◌, ◌<◌, ◌≤◌, Bool, drop, Option, Some, None, sym, ap, ◌∙◌, subst, arith, List}
 use Rattle.std.specs.Option.{IfSome}
 use Rattle.std.proofs.lemmas.Option.{same_Some, cond_some}
-use Rattle.regress_tree.specs.Table.{Table}
+use Rattle.regress_unicode.specs.Table.{Table}
 use Rattle.regress_tree.specs.declared.ir.node.Quantifier.{Quantifier}
-use Rattle.regress_syntax.specs.Source.{Source, Found, ◌>>=◌, found_map, closing, is_at}
+use Rattle.regress_lexical.specs.Source.{Source, Found, ◌>>=◌, found_map, closing, is_at}
 use Rattle.regress_syntax.specs.Syntax.{Name, Group, Pattern, Item, one, either, atom, group, Counts, counts_of_item, opened_by, levels}
 use Rattle.regress_syntax.specs.Rows.{Context, inside, Head, single, opens, head_of_item, allows, head_at, times_at}
-use Rattle.regress_syntax.proofs.laws.Sources.{found_then, from_each, to_each}
+use Rattle.regress_lexical.proofs.laws.Sources.{found_then, from_each, to_each}
 use Rattle.regress_parse.specs.Reader.{Term, closed, item_behind, quantified, pattern_at, item_at, term_at}
 use Rattle.regress_base.specs.Limits.{max_capture_groups, max_loops, max_nesting_depth}
 use Rattle.regress_parse.specs.Parsing.{Fits, pattern_part, term_part, item_part}

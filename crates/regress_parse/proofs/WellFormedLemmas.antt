@@ -10,19 +10,19 @@ use Rattle.regress_base.proofs.laws.Sets.{intervals_of-canonical}
 use Rattle.regress_tree.specs.declared.ir.node.Quantifier.{Quantifier}
 use Rattle.regress_tree.specs.Literal.{class_of}
 use Rattle.regress_tree.specs.Reading.{Direction, forwards, backwards}
-use Rattle.regress_tree.specs.Table.{Table, IsLawful}
+use Rattle.regress_unicode.specs.Table.{Table, IsLawful}
 use Rattle.regress_tree.specs.Tree.{Tree, Trees, no_trees, more_trees, char, match_any, match_any_except_line_terminator, bracket, string_set}
-use Rattle.regress_tree.specs.Matching.{Setting}
+use Rattle.regress_tree.specs.Setting.{Setting}
 use Rattle.regress_tree.specs.WellFormed.{inside, LeafMayStand, IsQuantifier, HasGroups, MayStand, RowMayStand, IsWellFormed, captures}
 use Rattle.regress_tree.proofs.laws.Literals.{class_of-bounded, class_of-few}
 use Rattle.regress_tree.proofs.laws.Turned.{RowMayStand-row_reverse}
-use Rattle.regress_syntax.specs.ClassRows.{members_of}
-use Rattle.regress_syntax.specs.Source.{Source, IsCodePoint}
+use Rattle.regress_classes.specs.ClassRows.{members_of}
+use Rattle.regress_lexical.specs.Source.{Source, IsCodePoint}
 use Rattle.regress_syntax.specs.Syntax.{Name, is_named, Target, by_number, by_name, Atom, literal, dot, anchor, boundary, class_escape, class, class_set, string_property, back_reference, Group, grouping, modified, capture, look, Pattern, Terms, Item, one, either, no_terms, more_terms, atom, group, opened_by, counts, counts_of_terms, counts_of_term, counts_of_item, names}
 use Rattle.regress_syntax.specs.Meaning.{is_in_class, longest_first, direction_of_group, groups_named, referred}
 use Rattle.regress_syntax.specs.Rows.{Context, single, opens, inside as context_inside, head_of_item, allows, times_at}
 use Rattle.regress_syntax.specs.Grammar.{IsPattern, AreTerms, IsItem}
-use Rattle.regress_syntax.proofs.laws.ClassStrings.{OfCodePoints}
+use Rattle.regress_classes.proofs.laws.ClassStrings.{OfCodePoints}
 use Rattle.regress_syntax.proofs.laws.NameEnds.{IsName}
 use Rattle.regress_syntax.proofs.laws.Rows.{head_at-ends, times_at-ends, times_at-ordered}
 use Rattle.regress_parse.specs.TreeOf.{turned, joined, tree_of_group, tree_of_times, leaf_of_members, tree_of_references, tree_of_class_set, tree_of_atom, tree_of_pattern, trees_of_terms, tree_of_item, tree_of}

@@ -3,9 +3,10 @@ use Rattle.std.specs.Prelude.{◌≡◌, ℕ, ◌≤◌, IsTrue, List, [], map, 
 use Rattle.regress_base.specs.Limits.{max_capture_groups, max_loops, max_nesting_depth}
 use Rattle.regress_tree.specs.Reading.{IsText, forwards}
 use Rattle.regress_tree.specs.Steps.{State, IsStateOf, byte_state}
-use Rattle.regress_tree.specs.Matching.{Setting, matches}
+use Rattle.regress_tree.specs.Matching.{matches}
+use Rattle.regress_tree.specs.Setting.{Setting}
 use Rattle.regress_tree.specs.Tree.{Tree}
-use Rattle.regress_syntax.specs.Source.{Source}
+use Rattle.regress_lexical.specs.Source.{Source}
 use Rattle.regress_syntax.specs.Syntax.{Pattern, counts, names, levels}
 use Rattle.regress_syntax.specs.Meaning.{meaning}
 use Rattle.regress_syntax.specs.Scan.{has_apart_names}

@@ -3,15 +3,16 @@ use Rattle.std.specs.Prelude.{◌≡◌, ℕ, ◌+◌, ◌≤◌, List, [], ◌�
 use Rattle.std.specs.Option.{IsSomeAnd}
 use Rattle.regress_tree.specs.declared.ir.node.Node.{Node}
 use Rattle.regress_tree.specs.Reading.{Direction, forwards}
-use Rattle.regress_tree.specs.Table.{Table}
-use Rattle.regress_tree.specs.TableOf.{table_of}
+use Rattle.regress_unicode.specs.Table.{Table}
+use Rattle.regress_unicode.specs.TableOf.{table_of}
 use Rattle.regress_tree.specs.Tree.{Tree, tree, alt}
-use Rattle.regress_syntax.specs.declared.fault.ParseFault.{ParseFault}
-use Rattle.regress_syntax.specs.Fault.{OnSyntax}
-use Rattle.regress_syntax.specs.Source.{Source, Found}
+use Rattle.regress_lexical.specs.declared.fault.ParseFault.{ParseFault}
+use Rattle.regress_lexical.specs.Fault.{OnSyntax}
+use Rattle.regress_lexical.specs.Source.{Source, Found}
 use Rattle.regress_syntax.specs.Syntax.{Name, Pattern, Terms, Item, Counts, nothing_counted, added, counts, counts_of_terms, counts_of_term, counts_of_item, levels, levels_of_terms, levels_of_item}
 use Rattle.regress_syntax.specs.Rows.{Context}
-use Rattle.regress_syntax.specs.Views.{source, names_in, context_of, direction_of as of_flag}
+use Rattle.regress_syntax.specs.Views.{names_in, context_of, direction_of as of_flag}
+use Rattle.regress_lexical.specs.Views.{source}
 use Rattle.regress_parse.specs.declared.parser.Parser.{Parser}
 use Rattle.regress_parse.specs.declared.parser.Around.{Around}
 use Rattle.regress_parse.specs.Reader.{Term, pattern_at}

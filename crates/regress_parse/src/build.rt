@@ -3,13 +3,14 @@ ghost use Rattle.std.specs.Prelude.{◌≡◌, ◌≢◌, ℕ, Bool, false, List
 ghost use Rattle.regress_tree.specs.Assertions.{differ};
 ghost use Rattle.regress_base.specs.Intervals.{Bounds, intervals_of};
 ghost use Rattle.regress_tree.specs.Tree.{tree, trees, leaf, bracket, string_set};
-ghost use Rattle.regress_tree.specs.TableOf.{table_of};
-ghost use Rattle.regress_syntax.specs.ClassSets.{Value as WrittenValue};
+ghost use Rattle.regress_unicode.specs.TableOf.{table_of};
+ghost use Rattle.regress_classes.specs.ClassSets.{Value as WrittenValue};
 ghost use Rattle.regress_syntax.specs.Meaning.{is_in_class, longest_first};
-ghost use Rattle.regress_syntax.specs.Source.{IsCodePoint};
-ghost use Rattle.regress_syntax.specs.ClassRows.{members_of};
+ghost use Rattle.regress_lexical.specs.Source.{IsCodePoint};
+ghost use Rattle.regress_classes.specs.ClassRows.{members_of};
 ghost use Rattle.regress_syntax.specs.Syntax.{Atom as Written};
-ghost use Rattle.regress_syntax.specs.Views.{IsAtom, IsSomeAtom, IsValue, HasMembers, strings_of, context_of, names_in, direction_of, group_of};
+ghost use Rattle.regress_syntax.specs.Views.{IsAtom, IsSomeAtom, context_of, names_in, direction_of, group_of};
+ghost use Rattle.regress_classes.specs.ClassViews.{IsValue, HasMembers, strings_of};
 ghost use Rattle.regress_parse.specs.TreeOf.{turned, joined, leaf_of_members, leaf_of_literal, tree_of_references, tree_of_class_set, tree_of_atom, tree_of_group, tree_of_times};
 ghost use Rattle.regress_parse.specs.Parsing.{alternatives};
 
@@ -18,7 +19,7 @@ use regress_base::codepointset::CodePointSet;
 use regress_base::types::{BracketContents, CaptureGroupID};
 use regress_syntax::{Atom, Group, Name, Scope, Value, class_set};
 use regress_tree::ir::{Node, NodeList, Quantifier};
-use regress_tree::unicode::{add_icase_code_points, expand_code_point};
+use regress_unicode::{add_icase_code_points, expand_code_point};
 use std::alloc::{AllocError, Global};
 use std::cmp::Reverse;
 use std::ops::Range;

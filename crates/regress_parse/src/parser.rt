@@ -58,7 +58,7 @@ impl<'a> Around<'a> {
 
 impl Parser<'_> {
     ghost use Rattle.std.specs.Prelude.{◌≡◌, ◌+◌, ◌<◌, OnOk};
-    ghost use Rattle.regress_syntax.specs.Fault.{RefusedOnlyIf};
+    ghost use Rattle.regress_lexical.specs.Fault.{RefusedOnlyIf};
     ghost use Rattle.regress_syntax.specs.Syntax.{added, one_loop, opened_by, counts_of_group};
     ghost use Rattle.regress_syntax.specs.Views.{group_of};
     ghost use Rattle.regress_parse.specs.Parsing.{text, counted};

@@ -1,10 +1,11 @@
 //! From a whole pattern to its tree.
 ghost use Rattle.std.specs.Prelude.{◌≡◌, All, IfOk};
-ghost use Rattle.regress_tree.specs.TableOf.{table_of, setting_of};
+ghost use Rattle.regress_unicode.specs.TableOf.{table_of};
+ghost use Rattle.regress_tree.specs.Setting.{setting_of};
 ghost use Rattle.regress_tree.specs.Tree.{tree};
 ghost use Rattle.regress_tree.specs.WellFormed.{IsWellFormed};
-ghost use Rattle.regress_syntax.specs.Fault.{RefusedOnlyIf};
-ghost use Rattle.regress_syntax.specs.Source.{IsCodePoint};
+ghost use Rattle.regress_lexical.specs.Fault.{RefusedOnlyIf};
+ghost use Rattle.regress_lexical.specs.Source.{IsCodePoint};
 ghost use Rattle.regress_syntax.specs.Syntax.{Pattern};
 ghost use Rattle.regress_syntax.specs.Views.{context_of};
 ghost use Rattle.regress_parse.specs.TreeOf.{tree_of};
@@ -16,7 +17,7 @@ use regress_base::types::Flags;
 use regress_syntax::fault::{UNBALANCED, syntax};
 use regress_syntax::{Cursor, ParseFault, Scope, scan_groups};
 use regress_tree::ir::{Node, Regex};
-use regress_tree::unicode::Tables;
+use regress_unicode::Tables;
 use std::alloc::Global;
 
 /// Parses a pattern, a list of code points of which a surrogate is an ordinary literal, and no character of

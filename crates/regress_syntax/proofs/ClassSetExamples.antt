@@ -5,16 +5,16 @@ use Rattle.std.proofs.lemmas.Bool.Decides.{nat_tests}
 use Rattle.regress_base.specs.Classes.{digits, word_characters}
 use Rattle.regress_base.specs.Intervals.{Bounds, code_point_max, is_member, is_within, intervals_of, IsCanonical}
 use Rattle.regress_base.proofs.laws.Sets.{canonical_is, intervals_of-member}
-use Rattle.regress_tree.specs.SmallTable.{small_table}
-use Rattle.regress_tree.specs.Table.{named}
-use Rattle.regress_syntax.specs.ClassRows.{complement}
-use Rattle.regress_syntax.specs.ClassSets.{Value, class_set_at, class_set_by, parts_by, operands_by, operand_at, set_character_at, strings_by}
-use Rattle.regress_syntax.specs.Digits.{front, behind}
-use Rattle.regress_syntax.specs.Escapes.{escape_at, unicode_at}
+use Rattle.regress_unicode.specs.SmallTable.{small_table}
+use Rattle.regress_unicode.specs.Table.{named}
+use Rattle.regress_classes.specs.ClassRows.{complement}
+use Rattle.regress_classes.specs.ClassSets.{Value, class_set_at, class_set_by, parts_by, operands_by, operand_at, set_character_at, strings_by}
+use Rattle.regress_lexical.specs.Digits.{front, behind}
+use Rattle.regress_lexical.specs.Escapes.{escape_at, unicode_at}
 use Rattle.regress_syntax.specs.Meaning.{longest_first}
-use Rattle.regress_syntax.specs.Properties.{Property, of_points, of_strings, property_at}
+use Rattle.regress_classes.specs.Properties.{Property, of_points, of_strings, property_at}
 use Rattle.regress_syntax.specs.Scan.{captures, closes, nests, plain, marks}
-use Rattle.regress_syntax.specs.Source.{Source, Found}
+use Rattle.regress_lexical.specs.Source.{Source, Found}
 
 abbrev run : ℕ → ℕ → Bounds
 run first last = record { first = first; last = last }

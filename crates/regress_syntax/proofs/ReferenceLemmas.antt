@@ -1,16 +1,16 @@
 -- References by number and by name.
-use Rattle.std.proofs.Common.{⊎_elim, ◌≡◌, ◌≢◌, ℕ, ◌+◌, ◌-◌, ◌<◌, ◌≤◌, ◌^◌, nat_le, min, Bool, true, false, cond, ◌||◌, ◌==◌, List, [], ◌∷◌, length, Option, Some, None, refl, sym, ap, ◌∙◌, arith}
+use Rattle.std.proofs.Common.{⊎_elim, ◌≡◌, ◌≢◌, ℕ, ◌+◌, ◌-◌, ◌<◌, ◌≤◌, ◌^◌, nat_le, min, Bool, true, false, cond, ◌||◌, List, [], ◌∷◌, length, Option, Some, None, refl, sym, ap, ◌∙◌, arith}
 use Rattle.std.proofs.lemmas.Bool.{cond-true, cond-false, cases_Bool, false≢true, ne_eqb}
 use Rattle.std.proofs.lemmas.Bool.Decides.{nat_tests}
 use Rattle.std.proofs.lemmas.Option.{none-some, same_Some, cond_some}
-use Rattle.regress_syntax.specs.Source.{Source, ◌>>=◌}
-use Rattle.regress_syntax.specs.Digits.{is_between, is_decimal, number, front, behind}
-use Rattle.regress_syntax.specs.Escapes.{begins_with_digit}
-use Rattle.regress_syntax.specs.Quantifiers.{count_at}
+use Rattle.regress_lexical.specs.Source.{Source, ◌>>=◌}
+use Rattle.regress_lexical.specs.Digits.{is_between, is_decimal, number, front, behind}
+use Rattle.regress_lexical.specs.Escapes.{begins_with_digit}
+use Rattle.regress_lexical.specs.Quantifiers.{count_at}
 use Rattle.regress_syntax.specs.Meaning.{groups_named}
 use Rattle.regress_syntax.specs.Names.{group_name_at}
 use Rattle.regress_syntax.specs.Rows.{Context, has_name, group_number_at, numbered_at, named_at, character_at}
-use Rattle.regress_syntax.proofs.laws.Behind.{behind_front, Ends, ends_none, ends_some, ends_cond}
+use Rattle.regress_lexical.proofs.laws.Behind.{behind_front, Ends, ends_none, ends_some, ends_cond}
 use Rattle.regress_syntax.specs.Syntax.{Name, is_named, by_number, by_name, back_reference}
 
 digit_decimal : (c : ℕ) → is_between 49 57 c ≡ true → is_decimal c ≡ true
@@ -107,10 +107,3 @@ module _ (ctx : Context) where
       (⊎_elim (λ (has : has_name name ctx.names ≡ true). absurd ((has_name-groups name 1 ctx.names).0 has none))
       (λ (lacks : has_name name ctx.names ≡ false). lacks)
       (cases_Bool (has_name name ctx.names)))
-
-pub length-none : (xs : List ℕ) → (length xs == 0) ≡ true → xs ≡ []
-length-none [] e = refl
-length-none (x ∷ xs) e = absurd (false≢true (sym (ne_eqb (length (x ∷ xs)) 0 (λ z. omega (arith, z))) ∙ e))
-
-pub length-some : (xs : List ℕ) → (length xs == 0) ≡ false → xs ≢ []
-length-some xs e none = false≢true (sym e ∙ ap (λ (ys : List ℕ). length ys == 0) none)

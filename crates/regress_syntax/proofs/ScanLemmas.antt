@@ -5,13 +5,13 @@ use Rattle.std.proofs.lemmas.Bool.Decides.{nat_tests}
 use Rattle.std.proofs.lemmas.Option.{none-some, same_Some}
 use Rattle.std.specs.List.{list_all}
 use Rattle.regress_base.specs.Intervals.{code_point_max}
-use Rattle.regress_tree.specs.Table.{Table}
-use Rattle.regress_syntax.specs.Source.{Source, Found, ◌>>=◌, found_map, opening, closing, bar, question_mark, is_at, is_plain}
-use Rattle.regress_syntax.specs.Digits.{is_between, is_decimal, is_letter, is_octal, is_hex, control, number, front, behind, hex_at}
-use Rattle.regress_syntax.specs.Escapes.{braced_hex_at, second_half_at, paired, with_second_half, unicode_at, or_itself, octal_digits, letter_escape, begins_with_digit, is_syntax_character, control_at, other_escape, escape_at}
-use Rattle.regress_syntax.specs.Quantifiers.{Times, count_at, closed_brace, most_at, times_by, greedy_or_lazy, quantifier_at}
+use Rattle.regress_unicode.specs.Table.{Table}
+use Rattle.regress_lexical.specs.Source.{Source, Found, ◌>>=◌, found_map, opening, closing, bar, question_mark, is_at, is_plain}
+use Rattle.regress_lexical.specs.Digits.{is_between, is_decimal, is_letter, is_octal, is_hex, control, number, front, behind, hex_at}
+use Rattle.regress_lexical.specs.Escapes.{braced_hex_at, second_half_at, paired, with_second_half, unicode_at, or_itself, octal_digits, letter_escape, begins_with_digit, is_syntax_character, control_at, other_escape, escape_at}
+use Rattle.regress_lexical.specs.Quantifiers.{Times, count_at, closed_brace, most_at, times_by, greedy_or_lazy, quantifier_at}
 use Rattle.regress_syntax.specs.Scan.{Mark, Mode, plain, escape, class, class_escape, marks}
-use Rattle.regress_syntax.proofs.DigitLemmas.{and_both}
+use Rattle.regress_lexical.proofs.laws.Digits.{and_both}
 
 -- ---- code points that a scan takes no notice of
 

@@ -6,23 +6,23 @@ use lib.Utf8.{scalar}
 use Rattle.regress_base.specs.Classes.{word_characters}
 use Rattle.regress_base.specs.Intervals.{Bounds, is_within, is_member}
 use Rattle.regress_base.specs.declared.charclasses.CharacterClassType.{CharacterClassType}
-use Rattle.regress_tree.specs.Table.{Table, HasWordAscii, IsLawful}
-use Rattle.regress_syntax.specs.Source.{Source, Found, ◌>>=◌, found_map, opening, closing, colon, bar, full_stop, question_mark, is_at, is_plain}
-use Rattle.regress_syntax.specs.Digits.{is_between, is_decimal, number, front, behind}
-use Rattle.regress_syntax.specs.Escapes.{unicode_at, escape_at}
+use Rattle.regress_unicode.specs.Table.{Table, HasWordAscii, IsLawful}
+use Rattle.regress_lexical.specs.Source.{Source, Found, ◌>>=◌, found_map, opening, closing, colon, bar, full_stop, question_mark, is_at, is_plain}
+use Rattle.regress_lexical.specs.Digits.{is_between, is_decimal, number, front, behind}
+use Rattle.regress_lexical.specs.Escapes.{unicode_at, escape_at}
 use Rattle.regress_tree.specs.declared.ir.node.Quantifier.{Quantifier}
-use Rattle.regress_syntax.specs.Quantifiers.{quantifier_at, is_ordered}
-use Rattle.regress_syntax.specs.Properties.{Property, of_points, of_strings, property_at}
-use Rattle.regress_syntax.specs.ClassRows.{complement, class_letter, class_at}
-use Rattle.regress_syntax.specs.ClassSets.{Value, class_set_at}
-use Rattle.regress_syntax.specs.Modifiers.{is_modifier, letters_off, behind_letters_off, are_different, modifiers_at}
+use Rattle.regress_lexical.specs.Quantifiers.{quantifier_at, is_ordered}
+use Rattle.regress_classes.specs.Properties.{Property, of_points, of_strings, property_at}
+use Rattle.regress_classes.specs.ClassRows.{complement, class_letter, class_at}
+use Rattle.regress_classes.specs.ClassSets.{Value, class_set_at}
+use Rattle.regress_lexical.specs.Modifiers.{is_modifier, letters_off, behind_letters_off, are_different, modifiers_at}
 use Rattle.regress_syntax.specs.Names.{is_sign, begins_name, continues_name, name_character_at, rest_of_name_by, name_at, group_name_at}
 use Rattle.regress_syntax.specs.Syntax.{Name, Atom, literal, boundary, Group, modified, capture}
 use Rattle.regress_syntax.specs.Syntax as Syntax
 use Rattle.regress_syntax.specs.Rows.{Context, Head, single, opens, angle_at, modified_at, behind_mark_at, group_at, has_names, has_name, is_lone_backslash, character_at, property_atom, property_atom_at, numbered_at, named_at, escaped_by, escaped_at, brace_by, brackets_at, atom_by, head_at, no_quantifier_at, this_quantifier, times_at}
 use Rattle.regress_syntax.specs.Scan.{Mark, captures, mark_of_group, marks_of_atom, Mode, plain, escape, class, class_escape, opened_at, marks}
 use Rattle.regress_syntax.specs.Scan as Scan
-use Rattle.regress_syntax.proofs.DigitLemmas.{and_both, drop_one_more}
+use Rattle.regress_lexical.proofs.laws.Digits.{and_both, drop_one_more}
 use Rattle.regress_syntax.proofs.ScanLemmas.{is_quiet, quiet_decimal, quiet_plain, Passes, Leads, Gives, in_text, gives_none, gives_some, gives_after, gives_then, gives_map, gives_cond, gives_leads, passes_same, passes_then, leads_none, leads_some, leads_behind, leads_then, leads_map, leads_cond, pass_quiet, pass_at, pass_backslash, pass_escaped, pass_behind, lead_unicode_at, lead_escape_at, lead_quantifier_at}
 use Rattle.regress_syntax.proofs.ScanClasses.{lead_property_at, lead_class_at}
 use Rattle.regress_syntax.proofs.ScanSets.{gives_class_set_at}

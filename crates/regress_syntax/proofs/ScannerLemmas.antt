@@ -4,13 +4,13 @@ use Rattle.std.specs.List.{list_all, zip}
 use Rattle.std.specs.declared.alloc.Global.{Global}
 use Rattle.std.proofs.lemmas.Bool.{and_left}
 use Rattle.std.proofs.lemmas.List.{map-append}
-use Rattle.regress_tree.specs.Table.{Table}
-use Rattle.regress_syntax.specs.Source.{Source}
+use Rattle.regress_unicode.specs.Table.{Table}
+use Rattle.regress_lexical.specs.Source.{Source}
 use Rattle.regress_syntax.specs.Scan.{Mode, plain, escape, class, class_escape, marks, Mark, opens, captures, closes, next, nests, mode_behind, mark_at, agree, deepest, Path, Placed, placed_by, at_the_start, same_name, conflict, are_apart}
 use Rattle.regress_syntax.specs.Scanning.{depth_of, has_name, placed_of, path_of, Behind}
-use Rattle.regress_syntax.specs.Fault.{RefusedOnlyIf}
-use Rattle.regress_syntax.specs.declared.fault.ParseFault.{ParseFault}
-use Rattle.regress_syntax.proofs.laws.Sources.{on_syntax_then}
+use Rattle.regress_lexical.specs.Fault.{RefusedOnlyIf}
+use Rattle.regress_lexical.specs.declared.fault.ParseFault.{ParseFault}
+use Rattle.regress_lexical.proofs.laws.Sources.{on_syntax_then}
 use Rattle.regress_syntax.specs.declared.scan.scanner.Scanner.{Scanner}
 use Rattle.regress_syntax.specs.declared.scan.scanner.NamedGroup.{NamedGroup}
 

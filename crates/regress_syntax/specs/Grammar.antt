@@ -1,6 +1,6 @@
 -- Which source a syntax tree stands for (ECMA-262, Patterns). The rows that need no recursion are functions of the source.
 use Rattle.std.specs.Prelude.{◌≡◌, true, false, ◌∷◌, Some}
-use Rattle.regress_syntax.specs.Source.{Source, closing, bar, is_at, ends_alternative}
+use Rattle.regress_lexical.specs.Source.{Source, closing, bar, is_at, ends_alternative}
 use Rattle.regress_syntax.specs.Syntax.{Pattern, Terms, Item, one, either, no_terms, more_terms, atom, group}
 use Rattle.regress_syntax.specs.Rows.{Context, inside, single, opens, head_of_item, allows, head_at, times_at}
 

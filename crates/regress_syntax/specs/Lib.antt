@@ -1,11 +1,3 @@
-pub mod Source
-pub mod Digits
-pub mod Escapes
-pub mod Quantifiers
-pub mod Properties
-pub mod ClassRows
-pub mod ClassSets
-pub mod Modifiers
 pub mod Names
 pub mod Syntax
 pub mod Rows
@@ -14,6 +6,4 @@ pub mod Scan
 pub mod Numbering
 pub mod Scanning
 pub mod Meaning
-pub mod Fault
-pub mod Reads
 pub mod Views

@@ -8,11 +8,11 @@ use Rattle.regress_tree.specs.Steps.{Step, distinct, stay, fail, ◌then_◌, �
 use Rattle.regress_tree.specs.Lookaround.{look as looks}
 use Rattle.regress_tree.specs.References.{back_reference as refers}
 use Rattle.regress_tree.specs.Strings.{any_string}
-use Rattle.regress_tree.specs.Matching.{Setting}
-use Rattle.regress_tree.specs.Table.{Table, stands_for, is_in_closure}
+use Rattle.regress_tree.specs.Setting.{Setting}
+use Rattle.regress_unicode.specs.Table.{Table, stands_for, is_in_closure}
 use Rattle.regress_tree.specs.Assertions.{is_line_terminator, is_word_character, at_anchor, differ, at_boundary}
 use Rattle.regress_tree.specs.Repetition.{repeat}
-use Rattle.regress_syntax.specs.ClassRows.{members_of}
+use Rattle.regress_classes.specs.ClassRows.{members_of}
 use Rattle.regress_syntax.specs.Syntax.{Name, is_named, Target, by_number, by_name, Atom, literal, dot, anchor, boundary, class_escape, class, class_set, string_property, back_reference, Group, grouping, modified, capture, look, Pattern, Terms, Item, one, either, no_terms, more_terms, atom, group, opened_by, counts_of_item, counts_of_terms, counts_of_term, names}
 
 -- a character matches the literal c: with the flag i where both have one image (ECMA-262, Canonicalize)

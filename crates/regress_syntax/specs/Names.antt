@@ -2,9 +2,9 @@
 use Rattle.std.specs.Prelude.{ℕ, zero, suc, ◌+◌, Bool, ◌&&◌, ◌||◌, [], ◌∷◌, length, drop, Some, None, if◌then◌else◌, ◌==◌}
 use lib.Utf8.{scalar}
 use Rattle.regress_base.specs.Intervals.{is_member}
-use Rattle.regress_tree.specs.Table.{Table}
-use Rattle.regress_syntax.specs.Source.{Source, Found, ◌>>=◌, found_map, is_at}
-use Rattle.regress_syntax.specs.Escapes.{unicode_at}
+use Rattle.regress_unicode.specs.Table.{Table}
+use Rattle.regress_lexical.specs.Source.{Source, Found, ◌>>=◌, found_map, is_at}
+use Rattle.regress_lexical.specs.Escapes.{unicode_at}
 use Rattle.regress_syntax.specs.Syntax.{Name}
 
 -- `$` and `_`

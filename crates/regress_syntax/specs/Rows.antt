@@ -5,17 +5,17 @@ use Rattle.std.specs.List.{list_any}
 use Rattle.regress_base.specs.Intervals.{Bounds}
 use Rattle.regress_tree.specs.declared.ir.node.AnchorType.TheVariants.{StartOfLine, EndOfLine}
 use Rattle.regress_tree.specs.declared.ir.node.Quantifier.{Quantifier}
-use Rattle.regress_tree.specs.Matching.{Setting}
+use Rattle.regress_tree.specs.Setting.{Setting}
 use Rattle.regress_tree.specs.Reading.{forwards, backwards}
-use Rattle.regress_tree.specs.Table.{Table}
-use Rattle.regress_syntax.specs.Source.{Source, Found, ◌>>=◌, found_map, opening, full_stop, colon, question_mark, is_at, is_plain}
-use Rattle.regress_syntax.specs.Digits.{is_between, is_decimal, number, front, behind}
-use Rattle.regress_syntax.specs.Escapes.{begins_with_letter, escape_at}
-use Rattle.regress_syntax.specs.Quantifiers.{quantifier_at, is_ordered}
-use Rattle.regress_syntax.specs.Properties.{Property, of_points, of_strings, property_at}
-use Rattle.regress_syntax.specs.ClassRows.{complement, class_letter, class_at}
-use Rattle.regress_syntax.specs.ClassSets.{class_set_at}
-use Rattle.regress_syntax.specs.Modifiers.{changed, modifiers_at}
+use Rattle.regress_unicode.specs.Table.{Table}
+use Rattle.regress_lexical.specs.Source.{Source, Found, ◌>>=◌, found_map, opening, full_stop, colon, question_mark, is_at, is_plain}
+use Rattle.regress_lexical.specs.Digits.{is_between, is_decimal, number, front, behind}
+use Rattle.regress_lexical.specs.Escapes.{begins_with_letter, escape_at}
+use Rattle.regress_lexical.specs.Quantifiers.{quantifier_at, is_ordered}
+use Rattle.regress_classes.specs.Properties.{Property, of_points, of_strings, property_at}
+use Rattle.regress_classes.specs.ClassRows.{complement, class_letter, class_at}
+use Rattle.regress_classes.specs.ClassSets.{class_set_at}
+use Rattle.regress_lexical.specs.Modifiers.{changed, modifiers_at}
 use Rattle.regress_syntax.specs.Names.{group_name_at}
 use Rattle.regress_syntax.specs.Syntax.{Name, is_named, by_number, by_name, Atom, literal, dot, anchor, boundary, class_escape, class, class_set, string_property, back_reference, Group, grouping, modified, capture, look, Item, atom, group}
 

@@ -7,8 +7,8 @@ use Rattle.regress_base.specs.declared.types.Flags.{Flags}
 use Rattle.regress_tree.specs.declared.ir.node.AnchorType.{AnchorType}
 use Rattle.regress_tree.specs.declared.ir.node.Quantifier.{Quantifier}
 use Rattle.regress_tree.specs.Reading.{Direction}
-use Rattle.regress_syntax.specs.ClassSets.{Value}
-use Rattle.regress_syntax.specs.Modifiers.{Change}
+use Rattle.regress_classes.specs.ClassSets.{Value}
+use Rattle.regress_lexical.specs.Modifiers.{Change}
 
 -- a name, by its characters
 abbrev pub Name : Type 0

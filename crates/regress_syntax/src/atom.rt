@@ -1,34 +1,32 @@
 //! Items that hold no pattern.
 ghost use Rattle.std.specs.Prelude.{◌≡◌, ◌∷◌, true, drop, is_some, option_map, IfOk};
-ghost use Rattle.regress_syntax.specs.Digits.{is_between};
-ghost use Rattle.regress_syntax.specs.Escapes.{begins_with_letter, begins_with_digit};
-ghost use Rattle.regress_syntax.specs.Quantifiers.{quantifier_at};
-ghost use Rattle.regress_syntax.specs.Reads.{ReadsAs};
+ghost use Rattle.regress_lexical.specs.Digits.{is_between};
+ghost use Rattle.regress_lexical.specs.Escapes.{begins_with_letter, begins_with_digit};
+ghost use Rattle.regress_lexical.specs.Quantifiers.{quantifier_at};
+ghost use Rattle.regress_lexical.specs.Reads.{ReadsAs};
 ghost use Rattle.regress_syntax.specs.Rows.{atom_by, brace_by, is_lone_backslash, escaped_at, group_number_at, numbered_at, named_at, character_at, brackets_at, point_property, property_atom_at};
-ghost use Rattle.regress_syntax.specs.Source.{IsCodePoint};
-ghost use Rattle.regress_syntax.specs.Views.{source, context_of, IsAtom};
+ghost use Rattle.regress_lexical.specs.Source.{IsCodePoint};
+ghost use Rattle.regress_syntax.specs.Views.{context_of, IsAtom};
+ghost use Rattle.regress_lexical.specs.Views.{source};
 
-use crate::class::read_class;
-use crate::class_escape::{class_letter, set_is_canonical};
-use crate::class_sets::{Value, read_class_set};
-use crate::cursor::{Cursor, is_plain};
-use crate::digits::{Read, is_letter, read_count};
-use crate::escape::{escape_fault, read_escape};
-use crate::fault::{
-    Error, INCOMPLETE_ESCAPE, INVALID_ATOM, INVALID_BRACED_QUANTIFIER, INVALID_ESCAPE,
-    INVALID_REFERENCE, ParseFault, UNKNOWN_NAME, syntax,
-};
 use crate::names::read_group_name;
-use crate::property::{Property, is_property_letter, read_property};
 use crate::scope::Scope;
 use regress_base::charclasses::CharacterClassType;
 use regress_base::codepointset::CodePointSet;
 use regress_base::types::MAX_NESTING_DEPTH;
+use regress_classes::class::read_class;
+use regress_classes::class_escape::{class_letter, set_is_canonical};
+use regress_classes::class_sets::{Value, read_class_set};
+use regress_classes::property::{Property, is_property_letter, read_property};
+use regress_lexical::cursor::{Cursor, is_plain};
+use regress_lexical::digits::{Read, is_letter, read_count};
+use regress_lexical::escape::{escape_fault, read_escape};
+use regress_lexical::fault::{
+    Error, INCOMPLETE_ESCAPE, INVALID_ATOM, INVALID_BRACED_QUANTIFIER, INVALID_ESCAPE,
+    INVALID_REFERENCE, ParseFault, UNKNOWN_NAME, syntax,
+};
 use regress_tree::ir::AnchorType;
 use std::alloc::{AllocError, Global};
-
-#[cfg(test)]
-mod tests;
 
 /// An item that holds no pattern.
 #[derive(Drop)]

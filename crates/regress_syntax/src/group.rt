@@ -1,14 +1,15 @@
 //! What a parenthesis opens.
-ghost use Rattle.regress_syntax.specs.Reads.{Reads};
+ghost use Rattle.regress_lexical.specs.Reads.{Reads};
 ghost use Rattle.regress_syntax.specs.Rows.{opens, named_group_at, modified_at, angle_at, behind_mark_at, group_at};
-ghost use Rattle.regress_syntax.specs.Views.{source, group_of};
-ghost use Rattle.regress_tree.specs.TableOf.{table_of};
+ghost use Rattle.regress_syntax.specs.Views.{group_of};
+ghost use Rattle.regress_lexical.specs.Views.{source};
+ghost use Rattle.regress_unicode.specs.TableOf.{table_of};
 
-use crate::cursor::Cursor;
-use crate::fault::{INVALID_GROUP_NAME, INVALID_MODIFIER, ParseFault, syntax};
-use crate::modifiers::{Change, read_modifiers};
 use crate::names::{Name, read_group_name};
-use regress_tree::unicode::Tables;
+use regress_lexical::cursor::Cursor;
+use regress_lexical::fault::{INVALID_GROUP_NAME, INVALID_MODIFIER, ParseFault, syntax};
+use regress_lexical::modifiers::{Change, read_modifiers};
+use regress_unicode::Tables;
 
 /// What a parenthesis opens.
 #[derive(Drop)]

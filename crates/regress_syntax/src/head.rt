@@ -1,15 +1,16 @@
 //! What an item begins with.
 ghost use Rattle.std.specs.Prelude.{◌≡◌};
-ghost use Rattle.regress_syntax.specs.Reads.{Reads, ReadsAs};
+ghost use Rattle.regress_lexical.specs.Reads.{Reads, ReadsAs};
 ghost use Rattle.regress_syntax.specs.Rows.{head_at, times_at};
-ghost use Rattle.regress_syntax.specs.Views.{source, context_of, IsHead};
+ghost use Rattle.regress_syntax.specs.Views.{context_of, IsHead};
+ghost use Rattle.regress_lexical.specs.Views.{source};
 
 use crate::atom::{Atom, read_atom};
-use crate::cursor::Cursor;
-use crate::fault::{INVALID_ATOM, INVALID_QUANTIFIER, NO_QUANTIFIER, ParseFault, syntax};
 use crate::group::{Group, read_group};
-use crate::quantifier::{is_ordered, read_quantifier};
 use crate::scope::Scope;
+use regress_lexical::cursor::Cursor;
+use regress_lexical::fault::{INVALID_ATOM, INVALID_QUANTIFIER, NO_QUANTIFIER, ParseFault, syntax};
+use regress_lexical::quantifier::{is_ordered, read_quantifier};
 use regress_tree::ir::Quantifier;
 
 /// What an item begins with: all of it, or what its parenthesis opens.

@@ -1,15 +1,12 @@
 //! Names of groups.
 ghost use Rattle.std.specs.Prelude.{◌≡◌, ◌+◌, ◌++◌, length, Some, None, if◌then◌else◌, option_map, IfOk};
-ghost use Rattle.regress_syntax.specs.Source.{found_map};
+ghost use Rattle.regress_lexical.specs.Source.{found_map};
 ghost use Rattle.regress_syntax.specs.Names.{is_sign, begins_name, continues_name, written_at, name_character_at, rest_of_name_by, name_at, group_name_at};
-ghost use Rattle.regress_tree.specs.TableOf.{table_of};
+ghost use Rattle.regress_unicode.specs.TableOf.{table_of};
 
-#[cfg(test)]
-mod tests;
-
-use crate::digits::{Read, after};
-use crate::escape::read_unicode;
-use regress_tree::unicode::Tables;
+use regress_lexical::digits::{Read, after};
+use regress_lexical::escape::read_unicode;
+use regress_unicode::Tables;
 use std::alloc::{AllocError, Global};
 
 /// A name of a group, by its characters.

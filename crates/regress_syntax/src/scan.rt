@@ -1,22 +1,20 @@
 //! The scan of a pattern for its capture groups.
 ghost use Rattle.std.specs.Prelude.{◌≡◌, ◌≤◌, min, length, IsTrue, IfOk};
 ghost use Rattle.regress_base.specs.Limits.{max_capture_groups, max_nesting_depth};
-ghost use Rattle.regress_tree.specs.TableOf.{table_of};
-ghost use Rattle.regress_syntax.specs.Fault.{RefusedOnlyIf};
+ghost use Rattle.regress_unicode.specs.TableOf.{table_of};
+ghost use Rattle.regress_lexical.specs.Fault.{RefusedOnlyIf};
 ghost use Rattle.regress_syntax.specs.Numbering.{names_of};
 ghost use Rattle.regress_syntax.specs.Scan.{GivesMarks, plain, marks, named_by, deepest, at_the_start, placed_by, are_apart, IsRefusedByMarks};
 ghost use Rattle.regress_syntax.specs.Views.{names_in};
 
 mod mark;
 mod scanner;
-#[cfg(test)]
-mod tests;
 
-use crate::fault::ParseFault;
 use crate::groups::Groups;
 use crate::names::Name;
 use mark::{Mode, read_mark};
-use regress_tree::unicode::Tables;
+use regress_lexical::fault::ParseFault;
+use regress_unicode::Tables;
 use scanner::Scanner;
 use std::alloc::Global;
 

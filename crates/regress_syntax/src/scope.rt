@@ -2,7 +2,7 @@
 
 use crate::groups::Groups;
 use regress_base::types::Flags;
-use regress_tree::unicode::Tables;
+use regress_unicode::Tables;
 
 /// What the rows of the grammar look at beside the source.
 #[derive(Clone, Copy)]

@@ -13,10 +13,11 @@ use Rattle.regress_tree.specs.Lookaround.{look}
 use Rattle.regress_tree.specs.References.{back_reference}
 use Rattle.regress_tree.specs.Strings.{any_string}
 use Rattle.regress_tree.specs.Assertions.{is_word_character, at_anchor, at_boundary}
-use Rattle.regress_tree.specs.FoldRows.{image}
-use Rattle.regress_tree.specs.Table.{is_in_closure}
-use Rattle.regress_tree.specs.Matching.{Setting, matches}
-use Rattle.regress_tree.specs.SmallTable.{small_table}
+use Rattle.regress_unicode.specs.FoldRows.{image}
+use Rattle.regress_unicode.specs.Table.{is_in_closure}
+use Rattle.regress_tree.specs.Matching.{matches}
+use Rattle.regress_tree.specs.Setting.{Setting}
+use Rattle.regress_unicode.specs.SmallTable.{small_table}
 use Rattle.regress_tree.specs.Tree.{Tree, leaf, empty, char, byte_sequence, anchor, bracket, back_ref, string_set, cat, alt, wrapped, no_trees, more_trees, capture_group, loop, loop_one, lookaround}
 use Rattle.regress_tree.specs.Units.{loops, account, weight}
 

@@ -1,11 +1,11 @@
 -- Literals at values, each computed.
 use Rattle.std.proofs.Common.{◌≡◌, ℕ, true, false, [], ◌∷◌, refl, arith}
 use lib.Utf8.{encode}
-use Rattle.regress_tree.specs.FoldRows.{image}
+use Rattle.regress_unicode.specs.FoldRows.{image}
 use Rattle.regress_tree.specs.Literal.{piece_of, is_character, lowered, literal_steps}
-use Rattle.regress_tree.specs.SmallTable.{small_table}
+use Rattle.regress_unicode.specs.SmallTable.{small_table}
 use Rattle.regress_tree.specs.Steps.{State, one_character}
-use Rattle.regress_tree.specs.Table.{Table}
+use Rattle.regress_unicode.specs.Table.{Table}
 use Rattle.regress_tree.specs.Tree.{char, byte_sequence, byte_set, char_set}
 use Rattle.regress_tree.proofs.laws.Literals.{class_of-itself}
 

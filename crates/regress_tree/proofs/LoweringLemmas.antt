@@ -5,12 +5,13 @@ use Rattle.std.proofs.lemmas.Bool.{false≢true, cond-true, cond-false, cond_bot
 use Rattle.std.proofs.lemmas.List.{drop_more}
 use Rattle.std.specs.Char.{encode_utf8}
 use Rattle.regress_base.specs.Intervals.{code_point_max}
-use Rattle.regress_tree.specs.Listing.{lists, IsListing}
+use Rattle.regress_unicode.specs.Listing.{lists, IsListing}
 use Rattle.regress_tree.specs.Literal.{class_of, is_ascii, piece_of, is_character, bytes_piece, lowered_behind, lowered, literal_steps, AreApart, MeanLiterals}
-use Rattle.regress_tree.specs.Matching.{Setting, leaf_steps, steps_in_row}
+use Rattle.regress_tree.specs.Matching.{leaf_steps, steps_in_row}
+use Rattle.regress_tree.specs.Setting.{Setting}
 use Rattle.regress_tree.specs.Reading.{forwards, IsText, of_bytes}
 use Rattle.regress_tree.specs.Steps.{State, Step, stay, ◌then_◌, one_character, these_bytes}
-use Rattle.regress_tree.specs.Table.{Table, stands_for}
+use Rattle.regress_unicode.specs.Table.{Table, stands_for}
 use Rattle.regress_tree.specs.Tree.{Leaf, byte_sequence, byte_set, char_set, leaf, row}
 use Rattle.regress_tree.proofs.laws.ByteSequences.{these_bytes-nil, these_bytes-append, these_bytes-one}
 use Rattle.regress_tree.proofs.laws.Literals.{listing_is_listed, class_of-some, char-steps, piece_of-steps, class_of-steps}

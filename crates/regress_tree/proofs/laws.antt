@@ -5,7 +5,6 @@ pub mod ByteSequences
 pub mod ByteStates
 pub mod Characters
 pub mod Classes
-pub mod Closures
 pub mod Distinct
 pub mod Literals
 pub mod Nodes
@@ -18,3 +17,4 @@ pub mod Rows
 pub mod Simulation
 pub mod Strings
 pub mod Turned
+pub mod Levels

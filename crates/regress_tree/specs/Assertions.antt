@@ -5,7 +5,7 @@ use Rattle.regress_base.specs.Intervals.{is_member}
 use Rattle.regress_tree.specs.declared.ir.node.AnchorType.{AnchorType}
 use Rattle.regress_tree.specs.declared.ir.node.AnchorType.TheVariants.{StartOfLine, EndOfLine}
 use Rattle.regress_tree.specs.Reading.{Reading, Read}
-use Rattle.regress_tree.specs.Table.{Table, is_in_closure}
+use Rattle.regress_unicode.specs.Table.{Table, is_in_closure}
 
 -- ECMA-262, LineTerminator
 abbrev pub is_line_terminator : ℕ → Bool

@@ -1,12 +1,3 @@
-pub mod Listing
-pub mod FoldRows
-pub mod Table
-pub mod Parts
-pub mod SmallTable
-pub mod Moves
-pub mod Refusals
-pub mod Shifts
-pub mod TableOf
 pub mod Tree
 pub mod Literal
 pub mod Reading
@@ -21,3 +12,5 @@ pub mod Walk
 pub mod WellFormed
 pub mod Units
 pub mod Shapes
+pub mod Setting
+pub mod Spine

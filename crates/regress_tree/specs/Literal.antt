@@ -5,10 +5,11 @@ use lib.Utf8.{scalar}
 use Rattle.regress_base.specs.Intervals.{code_point_max}
 use Rattle.regress_tree.specs.declared.literal.Piece.{Piece}
 use Rattle.regress_tree.specs.declared.literal.Piece.TheVariants.{Char, ByteSequence, ByteSet, CharSet}
-use Rattle.regress_tree.specs.Matching.{Setting, steps_in_row}
+use Rattle.regress_tree.specs.Matching.{steps_in_row}
+use Rattle.regress_tree.specs.Setting.{Setting}
 use Rattle.regress_tree.specs.Reading.{forwards, IsText, of_characters}
 use Rattle.regress_tree.specs.Steps.{State, Step, IsStateOf, byte_state, stay, ◌then_◌, one_character}
-use Rattle.regress_tree.specs.Table.{Table, stands_for}
+use Rattle.regress_unicode.specs.Table.{Table, stands_for}
 use Rattle.regress_tree.specs.Tree.{Leaf, char, byte_sequence, byte_set, char_set, leaf, row}
 
 -- the numbers below a bound that pass a test, ascending

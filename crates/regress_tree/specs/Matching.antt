@@ -1,9 +1,9 @@
 -- What a tree matches, over the bytes of a text.
 use Rattle.std.specs.Prelude.{ℕ, ◌+◌, ◌-◌, true, not, ◌==◌, List, length, if◌then◌else◌}
 use Rattle.regress_base.specs.Brackets.{is_accepted}
-use Rattle.regress_base.specs.declared.types.Flags.{Flags}
-use Rattle.regress_tree.specs.Listing.{lists}
-use Rattle.regress_tree.specs.Table.{Table, stands_for}
+use Rattle.regress_unicode.specs.Listing.{lists}
+use Rattle.regress_unicode.specs.Table.{stands_for}
+use Rattle.regress_tree.specs.Setting.{Setting}
 use Rattle.regress_tree.specs.Reading.{Direction, forwards, backwards, of_bytes}
 use Rattle.regress_tree.specs.Steps.{Step, distinct, stay, ◌then_◌, ◌or_◌, one_character, these_bytes, hold_at, capture}
 use Rattle.regress_tree.specs.Assertions.{is_line_terminator, is_word_character, at_anchor, at_boundary}
@@ -12,11 +12,6 @@ use Rattle.regress_tree.specs.Lookaround.{look}
 use Rattle.regress_tree.specs.References.{back_reference}
 use Rattle.regress_tree.specs.Strings.{any_string}
 use Rattle.regress_tree.specs.Tree.{Leaf, empty, goal, char, byte_sequence, byte_set, char_set, match_any, match_any_except_line_terminator, anchor, word_boundary, bracket, back_ref, string_set, Wrapper, capture_group, loop, loop_one, lookaround, Tree, Trees, leaf, cat, alt, wrapped, no_trees, more_trees}
-
--- what a tree is made with, and matching depends on, beside the pattern and the text: the flags and the table
-pub record Setting : Type 0 where
-  pub flags : Flags
-  pub table : Table
 
 -- the direction in which what a wrapper holds is matched
 abbrev pub direction_in : Wrapper → Direction → Direction

@@ -2,6 +2,7 @@
 
 mod display;
 mod node;
+pub mod spine;
 #[cfg(test)]
 mod tests;
 mod walk;

@@ -1,6 +1,7 @@
-//! The tree of a pattern, what it matches, and the table of the characters' cases.
+//! The tree of a pattern, what it matches, and the lowering of literals.
 #![tactic(auto)]
 
 pub mod ir;
 pub mod literal;
-pub mod unicode;
+
+pub use regress_unicode as unicode;

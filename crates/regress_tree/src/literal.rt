@@ -2,10 +2,10 @@
 ghost use Rattle.std.specs.Prelude.{◌≡◌, ◌≢◌, ℕ, ◌≤◌, ◌++◌, [], ◌∷◌, map, All, IfOk, IfSome, OnOk, Some, None, option_map, is_some, string_bytes, if◌then◌else◌};
 ghost use Rattle.regress_base.specs.Intervals.{code_point_max};
 ghost use Rattle.regress_tree.specs.Literal.{piece, is_ascii, is_character, bytes_piece, piece_of as piece_of_class, lowered, AreApart, MeanLiterals};
-ghost use Rattle.regress_tree.specs.TableOf.{table_of};
+ghost use Rattle.regress_unicode.specs.TableOf.{table_of};
 
 use crate::ir::Node;
-use crate::unicode::{Tables, expand_code_point};
+use regress_unicode::{Tables, expand_code_point};
 use std::alloc::{AllocError, Global};
 use std::mem;
 

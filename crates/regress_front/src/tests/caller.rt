@@ -1,7 +1,7 @@
 //! A caller of the library. docs/CALLING.md has this text, but for the line that gives this crate its own name.
 ghost use Rattle.std.specs.Prelude.{◌≡◌, ◌≤◌, All, IfOk, chars};
-ghost use Rattle.regress_tree.specs.SmallTable.{small_table};
-ghost use Rattle.regress_syntax.specs.Fault.{RefusedOnlyIf};
+ghost use Rattle.regress_unicode.specs.SmallTable.{small_table};
+ghost use Rattle.regress_lexical.specs.Fault.{RefusedOnlyIf};
 ghost use Rattle.regress_syntax.specs.Syntax.{Pattern};
 ghost use Rattle.regress_parse.specs.Accepted.{IsAccepted, NoneIsAccepted};
 

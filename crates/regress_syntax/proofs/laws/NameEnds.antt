@@ -3,16 +3,16 @@ use Rattle.std.proofs.Common.{◌≡◌, ◌≢◌, ℕ, zero, suc, ◌+◌, ◌
 use Rattle.std.proofs.lemmas.Option.{none-some}
 use Rattle.std.specs.Char.{IsScalar}
 use Rattle.std.proofs.lemmas.List.Elements.{All-nil, All-cons}
-use Rattle.regress_tree.specs.Table.{Table}
+use Rattle.regress_unicode.specs.Table.{Table}
 use Rattle.regress_tree.specs.Reading.{IsText}
-use Rattle.regress_syntax.specs.Source.{Source, is_at}
-use Rattle.regress_syntax.specs.Digits.{behind}
+use Rattle.regress_lexical.specs.Source.{Source, is_at}
+use Rattle.regress_lexical.specs.Digits.{behind}
 use Rattle.regress_syntax.specs.Syntax.{Name}
 use Rattle.regress_syntax.specs.Names.{begins_name, continues_name, written_at, name_character_at, rest_of_name_by, name_at, group_name_at}
-use Rattle.regress_syntax.specs.Modifiers.{is_modifier, behind_letters_off, modifiers_at}
-use Rattle.regress_syntax.proofs.DigitLemmas.{and_both}
-use Rattle.regress_syntax.proofs.laws.InRange.{Finds, finds_none, finds_some, finds_cond, finds_then, finds_map}
-use Rattle.regress_syntax.proofs.laws.Behind.{IsBehind, behind_same, behind_behind, behind_drop, behind_front, behind_shorter, Ends, ends_none, ends_some, ends_behind, ends_more, ends_then, ends_map, ends_cond, unicode_at-ends}
+use Rattle.regress_lexical.specs.Modifiers.{is_modifier, behind_letters_off, modifiers_at}
+use Rattle.regress_lexical.proofs.laws.Digits.{and_both}
+use Rattle.regress_lexical.proofs.laws.InRange.{Finds, finds_none, finds_some, finds_cond, finds_then, finds_map}
+use Rattle.regress_lexical.proofs.laws.Behind.{IsBehind, behind_same, behind_behind, behind_drop, behind_front, behind_shorter, Ends, ends_none, ends_some, ends_behind, ends_more, ends_then, ends_map, ends_cond, unicode_at-ends}
 
 -- What is read of a character takes one code point at least.
 written_behind-ends : (c : ℕ) (t : Source) → Ends (written_at (c ∷ t)) t

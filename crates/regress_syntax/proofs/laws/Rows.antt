@@ -4,22 +4,22 @@ use Rattle.std.proofs.lemmas.Bool.{or_cases, and_parts}
 use Rattle.std.proofs.lemmas.Option.{none-some, same_Some, cond_some}
 use Rattle.regress_base.specs.declared.charclasses.CharacterClassType.{CharacterClassType}
 use Rattle.regress_tree.specs.declared.ir.node.Quantifier.{Quantifier}
-use Rattle.regress_tree.specs.Table.{Table}
-use Rattle.regress_syntax.specs.Source.{Source, Found, opening, closing, full_stop, colon, question_mark, bar, is_at, is_plain, ends_alternative}
+use Rattle.regress_unicode.specs.Table.{Table}
+use Rattle.regress_lexical.specs.Source.{Source, Found, opening, closing, full_stop, colon, question_mark, bar, is_at, is_plain, ends_alternative}
 use Rattle.regress_syntax.specs.Syntax.{Atom, literal, boundary, class_escape}
-use Rattle.regress_syntax.specs.Digits.{is_between, is_decimal, number, front}
-use Rattle.regress_syntax.specs.Escapes.{begins_with_letter}
+use Rattle.regress_lexical.specs.Digits.{is_between, is_decimal, number, front}
+use Rattle.regress_lexical.specs.Escapes.{begins_with_letter}
 use Rattle.regress_syntax.specs.Names.{group_name_at}
-use Rattle.regress_syntax.specs.Quantifiers.{quantifier_at, is_ordered}
-use Rattle.regress_syntax.specs.Properties.{Property, of_points, of_strings, property_at}
-use Rattle.regress_syntax.specs.ClassRows.{class_letter, class_at}
-use Rattle.regress_syntax.specs.ClassSets.{class_set_at}
+use Rattle.regress_lexical.specs.Quantifiers.{quantifier_at, is_ordered}
+use Rattle.regress_classes.specs.Properties.{Property, of_points, of_strings, property_at}
+use Rattle.regress_classes.specs.ClassRows.{class_letter, class_at}
+use Rattle.regress_classes.specs.ClassSets.{class_set_at}
 use Rattle.regress_syntax.specs.Rows.{Context, Head, single, angle_at, behind_mark_at, group_at, has_name, has_names, is_lone_backslash, character_at, property_atom, property_atom_at, numbered_at, named_at, escaped_by, escaped_at, brace_by, brackets_at, atom_by, head_by, head_at, no_quantifier_at, this_quantifier, times_at}
-use Rattle.regress_syntax.proofs.laws.Behind.{behind_same, behind_drop, behind_front, behind_shorter, Ends, ends_none, ends_some, ends_behind, ends_more, ends_then, ends_map, ends_cond, escape_at-ends, quantifier_at-ends}
+use Rattle.regress_lexical.proofs.laws.Behind.{behind_same, behind_drop, behind_front, behind_shorter, Ends, ends_none, ends_some, ends_behind, ends_more, ends_then, ends_map, ends_cond, escape_at-ends, quantifier_at-ends}
 use Rattle.regress_syntax.proofs.laws.NameEnds.{group_name_at-ends, modifiers_at-ends}
-use Rattle.regress_syntax.proofs.laws.Pieces.{property_at-ends, class_at-ends}
-use Rattle.regress_syntax.proofs.laws.ClassSets.{class_set_at-ends}
-use Rattle.regress_syntax.proofs.laws.Sources.{Shortens, chosen}
+use Rattle.regress_classes.proofs.laws.Pieces.{property_at-ends, class_at-ends}
+use Rattle.regress_classes.proofs.laws.ClassSets.{class_set_at-ends}
+use Rattle.regress_lexical.proofs.laws.Sources.{Shortens, chosen}
 
 -- what is found leaves the source from its first code point on, or from its second
 this-ends : {A : Type 0} (x : A) (t : Source) → Ends (Some (x, t)) t

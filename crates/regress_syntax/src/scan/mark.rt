@@ -1,12 +1,12 @@
 //! What tells the capture groups of a pattern apart.
 ghost use Rattle.std.specs.Prelude.{◌≡◌, ◌<◌, ◌+◌, ◌^◌, option_map, IfOk};
-ghost use Rattle.regress_tree.specs.TableOf.{table_of};
+ghost use Rattle.regress_unicode.specs.TableOf.{table_of};
 ghost use Rattle.regress_syntax.specs.Scan.{opened_at, mode_behind, mark_at};
 ghost use Rattle.regress_syntax.specs.Scanning.{mode_of, mark_of, depth_of};
 
-use crate::digits::after;
 use crate::names::{Name, read_group_name};
-use regress_tree::unicode::Tables;
+use regress_lexical::digits::after;
+use regress_unicode::Tables;
 use std::alloc::{AllocError, Global};
 
 /// What the scan stands in: plain text, a class, or behind the backslash of an escape in one of these.

@@ -2,15 +2,15 @@
 ghost use Rattle.std.specs.Prelude.{◌≡◌, ◌<◌, ◌≤◌, ◌+◌, ◌-◌, max, List, ◌∷◌, [], ◌++◌, filter, IsTrue, false, length, map, not, reverse, option_map, IfOk, OnOk};
 ghost use Rattle.std.specs.List.{IsAllAdjacentAnswer};
 ghost use Rattle.regress_base.specs.Limits.{max_nesting_depth};
-ghost use Rattle.regress_syntax.specs.Fault.{RefusedOnlyIf};
+ghost use Rattle.regress_lexical.specs.Fault.{RefusedOnlyIf};
 ghost use Rattle.regress_syntax.specs.Numbering.{names_of};
 ghost use Rattle.regress_syntax.specs.Scan.{Mark as Written, Placed, agree, named_by, placed_by, deepest, are_apart, conflict, outside, next_alternative, at_the_start};
 ghost use Rattle.regress_syntax.specs.Scanning.{mark_of, placed_of, has_name, path_of, Behind};
 
 use super::mark::Mark;
-use crate::fault::{DUPLICATE_NAME, ParseFault, TOO_DEEP, syntax};
 use crate::names::Name;
 use regress_base::types::MAX_NESTING_DEPTH;
+use regress_lexical::fault::{DUPLICATE_NAME, ParseFault, TOO_DEEP, syntax};
 use std::alloc::{AllocError, Global};
 
 /// What was found in front of a place of the pattern.

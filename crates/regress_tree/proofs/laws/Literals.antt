@@ -6,14 +6,15 @@ use Rattle.std.proofs.Math.Utf8.{scalar_cases}
 use Rattle.std.specs.Char.{IsScalar}
 use Rattle.std.specs.List.{range_with_len}
 use Rattle.regress_base.specs.Intervals.{code_point_max}
-use Rattle.regress_tree.specs.Listing.{lists, is_ascending_from, is_ascending, IsListing}
+use Rattle.regress_unicode.specs.Listing.{lists, is_ascending_from, is_ascending, IsListing}
 use Rattle.regress_tree.specs.Literal.{listed_below, listed, class_of, is_ascii, piece_of}
-use Rattle.regress_tree.specs.Matching.{Setting, leaf_steps, steps}
+use Rattle.regress_tree.specs.Matching.{leaf_steps, steps}
+use Rattle.regress_tree.specs.Setting.{Setting}
 use Rattle.regress_tree.specs.Reading.{Direction, IsText, of_characters, of_bytes}
 use Rattle.regress_tree.specs.Steps.{State, one_character}
-use Rattle.regress_tree.specs.Table.{Table, IsLawful, canon, stands_for}
+use Rattle.regress_unicode.specs.Table.{Table, IsLawful, canon, stands_for}
 use Rattle.regress_tree.specs.Tree.{leaf, char, byte_set, char_set}
-use Rattle.regress_tree.proofs.ListingLemmas.{All-from_lists, few_of_image, ascending_parts, ascending_above, ascending_append, ascending_filter, lists-head, lists-tail, lists-past, lists-filter, lists-run}
+use Rattle.regress_unicode.proofs.laws.Listings.{All-from_lists, few_of_image, ascending_parts, ascending_above, ascending_append, ascending_filter, lists-head, lists-tail, lists-past, lists-filter, lists-run}
 use Rattle.regress_tree.proofs.laws.ByteSequences.{same_tests, one_character-agree}
 use Rattle.regress_tree.proofs.laws.Simulation.{Simulates, Simulates-same_right, Simulates-one_character}
 

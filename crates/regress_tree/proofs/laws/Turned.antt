@@ -6,7 +6,8 @@ use Rattle.std.proofs.lemmas.List.Sorted.{IsPermutation-refl, IsPermutation-tran
 use Rattle.regress_tree.specs.Reading.{Direction}
 use Rattle.regress_tree.specs.Steps.{State, ◌then_◌}
 use Rattle.regress_tree.specs.Tree.{Tree, Trees, no_trees, more_trees, row_reverse}
-use Rattle.regress_tree.specs.Matching.{Setting, steps, steps_in_row}
+use Rattle.regress_tree.specs.Matching.{steps, steps_in_row}
+use Rattle.regress_tree.specs.Setting.{Setting}
 use Rattle.regress_tree.specs.WellFormed.{captures, captures_in_row, inside, RowMayStand}
 use Rattle.regress_tree.proofs.laws.Outcomes.{flat_map-stay}
 use Rattle.regress_tree.proofs.laws.Rows.{steps-append, captures-append, RowMayStand-append}

@@ -3,7 +3,7 @@ ghost use Rattle.regress_base.specs.Intervals.{code_point_max};
 
 use super::{Piece, lower_code_point_sequence};
 use crate::ir::Node;
-use crate::unicode::Tables;
+use regress_unicode::Tables;
 use std::alloc::{AllocError, Global};
 use std::process::Abort;
 use std::test::Fail;

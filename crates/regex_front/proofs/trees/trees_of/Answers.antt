@@ -1,12 +1,12 @@
 -- The program's table is the small one.
 use Rattle.std.proofs.Common.{◌≡◌, rules, sym, ap, ◌∙◌, subst, chars}
-use Rattle.regress_tree.specs.Matching.{Setting}
-use Rattle.regress_tree.specs.Table.{Table}
-use Rattle.regress_tree.specs.TableOf.{table_of}
-use Rattle.regress_tree.specs.Tree.{tree}
-use Rattle.regress_tree.specs.WellFormed.{captures}
-use Rattle.regress_parse.specs.TreeOf.{tree_of}
-use Rattle.regress_parse.specs.Accepted.{IsAccepted, Means}
+use Rattle.regress_front.specs.Setting.{Setting}
+use Rattle.regress_front.specs.Table.{Table}
+use Rattle.regress_front.specs.TableOf.{table_of}
+use Rattle.regress_front.specs.Tree.{tree}
+use Rattle.regress_front.specs.WellFormed.{captures}
+use Rattle.regress_front.specs.TreeOf.{tree_of}
+use Rattle.regress_front.specs.Accepted.{IsAccepted, Means}
 use Rattle.regex_front.proofs.trees.trees_of.Goals as goal
 
 pub returns-clause-trees : goal.returns-clause-trees

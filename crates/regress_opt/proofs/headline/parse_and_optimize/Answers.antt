@@ -2,13 +2,12 @@ use Rattle.std.proofs.Common.{◌≡◌, ◌≤◌, ◌+◌, ◌*◌, ℕ, List,
 use Rattle.std.specs.declared.alloc.AllocError.{AllocError}
 use Rattle.regress_tree.specs.declared.ir.node.Regex.{Regex}
 use Rattle.regress_tree.specs.Steps.{byte_state}
-use Rattle.regress_tree.specs.Matching.{Setting}
+use Rattle.regress_tree.specs.Setting.{Setting, setting_of}
 use Rattle.regress_tree.specs.Tree.{Tree, tree}
-use Rattle.regress_tree.specs.TableOf.{setting_of}
 use Rattle.regress_tree.specs.WellFormed.{captures}
 use Rattle.regress_tree.specs.Units.{units, unrolling, loops}
 use Rattle.regress_tree.specs.Shapes.{IsNormal}
-use Rattle.regress_syntax.specs.declared.fault.ParseFault.{ParseFault}
+use Rattle.regress_lexical.specs.declared.fault.ParseFault.{ParseFault}
 use Rattle.regress_syntax.specs.Syntax.{Pattern}
 use Rattle.regress_parse.specs.TreeOf.{tree_of}
 use Rattle.regress_parse.specs.Accepted.{IsAccepted, OneIsDerived}

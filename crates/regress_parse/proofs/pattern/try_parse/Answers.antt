@@ -3,12 +3,12 @@ use Rattle.std.proofs.lemmas.Result.{err_from_is_err_and}
 use Rattle.regress_base.specs.Limits.{max_capture_groups}
 use Rattle.regress_tree.specs.Reading.{forwards}
 use Rattle.regress_tree.specs.Tree.{Tree, trees, cat, more_trees, no_trees}
-use Rattle.regress_tree.specs.TableOf.{setting_of}
+use Rattle.regress_tree.specs.Setting.{setting_of}
 use Rattle.regress_tree.specs.WellFormed.{IsWellFormed}
 use Rattle.regress_tree.proofs.laws.Nodes.{tree-Cat, tree-Goal}
 use Rattle.regress_syntax.specs.Syntax.{counts}
 use Rattle.regress_syntax.specs.Views.{names_in}
-use Rattle.regress_syntax.proofs.laws.Sources.{on_syntax_then}
+use Rattle.regress_lexical.proofs.laws.Sources.{on_syntax_then}
 use Rattle.regress_parse.specs.Parsing.{YieldsWhole}
 use Rattle.regress_parse.specs.TreeOf.{tree_of, tree_of_pattern}
 use Rattle.regress_parse.specs.Accepted.{Means}

@@ -2,8 +2,8 @@
 use Rattle.std.proofs.Common.{◌&&◌, List, refl, ap, ap₂}
 use Rattle.std.proofs.lemmas.Bool.{cond-true}
 use Rattle.regress_base.specs.Intervals.{Bounds, is_member}
-use Rattle.regress_syntax.specs.ClassRows.{complement}
-use Rattle.regress_syntax.proofs.ClassLemmas.{complement_is}
+use Rattle.regress_classes.specs.ClassRows.{complement}
+use Rattle.regress_classes.proofs.laws.Values.{complement_is}
 use Rattle.regress_syntax.proofs.atom.point_property.Goals as goal
 
 pub returns-then-scope : goal.returns-then-scope

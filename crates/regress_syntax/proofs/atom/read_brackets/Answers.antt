@@ -1,7 +1,7 @@
 -- A class, of either kind.
 use Rattle.std.proofs.Common.{◌∙◌, sym, ap}
 use Rattle.std.proofs.lemmas.Bool.{cond-true, cond-false}
-use Rattle.regress_syntax.specs.Source.{found_map}
+use Rattle.regress_lexical.specs.Source.{found_map}
 use Rattle.regress_syntax.specs.Syntax.{class, class_set}
 use Rattle.regress_syntax.proofs.atom.read_brackets.Goals as goal
 

@@ -1,5 +1,5 @@
 use Rattle.std.proofs.Common.{sym}
-use Rattle.regress_syntax.proofs.laws.Behind.{behind_all, escape_at-ends}
+use Rattle.regress_lexical.proofs.laws.Behind.{behind_all, escape_at-ends}
 use Rattle.regress_syntax.proofs.atom.read_character.Goals as goal
 
 pub invariant_of-cursor : goal.invariant_of-cursor

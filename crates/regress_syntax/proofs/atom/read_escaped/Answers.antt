@@ -1,12 +1,13 @@
 -- A property is tried before the references and the escapes of characters.
 use Rattle.std.proofs.Common.{◌≡◌, ℕ, true, ◌||◌, ◌==◌, ◌-◌, ◌∷◌, length, take, drop, arith, rules, length-drop, sym, ap, ap₂, subst, ◌∙◌}
 use Rattle.std.proofs.lemmas.List.{take_all}
-use Rattle.regress_syntax.specs.Reads.{ReadsAs}
+use Rattle.regress_lexical.specs.Reads.{ReadsAs}
 use Rattle.regress_syntax.specs.Rows.{escaped_at, property_atom_at}
-use Rattle.regress_syntax.specs.Source.{Source, Found}
+use Rattle.regress_lexical.specs.Source.{Source, Found}
 use Rattle.regress_syntax.specs.Syntax.{Atom}
-use Rattle.regress_syntax.specs.Views.{source, context_of, IsAtom}
-use Rattle.regress_syntax.proofs.PropertyLemmas.{property_read}
+use Rattle.regress_syntax.specs.Views.{context_of, IsAtom}
+use Rattle.regress_lexical.specs.Views.{source}
+use Rattle.regress_syntax.proofs.PropertyRows.{property_read}
 use Rattle.regress_syntax.proofs.atom.read_escaped.Goals as goal
 
 pub returns-then-scope-2 : goal.returns-then-scope-2

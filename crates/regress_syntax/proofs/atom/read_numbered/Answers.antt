@@ -1,10 +1,11 @@
 use Rattle.std.proofs.Common.{◌≡◌, Some, length, refl, sym, ap, subst, arith}
 use Rattle.regress_syntax.specs.Rows.{group_number_at}
-use Rattle.regress_syntax.specs.Source.{Source}
+use Rattle.regress_lexical.specs.Source.{Source}
 use Rattle.regress_syntax.specs.Syntax.{by_number, back_reference}
-use Rattle.regress_syntax.specs.Views.{source, context_of}
+use Rattle.regress_syntax.specs.Views.{context_of}
+use Rattle.regress_lexical.specs.Views.{source}
 use Rattle.regress_syntax.proofs.ReferenceLemmas.{group_number_at-ends, numbered-some}
-use Rattle.regress_syntax.proofs.laws.Behind.{behind_all}
+use Rattle.regress_lexical.proofs.laws.Behind.{behind_all}
 use Rattle.regress_syntax.proofs.atom.read_numbered.Goals as goal
 
 pub invariant_of-cursor : goal.invariant_of-cursor

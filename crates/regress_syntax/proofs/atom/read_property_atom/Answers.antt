@@ -2,12 +2,14 @@
 use Rattle.std.proofs.Common.{ℕ, List, Some, sym, ap, ◌∙◌}
 use Rattle.std.proofs.lemmas.Bool.{cond-false}
 use Rattle.std.proofs.lemmas.List.Elements.{same_from_all_zip}
-use Rattle.regress_syntax.specs.Source.{Found, ◌>>=◌}
-use Rattle.regress_syntax.specs.Properties.{Property}
+use Rattle.regress_lexical.specs.Source.{Found, ◌>>=◌}
+use Rattle.regress_classes.specs.Properties.{Property}
 use Rattle.regress_syntax.specs.Rows.{point_property, property_atom}
 use Rattle.regress_syntax.specs.Syntax.{string_property}
-use Rattle.regress_syntax.specs.Views.{source, context_of, property_of, strings_of}
-use Rattle.regress_syntax.proofs.PropertyLemmas.{same_strings}
+use Rattle.regress_syntax.specs.Views.{context_of}
+use Rattle.regress_classes.specs.ClassViews.{property_of, strings_of}
+use Rattle.regress_lexical.specs.Views.{source}
+use Rattle.regress_classes.proofs.laws.Values.{same_strings}
 use Rattle.regress_syntax.proofs.atom.read_property_atom.Goals as goal
 
 pub returns-in_ok-point_property-in-Points : goal.returns-in_ok-point_property-in-Points

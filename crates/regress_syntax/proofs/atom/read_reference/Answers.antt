@@ -2,11 +2,12 @@ use Rattle.std.proofs.Common.{◌≡◌, List, Some, option_map, refl, sym, ap, 
 use Rattle.regress_syntax.specs.Names.{group_name_at}
 use Rattle.regress_syntax.specs.Meaning.{groups_named}
 use Rattle.regress_syntax.specs.Syntax.{by_name, back_reference}
-use Rattle.regress_syntax.specs.Views.{source, context_of}
-use Rattle.regress_syntax.proofs.ReferenceLemmas.{named-some, named-unknown, length-none, length-some}
-use Rattle.regress_syntax.proofs.laws.Behind.{behind_all}
+use Rattle.regress_syntax.specs.Views.{context_of}
+use Rattle.regress_lexical.specs.Views.{source}
+use Rattle.regress_syntax.proofs.ReferenceLemmas.{named-some, named-unknown}
+use Rattle.regress_lexical.proofs.laws.Sources.{length-none, length-some, on_syntax}
+use Rattle.regress_lexical.proofs.laws.Behind.{behind_all}
 use Rattle.regress_syntax.proofs.laws.NameEnds.{group_name_at-ends}
-use Rattle.regress_syntax.proofs.laws.Sources.{on_syntax}
 use Rattle.regress_syntax.proofs.atom.read_reference.Goals as goal
 
 pub returns-then-is_empty : goal.returns-then-is_empty

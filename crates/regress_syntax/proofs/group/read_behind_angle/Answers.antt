@@ -1,6 +1,6 @@
 use Rattle.std.proofs.Common.{length, ◌-◌}
 use Rattle.std.proofs.lemmas.List.Elements.{All-drop, All-take}
-use Rattle.regress_syntax.specs.Source.{IsCodePoint}
+use Rattle.regress_lexical.specs.Source.{IsCodePoint}
 use Rattle.regress_syntax.proofs.group.read_behind_angle.Goals as goal
 
 pub invariant_of-cursor : goal.invariant_of-cursor

@@ -1,6 +1,6 @@
 use Rattle.std.proofs.Common.{sym}
-use Rattle.regress_syntax.specs.Views.{change_of}
-use Rattle.regress_syntax.proofs.laws.Behind.{behind_all}
+use Rattle.regress_lexical.specs.Views.{change_of}
+use Rattle.regress_lexical.proofs.laws.Behind.{behind_all}
 use Rattle.regress_syntax.proofs.laws.NameEnds.{modifiers_at-ends}
 use Rattle.regress_syntax.proofs.group.read_modified.Goals as goal
 

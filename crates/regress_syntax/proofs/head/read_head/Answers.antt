@@ -1,7 +1,7 @@
 use Rattle.std.proofs.Common.{◌≡◌, ◌==◌, false, refl, sym, ap, ◌∙◌}
 use Rattle.std.proofs.lemmas.Bool.{cond-false, ne_eqb}
 use Rattle.regress_syntax.specs.Rows.{single, head_at}
-use Rattle.regress_syntax.specs.Source.{found_map, opening}
+use Rattle.regress_lexical.specs.Source.{found_map, opening}
 use Rattle.regress_syntax.proofs.head.read_head.Goals as goal
 
 pub returns-in_ok-read_atom : goal.returns-in_ok-read_atom

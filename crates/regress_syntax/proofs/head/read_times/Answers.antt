@@ -1,5 +1,5 @@
 use Rattle.std.proofs.Common.{sym}
-use Rattle.regress_syntax.proofs.laws.Behind.{behind_all, quantifier_at-ends}
+use Rattle.regress_lexical.proofs.laws.Behind.{behind_all, quantifier_at-ends}
 use Rattle.regress_syntax.proofs.head.read_times.Goals as goal
 
 pub invariant_of-cursor : goal.invariant_of-cursor

@@ -1,6 +1,6 @@
 -- A turn reads one character more.
 use Rattle.std.proofs.Common.{sym, ap, ◌∙◌}
-use Rattle.regress_tree.specs.TableOf.{table_of}
+use Rattle.regress_unicode.specs.TableOf.{table_of}
 use Rattle.regress_syntax.specs.Syntax.{Name}
 use Rattle.regress_syntax.specs.Names.{continues_name}
 use Rattle.regress_syntax.proofs.laws.NameEnds.{name_character_at-shortens}

@@ -1,6 +1,6 @@
 -- What is left, behind the characters so far, is the whole.
 use Rattle.std.proofs.Common.{◌≡◌, length}
-use Rattle.regress_tree.specs.TableOf.{table_of}
+use Rattle.regress_unicode.specs.TableOf.{table_of}
 use Rattle.regress_syntax.proofs.NameLemmas.{left_of_name, behind_read}
 use Rattle.regress_syntax.proofs.names.read_rest.Given as goal
 

@@ -1,10 +1,10 @@
 use Rattle.std.proofs.Common.{length, inl, inr, sym, ap, ◌∙◌, arith}
 use Rattle.std.proofs.lemmas.Result.{err_from_is_err_and}
 use Rattle.std.specs.Option.{option_map}
-use Rattle.regress_tree.specs.TableOf.{table_of}
+use Rattle.regress_unicode.specs.TableOf.{table_of}
 use Rattle.regress_syntax.specs.Scan.{plain, marks}
 use Rattle.regress_syntax.specs.Scanning.{mode_of, mark_of}
-use Rattle.regress_syntax.proofs.laws.Sources.{on_syntax_then}
+use Rattle.regress_lexical.proofs.laws.Sources.{on_syntax_then}
 use Rattle.regress_syntax.proofs.ScannerLemmas.{depth-mode_behind, refused_then, at_mark, at_no_mark, all_passed}
 use Rattle.regress_syntax.proofs.scan.find_names.Goals as goal
 use Rattle.regress_syntax.proofs.scan.find_names.Goals.{in-Some-2+in_ok-pass, in_default-2}

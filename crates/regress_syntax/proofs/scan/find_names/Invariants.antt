@@ -1,7 +1,7 @@
 -- What was found so far, and what the marks of the rest give, is what the marks of the whole give. No more classes are open
 -- than code points are passed.
 use Rattle.std.proofs.Common.{◌+◌, ◌≤◌, length}
-use Rattle.regress_tree.specs.TableOf.{table_of}
+use Rattle.regress_unicode.specs.TableOf.{table_of}
 use Rattle.regress_syntax.specs.Scan.{plain, marks}
 use Rattle.regress_syntax.specs.Scanning.{mode_of, depth_of, Behind}
 use Rattle.regress_syntax.proofs.scan.find_names.Given as goal

@@ -1,4 +1,4 @@
-use Rattle.regress_tree.specs.TableOf.{table_of}
+use Rattle.regress_unicode.specs.TableOf.{table_of}
 use Rattle.regress_syntax.proofs.laws.Scan.{gives_marks}
 use Rattle.regress_syntax.proofs.scan.scan.Goals as goal
 

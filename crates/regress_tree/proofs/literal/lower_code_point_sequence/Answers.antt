@@ -2,8 +2,8 @@
 use Rattle.std.proofs.Common.{◌≡◌, ℕ, ◌+◌, ◌++◌, [], ◌∷◌, Bool, List, map, string_bytes, refl, sym, ap, ap₂, subst, ◌∙◌}
 use Rattle.std.proofs.lemmas.List.{at_drop_all, map-append}
 use Rattle.regress_tree.specs.Literal.{piece, piece_of, bytes_piece, is_character, lowered_behind, AreApart, MeanLiterals}
-use Rattle.regress_tree.specs.Table.{Table}
-use Rattle.regress_tree.specs.TableOf.{table_of}
+use Rattle.regress_unicode.specs.Table.{Table}
+use Rattle.regress_unicode.specs.TableOf.{table_of}
 use Rattle.regress_tree.specs.Tree.{Leaf}
 use Rattle.regress_tree.proofs.LoweringLemmas.{AreFound, step_character, step_piece, class-some, lowered-mean, lowered-apart}
 use Rattle.regress_tree.proofs.literal.lower_code_point_sequence.Goals as goal

@@ -1,7 +1,7 @@
 -- The pieces found, and those of what is left behind the text, are the pieces of all.
 use Rattle.std.proofs.Common.{map, string_bytes}
 use Rattle.regress_tree.specs.Literal.{piece}
-use Rattle.regress_tree.specs.TableOf.{table_of}
+use Rattle.regress_unicode.specs.TableOf.{table_of}
 use Rattle.regress_tree.proofs.LoweringLemmas.{AreFound}
 use Rattle.regress_tree.proofs.literal.lower_code_point_sequence.Given as goal
 

@@ -3,11 +3,11 @@ use Rattle.std.proofs.Common.{◌≡◌, ◌+◌, ◌<◌, false, Some, None, le
 use Rattle.std.specs.Option.{IsSomeAnd}
 use Rattle.std.proofs.lemmas.Result.{err_from_is_err_and}
 use Rattle.regress_base.specs.Limits.{max_loops}
-use Rattle.regress_syntax.specs.Source.{Source, ends_alternative, bar as the_bar}
+use Rattle.regress_lexical.specs.Source.{Source, ends_alternative, bar as the_bar}
 use Rattle.regress_syntax.specs.Syntax.{Counts, added, one_loop, counts_of_item}
 use Rattle.regress_syntax.specs.Rows.{Head}
-use Rattle.regress_syntax.specs.Views.{source}
-use Rattle.regress_syntax.proofs.laws.Sources.{at_front, on_syntax, on_syntax_then}
+use Rattle.regress_lexical.specs.Views.{source}
+use Rattle.regress_lexical.proofs.laws.Sources.{at_front, on_syntax, on_syntax_then}
 use Rattle.regress_syntax.proofs.laws.Rows.{head_at-shortens}
 use Rattle.regress_parse.specs.TreeOf.{joined, tree_of_times}
 use Rattle.regress_parse.specs.Reader.{item_behind, pattern_at, terms_at, term_at}

@@ -1,5 +1,5 @@
 use Rattle.std.proofs.Common.{◌∙◌}
-use Rattle.regress_syntax.proofs.laws.Sources.{on_syntax}
+use Rattle.regress_lexical.proofs.laws.Sources.{on_syntax}
 use Rattle.regress_syntax.proofs.ConflictLemmas.{apart_in_any_order, conflict_in_any_order}
 use Rattle.regress_syntax.proofs.ScannerLemmas.{apart_behind}
 use Rattle.regress_syntax.proofs.scan.scanner.Scanner.finish.Goals as goal

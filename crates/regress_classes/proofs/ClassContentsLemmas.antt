@@ -1,0 +1,217 @@
+-- What a class with the flag v holds, operand by operand.
+use Rattle.std.proofs.Common.{◌≡◌, ℕ, zero, suc, ◌+◌, ◌<◌, ◌≤◌, Bool, true, false, cond, [], ◌∷◌, length, drop, Some, None, refl, sym, ap, ◌∙◌, subst, add-one, arith, length-drop}
+use Rattle.std.proofs.lemmas.Bool.{cond-true, cond-false}
+use Rattle.std.proofs.lemmas.Option.{none-some}
+use Rattle.regress_unicode.specs.Table.{Table}
+use Rattle.regress_classes.specs.declared.class_sets.value.Value.{Value as CodeValue}
+use Rattle.regress_lexical.specs.Source.{Source, Found, ◌>>=◌, is_at}
+use Rattle.regress_classes.specs.ClassRows.{one_point}
+use Rattle.regress_classes.specs.ClassSets.{Value, only, joined, unless_of_strings, Operand, value_of, set_character_at, operand_at, part_behind, parts_by, parts_at, are_at, operands_by, operands_at, contents_behind, contents_at, class_set_by}
+use Rattle.regress_classes.specs.ClassViews.{IsValue}
+use Rattle.regress_lexical.proofs.laws.Sources.{found_then, then_same, cond_same}
+use Rattle.regress_lexical.proofs.laws.Behind.{behind_shorter, Ends}
+use Rattle.regress_classes.proofs.laws.ClassSets.{operand_at-shortens, part_behind-ends}
+
+module _ (table : Table) (unicode : Bool) (inner : Source → Found (Bool × Value)) (inner_ends : (t : Source) → Ends (inner t) t) (in_negated : Bool) where
+  -- ---- no bound
+
+  -- none at the end
+  pub no_operand : (t : Source) → t ≡ [] → operand_at table unicode inner in_negated t ≡ None
+  unfolding operand_at set_character_at
+  no_operand t e = ap (operand_at table unicode inner in_negated) e
+
+  pub operand_shortens : (t : Source) (x : Operand × Source) → operand_at table unicode inner in_negated t ≡ Some x → length x.1 < length t
+  operand_shortens [] x e = absurd (none-some x (sym (no_operand [] refl) ∙ e))
+  operand_shortens (c ∷ t) x e =
+      omega (arith, behind_shorter t x.1 ((operand_at-shortens table unicode inner inner_ends in_negated (c ∷ t)).each x e))
+
+  pub part_shortens : (t : Source) (x : Value × Source) →
+      operand_at table unicode inner in_negated t >>= part_behind table unicode inner in_negated ≡ Some x → length x.1 < length t
+  part_shortens t x e =
+      let first = found_then (operand_at table unicode inner in_negated t) (part_behind table unicode inner in_negated) x e in
+      omega (
+        arith,
+        operand_shortens t first.0 first.1,
+        behind_shorter first.0.1 x.1 ((part_behind-ends table unicode inner inner_ends in_negated first.0).each x first.2),
+      )
+
+  parts_by-same : (n m : ℕ) (value : Value) (t : Source) → length t < n → length t < m →
+      parts_by table unicode inner in_negated n value t ≡ parts_by table unicode inner in_negated m value t
+  unfolding parts_by
+  parts_by-same zero m value t h k = absurd (omega arith)
+  parts_by-same (suc n) zero value t h k = absurd (omega arith)
+  parts_by-same (suc n) (suc m) value t h k =
+      cond_same (is_at 93 t) _ _ _ _ (λ closes. refl)
+      (λ goes_on. then_same (operand_at table unicode inner in_negated t >>= part_behind table unicode inner in_negated) _ _
+      (λ x found. let shorter = part_shortens t x found in parts_by-same n m (joined value x.0) x.1 (omega arith) (omega arith)))
+
+  pub parts_closed : (value : Value) (t : Source) → is_at 93 t ≡ true →
+      parts_at table unicode inner in_negated value t ≡ Some (value, drop 1 t)
+  unfolding parts_by
+  parts_closed value t closes =
+      ap (λ n. parts_by table unicode inner in_negated n value t) (add-one (length t)) ∙ cond-true _ _ _ closes
+
+  pub parts_go_on : (value : Value) (t : Source) → is_at 93 t ≡ false →
+      parts_at table unicode inner in_negated value t
+      ≡ operand_at table unicode inner in_negated t >>= part_behind table unicode inner in_negated
+      >>= λ (x : Value × Source). parts_at table unicode inner in_negated (joined value x.0) x.1
+  unfolding parts_by
+  parts_go_on value t goes_on =
+      ap (λ n. parts_by table unicode inner in_negated n value t) (add-one (length t)) ∙ cond-false _ _ _ goes_on
+      ∙ then_same (operand_at table unicode inner in_negated t >>= part_behind table unicode inner in_negated) _ _
+      (λ x found. let shorter = part_shortens t x found in
+      parts_by-same (length t) (length x.1 + 1) (joined value x.0) x.1 shorter (omega arith))
+
+  both_shorten : (c : ℕ) (t : Source) → are_at c t ≡ true → length (drop 2 t) ≤ length t
+  both_shorten c t e = omega (arith, length-drop 2 t)
+
+  operands_by-same : (n m c : ℕ) (f : Value → Value → Value) (value : Value) (t : Source) → length t < n → length t < m →
+      operands_by table unicode inner in_negated n c f value t ≡ operands_by table unicode inner in_negated m c f value t
+  unfolding operands_by
+  operands_by-same zero m c f value t h k = absurd (omega arith)
+  operands_by-same (suc n) zero c f value t h k = absurd (omega arith)
+  operands_by-same (suc n) (suc m) c f value t h k =
+      then_same (operand_at table unicode inner in_negated t) _ _
+      (λ x found.
+      let shorter = operand_shortens t x found in
+      cond_same (is_at 93 x.1) _ _ _ _ (λ closes. refl)
+      (λ goes_on. cond_same (are_at c x.1) _ _ _ _
+      (λ more. let rest = both_shorten c x.1 more in
+      operands_by-same n m c f (f value (value_of x.0)) (drop 2 x.1) (omega arith) (omega arith))
+      (λ none. refl)))
+
+  -- one operand, and what stands behind it
+  pub operands_go_on : (c : ℕ) (f : Value → Value → Value) (value : Value) (t : Source) →
+      operands_at table unicode inner in_negated c f value t
+      ≡ operand_at table unicode inner in_negated t >>= λ (x : Operand × Source).
+      cond (is_at 93 x.1) (Some (f value (value_of x.0), drop 1 x.1))
+      (cond (are_at c x.1) (operands_at table unicode inner in_negated c f (f value (value_of x.0)) (drop 2 x.1)) None)
+  unfolding operands_by
+  operands_go_on c f value t =
+      ap (λ n. operands_by table unicode inner in_negated n c f value t) (add-one (length t))
+      ∙ then_same (operand_at table unicode inner in_negated t) _ _
+      (λ x found.
+      let shorter = operand_shortens t x found in
+      cond_same (is_at 93 x.1) _ _ _ _ (λ closes. refl)
+      (λ goes_on. cond_same (are_at c x.1) _ _ _ _
+      (λ more. let rest = both_shorten c x.1 more in
+      operands_by-same (length t) (length (drop 2 x.1) + 1) c f (f value (value_of x.0)) (drop 2 x.1) (omega arith) (omega arith))
+      (λ none. refl)))
+
+  -- ---- rows of contents
+
+  pub no_contents : (t : Source) → t ≡ [] → contents_at table unicode inner in_negated t ≡ None
+  no_contents t e =
+      ap (contents_at table unicode inner in_negated) e
+      ∙ ap (λ (first : Found Operand). first >>= contents_behind table unicode inner in_negated) (no_operand [] refl)
+
+  -- a single `&` behind the first operand
+  pub ampersand_read : (first : Operand) (t mid : Source) → are_at 38 t ≡ false → are_at 45 t ≡ false → is_at 38 t ≡ true → mid ≡ drop 1 t →
+      contents_behind table unicode inner in_negated (first, t)
+      ≡ parts_at table unicode inner in_negated (joined (value_of first) (only (one_point 38))) mid
+  ampersand_read first t mid no_intersection no_subtraction single moved =
+      cond-false _ _ _ no_intersection ∙ cond-false _ _ _ no_subtraction ∙ cond-true _ _ _ single
+      ∙ ap (parts_at table unicode inner in_negated (joined (value_of first) (only (one_point 38)))) (sym moved)
+
+  pub no_first : (value : Value) (t : Source) → is_at 93 t ≡ false → operand_at table unicode inner in_negated t ≡ None →
+      parts_at table unicode inner in_negated value t ≡ None
+  no_first value t goes_on none =
+      parts_go_on value t goes_on
+      ∙ ap (λ (first : Found Operand). first >>= part_behind table unicode inner in_negated
+      >>= λ (x : Value × Source). parts_at table unicode inner in_negated (joined value x.0) x.1) none
+
+  part_read : (t : Source) (first : Operand × Source) (part : Found Value) → operand_at table unicode inner in_negated t ≡ Some first →
+      part_behind table unicode inner in_negated first ≡ part →
+      operand_at table unicode inner in_negated t >>= part_behind table unicode inner in_negated ≡ part
+  part_read t first part found e = ap (λ (x : Found Operand). x >>= part_behind table unicode inner in_negated) found ∙ e
+
+  pub no_part : (value : Value) (t : Source) (first : Operand × Source) → is_at 93 t ≡ false →
+      operand_at table unicode inner in_negated t ≡ Some first → part_behind table unicode inner in_negated first ≡ None →
+      parts_at table unicode inner in_negated value t ≡ None
+  no_part value t first goes_on found none =
+      parts_go_on value t goes_on
+      ∙ ap (λ (part : Found Value). part >>= λ (x : Value × Source). parts_at table unicode inner in_negated (joined value x.0) x.1)
+      (part_read t first None found none)
+
+  pub one_part : (value : Value) (t : Source) (first : Operand × Source) (part : Value × Source) → is_at 93 t ≡ false →
+      operand_at table unicode inner in_negated t ≡ Some first → part_behind table unicode inner in_negated first ≡ Some part →
+      parts_at table unicode inner in_negated value t ≡ parts_at table unicode inner in_negated (joined value part.0) part.1
+  one_part value t first part goes_on found e =
+      parts_go_on value t goes_on
+      ∙ ap (λ (part : Found Value). part >>= λ (x : Value × Source). parts_at table unicode inner in_negated (joined value x.0) x.1)
+      (part_read t first (Some part) found e)
+
+  pub parts_end : (t : Source) (first : Operand × Source) (part : Value × Source) → operand_at table unicode inner in_negated t ≡ Some first →
+      part_behind table unicode inner in_negated first ≡ Some part → length part.1 < length t
+  parts_end t first part found e = part_shortens t part (part_read t first (Some part) found e)
+
+  -- ---- rows of operators
+
+  behind_operand : (c : ℕ) (f : Value → Value → Value) (value : Value) → Operand × Source → Found Value
+  behind_operand c f value x =
+      cond (is_at 93 x.1) (Some (f value (value_of x.0), drop 1 x.1))
+      (cond (are_at c x.1) (operands_at table unicode inner in_negated c f (f value (value_of x.0)) (drop 2 x.1)) None)
+
+  pub no_last : (c : ℕ) (f : Value → Value → Value) (value : Value) (t : Source) → operand_at table unicode inner in_negated t ≡ None →
+      operands_at table unicode inner in_negated c f value t ≡ None
+  unfolding behind_operand
+  no_last c f value t none =
+      operands_go_on c f value t ∙ ap (λ (x : Found Operand). x >>= behind_operand c f value) none
+
+  pub last_read : (c : ℕ) (f : Value → Value → Value) (value : Value) (t : Source) (x : Operand × Source) (rest : Source) →
+      operand_at table unicode inner in_negated t ≡ Some x → is_at 93 x.1 ≡ true → rest ≡ drop 1 x.1 →
+      operands_at table unicode inner in_negated c f value t ≡ Some (f value (value_of x.0), rest)
+  unfolding behind_operand
+  last_read c f value t x rest found closes moved =
+      operands_go_on c f value t ∙ ap (λ (y : Found Operand). y >>= behind_operand c f value) found ∙ cond-true _ _ _ closes
+      ∙ ap (λ (u : Source). Some (f value (value_of x.0), u)) (sym moved)
+
+  pub more_read : (c : ℕ) (f : Value → Value → Value) (value : Value) (t : Source) (x : Operand × Source) (rest : Source) →
+      operand_at table unicode inner in_negated t ≡ Some x → is_at 93 x.1 ≡ false → are_at c x.1 ≡ true → rest ≡ drop 2 x.1 →
+      operands_at table unicode inner in_negated c f value t ≡ operands_at table unicode inner in_negated c f (f value (value_of x.0)) rest
+  unfolding behind_operand
+  more_read c f value t x rest found goes_on more moved =
+      operands_go_on c f value t ∙ ap (λ (y : Found Operand). y >>= behind_operand c f value) found ∙ cond-false _ _ _ goes_on
+      ∙ cond-true _ _ _ more ∙ ap (operands_at table unicode inner in_negated c f (f value (value_of x.0))) (sym moved)
+
+  pub none_read : (c : ℕ) (f : Value → Value → Value) (value : Value) (t : Source) (x : Operand × Source) →
+      operand_at table unicode inner in_negated t ≡ Some x → is_at 93 x.1 ≡ false → are_at c x.1 ≡ false →
+      operands_at table unicode inner in_negated c f value t ≡ None
+  unfolding behind_operand
+  none_read c f value t x found goes_on none =
+      operands_go_on c f value t ∙ ap (λ (y : Found Operand). y >>= behind_operand c f value) found ∙ cond-false _ _ _ goes_on
+      ∙ cond-false _ _ _ none
+
+-- ---- classes
+
+pub no_levels : (table : Table) (unicode : Bool) (n : ℕ) (t : Source) → n ≡ 0 → class_set_by table unicode n t ≡ None
+unfolding class_set_by
+no_levels table unicode n t e = ap (λ n. class_set_by table unicode n t) e
+
+pub class_read : (table : Table) (unicode : Bool) (n m : ℕ) (t mid : Source) (negated : Bool) (found : Found Value) → n ≡ suc m →
+    negated ≡ is_at 94 t → mid ≡ cond negated (drop 1 t) t → contents_at table unicode (class_set_by table unicode m) negated mid ≡ found →
+    class_set_by table unicode n t ≡ found >>= unless_of_strings negated
+unfolding class_set_by
+class_read table unicode n m t mid negated found one_more caret moved e =
+    ap (λ n. class_set_by table unicode n t) one_more
+    ∙ subst
+    (λ b. contents_at table unicode (class_set_by table unicode m) b (cond b (drop 1 t) t) >>= unless_of_strings b ≡ found >>= unless_of_strings negated)
+    caret
+    (ap (λ (x : Found Value). x >>= unless_of_strings negated)
+    (ap (contents_at table unicode (class_set_by table unicode m) negated) (sym moved) ∙ e))
+
+-- ---- what was read so far
+
+-- From t on, where `held` is held, was read up to rest, and the code holds what is held there.
+pub record ReadFrom (read : Value → Source → Found Value) (held : Value) (t rest : Source) (code : CodeValue) : Type 0 where
+  pub value : Value
+  pub whole : read held t ≡ read value rest
+  pub is : IsValue code value
+
+pub read_from_start : (read : Value → Source → Found Value) (held : Value) (t : Source) (code : CodeValue) → IsValue code held →
+    ReadFrom read held t t code
+read_from_start read held t code is = record { value = held; whole = refl; is = is }
+
+pub read_on : (read : Value → Source → Found Value) (held now : Value) (t mid rest : Source) (code new : CodeValue) →
+    (so_far : ReadFrom read held t mid code) → read so_far.value mid ≡ read now rest → IsValue new now → ReadFrom read held t rest new
+read_on read held now t mid rest code new so_far e is = record { value = now; whole = so_far.whole ∙ e; is = is }

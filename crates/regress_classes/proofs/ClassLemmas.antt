@@ -1,0 +1,95 @@
+-- What a class holds, part by part.
+use Rattle.std.proofs.Common.{◌≡◌, ℕ, ◌+◌, Bool, true, false, cond, ◌||◌, List, [], ◌∷◌, ◌++◌, length, drop, Some, None, refl, sym, ap, ◌∙◌, append_assoc, append-nil}
+use Rattle.std.proofs.lemmas.Bool.{cond-false}
+use Rattle.regress_base.specs.Intervals.{Bounds, is_within, is_member, IsCanonical, IsComplement}
+use Rattle.regress_base.proofs.laws.Sets.{or_assoc, is_member-one, is_member-append}
+use Rattle.regress_unicode.specs.Table.{Table}
+use Rattle.regress_lexical.specs.Source.{Source, Found, ◌>>=◌, is_at}
+use Rattle.regress_classes.specs.ClassRows.{ClassAtom, atom_members, class_atom_at, complement, begins_range, range_at, class_part_at, class_parts_by, class_at}
+use Rattle.regress_classes.specs.ClassViews.{HasMembers, Adds}
+use Rattle.regress_classes.proofs.laws.Values.{complement_is}
+use Rattle.regress_classes.proofs.laws.Pieces.{more_parts, parts_closed, parts_go_on}
+
+-- ---- what is added
+
+pub adds_one : (iv : Bounds) (old new : List Bounds) → ((c : ℕ) → is_member new c ≡ (is_member old c || is_within iv c)) →
+    Adds (iv ∷ []) old new
+adds_one iv old new e c = e c ∙ ap (λ b. is_member old c || b) (sym (is_member-one iv c))
+
+pub adds_complement : (members others old new : List Bounds) → IsComplement members others → IsCanonical others → Adds others old new →
+    Adds (complement members) old new
+adds_complement members others old new is_complement canonical adds c =
+    adds c ∙ ap (λ (l : List Bounds). is_member old c || is_member l c) (complement_is members members others (λ c. refl) is_complement canonical)
+
+pub adds_both : (xs ys old between new : List Bounds) → Adds xs old between → Adds ys between new → Adds (xs ++ ys) old new
+adds_both xs ys old between new first second c =
+    second c ∙ ap (λ b. b || is_member ys c) (first c) ∙ sym (or_assoc (is_member old c) (is_member xs c) (is_member ys c))
+    ∙ ap (λ b. is_member old c || b) (sym (is_member-append xs ys c))
+
+more_parts-none : (found : Found (List Bounds)) → found ≡ more_parts [] found
+more_parts-none None = refl
+more_parts-none (Some x) = refl
+
+more_parts-more : (xs ys : List Bounds) (found : Found (List Bounds)) → more_parts xs (more_parts ys found) ≡ more_parts (xs ++ ys) found
+more_parts-more xs ys None = refl
+more_parts-more xs ys (Some x) = ap (λ (l : List Bounds). Some (l, x.1)) (sym (append_assoc xs ys x.0))
+
+module _ (table : Table) (unicode : Bool) where
+  -- an atom that begins no range is a part
+  pub alone_read : (t rest : Source) (atom : ClassAtom) → class_atom_at table unicode t ≡ Some (atom, rest) →
+      begins_range rest ≡ false → class_part_at table unicode t ≡ Some (atom_members atom, rest)
+  alone_read t rest atom found alone =
+      ap (λ (first : Found ClassAtom). first >>= λ (x : ClassAtom × Source).
+      cond (begins_range x.1) (range_at table unicode x.0 (drop 1 x.1)) (Some (atom_members x.0, x.1))) found
+      ∙ cond-false _ _ _ alone
+
+  -- ---- the parts so far
+
+  -- From t on, the parts up to rest were read, and the set has what they hold.
+  pub record ReadUpTo (t rest : Source) (set : List Bounds) : Type 0 where
+    pub members : List Bounds
+    pub whole : class_parts_by table unicode (length t + 1) t ≡ more_parts members (class_parts_by table unicode (length rest + 1) rest)
+    pub held : (c : ℕ) → is_member set c ≡ is_member members c
+
+  pub none_read : (t : Source) (set : List Bounds) → set ≡ [] → ReadUpTo t t set
+  none_read t set none = record {
+    members = [];
+    whole = more_parts-none (class_parts_by table unicode (length t + 1) t);
+    held = λ c. ap (λ (l : List Bounds). is_member l c) none;
+  }
+
+  pub one_more_read : (t rest behind : Source) (set new members : List Bounds) → ReadUpTo t rest set →
+      is_at 93 rest ≡ false → class_part_at table unicode rest ≡ Some (members, behind) → Adds members set new → ReadUpTo t behind new
+  one_more_read t rest behind set new members so_far goes_on found adds = record {
+    members = so_far.members ++ members;
+    whole = so_far.whole
+        ∙ ap (more_parts so_far.members)
+        (parts_go_on table unicode rest goes_on
+        ∙ ap (λ (part : Found (List Bounds)). part >>= λ (x : List Bounds × Source). more_parts x.0 (class_parts_by table unicode (length x.1 + 1) x.1)) found)
+        ∙ more_parts-more so_far.members members (class_parts_by table unicode (length behind + 1) behind);
+    held = λ c. adds c ∙ ap (λ b. b || is_member members c) (so_far.held c) ∙ sym (is_member-append so_far.members members c);
+  }
+
+  pub all_read : (t rest : Source) (set : List Bounds) → ReadUpTo t rest set → is_at 93 rest ≡ true →
+      IsCanonical set → (members : List Bounds) × (class_parts_by table unicode (length t + 1) t ≡ Some (members, drop 1 rest)) × HasMembers members set
+  all_read t rest set so_far closes canonical = (
+    so_far.members,
+    so_far.whole ∙ ap (more_parts so_far.members) (parts_closed table unicode rest closes)
+        ∙ ap (λ (l : List Bounds). Some (l, drop 1 rest)) (append-nil so_far.members),
+    record { canonical = canonical; each = so_far.held },
+  )
+
+  pub none_behind : (t rest : Source) (set : List Bounds) → ReadUpTo t rest set → is_at 93 rest ≡ false →
+      class_part_at table unicode rest ≡ None → class_parts_by table unicode (length t + 1) t ≡ None
+  none_behind t rest set so_far goes_on none =
+      so_far.whole
+      ∙ ap (more_parts so_far.members)
+      (parts_go_on table unicode rest goes_on
+      ∙ ap (λ (part : Found (List Bounds)). part >>= λ (x : List Bounds × Source). more_parts x.0 (class_parts_by table unicode (length x.1 + 1) x.1)) none)
+
+  -- a class is its parts, behind `^` where that stands there
+  pub class_is : (inverted : Bool) (t inside : Source) (parts : Found (List Bounds)) → inverted ≡ is_at 94 t →
+      inside ≡ cond inverted (drop 1 t) t → class_parts_by table unicode (length inside + 1) inside ≡ parts →
+      class_at table unicode t ≡ parts >>= λ (x : List Bounds × Source). Some ((inverted, x.0), x.1)
+  unfolding class_at
+  class_is inverted t inside parts found moves e = rw (← found, ← moves, e) refl

@@ -1,0 +1,182 @@
+-- What a value holds.
+use Rattle.std.proofs.Common.{◌≡◌, ℕ, ◌+◌, ◌<◌, ◌≤◌, Vec, Bool, true, false, not, ◌&&◌, ◌||◌, ◌==◌, max, List, [], ◌∷◌, ◌++◌, length, take, get_or, cond, filter, refl, sym, ap, ap₂, ◌∙◌, subst, append_assoc, append-nil, arith}
+use Rattle.std.proofs.lemmas.Bool.Decides.{nat_tests}
+use Rattle.std.proofs.lemmas.List.{length-map, take_all}
+use Rattle.std.proofs.lemmas.List.Folds.{list_any_more}
+use Rattle.std.proofs.lemmas.Map.Text.{is_eq-slice_cmp}
+use Rattle.std.specs.Cmp.Lexicographic.{slice_cmp}
+use Rattle.std.specs.List.{list_any}
+use Rattle.std.specs.Ordering.{nat_cmp, is_eq}
+use Rattle.std.specs.Str.{bytes_eq}
+use Rattle.std.specs.Vec.{vec_len}
+use Rattle.std.specs.declared.alloc.Global.{Global}
+use Rattle.regress_base.specs.Intervals.{Bounds, is_within, is_member, IsCanonical, IsComplement, intervals_of}
+use Rattle.regress_base.proofs.laws.Sets.{is_member-one, is_member-append, canonical_is, intervals_of-agree}
+use Rattle.regress_classes.specs.declared.class_sets.value.Value.{Value as CodeValue}
+use Rattle.regress_classes.specs.ClassRows.{complement, complement_if, one_point}
+use Rattle.regress_classes.specs.ClassSets.{Value, nothing, only, joined, nested, is_among, value_of_string}
+use Rattle.regress_classes.specs.ClassViews.{HasMembers, IsValue, strings_of}
+
+-- ---- members of a set
+
+pub no_members : (set : List Bounds) → set ≡ [] → HasMembers [] set
+no_members set e = record {
+  canonical = subst IsCanonical (sym e) refl;
+  each = λ c. ap (λ (l : List Bounds). is_member l c) e;
+}
+
+-- what is in one or the other
+pub members_joined : (xs ys old other new : List Bounds) → HasMembers xs old → HasMembers ys other → IsCanonical new →
+    ((c : ℕ) → is_member new c ≡ (is_member old c || is_member other c)) → HasMembers (xs ++ ys) new
+members_joined xs ys old other new h k canonical e = record {
+  canonical = canonical;
+  each = λ c. e c ∙ ap₂ (λ a b. a || b) (h.each c) (k.each c) ∙ sym (is_member-append xs ys c);
+}
+
+-- those that pass
+pub members_where : (p : ℕ → Bool) (new : List Bounds) → IsCanonical new → ((c : ℕ) → is_member new c ≡ p c) →
+    HasMembers (intervals_of p) new
+members_where p new canonical e = record {
+  canonical = canonical;
+  each = λ c. ap (λ (l : List Bounds). is_member l c) (canonical_is new p canonical (λ n h. e n));
+}
+
+pub members_complement : (set others : List Bounds) → IsComplement set others → IsCanonical others → HasMembers (complement set) others
+members_complement set others opposite canonical = record {
+  canonical = canonical;
+  each = λ c. ap (λ (l : List Bounds). is_member l c) (canonical_is others (λ n. not (is_member set n)) canonical opposite);
+}
+
+pub members_same : (set others : List Bounds) → others ≡ set → IsCanonical others → HasMembers set others
+members_same set others e canonical = record { canonical = canonical; each = λ c. ap (λ (l : List Bounds). is_member l c) e }
+
+is_itself : (c n : ℕ) → (n == c) ≡ is_within (record { first = c; last = c }) n
+unfolding is_within
+is_itself c n = grind (arith, nat_tests)
+
+pub is_one_point : (c n : ℕ) → (n == c) ≡ is_member (one_point c) n
+is_one_point c n = is_itself c n ∙ sym (is_member-one (record { first = c; last = c }) n)
+
+-- ---- one value and another
+
+pub joined-assoc : (a b c : Value) → joined (joined a b) c ≡ joined a (joined b c)
+joined-assoc a b c =
+    rw (append_assoc a.members b.members c.members, append_assoc a.strings b.strings c.strings, max-assoc a.levels b.levels c.levels) refl
+  where
+    max-assoc : (i j k : ℕ) → max (max i j) k ≡ max i (max j k)
+    max-assoc i j k = omega arith
+
+pub joined-nothing : (a : Value) → joined a nothing ≡ a
+joined-nothing a = rw (append-nil a.members, append-nil a.strings, max-zero a.levels) refl
+  where
+    max-zero : (i : ℕ) → max i 0 ≡ i
+    max-zero i = omega arith
+
+pub nothing-joined : (a : Value) → joined nothing a ≡ a
+nothing-joined a = rw (zero-max a.levels) refl
+  where
+    zero-max : (i : ℕ) → max 0 i ≡ i
+    zero-max i = omega arith
+
+-- the same with one code point more
+pub with_point : (a : Value) (c : ℕ) (old : CodeValue) (set : List Bounds) → IsValue old a → IsCanonical set →
+    ((n : ℕ) → is_member set n ≡ (is_member old.set n || (n == c))) →
+    IsValue (record old { set = set }) (joined a (only (one_point c)))
+with_point a c old set h canonical e = record {
+  members = record {
+    canonical = canonical;
+    each = λ n. e n ∙ ap₂ (λ x y. x || y) (h.members.each n) (is_one_point c n) ∙ sym (is_member-append a.members (one_point c) n);
+  };
+  strings = h.strings ∙ sym (append-nil a.strings);
+  levels = omega (arith, h.levels);
+}
+
+-- a string of one is a code point
+pub one_character : (s : List ℕ) (d : ℕ) → 1 ≤ length s → length s < 2 → value_of_string s ≡ only (one_point (get_or s 0 d))
+one_character [] d h k = absurd (omega arith)
+one_character (c ∷ []) d h k = refl
+one_character (c ∷ e ∷ cs) d h k = absurd (omega arith)
+
+-- ---- strings that are searched
+
+or_if : (b x : Bool) → cond b true x ≡ (x || b)
+or_if true true = refl
+or_if true false = refl
+or_if false true = refl
+or_if false false = refl
+
+-- one more string is there
+pub one_more_string : (strings : List (Vec ℕ Global)) (i : ℕ) (string : Vec ℕ Global) (key s : List ℕ) (was : Bool) → i < length strings →
+    string ≡ get_or strings i string → key ≡ string.items → was ≡ list_any (λ other. bytes_eq other.items s) (take i strings) →
+    cond (is_eq (slice_cmp nat_cmp key s)) true was ≡ list_any (λ other. bytes_eq other.items s) (take (i + 1) strings)
+one_more_string strings i string key s was lt is same before =
+    ap (λ b. cond b true was) (is_eq-slice_cmp key s) ∙ or_if (bytes_eq key s) was ∙ ap₂ (λ a b. a || bytes_eq b s) before same
+    ∙ ap (λ (other : Vec ℕ Global). list_any (λ other. bytes_eq other.items s) (take i strings) || bytes_eq other.items s) is
+    ∙ sym (list_any_more (λ (other : Vec ℕ Global). bytes_eq other.items s) strings i string lt)
+
+is_among-strings : (strings : List (Vec ℕ Global)) (s : List ℕ) →
+    list_any (λ (other : Vec ℕ Global). bytes_eq other.items s) strings ≡ is_among (strings_of strings) s
+is_among-strings [] s = refl
+is_among-strings (string ∷ strings) s = ap (λ b. bytes_eq string.items s || b) (is_among-strings strings s)
+
+pub all_strings : (strings : List (Vec ℕ Global)) (i : ℕ) (s : List ℕ) → length strings ≤ i →
+    list_any (λ (other : Vec ℕ Global). bytes_eq other.items s) (take i strings) ≡ is_among (strings_of strings) s
+all_strings strings i s le =
+    ap (list_any (λ (other : Vec ℕ Global). bytes_eq other.items s)) (take_all i strings le) ∙ is_among-strings strings s
+
+-- the strings that are kept
+pub kept_strings : (test : List ℕ → Bool) (p : Vec ℕ Global → Bool) → ((string : Vec ℕ Global) → p string ≡ test string.items) →
+    (strings : List (Vec ℕ Global)) → strings_of (filter p strings) ≡ filter test (strings_of strings)
+kept_strings test p same [] = refl
+kept_strings test p same (string ∷ strings) =
+    if_kept (p string) (kept_strings test p same strings)
+    ∙ ap (λ b. cond b (string.items ∷ filter test (strings_of strings)) (filter test (strings_of strings))) (same string)
+  where
+    if_kept : (b : Bool) → strings_of (filter p strings) ≡ filter test (strings_of strings) →
+        strings_of (cond b (string ∷ filter p strings) (filter p strings))
+        ≡ cond b (string.items ∷ filter test (strings_of strings)) (filter test (strings_of strings))
+    if_kept true rest = ap (λ l. string.items ∷ l) rest
+    if_kept false rest = rest
+
+-- what the other one has, or what it lacks, of both kinds
+pub held_where : (keep : Bool → Bool) (a b : Value) (old other : CodeValue) (set : List Bounds) (strings : Vec (Vec ℕ Global) Global)
+    (levels : ℕ) (p : Vec ℕ Global → Bool) → IsValue old a → IsValue other b → IsCanonical set →
+    ((c : ℕ) → is_member set c ≡ (is_member old.set c && keep (is_member other.set c))) →
+    ((string : Vec ℕ Global) → p string ≡ keep (is_among (strings_of other.strings.items) string.items)) →
+    strings.items ≡ filter p old.strings.items → levels ≡ max old.levels other.levels →
+    IsValue (record { set = set; strings = strings; levels = levels }) (record {
+      members = intervals_of (λ c. is_member a.members c && keep (is_member b.members c));
+      strings = filter (λ s. keep (is_among b.strings s)) a.strings;
+      levels = max a.levels b.levels;
+    })
+held_where keep a b old other set strings levels p h k canonical members same kept deep = record {
+  members = members_where (λ c. is_member a.members c && keep (is_member b.members c)) set canonical
+      (λ c. members c ∙ ap₂ (λ x y. x && keep y) (h.members.each c) (k.members.each c));
+  strings = ap strings_of kept
+      ∙ kept_strings (λ s. keep (is_among b.strings s)) p (λ string. same string ∙ ap (λ l. keep (is_among l string.items)) k.strings) old.strings.items
+      ∙ ap (filter (λ s. keep (is_among b.strings s))) h.strings;
+  levels = deep ∙ ap₂ max h.levels k.levels;
+}
+
+-- a class in another one
+pub held_nested : (read : Bool × Value) (negated : Bool) (old : CodeValue) (set : List Bounds) → (negated ≡ read.0) × IsValue old read.1 →
+    HasMembers (complement_if negated old.set) set →
+    IsValue (record { set = set; strings = old.strings; levels = old.levels + 1 }) (nested read)
+held_nested (negated, value) b old set (same, h) members = rw (sym same) (record {
+  members = record {
+    canonical = members.canonical;
+    each = λ c. members.each c ∙ complements b c;
+  };
+  strings = h.strings;
+  levels = ap (λ n. n + 1) h.levels;
+})
+  where
+    complements : (b : Bool) (c : ℕ) → is_member (complement_if b old.set) c ≡ is_member (complement_if b value.members) c
+    complements true c =
+        ap (λ (l : List Bounds). is_member l c) (intervals_of-agree (λ n. not (is_member old.set n)) (λ n. not (is_member value.members n))
+        (λ n le. ap not (h.members.each n)))
+    complements false c = h.members.each c
+
+-- as many strings
+pub same_count : (held : CodeValue) (value : Value) → IsValue held value → vec_len held.strings ≡ length value.strings
+same_count held value h = held.strings.ok.0 ∙ sym (length-map held.strings.items (λ (string : Vec ℕ Global). string.items)) ∙ ap length h.strings

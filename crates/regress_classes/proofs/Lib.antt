@@ -1,0 +1,7 @@
+pub mod laws
+mod ClassContentsLemmas
+mod ClassLemmas
+mod ClassOperandLemmas
+mod ClassSetLemmas
+mod ClassStringLemmas
+mod PropertyLemmas

@@ -1,0 +1,49 @@
+-- Properties: words at the front of a source, what an escape reads, and copies of strings.
+use Rattle.std.proofs.Common.{◌≡◌, ℕ, ◌<◌, Bool, true, false, cond, List, [], ◌∷◌, ◌++◌, refl, sym, ap, ◌∙◌, append_assoc, append-nil, arith}
+use Rattle.std.proofs.lemmas.Bool.{cond-true}
+use Rattle.std.proofs.lemmas.Bool.Decides.{nat_tests}
+use Rattle.regress_lexical.specs.Source.{Source}
+use Rattle.regress_lexical.specs.Digits.{front, behind}
+use Rattle.regress_classes.specs.Properties.{is_property_character}
+
+pub ascii : (c : ℕ) → is_property_character c ≡ true → c < 128
+ascii c e = grind (arith, nat_tests)
+
+-- From t on, this word was read up to rest.
+pub record WordUpTo (t rest : Source) (word : List ℕ) : Type 0 where
+  pub read : word ++ front is_property_character rest ≡ front is_property_character t
+  pub left : behind is_property_character rest ≡ behind is_property_character t
+
+front-more : (c : ℕ) (t : Source) → is_property_character c ≡ true → front is_property_character (c ∷ t) ≡ c ∷ front is_property_character t
+unfolding front
+front-more c t e = cond-true _ _ _ e
+
+behind-more : (c : ℕ) (t : Source) → is_property_character c ≡ true → behind is_property_character (c ∷ t) ≡ behind is_property_character t
+unfolding behind
+behind-more c t e = cond-true _ _ _ e
+
+behind-none : (t : Source) → front is_property_character t ≡ [] → behind is_property_character t ≡ t
+unfolding front behind
+behind-none [] e = refl
+behind-none (c ∷ t) e = by (is_property_character c) e
+  where
+    by : (b : Bool) → cond b (c ∷ front is_property_character t) [] ≡ [] → cond b (behind is_property_character t) (c ∷ t) ≡ c ∷ t
+    by true h = absurd cc
+    by false h = refl
+
+pub more_of_word : (t s rest : Source) (c : ℕ) (word new : List ℕ) → WordUpTo t s word → s ≡ c ∷ rest →
+    is_property_character c ≡ true → new ≡ word ++ c ∷ [] → WordUpTo t rest new
+more_of_word t s rest c word new so_far next passes is = record {
+  read = ap (λ (w : List ℕ). w ++ front is_property_character rest) is
+      ∙ append_assoc word (c ∷ []) (front is_property_character rest)
+      ∙ ap (λ (u : Source). word ++ u) (sym (ap (front is_property_character) next ∙ front-more c rest passes))
+      ∙ so_far.read;
+  left = sym (ap (behind is_property_character) next ∙ behind-more c rest passes) ∙ so_far.left;
+}
+
+pub all_of_word : (t rest : Source) (word : List ℕ) → WordUpTo t rest word → front is_property_character rest ≡ [] →
+    (word ≡ front is_property_character t) × (rest ≡ behind is_property_character t)
+all_of_word t rest word so_far ends = (
+  sym (append-nil word) ∙ ap (λ (u : Source). word ++ u) (sym ends) ∙ so_far.read,
+  sym (behind-none rest ends) ∙ so_far.left,
+)

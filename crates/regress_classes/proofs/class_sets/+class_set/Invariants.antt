@@ -1,0 +1,48 @@
+use Rattle.std.proofs.Common.{◌+◌, ◌*◌, length}
+use Rattle.regress_unicode.specs.TableOf.{table_of}
+use Rattle.regress_classes.specs.ClassSets.{Value, parts_at, operands_at}
+use Rattle.regress_classes.specs.ClassViews.{IsValue, inner_of, sign_of, applied}
+use Rattle.regress_lexical.specs.Views.{source}
+use Rattle.regress_classes.proofs.ClassContentsLemmas.{ReadFrom}
+use Rattle.regress_classes.proofs.class_sets.+class_set.Given as goal
+
+-- A class in another one has one level less. Between two of them the calls go from a class to an operand.
+abbrev pub decreases-read_class_set : goal.decreases-read_class_set
+decreases-read_class_set l = 8 * l.levels
+
+abbrev pub decreases-read_operand : goal.decreases-read_operand
+decreases-read_operand l = 8 * l.inside.now.levels + 1
+
+abbrev pub decreases-read_part_behind : goal.decreases-read_part_behind
+decreases-read_part_behind l = 8 * l.inside.now.levels + 2
+
+abbrev pub decreases-read_parts : goal.decreases-read_parts
+decreases-read_parts l = 8 * l.inside.now.levels + 3
+
+abbrev pub decreases-read_operands : goal.decreases-read_operands
+decreases-read_operands l = 8 * l.inside.now.levels + 3
+
+abbrev pub decreases-read_behind : goal.decreases-read_behind
+decreases-read_behind l = 8 * l.inside.now.levels + 4
+
+abbrev pub decreases-read_contents : goal.decreases-read_contents
+decreases-read_contents l = 8 * l.inside.now.levels + 5
+
+abbrev pub invariant-read_parts-loop-value : goal.invariant-read_parts-loop-value
+invariant-read_parts-loop-value l =
+    (held : Value) → IsValue l.fn.value held →
+    ReadFrom (parts_at (table_of l.inside.tables.now) l.inside.unicode (inner_of l.inside) l.inside.negated) held (source l.fn.cursor)
+    (source l.cursor) l.value
+
+abbrev pub decreases-read_parts-loop-value : goal.decreases-read_parts-loop-value
+decreases-read_parts-loop-value l = length (source l.cursor)
+
+abbrev pub invariant-read_operands-loop-value : goal.invariant-read_operands-loop-value
+invariant-read_operands-loop-value l =
+    (held : Value) → IsValue l.fn.value held →
+    ReadFrom
+    (operands_at (table_of l.inside.tables.now) l.inside.unicode (inner_of l.inside) l.inside.negated (sign_of l.operator) (applied l.operator))
+    held (source l.fn.cursor) (source l.cursor) l.value
+
+abbrev pub decreases-read_operands-loop-value : goal.decreases-read_operands-loop-value
+decreases-read_operands-loop-value l = length (source l.cursor)

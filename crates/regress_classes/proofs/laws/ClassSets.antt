@@ -1,0 +1,157 @@
+-- Classes with the flag v, read from the front of a source.
+use Rattle.std.proofs.Common.{ℕ, zero, suc, ◌+◌, Bool, true, false, not, ◌&&◌, ◌||◌, ◌==◌, cond, List, [], ◌∷◌, ◌++◌, length, drop, Option, Some, None}
+use Rattle.regress_base.specs.Intervals.{Bounds}
+use Rattle.regress_base.specs.Limits.{max_nesting_depth}
+use Rattle.regress_unicode.specs.Table.{Table}
+use Rattle.regress_lexical.specs.Source.{Source, Found, ◌>>=◌, found_map, is_at}
+use Rattle.regress_classes.specs.Properties.{Property, of_points, of_strings, property_at}
+use Rattle.regress_classes.specs.ClassRows.{class_letter, class_members, one_point}
+use Rattle.regress_classes.specs.ClassSets.{Value, only, joined, common, without, unless_of_strings, Operand, character, class, value_of, is_set_syntax, is_double, begins_double, is_reserved, escaped_character_at, set_character_at, strings_by, quoted_at, property_operand, escaped_operand_at, operand_at, range_of, range_at, part_behind, parts_by, are_at, operands_by, contents_behind, contents_at, class_set_by, class_set_at}
+use Rattle.regress_classes.proofs.laws.Pieces.{property_at-ends}
+use Rattle.regress_lexical.proofs.laws.Behind.{IsBehind, behind_same, behind_drop, Ends, ends_none, ends_some, ends_behind, ends_more, ends_then, ends_map, ends_cond, escape_at-ends}
+
+-- ---- what stands behind an operand
+
+-- what leaves all behind the first code point
+one-ends : {A : Type 0} (x : A) (c : ℕ) (t : Source) → Ends (Some (x, t)) (c ∷ t)
+one-ends x c t = ends_some (x, t) (c ∷ t) (behind_drop 1 (c ∷ t))
+
+escaped_character_at-ends : (unicode : Bool) (t : Source) → Ends (escaped_character_at unicode t) t
+escaped_character_at-ends unicode [] = ends_none []
+escaped_character_at-ends unicode (c ∷ t) =
+    ends_cond (c == 98) _ _ (c ∷ t) (one-ends 8 c t)
+    (ends_cond (is_reserved c) _ _ (c ∷ t) (one-ends c c t) (escape_at-ends unicode (c ∷ t)))
+
+-- a character takes a code point at least
+pub set_character_at-shortens : (unicode : Bool) (t : Source) → Ends (set_character_at unicode t) (drop 1 t)
+unfolding set_character_at
+set_character_at-shortens unicode [] = ends_none []
+set_character_at-shortens unicode (c ∷ t) =
+    ends_cond (c == 92) _ _ t (escaped_character_at-ends unicode t)
+    (ends_cond (is_set_syntax c || (is_double c && begins_double t)) _ _ t (ends_none t) (ends_some (c, t) t (behind_same t)))
+
+pub set_character_at-ends : (unicode : Bool) (t : Source) → Ends (set_character_at unicode t) t
+set_character_at-ends unicode t = ends_behind _ t (drop 1 t) (behind_drop 1 t) (set_character_at-shortens unicode t)
+
+pub strings_by-ends : (n : ℕ) (unicode : Bool) (s : List ℕ) (t : Source) → Ends (strings_by n unicode s t) t
+unfolding strings_by
+strings_by-ends zero unicode s t = ends_none t
+strings_by-ends (suc n) unicode s t =
+    ends_cond (is_at 125 t) _ _ t (ends_some _ t (behind_drop 1 t))
+    (ends_cond (is_at 124 t) _ _ t
+    (ends_behind _ t (drop 1 t) (behind_drop 1 t) (ends_map _ _ (drop 1 t) (strings_by-ends n unicode [] (drop 1 t))))
+    (ends_then (set_character_at unicode t) _ t (set_character_at-ends unicode t)
+    (λ x. strings_by-ends n unicode (s ++ x.0 ∷ []) x.1)))
+
+quoted_at-ends : (unicode : Bool) (t : Source) → Ends (quoted_at unicode t) t
+quoted_at-ends unicode t =
+    ends_cond (is_at 123 t) _ _ t
+    (ends_behind _ t (drop 1 t) (behind_drop 1 t)
+    (ends_map _ (strings_by (length t) unicode [] (drop 1 t)) (drop 1 t) (strings_by-ends (length t) unicode [] (drop 1 t))))
+    (ends_none t)
+
+property_operand-ends : (in_negated negated : Bool) (x : Property × Source) → Ends (property_operand in_negated negated x) x.1
+property_operand-ends in_negated negated (of_points members, t) = ends_some _ t (behind_same t)
+property_operand-ends in_negated negated (of_strings written, t) =
+    ends_cond (in_negated || negated) _ _ t (ends_none t) (ends_some _ t (behind_same t))
+
+module _ (table : Table) (unicode : Bool) where
+  escaped_operand_at-ends : (in_negated : Bool) (t : Source) → Ends (escaped_operand_at table unicode in_negated t) t
+  escaped_operand_at-ends in_negated [] = ends_none []
+  escaped_operand_at-ends in_negated (c ∷ t) =
+      elim (class_letter c) as (λ named. Ends (elim named as (λ _. Found Operand) [
+        | Some name ↦ Some (class (only (class_members name)), t)
+        | None ↦ cond (c == 113) (quoted_at unicode t)
+            (cond (c == 112 || c == 80) (property_at true table t >>= property_operand in_negated (c == 80))
+            (found_map character (escaped_character_at unicode (c ∷ t))))
+      ]) (c ∷ t)) [
+        | Some name ↦ one-ends (class (only (class_members name))) c t
+        | None ↦
+            ends_cond (c == 113) _ _ (c ∷ t) (ends_more _ c t (quoted_at-ends unicode t))
+            (ends_cond (c == 112 || c == 80) _ _ (c ∷ t)
+            (ends_more _ c t (ends_then (property_at true table t) _ t (property_at-ends true table t) (property_operand-ends in_negated (c == 80))))
+            (ends_map character _ (c ∷ t) (escaped_character_at-ends unicode (c ∷ t))))
+      ]
+
+  -- the rest follows where what stands behind a class is at the end
+  module _ (inner : Source → Found (Bool × Value)) (inner_ends : (t : Source) → Ends (inner t) t) (in_negated : Bool) where
+    -- an operand takes a code point at least
+    pub operand_at-shortens : (t : Source) → Ends (operand_at table unicode inner in_negated t) (drop 1 t)
+    unfolding operand_at
+    operand_at-shortens t =
+        ends_cond (is_at 91 t) _ _ (drop 1 t) (ends_map _ (inner (drop 1 t)) (drop 1 t) (inner_ends (drop 1 t)))
+        (ends_cond (is_at 92 t) _ _ (drop 1 t) (escaped_operand_at-ends in_negated (drop 1 t))
+        (ends_map character (set_character_at unicode t) (drop 1 t) (set_character_at-shortens unicode t)))
+
+    pub operand_at-ends : (t : Source) → Ends (operand_at table unicode inner in_negated t) t
+    operand_at-ends t = ends_behind _ t (drop 1 t) (behind_drop 1 t) (operand_at-shortens t)
+
+    made-ends : (made : Option (List Bounds)) (t : Source) →
+        Ends (elim made as (λ _. Found Value) [ None ↦ None | Some members ↦ Some (only members, t) ]) t
+    made-ends None t = ends_none t
+    made-ends (Some members) t = ends_some (only members, t) t (behind_same t)
+
+    range_at-ends : (first : Operand) (t : Source) → Ends (range_at table unicode inner in_negated first t) t
+    range_at-ends first t =
+        ends_then (operand_at table unicode inner in_negated t) _ t (operand_at-ends t)
+        (λ x. made-ends (range_of first x.0) x.1)
+
+    pub part_behind-ends : (x : Operand × Source) → Ends (part_behind table unicode inner in_negated x) x.1
+    part_behind-ends (first, t) =
+        ends_cond (is_at 45 t) _ _ t (ends_behind _ t (drop 1 t) (behind_drop 1 t) (range_at-ends first (drop 1 t)))
+        (ends_some (value_of first, t) t (behind_same t))
+
+    pub parts_by-ends : (n : ℕ) (value : Value) (t : Source) → Ends (parts_by table unicode inner in_negated n value t) t
+    unfolding parts_by
+    parts_by-ends zero value t = ends_none t
+    parts_by-ends (suc n) value t =
+        ends_cond (is_at 93 t) _ _ t (ends_some _ t (behind_drop 1 t))
+        (ends_then _ _ t (ends_then (operand_at table unicode inner in_negated t) _ t (operand_at-ends t) part_behind-ends)
+        (λ x. parts_by-ends n (joined value x.0) x.1))
+
+    pub operands_by-ends : (n c : ℕ) (f : Value → Value → Value) (value : Value) (t : Source) →
+        Ends (operands_by table unicode inner in_negated n c f value t) t
+    unfolding operands_by
+    operands_by-ends zero c f value t = ends_none t
+    operands_by-ends (suc n) c f value t =
+        ends_then (operand_at table unicode inner in_negated t) _ t (operand_at-ends t)
+        (λ x. ends_cond (is_at 93 x.1) _ _ x.1 (ends_some _ x.1 (behind_drop 1 x.1))
+        (ends_cond (are_at c x.1) _ _ x.1
+        (ends_behind _ x.1 (drop 2 x.1) (behind_drop 2 x.1) (operands_by-ends n c f (f value (value_of x.0)) (drop 2 x.1)))
+        (ends_none x.1)))
+
+    pub contents_behind-ends : (x : Operand × Source) → Ends (contents_behind table unicode inner in_negated x) x.1
+    contents_behind-ends (first, t) =
+        ends_cond (are_at 38 t) _ _ t
+        (ends_behind _ t (drop 2 t) (behind_drop 2 t) (operands_by-ends _ 38 common (value_of first) (drop 2 t)))
+        (ends_cond (are_at 45 t) _ _ t
+        (ends_behind _ t (drop 2 t) (behind_drop 2 t) (operands_by-ends _ 45 without (value_of first) (drop 2 t)))
+        (ends_cond (is_at 38 t) _ _ t
+        (ends_behind _ t (drop 1 t) (behind_drop 1 t) (parts_by-ends _ (joined (value_of first) (only (one_point 38))) (drop 1 t)))
+        (ends_then (part_behind table unicode inner in_negated (first, t)) _ t (part_behind-ends (first, t))
+        (λ x. parts_by-ends (length x.1 + 1) x.0 x.1))))
+
+    pub contents_at-ends : (t : Source) → Ends (contents_at table unicode inner in_negated t) t
+    contents_at-ends t =
+        ends_cond (is_at 93 t) _ _ t (ends_some _ t (behind_drop 1 t))
+        (ends_then (operand_at table unicode inner in_negated t) _ t (operand_at-ends t) contents_behind-ends)
+
+  unless_of_strings-ends : (negated : Bool) (x : Value × Source) → Ends (unless_of_strings negated x) x.1
+  unless_of_strings-ends negated (v, t) =
+      ends_cond (negated && not (length v.strings == 0)) _ _ t (ends_none t) (ends_some _ t (behind_same t))
+
+  inside-behind : (t : Source) → IsBehind t (cond (is_at 94 t) (drop 1 t) t)
+  inside-behind t = elim (is_at 94 t) as (λ b. IsBehind t (cond b (drop 1 t) t)) [ true ↦ behind_drop 1 t | false ↦ behind_same t ]
+
+  pub class_set_by-ends : (n : ℕ) (t : Source) → Ends (class_set_by table unicode n t) t
+  unfolding class_set_by
+  class_set_by-ends zero t = ends_none t
+  class_set_by-ends (suc n) t =
+      let inside = cond (is_at 94 t) (drop 1 t) t in
+      ends_behind _ t inside (inside-behind t)
+      (ends_then (contents_at table unicode (class_set_by table unicode n) (is_at 94 t) inside) _ inside
+      (contents_at-ends (class_set_by table unicode n) (class_set_by-ends n) (is_at 94 t) inside)
+      (unless_of_strings-ends (is_at 94 t)))
+
+  pub class_set_at-ends : (t : Source) → Ends (class_set_at table unicode t) t
+  class_set_at-ends t = class_set_by-ends max_nesting_depth t

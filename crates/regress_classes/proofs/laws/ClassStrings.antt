@@ -1,0 +1,354 @@
+-- The strings of a class with the flag v, and those of a property, are of code points. Classes lie in it no deeper than the bound.
+use Rattle.std.proofs.Common.{◌≡◌, ℕ, zero, suc, ◌+◌, ◌<◌, ◌≤◌, Bool, true, false, not, ◌&&◌, ◌||◌, ◌==◌, nat_le, cond, List, [], ◌∷◌, ◌++◌, length, drop, Option, Some, None, refl, arith, leb-true}
+use Rattle.std.proofs.lemmas.List.Elements.{All-head, All-nil, All-cons, All-append, All-drop, All-filter}
+use Rattle.std.specs.List.{All, list_all}
+use Rattle.std.specs.Option.{IfSome, option_map, option_or}
+use Rattle.std.specs.Str.{bytes_eq}
+use Rattle.regress_base.specs.Intervals.{Bounds, code_point_max}
+use Rattle.regress_base.specs.Limits.{max_nesting_depth}
+use Rattle.regress_unicode.specs.Table.{Table, Named, named, is_string, IsLawful}
+use Rattle.regress_lexical.specs.Source.{Source, Found, ◌>>=◌, found_map, IsCodePoint, is_at}
+use Rattle.regress_lexical.specs.Digits.{front, behind}
+use Rattle.regress_classes.specs.Properties.{Property, of_points, of_strings, is_property_character, list_named, strings_named, lone_value, value_in, closed_property, property_at}
+use Rattle.regress_classes.specs.ClassRows.{class_letter, class_members, one_point, complement_if}
+use Rattle.regress_classes.specs.ClassSets.{Value, nothing, only, joined, common, without, is_among, value_of_string, value_of_strings, nested, unless_of_strings, Operand, character, class, value_of, is_set_syntax, is_double, begins_double, is_reserved, escaped_character_at, set_character_at, strings_by, quoted_at, property_operand, escaped_operand_at, operand_at, range_of, part_behind, parts_by, are_at, operands_by, contents_behind, contents_at, class_set_by, class_set_at}
+use Rattle.regress_lexical.proofs.laws.Digits.{and_both}
+use Rattle.regress_lexical.proofs.laws.Behind.{Ends, ends_then, behind_all}
+use Rattle.regress_lexical.proofs.laws.InRange.{Finds, finds_none, finds_some, finds_cond, finds_then, finds_map, escape_at-in_range}
+use Rattle.regress_classes.proofs.laws.ClassSets.{set_character_at-ends, operand_at-ends, part_behind-ends, class_set_by-ends}
+
+abbrev pub OfCodePoints : List (List ℕ) → Type 0
+OfCodePoints strings = All (All IsCodePoint) strings
+
+-- what a property holds
+abbrev pub PropertyInRange : Property → Type 0
+PropertyInRange (of_points members) = Unit {0}
+PropertyInRange (of_strings written) = OfCodePoints written
+
+abbrev pub ValueInRange : Value → Type 0
+ValueInRange value = OfCodePoints value.strings
+
+-- What holds of a value by its operands: of code points, of strings of them, and of what is made of two such values.
+record IsKept (P : Value → Type 0) : Type 0 where
+  points : (members : List Bounds) → P (only members)
+  strings : (ss : List (List ℕ)) → OfCodePoints ss → P (value_of_strings ss)
+  joins : (a b : Value) → P a → P b → P (joined a b)
+  intersects : (a b : Value) → P a → P b → P (common a b)
+  subtracts : (a b : Value) → P a → P b → P (without a b)
+
+abbrev Holds : (Value → Type 0) → Operand → Type 0
+Holds P (character c) = IsCodePoint c
+Holds P (class value) = P value
+
+-- ---- properties
+
+each_passes : {A : Type 0} (p : A → Bool) (P : A → Type 0) → ((x : A) → p x ≡ true → P x) → (xs : List A) → list_all p xs ≡ true → All P xs
+each_passes p P h [] e = All-nil P
+each_passes p P h (x ∷ xs) e =
+    let both = and_both (p x) (list_all p xs) e in
+    All-cons P x xs (h x both.0) (each_passes p P h xs both.1)
+
+string_in_range : (s : List ℕ) → is_string s ≡ true → All IsCodePoint s
+string_in_range s e =
+    each_passes (λ c. nat_le c code_point_max) IsCodePoint (λ c h. leb-true c code_point_max h) s (and_both _ _ e).1
+
+some_cond : {A : Type 0} (P : A → Type 0) (b : Bool) (x y : Option A) → IfSome x P → IfSome y P → IfSome (cond b x y) P
+some_cond P true x y h k = h
+some_cond P false x y h k = k
+
+named-in_range : (name : List ℕ) (entries : List (Named (List (List ℕ)))) →
+    list_all (λ entry. list_all is_string entry.value) entries ≡ true → IfSome (named name entries) OfCodePoints
+unfolding named
+named-in_range name [] e = tt
+named-in_range name (entry ∷ entries) e =
+    let both = and_both (list_all is_string entry.value) _ e in
+    some_cond OfCodePoints (bytes_eq entry.name name) (Some entry.value) (named name entries)
+    (each_passes is_string (All IsCodePoint) string_in_range entry.value both.0) (named-in_range name entries both.1)
+
+strings-in_range : (found : Option (List (List ℕ))) → IfSome found OfCodePoints → IfSome (option_map of_strings found) PropertyInRange
+strings-in_range None h = tt
+strings-in_range (Some strings) h = h
+
+points-in_range : (found : Option (List Bounds)) → IfSome (option_map of_points found) PropertyInRange
+points-in_range None = tt
+points-in_range (Some members) = tt
+
+or-in_range : (a b : Option Property) → IfSome a PropertyInRange → IfSome b PropertyInRange → IfSome (option_or a b) PropertyInRange
+or-in_range None b h k = k
+or-in_range (Some a) b h k = h
+
+value_in-in_range : (value : List ℕ) (entries : Option (List (Named (List Bounds)))) → IfSome (value_in value entries) PropertyInRange
+value_in-in_range value None = tt
+value_in-in_range value (Some entries) = points-in_range (named value entries)
+
+closed_property-in_range : (found : Option Property) (t : Source) → IfSome found PropertyInRange →
+    Finds PropertyInRange (closed_property found t)
+closed_property-in_range None t h = finds_none _
+closed_property-in_range (Some property) t h =
+    finds_cond _ (is_at 125 t) _ _ (λ _. finds_some _ (property, drop 1 t) h) (λ _. finds_none _)
+
+module _ (table : Table) (lawful : IsLawful table) where
+  lone_value-in_range : (sets : Bool) (name : List ℕ) → IfSome (lone_value sets table name) PropertyInRange
+  lone_value-in_range sets name =
+      or-in_range (option_map of_points (named name table.binary)) _ (points-in_range (named name table.binary))
+      (or-in_range (strings_named sets table name) _
+      (some_cond PropertyInRange sets (option_map of_strings (named name table.strings)) None
+      (strings-in_range (named name table.strings) (named-in_range name table.strings lawful.strings)) tt)
+      (points-in_range (named name table.general_category)))
+
+  pub property_at-in_range : (sets : Bool) (t : Source) → Finds PropertyInRange (property_at sets table t)
+  unfolding property_at
+  property_at-in_range sets t =
+      let u = drop 1 t in
+      let name = front is_property_character u in
+      let rest = behind is_property_character u in
+      finds_cond _ (is_at 123 t) _ _
+      (λ _. finds_cond _ (is_at 61 rest) _ _
+      (λ _. closed_property-in_range (value_in (front is_property_character (drop 1 rest)) (list_named table name)) _
+      (value_in-in_range (front is_property_character (drop 1 rest)) (list_named table name)))
+      (λ _. closed_property-in_range (lone_value sets table name) rest (lone_value-in_range sets name)))
+      (λ _. finds_none _)
+
+-- ---- strings
+
+-- behind what was found, which leaves code points
+finds_next : {A B : Type 0} (P : A → Type 0) (Q : B → Type 0) (found : Found A) (next : A × Source → Found B) (t : Source) →
+    Finds P found → Ends found t → All IsCodePoint t → ((x : A × Source) → P x.0 → All IsCodePoint x.1 → Finds Q (next x)) →
+    Finds Q (found >>= next)
+finds_next P Q None next t h e all k = finds_none Q
+finds_next P Q (Some x) next t h e all k = k x (h.each x refl) (behind_all t x.1 (e.each x refl) all)
+
+-- ---- characters and strings
+
+escaped_character_at-in_range : (unicode : Bool) (t : Source) → All IsCodePoint t → Finds IsCodePoint (escaped_character_at unicode t)
+escaped_character_at-in_range unicode [] all = finds_none _
+escaped_character_at-in_range unicode (c ∷ t) all =
+    finds_cond _ (c == 98) _ _ (λ _. finds_some _ (8, t) (omega arith))
+    (λ _. finds_cond _ (is_reserved c) _ _ (λ _. finds_some _ (c, t) (All-head IsCodePoint c t all))
+    (λ _. escape_at-in_range unicode (c ∷ t) all))
+
+-- a character is a code point
+pub set_character_at-in_range : (unicode : Bool) (t : Source) → All IsCodePoint t → Finds IsCodePoint (set_character_at unicode t)
+unfolding set_character_at
+set_character_at-in_range unicode [] all = finds_none _
+set_character_at-in_range unicode (c ∷ t) all =
+    finds_cond _ (c == 92) _ _ (λ _. escaped_character_at-in_range unicode t (All-drop IsCodePoint 1 (c ∷ t) all))
+    (λ _. finds_cond _ (is_set_syntax c || (is_double c && begins_double t)) _ _ (λ _. finds_none _)
+    (λ _. finds_some _ (c, t) (All-head IsCodePoint c t all)))
+
+strings_by-in_range : (n : ℕ) (unicode : Bool) (s : List ℕ) (t : Source) → All IsCodePoint s → All IsCodePoint t →
+    Finds OfCodePoints (strings_by n unicode s t)
+unfolding strings_by
+strings_by-in_range zero unicode s t h all = finds_none _
+strings_by-in_range (suc n) unicode s t h all =
+    finds_cond _ (is_at 125 t) _ _ (λ _. finds_some _ (s ∷ [], drop 1 t) (All-cons (All IsCodePoint) s [] h (All-nil _)))
+    (λ _. finds_cond _ (is_at 124 t) _ _
+    (λ _. finds_map OfCodePoints OfCodePoints (λ ss. s ∷ ss) (strings_by n unicode [] (drop 1 t))
+    (λ ss k. All-cons (All IsCodePoint) s ss h k)
+    (strings_by-in_range n unicode [] (drop 1 t) (All-nil _) (All-drop IsCodePoint 1 t all)))
+    (λ _. finds_next IsCodePoint OfCodePoints (set_character_at unicode t) _ t (set_character_at-in_range unicode t all)
+    (set_character_at-ends unicode t) all
+    (λ x c_in rest. strings_by-in_range n unicode (s ++ x.0 ∷ []) x.1
+    (All-append IsCodePoint s (x.0 ∷ []) h (All-cons IsCodePoint x.0 [] c_in (All-nil _))) rest)))
+
+-- ---- whatever is kept
+
+module _ (P : Value → Type 0) (kept : IsKept P) where
+  value_of-kept : (x : Operand) → Holds P x → P (value_of x)
+  value_of-kept (character c) h = kept.points (one_point c)
+  value_of-kept (class value) h = h
+
+  quoted_at-kept : (unicode : Bool) (t : Source) → All IsCodePoint t → Finds (Holds P) (quoted_at unicode t)
+  quoted_at-kept unicode t all =
+      finds_cond _ (is_at 123 t) _ _
+      (λ _. finds_map OfCodePoints (Holds P) _ (strings_by (length t) unicode [] (drop 1 t)) kept.strings
+      (strings_by-in_range (length t) unicode [] (drop 1 t) (All-nil _) (All-drop IsCodePoint 1 t all)))
+      (λ _. finds_none _)
+
+  property_operand-kept : (in_negated negated : Bool) (x : Property × Source) → PropertyInRange x.0 →
+      Finds (Holds P) (property_operand in_negated negated x)
+  property_operand-kept in_negated negated (of_points members, t) h =
+      finds_some _ (class (only (complement_if negated members)), t) (kept.points (complement_if negated members))
+  property_operand-kept in_negated negated (of_strings written, t) h =
+      finds_cond _ (in_negated || negated) _ _ (λ _. finds_none _)
+      (λ _. finds_some _ (class (value_of_strings written), t) (kept.strings written h))
+
+  module _ (table : Table) (lawful : IsLawful table) (unicode : Bool) where
+    escaped_operand_at-kept : (in_negated : Bool) (t : Source) → All IsCodePoint t →
+        Finds (Holds P) (escaped_operand_at table unicode in_negated t)
+    escaped_operand_at-kept in_negated [] all = finds_none _
+    escaped_operand_at-kept in_negated (c ∷ t) all =
+        elim (class_letter c) as (λ named. Finds (Holds P) (elim named as (λ _. Found Operand) [
+          | Some name ↦ Some (class (only (class_members name)), t)
+          | None ↦ cond (c == 113) (quoted_at unicode t)
+              (cond (c == 112 || c == 80) (property_at true table t >>= property_operand in_negated (c == 80))
+              (found_map character (escaped_character_at unicode (c ∷ t))))
+        ])) [
+          | Some name ↦ finds_some _ (class (only (class_members name)), t) (kept.points (class_members name))
+          | None ↦
+              finds_cond _ (c == 113) _ _ (λ _. quoted_at-kept unicode t (All-drop IsCodePoint 1 (c ∷ t) all))
+              (λ _. finds_cond _ (c == 112 || c == 80) _ _
+              (λ _. finds_then PropertyInRange (Holds P) (property_at true table t) _ (property_at-in_range table lawful true t)
+              (property_operand-kept in_negated (c == 80)))
+              (λ _. finds_map IsCodePoint (Holds P) character _ (λ d h. h) (escaped_character_at-in_range unicode (c ∷ t) all)))
+        ]
+
+    module _ (inner : Source → Found (Bool × Value)) (inner_ends : (t : Source) → Ends (inner t) t)
+        (I : Bool × Value → Type 0) (nest : (found : Bool × Value) → I found → P (nested found))
+        (inner_in : (t : Source) → All IsCodePoint t → Finds I (inner t)) (in_negated : Bool) where
+      operand_at-kept : (t : Source) → All IsCodePoint t → Finds (Holds P) (operand_at table unicode inner in_negated t)
+      unfolding operand_at
+      operand_at-kept t all =
+          let rest = All-drop IsCodePoint 1 t all in
+          finds_cond _ (is_at 91 t) _ _
+          (λ _. finds_map I (Holds P) _ (inner (drop 1 t)) nest (inner_in (drop 1 t) rest))
+          (λ _. finds_cond _ (is_at 92 t) _ _ (λ _. escaped_operand_at-kept in_negated (drop 1 t) rest)
+          (λ _. finds_map IsCodePoint (Holds P) character (set_character_at unicode t) (λ c h. h) (set_character_at-in_range unicode t all)))
+
+      made-kept : (made : Option (List Bounds)) (t : Source) →
+          Finds P (elim made as (λ _. Found Value) [ None ↦ None | Some members ↦ Some (only members, t) ])
+      made-kept None t = finds_none _
+      made-kept (Some members) t = finds_some _ (only members, t) (kept.points members)
+
+      part_behind-kept : (x : Operand × Source) → Holds P x.0 → All IsCodePoint x.1 →
+          Finds P (part_behind table unicode inner in_negated x)
+      part_behind-kept (first, t) h all =
+          finds_cond _ (is_at 45 t) _ _
+          (λ _. finds_then (Holds P) P (operand_at table unicode inner in_negated (drop 1 t)) _
+          (operand_at-kept (drop 1 t) (All-drop IsCodePoint 1 t all)) (λ x _. made-kept (range_of first x.0) x.1))
+          (λ _. finds_some _ (value_of first, t) (value_of-kept first h))
+
+      operand_ends : (t : Source) → Ends (operand_at table unicode inner in_negated t) t
+      operand_ends = operand_at-ends table unicode inner inner_ends in_negated
+
+      behind_ends : (x : Operand × Source) → Ends (part_behind table unicode inner in_negated x) x.1
+      behind_ends = part_behind-ends table unicode inner inner_ends in_negated
+
+      parts_by-kept : (n : ℕ) (value : Value) (t : Source) → P value → All IsCodePoint t →
+          Finds P (parts_by table unicode inner in_negated n value t)
+      unfolding parts_by
+      parts_by-kept zero value t h all = finds_none _
+      parts_by-kept (suc n) value t h all =
+          finds_cond _ (is_at 93 t) _ _ (λ _. finds_some _ (value, drop 1 t) h)
+          (λ _. finds_next P P _ _ t
+          (finds_next (Holds P) P (operand_at table unicode inner in_negated t) _ t (operand_at-kept t all) (operand_ends t) all
+          part_behind-kept)
+          (ends_then _ _ t (operand_ends t) behind_ends) all
+          (λ x k rest. parts_by-kept n (joined value x.0) x.1 (kept.joins value x.0 h k) rest))
+
+      operands_by-kept : (n c : ℕ) (f : Value → Value → Value) (value : Value) (t : Source) →
+          ((a b : Value) → P a → P b → P (f a b)) → P value → All IsCodePoint t →
+          Finds P (operands_by table unicode inner in_negated n c f value t)
+      unfolding operands_by
+      operands_by-kept zero c f value t keeps h all = finds_none _
+      operands_by-kept (suc n) c f value t keeps h all =
+          finds_next (Holds P) P (operand_at table unicode inner in_negated t) _ t (operand_at-kept t all) (operand_ends t) all
+          (λ x k rest.
+          let made = keeps value (value_of x.0) h (value_of-kept x.0 k) in
+          finds_cond _ (is_at 93 x.1) _ _ (λ _. finds_some _ (f value (value_of x.0), drop 1 x.1) made)
+          (λ _. finds_cond _ (are_at c x.1) _ _
+          (λ _. operands_by-kept n c f (f value (value_of x.0)) (drop 2 x.1) keeps made (All-drop IsCodePoint 2 x.1 rest))
+          (λ _. finds_none _)))
+
+      contents_behind-kept : (x : Operand × Source) → Holds P x.0 → All IsCodePoint x.1 →
+          Finds P (contents_behind table unicode inner in_negated x)
+      contents_behind-kept (first, t) h all =
+          let held = value_of-kept first h in
+          let one = All-drop IsCodePoint 1 t all in
+          let two = All-drop IsCodePoint 2 t all in
+          finds_cond _ (are_at 38 t) _ _
+          (λ _. operands_by-kept _ 38 common (value_of first) (drop 2 t) kept.intersects held two)
+          (λ _. finds_cond _ (are_at 45 t) _ _
+          (λ _. operands_by-kept _ 45 without (value_of first) (drop 2 t) kept.subtracts held two)
+          (λ _. finds_cond _ (is_at 38 t) _ _
+          (λ _. parts_by-kept _ (joined (value_of first) (only (one_point 38))) (drop 1 t)
+          (kept.joins (value_of first) (only (one_point 38)) held (kept.points (one_point 38))) one)
+          (λ _. finds_next P P (part_behind table unicode inner in_negated (first, t)) _ t
+          (part_behind-kept (first, t) h all) (behind_ends (first, t)) all
+          (λ x k rest. parts_by-kept (length x.1 + 1) x.0 x.1 k rest))))
+
+      contents_at-kept : (t : Source) → All IsCodePoint t → Finds P (contents_at table unicode inner in_negated t)
+      contents_at-kept t all =
+          finds_cond _ (is_at 93 t) _ _ (λ _. finds_some _ (nothing, drop 1 t) (kept.points []))
+          (λ _. finds_next (Holds P) P (operand_at table unicode inner in_negated t) _ t (operand_at-kept t all) (operand_ends t) all
+          contents_behind-kept)
+
+inside-in_range : (t : Source) → All IsCodePoint t → All IsCodePoint (cond (is_at 94 t) (drop 1 t) t)
+inside-in_range t all =
+    elim (is_at 94 t) as (λ b. All IsCodePoint (cond b (drop 1 t) t)) [ true ↦ All-drop IsCodePoint 1 t all | false ↦ all ]
+
+unless_of_strings-kept : (P : Value → Type 0) (negated : Bool) (x : Value × Source) → P x.0 →
+    Finds (λ found. P found.1) (unless_of_strings negated x)
+unless_of_strings-kept P negated (v, t) h =
+    finds_cond _ (negated && not (length v.strings == 0)) _ _ (λ _. finds_none _) (λ _. finds_some _ ((negated, v), t) h)
+
+-- ---- strings of code points
+
+value_of_string-in_range : (s : List ℕ) → All IsCodePoint s → ValueInRange (value_of_string s)
+value_of_string-in_range [] all = All-nil _
+value_of_string-in_range (c ∷ []) all = All-nil _
+value_of_string-in_range (c ∷ d ∷ cs) all = All-cons (All IsCodePoint) (c ∷ d ∷ cs) [] all (All-nil _)
+
+value_of_strings-in_range : (ss : List (List ℕ)) → OfCodePoints ss → ValueInRange (value_of_strings ss)
+value_of_strings-in_range [] h = All-nil _
+value_of_strings-in_range (s ∷ ss) h =
+    All-append (All IsCodePoint) (value_of_string s).strings (value_of_strings ss).strings
+    (value_of_string-in_range s (All-head (All IsCodePoint) s ss h))
+    (value_of_strings-in_range ss (All-drop (All IsCodePoint) 1 (s ∷ ss) h))
+
+strings_kept : IsKept ValueInRange
+strings_kept = record {
+  points = λ members. All-nil _;
+  strings = value_of_strings-in_range;
+  joins = λ a b. All-append (All IsCodePoint) a.strings b.strings;
+  intersects = λ a b h k. All-filter (is_among b.strings) (All IsCodePoint) a.strings h;
+  subtracts = λ a b h k. All-filter (λ s. not (is_among b.strings s)) (All IsCodePoint) a.strings h;
+}
+
+-- ---- levels
+
+level_of_string : (s : List ℕ) → (value_of_string s).levels ≡ 0
+level_of_string [] = refl
+level_of_string (c ∷ []) = refl
+level_of_string (c ∷ d ∷ cs) = refl
+
+level_of_strings : (ss : List (List ℕ)) → (value_of_strings ss).levels ≡ 0
+level_of_strings [] = refl
+level_of_strings (s ∷ ss) = omega (arith, level_of_string s, level_of_strings ss)
+
+levels_kept : (n : ℕ) → IsKept (λ value. value.levels ≤ n)
+levels_kept n = record {
+  points = λ members. omega arith;
+  strings = λ ss h. omega (arith, level_of_strings ss);
+  joins = λ a b h k. omega (arith, h, k);
+  intersects = λ a b h k. omega (arith, h, k);
+  subtracts = λ a b h k. omega (arith, h, k);
+}
+
+-- ---- classes
+
+module _ (table : Table) (lawful : IsLawful table) (unicode : Bool) where
+  class_set_by-in_range : (n : ℕ) (t : Source) → All IsCodePoint t → Finds (λ found. ValueInRange found.1) (class_set_by table unicode n t)
+  unfolding class_set_by
+  class_set_by-in_range zero t all = finds_none _
+  class_set_by-in_range (suc n) t all =
+      finds_then ValueInRange _ _ _
+      (contents_at-kept ValueInRange strings_kept table lawful unicode (class_set_by table unicode n) (class_set_by-ends table unicode n)
+      (λ found. ValueInRange found.1) (λ found h. h) (class_set_by-in_range n) (is_at 94 t) (cond (is_at 94 t) (drop 1 t) t) (inside-in_range t all))
+      (unless_of_strings-kept ValueInRange (is_at 94 t))
+
+  -- the strings that a class holds
+  pub class_set_at-in_range : (t : Source) → All IsCodePoint t →
+      Finds (λ found. All (All IsCodePoint) found.1.strings) (class_set_at table unicode t)
+  class_set_at-in_range t all = class_set_by-in_range max_nesting_depth t all
+
+  -- how deep classes lie in it
+  pub class_set_by-levels : (n : ℕ) (t : Source) → All IsCodePoint t → Finds (λ found. found.1.levels < n) (class_set_by table unicode n t)
+  unfolding class_set_by
+  class_set_by-levels zero t all = finds_none _
+  class_set_by-levels (suc n) t all =
+      finds_then (λ value. value.levels ≤ n) _ _ _
+      (contents_at-kept (λ value. value.levels ≤ n) (levels_kept n) table lawful unicode (class_set_by table unicode n)
+      (class_set_by-ends table unicode n) (λ found. found.1.levels < n) (λ found h. omega (arith, h)) (class_set_by-levels n) (is_at 94 t)
+      (cond (is_at 94 t) (drop 1 t) t) (inside-in_range t all))
+      (λ x h. unless_of_strings-kept (λ value. value.levels < suc n) (is_at 94 t) x (omega (arith, h)))

@@ -1,0 +1,190 @@
+-- Properties and classes, read from the front of a source.
+use Rattle.std.proofs.Common.{◌≡◌, inl, inr, ℕ, zero, suc, ◌+◌, ◌<◌, Bool, true, false, not, ◌&&◌, ◌||◌, ◌==◌, cond, List, [], ◌∷◌, ◌++◌, length, drop, Option, Some, None, refl, sym, ap, ◌∙◌, subst, add-one, arith}
+use Rattle.std.proofs.lemmas.Option.{none-some}
+use Rattle.std.proofs.lemmas.Bool.{cases_eq, ne_eqb, cond-true, cond-false}
+use Rattle.regress_base.specs.declared.charclasses.CharacterClassType.{CharacterClassType}
+use Rattle.regress_base.specs.Intervals.{Bounds}
+use Rattle.regress_unicode.specs.Table.{Table}
+use Rattle.regress_lexical.specs.Source.{Source, Found, ◌>>=◌, found_map, is_at}
+use Rattle.regress_lexical.specs.Digits.{is_decimal, is_letter, behind}
+use Rattle.regress_lexical.specs.Escapes.{escape_at}
+use Rattle.regress_classes.specs.Properties.{Property, points_of, is_property_character, closed_property, braced_property_at, property_at}
+use Rattle.regress_classes.specs.ClassRows.{ClassAtom, point, set, complement_if, class_members, class_letter, class_control_at, class_property, class_property_at, class_escape_by, class_escape_at, class_atom_at, range_of, range_at, begins_range, class_part_at, class_parts_by, class_at, atom_members}
+use Rattle.regress_lexical.proofs.laws.Sources.{then_same, cond_same}
+use Rattle.regress_lexical.proofs.laws.Behind.{IsBehind, behind_same, behind_behind, behind_drop, behind_front, behind_shorter, Ends, ends_none, ends_some, ends_behind, ends_more, ends_then, ends_map, ends_cond, escape_at-ends}
+
+-- ---- what stands behind a property
+
+closed_property-ends : (found : Option Property) (t : Source) → Ends (closed_property found t) t
+closed_property-ends None t = ends_none t
+closed_property-ends (Some property) t = ends_cond (is_at 125 t) _ _ t (ends_some (property, drop 1 t) t (behind_drop 1 t)) (ends_none t)
+
+braced_property_at-ends : (sets : Bool) (table : Table) (t : Source) → Ends (braced_property_at sets table t) t
+braced_property_at-ends sets table t =
+    let rest = behind is_property_character t in
+    let value = drop 1 rest in
+    ends_behind _ t rest (behind_front is_property_character t)
+    (ends_cond (is_at 61 rest) _ _ rest
+    (ends_behind _ rest (behind is_property_character value)
+    (behind_behind rest value _ (behind_drop 1 rest) (behind_front is_property_character value)) (closed_property-ends _ _))
+    (closed_property-ends _ rest))
+
+pub property_at-ends : (sets : Bool) (table : Table) (t : Source) → Ends (property_at sets table t) t
+unfolding property_at
+property_at-ends sets table t =
+    ends_cond (is_at 123 t) _ _ t
+    (ends_behind _ t (drop 1 t) (behind_drop 1 t) (braced_property_at-ends sets table (drop 1 t))) (ends_none t)
+
+-- ---- what stands behind a class
+
+-- what leaves all behind the first code point
+one-ends : {A : Type 0} (x : A) (c : ℕ) (t : Source) → Ends (Some (x, t)) (c ∷ t)
+one-ends x c t = ends_some (x, t) (c ∷ t) (behind_drop 1 (c ∷ t))
+
+pub class_control_at-ends : (t : Source) → Ends (class_control_at t) (99 ∷ t)
+class_control_at-ends [] = ends_some _ (99 ∷ []) (behind_same (99 ∷ []))
+class_control_at-ends (d ∷ t) =
+    ends_cond (is_letter d || is_decimal d || d == 95) _ _ (99 ∷ d ∷ t) (ends_some _ (99 ∷ d ∷ t) (behind_drop 2 (99 ∷ d ∷ t)))
+    (ends_some _ (99 ∷ d ∷ t) (behind_same (99 ∷ d ∷ t)))
+
+-- an escape behind `\c`, where that is one for a class alone
+control-ends : (b : Bool) (c : ℕ) (t : Source) (x : Found ClassAtom) → Ends x (c ∷ t) →
+    Ends (cond (c == 99 && b) (class_control_at t) x) (c ∷ t)
+control-ends b c t x h =
+    elim (cases_eq c 99) [
+      | inl same ↦ subst (λ (n : ℕ). Ends (cond (n == 99 && b) (class_control_at t) x) (n ∷ t)) (sym same)
+          (ends_cond b _ _ (99 ∷ t) (class_control_at-ends t) (subst (λ (n : ℕ). Ends x (n ∷ t)) same h))
+      | inr other ↦ subst (λ (d : Bool). Ends (cond (d && b) (class_control_at t) x) (c ∷ t)) (sym (ne_eqb c 99 other)) h
+    ]
+
+class_property-ends : (negated : Bool) (x : Property × Source) → Ends (class_property negated x) x.1
+class_property-ends negated (property, t) = by (points_of property)
+  where
+    by : (members : Option (List Bounds)) →
+        Ends (elim members as (λ _. Found ClassAtom) [ None ↦ None | Some members ↦ Some (set (complement_if negated members), t) ]) t
+    by None = ends_none t
+    by (Some members) = ends_some _ t (behind_same t)
+
+class_property_at-ends : (table : Table) (negated : Bool) (t : Source) → Ends (class_property_at table negated t) t
+class_property_at-ends table negated t =
+    ends_then (property_at false table t) (class_property negated) t (property_at-ends false table t) (class_property-ends negated)
+
+made-ends : (made : Option (List Bounds)) (t : Source) →
+    Ends (elim made as (λ _. Found (List Bounds)) [ None ↦ None | Some members ↦ Some (members, t) ]) t
+made-ends None t = ends_none t
+made-ends (Some members) t = ends_some (members, t) t (behind_same t)
+
+-- the parts, without their `^`
+abbrev inside : Source → Source
+inside t = cond (is_at 94 t) (drop 1 t) t
+
+inside-behind : (t : Source) → IsBehind t (inside t)
+inside-behind t = elim (is_at 94 t) as (λ b. IsBehind t (cond b (drop 1 t) t)) [ true ↦ behind_drop 1 t | false ↦ behind_same t ]
+
+-- what stands behind members that were read already
+abbrev pub more_parts : List Bounds → Found (List Bounds) → Found (List Bounds)
+more_parts members others = others >>= λ (y : List Bounds × Source). Some (members ++ y.0, y.1)
+
+module _ (table : Table) (unicode : Bool) where
+  class_escape_by-ends : (c : ℕ) (t : Source) → Ends (class_escape_by table unicode c t) (c ∷ t)
+  class_escape_by-ends c t = by (class_letter c)
+    where
+      by : (letter : Option (CharacterClassType × Bool)) →
+          Ends (elim letter as (λ _. Found ClassAtom) [
+            | Some named ↦ Some (set (class_members named), t)
+            | None ↦
+                cond (c == 98) (Some (point 8, t))
+                (cond (c == 45 && unicode) (Some (point 45, t))
+                (cond (c == 99 && not unicode) (class_control_at t)
+                (cond ((c == 112 || c == 80) && unicode) (class_property_at table (c == 80) t) (found_map point (escape_at unicode (c ∷ t))))))
+          ]) (c ∷ t)
+      by (Some named) = one-ends _ c t
+      by None =
+          ends_cond (c == 98) _ _ (c ∷ t) (one-ends (point 8) c t)
+          (ends_cond (c == 45 && unicode) _ _ (c ∷ t) (one-ends (point 45) c t)
+          (control-ends (not unicode) c t _
+          (ends_cond ((c == 112 || c == 80) && unicode) _ _ (c ∷ t) (ends_more _ c t (class_property_at-ends table (c == 80) t))
+          (ends_map point (escape_at unicode (c ∷ t)) (c ∷ t) (escape_at-ends unicode (c ∷ t))))))
+
+  pub class_escape_at-ends : (t : Source) → Ends (class_escape_at table unicode t) t
+  class_escape_at-ends [] = ends_none []
+  class_escape_at-ends (c ∷ t) = class_escape_by-ends c t
+
+  -- an atom takes a code point at least
+  class_atom_at-shortens : (t : Source) → Ends (class_atom_at table unicode t) (drop 1 t)
+  class_atom_at-shortens [] = ends_none []
+  class_atom_at-shortens (c ∷ t) =
+      ends_cond (c == 93) _ _ t (ends_none t)
+      (ends_cond (c == 92) _ _ t (class_escape_at-ends t) (ends_some (point c, t) t (behind_same t)))
+
+  pub class_atom_at-ends : (t : Source) → Ends (class_atom_at table unicode t) t
+  class_atom_at-ends t = ends_behind _ t (drop 1 t) (behind_drop 1 t) (class_atom_at-shortens t)
+
+  range_at-ends : (first : ClassAtom) (t : Source) → Ends (range_at table unicode first t) t
+  range_at-ends first t =
+      ends_then (class_atom_at table unicode t) _ t (class_atom_at-ends t) (λ x. made-ends (range_of unicode first x.0) x.1)
+
+  part_behind-ends : (x : ClassAtom × Source) →
+      Ends (cond (begins_range x.1) (range_at table unicode x.0 (drop 1 x.1)) (Some (atom_members x.0, x.1))) x.1
+  part_behind-ends x =
+      ends_cond (begins_range x.1) _ _ x.1
+      (ends_behind _ x.1 (drop 1 x.1) (behind_drop 1 x.1) (range_at-ends x.0 (drop 1 x.1)))
+      (ends_some _ x.1 (behind_same x.1))
+
+  class_part_at-behind : (t : Source) → Ends (class_part_at table unicode t) (drop 1 t)
+  class_part_at-behind t =
+      ends_then (class_atom_at table unicode t) _ (drop 1 t) (class_atom_at-shortens t) part_behind-ends
+
+  -- so does a part
+  pub class_part_at-shortens : (t : Source) (x : List Bounds × Source) → class_part_at table unicode t ≡ Some x → length x.1 < length t
+  class_part_at-shortens [] x e = absurd (none-some x e)
+  class_part_at-shortens (c ∷ t) x e = omega (arith, behind_shorter t x.1 ((class_part_at-behind (c ∷ t)).each x e))
+
+  class_part_at-ends : (t : Source) → Ends (class_part_at table unicode t) t
+  class_part_at-ends t = ends_behind _ t (drop 1 t) (behind_drop 1 t) (class_part_at-behind t)
+
+  class_parts_by-ends : (n : ℕ) (t : Source) → Ends (class_parts_by table unicode n t) t
+  unfolding class_parts_by
+  class_parts_by-ends zero t = ends_none t
+  class_parts_by-ends (suc n) t =
+      ends_cond (is_at 93 t) _ _ t (ends_some _ t (behind_drop 1 t))
+      (ends_then (class_part_at table unicode t) _ t (class_part_at-ends t)
+      (λ x. ends_then (class_parts_by table unicode n x.1) _ x.1 (class_parts_by-ends n x.1) (λ y. ends_some _ y.1 (behind_same y.1))))
+
+  pub class_at-ends : (t : Source) → Ends (class_at table unicode t) t
+  unfolding class_at
+  class_at-ends t =
+      ends_behind _ t (inside t) (inside-behind t)
+      (ends_then (class_parts_by table unicode (length (inside t) + 1) (inside t)) _ (inside t)
+      (class_parts_by-ends (length (inside t) + 1) (inside t)) (λ x. ends_some _ x.1 (behind_same x.1)))
+
+  -- ---- the parts, with no bound
+
+  -- More than the source allows change nothing.
+  class_parts_by-same : (n m : ℕ) (t : Source) → length t < n → length t < m →
+      class_parts_by table unicode n t ≡ class_parts_by table unicode m t
+  unfolding class_parts_by
+  class_parts_by-same zero m t h k = absurd (omega arith)
+  class_parts_by-same (suc n) zero t h k = absurd (omega arith)
+  class_parts_by-same (suc n) (suc m) t h k =
+      cond_same (is_at 93 t) _ _ _ _ (λ closes. refl)
+      (λ goes_on. then_same (class_part_at table unicode t) _ _
+      (λ x found. ap (λ (others : Found (List Bounds)). others >>= λ (y : List Bounds × Source). Some (x.0 ++ y.0, y.1))
+      (let shorter = class_part_at-shortens t x found in
+      class_parts_by-same n m x.1 (omega arith) (omega arith))))
+
+  pub parts_closed : (t : Source) → is_at 93 t ≡ true → class_parts_by table unicode (length t + 1) t ≡ Some ([], drop 1 t)
+  unfolding class_parts_by
+  parts_closed t closes = ap (λ n. class_parts_by table unicode n t) (add-one (length t)) ∙ cond-true _ _ _ closes
+
+  pub parts_go_on : (t : Source) → is_at 93 t ≡ false →
+      class_parts_by table unicode (length t + 1) t
+      ≡ class_part_at table unicode t >>= λ (x : List Bounds × Source). more_parts x.0 (class_parts_by table unicode (length x.1 + 1) x.1)
+  unfolding class_parts_by
+  parts_go_on t goes_on =
+      ap (λ n. class_parts_by table unicode n t) (add-one (length t))
+      ∙ cond-false _ _ _ goes_on
+      ∙ then_same (class_part_at table unicode t) _ _
+      (λ x found. ap (more_parts x.0)
+      (let shorter = class_part_at-shortens t x found in
+      class_parts_by-same (length t) (length x.1 + 1) x.1 shorter (omega arith)))

@@ -1,0 +1,15 @@
+-- A turn reads one character more, which is ASCII.
+use Rattle.std.proofs.Common.{◌++◌, ◌∙◌, ap, string_bytes}
+use Rattle.regress_classes.proofs.PropertyLemmas.{ascii, more_of_word, all_of_word}
+use Rattle.regress_classes.proofs.property.read_word.Goals as goal
+
+pub loop-c-preserved : goal.loop-c-preserved
+loop-c-preserved c =
+    let next = c.in-Some.ensures.some in
+    more_of_word _ _ c.in-Some.rest.now c.in-Some.c _ _ c.loop-c.invariant next.0 next.1
+    (c.in_ok-push.ensures.bytes ∙ ap (λ bytes. string_bytes c.loop-c.word ++ bytes) (c.in_ok-push.ensures.ascii (ascii c.in-Some.c next.1)))
+
+pub returns : goal.returns
+returns c =
+    let all = all_of_word _ _ _ c.loop-c.invariant c.in_default.ensures.none in
+    record { word = all.0; behind = all.1 }

@@ -1,0 +1,149 @@
+-- What stands between brackets, without the flag v (ECMA-262, CharacterClass with annex B).
+use Rattle.std.specs.Prelude.{ℕ, zero, suc, ◌+◌, Bool, true, false, not, ◌&&◌, ◌||◌, List, [], ◌∷◌, ◌++◌, length, drop, Option, Some, None, if◌then◌else◌, nat_le, ◌==◌}
+use Rattle.regress_base.specs.declared.charclasses.CharacterClassType.{CharacterClassType}
+use Rattle.regress_base.specs.declared.charclasses.CharacterClassType.TheVariants.{Digits, Spaces, Words}
+use Rattle.regress_base.specs.Classes.{digits, white_space, line_terminators, word_characters}
+use Rattle.regress_base.specs.Intervals.{Bounds, is_member, intervals_of}
+use Rattle.regress_unicode.specs.Table.{Table}
+use Rattle.regress_lexical.specs.Source.{Source, Found, ◌>>=◌, found_map, is_at}
+use Rattle.regress_lexical.specs.Digits.{is_decimal, is_letter, control}
+use Rattle.regress_lexical.specs.Escapes.{escape_at}
+use Rattle.regress_classes.specs.Properties.{Property, points_of, property_at}
+
+-- ---- classes by an escape
+
+-- what the class holds (ECMA-262, CharacterClassEscape)
+abbrev pub members_of : CharacterClassType → List Bounds
+members_of Digits = digits
+members_of Spaces = white_space ++ line_terminators
+members_of Words = word_characters
+
+-- the class that a letter names, d, D, s, S, w or W, and whether the letter is a capital, which takes the complement
+abbrev pub class_letter : ℕ → Option (CharacterClassType × Bool)
+class_letter c =
+    if c == 100 then Some (Digits, false)
+    else if c == 68 then Some (Digits, true)
+    else if c == 115 then Some (Spaces, false)
+    else if c == 83 then Some (Spaces, true)
+    else if c == 119 then Some (Words, false)
+    else if c == 87 then Some (Words, true)
+    else None
+
+-- all code points but these
+abbrev pub complement : List Bounds → List Bounds
+complement members = intervals_of (λ c. not (is_member members c))
+
+abbrev pub complement_if : Bool → List Bounds → List Bounds
+complement_if negated members = if negated then complement members else members
+
+-- the class, or its complement
+abbrev pub class_members : CharacterClassType × Bool → List Bounds
+class_members (kind, negated) = complement_if negated (members_of kind)
+
+-- ---- atoms of a class
+
+-- a code point, or what a class by an escape or a property holds
+pub data ClassAtom : Type 0 where
+  point : (c : ℕ) → ClassAtom
+  set : (members : List Bounds) → ClassAtom
+
+abbrev pub one_point : ℕ → List Bounds
+one_point c = record { first = c; last = c } ∷ []
+
+-- what the atom holds
+abbrev pub atom_members : ClassAtom → List Bounds
+atom_members (point c) = one_point c
+atom_members (set members) = members
+
+-- `\c` without the flag u: a letter, or a digit or `_`, for its low five bits; else the backslash alone
+abbrev pub class_control_at : Source → Found ClassAtom
+class_control_at [] = Some (point 92, 99 ∷ [])
+class_control_at (d ∷ t) =
+    if is_letter d || is_decimal d || d == 95 then Some (point (control d), t) else Some (point 92, 99 ∷ d ∷ t)
+
+-- a property of code points, or its complement
+abbrev pub class_property : Bool → Property × Source → Found ClassAtom
+class_property negated (property, t) =
+    elim (points_of property) [ None ↦ None | Some members ↦ Some (set (complement_if negated members), t) ]
+
+-- behind `\p` or `\P`
+abbrev pub class_property_at : Table → Bool → Source → Found ClassAtom
+class_property_at table negated t = property_at false table t >>= class_property negated
+
+module _ (table : Table) (unicode : Bool) where
+  -- an escape in a class, behind its backslash
+  abbrev pub class_escape_by : ℕ → Source → Found ClassAtom
+  class_escape_by c t =
+      elim (class_letter c) [
+        | Some named ↦ Some (set (class_members named), t)
+        | None ↦
+            -- `\b` is backspace
+            if c == 98 then Some (point 8, t)
+            else if c == 45 && unicode then Some (point 45, t)
+            else if c == 99 && not unicode then class_control_at t
+            else if (c == 112 || c == 80) && unicode then class_property_at table (c == 80) t
+            else found_map point (escape_at unicode (c ∷ t))
+      ]
+
+  abbrev pub class_escape_at : Source → Found ClassAtom
+  class_escape_at [] = None
+  class_escape_at (c ∷ t) = class_escape_by c t
+
+  -- an atom: any code point but `]` and `\`, or an escape
+  abbrev pub class_atom_at : Source → Found ClassAtom
+  class_atom_at [] = None
+  class_atom_at (c ∷ t) =
+      if c == 93 then None
+      else if c == 92 then class_escape_at t
+      else Some (point c, t)
+
+-- ---- ranges
+
+-- both and the hyphen, without the flag u
+abbrev pub three : Bool → List Bounds → List Bounds → Option (List Bounds)
+three unicode first last = if unicode then None else Some (first ++ one_point 45 ++ last)
+
+-- a range of code points, which ends nowhere before it begins
+abbrev pub points_between : ℕ → ℕ → Option (List Bounds)
+points_between a b = if nat_le a b then Some (record { first = a; last = b } ∷ []) else None
+
+-- what two atoms with a hyphen between them hold: a range, or without the flag u all three where one is a class
+abbrev pub range_of : Bool → ClassAtom → ClassAtom → Option (List Bounds)
+range_of unicode (point a) (point b) = points_between a b
+range_of unicode (point a) (set others) = three unicode (one_point a) others
+range_of unicode (set members) (point b) = three unicode members (one_point b)
+range_of unicode (set members) (set others) = three unicode members others
+
+-- a hyphen that may begin a range: one that is not the last
+abbrev pub begins_range : Source → Bool
+begins_range t = is_at 45 t && not (is_at 93 (drop 1 t))
+
+module _ (table : Table) (unicode : Bool) where
+  -- the rest of a range, behind its first atom and the hyphen
+  abbrev pub range_at : ClassAtom → Source → Found (List Bounds)
+  range_at first t =
+      class_atom_at table unicode t >>= λ (last, rest).
+      elim (range_of unicode first last) [ None ↦ None | Some members ↦ Some (members, rest) ]
+
+  -- an atom, or a range
+  abbrev pub class_part_at : Source → Found (List Bounds)
+  class_part_at t =
+      class_atom_at table unicode t >>= λ (first, rest).
+      (if begins_range rest then range_at first (drop 1 rest) else Some (atom_members first, rest))
+
+  -- ---- the class
+
+  -- The parts up to `]`, as they are written, of which some may overlap. The number bounds how many.
+  unfoldable pub class_parts_by : ℕ → Source → Found (List Bounds)
+  class_parts_by zero t = None
+  class_parts_by (suc n) t =
+      if is_at 93 t then Some ([], drop 1 t)
+      else class_part_at t >>= λ (members, rest).
+      (class_parts_by n rest >>= λ (others, behind). Some (members ++ others, behind))
+
+  -- what stands behind `[`: whether it is inverted, and what it holds
+  unfoldable pub class_at : Source → Found (Bool × List Bounds)
+  class_at t =
+      let inverted = is_at 94 t in
+      let inside = if inverted then drop 1 t else t in
+      class_parts_by (length inside + 1) inside >>= λ (members, rest). Some ((inverted, members), rest)

@@ -1,0 +1,229 @@
+-- Classes with the flag v (this project's profile of ECMA-262, ClassSetExpression).
+use Rattle.std.specs.Prelude.{ℕ, zero, suc, ◌+◌, max, Bool, true, false, not, ◌&&◌, ◌||◌, List, [], ◌∷◌, ◌++◌, length, drop, filter, Option, Some, None, if◌then◌else◌, ◌==◌, codes}
+use Rattle.std.specs.List.{list_any}
+use Rattle.std.specs.Str.{bytes_eq}
+use Rattle.regress_base.specs.Intervals.{Bounds, is_member, intervals_of}
+use Rattle.regress_base.specs.Limits.{max_nesting_depth}
+use Rattle.regress_unicode.specs.Table.{Table}
+use Rattle.regress_lexical.specs.Source.{Source, Found, ◌>>=◌, found_map, is_at}
+use Rattle.regress_lexical.specs.Escapes.{escape_at}
+use Rattle.regress_classes.specs.Properties.{Property, of_points, of_strings, property_at}
+use Rattle.regress_classes.specs.ClassRows.{complement_if, class_letter, class_members, one_point, points_between}
+
+-- ---- what a class holds
+
+-- Code points, of which some may overlap, strings of two or more in the order in which they were read, repeats kept, and
+-- how many levels of classes lie in it.
+pub record Value : Type 0 where
+  pub members : List Bounds
+  pub strings : List (List ℕ)
+  pub levels : ℕ
+
+abbrev pub nothing : Value
+nothing = record { members = []; strings = []; levels = 0 }
+
+-- these code points alone
+abbrev pub only : List Bounds → Value
+only members = record { members = members; strings = []; levels = 0 }
+
+-- what is in one or the other
+abbrev pub joined : Value → Value → Value
+joined a b = record { members = a.members ++ b.members; strings = a.strings ++ b.strings; levels = max a.levels b.levels }
+
+abbrev pub is_among : List (List ℕ) → List ℕ → Bool
+is_among strings s = list_any (λ other. bytes_eq other s) strings
+
+-- `&&`: what is in both
+abbrev pub common : Value → Value → Value
+common a b = record {
+  members = intervals_of (λ c. is_member a.members c && is_member b.members c);
+  strings = filter (is_among b.strings) a.strings;
+  levels = max a.levels b.levels;
+}
+
+-- `--`: what the second lacks of the first
+abbrev pub without : Value → Value → Value
+without a b = record {
+  members = intervals_of (λ c. is_member a.members c && not (is_member b.members c));
+  strings = filter (λ s. not (is_among b.strings s)) a.strings;
+  levels = max a.levels b.levels;
+}
+
+-- A string of one is a code point, and an empty one is dropped.
+abbrev pub value_of_string : List ℕ → Value
+value_of_string [] = nothing
+value_of_string (c ∷ []) = only (one_point c)
+value_of_string (c ∷ d ∷ cs) = record { members = []; strings = (c ∷ d ∷ cs) ∷ []; levels = 0 }
+
+abbrev pub value_of_strings : List (List ℕ) → Value
+value_of_strings [] = nothing
+value_of_strings (s ∷ ss) = joined (value_of_string s) (value_of_strings ss)
+
+-- a class that lies in another one: it is complemented where it stands
+abbrev pub nested : Bool × Value → Value
+nested (negated, v) = record { members = complement_if negated v.members; strings = v.strings; levels = v.levels + 1 }
+
+-- no complement of what holds a string
+abbrev pub unless_of_strings : Bool → Value × Source → Found (Bool × Value)
+unless_of_strings negated (v, t) = if negated && not (length v.strings == 0) then None else Some ((negated, v), t)
+
+-- ---- operands
+
+-- a character, which may be an end of a range, or what holds some of them and strings
+pub data Operand : Type 0 where
+  character : (c : ℕ) → Operand
+  class : (value : Value) → Operand
+
+abbrev pub value_of : Operand → Value
+value_of (character c) = only (one_point c)
+value_of (class value) = value
+
+-- both ends of a range are characters
+abbrev pub range_of : Operand → Operand → Option (List Bounds)
+range_of (character a) (character b) = points_between a b
+range_of (character a) (class others) = None
+range_of (class value) last = None
+
+-- code points that stand for themselves only behind a backslash, or never
+abbrev pub is_set_syntax : ℕ → Bool
+is_set_syntax c = list_any (λ d. d == c) (codes "()[]{}/-|\\")
+
+-- one that stands for itself, but not before another of these
+abbrev pub is_double : ℕ → Bool
+is_double c = list_any (λ d. d == c) (codes "&!#$%*+,.:;<=>?@^`~")
+
+abbrev pub begins_double : Source → Bool
+begins_double [] = false
+begins_double (c ∷ t) = is_double c
+
+-- one that stands for itself behind a backslash
+abbrev pub is_reserved : ℕ → Bool
+is_reserved c = list_any (λ d. d == c) (codes "&-!#%,:;<=>@`~")
+
+-- an escape of one character, behind its backslash; `\b` is backspace
+abbrev pub escaped_character_at : (unicode : Bool) → Source → Found ℕ
+escaped_character_at unicode [] = None
+escaped_character_at unicode (c ∷ t) =
+    if c == 98 then Some (8, t)
+    else if is_reserved c then Some (c, t)
+    else escape_at unicode (c ∷ t)
+
+-- one character
+unfoldable pub set_character_at : (unicode : Bool) → Source → Found ℕ
+set_character_at unicode [] = None
+set_character_at unicode (c ∷ t) =
+    if c == 92 then escaped_character_at unicode t
+    else if is_set_syntax c || (is_double c && begins_double t) then None
+    else Some (c, t)
+
+-- Behind `\q{`, and behind the characters s of a string: strings with `|` between them, up to `}`. The number bounds how
+-- many code points there are.
+unfoldable pub strings_by : ℕ → (unicode : Bool) → (s : List ℕ) → Source → Found (List (List ℕ))
+strings_by zero unicode s t = None
+strings_by (suc n) unicode s t =
+    if is_at 125 t then Some (s ∷ [], drop 1 t)
+    else if is_at 124 t then found_map (λ ss. s ∷ ss) (strings_by n unicode [] (drop 1 t))
+    else set_character_at unicode t >>= λ (c, rest). strings_by n unicode (s ++ c ∷ []) rest
+
+-- behind `\q`
+abbrev pub quoted_at : (unicode : Bool) → Source → Found Operand
+quoted_at unicode t =
+    if is_at 123 t
+    then found_map (λ ss. class (value_of_strings ss)) (strings_by (length t) unicode [] (drop 1 t))
+    else None
+
+-- what a property stands for in a class. One of strings has no complement, and stands directly in no negated class.
+abbrev pub property_operand : (in_negated negated : Bool) → Property × Source → Found Operand
+property_operand in_negated negated (of_points members, t) = Some (class (only (complement_if negated members)), t)
+property_operand in_negated negated (of_strings written, t) =
+    if in_negated || negated then None else Some (class (value_of_strings written), t)
+
+-- behind `\p` or `\P`
+abbrev pub property_operand_at : Table → (in_negated negated : Bool) → Source → Found Operand
+property_operand_at table in_negated negated t = property_at true table t >>= property_operand in_negated negated
+
+-- an operator: twice the same code point
+abbrev pub are_at : ℕ → Source → Bool
+are_at c t = is_at c t && is_at c (drop 1 t)
+
+module _ (table : Table) (unicode : Bool) where
+  -- an escape, behind its backslash
+  abbrev pub escaped_operand_at : (in_negated : Bool) → Source → Found Operand
+  escaped_operand_at in_negated [] = None
+  escaped_operand_at in_negated (c ∷ t) =
+      elim (class_letter c) [
+        | Some named ↦ Some (class (only (class_members named)), t)
+        | None ↦
+            if c == 113 then quoted_at unicode t
+            else if c == 112 || c == 80 then property_operand_at table in_negated (c == 80) t
+            else found_map character (escaped_character_at unicode (c ∷ t))
+      ]
+
+  -- The rest is said where `inner` reads what stands behind the `[` of a class, and `in_negated` says whether the class
+  -- around is negated.
+  module _ (inner : Source → Found (Bool × Value)) (in_negated : Bool) where
+    unfoldable pub operand_at : Source → Found Operand
+    operand_at t =
+        if is_at 91 t then found_map (λ inside. class (nested inside)) (inner (drop 1 t))
+        else if is_at 92 t then escaped_operand_at in_negated (drop 1 t)
+        else found_map character (set_character_at unicode t)
+
+    -- ---- parts, which are joined
+
+    abbrev pub range_at : Operand → Source → Found Value
+    range_at first t =
+        operand_at t >>= λ (last, rest).
+        elim (range_of first last) [ None ↦ None | Some members ↦ Some (only members, rest) ]
+
+    -- a part whose first operand is read: a hyphen behind that always makes a range
+    abbrev pub part_behind : Operand × Source → Found Value
+    part_behind (first, t) = if is_at 45 t then range_at first (drop 1 t) else Some (value_of first, t)
+
+    -- The parts up to `]`, behind what is held already. The number bounds how many.
+    unfoldable pub parts_by : ℕ → Value → Source → Found Value
+    parts_by zero value t = None
+    parts_by (suc n) value t =
+        if is_at 93 t then Some (value, drop 1 t)
+        else operand_at t >>= part_behind >>= λ (part, rest). parts_by n (joined value part) rest
+
+    abbrev pub parts_at : Value → Source → Found Value
+    parts_at value t = parts_by (length t + 1) value t
+
+    -- ---- operators
+
+    -- The operands behind an operator of two code points c, up to `]`, with c c between them, from the left on. The number
+    -- bounds how many.
+    unfoldable pub operands_by : ℕ → (c : ℕ) → (Value → Value → Value) → Value → Source → Found Value
+    operands_by zero c f value t = None
+    operands_by (suc n) c f value t =
+        operand_at t >>= λ (operand, rest).
+        (if is_at 93 rest then Some (f value (value_of operand), drop 1 rest)
+        else if are_at c rest then operands_by n c f (f value (value_of operand)) (drop 2 rest)
+        else None)
+
+    abbrev pub operands_at : (c : ℕ) → (Value → Value → Value) → Value → Source → Found Value
+    operands_at c f value t = operands_by (length t + 1) c f value t
+
+    -- behind the first operand
+    abbrev pub contents_behind : Operand × Source → Found Value
+    contents_behind (first, t) =
+        if are_at 38 t then operands_at 38 common (value_of first) (drop 2 t)
+        else if are_at 45 t then operands_at 45 without (value_of first) (drop 2 t)
+        -- a single `&` is a member, and begins no range
+        else if is_at 38 t then parts_at (joined (value_of first) (only (one_point 38))) (drop 1 t)
+        else part_behind (first, t) >>= λ (part, rest). parts_at part rest
+
+    -- what a class holds, up to its `]`
+    abbrev pub contents_at : Source → Found Value
+    contents_at t = if is_at 93 t then Some (nothing, drop 1 t) else operand_at t >>= contents_behind
+
+  -- Behind `[`: whether the class is negated, and what it holds. The number bounds how deep classes lie in one another.
+  unfoldable pub class_set_by : ℕ → Source → Found (Bool × Value)
+  class_set_by zero t = None
+  class_set_by (suc n) t =
+      let negated = is_at 94 t in
+      contents_at (class_set_by n) negated (if negated then drop 1 t else t) >>= unless_of_strings negated
+
+  -- no deeper than the limit of levels, of which the pattern around has one
+  abbrev pub class_set_at : Source → Found (Bool × Value)
+  class_set_at t = class_set_by max_nesting_depth t

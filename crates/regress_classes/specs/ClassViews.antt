@@ -1,0 +1,82 @@
+-- What the values of the code stand for: classes of both kinds, and properties.
+use Rattle.std.specs.Prelude.{◌≡◌, ℕ, Vec, Bool, ◌||◌, List, map}
+use Rattle.std.specs.declared.alloc.Global.{Global}
+use Rattle.regress_base.specs.Intervals.{Bounds, is_member, IsCanonical}
+use Rattle.regress_unicode.specs.TableOf.{table_of}
+use Rattle.regress_classes.specs.declared.class.Class.{Class as CodeClass}
+use Rattle.regress_classes.specs.declared.class_atom.ClassAtom.{ClassAtom as CodeClassAtom}
+use Rattle.regress_classes.specs.declared.class_atom.ClassAtom.TheVariants as class_atoms
+use Rattle.regress_classes.specs.declared.property.Property.{Property as CodeProperty}
+use Rattle.regress_classes.specs.declared.property.Property.TheVariants as properties
+use Rattle.regress_classes.specs.declared.class_sets.value.Value.{Value as CodeValue}
+use Rattle.regress_classes.specs.declared.class_sets.operand.Operand.{Operand as CodeOperand}
+use Rattle.regress_classes.specs.declared.class_sets.operand.Operand.TheVariants as operands
+use Rattle.regress_classes.specs.declared.class_sets.ClassSet.{ClassSet as CodeClassSet}
+use Rattle.regress_classes.specs.declared.class_sets.Inside.{Inside}
+use Rattle.regress_classes.specs.declared.class_sets.Operator.{Operator}
+use Rattle.regress_classes.specs.declared.class_sets.Operator.TheVariants as operators
+use Rattle.regress_classes.specs.ClassRows.{ClassAtom, point, set as set_of, class_members, complement_if}
+use Rattle.regress_classes.specs.Properties.{Property, of_points, of_strings}
+use Rattle.regress_classes.specs.ClassSets.{Value, common, without, Operand, character, class as class_operand, class_set_by}
+use Rattle.regress_lexical.specs.Source.{Source, Found, IsCodePoint}
+
+-- an atom of a class
+abbrev pub class_atom_of : CodeClassAtom → ClassAtom
+class_atom_of (class_atoms.Point c) = point c
+class_atom_of (class_atoms.Class kind negated) = set_of (class_members (kind, negated))
+class_atom_of (class_atoms.Property set negated) = set_of (complement_if negated set.now)
+
+abbrev pub IsClassAtomInRange : CodeClassAtom → Type 0
+IsClassAtomInRange (class_atoms.Point c) = IsCodePoint c
+IsClassAtomInRange (class_atoms.Class kind negated) = Unit {0}
+IsClassAtomInRange (class_atoms.Property set negated) = Unit {0}
+
+-- The set has these members: the code keeps a set by its canonical intervals, not as it was written.
+pub record HasMembers (members set : List Bounds) : Type 0 where
+  pub canonical : IsCanonical set
+  pub each : (c : ℕ) → is_member set c ≡ is_member members c
+
+-- The new set has these members too.
+abbrev pub Adds : List Bounds → (old new : List Bounds) → Type 0
+Adds members old new = (c : ℕ) → is_member new c ≡ (is_member old c || is_member members c)
+
+-- what is read between brackets
+abbrev pub IsClassRead : CodeClass → Bool × List Bounds → Type 0
+IsClassRead class' (inverted, members) = (class'.inverted ≡ inverted) × HasMembers members class'.set
+
+-- strings of the code
+abbrev pub strings_of : List (Vec ℕ Global) → List (List ℕ)
+strings_of = map (λ string. string.items)
+
+-- what a property of the code is
+abbrev pub property_of : CodeProperty → Property
+property_of (properties.Points set) = of_points set.now
+property_of (properties.Strings written) = of_strings (strings_of written.now)
+
+-- what the code has read of a class with the flag v is this value
+pub record IsValue (held : CodeValue) (value : Value) : Type 0 where
+  pub members : HasMembers value.members held.set
+  pub strings : strings_of held.strings.items ≡ value.strings
+  pub levels : held.levels ≡ value.levels
+
+-- an operand of such a class; a character is a code point
+abbrev pub IsOperand : CodeOperand → Operand → Type 0
+IsOperand (operands.Character c) operand = (operand ≡ character c) × IsCodePoint c
+IsOperand (operands.Class held) operand = (value : Value) × (operand ≡ class_operand value) × IsValue held value
+
+-- what reads classes inside of this one, and whether that is negated
+abbrev pub inner_of : Inside → Source → Found (Bool × Value)
+inner_of inside = class_set_by (table_of inside.tables.now) inside.unicode inside.levels
+
+-- an operator: twice its sign is written, and what it makes of two values
+abbrev pub sign_of : Operator → ℕ
+sign_of operators.Intersection = 38
+sign_of operators.Subtraction = 45
+
+abbrev pub applied : Operator → Value → Value → Value
+applied operators.Intersection = common
+applied operators.Subtraction = without
+
+-- what is read behind a bracket
+abbrev pub IsClassSetRead : CodeClassSet → Bool × Value → Type 0
+IsClassSetRead read (negated, value) = (read.negated ≡ negated) × IsValue read.value value

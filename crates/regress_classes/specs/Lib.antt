@@ -1,0 +1,4 @@
+pub mod Properties
+pub mod ClassRows
+pub mod ClassSets
+pub mod ClassViews

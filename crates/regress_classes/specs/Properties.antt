@@ -1,0 +1,62 @@
+-- Properties by a name, behind `\p` or `\P` (ECMA-262, UnicodePropertyValueExpression; the names are the table's).
+use Rattle.std.specs.Prelude.{ℕ, Bool, ◌||◌, List, drop, Option, Some, None, option_map, if◌then◌else◌, ◌==◌, codes}
+use Rattle.std.specs.Option.{option_or}
+use Rattle.std.specs.Str.{bytes_eq}
+use Rattle.regress_base.specs.Intervals.{Bounds}
+use Rattle.regress_unicode.specs.Table.{Table, Named, named}
+use Rattle.regress_lexical.specs.Source.{Source, Found, is_at}
+use Rattle.regress_lexical.specs.Digits.{is_decimal, is_letter, front, behind}
+
+-- what a name stands for: code points, or strings
+pub data Property : Type 0 where
+  of_points : (members : List Bounds) → Property
+  of_strings : (written : List (List ℕ)) → Property
+
+-- a property of code points holds these
+abbrev pub points_of : Property → Option (List Bounds)
+points_of (of_points members) = Some members
+points_of (of_strings written) = None
+
+-- names and values are made of these
+abbrev pub is_property_character : ℕ → Bool
+is_property_character c = is_letter c || is_decimal c || c == 95
+
+-- the list of the table with such a name (ECMA-262, the non-binary properties)
+abbrev pub list_named : Table → List ℕ → Option (List (Named (List Bounds)))
+list_named table name =
+    if bytes_eq name (codes "General_Category") || bytes_eq name (codes "gc") then Some table.general_category
+    else if bytes_eq name (codes "Script") || bytes_eq name (codes "sc") then Some table.script
+    else if bytes_eq name (codes "Script_Extensions") || bytes_eq name (codes "scx") then Some table.script_extensions
+    else None
+
+abbrev pub strings_named : (sets : Bool) → Table → List ℕ → Option Property
+strings_named sets table value = if sets then option_map of_strings (named value table.strings) else None
+
+-- A value without the name of a list: a binary property, with the flag v one of strings, or a general category.
+abbrev pub lone_value : (sets : Bool) → Table → List ℕ → Option Property
+lone_value sets table value =
+    option_or (option_map of_points (named value table.binary))
+    (option_or (strings_named sets table value) (option_map of_points (named value table.general_category)))
+
+-- a value in a list
+abbrev pub value_in : List ℕ → Option (List (Named (List Bounds))) → Option Property
+value_in value None = None
+value_in value (Some entries) = option_map of_points (named value entries)
+
+-- the `}`
+abbrev pub closed_property : Option Property → Source → Found Property
+closed_property None t = None
+closed_property (Some property) t = if is_at 125 t then Some (property, drop 1 t) else None
+
+-- behind `{`: perhaps the name of a list and `=`, then a value and `}`
+abbrev pub braced_property_at : (sets : Bool) → Table → Source → Found Property
+braced_property_at sets table t =
+    let name = front is_property_character t in
+    let rest = behind is_property_character t in
+    if is_at 61 rest
+    then closed_property (value_in (front is_property_character (drop 1 rest)) (list_named table name)) (behind is_property_character (drop 1 rest))
+    else closed_property (lone_value sets table name) rest
+
+-- behind `\p` or `\P`; `sets` is the flag v
+unfoldable pub property_at : (sets : Bool) → Table → Source → Found Property
+property_at sets table t = if is_at 123 t then braced_property_at sets table (drop 1 t) else None

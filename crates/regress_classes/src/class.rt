@@ -1,0 +1,167 @@
+//! What stands between brackets, without the flag v.
+ghost use Rattle.std.specs.Prelude.{◌≡◌, ◌+◌, drop, if◌then◌else◌, Some, None, List, length, OnOk};
+ghost use Rattle.regress_base.specs.Intervals.{Bounds};
+ghost use Rattle.regress_classes.specs.ClassRows.{complement_if, atom_members, begins_range, range_of, range_at, class_part_at, class_parts_by, class_at};
+ghost use Rattle.regress_unicode.specs.TableOf.{table_of};
+ghost use Rattle.regress_lexical.specs.Fault.{RefusedOnlyIf};
+ghost use Rattle.regress_lexical.specs.Reads.{ReadsAs};
+ghost use Rattle.regress_classes.specs.ClassViews.{class_atom_of, IsClassAtomInRange, HasMembers, Adds, IsClassRead};
+ghost use Rattle.regress_lexical.specs.Views.{source};
+
+use crate::class_atom::{ClassAtom, read_class_atom};
+use crate::class_escape::{add_intervals, class_members, set_is_canonical};
+use regress_base::codepointset::{CodePointSet, Interval};
+use regress_lexical::cursor::Cursor;
+use regress_lexical::fault::{INVALID_RANGE, ParseFault, REVERSED_RANGE, syntax};
+use regress_unicode::Tables;
+use std::alloc::{AllocError, Global};
+
+/// A class: what stands between its brackets, and whether it is inverted.
+#[derive(Drop)]
+pub struct Class {
+    pub inverted: bool,
+    pub set: CodePointSet,
+}
+
+/// Reads a class, behind its `[` (ECMA-262, CharacterClass with annex B).
+pub fn read_class(cursor: &mut Cursor, tables: &Tables, unicode: bool) -> Result<Class, ParseFault>
+    ensures { ReadsAs IsClassRead (source cursor.new) result (class_at (table_of tables.now) unicode (source cursor.old)) }
+{
+    let inverted = cursor.try_consume('^');
+    let set = read_parts(cursor, tables, unicode)?;
+    Ok(Class { inverted, set })
+}
+
+/// Reads the parts of a class, and the `]` behind them.
+fn read_parts(
+    cursor: &mut Cursor,
+    tables: &Tables,
+    unicode: bool,
+) -> Result<CodePointSet, ParseFault>
+    ensures { let t = source cursor.old in
+        ReadsAs (λ set members. HasMembers members set) (source cursor.new) result (class_parts_by (table_of tables.now) unicode (length t + 1) t) }
+{
+    let mut set = CodePointSet::new(cursor.alloc);
+    while !cursor.is_at(']') {
+        read_part(cursor, tables, unicode, &mut set)?;
+    }
+    cursor.try_consume(']');
+    set_is_canonical(&set);
+    Ok(set)
+}
+
+/// Reads an atom or a range, and adds what it holds.
+fn read_part(
+    cursor: &mut Cursor,
+    tables: &Tables,
+    unicode: bool,
+    set: &mut CodePointSet,
+) -> Result<(), ParseFault>
+    ensures { ReadsAs (λ _ members. Adds members set.old set.new) (source cursor.new) result (class_part_at (table_of tables.now) unicode (source cursor.old)) }
+{
+    let first = read_class_atom(cursor, tables, unicode)?;
+    if try_consume_hyphen(cursor) {
+        read_range(cursor, tables, unicode, first, set)
+    } else {
+        add_atom(set, cursor.alloc, first)?;
+        Ok(())
+    }
+}
+
+/// Moves past a hyphen, if one comes next that may begin a range.
+fn try_consume_hyphen(cursor: &mut Cursor) -> bool
+    ensures found { result ≡ begins_range (source cursor.old) }
+    ensures moves { source cursor.new ≡ (if result then drop 1 (source cursor.old) else source cursor.old) }
+{
+    begins_range(cursor.rest) && cursor.try_consume('-')
+}
+
+/// Whether a hyphen stands there that may begin a range: one that is not the last.
+fn begins_range(text: &[u32]) -> bool
+    ensures { result ≡ begins_range text.now }
+{
+    match text {
+        [hyphen, rest @ ..] => {
+            *hyphen == u32::from('-') && rest.first() != Some(&u32::from(']'))
+        }
+        [] => false,
+    }
+}
+
+/// Reads the last atom of a range, behind its hyphen, and adds what the range holds.
+fn read_range(
+    cursor: &mut Cursor,
+    tables: &Tables,
+    unicode: bool,
+    first: ClassAtom,
+    set: &mut CodePointSet,
+) -> Result<(), ParseFault>
+    requires { IsClassAtomInRange first }
+    ensures { ReadsAs (λ _ members. Adds members set.old set.new) (source cursor.new) result (range_at (table_of tables.now) unicode (class_atom_of first.entry) (source cursor.old)) }
+{
+    let last = read_class_atom(cursor, tables, unicode)?;
+    add_range(set, cursor.alloc, unicode, first, last)
+}
+
+/// Adds what two atoms with a hyphen between them hold.
+fn add_range(
+    set: &mut CodePointSet,
+    alloc: Global,
+    unicode: bool,
+    first: ClassAtom,
+    last: ClassAtom,
+) -> Result<(), ParseFault>
+    requires first_in_range { IsClassAtomInRange first }
+    requires last_in_range { IsClassAtomInRange last }
+    ensures ok { OnOk result ((members : List Bounds)
+        × (range_of unicode (class_atom_of first.entry) (class_atom_of last.entry) ≡ Some members) × Adds members set.old set.new) }
+    ensures err { RefusedOnlyIf result (range_of unicode (class_atom_of first.entry) (class_atom_of last.entry) ≡ None) }
+{
+    if let (ClassAtom::Point(a), ClassAtom::Point(b)) = (first, last) {
+        if a > b {
+            return Err(syntax(alloc, REVERSED_RANGE));
+        }
+        set.add(Interval::new(a, b))?;
+        return Ok(());
+    }
+    if unicode {
+        return Err(syntax(alloc, INVALID_RANGE));
+    }
+    add_atom(set, alloc, first)?;
+    add_atom(set, alloc, ClassAtom::Point(u32::from('-')))?;
+    add_atom(set, alloc, last)?;
+    Ok(())
+}
+
+/// Adds what an atom holds.
+fn add_atom(set: &mut CodePointSet, alloc: Global, atom: ClassAtom) -> Result<(), AllocError>
+    requires { IsClassAtomInRange atom }
+    ensures { OnOk result (Adds (atom_members (class_atom_of atom.entry)) set.old set.new) }
+{
+    match atom {
+        ClassAtom::Point(c) => set.add(Interval::new(c, c)),
+        ClassAtom::Class { kind, negated } => {
+            let members = class_members(alloc, kind, negated)?;
+            add_intervals(set, members.intervals())
+        }
+        ClassAtom::Property {
+            set: members,
+            negated,
+        } => add_members(set, members, negated),
+    }
+}
+
+/// Adds the members, or those of the complement.
+fn add_members(
+    set: &mut CodePointSet,
+    members: &CodePointSet,
+    negated: bool,
+) -> Result<(), AllocError>
+    ensures { OnOk result (Adds (complement_if negated members.now) set.old set.new) }
+{
+    if negated {
+        add_intervals(set, members.inverted()?.intervals())
+    } else {
+        add_intervals(set, members.intervals())
+    }
+}

@@ -1,0 +1,120 @@
+//! Atoms of a class.
+ghost use Rattle.std.specs.Prelude.{◌≡◌, ◌∷◌, Some, IfOk};
+ghost use Rattle.regress_classes.specs.ClassRows.{class_atom_at, class_escape_at, class_control_at, class_property_at};
+ghost use Rattle.regress_lexical.specs.Reads.{Reads};
+ghost use Rattle.regress_classes.specs.ClassViews.{class_atom_of, IsClassAtomInRange};
+ghost use Rattle.regress_lexical.specs.Views.{source};
+ghost use Rattle.regress_unicode.specs.TableOf.{table_of};
+
+use crate::class_escape::class_letter;
+use crate::property::{Property, is_property_letter, read_property};
+use regress_base::charclasses::CharacterClassType;
+use regress_base::codepointset::CodePointSet;
+use regress_lexical::cursor::Cursor;
+use regress_lexical::digits::{control, is_decimal, is_letter};
+use regress_lexical::escape::{escape_fault, read_escape};
+use regress_lexical::fault::{
+    INVALID_PROPERTY, ParseFault, UNBALANCED_BRACKET, UNTERMINATED_ESCAPE, syntax,
+};
+use regress_unicode::Tables;
+
+/// An atom of a class.
+#[derive(Clone, Copy)]
+pub enum ClassAtom<'a> {
+    /// A code point.
+    Point(u32),
+    /// A class by an escape, or its complement.
+    Class {
+        kind: CharacterClassType,
+        negated: bool,
+    },
+    /// A property of code points, or its complement.
+    Property {
+        set: &'a CodePointSet,
+        negated: bool,
+    },
+}
+
+/// Reads an atom of a class (ECMA-262, ClassAtom with annex B).
+pub fn read_class_atom<'a>(
+    cursor: &mut Cursor,
+    tables: &'a Tables,
+    unicode: bool,
+) -> Result<ClassAtom<'a>, ParseFault>
+    ensures value { Reads class_atom_of (source cursor.new) result (class_atom_at (table_of tables.now) unicode (source cursor.old)) }
+    ensures in_range { IfOk result IsClassAtomInRange }
+{
+    match cursor.next() {
+        Some(c) if c == u32::from('\\') => read_escaped(cursor, tables, unicode),
+        Some(c) if c != u32::from(']') => Ok(ClassAtom::Point(c)),
+        _ => Err(syntax(cursor.alloc, UNBALANCED_BRACKET)),
+    }
+}
+
+/// Reads an escape, behind its backslash (ECMA-262, ClassEscape with annex B).
+fn read_escaped<'a>(
+    cursor: &mut Cursor,
+    tables: &'a Tables,
+    unicode: bool,
+) -> Result<ClassAtom<'a>, ParseFault>
+    ensures value { Reads class_atom_of (source cursor.new) result (class_escape_at (table_of tables.now) unicode (source cursor.old)) }
+    ensures in_range { IfOk result IsClassAtomInRange }
+{
+    let Some((c, rest)) = cursor.rest.split_first() else {
+        return Err(syntax(cursor.alloc, UNTERMINATED_ESCAPE));
+    };
+    let c = *c;
+    if let Some((kind, negated)) = class_letter(c) {
+        cursor.rest = rest;
+        Ok(ClassAtom::Class { kind, negated })
+    } else if c == u32::from('b') {
+        cursor.rest = rest;
+        Ok(ClassAtom::Point(8))
+    } else if c == u32::from('-') && unicode {
+        cursor.rest = rest;
+        Ok(ClassAtom::Point(c))
+    } else if c == u32::from('c') && !unicode {
+        let (atom, behind) = class_control(cursor.rest, rest);
+        cursor.rest = behind;
+        Ok(atom)
+    } else if is_property_letter(c) && unicode {
+        cursor.rest = rest;
+        read_class_property(cursor, tables, c == u32::from('P'))
+    } else {
+        let Some((point, behind)) = read_escape(cursor.rest, unicode) else {
+            return Err(syntax(cursor.alloc, escape_fault(cursor.rest)));
+        };
+        cursor.rest = behind;
+        Ok(ClassAtom::Point(point))
+    }
+}
+
+/// Reads a property of code points, behind `\p` or `\P`.
+fn read_class_property<'a>(
+    cursor: &mut Cursor,
+    tables: &'a Tables,
+    negated: bool,
+) -> Result<ClassAtom<'a>, ParseFault>
+    ensures value { Reads class_atom_of (source cursor.new) result
+        (class_property_at (table_of tables.now) negated (source cursor.old)) }
+    ensures in_range { IfOk result IsClassAtomInRange }
+{
+    match read_property(cursor, false, tables)? {
+        Property::Points(set) => Ok(ClassAtom::Property { set, negated }),
+        Property::Strings(_) => Err(syntax(cursor.alloc, INVALID_PROPERTY)),
+    }
+}
+
+/// A letter, a digit or `_` behind `\c`, for its low five bits; else the backslash alone.
+fn class_control<'a>(text: &'a [u32], rest: &'a [u32]) -> (ClassAtom<'static>, &'a [u32])
+    requires { text.now ≡ 99 ∷ rest.now }
+    ensures value { Some (class_atom_of result.0, result.1.now) ≡ class_control_at rest.now }
+    ensures in_range { IsClassAtomInRange result.0 }
+{
+    match rest.split_first() {
+        Some((d, behind)) if is_letter(*d) || is_decimal(*d) || *d == u32::from('_') => {
+            (ClassAtom::Point(control(*d)), behind)
+        }
+        _ => (ClassAtom::Point(u32::from('\\')), text),
+    }
+}

@@ -1,0 +1,76 @@
+//! Classes by an escape.
+ghost use Rattle.std.specs.Prelude.{◌≡◌, ◌||◌, ℕ, IfOk, OnOk};
+ghost use Rattle.regress_base.specs.Intervals.{is_member, IsCanonical};
+ghost use Rattle.regress_classes.specs.ClassRows.{class_letter, members_of, class_members};
+ghost use Rattle.regress_classes.specs.ClassViews.{HasMembers};
+
+use regress_base::charclasses::{
+    CharacterClassType, digit_intervals, line_terminator_intervals, white_space_intervals,
+    word_intervals,
+};
+use regress_base::codepointset::{CodePointSet, Interval};
+use std::alloc::{AllocError, Global};
+
+/// The class that a letter names behind a backslash, and whether the letter is a capital, which takes the
+/// complement (ECMA-262, CharacterClassEscape).
+pub fn class_letter(c: u32) -> Option<(CharacterClassType, bool)>
+    ensures { result ≡ class_letter c }
+{
+    // d, D, s, S, w and W.
+    match c {
+        100 => Some((CharacterClassType::Digits, false)),
+        68 => Some((CharacterClassType::Digits, true)),
+        115 => Some((CharacterClassType::Spaces, false)),
+        83 => Some((CharacterClassType::Spaces, true)),
+        119 => Some((CharacterClassType::Words, false)),
+        87 => Some((CharacterClassType::Words, true)),
+        _ => None,
+    }
+}
+
+/// The members of a class by an escape.
+pub fn class_set(alloc: Global, kind: CharacterClassType) -> Result<CodePointSet, AllocError>
+    ensures { IfOk result (HasMembers (members_of kind)) }
+{
+    let mut set = CodePointSet::new(alloc);
+    match kind {
+        CharacterClassType::Digits => add_intervals(&mut set, &digit_intervals())?,
+        CharacterClassType::Spaces => {
+            add_intervals(&mut set, &white_space_intervals())?;
+            add_intervals(&mut set, &line_terminator_intervals())?;
+        }
+        CharacterClassType::Words => add_intervals(&mut set, &word_intervals())?,
+    }
+    set_is_canonical(&set);
+    Ok(set)
+}
+
+/// The members of a class by an escape, or of its complement.
+pub fn class_members(
+    alloc: Global,
+    kind: CharacterClassType,
+    negated: bool,
+) -> Result<CodePointSet, AllocError>
+    ensures { IfOk result (λ set. (c : ℕ) → is_member set c ≡ is_member (class_members (kind, negated)) c) }
+{
+    let set = class_set(alloc, kind)?;
+    if negated { set.inverted() } else { Ok(set) }
+}
+
+/// Adds the intervals one by one.
+pub fn add_intervals(set: &mut CodePointSet, intervals: &[Interval]) -> Result<(), AllocError>
+    ensures { OnOk result ((c : ℕ) →
+        is_member set.new c ≡ (is_member set.old c || is_member intervals.now c)) }
+{
+    for interval in intervals {
+        set.add(*interval)?;
+    }
+    Ok(())
+}
+
+/// What the type of a set says of it, for a proof that needs it. It does nothing else.
+pub fn set_is_canonical(set: &CodePointSet)
+    ensures { IsCanonical set.now }
+{
+    let _ = set.intervals();
+}

@@ -1,0 +1,287 @@
+//! Classes with the flag v.
+ghost use Rattle.std.specs.Prelude.{◌≡◌, ◌<◌, ◌+◌, ◌-◌, ◌^◌, Bool, true, false, drop, [], ◌∷◌, if◌then◌else◌, IfOk, OnOk};
+ghost use Rattle.regress_classes.specs.ClassSets.{Value as Written, only, Operand as WrittenOperand, nested, are_at, operand_at, part_behind, parts_at, operands_at, contents_behind, contents_at, class_set_by};
+ghost use Rattle.regress_lexical.specs.Fault.{RefusedOnlyIf};
+ghost use Rattle.regress_lexical.specs.Reads.{ReadsAs};
+ghost use Rattle.regress_classes.specs.ClassViews.{IsValue, IsOperand, IsClassSetRead, inner_of, sign_of, applied};
+ghost use Rattle.regress_lexical.specs.Views.{source};
+ghost use Rattle.regress_unicode.specs.TableOf.{table_of};
+
+mod character;
+mod operand;
+mod strings;
+mod value;
+
+use crate::class_escape::set_is_canonical;
+use character::read_set_character;
+use operand::{Operand, read_escaped};
+use regress_base::codepointset::{CodePointSet, Interval};
+use regress_lexical::cursor::Cursor;
+use regress_lexical::fault::{
+    EMPTY_OPERAND, INVALID_NEGATED_CLASS, INVALID_SET_RANGE, ParseFault, TOO_DEEP, UNBALANCED_SET,
+    UNEXPECTED_IN_INTERSECTION, UNEXPECTED_IN_SUBTRACTION, syntax,
+};
+use regress_unicode::Tables;
+use std::alloc::{AllocError, Global};
+pub use value::Value;
+
+/// A class: what stands between its brackets, and whether it is negated.
+#[derive(Drop)]
+pub struct ClassSet {
+    pub negated: bool,
+    pub value: Value,
+}
+
+impl ClassSet {
+    /// What it holds in the class around it, where a negated one is complemented.
+    fn into_nested(self) -> Result<Value, AllocError>
+        requires { self.value.levels < 2 ^ 32 - 1 }
+        ensures { IfOk result (λ held. (read : Bool × Written) → IsClassSetRead self read → IsValue held (nested read)) }
+    {
+        let ClassSet { negated, mut value } = self;
+        if negated {
+            value.set = value.set.inverted()?;
+        }
+        value.levels += 1;
+        Ok(value)
+    }
+}
+
+/// What operands are read in.
+#[derive(Clone, Copy)]
+struct Inside<'a> {
+    tables: &'a Tables,
+    /// The flag u.
+    unicode: bool,
+    /// Whether the class around is negated.
+    negated: bool,
+    /// How many classes may still lie in one another.
+    levels: u32,
+}
+
+/// `&&` or `--`.
+#[derive(Clone, Copy)]
+enum Operator {
+    Intersection,
+    Subtraction,
+}
+
+impl Operator {
+    /// Twice this is written.
+    fn sign(self) -> char
+        ensures { result ≡ sign_of self }
+    {
+        match self {
+            Operator::Intersection => '&',
+            Operator::Subtraction => '-',
+        }
+    }
+
+    /// The text of the fault where something else stands behind an operand.
+    fn unexpected(self) -> &'static str {
+        match self {
+            Operator::Intersection => UNEXPECTED_IN_INTERSECTION,
+            Operator::Subtraction => UNEXPECTED_IN_SUBTRACTION,
+        }
+    }
+}
+
+/// Reads a class, behind its `[` (this project's profile of ECMA-262, ClassSetExpression). No more classes may lie in
+/// one another than `levels`, so deep the calls go.
+#[cycle(class_set)]
+pub fn read_class_set(
+    cursor: &mut Cursor,
+    tables: &Tables,
+    unicode: bool,
+    levels: u32,
+) -> Result<ClassSet, ParseFault>
+    ensures value { ReadsAs IsClassSetRead (source cursor.new) result (class_set_by (table_of tables.now) unicode levels (source cursor.old)) }
+    ensures levels { IfOk result (λ class. class.value.levels < levels) }
+{
+    if levels == 0 {
+        return Err(syntax(cursor.alloc, TOO_DEEP));
+    }
+    let negated = cursor.try_consume('^');
+    let inside = Inside {
+        tables,
+        unicode,
+        negated,
+        levels: levels - 1,
+    };
+    let value = read_contents(cursor, &inside)?;
+    if negated && !value.strings.is_empty() {
+        return Err(syntax(cursor.alloc, INVALID_NEGATED_CLASS));
+    }
+    Ok(ClassSet { negated, value })
+}
+
+/// Reads what a class holds, up to its `]`.
+#[cycle(class_set)]
+fn read_contents(cursor: &mut Cursor, inside: &Inside) -> Result<Value, ParseFault>
+    ensures { ReadsAs IsValue (source cursor.new) result
+        (contents_at (table_of inside.now.tables.now) inside.now.unicode (inner_of inside.now) inside.now.negated (source cursor.old)) }
+{
+    if cursor.try_consume(']') {
+        return Ok(Value::new(cursor.alloc));
+    }
+    if cursor.rest.is_empty() {
+        return Err(syntax(cursor.alloc, UNBALANCED_SET));
+    }
+    let first = read_operand(cursor, inside)?;
+    read_behind(cursor, inside, first)
+}
+
+/// Reads on behind the first operand.
+#[cycle(class_set)]
+fn read_behind(cursor: &mut Cursor, inside: &Inside, first: Operand) -> Result<Value, ParseFault>
+    requires { (operand : WrittenOperand) × IsOperand first operand }
+    ensures { (operand : WrittenOperand) → IsOperand first operand → ReadsAs IsValue (source cursor.new) result
+        (contents_behind (table_of inside.now.tables.now) inside.now.unicode (inner_of inside.now) inside.now.negated (operand, source cursor.old)) }
+{
+    if try_consume_both(cursor, '&') {
+        let value = first.into_value(cursor.alloc)?;
+        read_operands(cursor, inside, value, Operator::Intersection)
+    } else if try_consume_both(cursor, '-') {
+        let value = first.into_value(cursor.alloc)?;
+        read_operands(cursor, inside, value, Operator::Subtraction)
+    } else if cursor.try_consume('&') {
+        let mut value = first.into_value(cursor.alloc)?;
+        value.join(Value::of_point(cursor.alloc, u32::from('&'))?)?;
+        read_parts(cursor, inside, value)
+    } else {
+        let value = read_part_behind(cursor, inside, first)?;
+        read_parts(cursor, inside, value)
+    }
+}
+
+/// Moves past `c` and another `c`, if both come next.
+fn try_consume_both(cursor: &mut Cursor, c: char) -> bool
+    ensures found { result ≡ are_at c (source cursor.old) }
+    ensures moves { source cursor.new ≡ (if result then drop 2 (source cursor.old) else source cursor.old) }
+{
+    let found = are_at(cursor.rest, c);
+    if found {
+        cursor.rest = &cursor.rest[2..];
+    }
+    found
+}
+
+/// Whether `c` and another `c` come next.
+fn are_at(text: &[u32], c: char) -> bool
+    ensures { result ≡ are_at c text.now }
+{
+    match text {
+        [first, second, ..] => *first == u32::from(c) && *second == u32::from(c),
+        _ => false,
+    }
+}
+
+/// Reads the parts up to `]`, which join what is held already.
+#[cycle(class_set)]
+fn read_parts(cursor: &mut Cursor, inside: &Inside, mut value: Value) -> Result<Value, ParseFault>
+    ensures { (held : Written) → IsValue value held → ReadsAs IsValue (source cursor.new) result
+        (parts_at (table_of inside.now.tables.now) inside.now.unicode (inner_of inside.now) inside.now.negated held (source cursor.old)) }
+{
+    while !cursor.is_at(']') {
+        if cursor.rest.is_empty() {
+            return Err(syntax(cursor.alloc, UNBALANCED_SET));
+        }
+        let first = read_operand(cursor, inside)?;
+        let part = read_part_behind(cursor, inside, first)?;
+        value.join(part)?;
+    }
+    cursor.try_consume(']');
+    Ok(value)
+}
+
+/// Reads on behind the first operand of a part. A hyphen there makes a range.
+#[cycle(class_set)]
+fn read_part_behind(
+    cursor: &mut Cursor,
+    inside: &Inside,
+    first: Operand,
+) -> Result<Value, ParseFault>
+    requires { (operand : WrittenOperand) × IsOperand first operand }
+    ensures { (operand : WrittenOperand) → IsOperand first operand → ReadsAs IsValue (source cursor.new) result
+        (part_behind (table_of inside.now.tables.now) inside.now.unicode (inner_of inside.now) inside.now.negated (operand, source cursor.old)) }
+{
+    if !cursor.try_consume('-') {
+        return Ok(first.into_value(cursor.alloc)?);
+    }
+    let Operand::Character(a) = first else {
+        return Err(syntax(cursor.alloc, INVALID_SET_RANGE));
+    };
+    match read_operand(cursor, inside)? {
+        Operand::Character(b) if a <= b => Ok(range_value(cursor.alloc, Interval::new(a, b))?),
+        _ => Err(syntax(cursor.alloc, INVALID_SET_RANGE)),
+    }
+}
+
+/// The code points of a range.
+fn range_value(alloc: Global, range: Interval) -> Result<Value, AllocError>
+    ensures { IfOk result (λ held. IsValue held (only (range ∷ []))) }
+{
+    let mut set = CodePointSet::new(alloc);
+    set.add(range)?;
+    set_is_canonical(&set);
+    Ok(Value::of_set(alloc, set))
+}
+
+/// Reads the operands behind an operator, up to `]`.
+#[cycle(class_set)]
+fn read_operands(
+    cursor: &mut Cursor,
+    inside: &Inside,
+    mut value: Value,
+    operator: Operator,
+) -> Result<Value, ParseFault>
+    ensures { (held : Written) → IsValue value held → ReadsAs IsValue (source cursor.new) result
+        (operands_at (table_of inside.now.tables.now) inside.now.unicode (inner_of inside.now) inside.now.negated
+        (sign_of operator) (applied operator) held (source cursor.old)) }
+{
+    loop {
+        let operand = read_operand(cursor, inside)?;
+        value.apply(operator, operand.into_value(cursor.alloc)?)?;
+        if cursor.try_consume(']') {
+            return Ok(value);
+        }
+        consume_operator(cursor, operator)?;
+    }
+}
+
+/// Moves past an operator. The fault comes where none comes next.
+fn consume_operator(cursor: &mut Cursor, operator: Operator) -> Result<(), ParseFault>
+    ensures ok { OnOk result ((are_at (sign_of operator) (source cursor.old) ≡ true) × (source cursor.new ≡ drop 2 (source cursor.old))) }
+    ensures err { RefusedOnlyIf result (are_at (sign_of operator) (source cursor.old) ≡ false) }
+{
+    if try_consume_both(cursor, operator.sign()) {
+        return Ok(());
+    }
+    let is_half = cursor.rest.is_empty() || cursor.is_at(operator.sign());
+    let text = if is_half {
+        UNBALANCED_SET
+    } else {
+        operator.unexpected()
+    };
+    Err(syntax(cursor.alloc, text))
+}
+
+/// Reads an operand (this project's profile of ECMA-262, ClassSetOperand).
+#[cycle(class_set)]
+fn read_operand(cursor: &mut Cursor, inside: &Inside) -> Result<Operand, ParseFault>
+    ensures { ReadsAs IsOperand (source cursor.new) result
+        (operand_at (table_of inside.now.tables.now) inside.now.unicode (inner_of inside.now) inside.now.negated (source cursor.old)) }
+{
+    if cursor.rest.is_empty() {
+        return Err(syntax(cursor.alloc, EMPTY_OPERAND));
+    }
+    if cursor.try_consume('[') {
+        let class = read_class_set(cursor, inside.tables, inside.unicode, inside.levels)?;
+        return Ok(Operand::Class(class.into_nested()?));
+    }
+    if cursor.try_consume('\\') {
+        return read_escaped(cursor, inside);
+    }
+    let character = read_set_character(cursor, inside.unicode)?;
+    Ok(Operand::Character(character))
+}

@@ -1,0 +1,107 @@
+//! Characters of a class with the flag v.
+ghost use Rattle.std.specs.Prelude.{◌≡◌, IfOk};
+ghost use Rattle.regress_classes.specs.ClassSets.{is_set_syntax, is_double, begins_double, is_reserved, escaped_character_at, set_character_at};
+ghost use Rattle.regress_lexical.specs.Reads.{Reads};
+ghost use Rattle.regress_lexical.specs.Source.{IsCodePoint};
+ghost use Rattle.regress_lexical.specs.Views.{source};
+
+use regress_lexical::cursor::Cursor;
+use regress_lexical::escape::{escape_fault, read_escape};
+use regress_lexical::fault::{INCOMPLETE_SET_ESCAPE, INVALID_SET_CHARACTER, ParseFault, syntax};
+
+/// The code points that stand for themselves only behind a backslash, or never.
+const SET_SYNTAX: [u32; 10] = [
+    '(' as u32,
+    ')' as u32,
+    '[' as u32,
+    ']' as u32,
+    '{' as u32,
+    '}' as u32,
+    '/' as u32,
+    '-' as u32,
+    '|' as u32,
+    '\\' as u32,
+];
+
+/// Those that stand for themselves, but not before another of these.
+const DOUBLES: [u32; 19] = [
+    '&' as u32, '!' as u32, '#' as u32, '$' as u32, '%' as u32, '*' as u32, '+' as u32, ',' as u32,
+    '.' as u32, ':' as u32, ';' as u32, '<' as u32, '=' as u32, '>' as u32, '?' as u32, '@' as u32,
+    '^' as u32, '`' as u32, '~' as u32,
+];
+
+/// Those that stand for themselves behind a backslash, beside those of any escape.
+const RESERVED: [u32; 14] = [
+    '&' as u32, '-' as u32, '!' as u32, '#' as u32, '%' as u32, ',' as u32, ':' as u32, ';' as u32,
+    '<' as u32, '=' as u32, '>' as u32, '@' as u32, '`' as u32, '~' as u32,
+];
+
+/// Reads a character (this project's profile of ECMA-262, ClassSetCharacter). The fault comes where a code point doesn't
+/// stand for itself, or where a backslash begins no escape of a character.
+#[tactic(auto, unfolding(crate::specs::ClassSets::set_character_at))]
+pub(super) fn read_set_character(cursor: &mut Cursor, unicode: bool) -> Result<u32, ParseFault>
+    ensures value { Reads (λ c. c) (source cursor.new) result (set_character_at unicode (source cursor.old)) }
+    ensures in_range { IfOk result IsCodePoint }
+{
+    if cursor.try_consume('\\') {
+        return read_escaped_character(cursor, unicode);
+    }
+    match cursor.rest {
+        [c, rest @ ..] if !is_set_syntax(*c) && !(is_double(*c) && begins_double(rest)) => {
+            cursor.rest = rest;
+            Ok(*c)
+        }
+        _ => Err(syntax(cursor.alloc, INVALID_SET_CHARACTER)),
+    }
+}
+
+/// Reads the escape of a character, behind its backslash.
+pub(super) fn read_escaped_character(cursor: &mut Cursor, unicode: bool) -> Result<u32, ParseFault>
+    ensures value { Reads (λ c. c) (source cursor.new) result (escaped_character_at unicode (source cursor.old)) }
+    ensures in_range { IfOk result IsCodePoint }
+{
+    let Some((c, rest)) = cursor.rest.split_first() else {
+        return Err(syntax(cursor.alloc, INCOMPLETE_SET_ESCAPE));
+    };
+    let c = *c;
+    if c == u32::from('b') {
+        cursor.rest = rest;
+        return Ok(8);
+    }
+    if is_reserved(c) {
+        cursor.rest = rest;
+        return Ok(c);
+    }
+    let Some((point, behind)) = read_escape(cursor.rest, unicode) else {
+        return Err(syntax(cursor.alloc, escape_fault(cursor.rest)));
+    };
+    cursor.rest = behind;
+    Ok(point)
+}
+
+fn is_set_syntax(c: u32) -> bool
+    ensures { result ≡ is_set_syntax c }
+{
+    SET_SYNTAX.contains(&c)
+}
+
+fn is_double(c: u32) -> bool
+    ensures { result ≡ is_double c }
+{
+    DOUBLES.contains(&c)
+}
+
+fn begins_double(text: &[u32]) -> bool
+    ensures { result ≡ begins_double text.now }
+{
+    match text {
+        [c, ..] => is_double(*c),
+        [] => false,
+    }
+}
+
+fn is_reserved(c: u32) -> bool
+    ensures { result ≡ is_reserved c }
+{
+    RESERVED.contains(&c)
+}

@@ -1,0 +1,123 @@
+//! Operands of a class with the flag v.
+ghost use Rattle.std.specs.Prelude.{◌≡◌, true, All, IfOk};
+ghost use Rattle.regress_classes.specs.ClassRows.{class_members, complement_if};
+ghost use Rattle.regress_classes.specs.ClassSets.{Operand as Written, only, value_of, value_of_strings, property_operand_at, escaped_operand_at};
+ghost use Rattle.regress_lexical.specs.Reads.{ReadsAs};
+ghost use Rattle.regress_lexical.specs.Source.{IsCodePoint};
+ghost use Rattle.regress_classes.specs.ClassViews.{strings_of, IsValue, IsOperand};
+ghost use Rattle.regress_lexical.specs.Views.{source};
+ghost use Rattle.regress_unicode.specs.TableOf.{table_of};
+
+use super::Inside;
+use super::character::read_escaped_character;
+use super::strings::read_quoted;
+use super::value::Value;
+use crate::class_escape::{class_letter, class_members, set_is_canonical};
+use crate::property::{Property, is_property_letter, read_property};
+use regress_base::charclasses::CharacterClassType;
+use regress_base::codepointset::CodePointSet;
+use regress_lexical::cursor::Cursor;
+use regress_lexical::fault::{INCOMPLETE_SET_ESCAPE, INVALID_ESCAPE, ParseFault, syntax};
+use std::alloc::{AllocError, Global};
+
+/// A character, which may be an end of a range, or what holds some of them and strings.
+#[derive(Drop)]
+pub enum Operand {
+    Character(u32),
+    Class(Value),
+}
+
+impl Operand {
+    /// What it holds.
+    pub(super) fn into_value(self, alloc: Global) -> Result<Value, AllocError>
+        requires { (operand : Written) × IsOperand self operand }
+        ensures { IfOk result (λ held. (operand : Written) → IsOperand self operand → IsValue held (value_of operand)) }
+    {
+        match self {
+            Operand::Character(c) => Value::of_point(alloc, c),
+            Operand::Class(value) => Ok(value),
+        }
+    }
+}
+
+/// Reads an escape, behind its backslash.
+pub(super) fn read_escaped(cursor: &mut Cursor, inside: &Inside) -> Result<Operand, ParseFault>
+    ensures { ReadsAs IsOperand (source cursor.new) result
+        (escaped_operand_at (table_of inside.now.tables.now) inside.now.unicode inside.now.negated (source cursor.old)) }
+{
+    let Some((c, rest)) = cursor.rest.split_first() else {
+        return Err(syntax(cursor.alloc, INCOMPLETE_SET_ESCAPE));
+    };
+    let c = *c;
+    if let Some((kind, negated)) = class_letter(c) {
+        cursor.rest = rest;
+        Ok(Operand::Class(class_value(cursor.alloc, kind, negated)?))
+    } else if c == u32::from('q') {
+        cursor.rest = rest;
+        read_quoted(cursor, inside.unicode)
+    } else if is_property_letter(c) {
+        cursor.rest = rest;
+        read_property_operand(cursor, inside, c == u32::from('P'))
+    } else {
+        let character = read_escaped_character(cursor, inside.unicode)?;
+        Ok(Operand::Character(character))
+    }
+}
+
+/// A class by an escape, or its complement.
+fn class_value(alloc: Global, kind: CharacterClassType, negated: bool) -> Result<Value, AllocError>
+    ensures { IfOk result (λ held. IsValue held (only (class_members (kind, negated)))) }
+{
+    let set = class_members(alloc, kind, negated)?;
+    set_is_canonical(&set);
+    Ok(Value::of_set(alloc, set))
+}
+
+/// Reads a property, behind `\p` or `\P`.
+fn read_property_operand(
+    cursor: &mut Cursor,
+    inside: &Inside,
+    negated: bool,
+) -> Result<Operand, ParseFault>
+    ensures { ReadsAs IsOperand (source cursor.new) result
+        (property_operand_at (table_of inside.now.tables.now) inside.now.negated negated (source cursor.old)) }
+{
+    match read_property(cursor, true, inside.tables)? {
+        Property::Points(set) => {
+            let value = point_value(cursor.alloc, set, negated)?;
+            Ok(Operand::Class(value))
+        }
+        Property::Strings(strings) => {
+            if inside.negated || negated {
+                return Err(syntax(cursor.alloc, INVALID_ESCAPE));
+            }
+            let value = string_value(cursor.alloc, strings)?;
+            Ok(Operand::Class(value))
+        }
+    }
+}
+
+/// A property of code points, or its complement.
+fn point_value(alloc: Global, set: &CodePointSet, negated: bool) -> Result<Value, AllocError>
+    ensures { IfOk result (λ held. IsValue held (only (complement_if negated set.now))) }
+{
+    let set = if negated {
+        set.inverted()?
+    } else {
+        set.try_clone(alloc)?
+    };
+    set_is_canonical(&set);
+    Ok(Value::of_set(alloc, set))
+}
+
+/// A property of strings.
+fn string_value(alloc: Global, strings: &[Vec<u32>]) -> Result<Value, AllocError>
+    requires { All (All IsCodePoint) (strings_of strings.now) }
+    ensures { IfOk result (λ held. IsValue held (value_of_strings (strings_of strings.now))) }
+{
+    let mut value = Value::new(alloc);
+    for string in strings {
+        value.add_string(Vec::from_slice(alloc, string.as_slice())?)?;
+    }
+    Ok(value)
+}

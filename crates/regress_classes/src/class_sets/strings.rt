@@ -1,0 +1,44 @@
+//! Strings of a class with the flag v.
+ghost use Rattle.std.specs.Prelude.{◌≡◌, ◌+◌, [], length};
+ghost use Rattle.regress_classes.specs.ClassSets.{value_of_strings, strings_by, quoted_at};
+ghost use Rattle.regress_lexical.specs.Reads.{ReadsAs};
+ghost use Rattle.regress_classes.specs.ClassViews.{IsValue, IsOperand};
+ghost use Rattle.regress_lexical.specs.Views.{source};
+
+use super::character::read_set_character;
+use super::operand::Operand;
+use super::value::Value;
+use regress_lexical::cursor::Cursor;
+use regress_lexical::fault::{ParseFault, STRINGS_WITHOUT_BRACE, UNBALANCED_STRINGS, syntax};
+
+/// Reads strings, behind `\q` (ECMA-262, ClassStringDisjunction).
+pub(super) fn read_quoted(cursor: &mut Cursor, unicode: bool) -> Result<Operand, ParseFault>
+    ensures { ReadsAs IsOperand (source cursor.new) result (quoted_at unicode (source cursor.old)) }
+{
+    if !cursor.try_consume('{') {
+        return Err(syntax(cursor.alloc, STRINGS_WITHOUT_BRACE));
+    }
+    Ok(Operand::Class(read_strings(cursor, unicode)?))
+}
+
+/// Reads strings with `|` between them, up to `}`.
+fn read_strings(cursor: &mut Cursor, unicode: bool) -> Result<Value, ParseFault>
+    ensures { let t = source cursor.old in
+        ReadsAs (λ held strings. IsValue held (value_of_strings strings)) (source cursor.new) result (strings_by (length t + 1) unicode [] t) }
+{
+    let mut value = Value::new(cursor.alloc);
+    let mut string = Vec::new(cursor.alloc);
+    while !cursor.is_at('}') {
+        if cursor.try_consume('|') {
+            value.add_string(string)?;
+            string = Vec::new(cursor.alloc);
+        } else if cursor.rest.is_empty() {
+            return Err(syntax(cursor.alloc, UNBALANCED_STRINGS));
+        } else {
+            string.push(read_set_character(cursor, unicode)?)?;
+        }
+    }
+    cursor.try_consume('}');
+    value.add_string(string)?;
+    Ok(value)
+}

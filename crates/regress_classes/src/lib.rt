@@ -1,0 +1,11 @@
+//! Classes: by an escape, by a property, and between brackets, without the flag v and with it.
+#![tactic(auto)]
+
+pub mod class;
+mod class_atom;
+pub mod class_escape;
+pub mod class_sets;
+pub mod property;
+
+pub use class_escape::class_set;
+pub use class_sets::Value;

@@ -1,0 +1,126 @@
+//! Properties by a name.
+ghost use Rattle.std.specs.Prelude.{◌≡◌, ◌==◌, ◌||◌, true, [], ◌∷◌, string_bytes, option_map, IfOk, IfSome, IfNone};
+ghost use Rattle.regress_lexical.specs.Digits.{front, behind};
+ghost use Rattle.regress_classes.specs.Properties.{is_property_character, lone_value, list_named, value_in, closed_property, braced_property_at, property_at};
+ghost use Rattle.regress_lexical.specs.Reads.{Reads};
+ghost use Rattle.regress_classes.specs.ClassViews.{property_of};
+ghost use Rattle.regress_lexical.specs.Views.{source};
+ghost use Rattle.regress_unicode.specs.TableOf.{table_of};
+
+use regress_base::codepointset::CodePointSet;
+use regress_lexical::cursor::Cursor;
+use regress_lexical::digits::{Read, is_decimal, is_letter};
+use regress_lexical::fault::{INVALID_PROPERTY, PROPERTY_WITHOUT_BRACE, ParseFault, syntax};
+use regress_unicode::Tables;
+use std::alloc::AllocError;
+
+/// What a name stands for.
+#[derive(Clone, Copy)]
+pub enum Property<'a> {
+    /// Code points.
+    Points(&'a CodePointSet),
+    /// Strings, which the flag v allows.
+    Strings(&'a [Vec<u32>]),
+}
+
+/// The letter behind the backslash of a property, or of its complement.
+pub fn is_property_letter(c: u32) -> bool
+    ensures { result ≡ (c == 112 || c == 80) }
+{
+    c == u32::from('p') || c == u32::from('P')
+}
+
+/// Reads a property, behind `\p` or `\P` (ECMA-262, UnicodePropertyValueExpression); `sets` is the flag v. The fault
+/// comes where no brace follows, where what is in braces is no name of the table, or where they aren't closed.
+#[tactic(auto, unfolding(crate::specs::Properties::property_at))]
+pub fn read_property<'a>(
+    cursor: &mut Cursor,
+    sets: bool,
+    tables: &'a Tables,
+) -> Result<Property<'a>, ParseFault>
+    ensures { Reads property_of (source cursor.new) result (property_at sets (table_of tables.now) (source cursor.old)) }
+{
+    if !cursor.try_consume('{') {
+        return Err(syntax(cursor.alloc, PROPERTY_WITHOUT_BRACE));
+    }
+    match read_named(cursor, sets, tables)? {
+        Some(property) if cursor.try_consume('}') => Ok(property),
+        _ => Err(syntax(cursor.alloc, INVALID_PROPERTY)),
+    }
+}
+
+/// Reads what stands between the braces, and looks it up.
+fn read_named<'a>(
+    cursor: &mut Cursor,
+    sets: bool,
+    tables: &'a Tables,
+) -> Result<Option<Property<'a>>, AllocError>
+    ensures { IfOk result (λ found. closed_property (option_map property_of found) (source cursor.new)
+        ≡ braced_property_at sets (table_of tables.now) (source cursor.old)) }
+{
+    let name = read_word(cursor)?;
+    if !cursor.try_consume('=') {
+        return Ok(lone_value(sets, tables, &name));
+    }
+    let value = read_word(cursor)?;
+    Ok(listed_value(tables, &name, &value))
+}
+
+/// Reads the letters, digits and low lines at the front, perhaps none.
+fn read_word(cursor: &mut Cursor) -> Result<String, AllocError>
+    ensures word { IfOk result (λ word. string_bytes word ≡ front is_property_character (source cursor.old)) }
+    ensures behind { IfOk result (λ word. source cursor.new ≡ behind is_property_character (source cursor.old)) }
+{
+    let mut word = String::new(cursor.alloc);
+    while let Some((c, rest)) = property_character(cursor.rest) {
+        word.push(c)?;
+        cursor.rest = rest;
+    }
+    Ok(word)
+}
+
+/// The letter, digit or low line at the front, and the text behind it.
+#[tactic(auto, unfolding(regress_lexical::specs::Digits::front))]
+fn property_character<'a>(text: &'a [u32]) -> Read<'a, char>
+    ensures some { IfSome result (λ found. (text.now ≡ found.0 ∷ found.1.now) × (is_property_character found.0 ≡ true)) }
+    ensures none { IfNone result (front is_property_character text.now ≡ []) }
+{
+    let (c, rest) = text.split_first()?;
+    if !is_property_character(*c) {
+        return None;
+    }
+    Some((char::from_u32(*c)?, rest))
+}
+
+/// A letter, a digit or a low line.
+fn is_property_character(c: u32) -> bool
+    ensures { result ≡ is_property_character c }
+{
+    is_letter(c) || is_decimal(c) || c == u32::from('_')
+}
+
+/// The value of a binary property, with the flag v of strings, or of a general category.
+fn lone_value<'a>(sets: bool, tables: &'a Tables, name: &str) -> Option<Property<'a>>
+    ensures { option_map property_of result ≡ lone_value sets (table_of tables.now) name.now }
+{
+    if let Some(set) = tables.binary(name) {
+        return Some(Property::Points(set));
+    }
+    if sets && let Some(strings) = tables.strings(name) {
+        return Some(Property::Strings(strings));
+    }
+    tables.general_category(name).map(Property::Points)
+}
+
+/// The value in the list of that name.
+fn listed_value<'a>(tables: &'a Tables, list: &str, value: &str) -> Option<Property<'a>>
+    ensures { option_map property_of result ≡ value_in value.now (list_named (table_of tables.now) list.now) }
+{
+    let set = match list {
+        "General_Category" | "gc" => tables.general_category(value),
+        "Script" | "sc" => tables.script(value),
+        "Script_Extensions" | "scx" => tables.script_extensions(value),
+        _ => None,
+    };
+    set.map(Property::Points)
+}

@@ -1,0 +1,49 @@
+-- The definitions that the public contracts cite, passed on, so that a caller names one library.
+
+-- Sets, bytes and limits.
+pub use Rattle.regress_base.specs.Limits
+pub use Rattle.regress_base.specs.Intervals
+pub use Rattle.regress_base.specs.Classes
+pub use Rattle.regress_base.specs.Brackets
+pub use Rattle.regress_base.specs.Utf8
+pub use Rattle.regress_base.specs.FirstBytes
+pub use Rattle.regress_base.specs.ByteSets
+pub use Rattle.regress_base.specs.ByteBitmap
+pub use Rattle.regress_base.specs.AsciiBitmap
+pub use Rattle.regress_base.specs.Places
+pub use Rattle.regress_base.specs.Needle
+pub use Rattle.regress_base.specs.Ranges
+-- The table.
+pub use Rattle.regress_unicode.specs.Table
+pub use Rattle.regress_unicode.specs.FoldRows
+pub use Rattle.regress_unicode.specs.Parts
+pub use Rattle.regress_unicode.specs.TableOf
+pub use Rattle.regress_unicode.specs.Refusals
+pub use Rattle.regress_unicode.specs.Listing
+pub use Rattle.regress_unicode.specs.SmallTable
+-- Trees, and what they match.
+pub use Rattle.regress_tree.specs.Reading
+pub use Rattle.regress_tree.specs.Steps
+pub use Rattle.regress_tree.specs.Assertions
+pub use Rattle.regress_tree.specs.Repetition
+pub use Rattle.regress_tree.specs.Lookaround
+pub use Rattle.regress_tree.specs.References
+pub use Rattle.regress_tree.specs.Strings
+pub use Rattle.regress_tree.specs.Setting
+pub use Rattle.regress_tree.specs.Tree
+pub use Rattle.regress_tree.specs.Matching
+pub use Rattle.regress_tree.specs.WellFormed
+pub use Rattle.regress_tree.specs.Units
+pub use Rattle.regress_tree.specs.Shapes
+pub use Rattle.regress_tree.specs.Walk
+pub use Rattle.regress_tree.specs.Literal
+-- Patterns.
+pub use Rattle.regress_lexical.specs.Source
+pub use Rattle.regress_lexical.specs.Fault
+pub use Rattle.regress_syntax.specs.Syntax
+pub use Rattle.regress_syntax.specs.Grammar
+pub use Rattle.regress_syntax.specs.Meaning
+pub use Rattle.regress_parse.specs.TreeOf
+pub use Rattle.regress_parse.specs.Accepted
+-- Rewriting.
+pub use Rattle.regress_rewrite.specs.Law

@@ -1,0 +1,2 @@
+pub mod laws
+mod ModifierLemmas

@@ -1,0 +1,80 @@
+-- Reading from the front of a source.
+use Rattle.std.proofs.Common.{◌≡◌, ℕ, ◌<◌, ◌≤◌, ◌⊎◌, inl, inr, ◌≢◌, ◌==◌, Bool, true, false, cond, List, [], ◌∷◌, length, Option, Some, None, Result, Ok, Err, refl, sym, ap, ◌∙◌, arith}
+use Rattle.std.specs.Option.{IfSome, IsSomeAnd}
+use Rattle.std.specs.Result.{IfOk}
+use Rattle.std.proofs.Common.{subst}
+use Rattle.std.proofs.lemmas.Bool.{ne_eqb, false≢true}
+use Rattle.std.proofs.lemmas.Option.{none-some, same_Some}
+use Rattle.regress_lexical.specs.declared.fault.ParseFault.{ParseFault}
+use Rattle.regress_lexical.specs.declared.fault.ParseFault.TheVariants.{Syntax, Memory}
+use Rattle.regress_lexical.specs.Fault.{OnSyntax}
+use Rattle.regress_lexical.specs.Source.{Source, Found, ◌>>=◌, is_at}
+
+-- what is found behind something
+pub found_then : {A B : Type 0} (found : Found A) (next : A × Source → Found B) (y : B × Source) → found >>= next ≡ Some y →
+    (x : A × Source) × (found ≡ Some x) × (next x ≡ Some y)
+found_then None next y e = absurd (none-some y e)
+found_then (Some x) next y e = (x, refl, e)
+
+pub then_same : {A B : Type 0} (found : Found A) (f g : A × Source → Found B) →
+    ((x : A × Source) → found ≡ Some x → f x ≡ g x) → found >>= f ≡ found >>= g
+then_same None f g h = refl
+then_same (Some x) f g h = h x refl
+
+pub then_then : {A B C : Type 0} (found : Found A) (f : A × Source → Found B) (g : B × Source → Found C) →
+    (found >>= f) >>= g ≡ found >>= (λ x. f x >>= g)
+then_then None f g = refl
+then_then (Some x) f g = refl
+
+pub chosen : {A : Type 0} (b : Bool) (x y z : A) → cond b x y ≡ z → ((b ≡ true) × (x ≡ z)) ⊎ ((b ≡ false) × (y ≡ z))
+chosen true x y z e = inl (refl, e)
+chosen false x y z e = inr (refl, e)
+
+pub cond_same : {A : Type 0} (b : Bool) (x y x' y' : A) → (b ≡ true → x ≡ x') → (b ≡ false → y ≡ y') → cond b x y ≡ cond b x' y'
+cond_same true x y x' y' h k = h refl
+cond_same false x y x' y' h k = k refl
+
+-- what is at the front of a source is in it
+pub at_front : (k : ℕ) (t : Source) → is_at k t ≡ true → 0 < length t
+at_front k [] e = cc
+at_front k (c ∷ t) e = omega arith
+
+-- What reads does not end before the source that it was given.
+abbrev pub Shortens : {A : Type 0} → (Source → Found A) → Type 0
+Shortens {A} f = (t : Source) (x : A × Source) → f t ≡ Some x → length x.1 ≤ length t
+
+-- Whatever is found has the property.
+pub to_each : {A : Type 0} (o : Option A) (P : A → Type 0) → IfSome o P → (x : A) → o ≡ Some x → P x
+to_each None P h x e = absurd (none-some x e)
+to_each (Some y) P h x e = subst P (same_Some y x e) h
+
+pub from_each : {A : Type 0} (o : Option A) (P : A → Type 0) → ((x : A) → o ≡ Some x → P x) → IfSome o P
+from_each None P h = tt
+from_each (Some y) P h = h y refl
+
+pub some_and : {A : Type 0} (o : Option A) (P : A → Type 0) → IsSomeAnd o P → (x : A) × (o ≡ Some x) × P x
+some_and None P h = absurd h
+some_and (Some x) P h = (x, refl, h)
+
+-- what holds whatever the fault
+pub on_syntax : {P : Type 0} (fault : ParseFault) → P → OnSyntax fault P
+on_syntax (Syntax e) h = h
+on_syntax (Memory e) h = tt
+
+pub on_syntax_then : {P Q : Type 0} (fault : ParseFault) → (P → Q) → OnSyntax fault P → OnSyntax fault Q
+on_syntax_then (Syntax e) f h = f h
+on_syntax_then (Memory e) f h = tt
+
+-- what follows for each value from two facts follows for an answer
+pub ok_from_both : {X E : Type 0} (r : Result X E) (P Q R : X → Type 0) → ((x : X) → P x → Q x → R x) → IfOk r P → IfOk r Q → IfOk r R
+ok_from_both (Ok x) P Q R h p q = h x p q
+ok_from_both (Err e) P Q R h p q = tt
+
+-- Whether a list is empty, by its length.
+
+pub length-none : (xs : List ℕ) → (length xs == 0) ≡ true → xs ≡ []
+length-none [] e = refl
+length-none (x ∷ xs) e = absurd (false≢true (sym (ne_eqb (length (x ∷ xs)) 0 (λ z. omega (arith, z))) ∙ e))
+
+pub length-some : (xs : List ℕ) → (length xs == 0) ≡ false → xs ≢ []
+length-some xs e none = false≢true (sym e ∙ ap (λ (ys : List ℕ). length ys == 0) none)

@@ -1,0 +1,10 @@
+-- Those before the ones that are left stand nowhere else.
+use Rattle.std.proofs.Common.{◌≡◌, length}
+use Rattle.regress_lexical.specs.Modifiers.{are_different}
+use Rattle.regress_lexical.proofs.modifiers.are_different.Given as goal
+
+abbrev pub invariant-loop-left : goal.invariant-loop-left
+invariant-loop-left l = are_different l.fn.letters ≡ are_different l.left
+
+abbrev pub decreases-loop-left : goal.decreases-loop-left
+decreases-loop-left l = length l.left

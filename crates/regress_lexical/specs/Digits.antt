@@ -1,0 +1,52 @@
+-- Digits at the front of a source, and letters.
+use Rattle.std.specs.Prelude.{ℕ, ◌+◌, ◌-◌, ◌*◌, ◌%◌, Bool, ◌&&◌, ◌||◌, List, [], ◌∷◌, length, take, drop, Some, None, if◌then◌else◌, nat_le, ◌==◌}
+use Rattle.std.specs.List.{list_all}
+use Rattle.regress_lexical.specs.Source.{Source, Found}
+
+abbrev pub is_between : ℕ → ℕ → ℕ → Bool
+is_between first last c = nat_le first c && nat_le c last
+
+-- 0 to 9
+abbrev pub is_decimal : ℕ → Bool
+is_decimal = is_between 48 57
+
+-- 0 to 7
+abbrev pub is_octal : ℕ → Bool
+is_octal = is_between 48 55
+
+-- A to Z and a to z
+abbrev pub is_letter : ℕ → Bool
+is_letter c = is_between 65 90 c || is_between 97 122 c
+
+-- 0 to 9, A to F and a to f
+abbrev pub is_hex : ℕ → Bool
+is_hex c = is_decimal c || is_between 65 70 c || is_between 97 102 c
+
+-- what a digit of any of these kinds stands for
+abbrev pub digit : ℕ → ℕ
+digit c = if is_decimal c then c - 48 else if is_between 65 70 c then c - 55 else c - 87
+
+-- the number that these digits write in a base, behind those that write n
+abbrev pub number_from : ℕ → ℕ → List ℕ → ℕ
+number_from base n [] = n
+number_from base n (c ∷ cs) = number_from base (n * base + digit c) cs
+
+abbrev pub number : ℕ → List ℕ → ℕ
+number base = number_from base 0
+
+-- the longest front of the source whose code points pass the test, and what stands behind it
+unfoldable pub front : (ℕ → Bool) → Source → Source
+front p [] = []
+front p (c ∷ t) = if p c then c ∷ front p t else []
+
+unfoldable pub behind : (ℕ → Bool) → Source → Source
+behind p [] = []
+behind p (c ∷ t) = if p c then behind p t else c ∷ t
+
+-- exactly n hexadecimal digits
+abbrev pub hex_at : ℕ → Source → Found ℕ
+hex_at n t = if length (take n t) == n && list_all is_hex (take n t) then Some (number 16 (take n t), drop n t) else None
+
+-- what a control letter stands for: its code modulo 32
+abbrev pub control : ℕ → ℕ
+control c = c % 32

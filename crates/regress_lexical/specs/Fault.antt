@@ -1,0 +1,14 @@
+-- When a pattern is refused.
+use Rattle.std.specs.Prelude.{Result, Ok, Err}
+use Rattle.regress_lexical.specs.declared.fault.ParseFault.{ParseFault}
+use Rattle.regress_lexical.specs.declared.fault.ParseFault.TheVariants.{Syntax, Memory}
+
+-- a fault of the pattern says this, and want of memory nothing
+abbrev pub OnSyntax : ParseFault → Type 0 → Type 0
+OnSyntax (Syntax e) P = P
+OnSyntax (Memory e) P = Unit {0}
+
+-- A fault of the pattern is answered only if this holds.
+abbrev pub RefusedOnlyIf : {X : Type 0} → Result X ParseFault → Type 0 → Type 0
+RefusedOnlyIf (Ok x) P = Unit {0}
+RefusedOnlyIf (Err fault) P = OnSyntax fault P

@@ -1,0 +1,60 @@
+-- Modifiers of a group: flags that are switched on what stands inside (ECMA-262, RegularExpressionModifiers).
+use Rattle.std.specs.Prelude.{ℕ, Bool, true, false, not, ◌&&◌, ◌||◌, List, [], ◌∷◌, ◌++◌, length, drop, Option, Some, None, if◌then◌else◌, ◌==◌}
+use Rattle.std.specs.List.{list_any}
+use Rattle.regress_base.specs.declared.types.Flags.{Flags}
+use Rattle.regress_lexical.specs.Source.{Source, Found, colon, is_at}
+use Rattle.regress_lexical.specs.Digits.{front, behind}
+
+-- what becomes of each flag that can be switched: on, off, or as it was
+pub record Change : Type 0 where
+  pub icase : Option Bool
+  pub multiline : Option Bool
+  pub dot_all : Option Bool
+
+abbrev pub switched : Option Bool → Bool → Bool
+switched None old = old
+switched (Some new) old = new
+
+-- the flags inside
+abbrev pub changed : Change → Flags → Flags
+changed change flags = record flags {
+  icase = switched change.icase flags.icase;
+  multiline = switched change.multiline flags.multiline;
+  dot_all = switched change.dot_all flags.dot_all;
+}
+
+-- i, m and s
+abbrev pub is_modifier : ℕ → Bool
+is_modifier c = c == 105 || c == 109 || c == 115
+
+abbrev pub stands_in : ℕ → List ℕ → Bool
+stands_in c letters = list_any (λ d. d == c) letters
+
+-- no letter twice
+abbrev pub are_different : List ℕ → Bool
+are_different [] = true
+are_different (c ∷ cs) = not (stands_in c cs) && are_different cs
+
+-- what the letters that switch on and those that switch off say of one
+abbrev pub switch : (on off : List ℕ) → ℕ → Option Bool
+switch on off c = if stands_in c on then Some true else if stands_in c off then Some false else None
+
+abbrev pub change_of : (on off : List ℕ) → Change
+change_of on off = record { icase = switch on off 105; multiline = switch on off 109; dot_all = switch on off 115 }
+
+-- the letters behind a hyphen, if one is there
+abbrev pub letters_off : Source → List ℕ
+letters_off t = if is_at 45 t then front is_modifier (drop 1 t) else []
+
+abbrev pub behind_letters_off : Source → Source
+behind_letters_off t = if is_at 45 t then behind is_modifier (drop 1 t) else t
+
+-- Letters, perhaps a hyphen and letters, and `:`: one letter at least, and none twice.
+unfoldable pub modifiers_at : Source → Found Change
+modifiers_at t =
+    let on = front is_modifier t in
+    let rest = behind is_modifier t in
+    let letters = on ++ letters_off rest in
+    if not (length letters == 0) && are_different letters && is_at colon (behind_letters_off rest)
+    then Some (change_of on (letters_off rest), drop 1 (behind_letters_off rest))
+    else None

@@ -1,0 +1,51 @@
+-- The quantifier at the front of a source (ECMA-262, Quantifier).
+use Rattle.std.specs.Prelude.{ℕ, ◌-◌, ◌^◌, Bool, true, not, min, [], ◌∷◌, length, drop, Option, Some, None, if◌then◌else◌, nat_le, ◌==◌}
+use Rattle.regress_tree.specs.declared.ir.node.Quantifier.{Quantifier}
+use Rattle.regress_lexical.specs.Source.{Source, Found, ◌>>=◌, is_at, question_mark}
+use Rattle.regress_lexical.specs.Digits.{is_decimal, number, front, behind}
+
+-- how often at least and at most, none being without a limit
+abbrev pub Times : Type 0
+Times = ℕ × Option ℕ
+
+-- a number of one or more digits, which saturates at `usize::MAX` once all are read (this project's profile)
+abbrev pub count_at : Source → Found ℕ
+count_at t =
+    if length (front is_decimal t) == 0 then None
+    else Some (min (number 10 (front is_decimal t)) (2 ^ 64 - 1), behind is_decimal t)
+
+-- the brace that closes
+abbrev pub closed_brace : Times → Source → Found Times
+closed_brace times t = if is_at 125 t then Some (times, drop 1 t) else None
+
+-- behind the least number: `}`, `,}`, or `,`, the greatest number and `}`
+abbrev pub most_at : ℕ × Source → Found Times
+most_at (least, t) =
+    if is_at 44 t
+    then (if is_at 125 (drop 1 t) then closed_brace (least, None) (drop 1 t)
+    else (count_at (drop 1 t) >>= λ (most, rest). closed_brace (least, Some most) rest))
+    else closed_brace (least, Some least) t
+
+-- `*`, `+`, `?` or numbers in braces
+abbrev pub times_by : ℕ → Source → Found Times
+times_by c t =
+    if c == 42 then Some ((0, None), t)
+    else if c == 43 then Some ((1, None), t)
+    else if c == question_mark then Some ((0, Some 1), t)
+    else if c == 123 then count_at t >>= most_at
+    else None
+
+-- `?` behind it makes it lazy
+abbrev pub greedy_or_lazy : Times × Source → Found Quantifier
+greedy_or_lazy (times, t) = Some (
+  record { min = times.0; max = times.1; greedy = not (is_at question_mark t) },
+  if is_at question_mark t then drop 1 t else t,
+)
+
+unfoldable pub quantifier_at : Source → Found Quantifier
+quantifier_at [] = None
+quantifier_at (c ∷ t) = times_by c t >>= greedy_or_lazy
+
+-- the least number is no greater than the greatest
+abbrev pub is_ordered : Quantifier → Bool
+is_ordered q = elim q.max [ None ↦ true | Some most ↦ nat_le q.min most ]

@@ -1,0 +1,15 @@
+-- What a call that reads answers: what the source has at its front, or a fault where it has nothing.
+use Rattle.std.specs.Prelude.{◌≡◌, Some, None, Result, Ok, Err}
+use Rattle.regress_lexical.specs.declared.fault.ParseFault.{ParseFault}
+use Rattle.regress_lexical.specs.Fault.{OnSyntax}
+use Rattle.regress_lexical.specs.Source.{Source, Found}
+
+-- it answers what is found, and stands behind it, or a fault of the pattern where nothing is
+abbrev pub Reads : {A B : Type 0} → (A → B) → Source → Result A ParseFault → Found B → Type 0
+Reads view new (Ok a) found = found ≡ Some (view a, new)
+Reads view new (Err fault) found = OnSyntax fault (found ≡ None)
+
+-- The same, where several values may stand for one that is found.
+abbrev pub ReadsAs : {A B : Type 0} → (A → B → Type 0) → Source → Result A ParseFault → Found B → Type 0
+ReadsAs {A} {B} StandsFor new (Ok a) found = (b : B) × (found ≡ Some (b, new)) × StandsFor a b
+ReadsAs StandsFor new (Err fault) found = OnSyntax fault (found ≡ None)

@@ -1,0 +1,99 @@
+//! A place in the source of a pattern.
+ghost use Rattle.std.specs.Prelude.{◌≡◌, All};
+ghost use Rattle.std.proofs.Props.{props};
+ghost use Rattle.regress_lexical.specs.Source.{IsCodePoint, is_plain};
+
+use crate::fault::{ParseFault, UNBALANCED, syntax};
+use std::alloc::Global;
+
+/// The code points that begin rows of their own, or none.
+const SPECIAL: [u32; 14] = [
+    '*' as u32,
+    '+' as u32,
+    '?' as u32,
+    '{' as u32,
+    ']' as u32,
+    '}' as u32,
+    '(' as u32,
+    ')' as u32,
+    '[' as u32,
+    '|' as u32,
+    '\\' as u32,
+    '^' as u32,
+    '$' as u32,
+    '.' as u32,
+];
+
+/// Whether the code point stands for itself.
+pub fn is_plain(c: u32) -> bool
+    ensures { result ≡ is_plain c }
+{
+    !SPECIAL.contains(&c)
+}
+
+/// A place in the source of a pattern: what is still to read.
+#[derive(Drop)]
+pub struct Cursor<'a> {
+    pub rest: &'a [u32],
+    /// Where the texts of faults find memory.
+    pub alloc: Global,
+    pub ghost in_range: { All IsCodePoint rest.now } by { Prim.hlevel props },
+}
+
+impl Cursor<'_> {
+    ghost use Rattle.std.specs.Prelude.{◌≡◌, [], ◌∷◌, drop, if◌then◌else◌, IfSome, IfNone, OnOk, false};
+    ghost use Rattle.regress_lexical.specs.Fault.{RefusedOnlyIf};
+    ghost use Rattle.regress_lexical.specs.Source.{is_at, ends_alternative, closing};
+    ghost use Rattle.regress_lexical.specs.Views.{source};
+
+    /// Whether `c` comes next.
+    pub fn is_at(&self, c: char) -> bool
+        ensures { result ≡ is_at c (source self.now) }
+    {
+        match self.rest {
+            [next, ..] => *next == u32::from(c),
+            [] => false,
+        }
+    }
+
+    /// Whether the alternative ends here: at a `)`, a `|` or the end.
+    pub fn ends_alternative(&self) -> bool
+        ensures { result ≡ ends_alternative (source self.now) }
+    {
+        self.rest.is_empty() || self.is_at(')') || self.is_at('|')
+    }
+
+    /// Moves past `c`, if it comes next.
+    pub fn try_consume(&mut self, c: char) -> bool
+        ensures found { result ≡ is_at c (source self.old) }
+        ensures moves { source self.new ≡ (if result then drop 1 (source self.old) else source self.old) }
+    {
+        let found = self.is_at(c);
+        if found {
+            self.rest = &self.rest[1..];
+        }
+        found
+    }
+
+    /// Takes the next code point, if there is one.
+    pub fn next(&mut self) -> Option<u32>
+        ensures some { IfSome result (λ c. source self.old ≡ c ∷ source self.new) }
+        ensures none { IfNone result (source self.old ≡ []) }
+    {
+        let (next, rest) = self.rest.split_first()?;
+        self.rest = rest;
+        Some(*next)
+    }
+
+    /// Moves past the parenthesis that closes a group. The fault comes where none comes next.
+    pub fn consume_closing(&mut self) -> Result<(), ParseFault>
+        ensures ok { OnOk result (source self.old ≡ closing ∷ source self.new) }
+        ensures err { RefusedOnlyIf result (is_at closing (source self.old) ≡ false) }
+    {
+        if self.try_consume(')') {
+            Ok(())
+        } else {
+            Err(syntax(self.alloc, UNBALANCED))
+        }
+    }
+}

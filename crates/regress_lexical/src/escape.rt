@@ -1,0 +1,212 @@
+//! Escapes of one character.
+ghost use Rattle.std.specs.Prelude.{◌≡◌, ◌≤◌, true, ◌∷◌, length, drop, Some, None, option_map, if◌then◌else◌, ◌&&◌, ◌+◌, nat_le, All, IfSome};
+ghost use Rattle.regress_lexical.specs.Escapes.{
+  braced_hex_at,
+  second_half_at,
+  with_second_half,
+  unicode_at,
+  or_itself,
+  octal_digits,
+  is_syntax_character,
+  letter_escape,
+  begins_with_digit,
+  control_at,
+  other_escape,
+  escape_at,
+};
+ghost use Rattle.regress_lexical.specs.Source.{IsCodePoint, is_at};
+ghost use Rattle.regress_lexical.specs.Digits as digits_spec;
+
+use crate::digits::{
+    Read, after, control, digit, hex_length, is_decimal, is_letter, is_octal, number_from,
+    octal_length, read_hex,
+};
+use crate::fault::{INVALID_ESCAPE, INVALID_UNICODE_ESCAPE};
+
+/// The code points that stand for themselves behind a backslash.
+const SYNTAX_CHARACTERS: [u32; 15] = [
+    '^' as u32,
+    '$' as u32,
+    '\\' as u32,
+    '.' as u32,
+    '*' as u32,
+    '+' as u32,
+    '?' as u32,
+    '(' as u32,
+    ')' as u32,
+    '[' as u32,
+    ']' as u32,
+    '{' as u32,
+    '}' as u32,
+    '|' as u32,
+    '/' as u32,
+];
+
+/// Whether the code point stands for itself behind a backslash.
+fn is_syntax_character(c: u32) -> bool
+    ensures { result ≡ is_syntax_character c }
+{
+    SYNTAX_CHARACTERS.contains(&c)
+}
+
+/// Hexadecimal digits, one at least, and `}`, for a code point.
+#[tactic(auto, using(crate::proofs::laws::Digits::front_taken, crate::proofs::laws::Digits::behind_dropped))]
+fn read_braced_hex<'a>(text: &'a [u32]) -> Read<'a, u32>
+    ensures { option_map (λ found. (found.0, found.1.now)) result ≡ braced_hex_at text.now }
+{
+    let (digits, rest) = text.split_at(hex_length(text));
+    let rest = after(rest, '}')?;
+    let number = number_from(16, 0, digits);
+    if digits.is_empty() || number > 0x10FFFF {
+        return None;
+    }
+    Some((number as u32, rest))
+}
+
+/// `\u` and four digits.
+#[tactic(auto, using(crate::proofs::laws::Digits::drop_one_more))]
+fn read_unit<'a>(text: &'a [u32]) -> Read<'a, u32>
+    ensures { option_map (λ found. (found.0, found.1.now)) result ≡ (if is_at 92 text.now && is_at 117 (drop 1 text.now) then digits_spec.hex_at 4 (drop 2 text.now) else None) }
+{
+    read_hex(after(after(text, '\\')?, 'u')?, 4)
+}
+
+/// The second half of a surrogate pair.
+fn read_second_half<'a>(text: &'a [u32]) -> Read<'a, u32>
+    ensures value { option_map (λ found. (found.0, found.1.now)) result ≡ second_half_at text.now }
+    ensures first { IfSome result (λ found. 0xDC00 ≤ found.0) }
+    ensures last { IfSome result (λ found. found.0 ≤ 0xDFFF) }
+{
+    let (low, rest) = read_unit(text)?;
+    if low < 0xDC00 || 0xDFFF < low {
+        return None;
+    }
+    Some((low, rest))
+}
+
+/// One code point of two halves, by the rule of UTF-16, where a second one follows a first one.
+fn with_second_half(high: u32, text: &[u32]) -> (u32, &[u32])
+    ensures { Some (result.0, result.1.now) ≡ with_second_half (high, text.now) }
+{
+    if high < 0xD800 || 0xDBFF < high {
+        return (high, text);
+    }
+    match read_second_half(text) {
+        Some((low, rest)) => (0x10000 + (high - 0xD800) * 0x400 + (low - 0xDC00), rest),
+        None => (high, text),
+    }
+}
+
+/// The forms of `\u`, behind the u.
+#[tactic(auto, unfolding(crate::specs::Escapes::unicode_at))]
+pub fn read_unicode<'a>(text: &'a [u32]) -> Read<'a, u32>
+    ensures { option_map (λ found. (found.0, found.1.now)) result ≡ unicode_at text.now }
+{
+    if let Some(rest) = after(text, '{') {
+        return read_braced_hex(rest);
+    }
+    let (high, rest) = read_hex(text, 4)?;
+    Some(with_second_half(high, rest))
+}
+
+/// What the letter of an escape is where no value can be read: itself without the flag u, and nothing with it.
+fn itself<'a>(c: u32, text: &'a [u32], unicode: bool) -> Read<'a, u32>
+    ensures { option_map (λ found. (found.0, found.1.now)) result ≡ or_itself unicode c text.now None }
+{
+    if unicode {
+        return None;
+    }
+    Some((c, text))
+}
+
+/// How many octal digits may stand behind the first one, so that the number stays below 256.
+fn octal_room(first: u32) -> usize
+    ensures { result + 1 ≡ (if nat_le first 51 then 3 else 2) }
+{
+    if first <= u32::from('3') { 2 } else { 1 }
+}
+
+/// A number of up to three octal digits, of which `c` is the first: of two, where three would pass 255.
+fn read_octal(c: u32, text: &[u32]) -> (u32, &[u32])
+    requires { digits_spec.is_octal c ≡ true }
+    ensures value { result.0 ≡ digits_spec.number 8 (octal_digits c text.now) }
+    ensures rest { result.1.now ≡ drop (length (octal_digits c text.now)) (c ∷ text.now) }
+{
+    let (digits, rest) = text.split_at(octal_length(&text[..text.len().min(octal_room(c))]));
+    (number_from(8, digit(c) as usize, digits) as u32, rest)
+}
+
+/// The escapes of one letter.
+fn letter_escape(c: u32) -> Option<u32>
+    ensures { result ≡ letter_escape c }
+{
+    match c {
+        0x66 => Some(0xC),
+        0x6E => Some(0xA),
+        0x72 => Some(0xD),
+        0x74 => Some(0x9),
+        0x76 => Some(0xB),
+        _ => None,
+    }
+}
+
+fn begins_with_digit(text: &[u32]) -> bool
+    ensures { result ≡ begins_with_digit text.now }
+{
+    match text {
+        [c, ..] => is_decimal(*c),
+        [] => false,
+    }
+}
+
+/// A letter behind `c`.
+fn read_control<'a>(text: &'a [u32]) -> Read<'a, u32>
+    ensures { option_map (λ found. (found.0, found.1.now)) result ≡ control_at text.now }
+{
+    match text {
+        [c, rest @ ..] if is_letter(*c) => Some((control(*c), rest)),
+        _ => None,
+    }
+}
+
+/// An escape that begins with `c` and is none of one letter.
+fn read_other<'a>(c: u32, text: &'a [u32], unicode: bool) -> Read<'a, u32>
+    ensures { option_map (λ found. (found.0, found.1.now)) result ≡ other_escape unicode c text.now }
+{
+    if c == u32::from('c') {
+        read_control(text)
+    } else if c == u32::from('0') && !begins_with_digit(text) {
+        Some((0, text))
+    } else if c == u32::from('x') {
+        read_hex(text, 2).or(itself(c, text, unicode))
+    } else if c == u32::from('u') {
+        read_unicode(text).or(itself(c, text, unicode))
+    } else if !unicode && is_octal(c) {
+        Some(read_octal(c, text))
+    } else if is_syntax_character(c) || !unicode {
+        Some((c, text))
+    } else {
+        None
+    }
+}
+
+/// What an escape stands for, behind its backslash (ECMA-262, CharacterEscape with annex B).
+#[tactic(auto, unfolding(crate::specs::Escapes::escape_at))]
+pub fn read_escape<'a>(text: &'a [u32], unicode: bool) -> Read<'a, u32>
+    ensures value { option_map (λ found. (found.0, found.1.now)) result ≡ escape_at unicode text.now }
+    ensures in_range { All IsCodePoint text.now → IfSome result (λ found. IsCodePoint found.0) }
+{
+    let (c, rest) = text.split_first()?;
+    match letter_escape(*c) {
+        Some(value) => Some((value, rest)),
+        None => read_other(*c, rest, unicode),
+    }
+}
+
+/// Why there is no escape behind a backslash.
+pub fn escape_fault(text: &[u32]) -> &'static str {
+    match text {
+        [c, ..] if *c == u32::from('u') => INVALID_UNICODE_ESCAPE,
+        _ => INVALID_ESCAPE,
+    }
+}

@@ -1,0 +1,144 @@
+//! Modifiers of a group.
+ghost use Rattle.std.specs.Prelude.{◌≡◌, ◌≤◌, not, ◌&&◌, ◌++◌, ◌==◌, length, option_map};
+ghost use Rattle.std.specs.List.{prefix_len, list_all};
+ghost use Rattle.regress_lexical.specs.Digits.{front, behind};
+ghost use Rattle.regress_lexical.specs.Modifiers.{is_modifier, stands_in, are_different, switch, change_of as switches, letters_off, behind_letters_off, modifiers_at};
+ghost use Rattle.regress_lexical.specs.Views.{change_of};
+
+use crate::digits::{Read, after};
+use regress_base::types::Flags;
+
+/// What becomes of each flag that a group can switch on what stands inside: on, off, or as it was.
+#[derive(Clone, Copy)]
+pub struct Change {
+    pub icase: Option<bool>,
+    pub multiline: Option<bool>,
+    pub dot_all: Option<bool>,
+}
+
+impl Change {
+    ghost use Rattle.std.specs.Prelude.{◌≡◌};
+    ghost use Rattle.regress_lexical.specs.Modifiers.{changed};
+    ghost use Rattle.regress_lexical.specs.Views.{change_of};
+
+    /// The flags inside.
+    pub fn apply(self, flags: Flags) -> Flags
+        ensures { result ≡ changed (change_of self) flags }
+    {
+        Flags {
+            icase: self.icase.unwrap_or(flags.icase),
+            multiline: self.multiline.unwrap_or(flags.multiline),
+            dot_all: self.dot_all.unwrap_or(flags.dot_all),
+            ..flags
+        }
+    }
+}
+
+/// i, m and s.
+fn is_modifier(c: u32) -> bool
+    ensures { result ≡ is_modifier c }
+{
+    c == u32::from('i') || c == u32::from('m') || c == u32::from('s')
+}
+
+/// How many letters are at the front.
+fn letters_length(text: &[u32]) -> usize
+    ensures value { result ≡ prefix_len is_modifier text.now }
+    ensures within { result ≤ length text.now }
+{
+    text.iter().take_while(|c| is_modifier(**c)).count()
+}
+
+/// The letters at the front, and the text behind them.
+#[tactic(auto, using(crate::proofs::laws::Digits::front_taken, crate::proofs::laws::Digits::behind_dropped))]
+fn split_letters(text: &[u32]) -> (&[u32], &[u32])
+    ensures letters { result.0.now ≡ front is_modifier text.now }
+    ensures rest { result.1.now ≡ behind is_modifier text.now }
+{
+    text.split_at(letters_length(text))
+}
+
+/// The letters behind a hyphen, if one is there, and the text behind them.
+fn split_letters_off(text: &[u32]) -> (&[u32], &[u32])
+    ensures letters { result.0.now ≡ letters_off text.now }
+    ensures rest { result.1.now ≡ behind_letters_off text.now }
+{
+    match after(text, '-') {
+        Some(text) => split_letters(text),
+        None => (&[], text),
+    }
+}
+
+/// Whether no code point stands there twice.
+fn are_different(letters: &[u32]) -> bool
+    ensures { result ≡ are_different letters.now }
+{
+    let mut left = letters;
+    while let [c, rest @ ..] = left {
+        if rest.contains(c) {
+            return false;
+        }
+        left = rest;
+    }
+    true
+}
+
+/// Whether no code point stands in both.
+fn are_apart(on: &[u32], off: &[u32]) -> bool
+    ensures { result ≡ list_all (λ c. not (stands_in c off.now)) on.now }
+{
+    on.iter().all(|c| !off.contains(c))
+}
+
+/// What the letters say of one.
+fn switch(on: &[u32], off: &[u32], c: char) -> Option<bool>
+    ensures { result ≡ switch on.now off.now c }
+{
+    if on.contains(&u32::from(c)) {
+        Some(true)
+    } else if off.contains(&u32::from(c)) {
+        Some(false)
+    } else {
+        None
+    }
+}
+
+/// What the letters say of each flag.
+fn change_by(on: &[u32], off: &[u32]) -> Change
+    ensures { change_of result ≡ switches on.now off.now }
+{
+    Change {
+        icase: switch(on, off, 'i'),
+        multiline: switch(on, off, 'm'),
+        dot_all: switch(on, off, 's'),
+    }
+}
+
+/// Whether no letter stands there twice. Of three letters no more than three are different, so that it is linear.
+#[tactic(auto, using(crate::proofs::ModifierLemmas::different_in_both))]
+fn are_all_different(on: &[u32], off: &[u32]) -> bool
+    ensures { result ≡ are_different (on.now ++ off.now) }
+{
+    are_different(on) && are_different(off) && are_apart(on, off)
+}
+
+/// Whether one letter stands there at least, and none twice.
+fn may_switch(on: &[u32], off: &[u32]) -> bool
+    ensures { result ≡ (not (length (on.now ++ off.now) == 0) && are_different (on.now ++ off.now)) }
+{
+    !(on.is_empty() && off.is_empty()) && are_all_different(on, off)
+}
+
+/// Reads modifiers and the colon behind them (ECMA-262, RegularExpressionModifiers).
+#[tactic(auto, unfolding(crate::specs::Modifiers::modifiers_at))]
+pub fn read_modifiers<'a>(text: &'a [u32]) -> Read<'a, Change>
+    ensures { option_map (λ found. (change_of found.0, found.1.now)) result ≡ modifiers_at text.now }
+{
+    let (on, rest) = split_letters(text);
+    let (off, rest) = split_letters_off(rest);
+    let rest = after(rest, ':')?;
+    if !may_switch(on, off) {
+        return None;
+    }
+    Some((change_by(on, off), rest))
+}

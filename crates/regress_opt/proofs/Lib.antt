@@ -1,9 +1,0 @@
-pub mod KeepsLemmas
-pub mod SweepLemmas
-pub mod SpineLemmas
-pub mod NodeLemmas
-pub mod PartsLemmas
-pub mod PassLemmas
-pub mod CheckedLemmas
-pub mod FlattenLemmas
-pub mod SpliceLemmas

@@ -1,0 +1,177 @@
+-- Flattening keeps what a rewrite must keep, and makes the tree less.
+use Rattle.std.proofs.Common.{◌≡◌, ℕ, ◌<◌, ◌≤◌, ◌≢◌, true, false, ◌++◌, refl, sym, ap₂, subst, ◌∙◌, append-nil, arith, le_refl, inr, List, Result, Ok, Err}
+use Rattle.std.specs.Prelude.{encode_utf8_all, IfOk}
+use Rattle.std.specs.declared.alloc.AllocError.{AllocError}
+use Rattle.std.specs.List.{flat_map}
+use Rattle.std.proofs.lemmas.Bool.{false≢true, or_right}
+use mathlib.Core.Path.{fun_ext}
+use Rattle.regress_tree.specs.Reading.{Direction}
+use Rattle.regress_tree.specs.Steps.{State}
+use Rattle.regress_tree.specs.Tree.{Tree, Trees, leaf, empty, cat, alt, wrapped, no_trees, more_trees, tree}
+use Rattle.regress_tree.specs.Matching.{steps, steps_in_row}
+use Rattle.regress_tree.specs.Setting.{Setting}
+use Rattle.regress_tree.specs.WellFormed.{Position, inside, last_of, MayStand, RowMayStand, captures, captures_in_row}
+use Rattle.regress_tree.specs.Units.{units, units_in_row, loops, loops_in_row, weight, weight_of_row, IsLess}
+use Rattle.regress_tree.specs.Shapes.{has_cat, is_short, is_flattened_away}
+use Rattle.regress_tree.proofs.laws.Alike.{Alike-from_same}
+use Rattle.regress_tree.proofs.laws.Outcomes.{flat_map-stay}
+use Rattle.regress_tree.proofs.laws.Rows.{row_append-none, steps-append, captures-append, units-append, loops-append, weight-append, RowMayStand-last_of, MayStand-from_last, RowMayStand-append}
+use Rattle.regress_rewrite.specs.declared.rewrite.PassAction.{PassAction}
+use Rattle.regress_rewrite.specs.declared.rewrite.PassAction.TheVariants.{Keep, Modified, Remove, Replace}
+use Rattle.regress_rewrite.specs.Law.{Keeps, after, IsLawful}
+use Rattle.regress_rewrite.specs.Splice.{parts_of, spliced, Flattens}
+use Rattle.regress_rewrite.proofs.KeepsLemmas.{Keeps-refl}
+
+-- Where the parts may stand.
+
+parts_of-stand : (n : ℕ) (t : Tree) (p : Position) → MayStand n t (last_of p) → RowMayStand n (parts_of t) (last_of p)
+parts_of-stand n (leaf l) p m = m
+parts_of-stand n (cat parts) p m = RowMayStand-last_of n parts p m.1
+parts_of-stand n (alt left right) p m = m
+parts_of-stand n (wrapped w body) p m = m
+
+spliced-stand : (n : ℕ) (ts : Trees) (p : Position) → RowMayStand n ts (last_of p) → RowMayStand n (spliced ts) (last_of p)
+spliced-stand n no_trees p m = tt
+spliced-stand n (more_trees t no_trees) p m =
+    subst (λ (us : Trees). RowMayStand n us (last_of p)) (sym (row_append-none (parts_of t))) (parts_of-stand n t p m)
+spliced-stand n (more_trees t (more_trees u ts)) p m =
+    let later = spliced-stand n (more_trees u ts) p m.1 in
+    RowMayStand-append n (parts_of t) (spliced (more_trees u ts)) p (parts_of-stand n t inside m.0) later
+
+-- Outcomes.
+
+module _ (setting : Setting) (bytes : List ℕ) (d : Direction) where
+  steps-parts_of : (t : Tree) (s : State) → steps_in_row setting bytes d (parts_of t) s ≡ steps setting bytes d t s
+  steps-parts_of (leaf l) s = flat_map-stay _
+  steps-parts_of (cat parts) s = refl
+  steps-parts_of (alt left right) s = flat_map-stay _
+  steps-parts_of (wrapped w body) s = flat_map-stay _
+
+  steps-spliced : (ts : Trees) (s : State) → steps_in_row setting bytes d (spliced ts) s ≡ steps_in_row setting bytes d ts s
+  steps-spliced no_trees s = refl
+  steps-spliced (more_trees t ts) s =
+      steps-append setting bytes d (parts_of t) (spliced ts) s
+      ∙ ap₂ flat_map (fun_ext (steps-spliced ts)) (steps-parts_of t s)
+
+-- Captures, units and weights.
+
+captures-parts_of : (t : Tree) → captures_in_row (parts_of t) ≡ captures t
+captures-parts_of (leaf l) = refl
+captures-parts_of (cat parts) = refl
+captures-parts_of (alt left right) = append-nil _
+captures-parts_of (wrapped w body) = append-nil _
+
+captures-spliced : (ts : Trees) → captures_in_row (spliced ts) ≡ captures_in_row ts
+captures-spliced no_trees = refl
+captures-spliced (more_trees t ts) = captures-append (parts_of t) (spliced ts) ∙ ap₂ ◌++◌ (captures-parts_of t) (captures-spliced ts)
+
+units-parts_of : (t : Tree) → units_in_row (parts_of t) ≤ units t
+units-parts_of (leaf l) = omega arith
+units-parts_of (cat parts) = omega arith
+units-parts_of (alt left right) = omega arith
+units-parts_of (wrapped w body) = omega arith
+
+units-spliced : (ts : Trees) → units_in_row (spliced ts) ≤ units_in_row ts
+units-spliced no_trees = le_refl _
+units-spliced (more_trees t ts) = omega (arith, units-append (parts_of t) (spliced ts), units-parts_of t, units-spliced ts)
+
+loops-parts_of : (t : Tree) → loops_in_row (parts_of t) ≡ loops t
+loops-parts_of (leaf l) = omega arith
+loops-parts_of (cat parts) = refl
+loops-parts_of (alt left right) = omega arith
+loops-parts_of (wrapped w body) = omega arith
+
+loops-spliced : (ts : Trees) → loops_in_row (spliced ts) ≡ loops_in_row ts
+loops-spliced no_trees = refl
+loops-spliced (more_trees t ts) = omega (arith, loops-append (parts_of t) (spliced ts), loops-parts_of t, loops-spliced ts)
+
+weight-parts_of : (t : Tree) → weight_of_row (parts_of t) ≤ weight t
+weight-parts_of (leaf l) = omega arith
+weight-parts_of (cat parts) = omega arith
+weight-parts_of (alt left right) = omega arith
+weight-parts_of (wrapped w body) = omega arith
+
+weight-spliced : (ts : Trees) → weight_of_row (spliced ts) ≤ weight_of_row ts
+weight-spliced no_trees = le_refl _
+weight-spliced (more_trees t ts) = omega (arith, weight-append (parts_of t) (spliced ts), weight-parts_of t, weight-spliced ts)
+
+-- where there is a `Cat`, the row becomes less
+weight-less : (ts : Trees) → has_cat ts ≡ true → weight_of_row (spliced ts) < weight_of_row ts
+weight-less no_trees some = absurd (false≢true some)
+weight-less (more_trees (cat parts) ts) some = omega (arith, weight-append parts (spliced ts), weight-spliced ts)
+weight-less (more_trees (leaf l) ts) some = omega (arith, weight-less ts some)
+weight-less (more_trees (alt left right) ts) some = omega (arith, weight-less ts some)
+weight-less (more_trees (wrapped w body) ts) some = omega (arith, weight-less ts some)
+
+-- The three actions that change something.
+
+module _ (d : Direction) where
+  none_keeps : Keeps d (cat no_trees) (leaf empty)
+  none_keeps = record {
+    meaning = λ setting text is_text. Alike-from_same (λ s. refl);
+    stands = λ n p m. m.0;
+    captures = refl;
+    account = omega arith;
+  }
+
+  one_keeps : (t : Tree) → Keeps d (cat (more_trees t no_trees)) t
+  one_keeps t = record {
+    meaning = λ setting text is_text. Alike-from_same (λ s. flat_map-stay _);
+    stands = λ n p m. MayStand-from_last n t p m.0 m.1;
+    captures = sym (append-nil (captures t));
+    account = omega arith;
+  }
+
+  spliced_keeps : (ts : Trees) → Keeps d (cat ts) (cat (spliced ts))
+  spliced_keeps ts = record {
+    meaning = λ setting text is_text. Alike-from_same (λ s. sym (steps-spliced setting (encode_utf8_all text) d ts s));
+    stands = λ n p m. (m.0, spliced-stand n ts p m.1);
+    captures = captures-spliced ts;
+    account = omega (arith, units-spliced ts, loops-spliced ts);
+  }
+
+-- The law.
+
+lighter : (new old : Tree) → loops new ≡ loops old → weight new < weight old → IsLess new old
+lighter new old same less = record { less = inr (same, less) }
+
+changes : (d : Direction) (old left : Tree) (action : PassAction) → action ≢ Keep → is_flattened_away old ≡ true →
+    Keeps d old (after action left) → IsLess (after action left) old → IsLawful is_flattened_away true d old left action
+changes d old left action other some keeps is_less = record {
+  keeps = keeps;
+  less = λ changed. is_less;
+  kept = λ same. absurd (other same);
+  clean = λ same. absurd (other same);
+  exact = λ is_exact none. absurd (false≢true (sym none ∙ some));
+}
+
+keeps_lawful : (d : Direction) (t : Tree) → is_flattened_away t ≡ false → IsLawful is_flattened_away true d t t Keep
+keeps_lawful d t none = record {
+  keeps = Keeps-refl d t;
+  less = λ other. absurd (other refl);
+  kept = λ same. refl;
+  clean = λ same. none;
+  exact = λ is_exact none. refl;
+}
+
+flattens_lawful : (d : Direction) (action : PassAction) (old new : Trees) → Flattens action old new →
+    IsLawful is_flattened_away true d (cat old) (cat new) action
+flattens_lawful d Keep old new flattens =
+    subst (λ (ts : Trees). IsLawful is_flattened_away true d (cat old) (cat ts) Keep) (sym flattens.1) (keeps_lawful d (cat old) flattens.0)
+flattens_lawful d Modified old new flattens =
+    subst (λ (ts : Trees). IsLawful is_flattened_away true d (cat old) (cat ts) Modified) (sym flattens.1)
+    (changes d (cat old) (cat (spliced old)) Modified (λ same. cc) (or_right (is_short old) (has_cat old) flattens.0) (spliced_keeps d old)
+    (lighter (cat (spliced old)) (cat old) (loops-spliced old) (omega (arith, weight-less old flattens.0))))
+flattens_lawful d Remove old new flattens =
+    subst (λ (ts : Trees). IsLawful is_flattened_away true d (cat ts) (cat new) Remove) (sym flattens)
+    (changes d (cat no_trees) (cat new) Remove (λ same. cc) refl (none_keeps d)
+    (lighter (leaf empty) (cat no_trees) refl (omega arith)))
+flattens_lawful d (Replace part) old new flattens =
+    subst (λ (ts : Trees). IsLawful is_flattened_away true d (cat ts) (cat new) (Replace part)) (sym flattens)
+    (changes d (cat (more_trees (tree part) no_trees)) (cat new) (Replace part) (λ same. cc) refl (one_keeps d (tree part))
+    (lighter (tree part) (cat (more_trees (tree part) no_trees)) (omega arith) (omega arith)))
+
+pub flatten_lawful : (d : Direction) (r : Result PassAction AllocError) (was is : Trees) → IfOk r (λ action. Flattens action was is) →
+    IfOk r (IsLawful is_flattened_away true d (cat was) (cat is))
+flatten_lawful d (Ok action) was is flattens = flattens_lawful d action was is flattens
+flatten_lawful d (Err e) was is flattens = tt

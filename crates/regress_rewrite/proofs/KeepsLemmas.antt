@@ -1,0 +1,40 @@
+-- What rewriting keeps, composed: one change after another, and a change of a part in the whole.
+use Rattle.std.proofs.Common.{◌∙◌, refl, le_refl, le_trans}
+use Rattle.std.specs.Prelude.{encode_utf8_all}
+use Rattle.regress_tree.specs.Reading.{Direction}
+use Rattle.regress_tree.specs.Tree.{Tree}
+use Rattle.regress_tree.proofs.laws.Alike.{Alike-refl, Alike-trans}
+use Rattle.regress_tree.proofs.laws.Places.{Place, put, direction_at, Alike-put, MayStand-put, captures-put, account-put, MayStand-part}
+use Rattle.regress_rewrite.specs.Law.{IsPart, Keeps}
+
+pub Keeps-refl : (d : Direction) (t : Tree) → Keeps d t t
+Keeps-refl d t = record {
+  meaning = λ setting text is_text. Alike-refl _;
+  stands = λ n p m. m;
+  captures = refl;
+  account = le_refl _;
+}
+
+pub Keeps-trans : (d : Direction) {t u v : Tree} → Keeps d t u → Keeps d u v → Keeps d t v
+Keeps-trans d a b = record {
+  meaning = λ setting text is_text. Alike-trans (a.meaning setting text is_text) (b.meaning setting text is_text);
+  stands = λ n p m. b.stands n p (a.stands n p m);
+  captures = b.captures ∙ a.captures;
+  account = le_trans b.account a.account;
+}
+
+pub Keeps-put : (p : Place) (d : Direction) {t u : Tree} → Keeps (direction_at p d) t u → Keeps d (put p t) (put p u)
+Keeps-put p d a = record {
+  meaning = λ setting text is_text. Alike-put setting (encode_utf8_all text) p d _ _ (a.meaning setting text is_text);
+  stands = MayStand-put _ _ a.stands a.captures p;
+  captures = captures-put p _ _ a.captures;
+  account = account-put p _ _ a.account;
+}
+
+pub IsPart-kept : (d : Direction) {t u : Tree} → Keeps d t u → IsPart t → IsPart u
+IsPart-kept d keeps part = (part.0, part.1, keeps.stands part.0 part.1 part.2)
+
+pub IsPart-part : (p : Place) (t : Tree) → IsPart (put p t) → IsPart t
+IsPart-part p t part =
+    let inner = MayStand-part p t part.0 part.1 part.2 in
+    (part.0, inner.0, inner.1)

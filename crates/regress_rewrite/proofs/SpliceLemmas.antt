@@ -1,0 +1,101 @@
+-- Rows of nodes, and what splicing makes of them.
+use Rattle.std.proofs.Common.{◌≡◌, ℕ, ◌+◌, ◌<◌, ◌≤◌, false, ◌||◌, List, [], ◌∷◌, ◌++◌, map, length, get_or, take, drop, true≢false, Vec, Global, vec_len, refl, sym, ap, ap₂, ◌∙◌, arith}
+use Rattle.std.specs.List.{list_any}
+use Rattle.std.proofs.lemmas.List.{length-map, take_more, length_push, take-append-drop}
+use Rattle.regress_tree.specs.declared.ir.node.Node.{Node}
+use Rattle.regress_tree.specs.declared.ir.node.Node.TheVariants.{Cat}
+use Rattle.regress_tree.specs.Tree.{Tree, Trees, leaf, cat, alt, wrapped, no_trees, more_trees, row, row_append, tree, trees}
+use Rattle.regress_tree.specs.Shapes.{is_cat, has_cat, is_short}
+use Rattle.regress_tree.proofs.laws.Nodes.{tree-Cat}
+use Rattle.regress_tree.proofs.laws.Rows.{row_append-none, row_append-assoc, trees-append}
+use Rattle.regress_rewrite.specs.Splice.{parts_of, spliced, row_length}
+
+spliced-append : (ts us : Trees) → spliced (row_append ts us) ≡ row_append (spliced ts) (spliced us)
+spliced-append no_trees us = refl
+spliced-append (more_trees t ts) us =
+    ap (row_append (parts_of t)) (spliced-append ts us) ∙ sym (row_append-assoc (parts_of t) (spliced ts) (spliced us))
+
+row_length-append : (ts us : Trees) → row_length (row_append ts us) ≡ row_length ts + row_length us
+row_length-append no_trees us = omega arith
+row_length-append (more_trees t ts) us = omega (arith, row_length-append ts us)
+
+row_length-row : (ts : List Tree) → row_length (row ts) ≡ length ts
+row_length-row [] = refl
+row_length-row (t ∷ ts) = omega (arith, row_length-row ts)
+
+row_length-trees : (nodes : List Node) → row_length (trees nodes) ≡ length nodes
+row_length-trees nodes = row_length-row (map tree nodes) ∙ length-map nodes tree
+
+-- How many parts stand for a node, and for the nodes of a row.
+
+abbrev pub part_len : Node → ℕ
+part_len node = row_length (parts_of (tree node))
+
+abbrev pub flat_len : List Node → ℕ
+flat_len nodes = row_length (spliced (trees nodes))
+
+flat-append : (xs ys : List Node) → spliced (trees (xs ++ ys)) ≡ row_append (spliced (trees xs)) (spliced (trees ys))
+flat-append xs ys = ap spliced (trees-append xs ys) ∙ spliced-append (trees xs) (trees ys)
+
+-- one node more
+flat-push : (xs : List Node) (x : Node) → spliced (trees (xs ++ x ∷ [])) ≡ row_append (spliced (trees xs)) (parts_of (tree x))
+flat-push xs x = flat-append xs (x ∷ []) ∙ ap (row_append (spliced (trees xs))) (row_append-none (parts_of (tree x)))
+
+flat_len-push : (xs : List Node) (x : Node) → flat_len (xs ++ x ∷ []) ≡ flat_len xs + part_len x
+flat_len-push xs x = ap row_length (flat-push xs x) ∙ row_length-append (spliced (trees xs)) (parts_of (tree x))
+
+pub flat_len-more : (xs : List Node) (i : ℕ) (x : Node) → i < length xs → x ≡ get_or xs i x →
+    flat_len (take (i + 1) xs) ≡ flat_len (take i xs) + part_len x
+flat_len-more xs i x in_row at =
+    ap flat_len (take_more xs i x in_row ∙ ap (λ y. take i xs ++ y ∷ []) (sym at)) ∙ flat_len-push (take i xs) x
+
+-- A `Cat` has its parts stand for it, and any other node itself.
+
+pub parts_of-Cat : (node : Node) (inner : Vec Node Global) → node ≡ Cat inner → parts_of (tree node) ≡ trees inner.items
+parts_of-Cat node inner is = ap (λ n. parts_of (tree n)) is ∙ ap parts_of (tree-Cat inner)
+
+pub parts_len-Cat : (node : Node) (inner : Vec Node Global) → node ≡ Cat inner → part_len node ≡ vec_len inner
+parts_len-Cat node inner is = ap row_length (parts_of-Cat node inner is) ∙ row_length-trees inner.items ∙ sym inner.ok.0
+
+pub parts_of-other : (t : Tree) → is_cat t ≡ false → parts_of t ≡ more_trees t no_trees
+parts_of-other (leaf l) other = refl
+parts_of-other (cat parts) other = absurd (true≢false other)
+parts_of-other (alt left right) other = refl
+parts_of-other (wrapped w body) other = refl
+
+-- Moving the nodes of a row, with `moved` of them behind, and x the next.
+
+module _ (all moved : List Node) (x : Node) (before : moved ≡ take (length moved) all)
+    (in_row : length moved < length all) (at : x ≡ get_or all (length moved) x) where
+  next_moved : moved ++ x ∷ [] ≡ take (length moved + 1) all
+  next_moved = ap₂ (λ (ys : List Node) (y : Node). ys ++ y ∷ []) before at ∙ sym (take_more all (length moved) x in_row)
+
+  pub moved_before : moved ++ x ∷ [] ≡ take (length (moved ++ x ∷ [])) all
+  moved_before = next_moved ∙ ap (λ n. take n all) (sym (length_push moved x))
+
+  pub moved_fits : flat_len moved + part_len x ≤ flat_len all
+  moved_fits =
+      let rest = drop (length moved + 1) all in
+      let cut : all ≡ (moved ++ x ∷ []) ++ rest = sym (take-append-drop (length moved + 1) all) ∙ ap (λ ys. ys ++ rest) (sym next_moved) in
+      let whole = ap flat_len cut ∙ ap row_length (flat-append (moved ++ x ∷ []) rest) in
+      omega (arith, whole, flat_len-push moved x, row_length-append (spliced (trees (moved ++ x ∷ []))) (spliced (trees rest)))
+
+-- the new row so far: how long it is, and with the next node's parts
+module _ (flat moved : List Node) (items : trees flat ≡ spliced (trees moved)) where
+  pub moved_len : length flat ≡ flat_len moved
+  moved_len = sym (row_length-trees flat) ∙ ap row_length items
+
+  pub moved_items : (more : List Node) (x : Node) → trees more ≡ row_append (trees flat) (parts_of (tree x)) →
+      trees more ≡ spliced (trees (moved ++ x ∷ []))
+  moved_items more x is = is ∙ ap (λ ts. row_append ts (parts_of (tree x))) items ∙ sym (flat-push moved x)
+
+-- What the calls find.
+
+pub is_short-from_len : (nodes : List Node) → 2 ≤ length nodes → is_short (trees nodes) ≡ false
+is_short-from_len [] long = absurd (omega (arith, long))
+is_short-from_len (x ∷ []) long = absurd (omega (arith, long))
+is_short-from_len (x ∷ y ∷ nodes) long = refl
+
+pub has_cat-any : (nodes : List Node) → has_cat (trees nodes) ≡ list_any (λ n. is_cat (tree n)) nodes
+has_cat-any [] = refl
+has_cat-any (x ∷ nodes) = ap (λ b. is_cat (tree x) || b) (has_cat-any nodes)

@@ -1,0 +1,124 @@
+-- What a sweep answers, composed: of a part in the whole, and one after another.
+use Rattle.std.proofs.Common.{◌≡◌, ◌<◌, ◌⊎◌, inl, inr, Bool, true, false, ◌||◌, Result, Ok, Err, sym, ap, subst, ◌∙◌, arith}
+use Rattle.std.specs.declared.alloc.AllocError.{AllocError}
+use Rattle.std.specs.Result.{IsErr}
+use Rattle.std.proofs.lemmas.Bool.{or_parts, false≢true}
+use Rattle.regress_tree.specs.Reading.{Direction}
+use Rattle.regress_tree.specs.declared.ir.walk.Walk.{Walk}
+use Rattle.regress_tree.specs.Walk.{direction_of}
+use Rattle.regress_tree.specs.Tree.{Tree, leaf, cat, alt, wrapped}
+use Rattle.regress_tree.specs.Units.{loops, weight, IsLess}
+use Rattle.regress_tree.specs.Shapes.{LacksShape, LacksInside}
+use Rattle.regress_tree.proofs.laws.Places.{Place, put, direction_at, IsLess-put}
+use Rattle.regress_rewrite.specs.Law.{Keeps}
+use Rattle.regress_rewrite.specs.Sweep.{TellsChange, Swept}
+use Rattle.regress_rewrite.proofs.KeepsLemmas.{Keeps-trans, Keeps-put}
+
+-- What falls.
+
+IsLess-trans : (t u v : Tree) → IsLess u t → IsLess v u → IsLess v t
+IsLess-trans t u v a b = record { less = by a.less b.less }
+  where
+    by : (loops u < loops t) ⊎ ((loops u ≡ loops t) × (weight u < weight t)) →
+        (loops v < loops u) ⊎ ((loops v ≡ loops u) × (weight v < weight u)) →
+        (loops v < loops t) ⊎ ((loops v ≡ loops t) × (weight v < weight t))
+    by (inl first) (inl second) = inl (omega arith)
+    by (inl first) (inr second) = inl (omega (arith, second.0))
+    by (inr first) (inl second) = inl (omega (arith, first.0))
+    by (inr first) (inr second) = inr (omega (arith, first.0, second.0), omega (arith, first.1, second.1))
+
+-- What is told of changes.
+
+TellsChange-put : (p : Place) (answer : Result Bool AllocError) (t u : Tree) → TellsChange answer t u →
+    TellsChange answer (put p t) (put p u)
+TellsChange-put p (Ok true) t u tells = IsLess-put p t u tells
+TellsChange-put p (Ok false) t u tells = ap (put p) tells
+TellsChange-put p (Err e) t u tells = tt
+
+-- the answer of what follows a change, or none
+abbrev pub joined : Bool → Result Bool AllocError → Result Bool AllocError
+joined a (Ok b) = Ok (a || b)
+joined a (Err e) = Err e
+
+TellsChange-then : (a : Bool) (answer : Result Bool AllocError) (t u v : Tree) → TellsChange (Ok a) t u → TellsChange answer u v →
+    TellsChange (joined a answer) t v
+TellsChange-then true (Ok true) t u v first second = IsLess-trans t u v first second
+TellsChange-then true (Ok false) t u v first second = subst (λ (x : Tree). IsLess x t) (sym second) first
+TellsChange-then false (Ok true) t u v first second = subst (λ (x : Tree). IsLess v x) first second
+TellsChange-then false (Ok false) t u v first second = second ∙ first
+TellsChange-then a (Err e) t u v first second = tt
+
+joined-false : (a : Bool) (answer : Result Bool AllocError) → joined a answer ≡ Ok false → (a ≡ false) × (answer ≡ Ok false)
+joined-false a (Ok b) same =
+    let both : (a || b) ≡ false = cc in
+    let parts = or_parts a b both in
+    (parts.0, ap Ok parts.1)
+joined-false a (Err e) same = cc
+
+-- Sweeps.
+
+module _ (exact : Bool) where
+  pub Swept-put : (p : Place) (d : Direction) {before clean : Type 0} {t u : Tree} {answer : Result Bool AllocError} →
+      Swept before clean exact (direction_at p d) t u answer → Swept before clean exact d (put p t) (put p u) answer
+  Swept-put p d {answer = answer} swept = record {
+    keeps = Keeps-put p d swept.keeps;
+    changed = TellsChange-put p answer _ _ swept.changed;
+    removed = swept.removed;
+    left = λ is_exact lacks. ap (put p) (swept.left is_exact lacks);
+  }
+
+  pub Swept-then : (d : Direction) {before clean before' clean' both : Type 0} {t u v : Tree} {a : Bool} {answer : Result Bool AllocError} →
+      Swept before clean exact d t u (Ok a) → Swept before' clean' exact d u v answer →
+      (before → u ≡ t → before') → (clean → clean' → both) → Swept before both exact d t v (joined a answer)
+  Swept-then d {t = t} {u = u} {v = v} {a = a} {answer = answer} first second on and = record {
+    keeps = Keeps-trans d first.keeps second.keeps;
+    changed = TellsChange-then a answer t u v first.changed second.changed;
+    removed = λ same.
+        let parts = joined-false a answer same in
+        and (first.removed (ap Ok parts.0)) (second.removed parts.1);
+    left = λ is_exact lacks.
+        let same = first.left is_exact lacks in
+        second.left is_exact (on lacks same) ∙ same;
+  }
+
+  -- where nothing changed the tree is what it was
+  pub Swept-same : (d : Direction) {before clean : Type 0} {t u : Tree} {answer : Result Bool AllocError} →
+      Swept before clean exact d t u answer → Swept before (clean × (u ≡ t)) exact d t u answer
+  Swept-same d {t = t} {u = u} {answer = answer} swept = record {
+    keeps = swept.keeps;
+    changed = swept.changed;
+    removed = λ same. (swept.removed same, subst (λ (r : Result Bool AllocError). TellsChange r t u) same swept.changed);
+    left = swept.left;
+  }
+
+  -- after an error nothing is said of what is removed
+  pub Swept-error : (d : Direction) {before clean clean' : Type 0} {t u u' : Tree} {r : Result Bool AllocError}
+      (answer : Result Bool AllocError) → IsErr answer →
+      u' ≡ u → Swept before clean exact d t u r → Swept before clean' exact d t u' answer
+  Swept-error d (Ok b) err same swept = absurd (false≢true err)
+  Swept-error d {t = t} (Err e) err same swept = record {
+    keeps = subst (λ (x : Tree). Keeps d t x) (sym same) swept.keeps;
+    changed = tt;
+    removed = λ never. cc;
+    left = λ is_exact lacks. same ∙ swept.left is_exact lacks;
+  }
+
+  -- in the walk of what lies inside
+  pub Swept-walk : (walk inner : Walk) {before clean : Type 0} {t u : Tree} {answer : Result Bool AllocError} →
+      inner.in_lookbehind ≡ walk.in_lookbehind → Swept before clean exact (direction_of inner) t u answer →
+      Swept before clean exact (direction_of walk) t u answer
+  Swept-walk walk inner same swept = rw (← same) swept
+
+-- Shapes of a node and of what lies inside it.
+
+pub LacksShape-here : (shape : Tree → Bool) (t : Tree) → LacksShape shape t → shape t ≡ false
+LacksShape-here shape (leaf l) lacks = lacks
+LacksShape-here shape (cat parts) lacks = lacks.0
+LacksShape-here shape (alt left right) lacks = lacks.0
+LacksShape-here shape (wrapped w body) lacks = lacks.0
+
+pub LacksShape-from : (shape : Tree → Bool) (t : Tree) → LacksInside shape t → shape t ≡ false → LacksShape shape t
+LacksShape-from shape (leaf l) inside here = here
+LacksShape-from shape (cat parts) inside here = (here, inside)
+LacksShape-from shape (alt left right) inside here = (here, inside.0, inside.1)
+LacksShape-from shape (wrapped w body) inside here = (here, inside)

@@ -1,0 +1,47 @@
+-- What the sweeps so far have made of the whole.
+use Rattle.std.proofs.Common.{◌≡◌, ◌≤◌, ◌+◌, ◌*◌, Ok, length, drop}
+use Rattle.regress_tree.specs.Tree.{tree, trees}
+use Rattle.regress_tree.specs.Walk.{direction_of}
+use Rattle.regress_tree.specs.Units.{units, units_in_row}
+use Rattle.regress_tree.specs.Spine.{spine_length}
+use Rattle.regress_rewrite.proofs.SpineLemmas.{DownSwept}
+use Rattle.regress_rewrite.proofs.PartsLemmas.{PartsSwept}
+use Rattle.regress_rewrite.proofs.pass.+sweep.Given as goal
+
+abbrev pub invariant-sweep_down-loop-changed : goal.invariant-sweep_down-loop-changed
+invariant-sweep_down-loop-changed g l =
+    let old = tree l.initial.node in
+    record {
+      levels : l.levels ≡ spine_length (tree l.above);
+      smaller : units (tree l.node) ≤ units old;
+      swept : DownSwept g.R.Rewrite.is_exact (direction_of l.walk) g.R.Rewrite.removes old (tree l.above) (tree l.node) (Ok l.changed);
+    }
+
+abbrev pub decreases-sweep_down-loop-changed : goal.decreases-sweep_down-loop-changed
+decreases-sweep_down-loop-changed g l = units (tree l.node)
+
+abbrev pub invariant-sweep_parts-loop-i : goal.invariant-sweep_parts-loop-i
+invariant-sweep_parts-loop-i g l =
+    let old = l.initial.parts.items in
+    record {
+      length : length l.parts.items ≡ length old;
+      unvisited : drop l.i l.parts.items ≡ drop l.i old;
+      swept : PartsSwept g.R.Rewrite.removes g.R.Rewrite.is_exact (direction_of l.walk) old l.parts.items l.i (Ok l.changed);
+    }
+
+-- each call is on a part, or on what is further down in this list
+
+abbrev pub decreases-sweep : goal.decreases-sweep
+decreases-sweep g l = 5 * units (tree l.node.now) + 3
+
+abbrev pub decreases-sweep_down : goal.decreases-sweep_down
+decreases-sweep_down g l = 5 * units (tree l.node.now) + 2
+
+abbrev pub decreases-sweep_one : goal.decreases-sweep_one
+decreases-sweep_one g l = 5 * units (tree l.node.now) + 1
+
+abbrev pub decreases-sweep_inside : goal.decreases-sweep_inside
+decreases-sweep_inside g l = 5 * units (tree l.node.now)
+
+abbrev pub decreases-sweep_parts : goal.decreases-sweep_parts
+decreases-sweep_parts g l = 5 * units_in_row (trees l.parts.now.items) + 4

@@ -1,0 +1,21 @@
+-- What the rewriting of the alternatives so far has made of the whole.
+use Rattle.std.proofs.Common.{◌≡◌, Ok}
+use Rattle.regress_tree.specs.Tree.{tree}
+use Rattle.regress_tree.specs.Walk.{direction_of}
+use Rattle.regress_tree.specs.Shapes.{LacksShape}
+use Rattle.regress_tree.specs.Spine.{reattach, spine_length, LeftsLackShape}
+use Rattle.regress_rewrite.proofs.SpineLemmas.{UpSwept}
+use Rattle.regress_rewrite.proofs.pass.rewrite_up.Given as goal
+
+abbrev pub invariant-loop-levels : goal.invariant-loop-levels
+invariant-loop-levels g l =
+    let shape = g.R.Rewrite.removes in
+    let start = LacksShape shape (tree l.initial.node) × LeftsLackShape shape (tree l.initial.above) in
+    let old = reattach (tree l.initial.above) (tree l.initial.node) in
+    record {
+      levels : l.levels ≡ spine_length (tree l.above);
+      swept : UpSwept g.R.Rewrite.is_exact (direction_of l.walk) shape old start (tree l.above) (tree l.node) (Ok l.changed);
+    }
+
+abbrev pub decreases-loop-levels : goal.decreases-loop-levels
+decreases-loop-levels g l = spine_length (tree l.above)

@@ -1,0 +1,19 @@
+use Rattle.std.proofs.Common.{◌≡◌, Ok}
+use Rattle.regress_tree.specs.Reading.{forwards}
+use Rattle.regress_tree.specs.Tree.{tree}
+use Rattle.regress_tree.specs.Units.{account}
+use Rattle.regress_tree.specs.Shapes.{LacksShape}
+use Rattle.regress_rewrite.specs.Sweep.{Swept}
+use Rattle.regress_rewrite.proofs.PassLemmas.{changes_left}
+use Rattle.regress_rewrite.proofs.pass.run_pass.Given as goal
+
+-- each sweep so far has changed something, so nothing is known to be clean
+abbrev pub invariant-loop-changed : goal.invariant-loop-changed
+invariant-loop-changed g l = record {
+  flags : l.r.flags ≡ l.initial.r.flags;
+  swept : Swept (LacksShape g.R.Rewrite.removes (tree l.initial.r.node)) (Unit {0}) g.R.Rewrite.is_exact forwards
+      (tree l.initial.r.node) (tree l.r.node) (Ok l.changed);
+}
+
+abbrev pub decreases-loop-changed : goal.decreases-loop-changed
+decreases-loop-changed g l = changes_left (account (tree l.initial.r.node)) (tree l.r.node)

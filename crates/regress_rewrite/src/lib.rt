@@ -1,0 +1,9 @@
+//! The law of a rewrite, the passes that run one over a tree, and the rewrites.
+#![tactic(auto)]
+
+pub mod flatten;
+mod pass;
+mod rewrite;
+
+pub use pass::run_pass;
+pub use rewrite::{PassAction, Rewrite};

@@ -1,0 +1,195 @@
+//! Running a rewrite over a tree.
+ghost use Rattle.std.specs.Prelude.{◌≡◌, ◌≢◌, ◌≤◌, false, IsTrue, IfOk, OnOk, OnErr, MatchBool};
+ghost use Rattle.regress_tree.specs.Reading.{forwards};
+ghost use Rattle.regress_tree.specs.Tree.{tree, trees, leaf, empty, cat};
+ghost use Rattle.regress_tree.specs.Walk.{direction_of};
+ghost use Rattle.regress_tree.specs.WellFormed.{IsWellFormed, captures};
+ghost use Rattle.regress_tree.specs.Units.{account};
+ghost use Rattle.regress_tree.specs.Shapes.{LacksShape, LacksInside};
+ghost use Rattle.regress_rewrite.specs.Law.{IsPart, MeansTheSame};
+ghost use Rattle.regress_rewrite.specs.Sweep.{Swept, SweptOf};
+ghost use Rattle.regress_tree.specs.Spine.{is_alt, reattach, spine_length, LeftsLackShape};
+
+use crate::rewrite::{PassAction, Rewrite};
+use regress_tree::ir::spine::{relink, shift};
+use regress_tree::ir::{Node, NodeList, Regex, Walk};
+use std::alloc::AllocError;
+
+/// Sweeps the tree, children before parents, until a sweep changes nothing, and answers whether the
+/// tree changed. After an error some nodes are rewritten and others not.
+///
+/// A sweep is one walk over the tree, with one call of the rewrite for each node.
+pub fn run_pass<R: Rewrite>(r: &mut Regex, pass: &mut R) -> Result<bool, AllocError>
+    requires { IsWellFormed (tree r.old.node) }
+
+    // Whatever it answers.
+    ensures meaning { MeansTheSame forwards (tree r.old.node) (tree r.new.node) }
+    ensures well_formed { IsWellFormed (tree r.new.node) }
+    ensures captures { captures (tree r.new.node) ≡ captures (tree r.old.node) }
+    ensures account { account (tree r.new.node) ≤ account (tree r.old.node) }
+    ensures flags { r.new.flags ≡ r.old.flags }
+
+    // What is removed, and what is left as it was.
+    ensures changed { IfOk result (λ changed. MatchBool changed (tree r.new.node ≢ tree r.old.node) (tree r.new.node ≡ tree r.old.node)) }
+    ensures removed { OnOk result (LacksShape R.removes (tree r.new.node)) }
+    ensures left { IsTrue R.is_exact → LacksShape R.removes (tree r.old.node) → tree r.new.node ≡ tree r.old.node }
+{
+    let walk = Walk::root(r.flags.unicode);
+    let mut changed = false;
+    while sweep(&mut r.node, pass, &walk)? {
+        changed = true;
+    }
+    Ok(changed)
+}
+
+/// Rewrites the nodes inside a node and then the node, and answers whether that changed anything.
+#[cycle(sweep)]
+fn sweep<R: Rewrite>(node: &mut Node, pass: &mut R, walk: &Walk) -> Result<bool, AllocError>
+    requires { IsPart (tree node.old) }
+    ensures { SweptOf (LacksShape R.removes) R.is_exact (direction_of walk.now) (tree node.old) (tree node.new) result }
+{
+    let mut above = Node::Empty;
+    let mut levels = 0;
+    match sweep_down(node, &mut above, &mut levels, pass, walk) {
+        Ok(changed) => Ok(changed | rewrite_up(node, above, levels, pass, walk)?),
+        Err(e) => {
+            relink(node, above);
+            Err(e)
+        }
+    }
+}
+
+/// Goes down the right sides of alternatives and sweeps the left ones, and then the last alternative.
+/// What it has gone down is `above`, the last one first, with so many levels.
+#[cycle(sweep)]
+fn sweep_down<R: Rewrite>(
+    node: &mut Node,
+    above: &mut Node,
+    levels: &mut usize,
+    pass: &mut R,
+    walk: &Walk,
+) -> Result<bool, AllocError>
+    requires part { IsPart (tree node.old) }
+    requires above { tree above.old ≡ leaf empty }
+    requires levels { levels.old ≡ 0 }
+    ensures swept { Swept (LacksShape R.removes (tree node.old))
+        (LacksShape R.removes (tree node.new) × LeftsLackShape R.removes (tree above.new)) R.is_exact
+        (direction_of walk.now) (tree node.old) (reattach (tree above.new) (tree node.new)) result }
+    ensures levels { OnOk result (levels.new ≡ spine_length (tree above.new)) }
+{
+    let mut changed = false;
+    while shift(node, above) {
+        *levels = levels.checked_add(1).ok_or(AllocError)?;
+        if let Node::Alt(left, _) = above {
+            changed |= sweep(left, pass, &walk.inside(*levels))?;
+        }
+    }
+    Ok(changed | sweep_one(node, pass, &walk.inside(*levels))?)
+}
+
+/// Rewrites the alternatives above a node, the last one first, which have it as their right side.
+fn rewrite_up<R: Rewrite>(
+    node: &mut Node,
+    above: Node,
+    levels: usize,
+    pass: &mut R,
+    walk: &Walk,
+) -> Result<bool, AllocError>
+    requires part { IsPart (reattach (tree above) (tree node.old)) }
+    requires levels { levels ≡ spine_length (tree above) }
+    ensures { Swept (LacksShape R.removes (reattach (tree above) (tree node.old)))
+        ((LacksShape R.removes (tree node.old) × LeftsLackShape R.removes (tree above)) → LacksShape R.removes (tree node.new))
+        R.is_exact (direction_of walk.now) (reattach (tree above) (tree node.old)) (tree node.new) result }
+{
+    let mut above = above;
+    let mut levels = levels;
+    let mut changed = false;
+    while shift(&mut above, node) {
+        levels -= 1;
+        match rewrite(node, pass, &walk.inside(levels)) {
+            Ok(here) => changed |= here,
+            Err(e) => {
+                relink(node, above);
+                return Err(e);
+            }
+        }
+    }
+    Ok(changed)
+}
+
+/// Sweeps what lies inside a node that is no `Alt`, and rewrites the node.
+#[cycle(sweep)]
+fn sweep_one<R: Rewrite>(node: &mut Node, pass: &mut R, walk: &Walk) -> Result<bool, AllocError>
+    requires part { IsPart (tree node.old) }
+    requires other { is_alt (tree node.old) ≡ false }
+    ensures { SweptOf (LacksShape R.removes) R.is_exact (direction_of walk.now) (tree node.old) (tree node.new) result }
+{
+    let changed = sweep_inside(node, pass, &walk.inside(1))?;
+    Ok(changed | rewrite(node, pass, walk)?)
+}
+
+/// Sweeps what lies inside a node that is no `Alt`.
+#[cycle(sweep)]
+fn sweep_inside<R: Rewrite>(node: &mut Node, pass: &mut R, walk: &Walk) -> Result<bool, AllocError>
+    requires part { IsPart (tree node.old) }
+    requires other { is_alt (tree node.old) ≡ false }
+    ensures { SweptOf (LacksInside R.removes) R.is_exact (direction_of walk.now) (tree node.old) (tree node.new) result }
+{
+    match node {
+        Node::Cat(parts) => sweep_parts(parts, pass, walk),
+        Node::CaptureGroup { contents, .. } => sweep(contents, pass, walk),
+        Node::Loop { loopee, .. } => sweep(loopee, pass, walk),
+        Node::Loop1CharBody { loopee, .. } => sweep(loopee, pass, walk),
+        Node::LookaroundAssertion {
+            backwards,
+            contents,
+            ..
+        } => sweep(contents, pass, &walk.looking(*backwards)),
+        Node::Alt(..)
+        | Node::Empty
+        | Node::Goal
+        | Node::Char { .. }
+        | Node::ByteSequence(_)
+        | Node::ByteSet(_)
+        | Node::CharSet(_)
+        | Node::MatchAny
+        | Node::MatchAnyExceptLineTerminator
+        | Node::Anchor { .. }
+        | Node::WordBoundary { .. }
+        | Node::Bracket(_)
+        | Node::BackRef { .. }
+        | Node::StringSet { .. } => Ok(false),
+    }
+}
+
+/// Sweeps the parts of a `Cat`.
+#[cycle(sweep)]
+fn sweep_parts<R: Rewrite>(
+    parts: &mut NodeList,
+    pass: &mut R,
+    walk: &Walk,
+) -> Result<bool, AllocError>
+    requires { IsPart (cat (trees parts.old.items)) }
+    ensures { SweptOf (LacksInside R.removes) R.is_exact (direction_of walk.now)
+        (cat (trees parts.old.items)) (cat (trees parts.new.items)) result }
+{
+    let mut changed = false;
+    for i in 0..parts.len() {
+        changed |= sweep(&mut parts[i], pass, walk)?;
+    }
+    Ok(changed)
+}
+
+/// Applies the rewrite to one node, and does what it answers.
+fn rewrite<R: Rewrite>(node: &mut Node, pass: &mut R, walk: &Walk) -> Result<bool, AllocError>
+    requires { IsPart (tree node.old) }
+    ensures { SweptOf (λ t. R.removes t ≡ false) R.is_exact (direction_of walk.now) (tree node.old) (tree node.new) result }
+{
+    match pass.apply(node, walk)? {
+        PassAction::Keep => return Ok(false),
+        PassAction::Modified => {}
+        PassAction::Remove => *node = Node::Empty,
+        PassAction::Replace(new) => *node = new,
+    }
+    Ok(true)
+}

@@ -1,0 +1,43 @@
+//! The law of a rewrite.
+ghost use Rattle.std.specs.Prelude.{◌≡◌, Bool, IfOk, OnErr};
+ghost use Rattle.regress_tree.specs.Tree.{Tree, tree};
+ghost use Rattle.regress_tree.specs.Walk.{direction_of};
+ghost use Rattle.regress_rewrite.specs.Law.{IsPart, IsLawful};
+
+use regress_tree::ir::{Node, Walk};
+use std::alloc::AllocError;
+
+/// What a rewrite did to a node.
+#[derive(Debug, Drop)]
+pub enum PassAction {
+    /// Nothing: the node is as it was.
+    Keep,
+    /// It was changed in its place.
+    Modified,
+    /// It is to become `Empty`.
+    Remove,
+    /// This node is to stand in its place.
+    Replace(Node),
+}
+
+/// A rewrite of single nodes. Its law says what it may do to one, wherever in a tree and in whichever
+/// direction the node is matched; `run_pass` applies it to every node of a tree.
+pub trait Rewrite {
+    /// The shapes that it removes, as a test on a node.
+    ghost removes: { Tree → Bool };
+
+    /// Whether it leaves each node as it is that has none of these shapes.
+    ghost is_exact: { Bool };
+
+    /// Looks at a node, whose children have been looked at before.
+    fn apply(&mut self, node: &mut Node, walk: &Walk) -> Result<PassAction, AllocError>
+        requires { IsPart (tree node.old) }
+
+        // What the action makes of the node cannot be told apart from it, stands where it stood, has
+        // its groups, is no larger and, unless it is `Keep`, is less. `Keep` leaves the node, and comes
+        // only where there is nothing to remove.
+        ensures lawful { IfOk result (IsLawful removes is_exact (direction_of walk.now) (tree node.old) (tree node.new)) }
+
+        // Want of memory leaves the node.
+        ensures err { OnErr result (tree node.new ≡ tree node.old) };
+}

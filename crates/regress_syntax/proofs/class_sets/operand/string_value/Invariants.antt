@@ -1,8 +1,0 @@
--- The strings taken so far are held.
-use Rattle.std.proofs.Common.{take}
-use Rattle.regress_syntax.specs.ClassSets.{value_of_strings}
-use Rattle.regress_syntax.specs.Views.{strings_of, IsValue}
-use Rattle.regress_syntax.proofs.class_sets.operand.string_value.Given as goal
-
-abbrev pub invariant-loop-string : goal.invariant-loop-string
-invariant-loop-string l = IsValue l.value (value_of_strings (strings_of (take l.string-index l.strings)))

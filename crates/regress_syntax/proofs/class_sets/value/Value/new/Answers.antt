@@ -1,6 +1,0 @@
-use Rattle.std.proofs.Common.{[]}
-use Rattle.regress_syntax.proofs.ClassSetLemmas.{no_members}
-use Rattle.regress_syntax.proofs.class_sets.value.Value.new.Goals as goal
-
-pub returns : goal.returns
-returns c = c.of_set.ensures [] (no_members c.new.result c.new.ensures)

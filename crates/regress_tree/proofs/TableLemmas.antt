@@ -1,7 +1,0 @@
--- Each value of `Tables` stands for a lawful table.
-use Rattle.regress_tree.specs.declared.unicode.Tables.{Tables}
-use Rattle.regress_tree.specs.Table.{IsLawful}
-use Rattle.regress_tree.specs.TableOf.{table_of}
-
-pub table_of-lawful : (t : Tables) → IsLawful (table_of t)
-table_of-lawful t = t.sound.lawful

@@ -1,0 +1,317 @@
+-- What the images of a table of rows keep, told by the code points of the rows that move.
+use Rattle.std.proofs.Common.{◌≡◌, ◌≢◌, ℕ, zero, suc, ◌+◌, ◌-◌, ◌%◌, ◌<◌, ◌≤◌, ◌⊎◌, Bool, true, false, not, ◌&&◌, nat_lt, ◌==◌, IsTrue, List, [], ◌∷◌, ◌++◌, length, map, cond, filter, get_or, All, inl, inr, refl, sym, ap, subst, ◌∙◌, arith}
+use Rattle.std.proofs.lemmas.Bool.{cases_eq, eqb-true, eq-eqb}
+use Rattle.std.proofs.Math.Bool.{or-true}
+use Rattle.std.proofs.lemmas.Bool.Decides.{nat_tests}
+use Rattle.std.proofs.lemmas.List.Elements.{All-head, All-tail, All-cons, All-map, All-weaker, filter_passes, filter_agree}
+use Rattle.std.proofs.lemmas.List.Sorted.{IsNonDecreasingBy-from_sort}
+use Rattle.std.specs.List.Sorted.{IsNonDecreasing, IsSorted, IsStable, ties}
+use Rattle.std.specs.Ordering.{nat_cmp, is_lt}
+use Rattle.std.specs.List.{range_with_len}
+use Rattle.regress_base.specs.Intervals.{code_point_max}
+use Rattle.regress_unicode.specs.Listing.{lists, is_ascending_from}
+use Rattle.regress_unicode.specs.FoldRows.{FoldRow, moved, is_in_row, image_in_row, image, is_in_order_from, is_in_order, are_targets_in_range}
+use Rattle.regress_unicode.specs.Parts.{AreSoundRows}
+use Rattle.regress_unicode.specs.Moves.{codes, moves, movers, images, count_of, HasNoFour}
+use Rattle.regress_unicode.specs.Table.{IsIdempotent, HasSmallClasses, IsCaseMap}
+use Rattle.regress_unicode.proofs.laws.Listings.{ascending_parts, ascending_within, ascending_filter, lists-tail, lists-past, lists-filter, length_without, ascending_append, lists-append, lists-run}
+use Rattle.regress_unicode.proofs.RowLemmas.{order_parts, shifted_is}
+
+-- a number that has another image is in a row
+pub moves_in_codes : (rows : List FoldRow) (c : ℕ) → (lists (codes rows) c ≡ true) ⊎ (image rows c ≡ c)
+unfolding image
+moves_in_codes [] c = inr refl
+moves_in_codes (row ∷ rows) c = by_row (is_in_row row c) refl (moves_in_codes rows c)
+  where
+    by_row : (b : Bool) → is_in_row row c ≡ b → (lists (codes rows) c ≡ true) ⊎ (image rows c ≡ c) →
+        (lists (range_with_len row.start row.length ++ codes rows) c ≡ true) ⊎ (cond b (image_in_row row c) (image rows c) ≡ c)
+    by_row true e rest = inl (lists-append (range_with_len row.start row.length) (codes rows) c ∙
+        (let here : lists (range_with_len row.start row.length) c ≡ true = lists-run row.start row.length c ∙ e in rw here))
+    by_row false e (inl later) = inl (lists-append (range_with_len row.start row.length) (codes rows) c ∙ (rw later (or-true _)))
+    by_row false e (inr stays) = inr stays
+
+-- rows in order have ascending code points
+pub ascending_codes : (low : ℕ) (rows : List FoldRow) → IsTrue (is_in_order_from low rows) → IsTrue (is_ascending_from low (codes rows))
+ascending_codes low [] h = h
+ascending_codes low (row ∷ rows) h =
+    let parts = order_parts low row rows h in
+    ascending_append low row.start row.length (codes rows) parts.above (ascending_codes (row.start + row.length) rows parts.rest)
+
+pub mover_listed : (rows : List FoldRow) (c : ℕ) → image rows c ≢ c → lists (movers (image rows) rows) c ≡ true
+mover_listed rows c other = elim (moves_in_codes rows c) [
+  | inl here ↦ lists-filter (moves (image rows)) (codes rows) c ∙
+      (let no : (image rows c == c) ≡ false = grind (arith, nat_tests, other) in rw (no, here))
+  | inr stays ↦ absurd (other stays)
+]
+
+-- ---- idempotent
+
+-- where the images of what moves are their own images
+pub idempotent_from_movers : (rows : List FoldRow) → ((c : ℕ) → lists (movers (image rows) rows) c ≡ true →
+    image rows (image rows c) ≡ image rows c) → IsIdempotent (image rows)
+idempotent_from_movers rows h c =
+    elim (cases_eq (image rows c) c) [
+      | inl stays ↦ ap (image rows) stays
+      | inr other ↦ h c (mover_listed rows c other)
+    ]
+
+-- ---- classes
+
+-- how many of a list go to an image
+abbrev pub count_to : (ℕ → ℕ) → ℕ → List ℕ → ℕ
+count_to f d xs = length (filter (λ x. f x == d) xs)
+
+pub All-lists : (P : ℕ → Type 0) (xs : List ℕ) (c : ℕ) → All P xs → lists xs c ≡ true → P c
+All-lists P [] c all h = let no : false ≡ true = h in cc
+All-lists P (x ∷ xs) c all h = elim (cases_eq x c) [
+  | inl same ↦ subst P same (All-head P x xs all)
+  | inr other ↦ All-lists P xs c (All-tail P x xs all) (lists-past x xs c other h)
+]
+
+-- where at most three others have the image of each image, at most four do
+pub small_from_counts : (rows : List FoldRow) → IsTrue (is_in_order rows) →
+    ((d : ℕ) → count_to (image rows) d (movers (image rows) rows) ≤ 3) → HasSmallClasses (image rows)
+small_from_counts rows order h d xs up same =
+    let f : ℕ → ℕ = image rows in
+    let others : List ℕ = filter (λ x. not (x == d)) xs in
+    let moved : List ℕ = filter (λ x. f x == d) (movers f rows) in
+    let others_up = ascending_filter 0 (λ x. not (x == d)) xs up in
+    let moved_up = ascending_filter 0 (λ x. f x == d) (movers f rows)
+    (ascending_filter 0 (moves f) (codes rows) (ascending_codes 0 rows order)) in
+    let within : (c : ℕ) → lists others c ≡ true → lists moved c ≡ true = λ c listed.
+    (let both : (not (c == d) && lists xs c) ≡ true = sym (lists-filter (λ x. not (x == d)) xs c) ∙ listed in
+    let ne : c ≢ d = grind (arith, nat_tests, both) in
+    let in_xs : lists xs c ≡ true = grind (arith, nat_tests, both) in
+    let goes : f c ≡ d = All-lists (λ x. f x ≡ d) xs c same in_xs in
+    let mover = mover_listed rows c (λ e. ne (sym e ∙ goes)) in
+    let yes : (f c == d) ≡ true = eq-eqb (f c) d goes in
+    lists-filter (λ x. f x == d) (movers f rows) c ∙ rw (yes, mover)) in
+    let shorter = ascending_within 0 0 others moved others_up moved_up within in
+    let without = length_without 0 d xs up in
+    let count : length moved ≤ 3 = h d in
+    omega (arith, shorter, without, count)
+
+-- a number put in its place
+insert_into : ℕ → List ℕ → List ℕ
+insert_into d [] = d ∷ []
+insert_into d (y ∷ ys) = cond (nat_lt d y) (d ∷ y ∷ ys) (y ∷ insert_into d ys)
+
+ascending_insert : (low d : ℕ) (ys : List ℕ) → low ≤ d → IsTrue (is_ascending_from low ys) → lists ys d ≡ false →
+    IsTrue (is_ascending_from low (insert_into d ys))
+unfolding insert_into
+ascending_insert low d [] le h absent = grind (arith, nat_tests)
+ascending_insert low d (y ∷ ys) le h absent =
+    let parts = ascending_parts low y ys h in
+    let ne : y ≢ d = grind (arith, nat_tests, absent) in
+    let later : lists ys d ≡ false = grind (arith, nat_tests, absent) in
+    by_order (nat_lt d y) refl parts.above parts.rest ne (λ above. ascending_insert (y + 1) d ys above parts.rest later)
+  where
+    by_order : (b : Bool) → nat_lt d y ≡ b → low ≤ y → IsTrue (is_ascending_from (y + 1) ys) → y ≢ d →
+        (y + 1 ≤ d → IsTrue (is_ascending_from (y + 1) (insert_into d ys))) →
+        IsTrue (is_ascending_from low (cond b (d ∷ y ∷ ys) (y ∷ insert_into d ys)))
+    by_order true e above rest ne into = grind (arith, nat_tests, e, rest)
+    by_order false e above rest ne into = let placed = into (grind (arith, nat_tests, e, ne)) in grind (arith, nat_tests, above, placed)
+
+length_insert : (d : ℕ) (ys : List ℕ) → length (insert_into d ys) ≡ 1 + length ys
+unfolding insert_into
+length_insert d [] = refl
+length_insert d (y ∷ ys) = let rest = length_insert d ys in by_order (nat_lt d y) rest
+  where
+    by_order : (b : Bool) → length (insert_into d ys) ≡ 1 + length ys →
+        length (cond b (d ∷ y ∷ ys) (y ∷ insert_into d ys)) ≡ 1 + suc (length ys)
+    by_order true rest = omega arith
+    by_order false rest = omega (arith, rest)
+
+All-insert : (P : ℕ → Type 0) (d : ℕ) (ys : List ℕ) → P d → All P ys → All P (insert_into d ys)
+unfolding insert_into
+All-insert P d [] here all = All-cons P d [] here all
+All-insert P d (y ∷ ys) here all = by_order (nat_lt d y) (All-insert P d ys here (All-tail P y ys all))
+  where
+    by_order : (b : Bool) → All P (insert_into d ys) → All P (cond b (d ∷ y ∷ ys) (y ∷ insert_into d ys))
+    by_order true rest = All-cons P d (y ∷ ys) here all
+    by_order false rest = All-cons P y (insert_into d ys) (All-head P y ys all) rest
+
+-- where four others have the image of an image, five do
+pub large_from_count : (rows : List FoldRow) (d : ℕ) → IsTrue (is_in_order rows) → image rows d ≡ d →
+    4 ≤ count_to (image rows) d (movers (image rows) rows) → ¬ HasSmallClasses (image rows)
+large_from_count rows d order own h small =
+    let f : ℕ → ℕ = image rows in
+    let moved : List ℕ = filter (λ x. f x == d) (movers f rows) in
+    let moved_up = ascending_filter 0 (λ x. f x == d) (movers f rows)
+    (ascending_filter 0 (moves f) (codes rows) (ascending_codes 0 rows order)) in
+    let yes : (f d == d) ≡ true = eq-eqb (f d) d own in
+    let stays : lists (movers f rows) d ≡ false = lists-filter (moves f) (codes rows) d ∙ rw yes in
+    let absent : lists moved d ≡ false = lists-filter (λ x. f x == d) (movers f rows) d ∙ rw (yes, stays) in
+    let same : All (λ x. f x ≡ d) moved = All-weaker (λ x. (f x == d) ≡ true) (λ x. f x ≡ d) (λ x e. eqb-true (f x) d e) moved
+    (filter_passes (λ x. f x == d) (movers f rows)) in
+    let five = small d (insert_into d moved) (ascending_insert 0 d moved (omega arith) moved_up absent)
+    (All-insert (λ x. f x ≡ d) d moved own same) in
+    let len = length_insert d moved in
+    let count : 4 ≤ length moved = h in
+    omega (arith, five, len, count)
+
+-- ---- runs of equal numbers in a sorted list
+
+-- those of a list that go to d are the d's among the images
+pub count_of-map : (f : ℕ → ℕ) (d : ℕ) (xs : List ℕ) → count_of d (map f xs) ≡ count_to f d xs
+count_of-map f d [] = refl
+count_of-map f d (x ∷ xs) = by_test (f x == d) (count_of-map f d xs)
+  where
+    by_test : (b : Bool) → count_of d (map f xs) ≡ count_to f d xs →
+        length (cond b (f x ∷ filter (λ y. y == d) (map f xs)) (filter (λ y. y == d) (map f xs))) ≡ length
+        (cond b (x ∷ filter (λ y. f y == d) xs) (filter (λ y. f y == d) xs))
+    by_test true rest = ap suc rest
+    by_test false rest = rest
+
+tail_rises : (x : ℕ) (xs : List ℕ) → IsNonDecreasing (x ∷ xs) → IsNonDecreasing xs
+tail_rises x xs up i j d le lt = up (suc i) (suc j) d (omega arith) (omega arith)
+
+-- where what stands at a place is more than d, d stands before it alone
+count_before : (d k : ℕ) (xs : List ℕ) → IsNonDecreasing xs → (k < length xs → d < get_or xs k 0) → count_of d xs ≤ k
+count_before d k [] up above = omega arith
+count_before d zero (x ∷ xs) up above =
+    let here : d < x = above (omega arith) in
+    let rest = count_before d zero xs (tail_rises x xs up) (λ lt.
+    (let up_one = up zero (suc zero) 0 (omega arith) (omega arith) in omega (arith, here, up_one))) in
+    let other : (x == d) ≡ false = grind (arith, nat_tests, here) in
+    rw other rest
+count_before d (suc k) (x ∷ xs) up above =
+    by_test (x == d) (count_before d k xs (tail_rises x xs up) (λ lt. above (omega arith)))
+  where
+    by_test : (b : Bool) → count_of d xs ≤ k → length (cond b (x ∷ filter (λ y. y == d) xs) (filter (λ y. y == d) xs)) ≤ suc k
+    by_test true rest = omega (arith, rest)
+    by_test false rest = omega (arith, rest)
+
+pub few_without_four : (d : ℕ) (xs : List ℕ) → IsNonDecreasing xs → HasNoFour xs → count_of d xs ≤ 3
+few_without_four d [] up no_four = omega arith
+few_without_four d (x ∷ xs) up no_four = by_test (x == d) refl
+    (few_without_four d xs (tail_rises x xs up) (λ i lt. (let step : suc i + 3 ≡ suc (i + 3) = omega arith in
+    subst (λ (k : ℕ). get_or xs i 0 ≢ get_or (x ∷ xs) k 0) step (no_four (suc i) (omega arith)))))
+  where
+    by_test : (b : Bool) → (x == d) ≡ b → count_of d xs ≤ 3 → length (cond b (x ∷ filter (λ y. y == d) xs) (filter (λ y. y == d) xs)) ≤ 3
+    by_test true e rest =
+        let same : x ≡ d = eqb-true x d e in
+        let two = count_before d 2 xs (tail_rises x xs up) (λ lt.
+        (let ne = no_four zero (omega arith) in
+        let le = up zero 3 0 (omega arith) (omega arith) in
+        omega (arith, ne, le, same))) in
+        omega (arith, two)
+    by_test false e rest = rest
+
+-- between two that are d all are
+pub many_between : (d i j : ℕ) (xs : List ℕ) → IsNonDecreasing xs → i ≤ j → j < length xs → get_or xs i 0 ≡ d → get_or xs j 0 ≡ d →
+    j + 1 ≤ i + count_of d xs
+many_between d i j [] up le lt at_i at_j = absurd (omega arith)
+many_between d zero zero (x ∷ xs) up le lt at_i at_j =
+    let same : (x == d) ≡ true = eq-eqb x d at_i in
+    rw same (omega arith)
+many_between d zero (suc j) (x ∷ xs) up le lt at_i at_j =
+    let same : (x == d) ≡ true = eq-eqb x d at_i in
+    let up_one = up zero (suc zero) 0 (omega arith) (omega arith) in
+    let up_j = up (suc zero) (suc j) 0 (omega arith) (omega arith) in
+    let next : get_or xs zero 0 ≡ d = omega (arith, up_one, up_j, at_i, at_j) in
+    let rest = many_between d zero j xs (tail_rises x xs up) (omega arith) (omega arith) next at_j in
+    rw same (omega (arith, rest))
+many_between d (suc i) zero (x ∷ xs) up le lt at_i at_j = absurd (omega arith)
+many_between d (suc i) (suc j) (x ∷ xs) up le lt at_i at_j =
+    by_test (x == d) (many_between d i j xs (tail_rises x xs up) (omega arith) (omega arith) at_i at_j)
+  where
+    by_test : (b : Bool) → j + 1 ≤ i + count_of d xs → suc j + 1 ≤ suc i + length
+        (cond b (x ∷ filter (λ y. y == d) xs) (filter (λ y. y == d) xs))
+    by_test true rest = omega (arith, rest)
+    by_test false rest = omega (arith, rest)
+
+-- ---- by the images of what moves
+
+pub lists-map : (f : ℕ → ℕ) (xs : List ℕ) (c : ℕ) → lists xs c ≡ true → lists (map f xs) (f c) ≡ true
+lists-map f [] c h = let no : false ≡ true = h in cc
+lists-map f (x ∷ xs) c h = elim (cases_eq x c) [
+  | inl same ↦ (let here : (f x == f c) ≡ true = eq-eqb (f x) (f c) (ap f same) in rw here)
+  | inr other ↦ lists-tail (f x) (map f xs) (f c) (lists-map f xs c (lists-past x xs c other h))
+]
+
+pub idempotent_from_images : (rows : List FoldRow) → All (λ d. image rows d ≡ d) (images rows) → IsIdempotent (image rows)
+idempotent_from_images rows own =
+    idempotent_from_movers rows (λ c h. All-lists (λ d. image rows d ≡ d) (images rows) (image rows c) own
+    (lists-map (image rows) (movers (image rows) rows) c h))
+
+pub images_from_idempotent : (rows : List FoldRow) → IsIdempotent (image rows) → All (λ d. image rows d ≡ d) (images rows)
+images_from_idempotent rows h = All-map (λ d. image rows d ≡ d) (image rows) (movers (image rows) rows) (λ k d lt. h _)
+
+pub small_from_images : (rows : List FoldRow) → IsTrue (is_in_order rows) → ((d : ℕ) → count_of d (images rows) ≤ 3) →
+    HasSmallClasses (image rows)
+small_from_images rows order few =
+    small_from_counts rows order (λ d. subst (λ (n : ℕ). n ≤ 3) (count_of-map (image rows) d (movers (image rows) rows)) (few d))
+
+pub large_from_images : (rows : List FoldRow) (d : ℕ) → IsTrue (is_in_order rows) → image rows d ≡ d → 4 ≤ count_of d (images rows) →
+    ¬ HasSmallClasses (image rows)
+large_from_images rows d order own many =
+    large_from_count rows d order own (subst (λ (n : ℕ). 4 ≤ n) (count_of-map (image rows) d (movers (image rows) rows)) many)
+
+-- a number that is not in the list is counted no time
+pub count_of_absent : (d : ℕ) (xs : List ℕ) → lists xs d ≡ false → count_of d xs ≡ 0
+count_of_absent d [] h = refl
+count_of_absent d (x ∷ xs) h =
+    let other : (x == d) ≡ false = grind (arith, nat_tests, h) in
+    let later : lists xs d ≡ false = grind (arith, nat_tests, h) in
+    rw other (count_of_absent d xs later)
+
+-- ---- the whole map
+
+pub image_in_range : (rows : List FoldRow) (c : ℕ) → IsTrue (are_targets_in_range rows) → c ≤ code_point_max → image rows c ≤ code_point_max
+unfolding image
+image_in_range [] c h le = le
+image_in_range (row ∷ rows) c h le = by_row (is_in_row row c) refl (image_in_range rows c (grind (arith, nat_tests, h)) le)
+  where
+    by_row : (b : Bool) → is_in_row row c ≡ b → image rows c ≤ code_point_max → cond b (image_in_row row c) (image rows c) ≤ code_point_max
+    by_row false e rest = rest
+    by_row true e rest = by_modulo ((c - row.start) % row.modulo == 0)
+      where
+        by_modulo : (b : Bool) → cond b (moved row.delta c) c ≤ code_point_max
+        by_modulo true = (shifted_is row c (grind (arith, nat_tests, h)) e).1
+        by_modulo false = le
+
+pub case_map : (rows : List FoldRow) → AreSoundRows rows → IsCaseMap (image rows)
+case_map rows sound = record {
+  idempotent = sound.idempotent;
+  in_range = λ c le. image_in_range rows c sound.in_range le;
+  small_classes = sound.small_classes;
+}
+
+-- ---- after a sort
+
+-- a sort keeps how often each number stands
+pub count_of_sorted : (xs ys : List ℕ) (d : ℕ) → IsStable nat_cmp xs ys → count_of d ys ≡ count_of d xs
+count_of_sorted xs ys d stable =
+    ap length (filter_agree (λ x. x == d) (ties (λ a b. is_lt (nat_cmp a b)) d) same ys ∙ stable d ∙
+    sym (filter_agree (λ x. x == d) (ties (λ a b. is_lt (nat_cmp a b)) d) same xs))
+  where
+    same : (x : ℕ) → (x == d) ≡ ties (λ a b. is_lt (nat_cmp a b)) d x
+    same x = grind (arith, nat_tests)
+
+pub few_after_sort : (xs ys : List ℕ) → IsStable nat_cmp xs ys → IsSorted nat_cmp ys → HasNoFour ys → (d : ℕ) → count_of d xs ≤ 3
+few_after_sort xs ys stable sorted no_four d =
+    subst (λ (n : ℕ). n ≤ 3) (count_of_sorted xs ys d stable)
+    (few_without_four d ys (IsNonDecreasingBy-from_sort (λ x. x) ys sorted) no_four)
+
+pub many_after_sort : (xs ys : List ℕ) (i : ℕ) → IsStable nat_cmp xs ys → IsSorted nat_cmp ys → i + 3 < length ys →
+    get_or ys i 0 ≡ get_or ys (i + 3) 0 → (d : ℕ) × (4 ≤ count_of d xs)
+many_after_sort xs ys i stable sorted lt same =
+    let d : ℕ = get_or ys i 0 in
+    let many = many_between d i (i + 3) ys (IsNonDecreasingBy-from_sort (λ x. x) ys sorted) (omega arith) lt refl (sym same) in
+    (d, subst (λ (n : ℕ). 4 ≤ n) (count_of_sorted xs ys d stable) (omega (arith, many)))
+
+pub small_classes_from : (rows : List FoldRow) (xs : List ℕ) → xs ≡ images rows → IsTrue (is_in_order rows) →
+    ((d : ℕ) → count_of d xs ≤ 3) → HasSmallClasses (image rows)
+small_classes_from rows xs is order few =
+    small_from_images rows order (λ d. subst (λ (ys : List ℕ). count_of d ys ≤ 3) is (few d))
+
+pub large_classes_from : (rows : List FoldRow) (xs : List ℕ) (d : ℕ) → xs ≡ images rows → IsTrue (is_in_order rows) →
+    IsIdempotent (image rows) → 4 ≤ count_of d xs → ¬ HasSmallClasses (image rows)
+large_classes_from rows xs d is order idempotent many =
+    let among = subst (λ (ys : List ℕ). 4 ≤ count_of d ys) is many in
+    large_from_images rows d order (by_member (lists (images rows) d) refl among) among
+  where
+    by_member : (b : Bool) → lists (images rows) d ≡ b → 4 ≤ count_of d (images rows) → image rows d ≡ d
+    by_member true e among = All-lists (λ x. image rows x ≡ x) (images rows) d (images_from_idempotent rows idempotent) e
+    by_member false e among = absurd (omega (arith, count_of_absent d (images rows) e))

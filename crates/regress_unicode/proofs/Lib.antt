@@ -1,0 +1,12 @@
+pub mod laws
+pub mod PackingLemmas
+pub mod RowLemmas
+pub mod CaseMapLemmas
+pub mod SmallTableLemmas
+pub mod NamedLemmas
+pub mod TableLemmas
+pub mod SourceLemmas
+pub mod RefusalLemmas
+pub mod ShiftLemmas
+pub mod ClosureLemmas
+pub mod TableExamples

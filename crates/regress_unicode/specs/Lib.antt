@@ -1,0 +1,9 @@
+pub mod Listing
+pub mod FoldRows
+pub mod Table
+pub mod Parts
+pub mod SmallTable
+pub mod Moves
+pub mod Refusals
+pub mod Shifts
+pub mod TableOf

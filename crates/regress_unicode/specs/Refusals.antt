@@ -1,0 +1,43 @@
+-- When `Tables::new` refuses its parts, and what it tells.
+use Rattle.std.specs.Prelude.{ℕ, ◌<◌, List, IsTrue}
+use Rattle.regress_unicode.specs.declared.tables_error.Which.{Which}
+use Rattle.regress_unicode.specs.declared.tables_error.Which.TheVariants.{Fold, Upper}
+use Rattle.regress_unicode.specs.declared.tables_error.TablesError.{TablesError}
+use Rattle.regress_unicode.specs.declared.tables_error.TablesError.TheVariants.{RangeOrder, TargetOutOfRange, NotIdempotent, ClassTooLarge, IdentifierPunctuation, BadString, Memory}
+use Rattle.regress_unicode.specs.FoldRows.{FoldRow, image, is_in_order, are_targets_in_range}
+use Rattle.regress_unicode.specs.Table.{IsIdempotent, HasSmallClasses, HasWordAscii, HasStrings}
+use Rattle.regress_unicode.specs.Parts.{Parts}
+
+-- the rows of a map
+abbrev pub rows_of : Parts → Which → List FoldRow
+rows_of parts Fold = parts.folds
+rows_of parts Upper = parts.uppers
+
+-- What the parts meet if the refusal is not due. Want of memory says nothing of them.
+abbrev pub Meets : Parts → TablesError → Type 0
+Meets parts (RangeOrder which) = IsTrue (is_in_order (rows_of parts which))
+Meets parts (TargetOutOfRange which) = IsTrue (are_targets_in_range (rows_of parts which))
+Meets parts (NotIdempotent which) = IsIdempotent (image (rows_of parts which))
+Meets parts (ClassTooLarge which) = HasSmallClasses (image (rows_of parts which))
+Meets parts IdentifierPunctuation = HasWordAscii parts.id_start × HasWordAscii parts.id_continue
+Meets parts BadString = HasStrings parts.strings
+Meets parts (Memory error) = Unit {0}
+
+-- the place of a refusal in the order in which they are looked for
+abbrev pub place : TablesError → ℕ
+place (RangeOrder Fold) = 0
+place (RangeOrder Upper) = 1
+place (TargetOutOfRange Fold) = 2
+place (TargetOutOfRange Upper) = 3
+place (NotIdempotent Fold) = 4
+place (NotIdempotent Upper) = 5
+place (ClassTooLarge Fold) = 6
+place (ClassTooLarge Upper) = 7
+place IdentifierPunctuation = 8
+place BadString = 9
+place (Memory error) = 10
+
+-- The refusal is due, and none before it is.
+pub record IsFirstDue (parts : Parts) (refusal : TablesError) : Type 0 where
+  pub due : ¬ Meets parts refusal
+  pub before : (other : TablesError) → place other < place refusal → Meets parts other

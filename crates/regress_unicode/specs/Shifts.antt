@@ -1,0 +1,45 @@
+-- Runs of code points that move together.
+use Rattle.std.specs.Prelude.{ℕ, ◌+◌, ◌-◌, ◌%◌, ◌^◌, ◌≤◌, Bool, ◌&&◌, nat_le, ◌==◌, IsTrue, List, ℤ, pos, negsuc, neg_ℤ, ◌≤ℤ◌}
+use Rattle.std.specs.List.{list_any}
+use Rattle.regress_base.specs.Intervals.{code_point_max}
+use Rattle.regress_unicode.specs.declared.shift.Shift.{Shift}
+use Rattle.regress_unicode.specs.FoldRows.{FoldRow, moved, stays_in_range}
+
+-- the shift goes from code points to code points
+pub record IsShift (s : Shift) : Type 0 where
+  pub ordered : s.first ≤ s.last
+  pub last : s.last ≤ code_point_max
+  pub modulo : 1 ≤ s.modulo
+  pub delta_low : negsuc (2 ^ 27 - 1) ≤ℤ s.delta
+  pub delta_high : s.delta ≤ℤ pos (2 ^ 27)
+  pub first_lands : IsTrue (stays_in_range s.delta s.first)
+  pub last_lands : IsTrue (stays_in_range s.delta s.last)
+
+-- whether the shift moves the code point
+abbrev pub is_hit : Shift → ℕ → Bool
+is_hit s c = (nat_le s.first c && nat_le c s.last) && (c - s.first) % s.modulo == 0
+
+-- where a moved number was
+abbrev pub origin : ℤ → ℕ → ℕ
+origin (pos n) c = c - n
+origin (negsuc n) c = c + (n + 1)
+
+-- whether the number is one that passes the test and was moved
+unfoldable pub lands : Shift → (ℕ → Bool) → ℕ → Bool
+lands s p c = (is_hit s (origin s.delta c) && p (origin s.delta c)) && moved s.delta (origin s.delta c) == c
+
+-- the shift of a row, to the images and back
+abbrev pub forward : FoldRow → Shift
+forward row = record { first = row.start; last = row.start + row.length - 1; delta = row.delta; modulo = row.modulo }
+
+abbrev pub backward : FoldRow → Shift
+backward row = record {
+  first = moved row.delta row.start;
+  last = moved row.delta (row.start + row.length - 1);
+  delta = neg_ℤ row.delta;
+  modulo = row.modulo;
+}
+
+-- whether the number is one that passes the test and was moved by a row, in that way
+unfoldable pub lands_by : (FoldRow → Shift) → List FoldRow → (ℕ → Bool) → ℕ → Bool
+lands_by way rows p c = list_any (λ row. lands (way row) p c) rows

@@ -1,0 +1,184 @@
+//! The tests of a table's parts, each for one refusal.
+ghost use Rattle.std.specs.Prelude.{◌≡◌, ◌≢◌, ℕ, ◌+◌, ◌<◌, ◌≤◌, ◌↔◌, ◌⊎◌, true, false, nat_le, length, slice_index, IsTrue, IfOk, IfErr, MatchResult, MatchBool, All, alloc_error};
+ghost use Rattle.std.specs.List.{list_all};
+ghost use Rattle.regress_base.specs.Intervals.{is_member, IsCanonical};
+ghost use Rattle.regress_base.specs.Classes.{word_characters};
+ghost use Rattle.regress_unicode.specs.declared.tables_error.TablesError.TheVariants.{RangeOrder, TargetOutOfRange, NotIdempotent, ClassTooLarge, Memory};
+ghost use Rattle.regress_unicode.specs.FoldRows.{image as image_of, is_in_order, are_targets_in_range};
+ghost use Rattle.regress_unicode.specs.Moves.{codes, images as images_of, count_of, HasNoFour};
+ghost use Rattle.regress_unicode.specs.Table.{IsIdempotent, is_string, HasWordAscii, HasCanonicalSets};
+ghost use Rattle.regress_unicode.specs.Parts.{sets_of};
+
+use super::images::image;
+use super::{FoldRange, TablesError, Which};
+use regress_base::codepointset::{CODE_POINT_MAX, CodePointSet};
+use std::alloc::{AllocError, Global};
+
+/// Refuses rows that do not ascend, or share a code point.
+pub(super) fn check_order(which: Which, rows: &[FoldRange]) -> Result<(), TablesError>
+    ensures { MatchResult result (λ _. IsTrue (is_in_order rows.now))
+        (λ e. (e ≡ RangeOrder which) × (is_in_order rows.now ≡ false)) }
+{
+    let mut low = 0;
+    for row in rows {
+        if row.first() < low {
+            return Err(TablesError::RangeOrder(which));
+        }
+        low = row.last() + 1;
+    }
+    Ok(())
+}
+
+/// Refuses a row whose first or last code point moves to none.
+pub(super) fn check_targets(which: Which, rows: &[FoldRange]) -> Result<(), TablesError>
+    ensures { MatchResult result (λ _. IsTrue (are_targets_in_range rows.now))
+        (λ e. (e ≡ TargetOutOfRange which) × (are_targets_in_range rows.now ≡ false)) }
+{
+    if targets_are_in_range(rows) {
+        Ok(())
+    } else {
+        Err(TablesError::TargetOutOfRange(which))
+    }
+}
+
+fn targets_are_in_range(rows: &[FoldRange]) -> bool
+    ensures { result ≡ are_targets_in_range rows.now }
+{
+    rows.iter().all(|row| row.is_target_in_range())
+}
+
+/// The images of the code points of the rows that have another image, in the order of the rows. A
+/// binary search for each code point.
+pub(super) fn moved_images(alloc: Global, rows: &[FoldRange]) -> Result<Vec<u32>, AllocError>
+    requires in_order { IsTrue (is_in_order rows.now) }
+    requires in_range { IsTrue (are_targets_in_range rows.now) }
+    ensures { IfOk result (λ images. images.items ≡ images_of rows.now) }
+{
+    rows.iter()
+        .flat_map(|row| row.first()..row.last() + 1)
+        .filter(|c| image(rows, *c) != *c)
+        .map(|c| image(rows, c))
+        .collect(alloc)
+}
+
+/// Refuses images of which one has another image. A binary search for each.
+pub(super) fn check_idempotent(
+    which: Which,
+    rows: &[FoldRange],
+    images: &[u32],
+) -> Result<(), TablesError>
+    requires in_order { IsTrue (is_in_order rows.now) }
+    requires in_range { IsTrue (are_targets_in_range rows.now) }
+    requires images { images.now ≡ images_of rows.now }
+    ensures { MatchResult result (λ _. IsIdempotent (image_of rows.now))
+        (λ e. (e ≡ NotIdempotent which) × ¬ IsIdempotent (image_of rows.now)) }
+{
+    if are_own_images(rows, images) {
+        Ok(())
+    } else {
+        Err(TablesError::NotIdempotent(which))
+    }
+}
+
+fn are_own_images(rows: &[FoldRange], images: &[u32]) -> bool
+    requires in_order { IsTrue (is_in_order rows.now) }
+    requires in_range { IsTrue (are_targets_in_range rows.now) }
+    ensures { IsTrue result ↔ All (λ c. image_of rows.now c ≡ c) images.now }
+{
+    images.iter().all(|c| image(rows, *c) == *c)
+}
+
+/// Refuses images of which one stands four times: with itself five code points have it. It sorts
+/// them.
+pub(super) fn check_classes(which: Which, mut images: Vec<u32>) -> Result<(), TablesError>
+    ensures ok { IfOk result (λ _. (d : ℕ) → count_of d images.items ≤ 3) }
+    ensures err { IfErr result (λ e. (e ≡ Memory alloc_error)
+        ⊎ (e ≡ ClassTooLarge which) × (d : ℕ) × (4 ≤ count_of d images.items)) }
+{
+    images.sort()?;
+    if stands_four_times(&images) {
+        Err(TablesError::ClassTooLarge(which))
+    } else {
+        Ok(())
+    }
+}
+
+/// Whether some number stands four times in a sorted list.
+fn stands_four_times(sorted: &[u32]) -> bool
+    ensures some { IsTrue result → (i : ℕ) × (i + 3 < length sorted.now)
+        × (slice_index sorted.now i ≡ slice_index sorted.now (i + 3)) }
+    ensures none { result ≡ false → HasNoFour sorted.now }
+{
+    for i in 3..sorted.len() {
+        if sorted[i - 3] == sorted[i] {
+            return true;
+        }
+    }
+    false
+}
+
+/// Whether the ASCII members of both sets are letters, digits and the low line.
+pub(super) fn have_word_ascii(id_start: &CodePointSet, id_continue: &CodePointSet) -> bool
+    ensures { IsTrue result ↔ HasWordAscii id_start.now × HasWordAscii id_continue.now }
+{
+    has_word_ascii(id_start) && has_word_ascii(id_continue)
+}
+
+fn has_word_ascii(set: &CodePointSet) -> bool
+    ensures { IsTrue result ↔ HasWordAscii set.now }
+{
+    for c in 0..0x80 {
+        if set.contains(c) && !is_word_character(c) {
+            return false;
+        }
+    }
+    true
+}
+
+#[tactic(auto, unfolding(regress_base::specs::Intervals::is_member, regress_base::specs::Intervals::is_within))]
+fn is_word_character(c: u32) -> bool
+    ensures { result ≡ is_member word_characters c }
+{
+    matches!(c, 0x30..=0x39 | 0x41..=0x5A | 0x5F | 0x61..=0x7A)
+}
+
+/// Whether each string of each entry holds a code point at least, and nothing else.
+pub(super) fn have_strings(entries: &[(String, Vec<Vec<u32>>)]) -> bool
+    ensures { result ≡ list_all (λ entry. list_all (λ string. is_string string.items) entry.1.items) entries.now }
+{
+    entries.iter().all(|(_, strings)| are_strings(strings))
+}
+
+fn are_strings(strings: &[Vec<u32>]) -> bool
+    ensures { result ≡ list_all (λ string. is_string string.items) strings.now }
+{
+    strings.iter().all(|string| is_string(string))
+}
+
+fn is_string(string: &[u32]) -> bool
+    ensures { result ≡ is_string string.now }
+{
+    !string.is_empty() && are_code_points(string)
+}
+
+fn are_code_points(string: &[u32]) -> bool
+    ensures { result ≡ list_all (λ c. nat_le c CODE_POINT_MAX) string.now }
+{
+    string.iter().all(|c| *c <= CODE_POINT_MAX)
+}
+
+/// What the type of a set says of it, for a proof that needs it. It does nothing else.
+pub(super) fn set_is_canonical(set: &CodePointSet)
+    ensures { IsCanonical set.now }
+{
+    let _ = set.intervals();
+}
+
+/// What [`set_is_canonical`] tells, for each entry.
+pub(super) fn sets_are_canonical(entries: &[(String, CodePointSet)])
+    ensures { HasCanonicalSets (sets_of entries.now) }
+{
+    for (_, set) in entries {
+        set_is_canonical(set);
+    }
+}

@@ -1,0 +1,33 @@
+//! Images under the rows of a table.
+ghost use Rattle.std.specs.Prelude.{◌≡◌, ℕ, IsTrue};
+ghost use Rattle.regress_unicode.specs.FoldRows.{image as image_of, is_in_order, are_targets_in_range};
+ghost use Rattle.regress_unicode.specs.TableOf.{table_of};
+
+use super::Tables;
+use super::fold_range::FoldRange;
+
+/// The image of `c` under the rows. A binary search.
+pub(super) fn image(rows: &[FoldRange], c: u32) -> u32
+    requires in_order { IsTrue (is_in_order rows.now) }
+    requires in_range { IsTrue (are_targets_in_range rows.now) }
+    ensures { result ≡ image_of rows.now c }
+{
+    match rows.binary_search_by(|row| row.compare(c)) {
+        Ok(place) => rows[place].apply(c),
+        Err(_) => c,
+    }
+}
+
+/// The simple case folding of `c`. A binary search in the rows.
+pub fn fold(c: u32, tables: &Tables) -> u32
+    ensures { result ≡ (table_of tables.now).fold c }
+{
+    image(&tables.folds, c)
+}
+
+/// The simple upper case of `c`. A binary search in the rows.
+pub fn uppercase(c: u32, tables: &Tables) -> u32
+    ensures { result ≡ (table_of tables.now).uppercase c }
+{
+    image(&tables.uppers, c)
+}

@@ -1,0 +1,45 @@
+//! The table of the characters' cases, classes and properties.
+#![tactic(auto)]
+
+ghost use Rattle.std.proofs.Props.{props};
+ghost use Rattle.regress_unicode.specs.Parts.{parts_from, IsSound};
+
+mod checks;
+mod closure;
+mod fold_range;
+mod images;
+mod listing;
+mod new;
+mod range;
+mod readers;
+mod shift;
+mod small;
+mod tables_error;
+#[cfg(test)]
+mod tests;
+mod unfold;
+
+pub use closure::add_icase_code_points;
+pub use fold_range::FoldRange;
+pub use images::{fold, uppercase};
+pub use range::CodePointRange;
+use regress_base::codepointset::CodePointSet;
+pub use tables_error::{TablesError, Which};
+pub use unfold::{expand_code_point, unfold_char, unfold_uppercase_char};
+
+/// What a pattern needs to know of Unicode: how characters fold, which may stand in a name, and
+/// which have a property. Each value is lawful: an image is its own image, at most four code points
+/// share one, ASCII characters of names are letters, digits and `_`, and strings are nonempty.
+#[derive(Debug, Drop)]
+pub struct Tables {
+    folds: Vec<FoldRange>,
+    uppers: Vec<FoldRange>,
+    id_start: CodePointSet,
+    id_continue: CodePointSet,
+    general_category: Vec<(String, CodePointSet)>,
+    script: Vec<(String, CodePointSet)>,
+    script_extensions: Vec<(String, CodePointSet)>,
+    binary: Vec<(String, CodePointSet)>,
+    strings: Vec<(String, Vec<Vec<u32>>)>,
+    ghost sound: { IsSound (parts_from folds.items uppers.items id_start id_continue general_category.items script.items script_extensions.items binary.items strings.items) } by { Prim.hlevel props },
+}

@@ -1,0 +1,89 @@
+//! Making a table of its parts.
+ghost use Rattle.std.specs.Prelude.{◌≡◌, ◌≢◌, ◌<◌, [], alloc_error, IfOk, IfErr};
+ghost use Rattle.regress_unicode.specs.declared.tables_error.TablesError.TheVariants.{Memory};
+ghost use Rattle.regress_unicode.specs.Parts.{AreSoundRows, rows_alone};
+ghost use Rattle.regress_unicode.specs.Refusals.{IsFirstDue, place};
+
+use super::checks::{
+    check_classes, check_idempotent, check_order, check_targets, have_strings, have_word_ascii,
+    moved_images, set_is_canonical, sets_are_canonical,
+};
+use super::{FoldRange, Tables, TablesError, Which};
+use regress_base::codepointset::CodePointSet;
+use std::alloc::Global;
+
+/// Refuses rows that make no map of cases. It looks at each code point of the rows, and sorts those
+/// that move.
+fn check_rows(alloc: Global, folds: &[FoldRange], uppers: &[FoldRange]) -> Result<(), TablesError>
+    ensures ok { IfOk result (λ _. AreSoundRows folds.now × AreSoundRows uppers.now) }
+    ensures err { IfErr result (λ e. e ≢ Memory alloc_error → (place e < 8) × IsFirstDue (rows_alone folds.now uppers.now) e) }
+{
+    check_order(Which::Fold, folds)?;
+    check_order(Which::Upper, uppers)?;
+    check_targets(Which::Fold, folds)?;
+    check_targets(Which::Upper, uppers)?;
+    let fold_images = moved_images(alloc, folds)?;
+    let upper_images = moved_images(alloc, uppers)?;
+    check_idempotent(Which::Fold, folds, &fold_images)?;
+    check_idempotent(Which::Upper, uppers, &upper_images)?;
+    check_classes(Which::Fold, fold_images)?;
+    check_classes(Which::Upper, upper_images)
+}
+
+impl Tables {
+    ghost use Rattle.std.specs.Prelude.{◌≡◌, ◌≢◌, alloc_error, IfOk, IfErr};
+    ghost use Rattle.regress_unicode.specs.declared.tables_error.TablesError.{TablesError as Refusal};
+    ghost use Rattle.regress_unicode.specs.declared.tables_error.TablesError.TheVariants.{Memory};
+    ghost use Rattle.regress_unicode.specs.Parts.{parts_from, table_from};
+    ghost use Rattle.regress_unicode.specs.Refusals.{Meets, IsFirstDue};
+    ghost use Rattle.regress_unicode.specs.TableOf.{table_of};
+
+    /// The table of these parts: the rows of both maps, the characters that may begin and go on in
+    /// a name, and the named sets and strings. Where two entries of a list have one name, the first
+    /// counts.
+    ///
+    /// The error is the first refusal that is due, in the order of [`TablesError`]; want of memory
+    /// may be told in place of a later one. For n code points in the rows it takes time n log n and
+    /// memory for n numbers; besides it is linear in the entries and the strings.
+    pub fn new(
+        alloc: Global,
+        folds: Vec<FoldRange>,
+        uppers: Vec<FoldRange>,
+        id_start: CodePointSet,
+        id_continue: CodePointSet,
+        general_category: Vec<(String, CodePointSet)>,
+        script: Vec<(String, CodePointSet)>,
+        script_extensions: Vec<(String, CodePointSet)>,
+        binary: Vec<(String, CodePointSet)>,
+        strings: Vec<(String, Vec<Vec<u32>>)>,
+    ) -> Result<Tables, TablesError>
+        ensures table { IfOk result (λ tables. table_of tables ≡ table_from (parts_from folds.items uppers.items id_start id_continue general_category.items script.items script_extensions.items binary.items strings.items)) }
+        ensures accepted { IfOk result (λ _. (refusal : Refusal) → Meets (parts_from folds.items uppers.items id_start id_continue general_category.items script.items script_extensions.items binary.items strings.items) refusal) }
+        ensures refused { IfErr result (λ refusal. refusal ≢ Memory alloc_error → IsFirstDue (parts_from folds.items uppers.items id_start id_continue general_category.items script.items script_extensions.items binary.items strings.items) refusal) }
+    {
+        check_rows(alloc, &folds, &uppers)?;
+        if !have_word_ascii(&id_start, &id_continue) {
+            return Err(TablesError::IdentifierPunctuation);
+        }
+        if !have_strings(&strings) {
+            return Err(TablesError::BadString);
+        }
+        set_is_canonical(&id_start);
+        set_is_canonical(&id_continue);
+        sets_are_canonical(&general_category);
+        sets_are_canonical(&script);
+        sets_are_canonical(&script_extensions);
+        sets_are_canonical(&binary);
+        Ok(Tables {
+            folds,
+            uppers,
+            id_start,
+            id_continue,
+            general_category,
+            script,
+            script_extensions,
+            binary,
+            strings,
+        })
+    }
+}

@@ -1,0 +1,172 @@
+//! The small table.
+ghost use Rattle.std.specs.Prelude.{◌≡◌, IfOk, string_bytes, map};
+ghost use Rattle.regress_base.specs.Intervals.{IsCanonical};
+ghost use Rattle.regress_unicode.specs.Parts.{sets_of, strings_of};
+ghost use Rattle.regress_unicode.specs.SmallTable.{small_folds, small_uppers, small_parts, small_table};
+
+use super::{FoldRange, Tables};
+use regress_base::codepointset::{CODE_POINT_MAX, CodePointSet, Interval};
+use std::alloc::{AllocError, Global};
+
+impl Tables {
+    ghost use Rattle.std.specs.Prelude.{◌≡◌, IfOk};
+    ghost use Rattle.regress_unicode.specs.SmallTable.{small_table};
+    ghost use Rattle.regress_unicode.specs.TableOf.{table_of};
+
+    /// The small table, which the program uses: a selection of Unicode's with each way in which
+    /// cases meet. The error stands for want of memory.
+    pub fn small(alloc: Global) -> Result<Tables, AllocError>
+        ensures { IfOk result (λ tables. table_of tables ≡ small_table) }
+    {
+        Ok(Tables {
+            folds: small_folds(alloc)?,
+            uppers: small_uppers(alloc)?,
+            id_start: small_id_start(alloc)?,
+            id_continue: small_id_continue(alloc)?,
+            general_category: small_general_category(alloc)?,
+            script: small_script(alloc)?,
+            script_extensions: small_script(alloc)?,
+            binary: small_binary(alloc)?,
+            strings: small_strings(alloc)?,
+        })
+    }
+}
+
+fn small_folds(alloc: Global) -> Result<Vec<FoldRange>, AllocError>
+    ensures { IfOk result (λ rows. rows.items ≡ small_folds) }
+{
+    let rows = vec![in alloc;
+        FoldRange::from(0x41, 26, 32, 1),
+        FoldRange::from(0xB5, 1, 775, 1),
+        FoldRange::from(0xC0, 23, 32, 1),
+        FoldRange::from(0xD8, 7, 32, 1),
+        FoldRange::from(0x17F, 1, -268, 1),
+        FoldRange::from(0x1B8, 1, 1, 1),
+        FoldRange::from(0x1BC, 1, 1, 1),
+        FoldRange::from(0x1F8, 39, 1, 2),
+        FoldRange::from(0x37F, 1, 116, 1),
+        FoldRange::from(0x398, 1, 32, 1),
+        FoldRange::from(0x39C, 1, 32, 1),
+        FoldRange::from(0x3D1, 1, -25, 1),
+        FoldRange::from(0x3F4, 1, -60, 1),
+        FoldRange::from(0x212A, 1, -8383, 1),
+        FoldRange::from(0x16E40, 32, 32, 1),
+        FoldRange::from(0x1E900, 34, 34, 1),
+    ]?;
+    Ok(rows)
+}
+
+fn small_uppers(alloc: Global) -> Result<Vec<FoldRange>, AllocError>
+    ensures { IfOk result (λ rows. rows.items ≡ small_uppers) }
+{
+    let rows = vec![in alloc;
+        FoldRange::from(0x61, 26, -32, 1),
+        FoldRange::from(0xB5, 1, 743, 1),
+        FoldRange::from(0xE0, 23, -32, 1),
+        FoldRange::from(0xF8, 7, -32, 1),
+        FoldRange::from(0x1B9, 1, -1, 1),
+        FoldRange::from(0x1BD, 1, -1, 1),
+        FoldRange::from(0x1F9, 39, -1, 2),
+        FoldRange::from(0x3B8, 1, -32, 1),
+        FoldRange::from(0x3BC, 1, -32, 1),
+        FoldRange::from(0x3D1, 1, -57, 1),
+        FoldRange::from(0x3F3, 1, -116, 1),
+        FoldRange::from(0x16E60, 32, -32, 1),
+        FoldRange::from(0x1E922, 34, -34, 1),
+    ]?;
+    Ok(rows)
+}
+
+fn small_id_start(alloc: Global) -> Result<CodePointSet, AllocError>
+    ensures { IfOk result (λ set. set ≡ small_parts.id_start) }
+{
+    let intervals = vec![in alloc;
+        Interval::new(0x41, 0x5A),
+        Interval::new(0x61, 0x7A),
+        Interval::new(0xC0, 0xD6),
+        Interval::new(0xD8, 0xF6),
+    ]?;
+    Ok(CodePointSet::from_sorted_disjoint_intervals(intervals))
+}
+
+fn small_id_continue(alloc: Global) -> Result<CodePointSet, AllocError>
+    ensures { IfOk result (λ set. set ≡ small_parts.id_continue) }
+{
+    let intervals = vec![in alloc;
+        Interval::new(0x30, 0x39),
+        Interval::new(0x41, 0x5A),
+        Interval::new(0x5F, 0x5F),
+        Interval::new(0x61, 0x7A),
+        Interval::new(0xC0, 0xD6),
+        Interval::new(0xD8, 0xF6),
+    ]?;
+    Ok(CodePointSet::from_sorted_disjoint_intervals(intervals))
+}
+
+/// A set under a name.
+fn entry(
+    alloc: Global,
+    name: &str,
+    intervals: &[Interval],
+) -> Result<(String, CodePointSet), AllocError>
+    requires { IsCanonical intervals.now }
+    ensures name { IfOk result (λ entry. string_bytes entry.0 ≡ name.now) }
+    ensures value { IfOk result (λ entry. entry.1 ≡ intervals.now) }
+{
+    let set = CodePointSet::from_sorted_disjoint_intervals(Vec::from_slice(alloc, intervals)?);
+    Ok((String::from_str(alloc, name)?, set))
+}
+
+fn small_general_category(alloc: Global) -> Result<Vec<(String, CodePointSet)>, AllocError>
+    ensures { IfOk result (λ entries. sets_of entries.items ≡ small_parts.general_category) }
+{
+    let entries = vec![in alloc;
+        entry(alloc, "Zl", &[Interval::new(0x2028, 0x2028)])?,
+        entry(alloc, "Line_Separator", &[Interval::new(0x2028, 0x2028)])?,
+        entry(alloc, "Zp", &[Interval::new(0x2029, 0x2029)])?,
+        entry(
+            alloc,
+            "Paragraph_Separator",
+            &[Interval::new(0x2029, 0x2029)]
+        )?,
+    ]?;
+    Ok(entries)
+}
+
+fn small_script(alloc: Global) -> Result<Vec<(String, CodePointSet)>, AllocError>
+    ensures { IfOk result (λ entries. sets_of entries.items ≡ small_parts.script) }
+{
+    let entries = vec![in alloc;
+        entry(alloc, "Ogam", &[Interval::new(0x1680, 0x169C)])?,
+        entry(alloc, "Ogham", &[Interval::new(0x1680, 0x169C)])?,
+    ]?;
+    Ok(entries)
+}
+
+fn small_binary(alloc: Global) -> Result<Vec<(String, CodePointSet)>, AllocError>
+    ensures { IfOk result (λ entries. sets_of entries.items ≡ small_parts.binary) }
+{
+    let hex_digits = [
+        Interval::new(0x30, 0x39),
+        Interval::new(0x41, 0x46),
+        Interval::new(0x61, 0x66),
+    ];
+    let entries = vec![in alloc;
+        entry(alloc, "ASCII", &[Interval::new(0, 0x7F)])?,
+        entry(alloc, "Any", &[Interval::new(0, CODE_POINT_MAX)])?,
+        entry(alloc, "ASCII_Hex_Digit", &hex_digits)?,
+    ]?;
+    Ok(entries)
+}
+
+/// The keys of a telephone, each followed by the signs that draw it as a keycap.
+fn small_strings(alloc: Global) -> Result<Vec<(String, Vec<Vec<u32>>)>, AllocError>
+    ensures { IfOk result (λ entries. strings_of entries.items ≡ small_parts.strings) }
+{
+    let mut keycaps = Vec::new(alloc);
+    for key in b"#*0123456789" {
+        keycaps.push(vec![in alloc; *key as u32, 0xFE0F, 0x20E3]?)?;
+    }
+    let entries = vec![in alloc; (String::from_str(alloc, "Emoji_Keycap_Sequence")?, keycaps)]?;
+    Ok(entries)
+}

@@ -1,0 +1,74 @@
+//! All code points of an image.
+ghost use Rattle.std.specs.Prelude.{◌≡◌, ◌≤◌, ◌==◌, length, IsTrue, IfOk};
+ghost use Rattle.regress_base.specs.Intervals.{code_point_max};
+ghost use Rattle.regress_unicode.specs.FoldRows.{image, is_in_order, are_targets_in_range};
+ghost use Rattle.regress_unicode.specs.Listing.{IsListing};
+ghost use Rattle.regress_unicode.specs.Table.{stands_for};
+ghost use Rattle.regress_unicode.specs.TableOf.{table_of};
+
+use super::listing::members;
+use super::{FoldRange, Tables, fold, uppercase};
+use regress_base::codepointset::CodePointSet;
+use std::alloc::{AllocError, Global};
+
+/// The code points with the fold of `c`, ascending, each once: at most four, `c` among them. One
+/// pass over the rows, none over code points.
+pub fn unfold_char(alloc: Global, c: u32, tables: &Tables) -> Result<Vec<u32>, AllocError>
+    requires { c ≤ code_point_max }
+    ensures listing { IfOk result (λ list.
+        IsListing (λ x. (table_of tables.now).fold x == (table_of tables.now).fold c) list.items) }
+    ensures few { IfOk result (λ list. length list.items ≤ 4) }
+{
+    with_image(alloc, &tables.folds, fold(c, tables))
+}
+
+/// The code points with the upper case of `c`, as [`unfold_char`] lists those with its fold.
+pub fn unfold_uppercase_char(alloc: Global, c: u32, tables: &Tables) -> Result<Vec<u32>, AllocError>
+    requires { c ≤ code_point_max }
+    ensures listing { IfOk result (λ list.
+        IsListing (λ x. (table_of tables.now).uppercase x == (table_of tables.now).uppercase c) list.items) }
+    ensures few { IfOk result (λ list. length list.items ≤ 4) }
+{
+    with_image(alloc, &tables.uppers, uppercase(c, tables))
+}
+
+/// The code points that a literal `c` stands for, ascending, each once: with `icase` those that have
+/// its fold, or without `unicode` its upper case; else `c` alone. One pass over the rows at most.
+pub fn expand_code_point(
+    alloc: Global,
+    c: u32,
+    icase: bool,
+    unicode: bool,
+    tables: &Tables,
+) -> Result<Vec<u32>, AllocError>
+    requires { c ≤ code_point_max }
+    ensures listing { IfOk result (λ list.
+        IsListing (stands_for (table_of tables.now) icase unicode c) list.items) }
+    ensures few { IfOk result (λ list. length list.items ≤ 4) }
+{
+    if !icase {
+        Ok(vec![in alloc; c]?)
+    } else if unicode {
+        unfold_char(alloc, c, tables)
+    } else {
+        unfold_uppercase_char(alloc, c, tables)
+    }
+}
+
+/// The code points that `target`, an image, is the image of.
+fn with_image(alloc: Global, rows: &[FoldRange], target: u32) -> Result<Vec<u32>, AllocError>
+    requires code_point { target ≤ code_point_max }
+    requires in_order { IsTrue (is_in_order rows.now) }
+    requires in_range { IsTrue (are_targets_in_range rows.now) }
+    requires own_image { image rows.now target ≡ target }
+    ensures { IfOk result (λ list. IsListing (λ x. image rows.now x == target) list.items) }
+{
+    let mut found = CodePointSet::new(alloc);
+    found.add_one(target)?;
+    for row in rows {
+        if let Some(source) = row.source(target) {
+            found.add_one(source)?;
+        }
+    }
+    members(alloc, &found)
+}
