@@ -1,5 +1,5 @@
 //! What the program is asked.
-ghost use Rattle.std.specs.Prelude.{◌≡◌, ◌≢◌, IfErr, option_map, chars};
+ghost use Rattle.std.specs.Prelude.{◌≡◌, ◌≢◌, IfErr, drop, option_map, chars};
 ghost use Rattle.std.specs.IoError.{error_kind};
 ghost use Rattle.regex_front.specs.declared.failure.Failure.TheVariants.{Memory, Usage};
 ghost use Rattle.regex_front.specs.Request.{no_flags, with_letter, with_letters, request_of};
@@ -21,8 +21,18 @@ pub(crate) struct Request<'a> {
 pub(crate) fn arguments<R: Env + AllocGlobal>(rt: &R) -> Result<Vec<String>, Failure>
     ensures { IfErr result IsOfArguments }
 {
-    let args = env::args(rt).map_err(unread)?;
-    Ok(args.skip(1).collect(rt.alloc())?)
+    let mut args = env::args(rt).map_err(unread)?.collect(rt.alloc())?;
+    remove_the_first(&mut args);
+    Ok(args)
+}
+
+/// Leaves all but the first, which is the program's own name.
+fn remove_the_first(args: &mut Vec<String>)
+    ensures { args.new.items ≡ drop 1 args.old.items }
+{
+    if !args.is_empty() {
+        args.remove(0);
+    }
 }
 
 /// Why the arguments can't be had.

@@ -3,8 +3,9 @@
 //! status 2 and the usage. Want of memory for the arguments or the buffer is status 3, as elsewhere.
 #![tactic(auto)]
 
-ghost use Rattle.std.specs.Prelude.{IfErr};
-ghost use Rattle.regex_front.specs.Ending.{IsOfArguments};
+ghost use Rattle.std.specs.Prelude.{◌≡◌, ◌≢◌, ◌≤◌, ◌⊎◌, None, IfSome};
+ghost use Rattle.regex_front.specs.Printed.{IsAcceptedPattern, NoneIsAccepted};
+ghost use Rattle.regex_front.specs.Request.{request_of};
 
 mod arguments;
 mod failure;
@@ -16,25 +17,41 @@ mod trees;
 use arguments::arguments;
 use failure::{Failure, tell};
 use front::run_front;
+use std::alloc::Global;
+use std::env::Env;
 use std::io::{BufWriter, Write};
 use std::process::ExitCode;
 
 fn main(rt: HostRuntime) -> ExitCode {
-    let mut err = rt.stderr();
-    let status = match run(&rt, &mut err) {
-        Ok(status) => status,
-        Err(failure) => tell(failure, &mut err),
-    };
-    ExitCode::from(status)
+    ExitCode::from(run(&rt, rt.stdout(), &mut rt.stderr()))
 }
 
-/// Hands the arguments to `run_front`. The failure is that they can't be had, or that no memory was found
-/// for them or for the buffer.
-fn run<E: Write>(rt: &HostRuntime, err: &mut E) -> Result<u8, Failure>
-    ensures { IfErr result IsOfArguments }
+/// Runs the program in its environment, which tells its arguments.
+fn run<R: Env + AllocGlobal, W: Write + Drop, E: Write>(rt: &R, out: W, err: &mut E) -> u8
+    ensures known { result ≤ 4 }
 {
-    let args = arguments(rt)?;
-    // Only want of memory keeps a buffer from being made.
-    let mut out = BufWriter::new(rt.alloc(), rt.stdout()).map_err(|_| Failure::Memory)?;
-    Ok(run_front(rt.alloc(), &args, &mut out, err))
+    match arguments(rt) {
+        Ok(args) => run_buffered(rt.alloc(), &args, out, err),
+        Err(failure) => tell(failure, err),
+    }
+}
+
+/// Runs `run_front` with a buffer before its output. Where no memory is found for that it ends with 3.
+fn run_buffered<W: Write + Drop, E: Write>(
+    alloc: Global,
+    args: &[String],
+    out: W,
+    err: &mut E,
+) -> u8
+    ensures known { result ≤ 4 }
+    ensures usage { result ≡ 2 → request_of args.now ≡ None }
+    ensures refused { result ≡ 1 → IfSome (request_of args.now) NoneIsAccepted }
+    ensures accepted { (result ≡ 0) ⊎ (result ≡ 4) → IfSome (request_of args.now) IsAcceptedPattern }
+    ensures told { request_of args.now ≡ None → (result ≡ 2) ⊎ (result ≡ 3) }
+    ensures quiet { (result ≡ 0) ⊎ (result ≡ 4) → err.new ≡ err.old }
+{
+    match BufWriter::new(alloc, out) {
+        Ok(mut out) => run_front(alloc, args, &mut out, err),
+        Err(_) => tell(Failure::Memory, err),
+    }
 }

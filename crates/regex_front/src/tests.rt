@@ -3,9 +3,11 @@
 use crate::arguments::arguments;
 use crate::failure::{Failure, tell};
 use crate::front::run_front;
+use crate::run;
 use std::alloc::{AllocError, Global};
 use std::env::{Env, FillError};
 use std::io::{self, ErrorKind, Write};
+use std::process::Abort;
 use std::test::Fail;
 
 /// A writer that keeps what it takes, and fails once it has taken `writes` writes or `flushes` flushes.
@@ -254,19 +256,47 @@ fn arguments_are_utf_8(rt: HostRuntime) -> Result<(), Fail> {
     Ok(())
 }
 
+/// The program with these arguments ends so, and writes this to its output and its other writer.
+fn expect_end(
+    rt: &impl Abort,
+    alloc: Global,
+    words: &[&[u8]],
+    status: u8,
+    out: &str,
+    err: &str,
+) -> Result<(), Fail> {
+    let mut written = blank(alloc);
+    let mut told = blank(alloc);
+    let given = Given { alloc, words };
+    assert_eq!(rt; run(&given, &mut written, &mut told), status, "{words:?}");
+    assert_eq!(rt; written.text.as_slice(), out.as_bytes(), "{words:?}");
+    assert_eq!(rt; told.text.as_slice(), err.as_bytes(), "{words:?}");
+    Ok(())
+}
+
 #[test]
-fn an_argument_that_is_not_utf_8_is_told_with_status_2(rt: HostRuntime) {
+fn the_program_ends_with_the_status_of_its_run(rt: HostRuntime) -> Result<(), Fail> {
     let alloc = rt.alloc();
-    let words: [&[u8]; 2] = [b"regex-front", b"\xFF"];
+    let name = b"regex-front";
+    let first = FIRST_PATTERN.as_bytes();
+    expect_end(&rt, alloc, &[name, first], 0, FIRST_OUTPUT, "")?;
+    let unbalanced = "error: Unbalanced parenthesis\n";
+    expect_end(&rt, alloc, &[name, b"a)"], 1, "", unbalanced)?;
+    expect_end(&rt, alloc, &[name], 2, "", USAGE)?;
+    expect_end(&rt, alloc, &[], 2, "", USAGE)?;
+    expect_end(&rt, alloc, &[name, b"\xFF"], 2, "", USAGE)
+}
+
+#[test]
+fn the_program_ends_with_4_where_its_output_is_refused(rt: HostRuntime) -> Result<(), Fail> {
+    let alloc = rt.alloc();
+    let words: [&[u8]; 2] = [b"regex-front", FIRST_PATTERN.as_bytes()];
     let given = Given {
         alloc,
         words: &words,
     };
-    let Err(failure) = arguments(&given) else {
-        assert!(rt; false, "it is taken");
-        return;
-    };
     let mut told = blank(alloc);
-    assert_eq!(rt; tell(failure, &mut told), 2);
-    assert_eq!(rt; told.text.as_slice(), USAGE.as_bytes());
+    assert_eq!(rt; run(&given, &mut full(alloc), &mut told), 4);
+    assert!(rt; told.text.is_empty());
+    Ok(())
 }
