@@ -7,8 +7,6 @@ mod optimizer;
 mod pass;
 mod rewrite;
 mod spine;
-#[cfg(test)]
-mod tests;
 
 pub use headline::parse_and_optimize;
 pub use optimizer::optimize;

@@ -9,8 +9,6 @@ ghost use Rattle.regress_tree.specs.TableOf.{table_of};
 mod character;
 mod operand;
 mod strings;
-#[cfg(test)]
-mod tests;
 mod value;
 
 use crate::class_escape::set_is_canonical;

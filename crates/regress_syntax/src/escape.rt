@@ -17,8 +17,6 @@ ghost use Rattle.regress_syntax.specs.Escapes.{
 ghost use Rattle.regress_syntax.specs.Source.{IsCodePoint, is_at};
 ghost use Rattle.regress_syntax.specs.Digits as digits_spec;
 
-#[cfg(test)]
-mod tests;
 
 use crate::digits::{
     Read, after, control, digit, hex_length, is_decimal, is_letter, is_octal, number_from,

@@ -20,10 +20,6 @@ mod property;
 mod quantifier;
 mod scan;
 mod scope;
-#[cfg(test)]
-mod test_support;
-#[cfg(test)]
-mod tests;
 
 pub use atom::Atom;
 pub use class_escape::class_set;

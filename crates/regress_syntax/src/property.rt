@@ -13,8 +13,6 @@ use regress_base::codepointset::CodePointSet;
 use regress_tree::unicode::Tables;
 use std::alloc::AllocError;
 
-#[cfg(test)]
-mod tests;
 
 /// What a name stands for.
 #[derive(Clone, Copy)]

@@ -9,8 +9,6 @@ ghost use Rattle.regress_syntax.specs.Views.{names_in};
 
 mod mark;
 mod scanner;
-#[cfg(test)]
-mod tests;
 
 use crate::fault::ParseFault;
 use crate::groups::Groups;

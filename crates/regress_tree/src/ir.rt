@@ -2,8 +2,6 @@
 
 mod display;
 mod node;
-#[cfg(test)]
-mod tests;
 mod walk;
 
 pub use node::{AnchorType, Node, NodeList, Quantifier, Regex};

@@ -34,5 +34,3 @@ fn add_first_bytes_of_one_width(first: u32, last: u32, bitmap: &mut ByteBitmap)
     }
 }
 
-#[cfg(test)]
-mod tests;

@@ -1,132 +1,47 @@
-//! What is refused, with which text, and the limits.
+//! Faults as values.
 
-use super::expect::{expect_faults, expect_limits};
+use crate::parse::{Error, ParseFault};
+use std::alloc::{AllocError, Global};
+use std::cmp::Ordering;
+use std::hash::{DefaultHasher, Hash, Hasher};
 use std::test::Fail;
 
-#[test]
-fn parentheses_and_quantifiers_have_their_faults(rt: HostRuntime) -> Result<(), Fail> {
-    expect_faults(
-        &rt,
-        rt.alloc(),
-        &[
-            ("a)", "", "Unbalanced parenthesis"),
-            ("(a", "", "Unbalanced parenthesis"),
-            ("(?:a", "", "Unbalanced parenthesis"),
-            (")", "", "Unbalanced parenthesis"),
-            ("{3}", "", "Invalid braced quantifier"),
-            ("a{2}{3}", "", "Invalid braced quantifier"),
-            ("a{2}{3}", "u", "Invalid atom character"),
-            ("{3}", "u", "Invalid atom character"),
-            ("{", "u", "Invalid atom character"),
-            ("}", "u", "Invalid atom character"),
-            ("]", "u", "Invalid atom character"),
-            ("*", "", "Invalid atom character"),
-            ("a**", "", "Invalid atom character"),
-            ("a+*", "u", "Invalid atom character"),
-            ("a???", "", "Invalid atom character"),
-            ("(?:+)", "", "Invalid atom character"),
-            ("^*", "", "Quantifier not allowed here"),
-            ("^*", "u", "Quantifier not allowed here"),
-            ("$+?", "", "Quantifier not allowed here"),
-            ("^{2}", "", "Quantifier not allowed here"),
-            ("x{5,3}", "", "Invalid quantifier"),
-            ("x{5,3}", "u", "Invalid quantifier"),
-            ("x{", "u", "Invalid quantifier"),
-            ("x{,5}", "u", "Invalid quantifier"),
-        ],
-    )
+fn error(alloc: Global, text: &str) -> Result<Error, AllocError> {
+    Ok(Error {
+        text: String::from_str(alloc, text)?,
+    })
+}
+
+fn hash_of(error: &Error) -> u64 {
+    let mut hasher = DefaultHasher::new();
+    error.hash(&mut hasher);
+    hasher.finish()
 }
 
 #[test]
-fn escapes_have_their_faults(rt: HostRuntime) -> Result<(), Fail> {
-    expect_faults(
-        &rt,
-        rt.alloc(),
-        &[
-            ("\\", "", "Incomplete escape"),
-            ("\\", "u", "Incomplete escape"),
-            ("\\x4", "u", "Invalid character escape"),
-            ("\\08", "u", "Invalid character escape"),
-            ("\\00", "u", "Invalid character escape"),
-            ("\\a", "u", "Invalid character escape"),
-            ("\\-", "u", "Invalid character escape"),
-            ("\\c", "u", "Invalid character escape"),
-            ("\\c1", "u", "Invalid character escape"),
-            ("\\u+041", "u", "Invalid unicode escape"),
-            ("\\u{110000}", "u", "Invalid unicode escape"),
-            ("\\u{}", "u", "Invalid unicode escape"),
-            ("\\u{41", "u", "Invalid unicode escape"),
-            ("\\u", "u", "Invalid unicode escape"),
-            ("\\u004", "u", "Invalid unicode escape"),
-        ],
-    )
+fn errors_are_told_apart_by_their_texts(rt: HostRuntime) -> Result<(), Fail> {
+    let alloc = rt.alloc();
+    let first = error(alloc, "Incomplete escape")?;
+    let copy = first.try_clone(alloc)?;
+    let second = error(alloc, "Invalid quantifier")?;
+    assert!(rt; first == copy);
+    assert!(rt; first != second);
+    assert_eq!(rt; first.cmp(&copy), Ordering::Equal);
+    assert_eq!(rt; first.cmp(&second), Ordering::Less);
+    assert_eq!(rt; second.cmp(&first), Ordering::Greater);
+    assert_eq!(rt; hash_of(&first), hash_of(&copy));
+    Ok(())
 }
 
 #[test]
-fn classes_have_their_faults(rt: HostRuntime) -> Result<(), Fail> {
-    expect_faults(
-        &rt,
-        rt.alloc(),
-        &[
-            ("[a", "", "Unbalanced bracket"),
-            ("[", "u", "Unbalanced bracket"),
-            ("[\\", "", "Unterminated escape"),
-            (
-                "[z-a]",
-                "",
-                "Range values reversed, start char code is greater than end char code.",
-            ),
-            (
-                "[z-a]",
-                "iu",
-                "Range values reversed, start char code is greater than end char code.",
-            ),
-            ("[a-\\s]", "u", "Invalid character range"),
-            ("[\\s-a]", "u", "Invalid character range"),
-            ("[\\1]", "u", "Invalid character escape"),
-            ("[\\c_]", "u", "Invalid character escape"),
-            ("[\\u{110000}]", "u", "Invalid unicode escape"),
-        ],
-    )
-}
-
-#[test]
-fn the_first_fault_from_the_left_is_told(rt: HostRuntime) -> Result<(), Fail> {
-    expect_faults(
-        &rt,
-        rt.alloc(),
-        &[
-            ("a**[z-a]", "", "Invalid atom character"),
-            (
-                "[z-a]a**",
-                "",
-                "Range values reversed, start char code is greater than end char code.",
-            ),
-            ("x{5,3}\\", "", "Invalid quantifier"),
-            ("(a**", "", "Invalid atom character"),
-        ],
-    )
-}
-
-#[test]
-fn levels_groups_and_loops_have_their_limits(rt: HostRuntime) -> Result<(), Fail> {
-    expect_limits(
-        &rt,
-        rt.alloc(),
-        "",
-        &[
-            ("(?:", "a", ")", 255, "accepted"),
-            (
-                "(?:",
-                "a",
-                ")",
-                256,
-                "Regular expression is too deeply nested",
-            ),
-            ("()", "", "", 65535, "accepted"),
-            ("()", "", "", 65536, "Capture group count limit exceeded"),
-            ("a*", "", "", 65535, "accepted"),
-            ("a*", "", "", 65536, "Loop count limit exceeded"),
-        ],
-    )
+fn a_fault_prints_its_text(rt: HostRuntime) -> Result<(), Fail> {
+    let alloc = rt.alloc();
+    let fault = ParseFault::Syntax(error(alloc, "Unbalanced parenthesis")?);
+    assert_eq!(rt;
+        format!(in alloc; "{fault}")?.as_str(),
+        "Unbalanced parenthesis"
+    );
+    let fault = ParseFault::from(AllocError);
+    assert_eq!(rt; format!(in alloc; "{fault}")?.as_str(), "out of memory");
+    Ok(())
 }

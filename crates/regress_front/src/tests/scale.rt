@@ -2,7 +2,7 @@
 ghost use Rattle.std.specs.Prelude.{◌≤◌};
 
 use super::caller::code_points;
-use super::flags_of;
+use super::{first_part, flags_of, repeated};
 use crate::ir::Node;
 use crate::optimizer::parse_and_optimize;
 use crate::parse::ParseFault;
@@ -34,10 +34,7 @@ fn counted_times(
     letters: &str,
     times: usize,
 ) -> Result<(usize, usize), AllocError> {
-    let mut pattern = String::from_str(alloc, front)?;
-    for _ in 0..times {
-        pattern.push_str(item)?;
-    }
+    let pattern = repeated(alloc, front, item, times)?;
     Ok(counted(alloc, pattern.as_str(), letters).unwrap_or((0, 0)))
 }
 
@@ -102,5 +99,32 @@ fn many_groups_with_names_are_parsed(rt: HostRuntime) -> Result<(), Fail> {
     }
     let (parts, _) = counted(rt.alloc(), pattern.as_str(), "").unwrap_or((0, 0));
     assert_eq!(rt; parts, 20_001);
+    Ok(())
+}
+
+/// How many alternatives of three parts stand before the last one.
+fn alternatives(alloc: Global, pattern: &str) -> Result<usize, ParseFault> {
+    let points = code_points(alloc, pattern)?;
+    let tables = Tables::small(alloc)?;
+    let (regex, optimized) = parse_and_optimize(alloc, &points, flags_of(""), &tables)?;
+    optimized?;
+    let Some(mut last) = first_part(&regex.node) else {
+        return Ok(0);
+    };
+    let mut found: usize = 0;
+    while let Node::Alt(left, right) = last {
+        if matches!(&**left, Node::Cat(parts) if parts.len() == 3) {
+            found = found.saturating_add(1);
+        }
+        last = right;
+    }
+    Ok(found)
+}
+
+// As many as 8 MiB of stack would not carry, were there a call for each.
+#[test]
+fn many_alternatives_are_rewritten_and_dropped(rt: HostRuntime) -> Result<(), Fail> {
+    let pattern = repeated(rt.alloc(), "", "(?:ab)c|", 200_000)?;
+    assert_eq!(rt; alternatives(rt.alloc(), pattern.as_str())?, 200_000);
     Ok(())
 }

@@ -1,7 +1,8 @@
+//! Which tables are refused.
 ghost use Rattle.std.specs.Prelude.{◌≤◌};
 
+use crate::codepointset::{CodePointSet, Interval};
 use crate::unicode::{FoldRange, Tables, TablesError};
-use regress_base::codepointset::{CodePointSet, Interval};
 use std::alloc::{AllocError, Global};
 use std::process::Abort;
 use std::test::Fail;

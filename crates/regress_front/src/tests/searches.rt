@@ -1,4 +1,6 @@
-use super::{
+//! Byte sets and searches.
+
+use crate::bytesearch::{
     AsciiBitmap, ByteArraySet, ByteBitmap, ByteSearcher, ByteSet, EmptyString, Needle,
     SmallArraySet, charset_contains,
 };
@@ -144,22 +146,6 @@ fn bitmaps_with_the_same_members_are_equal(rt: HostRuntime) {
 }
 
 #[test]
-fn a_run_is_added_from_its_first_byte_to_its_last(rt: HostRuntime) {
-    for (first, last) in [(0, 0), (0, 255), (15, 16), (16, 31), (17, 30), (255, 255)] {
-        let mut bitmap = ByteBitmap::new(&[100]);
-        bitmap.set_run(first, last);
-        for b in 0..=u8::MAX {
-            let is_member = b == 100 || (first <= b && b <= last);
-            assert_eq!(rt;
-                bitmap.contains(b),
-                is_member,
-                "{b} after {first} to {last}"
-            );
-        }
-    }
-}
-
-#[test]
 fn bitmaps_print_their_runs(rt: HostRuntime) -> Result<(), Fail> {
     let mut full = ByteBitmap::default();
     full.bitnot();
@@ -175,4 +161,52 @@ fn bitmaps_print_their_runs(rt: HostRuntime) -> Result<(), Fail> {
         assert_eq!(rt; printed.as_str(), want);
     }
     Ok(())
+}
+// What each set with the member 9, and with none of the bytes 0 to 5, finds in the text.
+fn answers(text: &[u8]) -> [Option<usize>; 8] {
+    [
+        ByteBitmap::new(&[9]).find_in(text),
+        ByteSearcher::find_in(&[9], text),
+        ByteSearcher::find_in(&[9, 8], text),
+        ByteSearcher::find_in(&[8, 7, 9], text),
+        SmallArraySet::find_in([7, 9], text),
+        SmallArraySet::find_in([8, 9, 7], text),
+        SmallArraySet::find_in([6, 7, 8, 9], text),
+        ByteArraySet([9, 9, 6, 6]).find_in(text),
+    ]
+}
+
+#[test]
+fn the_first_member_is_found(rt: HostRuntime) {
+    assert_eq!(rt; answers(&[0, 0, 0, 9, 9, 0, 9]), [Some(3); 8]);
+    assert_eq!(rt; answers(&[0, 0, 0, 0, 0, 0, 9]), [Some(6); 8]);
+    assert_eq!(rt; answers(&[9]), [Some(0); 8]);
+}
+
+#[test]
+fn a_member_is_found_at_every_place_of_every_length(rt: HostRuntime) {
+    for len in 0..=67 {
+        assert_eq!(rt; answers(&[0; 67][..len]), [None; 8], "{len}");
+        for place in 0..len {
+            let mut text = [0; 67];
+            text[place] = 9;
+            assert_eq!(rt; answers(&text[..len]), [Some(place); 8], "{place} of {len}");
+        }
+    }
+}
+
+#[test]
+fn of_two_members_in_a_chunk_the_lower_is_found(rt: HostRuntime) {
+    for len in 4..=67 {
+        for chunk in 0..len / 4 {
+            let mut text = [0; 67];
+            text[4 * chunk] = 9;
+            text[4 * chunk + 3] = 9;
+            assert_eq!(rt;
+                answers(&text[..len]),
+                [Some(4 * chunk); 8],
+                "{chunk} of {len}"
+            );
+        }
+    }
 }

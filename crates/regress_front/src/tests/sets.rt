@@ -1,4 +1,9 @@
-use super::*;
+//! Sets of code points.
+
+use crate::codepointset::{
+    CODE_POINT_MAX, CodePointSet, Interval, canonical_form_is_unique, is_canonical,
+};
+use std::alloc::Global;
 use std::test::Fail;
 
 type Ends<'a> = &'a [(u32, u32)];

@@ -1,8 +1,9 @@
+//! Lowering of literals.
 ghost use Rattle.std.specs.Prelude.{◌≤◌, All};
-ghost use Rattle.regress_base.specs.Intervals.{code_point_max};
 
-use super::{Piece, lower_code_point_sequence};
+use crate::codepointset::CODE_POINT_MAX;
 use crate::ir::Node;
+use crate::literal::{Piece, lower_code_point_sequence};
 use crate::unicode::Tables;
 use std::alloc::{AllocError, Global};
 use std::process::Abort;
@@ -10,7 +11,7 @@ use std::test::Fail;
 
 /// The pieces under the small table.
 fn lowered(alloc: Global, cps: &[u32], icase: bool, unicode: bool) -> Result<Vec<Piece>, AllocError>
-    requires { All (λ c. c ≤ code_point_max) cps.now }
+    requires { All (λ c. c ≤ CODE_POINT_MAX) cps.now }
 {
     lower_code_point_sequence(alloc, cps, icase, unicode, &Tables::small(alloc)?)
 }
@@ -23,7 +24,7 @@ fn expect_pieces(
     flags: (bool, bool),
     wanted: &[Piece],
 ) -> Result<(), Fail>
-    requires { All (λ c. c ≤ code_point_max) cps.now }
+    requires { All (λ c. c ≤ CODE_POINT_MAX) cps.now }
 {
     let (icase, unicode) = flags;
     let pieces = lowered(alloc, cps, icase, unicode)?;

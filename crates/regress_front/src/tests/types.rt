@@ -1,5 +1,13 @@
-use super::*;
-use crate::codepointset::{CODE_POINT_MAX, CodePointSet, Interval};
+//! Brackets, groups, loops, limits and the classes of characters.
+
+use crate::charclasses::{
+    WHITESPACE, digit_intervals, line_terminator_intervals, white_space_intervals, word_intervals,
+};
+use crate::codepointset::{CODE_POINT_MAX, CodePointSet, Interval, is_canonical};
+use crate::types::{
+    BracketContents, GroupData, LoopData, MAX_CAPTURE_GROUPS, MAX_CHAR_SET_LENGTH, MAX_LOOPS,
+    MAX_NESTING_DEPTH, limits_are_as_defined,
+};
 use std::test::Fail;
 
 #[test]
@@ -50,4 +58,15 @@ fn the_limits_are_those_of_the_profile(rt: HostRuntime) {
         (65535, 65535, 4)
     );
     assert_eq!(rt; (MAX_NESTING_DEPTH, CODE_POINT_MAX), (256, 0x10FFFF));
+}
+
+#[test]
+fn the_classes_are_canonical(rt: HostRuntime) {
+    assert!(rt; is_canonical(&digit_intervals()));
+    assert!(rt; is_canonical(&word_intervals()));
+    assert!(rt; is_canonical(&white_space_intervals()));
+    assert!(rt; is_canonical(&line_terminator_intervals()));
+    let ends = [(0x9, 0xC), (0x2000, 0x200A)];
+    assert_eq!(rt; (WHITESPACE[0].first(), WHITESPACE[0].last()), ends[0]);
+    assert_eq!(rt; (WHITESPACE[4].first(), WHITESPACE[4].last()), ends[1]);
 }

@@ -1,10 +1,11 @@
+//! The table, its images and its lists.
 ghost use Rattle.std.specs.Prelude.{◌<◌, ◌^◌};
 
-use super::{
+use crate::codepointset::{CODE_POINT_MAX, CodePointSet, Interval};
+use crate::unicode::{
     CodePointRange, Tables, add_icase_code_points, expand_code_point, fold, unfold_char,
     unfold_uppercase_char, uppercase,
 };
-use regress_base::codepointset::{CODE_POINT_MAX, CodePointSet, Interval};
 use std::test::Fail;
 
 mod refusals;
