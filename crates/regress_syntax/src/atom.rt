@@ -27,7 +27,6 @@ use regress_base::types::MAX_NESTING_DEPTH;
 use regress_tree::ir::AnchorType;
 use std::alloc::{AllocError, Global};
 
-
 /// An item that holds no pattern.
 #[derive(Drop)]
 pub enum Atom {

@@ -15,7 +15,6 @@ use regress_base::codepointset::{CodePointSet, Interval};
 use regress_tree::unicode::Tables;
 use std::alloc::{AllocError, Global};
 
-
 /// A class: what stands between its brackets, and whether it is inverted.
 #[derive(Drop)]
 pub(crate) struct Class {

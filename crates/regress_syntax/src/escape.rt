@@ -17,7 +17,6 @@ ghost use Rattle.regress_syntax.specs.Escapes.{
 ghost use Rattle.regress_syntax.specs.Source.{IsCodePoint, is_at};
 ghost use Rattle.regress_syntax.specs.Digits as digits_spec;
 
-
 use crate::digits::{
     Read, after, control, digit, hex_length, is_decimal, is_letter, is_octal, number_from,
     octal_length, read_hex,

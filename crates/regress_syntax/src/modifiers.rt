@@ -5,7 +5,6 @@ ghost use Rattle.regress_syntax.specs.Digits.{front, behind};
 ghost use Rattle.regress_syntax.specs.Modifiers.{is_modifier, stands_in, are_different, switch, change_of as switches, letters_off, behind_letters_off, modifiers_at};
 ghost use Rattle.regress_syntax.specs.Views.{change_of};
 
-
 use crate::digits::{Read, after};
 use regress_base::types::Flags;
 

@@ -4,7 +4,6 @@ ghost use Rattle.regress_syntax.specs.Source.{found_map};
 ghost use Rattle.regress_syntax.specs.Names.{is_sign, begins_name, continues_name, written_at, name_character_at, rest_of_name_by, name_at, group_name_at};
 ghost use Rattle.regress_tree.specs.TableOf.{table_of};
 
-
 use crate::digits::{Read, after};
 use crate::escape::read_unicode;
 use regress_tree::unicode::Tables;

@@ -13,7 +13,6 @@ use regress_base::codepointset::CodePointSet;
 use regress_tree::unicode::Tables;
 use std::alloc::AllocError;
 
-
 /// What a name stands for.
 #[derive(Clone, Copy)]
 pub(crate) enum Property<'a> {

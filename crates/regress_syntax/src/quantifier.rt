@@ -2,7 +2,6 @@
 ghost use Rattle.std.specs.Prelude.{◌≡◌, option_map};
 ghost use Rattle.regress_syntax.specs.Quantifiers.{most_at, times_by, quantifier_at, is_ordered};
 
-
 use crate::digits::{Read, after, read_count};
 use regress_tree::ir::Quantifier;
 

@@ -9,7 +9,6 @@ use crate::unicode::{Tables, expand_code_point};
 use std::alloc::{AllocError, Global};
 use std::mem;
 
-
 /// What stands for literals in a tree.
 #[derive(Debug, Drop, PartialEq, Eq)]
 pub enum Piece {
