@@ -10,8 +10,6 @@ mod find;
 mod searcher;
 mod small_arrays;
 mod strings;
-#[cfg(test)]
-mod tests;
 
 pub use ascii::AsciiBitmap;
 pub use bitmap::ByteBitmap;

@@ -6,9 +6,6 @@ ghost use Rattle.regress_base.specs.Intervals.{IsCanonical};
 
 use crate::interval::Interval;
 
-#[cfg(test)]
-mod tests;
-
 /// A class that has an escape: `\d`, `\s` or `\w`.
 #[derive(Clone, Copy, Debug, PartialEq, Eq)]
 pub enum CharacterClassType {

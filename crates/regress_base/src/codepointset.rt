@@ -11,8 +11,6 @@ mod add;
 mod canonical;
 mod combine;
 mod invert;
-#[cfg(test)]
-mod tests;
 
 /// A set of code points. Its intervals ascend, and between neighbours at least one code point is
 /// missing, so that sets with the same members are the same list.

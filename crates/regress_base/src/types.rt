@@ -11,8 +11,6 @@ pub use captures::{GroupData, LoopData};
 
 mod bracket;
 mod captures;
-#[cfg(test)]
-mod tests;
 
 /// The flags of a pattern, each read by itself. `unicode_sets` does not switch `unicode` on: a caller who
 /// wants the sets of JavaScript's flag v sets both.

@@ -6,6 +6,4 @@ pub use utf8::{is_utf8_continuation, to_char_sat, utf8_first_byte, utf8_w2, utf8
 
 mod equal_range;
 mod first_bytes;
-#[cfg(test)]
-mod tests;
 mod utf8;

@@ -16,5 +16,3 @@ pub mod optimizer {
     pub use regress_opt::{PassAction, Rewrite, optimize, parse_and_optimize, run_pass};
 }
 
-#[cfg(test)]
-mod tests;

@@ -3,8 +3,6 @@
 
 mod headline;
 mod optimizer;
-#[cfg(test)]
-mod tests;
 
 pub use headline::parse_and_optimize;
 pub use optimizer::optimize;

@@ -3,8 +3,6 @@
 mod display;
 mod node;
 pub mod spine;
-#[cfg(test)]
-mod tests;
 mod walk;
 
 pub use node::{AnchorType, Node, NodeList, Quantifier, Regex};

@@ -9,9 +9,6 @@ use regress_unicode::{Tables, expand_code_point};
 use std::alloc::{AllocError, Global};
 use std::mem;
 
-#[cfg(test)]
-mod tests;
-
 /// What stands for literals in a tree.
 #[derive(Debug, Drop, PartialEq, Eq)]
 pub enum Piece {

@@ -15,8 +15,6 @@ mod readers;
 mod shift;
 mod small;
 mod tables_error;
-#[cfg(test)]
-mod tests;
 mod unfold;
 
 pub use closure::add_icase_code_points;

@@ -3,9 +3,6 @@
 ghost use Rattle.std.specs.Prelude.{ℕ, ◌<◌, Bool, length, IfSome};
 ghost use Rattle.regress_base.specs.Places.{IsLeast, IsMemberAt, Tells};
 
-#[cfg(test)]
-mod tests;
-
 /// How many bytes the walk looks at in one turn.
 const LANES: usize = 4;
 

@@ -33,6 +33,3 @@ fn add_first_bytes_of_one_width(first: u32, last: u32, bitmap: &mut ByteBitmap)
         bitmap.set_run(utf8_first_byte(first), utf8_first_byte(last));
     }
 }
-
-#[cfg(test)]
-mod tests;

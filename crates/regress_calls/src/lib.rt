@@ -1,0 +1,7 @@
+//! A caller of the library, as another crate would write it, and tests of the public calls. It stands above
+//! `regress_front`, since a crate with tests is proved twice.
+#![tactic(auto)]
+
+pub mod caller;
+#[cfg(test)]
+mod tests;

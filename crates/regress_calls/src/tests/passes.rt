@@ -1,0 +1,125 @@
+//! Rewrites of a test's own: the order of the nodes, and want of memory at one.
+
+use super::parsed;
+use regress_front::ir::{Node, Regex, Walk};
+use regress_front::optimizer::{PassAction, Rewrite, run_pass};
+use std::alloc::{AllocError, Global};
+use std::fmt::Write;
+use std::test::Fail;
+
+/// Leaves each node as it is, and writes down where it was met; where its count of nodes is spent, memory is wanting.
+#[derive(Drop)]
+struct Visits {
+    nodes: usize,
+    seen: String,
+}
+
+impl Rewrite for Visits {
+    ghost use Rattle.std.specs.Prelude.{true, false};
+
+    ghost removes = { λ t. false };
+
+    ghost is_exact = { true };
+
+    fn apply(&mut self, node: &mut Node, walk: &Walk) -> Result<PassAction, AllocError> {
+        if self.nodes == 0 {
+            return Err(AllocError);
+        }
+        self.nodes -= 1;
+        let direction = if walk.in_lookbehind {
+            "backwards"
+        } else {
+            "forwards"
+        };
+        let unicode = if walk.unicode {
+            "unicode"
+        } else {
+            "no unicode"
+        };
+        let depth = walk.depth;
+        writeln!(
+            self.seen,
+            "{} at {depth}, {direction}, {unicode}",
+            kind(node)
+        )
+        .map_err(|_| AllocError)?;
+        Ok(PassAction::Keep)
+    }
+}
+
+fn kind(node: &Node) -> &'static str {
+    match node {
+        Node::Empty => "Empty",
+        Node::Goal => "Goal",
+        Node::Char { .. } => "Char",
+        Node::Cat(_) => "Cat",
+        Node::Alt(..) => "Alt",
+        Node::LookaroundAssertion { .. } => "LookaroundAssertion",
+        _ => "another",
+    }
+}
+
+/// How a pattern's tree is walked over, if that many nodes are met before memory is wanting.
+fn visited(alloc: Global, pattern: &str, letters: &str, nodes: usize) -> Result<String, Fail> {
+    let mut regex = parsed(alloc, pattern, letters)?;
+    let mut visits = Visits {
+        nodes,
+        seen: String::new(alloc),
+    };
+    let changed = run_pass(&mut regex, &mut visits)?;
+    visits
+        .seen
+        .push_str(if changed { "changed" } else { "not changed" })?;
+    Ok(visits.seen)
+}
+
+#[test]
+fn children_are_visited_before_parents_and_left_before_right(rt: HostRuntime) -> Result<(), Fail> {
+    for (pattern, letters, want) in [
+        (
+            "(?:a|bc)d",
+            "u",
+            "Char at 3, forwards, unicode\nChar at 4, forwards, unicode\nChar at 4, forwards, unicode\nCat at 3, forwards, unicode\nAlt at 2, forwards, unicode\nChar at 2, forwards, unicode\nCat at 1, forwards, unicode\nGoal at 1, forwards, unicode\nCat at 0, forwards, unicode\nnot changed",
+        ),
+        (
+            "||(?:)a",
+            "",
+            "Empty at 2, forwards, no unicode\nEmpty at 3, forwards, no unicode\nEmpty at 4, forwards, no unicode\nChar at 4, forwards, no unicode\nCat at 3, forwards, no unicode\nAlt at 2, forwards, no unicode\nAlt at 1, forwards, no unicode\nGoal at 1, forwards, no unicode\nCat at 0, forwards, no unicode\nnot changed",
+        ),
+        // what a lookaround holds is visited in its own direction
+        (
+            "(?<=a(?=b))",
+            "",
+            "Char at 4, forwards, no unicode\nLookaroundAssertion at 3, backwards, no unicode\nChar at 3, backwards, no unicode\nCat at 2, backwards, no unicode\nLookaroundAssertion at 1, forwards, no unicode\nGoal at 1, forwards, no unicode\nCat at 0, forwards, no unicode\nnot changed",
+        ),
+    ] {
+        let found = visited(rt.alloc(), pattern, letters, 9)?;
+        assert_eq!(rt; found.as_str(), want, "{pattern}");
+    }
+    Ok(())
+}
+
+/// Whether a pass over the tree of `(?:a|bc)d`, which has nine nodes, ends well, and what the tree is then.
+fn passed(alloc: Global, nodes: usize) -> Result<(bool, Regex), Fail> {
+    let mut regex = parsed(alloc, "(?:a|bc)d", "")?;
+    let mut visits = Visits {
+        nodes,
+        seen: String::new(alloc),
+    };
+    let passed = run_pass(&mut regex, &mut visits).is_ok();
+    Ok((passed, regex))
+}
+
+#[test]
+fn want_of_memory_at_a_node_is_answered(rt: HostRuntime) -> Result<(), Fail> {
+    let alloc = rt.alloc();
+    for nodes in 0..=9 {
+        let (passed, regex) = passed(alloc, nodes)?;
+        assert_eq!(rt; passed, nodes == 9, "with {nodes} nodes looked at");
+        assert_eq!(rt;
+            format!(in alloc; "{regex}")?.as_str(),
+            "Cat\n..Cat\n....Alt\n......'97'\n......Cat\n........'98'\n........'99'\n....'100'\n..Goal\n"
+        );
+    }
+    Ok(())
+}

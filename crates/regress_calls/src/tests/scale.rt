@@ -1,0 +1,130 @@
+//! Large patterns, of which each part comes out.
+ghost use Rattle.std.specs.Prelude.{◌≤◌};
+
+use super::{first_part, flags_of, repeated};
+use crate::caller::code_points;
+use regress_front::ir::Node;
+use regress_front::optimizer::parse_and_optimize;
+use regress_front::parse::ParseFault;
+use regress_front::unicode::Tables;
+use std::alloc::{AllocError, Global};
+use std::test::Fail;
+
+/// The parts of the optimized tree of a pattern, and the intervals of the first if it is a bracket.
+fn counted(alloc: Global, pattern: &str, letters: &str) -> Result<(usize, usize), ParseFault> {
+    let points = code_points(alloc, pattern)?;
+    let tables = Tables::small(alloc)?;
+    let (regex, optimized) = parse_and_optimize(alloc, &points, flags_of(letters), &tables)?;
+    optimized?;
+    let Node::Cat(parts) = &regex.node else {
+        return Ok((0, 0));
+    };
+    let intervals = match parts.first() {
+        Some(Node::Bracket(contents)) => contents.cps.intervals().len(),
+        _ => 0,
+    };
+    Ok((parts.len(), intervals))
+}
+
+/// The same of the item so many times, behind the front; (0, 0) where that is refused.
+fn counted_times(
+    alloc: Global,
+    front: &str,
+    item: &str,
+    letters: &str,
+    times: usize,
+) -> Result<(usize, usize), AllocError> {
+    let pattern = repeated(alloc, front, item, times)?;
+    Ok(counted(alloc, pattern.as_str(), letters).unwrap_or((0, 0)))
+}
+
+#[test]
+fn many_items_are_parsed_and_optimized(rt: HostRuntime) -> Result<(), Fail> {
+    let rows = [
+        ("a", "", 100_000, 100_001),
+        ("k", "iu", 100_000, 100_001),
+        ("\\x41", "", 33_000, 33_001),
+        ("\\W", "", 33_000, 33_001),
+        ("a*", "", 50_000, 50_001),
+        ("(?:[a-z]{2,3}?\\b)", "i", 33_000, 66_001),
+        ("(?=a)", "", 33_000, 33_001),
+        ("(?<=a)", "", 33_000, 33_001),
+        ("(?i:a)", "", 33_000, 33_001),
+    ];
+    for (item, letters, times, want) in rows {
+        let (parts, _) = counted_times(rt.alloc(), "", item, letters, times)?;
+        assert_eq!(rt; parts, want, "{item} {times} times");
+    }
+    Ok(())
+}
+
+#[test]
+fn many_references_by_name_are_parsed(rt: HostRuntime) -> Result<(), Fail> {
+    let (parts, _) = counted_times(rt.alloc(), "(?<a>x)", "\\k<a>", "", 10_000)?;
+    assert_eq!(rt; parts, 10_002);
+    Ok(())
+}
+
+/// A class of so many ranges.
+fn class_of_ranges(alloc: Global, ranges: u32) -> Result<String, AllocError>
+    requires { ranges ≤ 10000 }
+{
+    let mut pattern = String::from_str(alloc, "[")?;
+    for i in 0..ranges {
+        let first = 0x100000 + 3 * i;
+        let last = first + 1;
+        let range = format!(in alloc; "\\u{{{first:x}}}-\\u{{{last:x}}}")?;
+        pattern.push_str(range.as_str())?;
+    }
+    pattern.push_str("]")?;
+    Ok(pattern)
+}
+
+#[test]
+fn a_class_of_many_ranges_is_parsed(rt: HostRuntime) -> Result<(), Fail> {
+    let pattern = class_of_ranges(rt.alloc(), 10_000)?;
+    for letters in ["", "i", "iu"] {
+        let found = counted(rt.alloc(), pattern.as_str(), letters).unwrap_or((0, 0));
+        assert_eq!(rt; found, (2, 10_000), "{letters}");
+    }
+    Ok(())
+}
+
+#[test]
+fn many_groups_with_names_are_parsed(rt: HostRuntime) -> Result<(), Fail> {
+    let mut pattern = String::new(rt.alloc());
+    for i in 0..20_000u32 {
+        let group = format!(in rt.alloc(); "(?<a{i}>x)")?;
+        pattern.push_str(group.as_str())?;
+    }
+    let (parts, _) = counted(rt.alloc(), pattern.as_str(), "").unwrap_or((0, 0));
+    assert_eq!(rt; parts, 20_001);
+    Ok(())
+}
+
+/// How many alternatives of three parts stand before the last one.
+fn alternatives(alloc: Global, pattern: &str) -> Result<usize, ParseFault> {
+    let points = code_points(alloc, pattern)?;
+    let tables = Tables::small(alloc)?;
+    let (regex, optimized) = parse_and_optimize(alloc, &points, flags_of(""), &tables)?;
+    optimized?;
+    let Some(mut last) = first_part(&regex.node) else {
+        return Ok(0);
+    };
+    let mut found: usize = 0;
+    while let Node::Alt(left, right) = last {
+        if matches!(&**left, Node::Cat(parts) if parts.len() == 3) {
+            found = found.saturating_add(1);
+        }
+        last = right;
+    }
+    Ok(found)
+}
+
+// As many as 8 MiB of stack would not carry, were there a call for each.
+#[test]
+fn many_alternatives_are_rewritten_and_dropped(rt: HostRuntime) -> Result<(), Fail> {
+    let pattern = repeated(rt.alloc(), "", "(?:ab)c|", 200_000)?;
+    assert_eq!(rt; alternatives(rt.alloc(), pattern.as_str())?, 200_000);
+    Ok(())
+}

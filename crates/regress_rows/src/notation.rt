@@ -1,0 +1,57 @@
+//! How a row writes a pattern.
+ghost use Rattle.std.specs.Prelude.{◌≤◌, All, IfOk, IfSome};
+
+use regress_front::codepointset::CODE_POINT_MAX;
+use std::alloc::{AllocError, Global};
+
+/// The code points of a pattern as a row writes it. Nothing is answered where a `⟨` has no `⟩` behind it, or what
+/// stands between is neither a code point nor a text with its number.
+pub(crate) fn read_pattern(alloc: Global, text: &str) -> Result<Option<Vec<u32>>, AllocError>
+    ensures { IfOk result (λ read. IfSome read (λ points. All (λ c. c ≤ CODE_POINT_MAX) points.items)) }
+{
+    let mut points = Vec::new(alloc);
+    let mut parts = text.split('⟨');
+    if let Some(front) = parts.next() {
+        push_text(&mut points, front)?;
+    }
+    for part in parts {
+        let Some((inside, behind)) = part.split_once('⟩') else {
+            return Ok(None);
+        };
+        if !push_bracketed(&mut points, inside)? {
+            return Ok(None);
+        }
+        push_text(&mut points, behind)?;
+    }
+    let in_range = points.iter().all(|c| *c <= CODE_POINT_MAX);
+    Ok(if in_range { Some(points) } else { None })
+}
+
+/// Adds the characters of a text.
+fn push_text(points: &mut Vec<u32>, text: &str) -> Result<(), AllocError> {
+    for c in text.chars() {
+        points.push(u32::from(c))?;
+    }
+    Ok(())
+}
+
+/// Adds what stands between `⟨` and `⟩`, and answers whether that is anything.
+fn push_bracketed(points: &mut Vec<u32>, inside: &str) -> Result<bool, AllocError> {
+    match inside.split_once('×') {
+        Some((number, text)) => {
+            let Ok(times) = number.parse::<usize>() else {
+                return Ok(false);
+            };
+            for _ in 0..times {
+                push_text(points, text)?;
+            }
+        }
+        None => {
+            let Ok(point) = u32::from_str_radix(inside, 16) else {
+                return Ok(false);
+            };
+            points.push(point)?;
+        }
+    }
+    Ok(true)
+}
