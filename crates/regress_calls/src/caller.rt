@@ -4,13 +4,14 @@ ghost use Rattle.regress_front.specs.SmallTable.{small_table};
 ghost use Rattle.regress_front.specs.Fault.{RefusedOnlyIf};
 ghost use Rattle.regress_front.specs.Syntax.{Pattern};
 ghost use Rattle.regress_front.specs.Accepted.{IsAccepted, NoneIsAccepted};
+ghost use Rattle.regress_front.specs.Setting.{setting_of};
 
-use regress_front::codepointset::CODE_POINT_MAX;
+use regress_front::codepointset::{CODE_POINT_MAX, CodePointSet, Interval};
 use regress_front::optimizer::parse_and_optimize;
 use regress_front::parse::ParseFault;
 use regress_front::types::Flags;
-use regress_front::unicode::Tables;
-use std::alloc::{AllocError, Global};
+use regress_front::unicode::{FoldRange, Tables, TablesError};
+use std::alloc::{AllocError, AllocFailed, Global};
 
 /// The optimized tree of a pattern, as it prints.
 pub fn optimized_text(alloc: Global, pattern: &str, flags: Flags) -> Result<String, ParseFault>
@@ -22,6 +23,72 @@ pub fn optimized_text(alloc: Global, pattern: &str, flags: Flags) -> Result<Stri
     let (regex, optimized) = parse_and_optimize(alloc, &points, flags, &tables)?;
     optimized?;
     Ok(format!(in alloc; "{regex}")?)
+}
+
+/// The same under a table of the caller's own, with an error of the caller's own.
+pub fn optimized_text_by(
+    alloc: Global,
+    pattern: &str,
+    flags: Flags,
+    tables: &Tables,
+) -> Result<String, LinterError>
+    ensures accepted { IfOk result (λ _. (p : Pattern) × IsAccepted (setting_of flags tables.now) (chars pattern.now) p) }
+{
+    let points = code_points(alloc, pattern)?;
+    let (regex, optimized) = parse_and_optimize(alloc, &points, flags, tables)?;
+    optimized?;
+    Ok(format!(in alloc; "{regex}")?)
+}
+
+/// A table of ASCII: the cases of its letters, and which characters stand in names. With an empty `id_start` each name
+/// but one of `$` and `_` would be refused.
+pub fn ascii_tables(alloc: Global) -> Result<Tables, TablesError> {
+    let folds = vec![in alloc; FoldRange::from(0x41, 26, 32, 1)]?;
+    let uppers = vec![in alloc; FoldRange::from(0x61, 26, -32, 1)]?;
+    let mut letters = CodePointSet::new(alloc);
+    letters.add(Interval::new(0x41, 0x5A))?;
+    letters.add(Interval::new(0x61, 0x7A))?;
+    let mut in_names = letters.try_clone(alloc)?;
+    in_names.add(Interval::new(0x30, 0x39))?;
+    in_names.add_one(0x5F)?;
+    Tables::new(
+        alloc,
+        folds,
+        uppers,
+        letters,
+        in_names,
+        Vec::new(alloc),
+        Vec::new(alloc),
+        Vec::new(alloc),
+        Vec::new(alloc),
+        Vec::new(alloc),
+    )
+}
+
+/// Why a pattern has no optimized text.
+#[derive(Debug, Drop)]
+pub enum LinterError {
+    Pattern(ParseFault),
+    Memory,
+}
+
+impl From<ParseFault> for LinterError {
+    fn from(fault: ParseFault) -> LinterError {
+        LinterError::Pattern(fault)
+    }
+}
+
+impl From<AllocError> for LinterError {
+    fn from(_: AllocError) -> LinterError {
+        LinterError::Memory
+    }
+}
+
+// For a `?` on `Vec::push` and its kin, which hand back what found no room.
+impl<T: Drop> From<AllocFailed<T>> for LinterError {
+    fn from(_: AllocFailed<T>) -> LinterError {
+        LinterError::Memory
+    }
 }
 
 /// The characters of a text, none above U+10FFFF.
