@@ -18,7 +18,7 @@ use Rattle.regress_classes.specs.declared.class_sets.Operator.TheVariants as ope
 use Rattle.regress_classes.specs.ClassRows.{ClassAtom, point, set as set_of, class_members, complement_if}
 use Rattle.regress_classes.specs.Properties.{Property, of_points, of_strings}
 use Rattle.regress_classes.specs.ClassSets.{Value, common, without, Operand, character, class as class_operand, class_set_by}
-use Rattle.regress_lexical.specs.Source.{Source, Found, IsCodePoint}
+use Rattle.regress_lexical.specs.Source.{Source, Found, IsCodePoint, char}
 
 -- an atom of a class
 abbrev pub class_atom_of : CodeClassAtom → ClassAtom
@@ -70,8 +70,8 @@ inner_of inside = class_set_by (table_of inside.tables.now) inside.unicode insid
 
 -- an operator: twice its sign is written, and what it makes of two values
 abbrev pub sign_of : Operator → ℕ
-sign_of operators.Intersection = 38
-sign_of operators.Subtraction = 45
+sign_of operators.Intersection = char "&"
+sign_of operators.Subtraction = char "-"
 
 abbrev pub applied : Operator → Value → Value → Value
 applied operators.Intersection = common

@@ -16,14 +16,13 @@ use std::alloc::{AllocError, Global};
 pub fn class_letter(c: u32) -> Option<(CharacterClassType, bool)>
     ensures { result ≡ class_letter c }
 {
-    // d, D, s, S, w and W.
-    match c {
-        100 => Some((CharacterClassType::Digits, false)),
-        68 => Some((CharacterClassType::Digits, true)),
-        115 => Some((CharacterClassType::Spaces, false)),
-        83 => Some((CharacterClassType::Spaces, true)),
-        119 => Some((CharacterClassType::Words, false)),
-        87 => Some((CharacterClassType::Words, true)),
+    match char::from_u32(c)? {
+        'd' => Some((CharacterClassType::Digits, false)),
+        'D' => Some((CharacterClassType::Digits, true)),
+        's' => Some((CharacterClassType::Spaces, false)),
+        'S' => Some((CharacterClassType::Spaces, true)),
+        'w' => Some((CharacterClassType::Words, false)),
+        'W' => Some((CharacterClassType::Words, true)),
         _ => None,
     }
 }

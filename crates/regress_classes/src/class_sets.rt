@@ -167,10 +167,10 @@ fn try_consume_both(cursor: &mut Cursor, c: char) -> bool
 }
 
 /// Whether `c` and another `c` come next.
-fn are_at(text: &[u32], c: char) -> bool
-    ensures { result ≡ are_at c text.now }
+fn are_at(source: &[u32], c: char) -> bool
+    ensures { result ≡ are_at c source.now }
 {
-    match text {
+    match source {
         [first, second, ..] => *first == u32::from(c) && *second == u32::from(c),
         _ => false,
     }
