@@ -28,7 +28,7 @@ pub fn class_letter(c: u32) -> Option<(CharacterClassType, bool)>
 }
 
 /// The members of a class by an escape.
-pub fn class_set(alloc: Global, kind: CharacterClassType) -> Result<CodePointSet, AllocError>
+pub fn class_escape_set(alloc: Global, kind: CharacterClassType) -> Result<CodePointSet, AllocError>
     ensures { IfOk result (HasMembers (members_of kind)) }
 {
     let mut set = CodePointSet::new(alloc);
@@ -52,7 +52,7 @@ pub fn class_members(
 ) -> Result<CodePointSet, AllocError>
     ensures { IfOk result (λ set. (c : ℕ) → is_member set c ≡ is_member (class_members (kind, negated)) c) }
 {
-    let set = class_set(alloc, kind)?;
+    let set = class_escape_set(alloc, kind)?;
     if negated { set.inverted() } else { Ok(set) }
 }
 

@@ -38,8 +38,8 @@ are_different (c ∷ cs) = not (stands_in c cs) && are_different cs
 abbrev pub switch : (on off : List ℕ) → ℕ → Option Bool
 switch on off c = if stands_in c on then Some true else if stands_in c off then Some false else None
 
-abbrev pub change_of : (on off : List ℕ) → Change
-change_of on off = record { icase = switch on off (char "i"); multiline = switch on off (char "m"); dot_all = switch on off (char "s") }
+abbrev pub change_by : (on off : List ℕ) → Change
+change_by on off = record { icase = switch on off (char "i"); multiline = switch on off (char "m"); dot_all = switch on off (char "s") }
 
 -- the letters behind a hyphen, if one is there
 abbrev pub letters_off : Source → List ℕ
@@ -55,5 +55,5 @@ modifiers_at t =
     let rest = behind is_modifier t in
     let letters = on ++ letters_off rest in
     if not (length letters == 0) && are_different letters && is_at colon (behind_letters_off rest)
-    then Some (change_of on (letters_off rest), drop 1 (behind_letters_off rest))
+    then Some (change_by on (letters_off rest), drop 1 (behind_letters_off rest))
     else None

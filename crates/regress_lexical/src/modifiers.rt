@@ -2,7 +2,7 @@
 ghost use Rattle.std.specs.Prelude.{◌≡◌, ◌≤◌, not, ◌&&◌, ◌++◌, ◌==◌, length, option_map};
 ghost use Rattle.std.specs.List.{prefix_len, list_all};
 ghost use Rattle.regress_lexical.specs.Digits.{front, behind};
-ghost use Rattle.regress_lexical.specs.Modifiers.{is_modifier, stands_in, are_different, switch, change_of as switches, letters_off, behind_letters_off, modifiers_at};
+ghost use Rattle.regress_lexical.specs.Modifiers.{is_modifier, stands_in, are_different, switch, change_by, letters_off, behind_letters_off, modifiers_at};
 ghost use Rattle.regress_lexical.specs.Views.{change_of};
 
 use crate::digits::{Read, after};
@@ -105,7 +105,7 @@ fn switch(on: &[u32], off: &[u32], c: char) -> Option<bool>
 
 /// What the letters say of each flag.
 fn change_by(on: &[u32], off: &[u32]) -> Change
-    ensures { change_of result ≡ switches on.now off.now }
+    ensures { change_of result ≡ change_by on.now off.now }
 {
     Change {
         icase: switch(on, off, 'i'),

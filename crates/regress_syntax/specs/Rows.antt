@@ -27,11 +27,11 @@ pub record Context : Type 0 where
   pub names : List (Option Name)
 
 -- the context of what stands inside a group
-abbrev pub inside : Group → Context → Context
-inside grouping ctx = ctx
-inside (modified change) ctx = record ctx { setting = record ctx.setting { flags = changed change ctx.setting.flags } }
-inside (capture name) ctx = ctx
-inside (look negate direction) ctx = ctx
+abbrev pub context_inside : Group → Context → Context
+context_inside grouping ctx = ctx
+context_inside (modified change) ctx = record ctx { setting = record ctx.setting { flags = changed change ctx.setting.flags } }
+context_inside (capture name) ctx = ctx
+context_inside (look negate direction) ctx = ctx
 
 -- what an item begins with: all of it, or what its parenthesis opens
 pub data Head : Type 0 where
