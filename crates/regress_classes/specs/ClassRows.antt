@@ -5,7 +5,7 @@ use Rattle.regress_base.specs.declared.charclasses.CharacterClassType.TheVariant
 use Rattle.regress_base.specs.Classes.{digits, white_space, line_terminators, word_characters}
 use Rattle.regress_base.specs.Intervals.{Bounds, is_member, intervals_of}
 use Rattle.regress_unicode.specs.Table.{Table}
-use Rattle.regress_lexical.specs.Source.{Source, Found, ◌>>=◌, found_map, is_at}
+use Rattle.regress_lexical.specs.Source.{Source, Found, ◌>>=◌, found_map, char, is_one_of, is_at}
 use Rattle.regress_lexical.specs.Digits.{is_decimal, is_letter, control}
 use Rattle.regress_lexical.specs.Escapes.{escape_at}
 use Rattle.regress_classes.specs.Properties.{Property, points_of, property_at}
@@ -21,12 +21,12 @@ members_of Words = word_characters
 -- the class that a letter names, d, D, s, S, w or W, and whether the letter is a capital, which takes the complement
 abbrev pub class_letter : ℕ → Option (CharacterClassType × Bool)
 class_letter c =
-    if c == 100 then Some (Digits, false)
-    else if c == 68 then Some (Digits, true)
-    else if c == 115 then Some (Spaces, false)
-    else if c == 83 then Some (Spaces, true)
-    else if c == 119 then Some (Words, false)
-    else if c == 87 then Some (Words, true)
+    if c == char "d" then Some (Digits, false)
+    else if c == char "D" then Some (Digits, true)
+    else if c == char "s" then Some (Spaces, false)
+    else if c == char "S" then Some (Spaces, true)
+    else if c == char "w" then Some (Words, false)
+    else if c == char "W" then Some (Words, true)
     else None
 
 -- all code points but these
@@ -57,9 +57,9 @@ atom_members (set members) = members
 
 -- `\c` without the flag u: a letter, or a digit or `_`, for its low five bits; else the backslash alone
 abbrev pub class_control_at : Source → Found ClassAtom
-class_control_at [] = Some (point 92, 99 ∷ [])
+class_control_at [] = Some (point (char "\\"), char "c" ∷ [])
 class_control_at (d ∷ t) =
-    if is_letter d || is_decimal d || d == 95 then Some (point (control d), t) else Some (point 92, 99 ∷ d ∷ t)
+    if is_letter d || is_decimal d || d == char "_" then Some (point (control d), t) else Some (point (char "\\"), char "c" ∷ d ∷ t)
 
 -- a property of code points, or its complement
 abbrev pub class_property : Bool → Property × Source → Found ClassAtom
@@ -78,10 +78,10 @@ module _ (table : Table) (unicode : Bool) where
         | Some named ↦ Some (set (class_members named), t)
         | None ↦
             -- `\b` is backspace
-            if c == 98 then Some (point 8, t)
-            else if c == 45 && unicode then Some (point 45, t)
-            else if c == 99 && not unicode then class_control_at t
-            else if (c == 112 || c == 80) && unicode then class_property_at table (c == 80) t
+            if c == char "b" then Some (point 8, t)
+            else if c == char "-" && unicode then Some (point (char "-"), t)
+            else if c == char "c" && not unicode then class_control_at t
+            else if is_one_of "pP" c && unicode then class_property_at table (c == char "P") t
             else found_map point (escape_at unicode (c ∷ t))
       ]
 
@@ -93,15 +93,15 @@ module _ (table : Table) (unicode : Bool) where
   abbrev pub class_atom_at : Source → Found ClassAtom
   class_atom_at [] = None
   class_atom_at (c ∷ t) =
-      if c == 93 then None
-      else if c == 92 then class_escape_at t
+      if c == char "]" then None
+      else if c == char "\\" then class_escape_at t
       else Some (point c, t)
 
 -- ---- ranges
 
 -- both and the hyphen, without the flag u
 abbrev pub three : Bool → List Bounds → List Bounds → Option (List Bounds)
-three unicode first last = if unicode then None else Some (first ++ one_point 45 ++ last)
+three unicode first last = if unicode then None else Some (first ++ one_point (char "-") ++ last)
 
 -- a range of code points, which ends nowhere before it begins
 abbrev pub points_between : ℕ → ℕ → Option (List Bounds)
@@ -116,7 +116,7 @@ range_of unicode (set members) (set others) = three unicode members others
 
 -- a hyphen that may begin a range: one that is not the last
 abbrev pub begins_range : Source → Bool
-begins_range t = is_at 45 t && not (is_at 93 (drop 1 t))
+begins_range t = is_at (char "-") t && not (is_at (char "]") (drop 1 t))
 
 module _ (table : Table) (unicode : Bool) where
   -- the rest of a range, behind its first atom and the hyphen
@@ -137,13 +137,13 @@ module _ (table : Table) (unicode : Bool) where
   unfoldable pub class_parts_by : ℕ → Source → Found (List Bounds)
   class_parts_by zero t = None
   class_parts_by (suc n) t =
-      if is_at 93 t then Some ([], drop 1 t)
+      if is_at (char "]") t then Some ([], drop 1 t)
       else class_part_at t >>= λ (members, rest).
       (class_parts_by n rest >>= λ (others, behind). Some (members ++ others, behind))
 
   -- what stands behind `[`: whether it is inverted, and what it holds
   unfoldable pub class_at : Source → Found (Bool × List Bounds)
   class_at t =
-      let inverted = is_at 94 t in
+      let inverted = is_at (char "^") t in
       let inside = if inverted then drop 1 t else t in
       class_parts_by (length inside + 1) inside >>= λ (members, rest). Some ((inverted, members), rest)

@@ -1,11 +1,11 @@
 -- Classes with the flag v (this project's profile of ECMA-262, ClassSetExpression).
-use Rattle.std.specs.Prelude.{ℕ, zero, suc, ◌+◌, max, Bool, true, false, not, ◌&&◌, ◌||◌, List, [], ◌∷◌, ◌++◌, length, drop, filter, Option, Some, None, if◌then◌else◌, ◌==◌, codes}
+use Rattle.std.specs.Prelude.{ℕ, zero, suc, ◌+◌, max, Bool, true, false, not, ◌&&◌, ◌||◌, List, [], ◌∷◌, ◌++◌, length, drop, filter, Option, Some, None, if◌then◌else◌, ◌==◌}
 use Rattle.std.specs.List.{list_any}
 use Rattle.std.specs.Str.{bytes_eq}
 use Rattle.regress_base.specs.Intervals.{Bounds, is_member, intervals_of}
 use Rattle.regress_base.specs.Limits.{max_nesting_depth}
 use Rattle.regress_unicode.specs.Table.{Table}
-use Rattle.regress_lexical.specs.Source.{Source, Found, ◌>>=◌, found_map, is_at}
+use Rattle.regress_lexical.specs.Source.{Source, Found, ◌>>=◌, found_map, char, is_one_of, is_at}
 use Rattle.regress_lexical.specs.Escapes.{escape_at}
 use Rattle.regress_classes.specs.Properties.{Property, of_points, of_strings, property_at}
 use Rattle.regress_classes.specs.ClassRows.{complement_if, class_letter, class_members, one_point, points_between}
@@ -86,11 +86,11 @@ range_of (class value) last = None
 
 -- code points that stand for themselves only behind a backslash, or never
 abbrev pub is_set_syntax : ℕ → Bool
-is_set_syntax c = list_any (λ d. d == c) (codes "()[]{}/-|\\")
+is_set_syntax c = is_one_of "()[]{}/-|\\" c
 
 -- one that stands for itself, but not before another of these
 abbrev pub is_double : ℕ → Bool
-is_double c = list_any (λ d. d == c) (codes "&!#$%*+,.:;<=>?@^`~")
+is_double c = is_one_of "&!#$%*+,.:;<=>?@^`~" c
 
 abbrev pub begins_double : Source → Bool
 begins_double [] = false
@@ -98,13 +98,13 @@ begins_double (c ∷ t) = is_double c
 
 -- one that stands for itself behind a backslash
 abbrev pub is_reserved : ℕ → Bool
-is_reserved c = list_any (λ d. d == c) (codes "&-!#%,:;<=>@`~")
+is_reserved c = is_one_of "&-!#%,:;<=>@`~" c
 
 -- an escape of one character, behind its backslash; `\b` is backspace
 abbrev pub escaped_character_at : (unicode : Bool) → Source → Found ℕ
 escaped_character_at unicode [] = None
 escaped_character_at unicode (c ∷ t) =
-    if c == 98 then Some (8, t)
+    if c == char "b" then Some (8, t)
     else if is_reserved c then Some (c, t)
     else escape_at unicode (c ∷ t)
 
@@ -112,7 +112,7 @@ escaped_character_at unicode (c ∷ t) =
 unfoldable pub set_character_at : (unicode : Bool) → Source → Found ℕ
 set_character_at unicode [] = None
 set_character_at unicode (c ∷ t) =
-    if c == 92 then escaped_character_at unicode t
+    if c == char "\\" then escaped_character_at unicode t
     else if is_set_syntax c || (is_double c && begins_double t) then None
     else Some (c, t)
 
@@ -121,14 +121,14 @@ set_character_at unicode (c ∷ t) =
 unfoldable pub strings_by : ℕ → (unicode : Bool) → (s : List ℕ) → Source → Found (List (List ℕ))
 strings_by zero unicode s t = None
 strings_by (suc n) unicode s t =
-    if is_at 125 t then Some (s ∷ [], drop 1 t)
-    else if is_at 124 t then found_map (λ ss. s ∷ ss) (strings_by n unicode [] (drop 1 t))
+    if is_at (char "}") t then Some (s ∷ [], drop 1 t)
+    else if is_at (char "|") t then found_map (λ ss. s ∷ ss) (strings_by n unicode [] (drop 1 t))
     else set_character_at unicode t >>= λ (c, rest). strings_by n unicode (s ++ c ∷ []) rest
 
 -- behind `\q`
 abbrev pub quoted_at : (unicode : Bool) → Source → Found Operand
 quoted_at unicode t =
-    if is_at 123 t
+    if is_at (char "{") t
     then found_map (λ ss. class (value_of_strings ss)) (strings_by (length t) unicode [] (drop 1 t))
     else None
 
@@ -154,8 +154,8 @@ module _ (table : Table) (unicode : Bool) where
       elim (class_letter c) [
         | Some named ↦ Some (class (only (class_members named)), t)
         | None ↦
-            if c == 113 then quoted_at unicode t
-            else if c == 112 || c == 80 then property_operand_at table in_negated (c == 80) t
+            if c == char "q" then quoted_at unicode t
+            else if is_one_of "pP" c then property_operand_at table in_negated (c == char "P") t
             else found_map character (escaped_character_at unicode (c ∷ t))
       ]
 
@@ -164,8 +164,8 @@ module _ (table : Table) (unicode : Bool) where
   module _ (inner : Source → Found (Bool × Value)) (in_negated : Bool) where
     unfoldable pub operand_at : Source → Found Operand
     operand_at t =
-        if is_at 91 t then found_map (λ inside. class (nested inside)) (inner (drop 1 t))
-        else if is_at 92 t then escaped_operand_at in_negated (drop 1 t)
+        if is_at (char "[") t then found_map (λ inside. class (nested inside)) (inner (drop 1 t))
+        else if is_at (char "\\") t then escaped_operand_at in_negated (drop 1 t)
         else found_map character (set_character_at unicode t)
 
     -- ---- parts, which are joined
@@ -177,13 +177,13 @@ module _ (table : Table) (unicode : Bool) where
 
     -- a part whose first operand is read: a hyphen behind that always makes a range
     abbrev pub part_behind : Operand × Source → Found Value
-    part_behind (first, t) = if is_at 45 t then range_at first (drop 1 t) else Some (value_of first, t)
+    part_behind (first, t) = if is_at (char "-") t then range_at first (drop 1 t) else Some (value_of first, t)
 
     -- The parts up to `]`, behind what is held already. The number bounds how many.
     unfoldable pub parts_by : ℕ → Value → Source → Found Value
     parts_by zero value t = None
     parts_by (suc n) value t =
-        if is_at 93 t then Some (value, drop 1 t)
+        if is_at (char "]") t then Some (value, drop 1 t)
         else operand_at t >>= part_behind >>= λ (part, rest). parts_by n (joined value part) rest
 
     abbrev pub parts_at : Value → Source → Found Value
@@ -197,7 +197,7 @@ module _ (table : Table) (unicode : Bool) where
     operands_by zero c f value t = None
     operands_by (suc n) c f value t =
         operand_at t >>= λ (operand, rest).
-        (if is_at 93 rest then Some (f value (value_of operand), drop 1 rest)
+        (if is_at (char "]") rest then Some (f value (value_of operand), drop 1 rest)
         else if are_at c rest then operands_by n c f (f value (value_of operand)) (drop 2 rest)
         else None)
 
@@ -207,21 +207,21 @@ module _ (table : Table) (unicode : Bool) where
     -- behind the first operand
     abbrev pub contents_behind : Operand × Source → Found Value
     contents_behind (first, t) =
-        if are_at 38 t then operands_at 38 common (value_of first) (drop 2 t)
-        else if are_at 45 t then operands_at 45 without (value_of first) (drop 2 t)
+        if are_at (char "&") t then operands_at (char "&") common (value_of first) (drop 2 t)
+        else if are_at (char "-") t then operands_at (char "-") without (value_of first) (drop 2 t)
         -- a single `&` is a member, and begins no range
-        else if is_at 38 t then parts_at (joined (value_of first) (only (one_point 38))) (drop 1 t)
+        else if is_at (char "&") t then parts_at (joined (value_of first) (only (one_point (char "&")))) (drop 1 t)
         else part_behind (first, t) >>= λ (part, rest). parts_at part rest
 
     -- what a class holds, up to its `]`
     abbrev pub contents_at : Source → Found Value
-    contents_at t = if is_at 93 t then Some (nothing, drop 1 t) else operand_at t >>= contents_behind
+    contents_at t = if is_at (char "]") t then Some (nothing, drop 1 t) else operand_at t >>= contents_behind
 
   -- Behind `[`: whether the class is negated, and what it holds. The number bounds how deep classes lie in one another.
   unfoldable pub class_set_by : ℕ → Source → Found (Bool × Value)
   class_set_by zero t = None
   class_set_by (suc n) t =
-      let negated = is_at 94 t in
+      let negated = is_at (char "^") t in
       contents_at (class_set_by n) negated (if negated then drop 1 t else t) >>= unless_of_strings negated
 
   -- no deeper than the limit of levels, of which the pattern around has one

@@ -12,24 +12,24 @@ use Rattle.regress_classes.specs.declared.class_sets.value.Value.{Value as CodeV
 use Rattle.regress_classes.specs.declared.class_sets.operand.Operand.{Operand as CodeOperand}
 use Rattle.regress_classes.specs.declared.class_sets.operand.Operand.TheVariants as operands
 use Rattle.regress_classes.specs.declared.class_sets.ClassSet.{ClassSet as CodeClassSet}
-use Rattle.regress_classes.specs.declared.class_sets.Inside.{Inside}
+use Rattle.regress_classes.specs.declared.class_sets.Surroundings.{Surroundings}
 use Rattle.regress_classes.specs.declared.class_sets.Operator.{Operator}
 use Rattle.regress_classes.specs.declared.class_sets.Operator.TheVariants as operators
-use Rattle.regress_classes.specs.ClassRows.{ClassAtom, point, set as set_of, class_members, complement_if}
+use Rattle.regress_classes.specs.ClassRows.{ClassAtom, point, set, class_members, complement_if}
 use Rattle.regress_classes.specs.Properties.{Property, of_points, of_strings}
-use Rattle.regress_classes.specs.ClassSets.{Value, common, without, Operand, character, class as class_operand, class_set_by}
-use Rattle.regress_lexical.specs.Source.{Source, Found, IsCodePoint}
+use Rattle.regress_classes.specs.ClassSets.{Value, common, without, Operand, character, class, class_set_by}
+use Rattle.regress_lexical.specs.Source.{Source, Found, IsCodePoint, char}
 
 -- an atom of a class
 abbrev pub class_atom_of : CodeClassAtom → ClassAtom
 class_atom_of (class_atoms.Point c) = point c
-class_atom_of (class_atoms.Class kind negated) = set_of (class_members (kind, negated))
-class_atom_of (class_atoms.Property set negated) = set_of (complement_if negated set.now)
+class_atom_of (class_atoms.Class kind negated) = set (class_members (kind, negated))
+class_atom_of (class_atoms.Property members negated) = set (complement_if negated members.now)
 
 abbrev pub IsClassAtomInRange : CodeClassAtom → Type 0
 IsClassAtomInRange (class_atoms.Point c) = IsCodePoint c
 IsClassAtomInRange (class_atoms.Class kind negated) = Unit {0}
-IsClassAtomInRange (class_atoms.Property set negated) = Unit {0}
+IsClassAtomInRange (class_atoms.Property members negated) = Unit {0}
 
 -- The set has these members: the code keeps a set by its canonical intervals, not as it was written.
 pub record HasMembers (members set : List Bounds) : Type 0 where
@@ -50,7 +50,7 @@ strings_of = map (λ string. string.items)
 
 -- what a property of the code is
 abbrev pub property_of : CodeProperty → Property
-property_of (properties.Points set) = of_points set.now
+property_of (properties.Points members) = of_points members.now
 property_of (properties.Strings written) = of_strings (strings_of written.now)
 
 -- what the code has read of a class with the flag v is this value
@@ -62,16 +62,16 @@ pub record IsValue (held : CodeValue) (value : Value) : Type 0 where
 -- an operand of such a class; a character is a code point
 abbrev pub IsOperand : CodeOperand → Operand → Type 0
 IsOperand (operands.Character c) operand = (operand ≡ character c) × IsCodePoint c
-IsOperand (operands.Class held) operand = (value : Value) × (operand ≡ class_operand value) × IsValue held value
+IsOperand (operands.Class held) operand = (value : Value) × (operand ≡ class value) × IsValue held value
 
 -- what reads classes inside of this one, and whether that is negated
-abbrev pub inner_of : Inside → Source → Found (Bool × Value)
-inner_of inside = class_set_by (table_of inside.tables.now) inside.unicode inside.levels
+abbrev pub inner_of : Surroundings → Source → Found (Bool × Value)
+inner_of around = class_set_by (table_of around.tables.now) around.unicode around.levels
 
 -- an operator: twice its sign is written, and what it makes of two values
 abbrev pub sign_of : Operator → ℕ
-sign_of operators.Intersection = 38
-sign_of operators.Subtraction = 45
+sign_of operators.Intersection = char "&"
+sign_of operators.Subtraction = char "-"
 
 abbrev pub applied : Operator → Value → Value → Value
 applied operators.Intersection = common

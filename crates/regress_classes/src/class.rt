@@ -77,10 +77,10 @@ fn try_consume_hyphen(cursor: &mut Cursor) -> bool
 }
 
 /// Whether a hyphen stands there that may begin a range: one that is not the last.
-fn begins_range(text: &[u32]) -> bool
-    ensures { result ≡ begins_range text.now }
+fn begins_range(source: &[u32]) -> bool
+    ensures { result ≡ begins_range source.now }
 {
-    match text {
+    match source {
         [hyphen, rest @ ..] => {
             *hyphen == u32::from('-') && rest.first() != Some(&u32::from(']'))
         }

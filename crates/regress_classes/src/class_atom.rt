@@ -1,6 +1,7 @@
 //! Atoms of a class.
 ghost use Rattle.std.specs.Prelude.{◌≡◌, ◌∷◌, Some, IfOk};
 ghost use Rattle.regress_classes.specs.ClassRows.{class_atom_at, class_escape_at, class_control_at, class_property_at};
+ghost use Rattle.regress_lexical.specs.Source.{char};
 ghost use Rattle.regress_lexical.specs.Reads.{Reads};
 ghost use Rattle.regress_classes.specs.ClassViews.{class_atom_of, IsClassAtomInRange};
 ghost use Rattle.regress_lexical.specs.Views.{source};
@@ -106,8 +107,8 @@ fn read_class_property<'a>(
 }
 
 /// A letter, a digit or `_` behind `\c`, for its low five bits; else the backslash alone.
-fn class_control<'a>(text: &'a [u32], rest: &'a [u32]) -> (ClassAtom<'static>, &'a [u32])
-    requires { text.now ≡ 99 ∷ rest.now }
+fn class_control<'a>(source: &'a [u32], rest: &'a [u32]) -> (ClassAtom<'static>, &'a [u32])
+    requires { source.now ≡ char "c" ∷ rest.now }
     ensures value { Some (class_atom_of result.0, result.1.now) ≡ class_control_at rest.now }
     ensures in_range { IsClassAtomInRange result.0 }
 {
@@ -115,6 +116,6 @@ fn class_control<'a>(text: &'a [u32], rest: &'a [u32]) -> (ClassAtom<'static>, &
         Some((d, behind)) if is_letter(*d) || is_decimal(*d) || *d == u32::from('_') => {
             (ClassAtom::Point(control(*d)), behind)
         }
-        _ => (ClassAtom::Point(u32::from('\\')), text),
+        _ => (ClassAtom::Point(u32::from('\\')), source),
     }
 }

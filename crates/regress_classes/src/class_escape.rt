@@ -16,20 +16,19 @@ use std::alloc::{AllocError, Global};
 pub fn class_letter(c: u32) -> Option<(CharacterClassType, bool)>
     ensures { result ≡ class_letter c }
 {
-    // d, D, s, S, w and W.
-    match c {
-        100 => Some((CharacterClassType::Digits, false)),
-        68 => Some((CharacterClassType::Digits, true)),
-        115 => Some((CharacterClassType::Spaces, false)),
-        83 => Some((CharacterClassType::Spaces, true)),
-        119 => Some((CharacterClassType::Words, false)),
-        87 => Some((CharacterClassType::Words, true)),
+    match char::from_u32(c)? {
+        'd' => Some((CharacterClassType::Digits, false)),
+        'D' => Some((CharacterClassType::Digits, true)),
+        's' => Some((CharacterClassType::Spaces, false)),
+        'S' => Some((CharacterClassType::Spaces, true)),
+        'w' => Some((CharacterClassType::Words, false)),
+        'W' => Some((CharacterClassType::Words, true)),
         _ => None,
     }
 }
 
 /// The members of a class by an escape.
-pub fn class_set(alloc: Global, kind: CharacterClassType) -> Result<CodePointSet, AllocError>
+pub fn class_escape_set(alloc: Global, kind: CharacterClassType) -> Result<CodePointSet, AllocError>
     ensures { IfOk result (HasMembers (members_of kind)) }
 {
     let mut set = CodePointSet::new(alloc);
@@ -53,7 +52,7 @@ pub fn class_members(
 ) -> Result<CodePointSet, AllocError>
     ensures { IfOk result (λ set. (c : ℕ) → is_member set c ≡ is_member (class_members (kind, negated)) c) }
 {
-    let set = class_set(alloc, kind)?;
+    let set = class_escape_set(alloc, kind)?;
     if negated { set.inverted() } else { Ok(set) }
 }
 

@@ -47,9 +47,9 @@ impl ClassSet {
     }
 }
 
-/// What operands are read in.
+/// What lies around operands.
 #[derive(Clone, Copy)]
-struct Inside<'a> {
+struct Surroundings<'a> {
     tables: &'a Tables,
     /// The flag u.
     unicode: bool,
@@ -102,13 +102,13 @@ pub fn read_class_set(
         return Err(syntax(cursor.alloc, TOO_DEEP));
     }
     let negated = cursor.try_consume('^');
-    let inside = Inside {
+    let around = Surroundings {
         tables,
         unicode,
         negated,
         levels: levels - 1,
     };
-    let value = read_contents(cursor, &inside)?;
+    let value = read_contents(cursor, &around)?;
     if negated && !value.strings.is_empty() {
         return Err(syntax(cursor.alloc, INVALID_NEGATED_CLASS));
     }
@@ -117,9 +117,9 @@ pub fn read_class_set(
 
 /// Reads what a class holds, up to its `]`.
 #[cycle(class_set)]
-fn read_contents(cursor: &mut Cursor, inside: &Inside) -> Result<Value, ParseFault>
+fn read_contents(cursor: &mut Cursor, around: &Surroundings) -> Result<Value, ParseFault>
     ensures { ReadsAs IsValue (source cursor.new) result
-        (contents_at (table_of inside.now.tables.now) inside.now.unicode (inner_of inside.now) inside.now.negated (source cursor.old)) }
+        (contents_at (table_of around.now.tables.now) around.now.unicode (inner_of around.now) around.now.negated (source cursor.old)) }
 {
     if cursor.try_consume(']') {
         return Ok(Value::new(cursor.alloc));
@@ -127,30 +127,30 @@ fn read_contents(cursor: &mut Cursor, inside: &Inside) -> Result<Value, ParseFau
     if cursor.rest.is_empty() {
         return Err(syntax(cursor.alloc, UNBALANCED_SET));
     }
-    let first = read_operand(cursor, inside)?;
-    read_behind(cursor, inside, first)
+    let first = read_operand(cursor, around)?;
+    read_behind(cursor, around, first)
 }
 
 /// Reads on behind the first operand.
 #[cycle(class_set)]
-fn read_behind(cursor: &mut Cursor, inside: &Inside, first: Operand) -> Result<Value, ParseFault>
+fn read_behind(cursor: &mut Cursor, around: &Surroundings, first: Operand) -> Result<Value, ParseFault>
     requires { (operand : WrittenOperand) × IsOperand first operand }
     ensures { (operand : WrittenOperand) → IsOperand first operand → ReadsAs IsValue (source cursor.new) result
-        (contents_behind (table_of inside.now.tables.now) inside.now.unicode (inner_of inside.now) inside.now.negated (operand, source cursor.old)) }
+        (contents_behind (table_of around.now.tables.now) around.now.unicode (inner_of around.now) around.now.negated (operand, source cursor.old)) }
 {
     if try_consume_both(cursor, '&') {
         let value = first.into_value(cursor.alloc)?;
-        read_operands(cursor, inside, value, Operator::Intersection)
+        read_operands(cursor, around, value, Operator::Intersection)
     } else if try_consume_both(cursor, '-') {
         let value = first.into_value(cursor.alloc)?;
-        read_operands(cursor, inside, value, Operator::Subtraction)
+        read_operands(cursor, around, value, Operator::Subtraction)
     } else if cursor.try_consume('&') {
         let mut value = first.into_value(cursor.alloc)?;
         value.join(Value::of_point(cursor.alloc, u32::from('&'))?)?;
-        read_parts(cursor, inside, value)
+        read_parts(cursor, around, value)
     } else {
-        let value = read_part_behind(cursor, inside, first)?;
-        read_parts(cursor, inside, value)
+        let value = read_part_behind(cursor, around, first)?;
+        read_parts(cursor, around, value)
     }
 }
 
@@ -167,10 +167,10 @@ fn try_consume_both(cursor: &mut Cursor, c: char) -> bool
 }
 
 /// Whether `c` and another `c` come next.
-fn are_at(text: &[u32], c: char) -> bool
-    ensures { result ≡ are_at c text.now }
+fn are_at(source: &[u32], c: char) -> bool
+    ensures { result ≡ are_at c source.now }
 {
-    match text {
+    match source {
         [first, second, ..] => *first == u32::from(c) && *second == u32::from(c),
         _ => false,
     }
@@ -178,16 +178,16 @@ fn are_at(text: &[u32], c: char) -> bool
 
 /// Reads the parts up to `]`, which join what is held already.
 #[cycle(class_set)]
-fn read_parts(cursor: &mut Cursor, inside: &Inside, mut value: Value) -> Result<Value, ParseFault>
+fn read_parts(cursor: &mut Cursor, around: &Surroundings, mut value: Value) -> Result<Value, ParseFault>
     ensures { (held : Written) → IsValue value held → ReadsAs IsValue (source cursor.new) result
-        (parts_at (table_of inside.now.tables.now) inside.now.unicode (inner_of inside.now) inside.now.negated held (source cursor.old)) }
+        (parts_at (table_of around.now.tables.now) around.now.unicode (inner_of around.now) around.now.negated held (source cursor.old)) }
 {
     while !cursor.is_at(']') {
         if cursor.rest.is_empty() {
             return Err(syntax(cursor.alloc, UNBALANCED_SET));
         }
-        let first = read_operand(cursor, inside)?;
-        let part = read_part_behind(cursor, inside, first)?;
+        let first = read_operand(cursor, around)?;
+        let part = read_part_behind(cursor, around, first)?;
         value.join(part)?;
     }
     cursor.try_consume(']');
@@ -198,12 +198,12 @@ fn read_parts(cursor: &mut Cursor, inside: &Inside, mut value: Value) -> Result<
 #[cycle(class_set)]
 fn read_part_behind(
     cursor: &mut Cursor,
-    inside: &Inside,
+    around: &Surroundings,
     first: Operand,
 ) -> Result<Value, ParseFault>
     requires { (operand : WrittenOperand) × IsOperand first operand }
     ensures { (operand : WrittenOperand) → IsOperand first operand → ReadsAs IsValue (source cursor.new) result
-        (part_behind (table_of inside.now.tables.now) inside.now.unicode (inner_of inside.now) inside.now.negated (operand, source cursor.old)) }
+        (part_behind (table_of around.now.tables.now) around.now.unicode (inner_of around.now) around.now.negated (operand, source cursor.old)) }
 {
     if !cursor.try_consume('-') {
         return Ok(first.into_value(cursor.alloc)?);
@@ -211,7 +211,7 @@ fn read_part_behind(
     let Operand::Character(a) = first else {
         return Err(syntax(cursor.alloc, INVALID_SET_RANGE));
     };
-    match read_operand(cursor, inside)? {
+    match read_operand(cursor, around)? {
         Operand::Character(b) if a <= b => Ok(range_value(cursor.alloc, Interval::new(a, b))?),
         _ => Err(syntax(cursor.alloc, INVALID_SET_RANGE)),
     }
@@ -231,16 +231,16 @@ fn range_value(alloc: Global, range: Interval) -> Result<Value, AllocError>
 #[cycle(class_set)]
 fn read_operands(
     cursor: &mut Cursor,
-    inside: &Inside,
+    around: &Surroundings,
     mut value: Value,
     operator: Operator,
 ) -> Result<Value, ParseFault>
     ensures { (held : Written) → IsValue value held → ReadsAs IsValue (source cursor.new) result
-        (operands_at (table_of inside.now.tables.now) inside.now.unicode (inner_of inside.now) inside.now.negated
+        (operands_at (table_of around.now.tables.now) around.now.unicode (inner_of around.now) around.now.negated
         (sign_of operator) (applied operator) held (source cursor.old)) }
 {
     loop {
-        let operand = read_operand(cursor, inside)?;
+        let operand = read_operand(cursor, around)?;
         value.apply(operator, operand.into_value(cursor.alloc)?)?;
         if cursor.try_consume(']') {
             return Ok(value);
@@ -268,20 +268,20 @@ fn consume_operator(cursor: &mut Cursor, operator: Operator) -> Result<(), Parse
 
 /// Reads an operand (this project's profile of ECMA-262, ClassSetOperand).
 #[cycle(class_set)]
-fn read_operand(cursor: &mut Cursor, inside: &Inside) -> Result<Operand, ParseFault>
+fn read_operand(cursor: &mut Cursor, around: &Surroundings) -> Result<Operand, ParseFault>
     ensures { ReadsAs IsOperand (source cursor.new) result
-        (operand_at (table_of inside.now.tables.now) inside.now.unicode (inner_of inside.now) inside.now.negated (source cursor.old)) }
+        (operand_at (table_of around.now.tables.now) around.now.unicode (inner_of around.now) around.now.negated (source cursor.old)) }
 {
     if cursor.rest.is_empty() {
         return Err(syntax(cursor.alloc, EMPTY_OPERAND));
     }
     if cursor.try_consume('[') {
-        let class = read_class_set(cursor, inside.tables, inside.unicode, inside.levels)?;
+        let class = read_class_set(cursor, around.tables, around.unicode, around.levels)?;
         return Ok(Operand::Class(class.into_nested()?));
     }
     if cursor.try_consume('\\') {
-        return read_escaped(cursor, inside);
+        return read_escaped(cursor, around);
     }
-    let character = read_set_character(cursor, inside.unicode)?;
+    let character = read_set_character(cursor, around.unicode)?;
     Ok(Operand::Character(character))
 }

@@ -7,5 +7,5 @@ pub mod class_escape;
 pub mod class_sets;
 pub mod property;
 
-pub use class_escape::class_set;
+pub use class_escape::class_escape_set;
 pub use class_sets::Value;

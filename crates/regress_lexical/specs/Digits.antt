@@ -1,30 +1,30 @@
 -- Digits at the front of a source, and letters.
 use Rattle.std.specs.Prelude.{ℕ, ◌+◌, ◌-◌, ◌*◌, ◌%◌, Bool, ◌&&◌, ◌||◌, List, [], ◌∷◌, length, take, drop, Some, None, if◌then◌else◌, nat_le, ◌==◌}
 use Rattle.std.specs.List.{list_all}
-use Rattle.regress_lexical.specs.Source.{Source, Found}
+use Rattle.regress_lexical.specs.Source.{Source, Found, char}
 
 abbrev pub is_between : ℕ → ℕ → ℕ → Bool
 is_between first last c = nat_le first c && nat_le c last
 
 -- 0 to 9
 abbrev pub is_decimal : ℕ → Bool
-is_decimal = is_between 48 57
+is_decimal = is_between (char "0") (char "9")
 
 -- 0 to 7
 abbrev pub is_octal : ℕ → Bool
-is_octal = is_between 48 55
+is_octal = is_between (char "0") (char "7")
 
 -- A to Z and a to z
 abbrev pub is_letter : ℕ → Bool
-is_letter c = is_between 65 90 c || is_between 97 122 c
+is_letter c = is_between (char "A") (char "Z") c || is_between (char "a") (char "z") c
 
 -- 0 to 9, A to F and a to f
 abbrev pub is_hex : ℕ → Bool
-is_hex c = is_decimal c || is_between 65 70 c || is_between 97 102 c
+is_hex c = is_decimal c || is_between (char "A") (char "F") c || is_between (char "a") (char "f") c
 
 -- what a digit of any of these kinds stands for
 abbrev pub digit : ℕ → ℕ
-digit c = if is_decimal c then c - 48 else if is_between 65 70 c then c - 55 else c - 87
+digit c = if is_decimal c then c - char "0" else if is_between (char "A") (char "F") c then c - (char "A" - 10) else c - (char "a" - 10)
 
 -- the number that these digits write in a base, behind those that write n
 abbrev pub number_from : ℕ → ℕ → List ℕ → ℕ

@@ -1,8 +1,7 @@
 -- What an escape of one character stands for, behind its backslash, row by row (ECMA-262, CharacterEscape with annex B).
-use Rattle.std.specs.Prelude.{ℕ, ◌+◌, ◌-◌, ◌*◌, Bool, false, not, ◌&&◌, ◌||◌, [], ◌∷◌, length, take, drop, Option, Some, None, if◌then◌else◌, nat_le, ◌==◌, codes}
-use Rattle.std.specs.List.{list_any}
+use Rattle.std.specs.Prelude.{ℕ, ◌+◌, ◌-◌, ◌*◌, Bool, false, not, ◌&&◌, ◌||◌, [], ◌∷◌, length, take, drop, Option, Some, None, if◌then◌else◌, nat_le, ◌==◌}
 use Rattle.regress_base.specs.Intervals.{code_point_max}
-use Rattle.regress_lexical.specs.Source.{Source, Found, ◌>>=◌, is_at}
+use Rattle.regress_lexical.specs.Source.{Source, Found, ◌>>=◌, char, is_one_of, is_at}
 use Rattle.regress_lexical.specs.Digits.{is_between, is_decimal, is_octal, is_letter, is_hex, number, front, behind, hex_at, control}
 
 -- `{`, hexadecimal digits, one at least, and `}`, for a code point
@@ -10,16 +9,17 @@ abbrev pub braced_hex_at : Source → Found ℕ
 braced_hex_at t =
     let digits = front is_hex t in
     let rest = behind is_hex t in
-    if not (length digits == 0) && is_at 125 rest && nat_le (number 16 digits) code_point_max
+    if not (length digits == 0) && is_at (char "}") rest && nat_le (number 16 digits) code_point_max
     then Some (number 16 digits, drop 1 rest)
     else None
 
--- the second half of a surrogate pair, written as `\u` and four digits
+-- `\u` and four digits
+abbrev pub unit_at : Source → Found ℕ
+unit_at t = if is_at (char "\\") t && is_at (char "u") (drop 1 t) then hex_at 4 (drop 2 t) else None
+
+-- such a unit that is the second half of a surrogate pair
 abbrev pub second_half_at : Source → Found ℕ
-second_half_at t =
-    if is_at 92 t && is_at 117 (drop 1 t)
-    then (hex_at 4 (drop 2 t) >>= λ (low, rest). if is_between 0xDC00 0xDFFF low then Some (low, rest) else None)
-    else None
+second_half_at t = unit_at t >>= λ (low, rest). if is_between 0xDC00 0xDFFF low then Some (low, rest) else None
 
 -- one code point of two halves, by the rule of UTF-16
 abbrev pub paired : ℕ → ℕ → ℕ
@@ -34,7 +34,7 @@ with_second_half (high, t) =
 
 -- the forms of `\u` that give a value, behind the u
 unfoldable pub unicode_at : Source → Found ℕ
-unicode_at t = if is_at 123 t then braced_hex_at (drop 1 t) else hex_at 4 t >>= with_second_half
+unicode_at t = if is_at (char "{") t then braced_hex_at (drop 1 t) else hex_at 4 t >>= with_second_half
 
 -- where no value can be read, the letter itself without the flag u, and nothing with it
 abbrev pub or_itself : Bool → ℕ → Source → Found ℕ → Found ℕ
@@ -43,20 +43,20 @@ or_itself unicode c t (Some x) = Some x
 
 -- the octal digits at the front, of three code points where the first is 0 to 3, else of two
 abbrev pub octal_digits : ℕ → Source → Source
-octal_digits c t = front is_octal (take (if nat_le c 51 then 3 else 2) (c ∷ t))
+octal_digits c t = front is_octal (take (if nat_le c (char "3") then 3 else 2) (c ∷ t))
 
 -- the code points that stand for themselves behind a backslash: those of the grammar, and `/`
 abbrev pub is_syntax_character : ℕ → Bool
-is_syntax_character c = list_any (λ d. d == c) (codes "^$\\.*+?()[]{}|/")
+is_syntax_character c = is_one_of "^$\\.*+?()[]{}|/" c
 
 -- the escapes of one letter: f, n, r, t and v
 abbrev pub letter_escape : ℕ → Option ℕ
 letter_escape c =
-    if c == 102 then Some 0xC
-    else if c == 110 then Some 0xA
-    else if c == 114 then Some 0xD
-    else if c == 116 then Some 0x9
-    else if c == 118 then Some 0xB
+    if c == char "f" then Some 0xC
+    else if c == char "n" then Some 0xA
+    else if c == char "r" then Some 0xD
+    else if c == char "t" then Some 0x9
+    else if c == char "v" then Some 0xB
     else None
 
 abbrev pub begins_with_digit : Source → Bool
@@ -75,12 +75,12 @@ control_at (d ∷ t) = if is_letter d then Some (control d, t) else None
 -- an escape that begins with c and is none of one letter
 abbrev pub other_escape : Bool → ℕ → Source → Found ℕ
 other_escape unicode c t =
-    if c == 99 then control_at t
+    if c == char "c" then control_at t
     -- 0 not before a digit
-    else if c == 48 && not (begins_with_digit t) then Some (0, t)
+    else if c == char "0" && not (begins_with_digit t) then Some (0, t)
     -- x and two digits
-    else if c == 120 then or_itself unicode c t (hex_at 2 t)
-    else if c == 117 then or_itself unicode c t (unicode_at t)
+    else if c == char "x" then or_itself unicode c t (hex_at 2 t)
+    else if c == char "u" then or_itself unicode c t (unicode_at t)
     else if not unicode && is_octal c then Some (number 8 (octal_digits c t), drop (length (octal_digits c t)) (c ∷ t))
     else if is_syntax_character c || not unicode then Some (c, t)
     else None

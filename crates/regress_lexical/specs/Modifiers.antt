@@ -1,8 +1,8 @@
 -- Modifiers of a group: flags that are switched on what stands inside (ECMA-262, RegularExpressionModifiers).
-use Rattle.std.specs.Prelude.{ℕ, Bool, true, false, not, ◌&&◌, ◌||◌, List, [], ◌∷◌, ◌++◌, length, drop, Option, Some, None, if◌then◌else◌, ◌==◌}
+use Rattle.std.specs.Prelude.{ℕ, Bool, true, false, not, ◌&&◌, List, [], ◌∷◌, ◌++◌, length, drop, Option, Some, None, if◌then◌else◌, ◌==◌}
 use Rattle.std.specs.List.{list_any}
 use Rattle.regress_base.specs.declared.types.Flags.{Flags}
-use Rattle.regress_lexical.specs.Source.{Source, Found, colon, is_at}
+use Rattle.regress_lexical.specs.Source.{Source, Found, char, is_one_of, colon, is_at}
 use Rattle.regress_lexical.specs.Digits.{front, behind}
 
 -- what becomes of each flag that can be switched: on, off, or as it was
@@ -23,9 +23,8 @@ changed change flags = record flags {
   dot_all = switched change.dot_all flags.dot_all;
 }
 
--- i, m and s
 abbrev pub is_modifier : ℕ → Bool
-is_modifier c = c == 105 || c == 109 || c == 115
+is_modifier c = is_one_of "ims" c
 
 abbrev pub stands_in : ℕ → List ℕ → Bool
 stands_in c letters = list_any (λ d. d == c) letters
@@ -39,15 +38,15 @@ are_different (c ∷ cs) = not (stands_in c cs) && are_different cs
 abbrev pub switch : (on off : List ℕ) → ℕ → Option Bool
 switch on off c = if stands_in c on then Some true else if stands_in c off then Some false else None
 
-abbrev pub change_of : (on off : List ℕ) → Change
-change_of on off = record { icase = switch on off 105; multiline = switch on off 109; dot_all = switch on off 115 }
+abbrev pub change_by : (on off : List ℕ) → Change
+change_by on off = record { icase = switch on off (char "i"); multiline = switch on off (char "m"); dot_all = switch on off (char "s") }
 
 -- the letters behind a hyphen, if one is there
 abbrev pub letters_off : Source → List ℕ
-letters_off t = if is_at 45 t then front is_modifier (drop 1 t) else []
+letters_off t = if is_at (char "-") t then front is_modifier (drop 1 t) else []
 
 abbrev pub behind_letters_off : Source → Source
-behind_letters_off t = if is_at 45 t then behind is_modifier (drop 1 t) else t
+behind_letters_off t = if is_at (char "-") t then behind is_modifier (drop 1 t) else t
 
 -- Letters, perhaps a hyphen and letters, and `:`: one letter at least, and none twice.
 unfoldable pub modifiers_at : Source → Found Change
@@ -56,5 +55,5 @@ modifiers_at t =
     let rest = behind is_modifier t in
     let letters = on ++ letters_off rest in
     if not (length letters == 0) && are_different letters && is_at colon (behind_letters_off rest)
-    then Some (change_of on (letters_off rest), drop 1 (behind_letters_off rest))
+    then Some (change_by on (letters_off rest), drop 1 (behind_letters_off rest))
     else None

@@ -1,7 +1,7 @@
 -- The quantifier at the front of a source (ECMA-262, Quantifier).
 use Rattle.std.specs.Prelude.{ℕ, ◌-◌, ◌^◌, Bool, true, not, min, [], ◌∷◌, length, drop, Option, Some, None, if◌then◌else◌, nat_le, ◌==◌}
 use Rattle.regress_tree.specs.declared.ir.node.Quantifier.{Quantifier}
-use Rattle.regress_lexical.specs.Source.{Source, Found, ◌>>=◌, is_at, question_mark}
+use Rattle.regress_lexical.specs.Source.{Source, Found, ◌>>=◌, char, is_at, question_mark}
 use Rattle.regress_lexical.specs.Digits.{is_decimal, number, front, behind}
 
 -- how often at least and at most, none being without a limit
@@ -16,23 +16,23 @@ count_at t =
 
 -- the brace that closes
 abbrev pub closed_brace : Times → Source → Found Times
-closed_brace times t = if is_at 125 t then Some (times, drop 1 t) else None
+closed_brace times t = if is_at (char "}") t then Some (times, drop 1 t) else None
 
 -- behind the least number: `}`, `,}`, or `,`, the greatest number and `}`
 abbrev pub most_at : ℕ × Source → Found Times
 most_at (least, t) =
-    if is_at 44 t
-    then (if is_at 125 (drop 1 t) then closed_brace (least, None) (drop 1 t)
+    if is_at (char ",") t
+    then (if is_at (char "}") (drop 1 t) then closed_brace (least, None) (drop 1 t)
     else (count_at (drop 1 t) >>= λ (most, rest). closed_brace (least, Some most) rest))
     else closed_brace (least, Some least) t
 
 -- `*`, `+`, `?` or numbers in braces
 abbrev pub times_by : ℕ → Source → Found Times
 times_by c t =
-    if c == 42 then Some ((0, None), t)
-    else if c == 43 then Some ((1, None), t)
+    if c == char "*" then Some ((0, None), t)
+    else if c == char "+" then Some ((1, None), t)
     else if c == question_mark then Some ((0, Some 1), t)
-    else if c == 123 then count_at t >>= most_at
+    else if c == char "{" then count_at t >>= most_at
     else None
 
 -- `?` behind it makes it lazy

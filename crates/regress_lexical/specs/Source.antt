@@ -1,5 +1,7 @@
 -- The text of a pattern, and reading from its front.
 use Rattle.std.specs.Prelude.{ℕ, ◌≤◌, Bool, true, false, not, ◌||◌, List, [], ◌∷◌, Option, Some, ◌==◌, codes, option_and_then}
+use Prim.Native.Char.{Char, code}
+use Prim.Native.String.{String}
 use Rattle.std.specs.List.{list_any}
 use Rattle.regress_base.specs.Intervals.{code_point_max}
 
@@ -24,24 +26,32 @@ found_map f found = found >>= λ (x, t). Some (f x, t)
 abbrev pub IsCodePoint : ℕ → Type 0
 IsCodePoint c = c ≤ code_point_max
 
--- the code points that the rows name: `(`, `)`, `.`, `:`, `?` and `|`
+-- the code point of a character, as in `char "a"`
+abbrev pub char : Char → ℕ
+char = code
+
+-- one of these, as in `is_one_of "ab" c`
+abbrev pub is_one_of : String → ℕ → Bool
+is_one_of characters c = list_any (λ d. d == c) (codes characters)
+
+-- what the rows name most often
 abbrev pub opening : ℕ
-opening = 40
+opening = char "("
 
 abbrev pub closing : ℕ
-closing = 41
+closing = char ")"
 
 abbrev pub full_stop : ℕ
-full_stop = 46
+full_stop = char "."
 
 abbrev pub colon : ℕ
-colon = 58
+colon = char ":"
 
 abbrev pub question_mark : ℕ
-question_mark = 63
+question_mark = char "?"
 
 abbrev pub bar : ℕ
-bar = 124
+bar = char "|"
 
 -- this code point stands at the front
 abbrev pub is_at : ℕ → Source → Bool
@@ -54,9 +64,9 @@ ends_alternative [] = true
 ends_alternative (c ∷ rest) = c == closing || c == bar
 
 -- the code points that begin rows of their own, or none
-abbrev pub special : List ℕ
-special = codes "*+?{]}()[|\\^$."
+abbrev pub is_special : ℕ → Bool
+is_special = is_one_of "*+?{]}()[|\\^$."
 
 -- any other code point stands for itself
 abbrev pub is_plain : ℕ → Bool
-is_plain c = not (list_any (λ d. d == c) special)
+is_plain c = not (is_special c)

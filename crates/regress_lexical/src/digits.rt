@@ -2,48 +2,55 @@
 ghost use Rattle.std.specs.Prelude.{◌≡◌, ◌≤◌, ◌-◌, ◌^◌, min, length, drop, Some, None, option_map, if◌then◌else◌};
 ghost use Rattle.std.specs.List.{prefix_len, list_all};
 ghost use Rattle.regress_lexical.specs.Source.{is_at};
-ghost use Rattle.regress_lexical.specs.Digits.{is_decimal, is_octal, is_letter, is_hex, digit, control, number_from, hex_at};
+ghost use Rattle.regress_lexical.specs.Digits.{is_between, is_decimal, is_octal, is_letter, is_hex, digit, control, number_from, hex_at};
 ghost use Rattle.regress_lexical.specs.Quantifiers.{count_at};
 
-/// What stands at the front of a text, and the text behind it; None where it doesn't stand there.
+/// What stands at the front of a source, and the source behind it; None where it doesn't stand there.
 pub type Read<'a, T> = Option<(T, &'a [u32])>;
 
-/// The text behind `c`, where that stands at the front.
-pub fn after(text: &[u32], c: char) -> Option<&[u32]>
-    ensures { option_map (λ rest. rest.now) result ≡ (if is_at c text.now then Some (drop 1 text.now) else None) }
+/// The source behind `c`, where that stands at the front.
+pub fn after(source: &[u32], c: char) -> Option<&[u32]>
+    ensures { option_map (λ rest. rest.now) result ≡ (if is_at c source.now then Some (drop 1 source.now) else None) }
 {
-    match text {
+    match source {
         [first, rest @ ..] if *first == u32::from(c) => Some(rest),
         _ => None,
     }
+}
+
+/// Whether it is one of the characters from `first` to `last`.
+pub fn is_between(first: char, last: char, c: u32) -> bool
+    ensures { result ≡ is_between first last c }
+{
+    u32::from(first) <= c && c <= u32::from(last)
 }
 
 /// 0 to 9.
 pub fn is_decimal(c: u32) -> bool
     ensures { result ≡ is_decimal c }
 {
-    0x30 <= c && c <= 0x39
+    is_between('0', '9', c)
 }
 
 /// 0 to 7.
 pub fn is_octal(c: u32) -> bool
     ensures { result ≡ is_octal c }
 {
-    0x30 <= c && c <= 0x37
+    is_between('0', '7', c)
 }
 
 /// A to Z and a to z.
 pub fn is_letter(c: u32) -> bool
     ensures { result ≡ is_letter c }
 {
-    (0x41 <= c && c <= 0x5A) || (0x61 <= c && c <= 0x7A)
+    is_between('A', 'Z', c) || is_between('a', 'z', c)
 }
 
 /// 0 to 9, A to F and a to f.
 pub fn is_hex(c: u32) -> bool
     ensures { result ≡ is_hex c }
 {
-    is_decimal(c) || (0x41 <= c && c <= 0x46) || (0x61 <= c && c <= 0x66)
+    is_decimal(c) || is_between('A', 'F', c) || is_between('a', 'f', c)
 }
 
 /// What a digit of any of these kinds stands for. Of any other code point it says nothing.
@@ -51,11 +58,11 @@ pub fn digit(c: u32) -> u32
     ensures { result ≡ digit c }
 {
     if is_decimal(c) {
-        c - 0x30
-    } else if 0x41 <= c && c <= 0x46 {
-        c - 0x37
+        c - u32::from('0')
+    } else if is_between('A', 'F', c) {
+        c - (u32::from('A') - 10)
     } else {
-        c.saturating_sub(0x57)
+        c.saturating_sub(u32::from('a') - 10)
     }
 }
 
@@ -81,35 +88,35 @@ pub fn number_from(base: usize, first: usize, digits: &[u32]) -> usize
 }
 
 /// How many decimal digits are at the front.
-fn decimal_length(text: &[u32]) -> usize
-    ensures value { result ≡ prefix_len is_decimal text.now }
-    ensures within { result ≤ length text.now }
+fn decimal_length(source: &[u32]) -> usize
+    ensures value { result ≡ prefix_len is_decimal source.now }
+    ensures within { result ≤ length source.now }
 {
-    text.iter().take_while(|c| is_decimal(**c)).count()
+    source.iter().take_while(|c| is_decimal(**c)).count()
 }
 
 /// How many hexadecimal digits are at the front.
-pub fn hex_length(text: &[u32]) -> usize
-    ensures value { result ≡ prefix_len is_hex text.now }
-    ensures within { result ≤ length text.now }
+pub fn hex_length(source: &[u32]) -> usize
+    ensures value { result ≡ prefix_len is_hex source.now }
+    ensures within { result ≤ length source.now }
 {
-    text.iter().take_while(|c| is_hex(**c)).count()
+    source.iter().take_while(|c| is_hex(**c)).count()
 }
 
 /// How many octal digits are at the front.
-pub fn octal_length(text: &[u32]) -> usize
-    ensures value { result ≡ prefix_len is_octal text.now }
-    ensures within { result ≤ length text.now }
+pub fn octal_length(source: &[u32]) -> usize
+    ensures value { result ≡ prefix_len is_octal source.now }
+    ensures within { result ≤ length source.now }
 {
-    text.iter().take_while(|c| is_octal(**c)).count()
+    source.iter().take_while(|c| is_octal(**c)).count()
 }
 
 /// A decimal number, which saturates once all its digits are read.
 #[tactic(auto, using(crate::proofs::laws::Digits::front_taken, crate::proofs::laws::Digits::behind_dropped))]
-pub fn read_count<'a>(text: &'a [u32]) -> Read<'a, usize>
-    ensures { option_map (λ found. (found.0, found.1.now)) result ≡ count_at text.now }
+pub fn read_count<'a>(source: &'a [u32]) -> Read<'a, usize>
+    ensures { option_map (λ found. (found.0, found.1.now)) result ≡ count_at source.now }
 {
-    let (digits, rest) = text.split_at(decimal_length(text));
+    let (digits, rest) = source.split_at(decimal_length(source));
     if digits.is_empty() {
         return None;
     }
@@ -125,14 +132,14 @@ fn all_hex(digits: &[u32]) -> bool
 
 /// Exactly so many hexadecimal digits.
 #[tactic(auto, using(crate::proofs::laws::Digits::hex_fits))]
-pub fn read_hex<'a>(text: &'a [u32], count: usize) -> Read<'a, u32>
+pub fn read_hex<'a>(source: &'a [u32], count: usize) -> Read<'a, u32>
     requires { count ≤ 4 }
-    ensures { option_map (λ found. (found.0, found.1.now)) result ≡ hex_at count text.now }
+    ensures { option_map (λ found. (found.0, found.1.now)) result ≡ hex_at count source.now }
 {
-    if text.len() < count {
+    if source.len() < count {
         return None;
     }
-    let (digits, rest) = text.split_at(count);
+    let (digits, rest) = source.split_at(count);
     if !all_hex(digits) {
         return None;
     }

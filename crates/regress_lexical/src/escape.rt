@@ -2,6 +2,7 @@
 ghost use Rattle.std.specs.Prelude.{◌≡◌, ◌≤◌, true, ◌∷◌, length, drop, Some, None, option_map, if◌then◌else◌, ◌&&◌, ◌+◌, nat_le, All, IfSome};
 ghost use Rattle.regress_lexical.specs.Escapes.{
   braced_hex_at,
+  unit_at,
   second_half_at,
   with_second_half,
   unicode_at,
@@ -14,7 +15,7 @@ ghost use Rattle.regress_lexical.specs.Escapes.{
   other_escape,
   escape_at,
 };
-ghost use Rattle.regress_lexical.specs.Source.{IsCodePoint, is_at};
+ghost use Rattle.regress_lexical.specs.Source.{IsCodePoint, char};
 ghost use Rattle.regress_lexical.specs.Digits as digits_spec;
 
 use crate::digits::{
@@ -51,10 +52,10 @@ fn is_syntax_character(c: u32) -> bool
 
 /// Hexadecimal digits, one at least, and `}`, for a code point.
 #[tactic(auto, using(crate::proofs::laws::Digits::front_taken, crate::proofs::laws::Digits::behind_dropped))]
-fn read_braced_hex<'a>(text: &'a [u32]) -> Read<'a, u32>
-    ensures { option_map (λ found. (found.0, found.1.now)) result ≡ braced_hex_at text.now }
+fn read_braced_hex<'a>(source: &'a [u32]) -> Read<'a, u32>
+    ensures { option_map (λ found. (found.0, found.1.now)) result ≡ braced_hex_at source.now }
 {
-    let (digits, rest) = text.split_at(hex_length(text));
+    let (digits, rest) = source.split_at(hex_length(source));
     let rest = after(rest, '}')?;
     let number = number_from(16, 0, digits);
     if digits.is_empty() || number > 0x10FFFF {
@@ -65,19 +66,19 @@ fn read_braced_hex<'a>(text: &'a [u32]) -> Read<'a, u32>
 
 /// `\u` and four digits.
 #[tactic(auto, using(crate::proofs::laws::Digits::drop_one_more))]
-fn read_unit<'a>(text: &'a [u32]) -> Read<'a, u32>
-    ensures { option_map (λ found. (found.0, found.1.now)) result ≡ (if is_at 92 text.now && is_at 117 (drop 1 text.now) then digits_spec.hex_at 4 (drop 2 text.now) else None) }
+fn read_unit<'a>(source: &'a [u32]) -> Read<'a, u32>
+    ensures { option_map (λ found. (found.0, found.1.now)) result ≡ unit_at source.now }
 {
-    read_hex(after(after(text, '\\')?, 'u')?, 4)
+    read_hex(after(after(source, '\\')?, 'u')?, 4)
 }
 
 /// The second half of a surrogate pair.
-fn read_second_half<'a>(text: &'a [u32]) -> Read<'a, u32>
-    ensures value { option_map (λ found. (found.0, found.1.now)) result ≡ second_half_at text.now }
+fn read_second_half<'a>(source: &'a [u32]) -> Read<'a, u32>
+    ensures value { option_map (λ found. (found.0, found.1.now)) result ≡ second_half_at source.now }
     ensures first { IfSome result (λ found. 0xDC00 ≤ found.0) }
     ensures last { IfSome result (λ found. found.0 ≤ 0xDFFF) }
 {
-    let (low, rest) = read_unit(text)?;
+    let (low, rest) = read_unit(source)?;
     if low < 0xDC00 || 0xDFFF < low {
         return None;
     }
@@ -85,54 +86,54 @@ fn read_second_half<'a>(text: &'a [u32]) -> Read<'a, u32>
 }
 
 /// One code point of two halves, by the rule of UTF-16, where a second one follows a first one.
-fn with_second_half(high: u32, text: &[u32]) -> (u32, &[u32])
-    ensures { Some (result.0, result.1.now) ≡ with_second_half (high, text.now) }
+fn with_second_half(high: u32, source: &[u32]) -> (u32, &[u32])
+    ensures { Some (result.0, result.1.now) ≡ with_second_half (high, source.now) }
 {
     if high < 0xD800 || 0xDBFF < high {
-        return (high, text);
+        return (high, source);
     }
-    match read_second_half(text) {
+    match read_second_half(source) {
         Some((low, rest)) => (0x10000 + (high - 0xD800) * 0x400 + (low - 0xDC00), rest),
-        None => (high, text),
+        None => (high, source),
     }
 }
 
 /// The forms of `\u`, behind the u.
 #[tactic(auto, unfolding(crate::specs::Escapes::unicode_at))]
-pub fn read_unicode<'a>(text: &'a [u32]) -> Read<'a, u32>
-    ensures { option_map (λ found. (found.0, found.1.now)) result ≡ unicode_at text.now }
+pub fn read_unicode<'a>(source: &'a [u32]) -> Read<'a, u32>
+    ensures { option_map (λ found. (found.0, found.1.now)) result ≡ unicode_at source.now }
 {
-    if let Some(rest) = after(text, '{') {
+    if let Some(rest) = after(source, '{') {
         return read_braced_hex(rest);
     }
-    let (high, rest) = read_hex(text, 4)?;
+    let (high, rest) = read_hex(source, 4)?;
     Some(with_second_half(high, rest))
 }
 
 /// What the letter of an escape is where no value can be read: itself without the flag u, and nothing with it.
-fn itself<'a>(c: u32, text: &'a [u32], unicode: bool) -> Read<'a, u32>
-    ensures { option_map (λ found. (found.0, found.1.now)) result ≡ or_itself unicode c text.now None }
+fn itself<'a>(c: u32, source: &'a [u32], unicode: bool) -> Read<'a, u32>
+    ensures { option_map (λ found. (found.0, found.1.now)) result ≡ or_itself unicode c source.now None }
 {
     if unicode {
         return None;
     }
-    Some((c, text))
+    Some((c, source))
 }
 
 /// How many octal digits may stand behind the first one, so that the number stays below 256.
 fn octal_room(first: u32) -> usize
-    ensures { result + 1 ≡ (if nat_le first 51 then 3 else 2) }
+    ensures { result + 1 ≡ (if nat_le first (char "3") then 3 else 2) }
 {
     if first <= u32::from('3') { 2 } else { 1 }
 }
 
 /// A number of up to three octal digits, of which `c` is the first: of two, where three would pass 255.
-fn read_octal(c: u32, text: &[u32]) -> (u32, &[u32])
+fn read_octal(c: u32, source: &[u32]) -> (u32, &[u32])
     requires { digits_spec.is_octal c ≡ true }
-    ensures value { result.0 ≡ digits_spec.number 8 (octal_digits c text.now) }
-    ensures rest { result.1.now ≡ drop (length (octal_digits c text.now)) (c ∷ text.now) }
+    ensures value { result.0 ≡ digits_spec.number 8 (octal_digits c source.now) }
+    ensures rest { result.1.now ≡ drop (length (octal_digits c source.now)) (c ∷ source.now) }
 {
-    let (digits, rest) = text.split_at(octal_length(&text[..text.len().min(octal_room(c))]));
+    let (digits, rest) = source.split_at(octal_length(&source[..source.len().min(octal_room(c))]));
     (number_from(8, digit(c) as usize, digits) as u32, rest)
 }
 
@@ -140,51 +141,51 @@ fn read_octal(c: u32, text: &[u32]) -> (u32, &[u32])
 fn letter_escape(c: u32) -> Option<u32>
     ensures { result ≡ letter_escape c }
 {
-    match c {
-        0x66 => Some(0xC),
-        0x6E => Some(0xA),
-        0x72 => Some(0xD),
-        0x74 => Some(0x9),
-        0x76 => Some(0xB),
+    match char::from_u32(c)? {
+        'f' => Some(0xC),
+        'n' => Some(0xA),
+        'r' => Some(0xD),
+        't' => Some(0x9),
+        'v' => Some(0xB),
         _ => None,
     }
 }
 
-fn begins_with_digit(text: &[u32]) -> bool
-    ensures { result ≡ begins_with_digit text.now }
+fn begins_with_digit(source: &[u32]) -> bool
+    ensures { result ≡ begins_with_digit source.now }
 {
-    match text {
+    match source {
         [c, ..] => is_decimal(*c),
         [] => false,
     }
 }
 
 /// A letter behind `c`.
-fn read_control<'a>(text: &'a [u32]) -> Read<'a, u32>
-    ensures { option_map (λ found. (found.0, found.1.now)) result ≡ control_at text.now }
+fn read_control<'a>(source: &'a [u32]) -> Read<'a, u32>
+    ensures { option_map (λ found. (found.0, found.1.now)) result ≡ control_at source.now }
 {
-    match text {
+    match source {
         [c, rest @ ..] if is_letter(*c) => Some((control(*c), rest)),
         _ => None,
     }
 }
 
 /// An escape that begins with `c` and is none of one letter.
-fn read_other<'a>(c: u32, text: &'a [u32], unicode: bool) -> Read<'a, u32>
-    ensures { option_map (λ found. (found.0, found.1.now)) result ≡ other_escape unicode c text.now }
+fn read_other<'a>(c: u32, source: &'a [u32], unicode: bool) -> Read<'a, u32>
+    ensures { option_map (λ found. (found.0, found.1.now)) result ≡ other_escape unicode c source.now }
 {
     if c == u32::from('c') {
-        read_control(text)
-    } else if c == u32::from('0') && !begins_with_digit(text) {
-        Some((0, text))
+        read_control(source)
+    } else if c == u32::from('0') && !begins_with_digit(source) {
+        Some((0, source))
     } else if c == u32::from('x') {
-        read_hex(text, 2).or(itself(c, text, unicode))
+        read_hex(source, 2).or(itself(c, source, unicode))
     } else if c == u32::from('u') {
-        read_unicode(text).or(itself(c, text, unicode))
+        read_unicode(source).or(itself(c, source, unicode))
     } else if !unicode && is_octal(c) {
-        Some(read_octal(c, text))
+        Some(read_octal(c, source))
     } else if is_syntax_character(c) || !unicode {
-        Some((c, text))
+        Some((c, source))
     } else {
         None
     }
@@ -192,11 +193,11 @@ fn read_other<'a>(c: u32, text: &'a [u32], unicode: bool) -> Read<'a, u32>
 
 /// What an escape stands for, behind its backslash (ECMA-262, CharacterEscape with annex B).
 #[tactic(auto, unfolding(crate::specs::Escapes::escape_at))]
-pub fn read_escape<'a>(text: &'a [u32], unicode: bool) -> Read<'a, u32>
-    ensures value { option_map (λ found. (found.0, found.1.now)) result ≡ escape_at unicode text.now }
-    ensures in_range { All IsCodePoint text.now → IfSome result (λ found. IsCodePoint found.0) }
+pub fn read_escape<'a>(source: &'a [u32], unicode: bool) -> Read<'a, u32>
+    ensures value { option_map (λ found. (found.0, found.1.now)) result ≡ escape_at unicode source.now }
+    ensures in_range { All IsCodePoint source.now → IfSome result (λ found. IsCodePoint found.0) }
 {
-    let (c, rest) = text.split_first()?;
+    let (c, rest) = source.split_first()?;
     match letter_escape(*c) {
         Some(value) => Some((value, rest)),
         None => read_other(*c, rest, unicode),
@@ -204,8 +205,8 @@ pub fn read_escape<'a>(text: &'a [u32], unicode: bool) -> Read<'a, u32>
 }
 
 /// Why there is no escape behind a backslash.
-pub fn escape_fault(text: &[u32]) -> &'static str {
-    match text {
+pub fn escape_fault(source: &[u32]) -> &'static str {
+    match source {
         [c, ..] if *c == u32::from('u') => INVALID_UNICODE_ESCAPE,
         _ => INVALID_ESCAPE,
     }

@@ -2,7 +2,7 @@
 ghost use Rattle.std.specs.Prelude.{◌≡◌, ◌≤◌, not, ◌&&◌, ◌++◌, ◌==◌, length, option_map};
 ghost use Rattle.std.specs.List.{prefix_len, list_all};
 ghost use Rattle.regress_lexical.specs.Digits.{front, behind};
-ghost use Rattle.regress_lexical.specs.Modifiers.{is_modifier, stands_in, are_different, switch, change_of as switches, letters_off, behind_letters_off, modifiers_at};
+ghost use Rattle.regress_lexical.specs.Modifiers.{is_modifier, stands_in, are_different, switch, change_by, letters_off, behind_letters_off, modifiers_at};
 ghost use Rattle.regress_lexical.specs.Views.{change_of};
 
 use crate::digits::{Read, after};
@@ -42,30 +42,30 @@ fn is_modifier(c: u32) -> bool
 }
 
 /// How many letters are at the front.
-fn letters_length(text: &[u32]) -> usize
-    ensures value { result ≡ prefix_len is_modifier text.now }
-    ensures within { result ≤ length text.now }
+fn letters_length(source: &[u32]) -> usize
+    ensures value { result ≡ prefix_len is_modifier source.now }
+    ensures within { result ≤ length source.now }
 {
-    text.iter().take_while(|c| is_modifier(**c)).count()
+    source.iter().take_while(|c| is_modifier(**c)).count()
 }
 
-/// The letters at the front, and the text behind them.
+/// The letters at the front, and the source behind them.
 #[tactic(auto, using(crate::proofs::laws::Digits::front_taken, crate::proofs::laws::Digits::behind_dropped))]
-fn split_letters(text: &[u32]) -> (&[u32], &[u32])
-    ensures letters { result.0.now ≡ front is_modifier text.now }
-    ensures rest { result.1.now ≡ behind is_modifier text.now }
+fn split_letters(source: &[u32]) -> (&[u32], &[u32])
+    ensures letters { result.0.now ≡ front is_modifier source.now }
+    ensures rest { result.1.now ≡ behind is_modifier source.now }
 {
-    text.split_at(letters_length(text))
+    source.split_at(letters_length(source))
 }
 
-/// The letters behind a hyphen, if one is there, and the text behind them.
-fn split_letters_off(text: &[u32]) -> (&[u32], &[u32])
-    ensures letters { result.0.now ≡ letters_off text.now }
-    ensures rest { result.1.now ≡ behind_letters_off text.now }
+/// The letters behind a hyphen, if one is there, and the source behind them.
+fn split_letters_off(source: &[u32]) -> (&[u32], &[u32])
+    ensures letters { result.0.now ≡ letters_off source.now }
+    ensures rest { result.1.now ≡ behind_letters_off source.now }
 {
-    match after(text, '-') {
-        Some(text) => split_letters(text),
-        None => (&[], text),
+    match after(source, '-') {
+        Some(source) => split_letters(source),
+        None => (&[], source),
     }
 }
 
@@ -105,7 +105,7 @@ fn switch(on: &[u32], off: &[u32], c: char) -> Option<bool>
 
 /// What the letters say of each flag.
 fn change_by(on: &[u32], off: &[u32]) -> Change
-    ensures { change_of result ≡ switches on.now off.now }
+    ensures { change_of result ≡ change_by on.now off.now }
 {
     Change {
         icase: switch(on, off, 'i'),
@@ -131,10 +131,10 @@ fn may_switch(on: &[u32], off: &[u32]) -> bool
 
 /// Reads modifiers and the colon behind them (ECMA-262, RegularExpressionModifiers).
 #[tactic(auto, unfolding(crate::specs::Modifiers::modifiers_at))]
-pub fn read_modifiers<'a>(text: &'a [u32]) -> Read<'a, Change>
-    ensures { option_map (λ found. (change_of found.0, found.1.now)) result ≡ modifiers_at text.now }
+pub fn read_modifiers<'a>(source: &'a [u32]) -> Read<'a, Change>
+    ensures { option_map (λ found. (change_of found.0, found.1.now)) result ≡ modifiers_at source.now }
 {
-    let (on, rest) = split_letters(text);
+    let (on, rest) = split_letters(source);
     let (off, rest) = split_letters_off(rest);
     let rest = after(rest, ':')?;
     if !may_switch(on, off) {

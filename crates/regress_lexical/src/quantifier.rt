@@ -9,31 +9,31 @@ use regress_tree::ir::Quantifier;
 type Times = (usize, Option<usize>);
 
 /// Behind the least number: `}`, `,}`, or `,`, the greatest number and `}`.
-fn read_most<'a>(least: usize, text: &'a [u32]) -> Read<'a, Times>
-    ensures { option_map (λ found. (found.0, found.1.now)) result ≡ most_at (least, text.now) }
+fn read_most<'a>(least: usize, source: &'a [u32]) -> Read<'a, Times>
+    ensures { option_map (λ found. (found.0, found.1.now)) result ≡ most_at (least, source.now) }
 {
-    let Some(text) = after(text, ',') else {
-        return Some(((least, Some(least)), after(text, '}')?));
+    let Some(source) = after(source, ',') else {
+        return Some(((least, Some(least)), after(source, '}')?));
     };
-    if let Some(rest) = after(text, '}') {
+    if let Some(rest) = after(source, '}') {
         return Some(((least, None), rest));
     }
-    let (most, rest) = read_count(text)?;
+    let (most, rest) = read_count(source)?;
     Some(((least, Some(most)), after(rest, '}')?))
 }
 
 /// `*`, `+`, `?` or numbers in braces, of which `c` is the first code point.
-fn read_times<'a>(c: u32, text: &'a [u32]) -> Read<'a, Times>
-    ensures { option_map (λ found. (found.0, found.1.now)) result ≡ times_by c text.now }
+fn read_times<'a>(c: u32, source: &'a [u32]) -> Read<'a, Times>
+    ensures { option_map (λ found. (found.0, found.1.now)) result ≡ times_by c source.now }
 {
     if c == u32::from('*') {
-        Some(((0, None), text))
+        Some(((0, None), source))
     } else if c == u32::from('+') {
-        Some(((1, None), text))
+        Some(((1, None), source))
     } else if c == u32::from('?') {
-        Some(((0, Some(1)), text))
+        Some(((0, Some(1)), source))
     } else if c == u32::from('{') {
-        let (least, rest) = read_count(text)?;
+        let (least, rest) = read_count(source)?;
         read_most(least, rest)
     } else {
         None
@@ -42,10 +42,10 @@ fn read_times<'a>(c: u32, text: &'a [u32]) -> Read<'a, Times>
 
 /// Reads a quantifier (ECMA-262, Quantifier).
 #[tactic(auto, unfolding(crate::specs::Quantifiers::quantifier_at))]
-pub fn read_quantifier<'a>(text: &'a [u32]) -> Read<'a, Quantifier>
-    ensures { option_map (λ found. (found.0, found.1.now)) result ≡ quantifier_at text.now }
+pub fn read_quantifier<'a>(source: &'a [u32]) -> Read<'a, Quantifier>
+    ensures { option_map (λ found. (found.0, found.1.now)) result ≡ quantifier_at source.now }
 {
-    let (c, rest) = text.split_first()?;
+    let (c, rest) = source.split_first()?;
     let ((min, max), rest) = read_times(*c, rest)?;
     let (greedy, rest) = match after(rest, '?') {
         Some(rest) => (false, rest),

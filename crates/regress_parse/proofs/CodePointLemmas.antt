@@ -15,7 +15,7 @@ use Rattle.regress_syntax.specs.Names.{group_name_at}
 use Rattle.regress_classes.specs.Properties.{Property, of_points, of_strings, property_at}
 use Rattle.regress_lexical.specs.Quantifiers.{quantifier_at}
 use Rattle.regress_syntax.specs.Rows.{Context, Head, single, opens, angle_at, behind_mark_at, group_at, property_atom, property_atom_at, is_lone_backslash, has_name, has_names, character_at, numbered_at, named_at, escaped_by, escaped_at, brace_by, brackets_at, atom_by, head_at}
-use Rattle.regress_lexical.specs.Source.{Source, Found, IsCodePoint, opening, full_stop, colon, question_mark, is_at, is_plain}
+use Rattle.regress_lexical.specs.Source.{Source, Found, IsCodePoint, opening, full_stop, colon, question_mark, is_one_of, is_at, is_plain}
 use Rattle.regress_syntax.specs.Syntax.{Target, by_number, by_name, Atom, literal, dot, anchor, boundary, class_escape, class, class_set, string_property, back_reference, Group, grouping, modified, capture, look}
 use Rattle.regress_lexical.proofs.laws.Behind.{Ends, behind_all}
 use Rattle.regress_classes.proofs.laws.ClassStrings.{OfCodePoints, PropertyInRange, property_at-in_range, class_set_at-in_range}
@@ -142,7 +142,7 @@ module _ (ctx : Context) (lawful : IsLawful ctx.setting.table) (n : ℕ) (within
                 cond (c == 98) (Some (boundary ctx.setting.flags false, t))
                 (cond (c == 66) (Some (boundary ctx.setting.flags true, t))
                 (cond (is_lone_backslash ctx.setting.flags.unicode c t) (Some (literal ctx.setting.flags 92, 99 ∷ t))
-                (cond ((c == 112 || c == 80) && (ctx.setting.flags.unicode || ctx.setting.flags.unicode_sets)) (property_atom_at ctx (c == 80) t)
+                (cond (is_one_of "pP" c && (ctx.setting.flags.unicode || ctx.setting.flags.unicode_sets)) (property_atom_at ctx (c == 80) t)
                 (cond (is_between 49 57 c) (numbered_at ctx c t)
                 (cond (c == 107 && (ctx.setting.flags.unicode || has_names ctx.names)) (named_at ctx t) (character_at ctx c t))))))
           ])
@@ -151,7 +151,7 @@ module _ (ctx : Context) (lawful : IsLawful ctx.setting.table) (n : ℕ) (within
           finds_cond _ (c == 98) _ _ (λ _. finds_some _ _ tt)
           (λ _. finds_cond _ (c == 66) _ _ (λ _. finds_some _ _ tt)
           (λ _. finds_cond _ (is_lone_backslash ctx.setting.flags.unicode c t) _ _ (λ _. finds_some _ _ (omega arith))
-          (λ _. finds_cond _ ((c == 112 || c == 80) && (ctx.setting.flags.unicode || ctx.setting.flags.unicode_sets)) _ _
+          (λ _. finds_cond _ (is_one_of "pP" c && (ctx.setting.flags.unicode || ctx.setting.flags.unicode_sets)) _ _
           (λ _. property_atom_at-good (c == 80) t)
           (λ _. finds_cond _ (is_between 49 57 c) _ _ (numbered_at-good c t all)
           (λ _. finds_cond _ (c == 107 && (ctx.setting.flags.unicode || has_names ctx.names)) _ _
@@ -181,7 +181,7 @@ module _ (ctx : Context) (lawful : IsLawful ctx.setting.table) (n : ℕ) (within
       (λ _. finds_cond _ (c == 36) _ _ (λ _. finds_some _ _ tt)
       (λ _. finds_cond _ (c == 92) _ _ (λ _. escaped_at-good t all)
       (λ _. finds_cond _ (c == 91) _ _ (λ _. brackets_at-good t all)
-      (λ _. finds_cond _ (c == 123 || c == 93 || c == 125) _ _ (λ _. brace_by-good c t h)
+      (λ _. finds_cond _ (is_one_of "{]}" c) _ _ (λ _. brace_by-good c t h)
       (λ _. finds_cond _ (is_plain c) _ _ (λ _. finds_some _ _ h) (λ _. finds_none _)))))))
 
   -- what an item begins with

@@ -5,7 +5,7 @@ use Rattle.std.proofs.lemmas.Bool.{cond-true, cond-false, cases_Bool}
 use Rattle.regress_tree.specs.declared.ir.node.Quantifier.{Quantifier}
 use Rattle.regress_lexical.specs.Source.{Source, Found, ◌>>=◌, closing, bar, is_at, ends_alternative}
 use Rattle.regress_syntax.specs.Syntax.{Group, Pattern, Terms, Item, one, either, no_terms, more_terms, atom, group}
-use Rattle.regress_syntax.specs.Rows.{Context, inside, Head, single, opens, head_of_item, allows, head_at, times_at}
+use Rattle.regress_syntax.specs.Rows.{Context, context_inside, Head, single, opens, head_of_item, allows, head_at, times_at}
 use Rattle.regress_lexical.proofs.laws.Sources.{found_then, chosen}
 use Rattle.regress_syntax.proofs.laws.Rows.{no_head_at_end}
 use Rattle.regress_syntax.specs.Grammar.{IsPattern, AreTerms, IsItem}
@@ -33,9 +33,9 @@ behind-sound : (inner : Context → Source → Found Pattern) → IsSound inner 
 behind-sound inner h ctx t (single a, rest) y front e =
     subst (λ (z : Item × Source). IsItem ctx z.0 t z.1) (same_Some (atom a, rest) y e) front
 behind-sound inner h ctx t (opens kind, mid) y front e =
-    let found = found_then (inner (inside kind ctx) mid) (closed kind) y e in
+    let found = found_then (inner (context_inside kind ctx) mid) (closed kind) y e in
     let parts = closed-sound kind found.0 y found.2 in
-    let body = subst (λ rest. IsPattern (inside kind ctx) found.0.0 mid rest) parts.1 (h (inside kind ctx) mid found.0 found.1) in
+    let body = subst (λ rest. IsPattern (context_inside kind ctx) found.0.0 mid rest) parts.1 (h (context_inside kind ctx) mid found.0 found.1) in
     subst (λ x. IsItem ctx x t y.1) parts.0 (mid, front, body)
 
 item_by-sound : (inner : Context → Source → Found Pattern) → IsSound inner → (ctx : Context) (t : Source) (y : Item × Source) →
@@ -134,4 +134,4 @@ mutual
   item_at-complete ctx (group kind p) t rest h =
       item_at-is ctx t
       ∙ ap (λ found. found >>= item_behind pattern_at ctx) h.1
-      ∙ ap (λ found. found >>= closed kind) (pattern_at-complete (inside kind ctx) p h.0 (closing ∷ rest) h.2)
+      ∙ ap (λ found. found >>= closed kind) (pattern_at-complete (context_inside kind ctx) p h.0 (closing ∷ rest) h.2)

@@ -6,7 +6,7 @@ use Rattle.regress_base.specs.Intervals.{Bounds, is_member, intervals_of}
 use Rattle.regress_tree.specs.Reading.{Direction, Read, next_character, forwards, backwards, IsText, of_characters, of_bytes}
 use Rattle.regress_tree.specs.Steps.{State, Step, byte_state, distinct, stay, fail, moved, ◌or_◌, one_character}
 use Rattle.regress_unicode.specs.Listing.{lists}
-use Rattle.regress_tree.specs.References.{back_reference as refers}
+use Rattle.regress_tree.specs.References as References
 use Rattle.regress_tree.specs.Matching.{steps, steps_in_row}
 use Rattle.regress_tree.specs.Setting.{Setting}
 use Rattle.regress_tree.specs.Strings.{any_string}
@@ -16,7 +16,7 @@ use Rattle.regress_tree.specs.Literal.{class_of}
 use Rattle.regress_unicode.specs.Table.{stands_for}
 use Rattle.regress_tree.specs.Tree.{Tree, Trees, leaf, alt, no_trees, more_trees, match_any, match_any_except_line_terminator, char, char_set, bracket, back_ref, string_set}
 use Rattle.regress_syntax.specs.Syntax.{Atom, literal, dot, anchor, boundary, class_escape, class, class_set, string_property, back_reference, Group, grouping, modified, capture, look, Name, Pattern, Terms, Item, one, either, no_terms, more_terms, atom, group, opened_by, counts_of_item, counts_of_term, counts_of_terms, names}
-use Rattle.regress_syntax.specs.Meaning.{is_in_class, longest_first, in_order, direction_of_group, group_steps, referred, any_reference, times_steps, atom_steps, pattern_steps, terms_steps, item_steps}
+use Rattle.regress_syntax.specs.Meaning.{is_in_class, longest_first, along, direction_of_group, group_steps, referred, any_reference, times_steps, atom_steps, pattern_steps, terms_steps, item_steps}
 use Rattle.regress_classes.specs.ClassRows.{members_of}
 use Rattle.regress_parse.specs.TreeOf.{turned, joined, tree_of_group, tree_of_times, leaf_of_members, tree_of_references, tree_of_class_set, tree_of_atom, tree_of_pattern, trees_of_terms, tree_of_item, tree_of}
 use Rattle.regress_parse.specs.Accepted.{Means}
@@ -52,14 +52,14 @@ module _ (setting : Setting) (bytes : List ℕ) (d : Direction) where
   -- its parts match in the order of the direction
   steps-turned : (e : Direction) (t : Tree) (ts : Trees) (s : State) →
       steps_in_row setting bytes d (turned e (more_trees t ts)) s
-      ≡ in_order e (steps setting bytes d t) (steps_in_row setting bytes d (turned e ts)) s
+      ≡ along e (steps setting bytes d t) (steps_in_row setting bytes d (turned e ts)) s
   steps-turned forwards t ts s = refl
   steps-turned backwards t ts s = steps-row_reverse setting bytes d t ts s
 
-Simulates-in_order : (text : List ℕ) (d e : Direction) (f g h k : Step) → Simulates text e f g → Simulates text e h k →
-    Simulates text e (in_order d f h) (in_order d g k)
-Simulates-in_order text forwards e f g h k first second = Simulates-then text e f g h k first second
-Simulates-in_order text backwards e f g h k first second = Simulates-then text e h k f g second first
+Simulates-along : (text : List ℕ) (d e : Direction) (f g h k : Step) → Simulates text e f g → Simulates text e h k →
+    Simulates text e (along d f h) (along d g k)
+Simulates-along text forwards e f g h k first second = Simulates-then text e f g h k first second
+Simulates-along text backwards e f g h k first second = Simulates-then text e h k f g second first
 
 module _ (setting : Setting) (text : List ℕ) where
   -- Over the bytes the tree, or the row turned, does what the step does over the characters.
@@ -76,10 +76,10 @@ module _ (setting : Setting) (text : List ℕ) where
   none_simulate d = Simulates-same_right text d _ _ _ (steps-turned_none setting (encode_utf8_all text) d d) (Simulates-stay text d)
 
   more_simulate : (d : Direction) (f g : Step) (t : Tree) (ts : Trees) → TreeSimulates d f t → RowSimulates d g ts →
-      RowSimulates d (in_order d f g) (more_trees t ts)
+      RowSimulates d (along d f g) (more_trees t ts)
   more_simulate d f g t ts first others =
       Simulates-same_right text d _ _ _ (steps-turned setting (encode_utf8_all text) d d t ts)
-      (Simulates-in_order text d d _ _ _ _ first others)
+      (Simulates-along text d d _ _ _ _ first others)
 
   group_simulates : (d : Direction) (start end : ℕ) (kind : Group) (f : Step) (body : Tree) →
       TreeSimulates (direction_of_group kind d) f body → TreeSimulates d (group_steps start kind f) (tree_of_group start end kind body)
@@ -145,14 +145,14 @@ module _ (setting : Setting) (text : List ℕ) (is_text : IsText text) where
   }
 
   reference_simulates : (d : Direction) (icase : Bool) (k : ℕ) →
-      TreeSimulates setting text d (refers d (of_characters text) (stands_for setting.table icase setting.flags.unicode) (k - 1))
+      TreeSimulates setting text d (References.back_reference d (of_characters text) (stands_for setting.table icase setting.flags.unicode) (k - 1))
       (leaf (back_ref k icase))
   reference_simulates d icase k =
       Simulates-back_reference text is_text d (stands_for setting.table icase setting.flags.unicode) (k - 1)
 
   references_simulate : (d : Direction) (icase : Bool) (ks : List ℕ) →
       TreeSimulates setting text d
-      (any_reference (λ k. refers d (of_characters text) (stands_for setting.table icase setting.flags.unicode) (k - 1)) ks)
+      (any_reference (λ k. References.back_reference d (of_characters text) (stands_for setting.table icase setting.flags.unicode) (k - 1)) ks)
       (tree_of_references icase ks)
   references_simulate d icase [] = empty_set_simulates d
   references_simulate d icase (k ∷ []) = reference_simulates d icase k

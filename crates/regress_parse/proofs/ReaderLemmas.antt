@@ -4,7 +4,7 @@ use Rattle.std.proofs.lemmas.Option.{none-some, same_Some, cond_some}
 use Rattle.regress_tree.specs.declared.ir.node.Quantifier.{Quantifier}
 use Rattle.regress_lexical.specs.Source.{Source, Found, ◌>>=◌, closing, bar, is_at, ends_alternative}
 use Rattle.regress_syntax.specs.Syntax.{Group, Pattern, Terms, Item, one, either, no_terms, more_terms, atom}
-use Rattle.regress_syntax.specs.Rows.{Context, inside, Head, single, opens, head_of_item, allows, head_at, times_at}
+use Rattle.regress_syntax.specs.Rows.{Context, context_inside, Head, single, opens, head_of_item, allows, head_at, times_at}
 use Rattle.regress_lexical.proofs.laws.Sources.{found_then, then_same, chosen, cond_same, at_front, Shortens}
 use Rattle.regress_syntax.proofs.laws.Rows.{head_at-shortens, times_at-shortens}
 use Rattle.regress_parse.specs.Reader.{Term, closed, item_behind, item_by, quantified, term_by, read_terms, read_pattern, enough, pattern_at, terms_at, item_at, term_at}
@@ -29,8 +29,8 @@ item_behind-shortens : (inner : Inner) → InnerShortens inner → (ctx : Contex
     item_behind inner ctx x ≡ Some y → length y.1 ≤ length x.1
 item_behind-shortens inner h ctx (single a, t) y e = omega (arith, ap (λ (z : Item × Source). length z.1) (same_Some (atom a, t) y e))
 item_behind-shortens inner h ctx (opens kind, t) y e =
-    let found = found_then (inner (inside kind ctx) t) (closed kind) y e in
-    omega (arith, h (inside kind ctx) t found.0 found.1, closed-shortens kind found.0 y found.2)
+    let found = found_then (inner (context_inside kind ctx) t) (closed kind) y e in
+    omega (arith, h (context_inside kind ctx) t found.0 found.1, closed-shortens kind found.0 y found.2)
 
 item_by-shortens : (inner : Inner) → InnerShortens inner → (ctx : Context) (t : Source) (y : Item × Source) →
     item_by inner ctx t ≡ Some y → length y.1 < length t
@@ -53,7 +53,7 @@ term_by-shortens inner h ctx t y e =
 item_behind-same : (f g : Inner) (n : ℕ) → Agree f g n → (ctx : Context) (x : Head × Source) → length x.1 < n →
     item_behind f ctx x ≡ item_behind g ctx x
 item_behind-same f g n agree ctx (single a, t) shorter = refl
-item_behind-same f g n agree ctx (opens kind, t) shorter = ap (λ found. found >>= closed kind) (agree (inside kind ctx) t shorter)
+item_behind-same f g n agree ctx (opens kind, t) shorter = ap (λ found. found >>= closed kind) (agree (context_inside kind ctx) t shorter)
 
 item_by-same : (f g : Inner) (ctx : Context) (t : Source) → Agree f g (length t) → item_by f ctx t ≡ item_by g ctx t
 item_by-same f g ctx t agree =

@@ -6,7 +6,7 @@ use Rattle.regress_unicode.specs.Table.{Table}
 use Rattle.regress_tree.specs.declared.ir.node.Quantifier.{Quantifier}
 use Rattle.regress_lexical.specs.Source.{Source, Found, ◌>>=◌, found_map, closing, is_at}
 use Rattle.regress_syntax.specs.Syntax.{Name, Group, Pattern, Item, one, either, atom, group, Counts, counts_of_item, opened_by, levels}
-use Rattle.regress_syntax.specs.Rows.{Context, inside, Head, single, opens, head_of_item, allows, head_at, times_at}
+use Rattle.regress_syntax.specs.Rows.{Context, context_inside, Head, single, opens, head_of_item, allows, head_at, times_at}
 use Rattle.regress_lexical.proofs.laws.Sources.{found_then, from_each, to_each}
 use Rattle.regress_parse.specs.Reader.{Term, closed, item_behind, quantified, pattern_at, item_at, term_at}
 use Rattle.regress_base.specs.Limits.{max_capture_groups, max_loops, max_nesting_depth}
@@ -35,7 +35,7 @@ module _ (table : Table) (names : List (Option Name)) (ctx : Context) where
   head-same : (x : Head × Source) (y : Item × Source) → item_behind pattern_at ctx x ≡ Some y → head_of_item y.0 ≡ x.0
   head-same (single a, t) y e = sym (ap (λ (z : Item × Source). head_of_item z.0) (same_Some (atom a, t) y e))
   head-same (opens kind, t) y e =
-      let body = found_then (pattern_at (inside kind ctx) t) (closed kind) y e in
+      let body = found_then (pattern_at (context_inside kind ctx) t) (closed kind) y e in
       sym (ap head_of_item (closed_same kind body.0 y body.2))
 
   -- ---- a term
@@ -87,7 +87,7 @@ module _ (table : Table) (names : List (Option Name)) (ctx : Context) where
       IfSome (item_behind pattern_at ctx (opens kind, t)) (λ x. Fits before depth (item_part table names x.0) → ⊥)
   group-too_many kind t before depth many =
       from_each (item_behind pattern_at ctx (opens kind, t)) _ (λ x found fits.
-      let body = found_then (pattern_at (inside kind ctx) t) (closed kind) x found in
+      let body = found_then (pattern_at (context_inside kind ctx) t) (closed kind) x found in
       let same = closed_same kind body.0 x body.2 in
       let whole = subst (λ (y : Item). Fits before depth (item_part table names y)) (sym same) fits in
       omega (arith, whole.groups, many))

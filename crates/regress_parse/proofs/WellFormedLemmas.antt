@@ -20,7 +20,7 @@ use Rattle.regress_classes.specs.ClassRows.{members_of}
 use Rattle.regress_lexical.specs.Source.{Source, IsCodePoint}
 use Rattle.regress_syntax.specs.Syntax.{Name, is_named, Target, by_number, by_name, Atom, literal, dot, anchor, boundary, class_escape, class, class_set, string_property, back_reference, Group, grouping, modified, capture, look, Pattern, Terms, Item, one, either, no_terms, more_terms, atom, group, opened_by, counts, counts_of_terms, counts_of_term, counts_of_item, names}
 use Rattle.regress_syntax.specs.Meaning.{is_in_class, longest_first, direction_of_group, groups_named, referred}
-use Rattle.regress_syntax.specs.Rows.{Context, single, opens, inside as context_inside, head_of_item, allows, times_at}
+use Rattle.regress_syntax.specs.Rows.{Context, single, opens, context_inside, head_of_item, allows, times_at}
 use Rattle.regress_syntax.specs.Grammar.{IsPattern, AreTerms, IsItem}
 use Rattle.regress_classes.proofs.laws.ClassStrings.{OfCodePoints}
 use Rattle.regress_syntax.proofs.laws.NameEnds.{IsName}

@@ -11,7 +11,7 @@ use Rattle.regress_lexical.specs.Fault.{OnSyntax}
 use Rattle.regress_lexical.specs.Source.{Source, Found}
 use Rattle.regress_syntax.specs.Syntax.{Name, Pattern, Terms, Item, Counts, nothing_counted, added, counts, counts_of_terms, counts_of_term, counts_of_item, levels, levels_of_terms, levels_of_item}
 use Rattle.regress_syntax.specs.Rows.{Context}
-use Rattle.regress_syntax.specs.Views.{names_in, context_of, direction_of as of_flag}
+use Rattle.regress_syntax.specs.Views.{names_in, context_of, direction_if}
 use Rattle.regress_lexical.specs.Views.{source}
 use Rattle.regress_parse.specs.declared.parser.Parser.{Parser}
 use Rattle.regress_parse.specs.declared.parser.Around.{Around}
@@ -62,7 +62,7 @@ text p = source p.cursor
 
 -- the direction in which a part is matched that lies inside there
 abbrev pub direction_of : Around → Direction
-direction_of around = of_flag around.backwards
+direction_of around = direction_if around.backwards
 
 -- what the rows look at there
 abbrev pub context_in : Around → Context

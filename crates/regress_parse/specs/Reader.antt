@@ -4,7 +4,7 @@ use Rattle.std.specs.Prelude.{ℕ, zero, suc, ◌+◌, ◌*◌, length, drop, Op
 use Rattle.regress_tree.specs.declared.ir.node.Quantifier.{Quantifier}
 use Rattle.regress_lexical.specs.Source.{Source, Found, ◌>>=◌, found_map, closing, bar, is_at, ends_alternative}
 use Rattle.regress_syntax.specs.Syntax.{Group, Pattern, Terms, Item, one, either, no_terms, more_terms, atom, group}
-use Rattle.regress_syntax.specs.Rows.{Context, inside, Head, single, opens, head_of_item, allows, head_at, times_at}
+use Rattle.regress_syntax.specs.Rows.{Context, context_inside, Head, single, opens, head_of_item, allows, head_at, times_at}
 
 -- an item, and how often it is matched
 abbrev pub Term : Type 0
@@ -17,7 +17,7 @@ closed kind (p, t) = if is_at closing t then Some (group kind p, drop 1 t) else 
 -- an item behind what it begins with, where `inner` reads patterns
 abbrev pub item_behind : (Context → Source → Found Pattern) → Context → Head × Source → Found Item
 item_behind inner ctx (single a, t) = Some (atom a, t)
-item_behind inner ctx (opens kind, t) = inner (inside kind ctx) t >>= closed kind
+item_behind inner ctx (opens kind, t) = inner (context_inside kind ctx) t >>= closed kind
 
 abbrev pub item_by : (Context → Source → Found Pattern) → Context → Source → Found Item
 item_by inner ctx t = head_at ctx t >>= item_behind inner ctx

@@ -9,7 +9,7 @@ ghost use Rattle.regress_syntax.specs.Meaning.{is_in_class, longest_first};
 ghost use Rattle.regress_lexical.specs.Source.{IsCodePoint};
 ghost use Rattle.regress_classes.specs.ClassRows.{members_of};
 ghost use Rattle.regress_syntax.specs.Syntax.{Atom as Written};
-ghost use Rattle.regress_syntax.specs.Views.{IsAtom, IsSomeAtom, context_of, names_in, direction_of, group_of};
+ghost use Rattle.regress_syntax.specs.Views.{IsAtom, IsSomeAtom, context_of, names_in, direction_if, group_of};
 ghost use Rattle.regress_classes.specs.ClassViews.{IsValue, HasMembers, strings_of};
 ghost use Rattle.regress_parse.specs.TreeOf.{turned, joined, leaf_of_members, leaf_of_literal, tree_of_references, tree_of_class_set, tree_of_atom, tree_of_group, tree_of_times};
 ghost use Rattle.regress_parse.specs.Parsing.{alternatives};
@@ -17,7 +17,7 @@ ghost use Rattle.regress_parse.specs.Parsing.{alternatives};
 use regress_base::charclasses::CharacterClassType;
 use regress_base::codepointset::CodePointSet;
 use regress_base::types::{BracketContents, CaptureGroupID};
-use regress_syntax::{Atom, Group, Name, Scope, Value, class_set};
+use regress_syntax::{Atom, Group, Name, Scope, Value, class_escape_set};
 use regress_tree::ir::{Node, NodeList, Quantifier};
 use regress_unicode::{add_icase_code_points, expand_code_point};
 use std::alloc::{AllocError, Global};
@@ -101,7 +101,7 @@ fn make_class_escape(
     ensures { IfOk result (λ node. tree node ≡
         leaf (bracket false (intervals_of (is_in_class (table_of scope.now.tables.now) scope.now.flags negated (members_of kind))))) }
 {
-    let closed = close(class_set(alloc, kind)?, scope)?;
+    let closed = close(class_escape_set(alloc, kind)?, scope)?;
     Ok(Node::Bracket(BracketContents {
         invert: false,
         cps: complement_if(closed, negated)?,
@@ -256,7 +256,7 @@ fn text_of(alloc: Global, characters: &[char]) -> Result<String, AllocError>
 /// The node of an alternative: no part is `Empty`, one part is that part. Where matching runs backwards,
 /// the parts stand turned.
 pub(crate) fn make_cat(mut parts: NodeList, backwards: bool) -> Node
-    ensures { tree result ≡ joined (direction_of backwards) (trees parts.items) }
+    ensures { tree result ≡ joined (direction_if backwards) (trees parts.items) }
 {
     if parts.len() > 1 {
         turn(&mut parts, backwards);
@@ -267,7 +267,7 @@ pub(crate) fn make_cat(mut parts: NodeList, backwards: bool) -> Node
 
 /// Turns the parts where matching runs backwards.
 fn turn(parts: &mut NodeList, backwards: bool)
-    ensures { trees parts.new.items ≡ turned (direction_of backwards) (trees parts.old.items) }
+    ensures { trees parts.new.items ≡ turned (direction_if backwards) (trees parts.old.items) }
 {
     if backwards {
         parts.reverse();

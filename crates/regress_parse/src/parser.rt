@@ -29,13 +29,13 @@ pub(crate) struct Around<'a> {
 impl<'a> Around<'a> {
     ghost use Rattle.std.specs.Prelude.{◌≡◌};
     ghost use Rattle.regress_syntax.specs.Meaning.{direction_of_group};
-    ghost use Rattle.regress_syntax.specs.Rows.{inside};
+    ghost use Rattle.regress_syntax.specs.Rows.{context_inside};
     ghost use Rattle.regress_syntax.specs.Views.{group_of};
     ghost use Rattle.regress_parse.specs.Parsing.{context_in, direction_of};
 
     /// What lies around the parts inside a group, but for its level.
     pub(crate) fn inside(&self, kind: &Group) -> Around<'a>
-        ensures context { context_in result ≡ inside (group_of kind.now) (context_in self.now) }
+        ensures context { context_in result ≡ context_inside (group_of kind.now) (context_in self.now) }
         ensures direction { direction_of result ≡ direction_of_group (group_of kind.now) (direction_of self.now) }
         ensures depth { result.depth ≡ self.now.depth }
     {

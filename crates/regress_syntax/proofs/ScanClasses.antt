@@ -5,7 +5,7 @@ use Rattle.std.proofs.lemmas.Bool.Decides.{nat_tests}
 use Rattle.regress_base.specs.Intervals.{Bounds}
 use Rattle.regress_base.specs.declared.charclasses.CharacterClassType.{CharacterClassType}
 use Rattle.regress_unicode.specs.Table.{Table}
-use Rattle.regress_lexical.specs.Source.{Source, Found, found_map, is_at}
+use Rattle.regress_lexical.specs.Source.{Source, Found, found_map, is_one_of, is_at}
 use Rattle.regress_lexical.specs.Digits.{is_decimal, is_letter, control, behind}
 use Rattle.regress_lexical.specs.Escapes.{escape_at}
 use Rattle.regress_classes.specs.Properties.{Property, points_of, is_property_character, closed_property, property_at}
@@ -77,7 +77,7 @@ module _ {table : Table} where
             | Some named ↦ Some (set (class_members named), t)
             | None ↦ cond (c == 98) (Some (point 8, t)) (cond (c == 45 && unicode) (Some (point 45, t))
                 (cond (c == 99 && not unicode) (class_control_at t)
-                (cond ((c == 112 || c == 80) && unicode) (class_property_at table (c == 80) t)
+                (cond (is_one_of "pP" c && unicode) (class_property_at table (c == 80) t)
                 (found_map point (escape_at unicode (c ∷ t))))))
           ])
       by (Some named) = leads_some (set (class_members named), t) (pass_escaped (in_class 0 0) c t)
@@ -87,7 +87,7 @@ module _ {table : Table} where
           (λ _. leads_cond (c == 99 && not unicode) _ _
           (λ e. subst (λ k. Leads false table (class_escape 0 0) (k ∷ t) (class 0 0) (class_control_at t)) (sym (eqb-true c 99 (and_both _ _ e).0))
           (lead_class_control_at t))
-          (λ _. leads_cond ((c == 112 || c == 80) && unicode) _ _ (λ _. lead_class_property_at (c == 80) c t)
+          (λ _. leads_cond (is_one_of "pP" c && unicode) _ _ (λ _. lead_class_property_at (c == 80) c t)
           (λ _. leads_map point (escape_at unicode (c ∷ t)) (lead_escape_at (in_class 0 0) unicode (c ∷ t))))))
 
   lead_class_escape_at : (unicode : Bool) (t : Source) → Leads false table (class_escape 0 0) t (class 0 0) (class_escape_at table unicode t)

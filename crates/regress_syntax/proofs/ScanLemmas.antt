@@ -8,7 +8,7 @@ use Rattle.regress_base.specs.Intervals.{code_point_max}
 use Rattle.regress_unicode.specs.Table.{Table}
 use Rattle.regress_lexical.specs.Source.{Source, Found, ◌>>=◌, found_map, opening, closing, bar, question_mark, is_at, is_plain}
 use Rattle.regress_lexical.specs.Digits.{is_between, is_decimal, is_letter, is_octal, is_hex, control, number, front, behind, hex_at}
-use Rattle.regress_lexical.specs.Escapes.{braced_hex_at, second_half_at, paired, with_second_half, unicode_at, or_itself, octal_digits, letter_escape, begins_with_digit, is_syntax_character, control_at, other_escape, escape_at}
+use Rattle.regress_lexical.specs.Escapes.{braced_hex_at, unit_at, second_half_at, paired, with_second_half, unicode_at, or_itself, octal_digits, letter_escape, begins_with_digit, is_syntax_character, control_at, other_escape, escape_at}
 use Rattle.regress_lexical.specs.Quantifiers.{Times, count_at, closed_brace, most_at, times_by, greedy_or_lazy, quantifier_at}
 use Rattle.regress_syntax.specs.Scan.{Mark, Mode, plain, escape, class, class_escape, marks}
 use Rattle.regress_lexical.proofs.laws.Digits.{and_both}
@@ -215,14 +215,16 @@ module _ {sets : Bool} {table : Table} where
       subst (λ x. Passes sets table (home w) (x ∷ d ∷ t) (home w) t) (sym (eqb-true c 92 e))
       (passes_then (pass_backslash w (d ∷ t)) (pass_escaped w d t))
 
+  lead_unit_at : (w : Home) (t : Source) → Leads sets table (home w) t (home w) (unit_at t)
+  lead_unit_at w t =
+      leads_cond (is_at 92 t && is_at 117 (drop 1 t)) _ _
+      (λ e. let both = and_both _ _ e in leads_behind (pass_unicode w t both.0 both.1) (lead_hex_at w 4 (drop 2 t)))
+      (λ _. leads_none)
+
   lead_second_half_at : (w : Home) (t : Source) → Leads sets table (home w) t (home w) (second_half_at t)
   lead_second_half_at w t =
-      leads_cond (is_at 92 t && is_at 117 (drop 1 t)) _ _
-      (λ e. let both = and_both _ _ e in
-      leads_behind (pass_unicode w t both.0 both.1)
-      (leads_then (hex_at 4 (drop 2 t)) _ (lead_hex_at w 4 (drop 2 t))
-      (λ x. leads_cond (is_between 0xDC00 0xDFFF x.0) _ _ (λ _. leads_some x passes_same) (λ _. leads_none))))
-      (λ _. leads_none)
+      leads_then (unit_at t) _ (lead_unit_at w t)
+      (λ x. leads_cond (is_between 0xDC00 0xDFFF x.0) _ _ (λ _. leads_some x passes_same) (λ _. leads_none))
 
   lead_halves : (w : Home) (high : ℕ) (t : Source) (second : Found ℕ) → Leads sets table (home w) t (home w) second →
       Leads sets table (home w) t (home w) (elim second as (λ _. Found ℕ) [ None ↦ Some (high, t) | Some low ↦ Some (paired high low.0, low.1) ])

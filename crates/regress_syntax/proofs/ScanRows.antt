@@ -7,7 +7,7 @@ use Rattle.regress_base.specs.Classes.{word_characters}
 use Rattle.regress_base.specs.Intervals.{Bounds, is_within, is_member}
 use Rattle.regress_base.specs.declared.charclasses.CharacterClassType.{CharacterClassType}
 use Rattle.regress_unicode.specs.Table.{Table, HasWordAscii, IsLawful}
-use Rattle.regress_lexical.specs.Source.{Source, Found, ◌>>=◌, found_map, opening, closing, colon, bar, full_stop, question_mark, is_at, is_plain}
+use Rattle.regress_lexical.specs.Source.{Source, Found, ◌>>=◌, found_map, opening, closing, colon, bar, full_stop, question_mark, is_one_of, is_at, is_plain}
 use Rattle.regress_lexical.specs.Digits.{is_between, is_decimal, number, front, behind}
 use Rattle.regress_lexical.specs.Escapes.{unicode_at, escape_at}
 use Rattle.regress_tree.specs.declared.ir.node.Quantifier.{Quantifier}
@@ -203,7 +203,7 @@ module _ (ctx : Context) (lawful : IsLawful ctx.setting.table) where
                 cond (c == 98) (Some (boundary ctx.setting.flags false, t))
                 (cond (c == 66) (Some (boundary ctx.setting.flags true, t))
                 (cond (is_lone_backslash ctx.setting.flags.unicode c t) (Some (literal ctx.setting.flags 92, 99 ∷ t))
-                (cond ((c == 112 || c == 80) && (ctx.setting.flags.unicode || ctx.setting.flags.unicode_sets)) (property_atom_at ctx (c == 80) t)
+                (cond (is_one_of "pP" c && (ctx.setting.flags.unicode || ctx.setting.flags.unicode_sets)) (property_atom_at ctx (c == 80) t)
                 (cond (is_between 49 57 c) (numbered_at ctx c t)
                 (cond (c == 107 && (ctx.setting.flags.unicode || has_names ctx.names)) (named_at ctx t)
                 (character_at ctx c t))))))
@@ -214,7 +214,7 @@ module _ (ctx : Context) (lawful : IsLawful ctx.setting.table) where
           (λ _. gives_cond (c == 66) _ _ (λ _. gives_some (_, t) (pass_escaped in_text c t).same)
           (λ _. gives_cond (is_lone_backslash ctx.setting.flags.unicode c t) _ _
           (λ _. gives_some (_, 99 ∷ t) (same_lone_backslash c t))
-          (λ _. gives_cond ((c == 112 || c == 80) && (ctx.setting.flags.unicode || ctx.setting.flags.unicode_sets)) _ _
+          (λ _. gives_cond (is_one_of "pP" c && (ctx.setting.flags.unicode || ctx.setting.flags.unicode_sets)) _ _
           (λ _. gives_property_atom_at (c == 80) c t)
           (λ _. gives_cond (is_between 49 57 c) _ _ (λ e. gives_numbered_at c t (grind (arith, nat_tests)))
           (λ _. gives_cond (c == 107 && (ctx.setting.flags.unicode || has_names ctx.names)) _ _
@@ -226,7 +226,7 @@ module _ (ctx : Context) (lawful : IsLawful ctx.setting.table) where
   gives_escaped_at (c ∷ t) = gives_escaped_by c t
 
   -- outside a class a `]` is quiet too
-  same_brace : (c : ℕ) (t : Source) → (c == 123 || c == 93 || c == 125) ≡ true → marks_in ctx plain (c ∷ t) ≡ marks_in ctx plain t
+  same_brace : (c : ℕ) (t : Source) → is_one_of "{]}" c ≡ true → marks_in ctx plain (c ∷ t) ≡ marks_in ctx plain t
   unfolding marks
   same_brace c t e =
       let not_backslash : (c == 92) ≡ false = grind (arith, nat_tests) in
@@ -236,7 +236,7 @@ module _ (ctx : Context) (lawful : IsLawful ctx.setting.table) where
       let not_bar : (c == bar) ≡ false = grind (arith, nat_tests) in
       rw (not_backslash, not_bracket, not_opening, not_closing, not_bar) refl
 
-  gives_brace_by : (c : ℕ) (t : Source) → (c == 123 || c == 93 || c == 125) ≡ true →
+  gives_brace_by : (c : ℕ) (t : Source) → is_one_of "{]}" c ≡ true →
       Gives (marks_in ctx plain (c ∷ t)) (behind_atom ctx) (brace_by ctx c t)
   gives_brace_by c t e =
       gives_cond (ctx.setting.flags.unicode || is_some (quantifier_at (c ∷ t))) _ _ (λ _. gives_none)
@@ -268,7 +268,7 @@ module _ (ctx : Context) (lawful : IsLawful ctx.setting.table) where
       (λ _. gives_cond (c == 91) _ _
       (λ e. subst (λ k. Gives (marks_in ctx plain (k ∷ t)) (behind_atom ctx) (brackets_at ctx t)) (sym (eqb-true c 91 e))
       (gives_after (same_open_bracket t) (gives_class ctx.setting.flags.unicode_sets t)))
-      (λ _. gives_cond (c == 123 || c == 93 || c == 125) _ _ (gives_brace_by c t)
+      (λ _. gives_cond (is_one_of "{]}" c) _ _ (gives_brace_by c t)
       (λ _. gives_cond (is_plain c) _ _ (λ e. gives_some (_, t) (pass_quiet in_text c t (quiet_plain c e)).same)
       (λ _. gives_none)))))))
 

@@ -6,7 +6,7 @@ use Rattle.regress_base.specs.Intervals.{Bounds}
 use Rattle.regress_base.specs.Limits.{max_nesting_depth}
 use Rattle.regress_base.specs.declared.charclasses.CharacterClassType.{CharacterClassType}
 use Rattle.regress_unicode.specs.Table.{Table}
-use Rattle.regress_lexical.specs.Source.{Source, Found, ◌>>=◌, found_map, is_at}
+use Rattle.regress_lexical.specs.Source.{Source, Found, ◌>>=◌, found_map, is_one_of, is_at}
 use Rattle.regress_classes.specs.Properties.{Property, of_points, of_strings, property_at}
 use Rattle.regress_classes.specs.ClassRows.{class_letter, class_members, one_point, points_between}
 use Rattle.regress_classes.specs.ClassSets.{Value, only, joined, common, without, value_of_string, value_of_strings, nested, unless_of_strings, Operand, character, value_of, is_set_syntax, is_double, begins_double, is_reserved, escaped_character_at, set_character_at, strings_by, quoted_at, property_operand, escaped_operand_at, operand_at, range_of, part_behind, parts_by, are_at, operands_by, contents_behind, contents_at, class_set_by, class_set_at}
@@ -155,7 +155,7 @@ module _ (table : Table) where
         (elim letter as (λ _. Found Operand) [
           | Some named ↦ Some (ClassSets.class (only (class_members named)), t)
           | None ↦
-              cond (c == 113) (quoted_at unicode t) (cond (c == 112 || c == 80) (property_at true table t >>= property_operand in_negated (c == 80))
+              cond (c == 113) (quoted_at unicode t) (cond (is_one_of "pP" c) (property_at true table t >>= property_operand in_negated (c == 80))
               (found_map character (escaped_character_at unicode (c ∷ t))))
         ])
     gives_escaped_by depth before levels in_negated c t (Some named) =
@@ -164,7 +164,7 @@ module _ (table : Table) where
     gives_escaped_by depth before levels in_negated c t None =
         gives_cond (c == 113) _ _
         (λ _. gives_after (pass_escaped (at_levels depth before levels) c t).same (gives_quoted_at depth before levels t))
-        (λ _. gives_cond (c == 112 || c == 80) _ _
+        (λ _. gives_cond (is_one_of "pP" c) _ _
         (λ _. gives_after (pass_escaped (at_levels depth before levels) c t).same
         (gives_then (λ _. within table depth before levels) (property_at true table t) _
         (gives_leads (lead_property_at (at_levels depth before levels) true table t))

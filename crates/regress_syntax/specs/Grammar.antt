@@ -2,7 +2,7 @@
 use Rattle.std.specs.Prelude.{◌≡◌, true, false, ◌∷◌, Some}
 use Rattle.regress_lexical.specs.Source.{Source, closing, bar, is_at, ends_alternative}
 use Rattle.regress_syntax.specs.Syntax.{Pattern, Terms, Item, one, either, no_terms, more_terms, atom, group}
-use Rattle.regress_syntax.specs.Rows.{Context, inside, single, opens, head_of_item, allows, head_at, times_at}
+use Rattle.regress_syntax.specs.Rows.{Context, context_inside, single, opens, head_of_item, allows, head_at, times_at}
 
 -- The source begins with what the syntax tree stands for, and goes on with `rest`.
 abbrev mutual
@@ -21,4 +21,4 @@ abbrev mutual
   pub IsItem : Context → Item → Source → Source → Type 0
   IsItem ctx (atom a) t rest = head_at ctx t ≡ Some (single a, rest)
   IsItem ctx (group kind p) t rest =
-      (mid : Source) × (head_at ctx t ≡ Some (opens kind, mid)) × IsPattern (inside kind ctx) p mid (closing ∷ rest)
+      (mid : Source) × (head_at ctx t ≡ Some (opens kind, mid)) × IsPattern (context_inside kind ctx) p mid (closing ∷ rest)

@@ -4,9 +4,10 @@ use Rattle.regress_base.specs.Intervals.{Bounds, is_member}
 use Rattle.regress_base.specs.declared.types.Flags.{Flags}
 use Rattle.regress_tree.specs.declared.ir.node.Quantifier.{Quantifier}
 use Rattle.regress_tree.specs.Reading.{Direction, forwards, backwards, of_characters}
-use Rattle.regress_tree.specs.Steps.{Step, distinct, stay, fail, ◌then_◌, ◌or_◌, one_character, hold_at, capture as captures}
-use Rattle.regress_tree.specs.Lookaround.{look as looks}
-use Rattle.regress_tree.specs.References.{back_reference as refers}
+use Rattle.regress_tree.specs.Steps.{Step, distinct, stay, fail, ◌then_◌, ◌or_◌, one_character, hold_at}
+use Rattle.regress_tree.specs.Steps as Steps
+use Rattle.regress_tree.specs.Lookaround as Lookaround
+use Rattle.regress_tree.specs.References as References
 use Rattle.regress_tree.specs.Strings.{any_string}
 use Rattle.regress_tree.specs.Setting.{Setting}
 use Rattle.regress_unicode.specs.Table.{Table, stands_for, is_in_closure}
@@ -34,9 +35,9 @@ is_in_class table flags inverted members x =
     differ inverted (if flags.icase then is_in_closure table members x else is_member members x)
 
 -- the first part and then the others, or the other way round where matching runs backwards
-abbrev pub in_order : Direction → Step → Step → Step
-in_order forwards f g = f then_ g
-in_order backwards f g = g then_ f
+abbrev pub along : Direction → Step → Step → Step
+along forwards f g = f then_ g
+along backwards f g = g then_ f
 
 -- the direction in which what a group holds is matched
 abbrev pub direction_of_group : Group → Direction → Direction
@@ -49,8 +50,8 @@ direction_of_group (look negate direction) d = direction
 abbrev pub group_steps : ℕ → Group → Step → Step
 group_steps n grouping body = body
 group_steps n (modified change) body = body
-group_steps n (capture name) body = captures n body
-group_steps n (look negate direction) body = looks negate body
+group_steps n (capture name) body = Steps.capture n body
+group_steps n (look negate direction) body = Lookaround.look negate body
 
 -- the groups with this name, of those of a list whose first one has number n
 abbrev pub groups_named : Name → ℕ → List (Option Name) → List ℕ
@@ -107,7 +108,7 @@ module _ (setting : Setting) (names : List (Option Name)) (text : List ℕ) wher
   atom_steps d (string_property flags written) = one_of_strings d flags written
   -- no group switches the flag u, which is the setting's
   atom_steps d (back_reference flags to) =
-      any_reference (λ k. refers d (of_characters text) (stands_for setting.table flags.icase setting.flags.unicode) (k - 1))
+      any_reference (λ k. References.back_reference d (of_characters text) (stands_for setting.table flags.icase setting.flags.unicode) (k - 1))
       (referred names to)
 
   -- the outcomes, with repeats, of what stands behind n opened groups
@@ -119,7 +120,7 @@ module _ (setting : Setting) (names : List (Option Name)) (text : List ℕ) wher
     pub terms_steps : Direction → ℕ → Terms → Step
     terms_steps d n no_terms = stay
     terms_steps d n (more_terms x q xs) =
-        in_order d (times_steps (length text) q n (n + (counts_of_item x).groups) (item_steps d n x))
+        along d (times_steps (length text) q n (n + (counts_of_item x).groups) (item_steps d n x))
         (terms_steps d (n + (counts_of_term x q).groups) xs)
 
     pub item_steps : Direction → ℕ → Item → Step

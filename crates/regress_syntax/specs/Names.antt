@@ -3,13 +3,12 @@ use Rattle.std.specs.Prelude.{ℕ, zero, suc, ◌+◌, Bool, ◌&&◌, ◌||◌,
 use lib.Utf8.{scalar}
 use Rattle.regress_base.specs.Intervals.{is_member}
 use Rattle.regress_unicode.specs.Table.{Table}
-use Rattle.regress_lexical.specs.Source.{Source, Found, ◌>>=◌, found_map, is_at}
+use Rattle.regress_lexical.specs.Source.{Source, Found, ◌>>=◌, found_map, char, is_one_of, is_at}
 use Rattle.regress_lexical.specs.Escapes.{unicode_at}
 use Rattle.regress_syntax.specs.Syntax.{Name}
 
--- `$` and `_`
 abbrev pub is_sign : ℕ → Bool
-is_sign c = c == 36 || c == 95
+is_sign c = is_one_of "$_" c
 
 abbrev pub begins_name : Table → ℕ → Bool
 begins_name table c = scalar c && (is_sign c || is_member table.id_start c)
@@ -21,7 +20,7 @@ continues_name table c = scalar c && (is_sign c || c == 0x200C || c == 0x200D ||
 -- one character, as it is or by a form of `\u` that gives a value
 abbrev pub written_at : Source → Found ℕ
 written_at [] = None
-written_at (c ∷ t) = if c == 92 then (if is_at 117 t then unicode_at (drop 1 t) else None) else Some (c, t)
+written_at (c ∷ t) = if c == char "\\" then (if is_at (char "u") t then unicode_at (drop 1 t) else None) else Some (c, t)
 
 -- one that passes the test
 abbrev pub name_character_at : (ℕ → Bool) → Source → Found ℕ
@@ -31,7 +30,7 @@ name_character_at p t = written_at t >>= λ (c, rest). if p c then Some (c, rest
 unfoldable pub rest_of_name_by : ℕ → Table → Source → Found Name
 rest_of_name_by zero table t = None
 rest_of_name_by (suc n) table t =
-    if is_at 62 t then Some ([], drop 1 t)
+    if is_at (char ">") t then Some ([], drop 1 t)
     else name_character_at (continues_name table) t >>= λ (c, rest).
     found_map (λ cs. c ∷ cs) (rest_of_name_by n table rest)
 
@@ -43,4 +42,4 @@ name_at table t =
 
 -- the same, with its `<`
 abbrev pub group_name_at : Table → Source → Found Name
-group_name_at table t = if is_at 60 t then name_at table (drop 1 t) else None
+group_name_at table t = if is_at (char "<") t then name_at table (drop 1 t) else None

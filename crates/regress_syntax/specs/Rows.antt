@@ -8,7 +8,7 @@ use Rattle.regress_tree.specs.declared.ir.node.Quantifier.{Quantifier}
 use Rattle.regress_tree.specs.Setting.{Setting}
 use Rattle.regress_tree.specs.Reading.{forwards, backwards}
 use Rattle.regress_unicode.specs.Table.{Table}
-use Rattle.regress_lexical.specs.Source.{Source, Found, ◌>>=◌, found_map, opening, full_stop, colon, question_mark, is_at, is_plain}
+use Rattle.regress_lexical.specs.Source.{Source, Found, ◌>>=◌, found_map, char, is_one_of, opening, full_stop, colon, question_mark, is_at, is_plain}
 use Rattle.regress_lexical.specs.Digits.{is_between, is_decimal, number, front, behind}
 use Rattle.regress_lexical.specs.Escapes.{begins_with_letter, escape_at}
 use Rattle.regress_lexical.specs.Quantifiers.{quantifier_at, is_ordered}
@@ -27,11 +27,11 @@ pub record Context : Type 0 where
   pub names : List (Option Name)
 
 -- the context of what stands inside a group
-abbrev pub inside : Group → Context → Context
-inside grouping ctx = ctx
-inside (modified change) ctx = record ctx { setting = record ctx.setting { flags = changed change ctx.setting.flags } }
-inside (capture name) ctx = ctx
-inside (look negate direction) ctx = ctx
+abbrev pub context_inside : Group → Context → Context
+context_inside grouping ctx = ctx
+context_inside (modified change) ctx = record ctx { setting = record ctx.setting { flags = changed change ctx.setting.flags } }
+context_inside (capture name) ctx = ctx
+context_inside (look negate direction) ctx = ctx
 
 -- what an item begins with: all of it, or what its parenthesis opens
 pub data Head : Type 0 where
@@ -49,8 +49,8 @@ named_group_at table t = found_map (λ name. opens (capture (Some name))) (group
 -- from `<` on: a lookbehind, or a named group
 abbrev pub angle_at : Table → Source → Found Head
 angle_at table t =
-    if is_at 61 (drop 1 t) then Some (opens (look false backwards), drop 2 t)
-    else if is_at 33 (drop 1 t) then Some (opens (look true backwards), drop 2 t)
+    if is_at (char "=") (drop 1 t) then Some (opens (look false backwards), drop 2 t)
+    else if is_at (char "!") (drop 1 t) then Some (opens (look true backwards), drop 2 t)
     else named_group_at table t
 
 abbrev pub modified_at : Source → Found Head
@@ -60,9 +60,9 @@ modified_at t = found_map (λ change. opens (modified change)) (modifiers_at t)
 abbrev pub behind_mark_at : Table → Source → Found Head
 behind_mark_at table t =
     if is_at colon t then Some (opens grouping, drop 1 t)
-    else if is_at 61 t then Some (opens (look false forwards), drop 1 t)
-    else if is_at 33 t then Some (opens (look true forwards), drop 1 t)
-    else if is_at 60 t then angle_at table t
+    else if is_at (char "=") t then Some (opens (look false forwards), drop 1 t)
+    else if is_at (char "!") t then Some (opens (look true forwards), drop 1 t)
+    else if is_at (char "<") t then angle_at table t
     else modified_at t
 
 -- what a parenthesis opens, behind it: without `?` a group that captures and has no name
@@ -94,6 +94,10 @@ abbrev pub allows : (unicode : Bool) → Head → Bool
 allows unicode (single a) = atom_allows a
 allows unicode (opens kind) = group_allows unicode kind
 
+-- 1 to 9
+abbrev pub begins_number : ℕ → Bool
+begins_number = is_between (char "1") (char "9")
+
 -- the number of a group, by the whole run of digits, where there are so many
 abbrev pub group_number_at : (groups : ℕ) → Source → Found ℕ
 group_number_at groups t =
@@ -109,7 +113,7 @@ has_name name names = list_any (is_named name) names
 
 -- without the flag u, before `c` and no letter, the backslash stands alone, and the `c` is read next
 abbrev pub is_lone_backslash : (unicode : Bool) → ℕ → Source → Bool
-is_lone_backslash unicode c t = c == 99 && not unicode && not (begins_with_letter t)
+is_lone_backslash unicode c t = c == char "c" && not unicode && not (begins_with_letter t)
 
 module _ (ctx : Context) where
   -- the escape of one character
@@ -155,14 +159,14 @@ module _ (ctx : Context) where
       elim (class_letter c) [
         | Some named ↦ Some (class_escape ctx.setting.flags named.0 named.1, t)
         | None ↦
-            if c == 98 then Some (boundary ctx.setting.flags false, t)
-            else if c == 66 then Some (boundary ctx.setting.flags true, t)
-            else if is_lone_backslash ctx.setting.flags.unicode c t then Some (literal ctx.setting.flags 92, 99 ∷ t)
-            else if (c == 112 || c == 80) && (ctx.setting.flags.unicode || ctx.setting.flags.unicode_sets)
-            then property_atom_at (c == 80) t
-            else if is_between 49 57 c then numbered_at c t
+            if c == char "b" then Some (boundary ctx.setting.flags false, t)
+            else if c == char "B" then Some (boundary ctx.setting.flags true, t)
+            else if is_lone_backslash ctx.setting.flags.unicode c t then Some (literal ctx.setting.flags (char "\\"), char "c" ∷ t)
+            else if is_one_of "pP" c && (ctx.setting.flags.unicode || ctx.setting.flags.unicode_sets)
+            then property_atom_at (c == char "P") t
+            else if begins_number c then numbered_at c t
             -- without the flag u and without names, `\k` is the escape of a character
-            else if c == 107 && (ctx.setting.flags.unicode || has_names ctx.names) then named_at t
+            else if c == char "k" && (ctx.setting.flags.unicode || has_names ctx.names) then named_at t
             else character_at c t
       ]
 
@@ -188,11 +192,11 @@ module _ (ctx : Context) where
   abbrev pub atom_by : ℕ → Source → Found Atom
   atom_by c t =
       if c == full_stop then Some (dot ctx.setting.flags, t)
-      else if c == 94 then Some (anchor ctx.setting.flags StartOfLine, t)
-      else if c == 36 then Some (anchor ctx.setting.flags EndOfLine, t)
-      else if c == 92 then escaped_at t
-      else if c == 91 then brackets_at t
-      else if c == 123 || c == 93 || c == 125 then brace_by c t
+      else if c == char "^" then Some (anchor ctx.setting.flags StartOfLine, t)
+      else if c == char "$" then Some (anchor ctx.setting.flags EndOfLine, t)
+      else if c == char "\\" then escaped_at t
+      else if c == char "[" then brackets_at t
+      else if is_one_of "{]}" c then brace_by c t
       else if is_plain c then Some (literal ctx.setting.flags c, t)
       else None
 
@@ -207,7 +211,7 @@ module _ (ctx : Context) where
 
   -- no quantifier, where none begins. With the flag u a `{` must begin one.
   abbrev pub no_quantifier_at : Source → Found (Option Quantifier)
-  no_quantifier_at t = if ctx.setting.flags.unicode && is_at 123 t then None else Some (None, t)
+  no_quantifier_at t = if ctx.setting.flags.unicode && is_at (char "{") t then None else Some (None, t)
 
   -- a quantifier, where one may stand. It asks for no more turns at least than at most.
   abbrev pub this_quantifier : Bool → Quantifier × Source → Found (Option Quantifier)

@@ -56,14 +56,14 @@ IsAtom ctx (atoms.ClassSet negated value) a = IsClassSet ctx.setting.flags negat
 IsAtom ctx (atoms.Strings written) a = a ≡ string_property ctx.setting.flags (strings_of written.items)
 IsAtom ctx (atoms.BackReferences numbers) a = AreReferences ctx numbers.items a
 
-abbrev pub direction_of : (backwards : Bool) → Direction
-direction_of backwards' = if backwards' then backwards else forwards
+abbrev pub direction_if : (backwards : Bool) → Direction
+direction_if backwards' = if backwards' then backwards else forwards
 
 abbrev pub group_of : CodeGroup → Group
 group_of groups.Grouping = grouping
 group_of (groups.Modified change) = modified (change_of change)
 group_of (groups.Capture name) = capture (option_map (λ name. name.items) name)
-group_of (groups.Look negate backwards') = look negate (direction_of backwards')
+group_of (groups.Look negate backwards') = look negate (direction_if backwards')
 
 -- the atom of the code stands for one
 abbrev pub IsSomeAtom : Context → CodeAtom → Type 0

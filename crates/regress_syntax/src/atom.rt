@@ -1,10 +1,9 @@
 //! Items that hold no pattern.
 ghost use Rattle.std.specs.Prelude.{◌≡◌, ◌∷◌, true, drop, is_some, option_map, IfOk};
-ghost use Rattle.regress_lexical.specs.Digits.{is_between};
 ghost use Rattle.regress_lexical.specs.Escapes.{begins_with_letter, begins_with_digit};
 ghost use Rattle.regress_lexical.specs.Quantifiers.{quantifier_at};
 ghost use Rattle.regress_lexical.specs.Reads.{ReadsAs};
-ghost use Rattle.regress_syntax.specs.Rows.{atom_by, brace_by, is_lone_backslash, escaped_at, group_number_at, numbered_at, named_at, character_at, brackets_at, point_property, property_atom_at};
+ghost use Rattle.regress_syntax.specs.Rows.{atom_by, brace_by, is_lone_backslash, begins_number, escaped_at, group_number_at, numbered_at, named_at, character_at, brackets_at, point_property, property_atom_at};
 ghost use Rattle.regress_lexical.specs.Source.{IsCodePoint};
 ghost use Rattle.regress_syntax.specs.Views.{context_of, IsAtom};
 ghost use Rattle.regress_lexical.specs.Views.{source};
@@ -19,7 +18,7 @@ use regress_classes::class_escape::{class_letter, set_is_canonical};
 use regress_classes::class_sets::{Value, read_class_set};
 use regress_classes::property::{Property, is_property_letter, read_property};
 use regress_lexical::cursor::{Cursor, is_plain};
-use regress_lexical::digits::{Read, is_letter, read_count};
+use regress_lexical::digits::{Read, is_between, is_letter, read_count};
 use regress_lexical::escape::{escape_fault, read_escape};
 use regress_lexical::fault::{
     Error, INCOMPLETE_ESCAPE, INVALID_ATOM, INVALID_BRACED_QUANTIFIER, INVALID_ESCAPE,
@@ -153,7 +152,7 @@ fn read_escaped(cursor: &mut Cursor, scope: &Scope) -> Result<Atom, ParseFault>
     } else if is_property_letter(c) && (scope.flags.unicode || scope.flags.unicode_sets) {
         cursor.rest = rest;
         read_property_atom(cursor, scope, c == u32::from('P'))
-    } else if is_between_one_and_nine(c) {
+    } else if begins_number(c) {
         read_numbered(cursor, scope, c)
     } else if c == u32::from('k') && (scope.flags.unicode || scope.groups.has_names()) {
         cursor.rest = rest;
@@ -164,16 +163,16 @@ fn read_escaped(cursor: &mut Cursor, scope: &Scope) -> Result<Atom, ParseFault>
 }
 
 /// 1 to 9.
-fn is_between_one_and_nine(c: u32) -> bool
-    ensures { result ≡ is_between 49 57 c }
+fn begins_number(c: u32) -> bool
+    ensures { result ≡ begins_number c }
 {
-    0x31 <= c && c <= 0x39
+    is_between('1', '9', c)
 }
 
 /// Reads a reference by number, which begins with `c`, or where there are not so many groups the escape of a character.
 fn read_numbered(cursor: &mut Cursor, scope: &Scope, c: u32) -> Result<Atom, ParseFault>
     requires front { source cursor.now ≡ c ∷ drop 1 (source cursor.now) }
-    requires digit { is_between 49 57 c ≡ true }
+    requires digit { begins_number c ≡ true }
     ensures { ReadsAs (IsAtom (context_of scope.now)) (source cursor.new) result
         (numbered_at (context_of scope.now) c (drop 1 (source cursor.old))) }
 {
@@ -188,11 +187,11 @@ fn read_numbered(cursor: &mut Cursor, scope: &Scope, c: u32) -> Result<Atom, Par
 }
 
 /// Reads the number of a group by the whole run of digits, where there are so many groups.
-fn read_group_number<'a>(text: &'a [u32], groups: u16) -> Read<'a, u32>
-    requires { begins_with_digit text.now ≡ true }
-    ensures { option_map (λ found. (found.0, found.1.now)) result ≡ group_number_at groups text.now }
+fn read_group_number<'a>(source: &'a [u32], groups: u16) -> Read<'a, u32>
+    requires { begins_with_digit source.now ≡ true }
+    ensures { option_map (λ found. (found.0, found.1.now)) result ≡ group_number_at groups source.now }
 {
-    let (number, rest) = read_count(text)?;
+    let (number, rest) = read_count(source)?;
     if number > usize::from(groups) {
         return None;
     }
@@ -239,10 +238,10 @@ fn is_lone_backslash(c: u32, rest: &[u32], unicode: bool) -> bool
 }
 
 /// Whether a letter comes next.
-fn begins_with_letter(text: &[u32]) -> bool
-    ensures { result ≡ begins_with_letter text.now }
+fn begins_with_letter(source: &[u32]) -> bool
+    ensures { result ≡ begins_with_letter source.now }
 {
-    match text {
+    match source {
         [c, ..] => is_letter(*c),
         [] => false,
     }

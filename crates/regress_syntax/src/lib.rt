@@ -15,7 +15,7 @@ pub use group::Group;
 pub use groups::Groups;
 pub use head::{Head, read_head, read_times};
 pub use names::Name;
-pub use regress_classes::{Value, class_set};
+pub use regress_classes::{Value, class_escape_set};
 pub use regress_lexical::{Change, Cursor, Error, ParseFault, fault};
 pub use scan::scan as scan_groups;
 pub use scope::Scope;

@@ -42,10 +42,10 @@ fn further_character(c: u32, tables: &Tables) -> Option<char>
 }
 
 /// One character, as it is or by a form of `\u` that gives a value.
-fn read_written<'a>(text: &'a [u32]) -> Read<'a, u32>
-    ensures { option_map (λ found. (found.0, found.1.now)) result ≡ written_at text.now }
+fn read_written<'a>(source: &'a [u32]) -> Read<'a, u32>
+    ensures { option_map (λ found. (found.0, found.1.now)) result ≡ written_at source.now }
 {
-    let (c, rest) = text.split_first()?;
+    let (c, rest) = source.split_first()?;
     if *c == u32::from('\\') {
         read_unicode(after(rest, 'u')?)
     } else {
@@ -54,31 +54,31 @@ fn read_written<'a>(text: &'a [u32]) -> Read<'a, u32>
 }
 
 /// Reads a character that may begin a name.
-fn read_first<'a>(text: &'a [u32], tables: &Tables) -> Read<'a, char>
-    ensures { option_map (λ found. (found.0, found.1.now)) result ≡ name_character_at (begins_name (table_of tables.now)) text.now }
+fn read_first<'a>(source: &'a [u32], tables: &Tables) -> Read<'a, char>
+    ensures { option_map (λ found. (found.0, found.1.now)) result ≡ name_character_at (begins_name (table_of tables.now)) source.now }
 {
-    let (c, rest) = read_written(text)?;
+    let (c, rest) = read_written(source)?;
     Some((first_character(c, tables)?, rest))
 }
 
 /// Reads a character that may go on in a name.
-fn read_further<'a>(text: &'a [u32], tables: &Tables) -> Read<'a, char>
-    ensures { option_map (λ found. (found.0, found.1.now)) result ≡ name_character_at (continues_name (table_of tables.now)) text.now }
+fn read_further<'a>(source: &'a [u32], tables: &Tables) -> Read<'a, char>
+    ensures { option_map (λ found. (found.0, found.1.now)) result ≡ name_character_at (continues_name (table_of tables.now)) source.now }
 {
-    let (c, rest) = read_written(text)?;
+    let (c, rest) = read_written(source)?;
     Some((further_character(c, tables)?, rest))
 }
 
 /// Reads on behind the characters of a name, up to a `>` that stands as it is.
 fn read_rest<'a>(
-    text: &'a [u32],
+    source: &'a [u32],
     tables: &Tables,
     mut name: Name,
 ) -> Result<Read<'a, Name>, AllocError>
     ensures { IfOk result (λ found. option_map (λ whole. (whole.0.items, whole.1.now)) found
-        ≡ found_map (λ cs. name.items ++ cs) (rest_of_name_by (length text.now + 1) (table_of tables.now) text.now)) }
+        ≡ found_map (λ cs. name.items ++ cs) (rest_of_name_by (length source.now + 1) (table_of tables.now) source.now)) }
 {
-    let mut left = text;
+    let mut left = source;
     loop {
         if let Some(rest) = after(left, '>') {
             return Ok(Some((name, rest)));
@@ -95,15 +95,15 @@ fn read_rest<'a>(
 #[tactic(auto, unfolding(crate::specs::Names::name_at))]
 pub(crate) fn read_group_name<'a>(
     alloc: Global,
-    text: &'a [u32],
+    source: &'a [u32],
     tables: &Tables,
 ) -> Result<Read<'a, Name>, AllocError>
-    ensures { IfOk result (λ found. option_map (λ name. (name.0.items, name.1.now)) found ≡ group_name_at (table_of tables.now) text.now) }
+    ensures { IfOk result (λ found. option_map (λ name. (name.0.items, name.1.now)) found ≡ group_name_at (table_of tables.now) source.now) }
 {
-    let Some(text) = after(text, '<') else {
+    let Some(source) = after(source, '<') else {
         return Ok(None);
     };
-    let Some((c, rest)) = read_first(text, tables) else {
+    let Some((c, rest)) = read_first(source, tables) else {
         return Ok(None);
     };
     read_rest(rest, tables, vec![in alloc; c]?)

@@ -7,7 +7,7 @@ use Rattle.std.specs.Str.{bytes_eq}
 use Rattle.regress_base.specs.Intervals.{Bounds, code_point_max}
 use Rattle.regress_base.specs.Limits.{max_nesting_depth}
 use Rattle.regress_unicode.specs.Table.{Table, Named, named, is_string, IsLawful}
-use Rattle.regress_lexical.specs.Source.{Source, Found, ◌>>=◌, found_map, IsCodePoint, is_at}
+use Rattle.regress_lexical.specs.Source.{Source, Found, ◌>>=◌, found_map, IsCodePoint, is_one_of, is_at}
 use Rattle.regress_lexical.specs.Digits.{front, behind}
 use Rattle.regress_classes.specs.Properties.{Property, of_points, of_strings, is_property_character, list_named, strings_named, lone_value, value_in, closed_property, property_at}
 use Rattle.regress_classes.specs.ClassRows.{class_letter, class_members, one_point, complement_if}
@@ -181,13 +181,13 @@ module _ (P : Value → Type 0) (kept : IsKept P) where
         elim (class_letter c) as (λ named. Finds (Holds P) (elim named as (λ _. Found Operand) [
           | Some name ↦ Some (class (only (class_members name)), t)
           | None ↦ cond (c == 113) (quoted_at unicode t)
-              (cond (c == 112 || c == 80) (property_at true table t >>= property_operand in_negated (c == 80))
+              (cond (is_one_of "pP" c) (property_at true table t >>= property_operand in_negated (c == 80))
               (found_map character (escaped_character_at unicode (c ∷ t))))
         ])) [
           | Some name ↦ finds_some _ (class (only (class_members name)), t) (kept.points (class_members name))
           | None ↦
               finds_cond _ (c == 113) _ _ (λ _. quoted_at-kept unicode t (All-drop IsCodePoint 1 (c ∷ t) all))
-              (λ _. finds_cond _ (c == 112 || c == 80) _ _
+              (λ _. finds_cond _ (is_one_of "pP" c) _ _
               (λ _. finds_then PropertyInRange (Holds P) (property_at true table t) _ (property_at-in_range table lawful true t)
               (property_operand-kept in_negated (c == 80)))
               (λ _. finds_map IsCodePoint (Holds P) character _ (λ d h. h) (escaped_character_at-in_range unicode (c ∷ t) all)))

@@ -5,7 +5,7 @@ use Rattle.std.proofs.lemmas.Bool.{cases_eq, ne_eqb, cond-true, cond-false}
 use Rattle.regress_base.specs.declared.charclasses.CharacterClassType.{CharacterClassType}
 use Rattle.regress_base.specs.Intervals.{Bounds}
 use Rattle.regress_unicode.specs.Table.{Table}
-use Rattle.regress_lexical.specs.Source.{Source, Found, ◌>>=◌, found_map, is_at}
+use Rattle.regress_lexical.specs.Source.{Source, Found, ◌>>=◌, found_map, is_one_of, is_at}
 use Rattle.regress_lexical.specs.Digits.{is_decimal, is_letter, behind}
 use Rattle.regress_lexical.specs.Escapes.{escape_at}
 use Rattle.regress_classes.specs.Properties.{Property, points_of, is_property_character, closed_property, braced_property_at, property_at}
@@ -96,14 +96,14 @@ module _ (table : Table) (unicode : Bool) where
                 cond (c == 98) (Some (point 8, t))
                 (cond (c == 45 && unicode) (Some (point 45, t))
                 (cond (c == 99 && not unicode) (class_control_at t)
-                (cond ((c == 112 || c == 80) && unicode) (class_property_at table (c == 80) t) (found_map point (escape_at unicode (c ∷ t))))))
+                (cond (is_one_of "pP" c && unicode) (class_property_at table (c == 80) t) (found_map point (escape_at unicode (c ∷ t))))))
           ]) (c ∷ t)
       by (Some named) = one-ends _ c t
       by None =
           ends_cond (c == 98) _ _ (c ∷ t) (one-ends (point 8) c t)
           (ends_cond (c == 45 && unicode) _ _ (c ∷ t) (one-ends (point 45) c t)
           (control-ends (not unicode) c t _
-          (ends_cond ((c == 112 || c == 80) && unicode) _ _ (c ∷ t) (ends_more _ c t (class_property_at-ends table (c == 80) t))
+          (ends_cond (is_one_of "pP" c && unicode) _ _ (c ∷ t) (ends_more _ c t (class_property_at-ends table (c == 80) t))
           (ends_map point (escape_at unicode (c ∷ t)) (c ∷ t) (escape_at-ends unicode (c ∷ t))))))
 
   pub class_escape_at-ends : (t : Source) → Ends (class_escape_at table unicode t) t

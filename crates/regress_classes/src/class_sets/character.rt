@@ -91,10 +91,10 @@ fn is_double(c: u32) -> bool
     DOUBLES.contains(&c)
 }
 
-fn begins_double(text: &[u32]) -> bool
-    ensures { result ≡ begins_double text.now }
+fn begins_double(source: &[u32]) -> bool
+    ensures { result ≡ begins_double source.now }
 {
-    match text {
+    match source {
         [c, ..] => is_double(*c),
         [] => false,
     }

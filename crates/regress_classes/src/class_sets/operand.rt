@@ -8,7 +8,7 @@ ghost use Rattle.regress_classes.specs.ClassViews.{strings_of, IsValue, IsOperan
 ghost use Rattle.regress_lexical.specs.Views.{source};
 ghost use Rattle.regress_unicode.specs.TableOf.{table_of};
 
-use super::Inside;
+use super::Surroundings;
 use super::character::read_escaped_character;
 use super::strings::read_quoted;
 use super::value::Value;
@@ -41,9 +41,9 @@ impl Operand {
 }
 
 /// Reads an escape, behind its backslash.
-pub(super) fn read_escaped(cursor: &mut Cursor, inside: &Inside) -> Result<Operand, ParseFault>
+pub(super) fn read_escaped(cursor: &mut Cursor, around: &Surroundings) -> Result<Operand, ParseFault>
     ensures { ReadsAs IsOperand (source cursor.new) result
-        (escaped_operand_at (table_of inside.now.tables.now) inside.now.unicode inside.now.negated (source cursor.old)) }
+        (escaped_operand_at (table_of around.now.tables.now) around.now.unicode around.now.negated (source cursor.old)) }
 {
     let Some((c, rest)) = cursor.rest.split_first() else {
         return Err(syntax(cursor.alloc, INCOMPLETE_SET_ESCAPE));
@@ -54,12 +54,12 @@ pub(super) fn read_escaped(cursor: &mut Cursor, inside: &Inside) -> Result<Opera
         Ok(Operand::Class(class_value(cursor.alloc, kind, negated)?))
     } else if c == u32::from('q') {
         cursor.rest = rest;
-        read_quoted(cursor, inside.unicode)
+        read_quoted(cursor, around.unicode)
     } else if is_property_letter(c) {
         cursor.rest = rest;
-        read_property_operand(cursor, inside, c == u32::from('P'))
+        read_property_operand(cursor, around, c == u32::from('P'))
     } else {
-        let character = read_escaped_character(cursor, inside.unicode)?;
+        let character = read_escaped_character(cursor, around.unicode)?;
         Ok(Operand::Character(character))
     }
 }
@@ -76,19 +76,19 @@ fn class_value(alloc: Global, kind: CharacterClassType, negated: bool) -> Result
 /// Reads a property, behind `\p` or `\P`.
 fn read_property_operand(
     cursor: &mut Cursor,
-    inside: &Inside,
+    around: &Surroundings,
     negated: bool,
 ) -> Result<Operand, ParseFault>
     ensures { ReadsAs IsOperand (source cursor.new) result
-        (property_operand_at (table_of inside.now.tables.now) inside.now.negated negated (source cursor.old)) }
+        (property_operand_at (table_of around.now.tables.now) around.now.negated negated (source cursor.old)) }
 {
-    match read_property(cursor, true, inside.tables)? {
+    match read_property(cursor, true, around.tables)? {
         Property::Points(set) => {
             let value = point_value(cursor.alloc, set, negated)?;
             Ok(Operand::Class(value))
         }
         Property::Strings(strings) => {
-            if inside.negated || negated {
+            if around.negated || negated {
                 return Err(syntax(cursor.alloc, INVALID_ESCAPE));
             }
             let value = string_value(cursor.alloc, strings)?;

@@ -6,7 +6,7 @@ use Rattle.std.proofs.lemmas.List.Elements.{All-drop}
 use Rattle.std.specs.List.{All}
 use Rattle.regress_lexical.specs.Source.{Source, Found, ◌>>=◌, found_map, IsCodePoint, is_at, question_mark}
 use Rattle.regress_lexical.specs.Digits.{is_decimal, is_octal, is_hex, number, behind, hex_at}
-use Rattle.regress_lexical.specs.Escapes.{braced_hex_at, second_half_at, paired, with_second_half, unicode_at, or_itself, octal_digits, letter_escape, begins_with_digit, is_syntax_character, control_at, other_escape, escape_at}
+use Rattle.regress_lexical.specs.Escapes.{braced_hex_at, unit_at, second_half_at, paired, with_second_half, unicode_at, or_itself, octal_digits, letter_escape, begins_with_digit, is_syntax_character, control_at, other_escape, escape_at}
 use Rattle.regress_lexical.specs.Quantifiers.{Times, count_at, closed_brace, most_at, times_by, greedy_or_lazy, quantifier_at}
 
 -- rest is t without so many code points of its front
@@ -81,12 +81,13 @@ braced_hex_at-ends : (t : Source) → Ends (braced_hex_at t) t
 braced_hex_at-ends t =
     ends_cond _ _ _ t (ends_some _ t (behind_behind _ _ _ (behind_front is_hex t) (behind_drop 1 (behind is_hex t)))) (ends_none t)
 
+unit_at-ends : (t : Source) → Ends (unit_at t) t
+unit_at-ends t = ends_cond _ _ _ t (ends_behind _ t (drop 2 t) (behind_drop 2 t) (hex_at-ends 4 (drop 2 t))) (ends_none t)
+
 second_half_at-ends : (t : Source) → Ends (second_half_at t) t
 second_half_at-ends t =
-    ends_cond _ _ _ t
-    (ends_then _ _ t (ends_behind _ t (drop 2 t) (behind_drop 2 t) (hex_at-ends 4 (drop 2 t)))
-    (λ x. ends_cond _ _ _ x.1 (ends_some _ x.1 (behind_same x.1)) (ends_none x.1)))
-    (ends_none t)
+    ends_then (unit_at t) _ t (unit_at-ends t)
+    (λ x. ends_cond _ _ _ x.1 (ends_some _ x.1 (behind_same x.1)) (ends_none x.1))
 
 first_half-ends : (high : ℕ) (t : Source) (second : Found ℕ) → Ends second t →
     Ends (elim second as (λ _. Found ℕ) [ None ↦ Some (high, t) | Some low ↦ Some (paired high low.0, low.1) ]) t

@@ -5,9 +5,9 @@ use Rattle.std.proofs.lemmas.List.Elements.{All-head}
 use Rattle.std.specs.List.{All, list_all}
 use Rattle.std.specs.Option.{IfSome, option_map}
 use Rattle.regress_base.specs.Intervals.{code_point_max}
-use Rattle.regress_lexical.specs.Source.{Source, Found, ◌>>=◌, found_map, IsCodePoint, is_at}
+use Rattle.regress_lexical.specs.Source.{Source, Found, ◌>>=◌, found_map, IsCodePoint, char, is_at}
 use Rattle.regress_lexical.specs.Digits.{is_between, is_letter, is_octal, is_hex, control, number, front, behind, hex_at}
-use Rattle.regress_lexical.specs.Escapes.{braced_hex_at, second_half_at, paired, with_second_half, unicode_at, or_itself, octal_digits, letter_escape, begins_with_digit, is_syntax_character, control_at, other_escape, escape_at}
+use Rattle.regress_lexical.specs.Escapes.{braced_hex_at, unit_at, second_half_at, paired, with_second_half, unicode_at, or_itself, octal_digits, letter_escape, begins_with_digit, is_syntax_character, control_at, other_escape, escape_at}
 use Rattle.regress_lexical.proofs.laws.Digits.{and_both, hex_fits, octal_number_fits}
 
 -- Whatever is found has the property.
@@ -51,12 +51,15 @@ braced_hex_at-in_range t =
     (λ e. finds_some _ (number 16 (front is_hex t), _) (leb-true _ _ (and_both _ _ e).1))
     (λ e. finds_none _)
 
+unit_at-in_range : (t : Source) → Finds (λ x. x < 0x10000) (unit_at t)
+unit_at-in_range t =
+    finds_cond _ (is_at (char "\\") t && is_at (char "u") (drop 1 t)) _ _
+    (λ _. hex_at-in_range 4 (drop 2 t) (omega arith)) (λ _. finds_none _)
+
 second_half_at-in_range : (t : Source) → Finds (λ low. low ≤ 0xDFFF) (second_half_at t)
 second_half_at-in_range t =
-    finds_cond _ (is_at 92 t && is_at 117 (drop 1 t)) _ _
-    (λ _. finds_then _ _ (hex_at 4 (drop 2 t)) _ (hex_at-in_range 4 (drop 2 t) (omega arith))
-    (λ x _. finds_cond _ (is_between 0xDC00 0xDFFF x.0) _ _ (λ e. finds_some _ x (leb-true _ _ (and_both _ _ e).1)) (λ e. finds_none _)))
-    (λ _. finds_none _)
+    finds_then _ _ (unit_at t) _ (unit_at-in_range t)
+    (λ x _. finds_cond _ (is_between 0xDC00 0xDFFF x.0) _ _ (λ e. finds_some _ x (leb-true _ _ (and_both _ _ e).1)) (λ e. finds_none _))
 
 -- the two halves
 paired_in_range : (high low : ℕ) → high ≤ 0xDBFF → low ≤ 0xDFFF → paired high low ≤ code_point_max

@@ -5,7 +5,7 @@ use Rattle.std.proofs.lemmas.Option.{none-some, same_Some, cond_some}
 use Rattle.regress_base.specs.declared.charclasses.CharacterClassType.{CharacterClassType}
 use Rattle.regress_tree.specs.declared.ir.node.Quantifier.{Quantifier}
 use Rattle.regress_unicode.specs.Table.{Table}
-use Rattle.regress_lexical.specs.Source.{Source, Found, opening, closing, full_stop, colon, question_mark, bar, is_at, is_plain, ends_alternative}
+use Rattle.regress_lexical.specs.Source.{Source, Found, opening, closing, full_stop, colon, question_mark, bar, is_one_of, is_at, is_plain, ends_alternative}
 use Rattle.regress_syntax.specs.Syntax.{Atom, literal, boundary, class_escape}
 use Rattle.regress_lexical.specs.Digits.{is_between, is_decimal, number, front}
 use Rattle.regress_lexical.specs.Escapes.{begins_with_letter}
@@ -90,7 +90,7 @@ module _ (ctx : Context) where
                 cond (c == 98) (Some (boundary ctx.setting.flags false, t))
                 (cond (c == 66) (Some (boundary ctx.setting.flags true, t))
                 (cond (is_lone_backslash ctx.setting.flags.unicode c t) (Some (literal ctx.setting.flags 92, 99 ∷ t))
-                (cond ((c == 112 || c == 80) && (ctx.setting.flags.unicode || ctx.setting.flags.unicode_sets)) (property_atom_at ctx (c == 80) t)
+                (cond (is_one_of "pP" c && (ctx.setting.flags.unicode || ctx.setting.flags.unicode_sets)) (property_atom_at ctx (c == 80) t)
                 (cond (is_between 49 57 c) (numbered_at ctx c t)
                 (cond (c == 107 && (ctx.setting.flags.unicode || has_names ctx.names)) (named_at ctx t) (character_at ctx c t))))))
           ]) (c ∷ t)
@@ -99,7 +99,7 @@ module _ (ctx : Context) where
           ends_cond (c == 98) _ _ (c ∷ t) (next-ends _ c t)
           (ends_cond (c == 66) _ _ (c ∷ t) (next-ends _ c t)
           (backslash-ends ctx.setting.flags.unicode c t _ _
-          (ends_cond ((c == 112 || c == 80) && (ctx.setting.flags.unicode || ctx.setting.flags.unicode_sets)) _ _ (c ∷ t)
+          (ends_cond (is_one_of "pP" c && (ctx.setting.flags.unicode || ctx.setting.flags.unicode_sets)) _ _ (c ∷ t)
           (ends_more _ c t (property_atom_at-ends (c == 80) t))
           (ends_cond (is_between 49 57 c) _ _ (c ∷ t) (numbered_at-ends c t)
           (ends_cond (c == 107 && (ctx.setting.flags.unicode || has_names ctx.names)) _ _ (c ∷ t)
@@ -128,7 +128,7 @@ module _ (ctx : Context) where
       (ends_cond (c == 36) _ _ t (this-ends _ t)
       (ends_cond (c == 92) _ _ t (escaped_at-ends t)
       (ends_cond (c == 91) _ _ t (brackets_at-ends t)
-      (ends_cond (c == 123 || c == 93 || c == 125) _ _ t (brace_by-ends c t)
+      (ends_cond (is_one_of "{]}" c) _ _ t (brace_by-ends c t)
       (ends_cond (is_plain c) _ _ t (this-ends _ t) (ends_none t)))))))
 
   head_by-ends : (c : ℕ) (t : Source) → Ends (head_by ctx c t) t

@@ -3,7 +3,7 @@ use Rattle.std.proofs.Common.{◌≡◌, ℕ, ◌+◌, ◌-◌, ◌≤◌, max, 
 use Rattle.regress_unicode.specs.Table.{Table, IsLawful}
 use Rattle.regress_lexical.specs.Source.{Source, closing, bar}
 use Rattle.regress_syntax.specs.Syntax.{Atom, literal, dot, anchor, boundary, class_escape, class, class_set, string_property, back_reference, levels_of_atom, Group, grouping, modified, capture, look, Pattern, Terms, Item, one, either, no_terms, more_terms, atom, group, names, names_of_group, names_of_terms, names_of_item, levels, levels_of_terms, levels_of_item}
-use Rattle.regress_syntax.specs.Rows.{Context, inside, single, opens, head_of_item, allows}
+use Rattle.regress_syntax.specs.Rows.{Context, context_inside, single, opens, head_of_item, allows}
 use Rattle.regress_syntax.specs.Grammar.{IsPattern, AreTerms, IsItem}
 use Rattle.regress_syntax.specs.Scan.{Mark, captures, closes, next, nests, mark_of_group, marks_of_atom, marks_of, marks_of_terms, marks_of_item, plain, marks, GivesMarks, named_by, deepest}
 use Rattle.regress_syntax.specs.Scan as Scan
@@ -32,7 +32,7 @@ abbrev marks_from : Bool × Table → Source → List Mark
 marks_from (sets, table) t = marks sets table plain t
 
 -- a group changes other flags alone
-same_told : (kind : Group) (ctx : Context) → told (inside kind ctx) ≡ told ctx
+same_told : (kind : Group) (ctx : Context) → told (context_inside kind ctx) ≡ told ctx
 same_told grouping ctx = refl
 same_told (modified change) ctx = refl
 same_told (capture name) ctx = refl
@@ -68,7 +68,7 @@ module _ (by : Bool × Table) (lawful : IsLawful by.1) where
         subst (λ u. marks_from u t ≡ mark_of_group kind ∷ marks_from u mid) same
         ((gives_head_at ctx (lawful_at ctx same) t).each (opens kind, mid) head)
         ∙ ap (λ ms. mark_of_group kind ∷ ms)
-        (joined (marks_of p) (closes ∷ []) _ (marks_of_pattern (inside kind ctx) p mid (closing ∷ rest) (same_told kind ctx ∙ same) body)
+        (joined (marks_of p) (closes ∷ []) _ (marks_of_pattern (context_inside kind ctx) p mid (closing ∷ rest) (same_told kind ctx ∙ same) body)
         (marks_behind_closing by.0 by.1 rest))
 
 nothing_behind : (sets : Bool) (table : Table) → marks sets table plain [] ≡ []

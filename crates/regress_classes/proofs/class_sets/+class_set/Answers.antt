@@ -3,7 +3,7 @@ use Rattle.std.proofs.Common.{◌≡◌, Bool, false, not, ◌&&◌, ◌==◌, �
 use Rattle.std.proofs.lemmas.Bool.{cond-true, cond-false}
 use Rattle.std.proofs.lemmas.Result.{err_from_is_err_and}
 use Rattle.regress_unicode.specs.TableOf.{table_of}
-use Rattle.regress_classes.specs.declared.class_sets.Inside.{Inside}
+use Rattle.regress_classes.specs.declared.class_sets.Surroundings.{Surroundings}
 use Rattle.regress_classes.specs.ClassRows.{one_point}
 use Rattle.regress_classes.specs.ClassSets.{Value, only, joined, nested, unless_of_strings, set_character_at, character, class, value_of, are_at}
 use Rattle.regress_lexical.specs.Reads.{ReadsAs}
@@ -21,34 +21,34 @@ use Rattle.regress_classes.proofs.ClassSetLemmas.{same_count}
 use Rattle.regress_classes.proofs.class_sets.+class_set.Goals as goal
 use Rattle.regress_classes.proofs.class_sets.+class_set.Goals.{read_class_set-else-negated-via-then-negated+else-not-is_empty, read_class_set-else-negated-via-else-negated}
 
-ends : (inside : Inside) (t : Source) → Ends (inner_of inside t) t
-ends inside = class_set_by-ends (table_of inside.tables.now) inside.unicode inside.levels
+ends : (around : Surroundings) (t : Source) → Ends (inner_of around t) t
+ends around = class_set_by-ends (table_of around.tables.now) around.unicode around.levels
 
 -- ---- operands
 
 pub read_operand-returns-then-is_empty : goal.read_operand-returns-then-is_empty
 read_operand-returns-then-is_empty t c =
-    let inside = c.args.inside.now in
+    let around = c.args.around.now in
     on_syntax c.syntax.result
-    (no_operand (table_of inside.tables.now) inside.unicode (inner_of inside) (ends inside) inside.negated (source c.args.cursor.now)
+    (no_operand (table_of around.tables.now) around.unicode (inner_of around) (ends around) around.negated (source c.args.cursor.now)
     (length-none (source c.args.cursor.now) (sym c.if-is_empty.ensures)))
 
 pub read_operand-returns-in_err-class : goal.read_operand-returns-in_err-class
 read_operand-returns-in_err-class t c =
     let p = err_from_is_err_and c.from_residual.result c.from_residual.ensures.1 in
-    let inside = c.args.inside.now in
+    let around = c.args.around.now in
     rw (p.1, p.2) (on_syntax_then c.in_err-class.field-0.0
-    (nested_read (table_of inside.tables.now) inside.unicode (inner_of inside) inside.negated (source c.args.cursor.now)
+    (nested_read (table_of around.tables.now) around.unicode (inner_of around) around.negated (source c.args.cursor.now)
     (source c.try_consume.new.self) None (sym c.try_consume.ensures.found ∙ c.if-try_consume.true)
     (c.try_consume.ensures.moves ∙ cond-true _ _ _ c.if-try_consume.true))
     c.in_err-class.ensures.value)
 
 pub read_operand-returns-then-try_consume : goal.read_operand-returns-then-try_consume
 read_operand-returns-then-try_consume t c =
-    let inside = c.args.inside.now in
+    let around = c.args.around.now in
     let found = c.in_ok-class.ensures.value in (
       class (nested found.0),
-      nested_read (table_of inside.tables.now) inside.unicode (inner_of inside) inside.negated (source c.args.cursor.now)
+      nested_read (table_of around.tables.now) around.unicode (inner_of around) around.negated (source c.args.cursor.now)
           (source c.try_consume.new.self) (Some (found.0, source c.read_class_set.new.cursor))
           (sym c.try_consume.ensures.found ∙ c.if-try_consume.true)
           (c.try_consume.ensures.moves ∙ cond-true _ _ _ c.if-try_consume.true) found.1,
@@ -57,10 +57,10 @@ read_operand-returns-then-try_consume t c =
 
 pub read_operand-returns-then-try_consume-2 : goal.read_operand-returns-then-try_consume-2
 read_operand-returns-then-try_consume-2 t c =
-    let inside = c.args.inside.now in
+    let around = c.args.around.now in
     let same : source c.try_consume.new.self ≡ source c.args.cursor.now = c.try_consume.ensures.moves ∙ cond-false _ _ _ c.if-try_consume.false in
     subst (ReadsAs IsOperand (source c.read_escaped.new.cursor) c.read_escaped.result)
-    (sym (escape_read (table_of inside.tables.now) inside.unicode (inner_of inside) inside.negated (source c.args.cursor.now)
+    (sym (escape_read (table_of around.tables.now) around.unicode (inner_of around) around.negated (source c.args.cursor.now)
     (source c.try_consume-2.new.self) (sym c.try_consume.ensures.found ∙ c.if-try_consume.false)
     (ap (is_at 92) (sym same) ∙ sym c.try_consume-2.ensures.found ∙ c.if-try_consume-2.true)
     (c.try_consume-2.ensures.moves ∙ cond-true _ _ _ c.if-try_consume-2.true ∙ ap (λ (u : Source). drop 1 u) same)))
@@ -69,30 +69,30 @@ read_operand-returns-then-try_consume-2 t c =
 pub read_operand-returns-in_err-character : goal.read_operand-returns-in_err-character
 read_operand-returns-in_err-character t c =
     let p = err_from_is_err_and c.from_residual-in_err-character.result c.from_residual-in_err-character.ensures.1 in
-    let inside = c.args.inside.now in
+    let around = c.args.around.now in
     let same : source c.try_consume.new.self ≡ source c.args.cursor.now = c.try_consume.ensures.moves ∙ cond-false _ _ _ c.if-try_consume.false in
     let still : source c.try_consume-2.new.self ≡ source c.args.cursor.now =
     c.try_consume-2.ensures.moves ∙ cond-false _ _ _ c.if-try_consume-2.false ∙ same in
     rw (p.1, p.2) (on_syntax_then c.in_err-character.field-0.0
-    (λ (none : set_character_at inside.unicode (source c.try_consume-2.new.self) ≡ None).
-    character_read (table_of inside.tables.now) inside.unicode (inner_of inside) inside.negated (source c.args.cursor.now) None
+    (λ (none : set_character_at around.unicode (source c.try_consume-2.new.self) ≡ None).
+    character_read (table_of around.tables.now) around.unicode (inner_of around) around.negated (source c.args.cursor.now) None
     (sym c.try_consume.ensures.found ∙ c.if-try_consume.false)
     (ap (is_at 92) (sym same) ∙ sym c.try_consume-2.ensures.found ∙ c.if-try_consume-2.false)
-    (ap (set_character_at inside.unicode) (sym still) ∙ none))
+    (ap (set_character_at around.unicode) (sym still) ∙ none))
     c.in_err-character.ensures.value)
 
 pub read_operand-returns : goal.read_operand-returns
 read_operand-returns t c =
-    let inside = c.args.inside.now in
+    let around = c.args.around.now in
     let read = c.in_ok-character.character in
     let same : source c.try_consume.new.self ≡ source c.args.cursor.now = c.try_consume.ensures.moves ∙ cond-false _ _ _ c.if-try_consume.false in
     let still : source c.try_consume-2.new.self ≡ source c.args.cursor.now =
     c.try_consume-2.ensures.moves ∙ cond-false _ _ _ c.if-try_consume-2.false ∙ same in (
       character read,
-      character_read (table_of inside.tables.now) inside.unicode (inner_of inside) inside.negated (source c.args.cursor.now)
+      character_read (table_of around.tables.now) around.unicode (inner_of around) around.negated (source c.args.cursor.now)
           (Some (read, source c.read_set_character.new.cursor)) (sym c.try_consume.ensures.found ∙ c.if-try_consume.false)
           (ap (is_at 92) (sym same) ∙ sym c.try_consume-2.ensures.found ∙ c.if-try_consume-2.false)
-          (ap (set_character_at inside.unicode) (sym still) ∙ c.in_ok-character.ensures.value),
+          (ap (set_character_at around.unicode) (sym still) ∙ c.in_ok-character.ensures.value),
       (refl, c.in_ok-character.ensures.in_range),
     )
 
@@ -100,21 +100,21 @@ read_operand-returns t c =
 
 pub read_contents-returns-then-is_empty : goal.read_contents-returns-then-is_empty
 read_contents-returns-then-is_empty t c =
-    let inside = c.args.inside.now in
+    let around = c.args.around.now in
     let same : source c.try_consume.new.self ≡ source c.args.cursor.now = c.try_consume.ensures.moves ∙ cond-false _ _ _ c.if-try_consume.false in
     on_syntax c.syntax.result
-    (no_contents (table_of inside.tables.now) inside.unicode (inner_of inside) (ends inside) inside.negated (source c.args.cursor.now)
+    (no_contents (table_of around.tables.now) around.unicode (inner_of around) (ends around) around.negated (source c.args.cursor.now)
     (sym same ∙ length-none (source c.try_consume.new.self) (sym c.if-is_empty.ensures)))
 
 pub read_behind-returns-in_ok-join : goal.read_behind-returns-in_ok-join
 read_behind-returns-in_ok-join t c = λ operand is.
-    let inside = c.args.inside.now in
+    let around = c.args.around.now in
     let here = source c.args.cursor.now in
     let same : source c.try_consume_both.new.cursor ≡ here = c.try_consume_both.ensures.moves ∙ cond-false _ _ _ c.if-try_consume_both.false in
     let still : source c.try_consume_both-else-try_consume_both.new.cursor ≡ here =
     c.try_consume_both-else-try_consume_both.ensures.moves ∙ cond-false _ _ _ c.if-try_consume_both-2.false ∙ same in
     subst (ReadsAs IsValue (source c.read_parts.new.cursor) c.read_parts.result)
-    (sym (ampersand_read (table_of inside.tables.now) inside.unicode (inner_of inside) (ends inside) inside.negated operand here
+    (sym (ampersand_read (table_of around.tables.now) around.unicode (inner_of around) (ends around) around.negated operand here
     (source c.try_consume.new.self)
     (sym c.try_consume_both.ensures.found ∙ c.if-try_consume_both.false)
     (ap (are_at 45) (sym same) ∙ sym c.try_consume_both-else-try_consume_both.ensures.found ∙ c.if-try_consume_both-2.false)
@@ -128,73 +128,73 @@ read_behind-returns-in_ok-join t c = λ operand is.
 
 pub read_parts-returns-then-is_empty : goal.read_parts-returns-then-is_empty
 read_parts-returns-then-is_empty t c = λ held is.
-    let inside = c.args.inside.now in
+    let around = c.args.around.now in
     let l = c.loop-value in
     let so_far = l.invariant held is in
     on_syntax c.syntax.result
     (so_far.whole
-    ∙ no_first (table_of inside.tables.now) inside.unicode (inner_of inside) (ends inside) inside.negated so_far.value (source l.cursor)
+    ∙ no_first (table_of around.tables.now) around.unicode (inner_of around) (ends around) around.negated so_far.value (source l.cursor)
     (sym c.is_at.ensures ∙ c.loop-value-test.true)
-    (no_operand (table_of inside.tables.now) inside.unicode (inner_of inside) (ends inside) inside.negated (source l.cursor)
+    (no_operand (table_of around.tables.now) around.unicode (inner_of around) (ends around) around.negated (source l.cursor)
     (length-none (source l.cursor) (sym c.if-is_empty.ensures))))
 
 pub read_parts-returns-in_err-first : goal.read_parts-returns-in_err-first
 read_parts-returns-in_err-first t c = λ held is.
     let p = err_from_is_err_and c.from_residual.result c.from_residual.ensures.1 in
-    let inside = c.args.inside.now in
+    let around = c.args.around.now in
     let l = c.loop-value in
     let so_far = l.invariant held is in
     rw (p.1, p.2) (on_syntax_then c.in_err-first.field-0.0
     (λ none. so_far.whole
-    ∙ no_first (table_of inside.tables.now) inside.unicode (inner_of inside) (ends inside) inside.negated so_far.value (source l.cursor)
+    ∙ no_first (table_of around.tables.now) around.unicode (inner_of around) (ends around) around.negated so_far.value (source l.cursor)
     (sym c.is_at.ensures ∙ c.loop-value-test.true) none)
     c.in_err-first.ensures)
 
 pub read_parts-returns-in_err-part : goal.read_parts-returns-in_err-part
 read_parts-returns-in_err-part t c = λ held is.
     let p = err_from_is_err_and c.from_residual-in_err-part.result c.from_residual-in_err-part.ensures.1 in
-    let inside = c.args.inside.now in
+    let around = c.args.around.now in
     let l = c.loop-value in
     let so_far = l.invariant held is in
     let first = c.in_ok-first.ensures in
     rw (p.1, p.2) (on_syntax_then c.in_err-part.field-0.0
     (λ none. so_far.whole
-    ∙ no_part (table_of inside.tables.now) inside.unicode (inner_of inside) (ends inside) inside.negated so_far.value (source l.cursor)
+    ∙ no_part (table_of around.tables.now) around.unicode (inner_of around) (ends around) around.negated so_far.value (source l.cursor)
     (first.0, source c.read_operand.new.cursor) (sym c.is_at.ensures ∙ c.loop-value-test.true) first.1 none)
     (c.in_err-part.ensures first.0 first.2))
 
 pub read_parts-loop-value-smaller : goal.read_parts-loop-value-smaller
 read_parts-loop-value-smaller t c =
-    let inside = c.args.inside.now in
+    let around = c.args.around.now in
     let l = c.loop-value in
     let first = c.in_ok-first.ensures in
     let part = c.in_ok-part.ensures first.0 first.2 in
-    parts_end (table_of inside.tables.now) inside.unicode (inner_of inside) (ends inside) inside.negated (source l.cursor)
+    parts_end (table_of around.tables.now) around.unicode (inner_of around) (ends around) around.negated (source l.cursor)
     (first.0, source c.read_operand.new.cursor) (part.0, source c.read_part_behind.new.cursor) first.1 part.1
 
 pub read_parts-loop-value-preserved : goal.read_parts-loop-value-preserved
 read_parts-loop-value-preserved t c = λ held is.
-    let inside = c.args.inside.now in
+    let around = c.args.around.now in
     let l = c.loop-value in
     let so_far = l.invariant held is in
     let first = c.in_ok-first.ensures in
     let part = c.in_ok-part.ensures first.0 first.2 in
     read_on _ held (joined so_far.value part.0) (source c.args.cursor.now) (source l.cursor) (source c.read_part_behind.new.cursor) l.value
     c.join.new.self so_far
-    (one_part (table_of inside.tables.now) inside.unicode (inner_of inside) (ends inside) inside.negated so_far.value (source l.cursor)
+    (one_part (table_of around.tables.now) around.unicode (inner_of around) (ends around) around.negated so_far.value (source l.cursor)
     (first.0, source c.read_operand.new.cursor) (part.0, source c.read_part_behind.new.cursor) (sym c.is_at.ensures ∙ c.loop-value-test.true)
     first.1 part.1)
     (c.in_ok-join.ensures so_far.value part.0 so_far.is part.2)
 
 pub read_parts-returns : goal.read_parts-returns
 read_parts-returns t c = λ held is.
-    let inside = c.args.inside.now in
+    let around = c.args.around.now in
     let l = c.loop-value in
     let so_far = l.invariant held is in
     let closes = sym c.is_at.ensures ∙ c.loop-value-test.false in (
       so_far.value,
       so_far.whole
-          ∙ parts_closed (table_of inside.tables.now) inside.unicode (inner_of inside) (ends inside) inside.negated so_far.value (source l.cursor)
+          ∙ parts_closed (table_of around.tables.now) around.unicode (inner_of around) (ends around) around.negated so_far.value (source l.cursor)
           closes
           ∙ ap (λ (u : Source). Some (so_far.value, u))
           (sym (c.try_consume.ensures.moves ∙ cond-true _ _ _ (c.try_consume.ensures.found ∙ closes))),
@@ -206,24 +206,24 @@ read_parts-returns t c = λ held is.
 pub read_operands-returns-in_err-operand : goal.read_operands-returns-in_err-operand
 read_operands-returns-in_err-operand t c = λ held is.
     let p = err_from_is_err_and c.from_residual.result c.from_residual.ensures.1 in
-    let inside = c.args.inside.now in
+    let around = c.args.around.now in
     let l = c.loop-value in
     let so_far = l.invariant held is in
     rw (p.1, p.2) (on_syntax_then c.in_err-operand.field-0.0
     (λ none. so_far.whole
-    ∙ no_last (table_of inside.tables.now) inside.unicode (inner_of inside) (ends inside) inside.negated (sign_of c.args.operator)
+    ∙ no_last (table_of around.tables.now) around.unicode (inner_of around) (ends around) around.negated (sign_of c.args.operator)
     (applied c.args.operator) so_far.value (source l.cursor) none)
     c.in_err-operand.ensures)
 
 pub read_operands-returns-then-try_consume : goal.read_operands-returns-then-try_consume
 read_operands-returns-then-try_consume t c = λ held is.
-    let inside = c.args.inside.now in
+    let around = c.args.around.now in
     let l = c.loop-value in
     let so_far = l.invariant held is in
     let operand = c.in_ok-operand.ensures in (
       applied c.args.operator so_far.value (value_of operand.0),
       so_far.whole
-          ∙ last_read (table_of inside.tables.now) inside.unicode (inner_of inside) (ends inside) inside.negated (sign_of c.args.operator)
+          ∙ last_read (table_of around.tables.now) around.unicode (inner_of around) (ends around) around.negated (sign_of c.args.operator)
           (applied c.args.operator) so_far.value (source l.cursor) (operand.0, source c.read_operand.new.cursor) (source c.try_consume.new.self)
           operand.1 (sym c.try_consume.ensures.found ∙ c.if-try_consume.true)
           (c.try_consume.ensures.moves ∙ cond-true _ _ _ c.if-try_consume.true),
@@ -233,27 +233,27 @@ read_operands-returns-then-try_consume t c = λ held is.
 pub read_operands-returns-in_err-consume_operator : goal.read_operands-returns-in_err-consume_operator
 read_operands-returns-in_err-consume_operator t c = λ held is.
     let p = err_from_is_err_and c.from_residual-in_err-consume_operator.result c.from_residual-in_err-consume_operator.ensures.1 in
-    let inside = c.args.inside.now in
+    let around = c.args.around.now in
     let l = c.loop-value in
     let so_far = l.invariant held is in
     let operand = c.in_ok-operand.ensures in
     let same : source c.try_consume.new.self ≡ source c.read_operand.new.cursor = c.try_consume.ensures.moves ∙ cond-false _ _ _ c.if-try_consume.false in
     rw (p.1, p.2) (on_syntax_then c.in_err-consume_operator.field-0.0
     (λ none. so_far.whole
-    ∙ none_read (table_of inside.tables.now) inside.unicode (inner_of inside) (ends inside) inside.negated (sign_of c.args.operator)
+    ∙ none_read (table_of around.tables.now) around.unicode (inner_of around) (ends around) around.negated (sign_of c.args.operator)
     (applied c.args.operator) so_far.value (source l.cursor) (operand.0, source c.read_operand.new.cursor) operand.1
     (sym c.try_consume.ensures.found ∙ c.if-try_consume.false) (ap (are_at (sign_of c.args.operator)) (sym same) ∙ none))
     c.in_err-consume_operator.ensures.err)
 
 pub read_operands-loop-value-smaller : goal.read_operands-loop-value-smaller
 read_operands-loop-value-smaller t c =
-    let inside = c.args.inside.now in
+    let around = c.args.around.now in
     let l = c.loop-value in
     let operand = c.in_ok-operand.ensures in
     let same : source c.try_consume.new.self ≡ source c.read_operand.new.cursor = c.try_consume.ensures.moves ∙ cond-false _ _ _ c.if-try_consume.false in
     omega (
       arith,
-      operand_shortens (table_of inside.tables.now) inside.unicode (inner_of inside) (ends inside) inside.negated (source l.cursor)
+      operand_shortens (table_of around.tables.now) around.unicode (inner_of around) (ends around) around.negated (source l.cursor)
           (operand.0, source c.read_operand.new.cursor) operand.1,
       ap length same,
       ap length c.in_ok-consume_operator.ensures.ok.1,
@@ -262,14 +262,14 @@ read_operands-loop-value-smaller t c =
 
 pub read_operands-loop-value-preserved : goal.read_operands-loop-value-preserved
 read_operands-loop-value-preserved t c = λ held is.
-    let inside = c.args.inside.now in
+    let around = c.args.around.now in
     let l = c.loop-value in
     let so_far = l.invariant held is in
     let operand = c.in_ok-operand.ensures in
     let same : source c.try_consume.new.self ≡ source c.read_operand.new.cursor = c.try_consume.ensures.moves ∙ cond-false _ _ _ c.if-try_consume.false in
     read_on _ held (applied c.args.operator so_far.value (value_of operand.0)) (source c.args.cursor.now) (source l.cursor)
     (source c.consume_operator.new.cursor) l.value c.apply.new.self so_far
-    (more_read (table_of inside.tables.now) inside.unicode (inner_of inside) (ends inside) inside.negated (sign_of c.args.operator)
+    (more_read (table_of around.tables.now) around.unicode (inner_of around) (ends around) around.negated (sign_of c.args.operator)
     (applied c.args.operator) so_far.value (source l.cursor) (operand.0, source c.read_operand.new.cursor) (source c.consume_operator.new.cursor)
     operand.1 (sym c.try_consume.ensures.found ∙ c.if-try_consume.false)
     (ap (are_at (sign_of c.args.operator)) (sym same) ∙ c.in_ok-consume_operator.ensures.ok.0)

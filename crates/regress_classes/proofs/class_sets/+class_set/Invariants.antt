@@ -11,27 +11,27 @@ abbrev pub decreases-read_class_set : goal.decreases-read_class_set
 decreases-read_class_set l = 8 * l.levels
 
 abbrev pub decreases-read_operand : goal.decreases-read_operand
-decreases-read_operand l = 8 * l.inside.now.levels + 1
+decreases-read_operand l = 8 * l.around.now.levels + 1
 
 abbrev pub decreases-read_part_behind : goal.decreases-read_part_behind
-decreases-read_part_behind l = 8 * l.inside.now.levels + 2
+decreases-read_part_behind l = 8 * l.around.now.levels + 2
 
 abbrev pub decreases-read_parts : goal.decreases-read_parts
-decreases-read_parts l = 8 * l.inside.now.levels + 3
+decreases-read_parts l = 8 * l.around.now.levels + 3
 
 abbrev pub decreases-read_operands : goal.decreases-read_operands
-decreases-read_operands l = 8 * l.inside.now.levels + 3
+decreases-read_operands l = 8 * l.around.now.levels + 3
 
 abbrev pub decreases-read_behind : goal.decreases-read_behind
-decreases-read_behind l = 8 * l.inside.now.levels + 4
+decreases-read_behind l = 8 * l.around.now.levels + 4
 
 abbrev pub decreases-read_contents : goal.decreases-read_contents
-decreases-read_contents l = 8 * l.inside.now.levels + 5
+decreases-read_contents l = 8 * l.around.now.levels + 5
 
 abbrev pub invariant-read_parts-loop-value : goal.invariant-read_parts-loop-value
 invariant-read_parts-loop-value l =
     (held : Value) → IsValue l.fn.value held →
-    ReadFrom (parts_at (table_of l.inside.tables.now) l.inside.unicode (inner_of l.inside) l.inside.negated) held (source l.fn.cursor)
+    ReadFrom (parts_at (table_of l.around.tables.now) l.around.unicode (inner_of l.around) l.around.negated) held (source l.fn.cursor)
     (source l.cursor) l.value
 
 abbrev pub decreases-read_parts-loop-value : goal.decreases-read_parts-loop-value
@@ -41,7 +41,7 @@ abbrev pub invariant-read_operands-loop-value : goal.invariant-read_operands-loo
 invariant-read_operands-loop-value l =
     (held : Value) → IsValue l.fn.value held →
     ReadFrom
-    (operands_at (table_of l.inside.tables.now) l.inside.unicode (inner_of l.inside) l.inside.negated (sign_of l.operator) (applied l.operator))
+    (operands_at (table_of l.around.tables.now) l.around.unicode (inner_of l.around) l.around.negated (sign_of l.operator) (applied l.operator))
     held (source l.fn.cursor) (source l.cursor) l.value
 
 abbrev pub decreases-read_operands-loop-value : goal.decreases-read_operands-loop-value

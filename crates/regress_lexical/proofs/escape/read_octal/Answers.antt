@@ -4,21 +4,21 @@ use Rattle.regress_lexical.specs.Digits.{number, number_from}
 use Rattle.regress_lexical.proofs.laws.Digits.{octal_digits_counted, octal_number_fits, number_behind}
 use Rattle.regress_lexical.proofs.escape.read_octal.Goals as goal
 
-digits_are : (c : goal.After-number_from) → octal_digits c.args.c c.args.text.now ≡ c.args.c ∷ c.split_at.result.0.now
+digits_are : (c : goal.After-number_from) → octal_digits c.args.c c.args.source.now ≡ c.args.c ∷ c.split_at.result.0.now
 digits_are c =
-    let counted = octal_digits_counted c.args.c c.octal_room.result c.octal_length.result c.args.text.now c.requires c.octal_room.ensures
+    let counted = octal_digits_counted c.args.c c.octal_room.result c.octal_length.result c.args.source.now c.requires c.octal_room.ensures
     (rw (← c.min.ensures) c.octal_length.ensures.value) in
     rw c.split_at.ensures.front counted
 
-number_is : (c : goal.After-number_from) → c.number_from.result ≡ number 8 (octal_digits c.args.c c.args.text.now)
+number_is : (c : goal.After-number_from) → c.number_from.result ≡ number 8 (octal_digits c.args.c c.args.source.now)
 number_is c =
-    let fits = octal_number_fits c.args.c c.args.text.now in
-    let same : number 8 (octal_digits c.args.c c.args.text.now) ≡ number_from 8 c.digit.result c.split_at.result.0.now =
+    let fits = octal_number_fits c.args.c c.args.source.now in
+    let same : number 8 (octal_digits c.args.c c.args.source.now) ≡ number_from 8 c.digit.result c.split_at.result.0.now =
     rw (digits_are c) (number_behind 8 c.args.c c.digit.result c.split_at.result.0.now c.digit.ensures) in
     omega (arith, fits, same, c.number_from.ensures)
 
 pub overflow_cast-result : goal.overflow_cast-result
-overflow_cast-result c = let fits = octal_number_fits c.args.c c.args.text.now in omega (arith, fits, number_is c)
+overflow_cast-result c = let fits = octal_number_fits c.args.c c.args.source.now in omega (arith, fits, number_is c)
 
 pub returns-clause-value : goal.returns-clause-value
 returns-clause-value c = number_is c

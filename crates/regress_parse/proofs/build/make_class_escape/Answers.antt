@@ -6,5 +6,5 @@ use Rattle.regress_parse.proofs.build.make_class_escape.Goals as goal
 
 pub returns : goal.returns
 returns c =
-    let closed = c.in_ok-closed.ensures (members_of c.args.kind) c.in_ok-class_set.ensures in
+    let closed = c.in_ok-closed.ensures (members_of c.args.kind) c.in_ok-class_escape_set.ensures in
     tree-Bracket _ ∙ ap (λ ivs. leaf (bracket false ivs)) (c.in_ok-complement_if.ensures _ closed)

@@ -4,4 +4,4 @@ use Rattle.regress_syntax.proofs.ReferenceLemmas.{count-is}
 use Rattle.regress_syntax.proofs.atom.read_group_number.Goals as goal
 
 pub returns-in_err-number : goal.returns-in_err-number
-returns-in_err-number c = absurd (none-some _ (c.in_err-number.ensures ∙ count-is c.args.text.now c.requires))
+returns-in_err-number c = absurd (none-some _ (c.in_err-number.ensures ∙ count-is c.args.source.now c.requires))

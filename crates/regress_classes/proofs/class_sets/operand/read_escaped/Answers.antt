@@ -9,11 +9,11 @@ use Rattle.regress_classes.proofs.class_sets.operand.read_escaped.Goals as goal
 
 pub returns-in_ok-class_value : goal.returns-in_ok-class_value
 returns-in_ok-class_value c =
-    let inside = c.args.inside.now in
+    let around = c.args.around.now in
     let named : CharacterClassType × Bool = (c.in-Some-class_letter.kind, c.in-Some-class_letter.negated) in
     let front : source c.args.cursor.now ≡ c.in-Some.c.now ∷ c.in-Some.rest.now = search rules in (
       class (only (class_members named)),
-      class_escape_read (table_of inside.tables.now) inside.unicode inside.negated _ c.in-Some.c.now c.in-Some.rest.now named front
+      class_escape_read (table_of around.tables.now) around.unicode around.negated _ c.in-Some.c.now c.in-Some.rest.now named front
           (sym c.class_letter.ensures ∙ c.in-Some-class_letter.is),
       (only (class_members named), refl, c.in_ok-class_value.ensures),
     )

@@ -13,7 +13,7 @@ use Rattle.regress_classes.proofs.class_sets.operand.read_property_operand.Goals
 
 pub string_value-requires : goal.string_value-requires
 string_value-requires c =
-    let tables = c.args.inside.now.tables.now in
+    let tables = c.args.around.now.tables.now in
     let rest = source c.read_property.new.cursor in
     (property_at-in_range (table_of tables) tables.sound.lawful true (source c.args.cursor.now)).each
     (of_strings (strings_of c.in-Strings.strings.now), rest)
@@ -24,7 +24,7 @@ returns-in_ok-value-in-Points c =
     let rest = source c.read_property.new.cursor in
     let value = only (complement_if c.args.negated c.in-Points.set.now) in (
       class value,
-      ap (λ (found : Found Property). found >>= property_operand c.args.inside.now.negated c.args.negated)
+      ap (λ (found : Found Property). found >>= property_operand c.args.around.now.negated c.args.negated)
           (c.in_ok-set.ensures ∙ ap (λ property. Some (property_of property, rest)) c.in-Points.is),
       (value, refl, c.in_ok-value-in-Points.ensures),
     )
@@ -34,8 +34,8 @@ returns-in_ok-value-in-Strings c =
     let rest = source c.read_property.new.cursor in
     let value = value_of_strings (strings_of c.in-Strings.strings.now) in (
       class value,
-      ap (λ (found : Found Property). found >>= property_operand c.args.inside.now.negated c.args.negated)
+      ap (λ (found : Found Property). found >>= property_operand c.args.around.now.negated c.args.negated)
           (c.in_ok-set.ensures ∙ ap (λ property. Some (property_of property, rest)) c.in-Strings.is)
-          ∙ cond-false _ _ _ (ap₂ (λ a b. a || b) c.if-inside.false c.if-negated.false),
+          ∙ cond-false _ _ _ (ap₂ (λ a b. a || b) c.if-around.false c.if-negated.false),
       (value, refl, c.in_ok-value-in-Strings.ensures),
     )

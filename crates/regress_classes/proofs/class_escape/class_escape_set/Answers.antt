@@ -4,8 +4,8 @@ use Rattle.regress_base.specs.Classes.{digits, white_space, line_terminators, wo
 use Rattle.regress_base.specs.Intervals.{Bounds, is_member}
 use Rattle.regress_base.proofs.laws.Sets.{is_member-nil, is_member-append}
 use Rattle.regress_classes.specs.ClassRows.{members_of}
-use Rattle.regress_classes.proofs.class_escape.class_set.Goals as goal
-use Rattle.regress_classes.proofs.class_escape.class_set.Goals.{in-Digits+in_ok-add_intervals-in-Digits, in-Spaces+in_ok-add_intervals-in-Spaces+in_ok-add_intervals-in-Spaces-2, in-Words+in_ok-add_intervals-in-Words}
+use Rattle.regress_classes.proofs.class_escape.class_escape_set.Goals as goal
+use Rattle.regress_classes.proofs.class_escape.class_escape_set.Goals.{in-Digits+in_ok-add_intervals-in-Digits, in-Spaces+in_ok-add_intervals-in-Spaces+in_ok-add_intervals-in-Spaces-2, in-Words+in_ok-add_intervals-in-Words}
 
 once : (set old added members : List Bounds) (n : ℕ) → old ≡ [] → added ≡ members →
     is_member set n ≡ (is_member old n || is_member added n) → is_member set n ≡ is_member members n
