@@ -7,6 +7,7 @@ pub mod Characters
 pub mod Classes
 pub mod Distinct
 pub mod Literals
+pub mod Measures
 pub mod Nodes
 pub mod Outcomes
 pub mod Places
