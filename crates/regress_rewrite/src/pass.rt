@@ -4,7 +4,7 @@ ghost use Rattle.regress_tree.specs.Reading.{forwards};
 ghost use Rattle.regress_tree.specs.Tree.{tree, trees, leaf, empty, cat};
 ghost use Rattle.regress_tree.specs.Walk.{direction_of};
 ghost use Rattle.regress_tree.specs.WellFormed.{IsWellFormed, captures};
-ghost use Rattle.regress_tree.specs.Units.{account};
+ghost use Rattle.regress_tree.specs.Units.{account, IsLess};
 ghost use Rattle.regress_tree.specs.Shapes.{LacksShape, LacksInside};
 ghost use Rattle.regress_rewrite.specs.Law.{IsPart, MeansTheSame};
 ghost use Rattle.regress_rewrite.specs.Sweep.{Swept, SweptOf};
@@ -16,7 +16,7 @@ use regress_tree::ir::{Node, NodeList, Regex, Walk};
 use std::alloc::AllocError;
 
 /// Sweeps the tree, children before parents, until a sweep changes nothing, and answers whether the
-/// tree changed. After an error some nodes are rewritten and others not.
+/// tree changed, which has made it less. After an error some nodes are rewritten and others not.
 ///
 /// A sweep is one walk over the tree, with one call of the rewrite for each node.
 pub fn run_pass<R: Rewrite>(r: &mut Regex, pass: &mut R) -> Result<bool, AllocError>
@@ -31,6 +31,7 @@ pub fn run_pass<R: Rewrite>(r: &mut Regex, pass: &mut R) -> Result<bool, AllocEr
 
     // What is removed, and what is left as it was.
     ensures changed { IfOk result (λ changed. MatchBool changed (tree r.new.node ≢ tree r.old.node) (tree r.new.node ≡ tree r.old.node)) }
+    ensures less { IfOk result (λ changed. IsTrue changed → IsLess (tree r.new.node) (tree r.old.node)) }
     ensures removed { OnOk result (LacksShape R.removes (tree r.new.node)) }
     ensures left { IsTrue R.is_exact → LacksShape R.removes (tree r.old.node) → tree r.new.node ≡ tree r.old.node }
 {
