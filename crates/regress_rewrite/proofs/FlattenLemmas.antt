@@ -1,22 +1,23 @@
 -- Flattening keeps what a rewrite must keep, and makes the tree less.
-use Rattle.std.proofs.Common.{◌≡◌, ℕ, ◌<◌, ◌≤◌, ◌≢◌, true, false, ◌++◌, refl, sym, ap₂, subst, ◌∙◌, append-nil, arith, le_refl, List, Result, Ok, Err}
+use Rattle.std.proofs.Common.{◌≡◌, ℕ, ◌<◌, ◌≤◌, ◌≢◌, Bool, true, false, ◌||◌, ◌++◌, refl, sym, ap₂, subst, ◌∙◌, append-nil, arith, le_refl, List, Result, Ok, Err}
 use Rattle.std.specs.Prelude.{encode_utf8_all, IfOk}
 use Rattle.std.specs.declared.alloc.AllocError.{AllocError}
 use Rattle.std.specs.List.{flat_map}
+use Rattle.std.proofs.Math.Bool.{or-false}
 use Rattle.std.proofs.lemmas.Bool.{false≢true, or_right}
 use mathlib.Core.Path.{fun_ext}
 use Rattle.regress_tree.specs.Reading.{Direction}
 use Rattle.regress_tree.specs.Steps.{State}
-use Rattle.regress_tree.specs.Tree.{Tree, Trees, leaf, empty, cat, alt, wrapped, no_trees, more_trees, tree}
+use Rattle.regress_tree.specs.Tree.{Leaf, Tree, Trees, leaf, empty, cat, alt, wrapped, no_trees, more_trees, tree}
 use Rattle.regress_tree.specs.Matching.{steps, steps_in_row}
 use Rattle.regress_tree.specs.Setting.{Setting}
 use Rattle.regress_tree.specs.WellFormed.{Position, inside, last_of, MayStand, RowMayStand, captures, captures_in_row}
 use Rattle.regress_tree.specs.Measures.{Measure, total, total_in_row}
 use Rattle.regress_tree.specs.Units.{sizes, unrollables, weights, IsLess}
-use Rattle.regress_tree.specs.Shapes.{has_cat, is_short, is_flattened_away}
+use Rattle.regress_tree.specs.Shapes.{on_leaf, some_node, some_node_in_row, has_cat, is_short, is_flattened_away}
 use Rattle.regress_tree.proofs.laws.Alike.{Alike-from_same}
 use Rattle.regress_tree.proofs.laws.Outcomes.{flat_map-stay}
-use Rattle.regress_tree.proofs.laws.Measures.{total-append, IsLess-lighter}
+use Rattle.regress_tree.proofs.laws.Measures.{some_node-append, total-append, IsLess-lighter}
 use Rattle.regress_tree.proofs.laws.Rows.{row_append-none, steps-append, captures-append, RowMayStand-last_of, MayStand-from_last, RowMayStand-append}
 use Rattle.regress_rewrite.specs.declared.rewrite.PassAction.{PassAction}
 use Rattle.regress_rewrite.specs.declared.rewrite.PassAction.TheVariants.{Keep, Modified, Remove, Replace}
@@ -78,6 +79,19 @@ module _ (m : Measure) where
   total-spliced no_trees = le_refl _
   total-spliced (more_trees t ts) = omega (arith, total-append m (parts_of t) (spliced ts), total-parts_of t, total-spliced ts)
 
+-- tests on leaves find what they found
+module _ (test : Leaf → Bool) where
+  some_node-parts_of : (t : Tree) → some_node_in_row (on_leaf test) (parts_of t) ≡ some_node (on_leaf test) t
+  some_node-parts_of (leaf l) = or-false _
+  some_node-parts_of (cat parts) = refl
+  some_node-parts_of (alt left right) = or-false _
+  some_node-parts_of (wrapped w body) = or-false _
+
+  some_node-spliced : (ts : Trees) → some_node_in_row (on_leaf test) (spliced ts) ≡ some_node_in_row (on_leaf test) ts
+  some_node-spliced no_trees = refl
+  some_node-spliced (more_trees t ts) =
+      some_node-append (on_leaf test) (parts_of t) (spliced ts) ∙ ap₂ ◌||◌ (some_node-parts_of t) (some_node-spliced ts)
+
 -- where there is a `Cat`, the row becomes lighter
 weight-less : (ts : Trees) → has_cat ts ≡ true → total_in_row weights (spliced ts) < total_in_row weights ts
 weight-less no_trees some = absurd (false≢true some)
@@ -95,6 +109,7 @@ module _ (d : Direction) where
     stands = λ n p m. m.0;
     captures = refl;
     account = omega arith;
+    brackets = λ lacks. refl;
   }
 
   one_keeps : (t : Tree) → Keeps d (cat (more_trees t no_trees)) t
@@ -103,6 +118,7 @@ module _ (d : Direction) where
     stands = λ n p m. MayStand-from_last n t p m.0 m.1;
     captures = sym (append-nil (captures t));
     account = omega arith;
+    brackets = λ lacks. sym (or-false _) ∙ lacks;
   }
 
   spliced_keeps : (ts : Trees) → Keeps d (cat ts) (cat (spliced ts))
@@ -111,6 +127,7 @@ module _ (d : Direction) where
     stands = λ n p m. (m.0, spliced-stand n ts p m.1);
     captures = captures-spliced ts;
     account = omega (arith, total-spliced sizes ts, total-spliced unrollables ts);
+    brackets = λ lacks. some_node-spliced _ ts ∙ lacks;
   }
 
 -- The law.

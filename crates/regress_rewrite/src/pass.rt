@@ -5,7 +5,7 @@ ghost use Rattle.regress_tree.specs.Tree.{tree, trees, leaf, empty, cat};
 ghost use Rattle.regress_tree.specs.Walk.{direction_of};
 ghost use Rattle.regress_tree.specs.WellFormed.{IsWellFormed, captures};
 ghost use Rattle.regress_tree.specs.Units.{account, IsLess};
-ghost use Rattle.regress_tree.specs.Shapes.{LacksShape, LacksInside};
+ghost use Rattle.regress_tree.specs.Shapes.{LacksShape, LacksInside, is_simplified_away};
 ghost use Rattle.regress_rewrite.specs.Law.{IsPart, MeansTheSame};
 ghost use Rattle.regress_rewrite.specs.Sweep.{Swept, SweptOf};
 ghost use Rattle.regress_tree.specs.Spine.{is_alt, reattach, spine_length, LeftsLackShape};
@@ -27,6 +27,7 @@ pub fn run_pass<R: Rewrite>(r: &mut Regex, pass: &mut R) -> Result<bool, AllocEr
     ensures well_formed { IsWellFormed (tree r.new.node) }
     ensures captures { captures (tree r.new.node) ≡ captures (tree r.old.node) }
     ensures account { account (tree r.new.node) ≤ account (tree r.old.node) }
+    ensures brackets { LacksShape is_simplified_away (tree r.old.node) → LacksShape is_simplified_away (tree r.new.node) }
     ensures flags { r.new.flags ≡ r.old.flags }
 
     // What is removed, and what is left as it was.

@@ -1,5 +1,7 @@
 -- Tests on the nodes of a tree, and the shapes that rewriting removes.
-use Rattle.std.specs.Prelude.{◌≡◌, Bool, true, false, ◌||◌}
+use Rattle.std.specs.Prelude.{◌≡◌, ℕ, ◌+◌, ◌-◌, Bool, true, false, not, ◌&&◌, ◌||◌, nat_le, nat_lt, if◌then◌else◌, List, [], ◌∷◌, length}
+use Rattle.regress_base.specs.Intervals.{Bounds, code_point_max}
+use Rattle.regress_base.specs.Limits.{max_char_set_length}
 use Rattle.regress_tree.specs.Tree.{Leaf, empty, goal, char, byte_sequence, byte_set, char_set, match_any, match_any_except_line_terminator, anchor, word_boundary, bracket, back_ref, string_set, Wrapper, capture_group, loop, loop_one, lookaround, Tree, Trees, leaf, cat, alt, wrapped, no_trees, more_trees}
 
 module _ (test : Tree → Bool) where
@@ -86,6 +88,45 @@ abbrev pub has_string_set : Tree → Bool
 has_string_set = some_node (on_leaf is_string_set)
 
 -- ---- what rewriting removes
+
+-- a bracket whose `invert` and intervals pass the test
+abbrev pub is_bracket_with : (Bool → List Bounds → Bool) → Leaf → Bool
+is_bracket_with test empty = false
+is_bracket_with test goal = false
+is_bracket_with test (char c) = false
+is_bracket_with test (byte_sequence bytes) = false
+is_bracket_with test (byte_set bytes) = false
+is_bracket_with test (char_set characters) = false
+is_bracket_with test match_any = false
+is_bracket_with test match_any_except_line_terminator = false
+is_bracket_with test (anchor kind multiline) = false
+is_bracket_with test (word_boundary invert unicode_icase) = false
+is_bracket_with test (bracket invert intervals) = test invert intervals
+is_bracket_with test (back_ref group icase) = false
+is_bracket_with test (string_set strings icase) = false
+
+-- how many code points lie in the intervals
+abbrev pub code_point_count : List Bounds → ℕ
+code_point_count [] = 0
+code_point_count (iv ∷ ivs) = (iv.last + 1 - iv.first) + code_point_count ivs
+
+-- How many gaps there are before the intervals from `start` on, between them, and behind them up to the greatest code point.
+-- Those from 0 on are the intervals of the complement.
+abbrev pub gap_count : (start : ℕ) → List Bounds → ℕ
+gap_count start [] = if nat_le start code_point_max then 1 else 0
+gap_count start (iv ∷ ivs) = (if nat_lt start iv.first then 1 else 0) + gap_count (iv.last + 1) ivs
+
+-- a bracket, not inverted, of at most four code points
+abbrev pub is_small_bracket : Leaf → Bool
+is_small_bracket = is_bracket_with (λ invert intervals. not invert && nat_le (code_point_count intervals) max_char_set_length)
+
+-- a bracket with more intervals than its complement
+abbrev pub is_long_bracket : Leaf → Bool
+is_long_bracket = is_bracket_with (λ invert intervals. nat_lt (gap_count 0 intervals) (length intervals))
+
+-- What simplifying brackets removes.
+abbrev pub is_simplified_away : Tree → Bool
+is_simplified_away = on_leaf (λ l. is_small_bracket l || is_long_bracket l)
 
 abbrev pub is_cat : Tree → Bool
 is_cat (leaf l) = false

@@ -1,17 +1,17 @@
 -- Places where a tree stands as a part of another, and what of the whole follows from what is put there.
-use Rattle.std.proofs.Common.{◌≡◌, ℕ, ◌+◌, ◌<◌, ◌≤◌, ◌⊎◌, inl, inr, Bool, ◌==◌, List, ◌++◌, length, count_by, sym, ap, ◌∙◌, arith}
+use Rattle.std.proofs.Common.{◌≡◌, ℕ, ◌+◌, ◌<◌, ◌≤◌, ◌⊎◌, inl, inr, Bool, false, ◌||◌, ◌==◌, List, ◌++◌, length, count_by, refl, sym, ap, ap₂, ◌∙◌, arith}
 use Rattle.std.proofs.lemmas.Bool.{or_parts}
 use Rattle.regress_tree.specs.Reading.{Direction}
 use Rattle.regress_tree.specs.Steps.{Step, Alike}
-use Rattle.regress_tree.specs.Tree.{Wrapper, capture_group, loop, loop_one, lookaround, Tree, Trees, cat, alt, wrapped, no_trees, more_trees, row_append}
+use Rattle.regress_tree.specs.Tree.{Leaf, Wrapper, capture_group, loop, loop_one, lookaround, Tree, Trees, cat, alt, wrapped, no_trees, more_trees, row_append}
 use Rattle.regress_tree.specs.Matching.{direction_in, wrapper_steps, steps, steps_in_row}
 use Rattle.regress_tree.specs.Setting.{Setting}
 use Rattle.regress_tree.specs.WellFormed.{captures, captures_in_row, captures_of_wrapper, Position, inside, last_of, position_in, HasGroups, WrapperMayStand, MayStand, RowMayStand}
 use Rattle.regress_tree.specs.Measures.{Measure, total, total_in_row}
 use Rattle.regress_tree.specs.Units.{sizes, loops, unrollables, account, weight, weights, IsLess}
-use Rattle.regress_tree.specs.Shapes.{LacksShape, RowLacksShape, LacksInside}
+use Rattle.regress_tree.specs.Shapes.{on_leaf, LacksShape, RowLacksShape, LacksInside}
 use Rattle.regress_tree.proofs.laws.Alike.{Alike-refl, Alike-then, Alike-or, Alike-capture, Alike-repeat, Alike-look}
-use Rattle.regress_tree.proofs.laws.Measures.{total-append, some_node-append}
+use Rattle.regress_tree.proofs.laws.Measures.{total-append, some_node-append, LacksShape-here, LacksShape-inside, LacksShape-from, RowLacksShape-append}
 
 pub data Place : Type 0 where
   -- in a row, between these trees
@@ -158,3 +158,30 @@ module _ (shape : Tree → Bool) where
   LacksShape-part (left_of right) t lacks = (or_parts _ _ lacks).0
   LacksShape-part (right_of left) t lacks = (or_parts _ _ lacks).1
   LacksShape-part (inside_of w) t lacks = lacks
+
+  LacksInside-put : (p : Place) (t u : Tree) → (LacksShape shape t → LacksShape shape u) → LacksInside shape (put p t) →
+      LacksInside shape (put p u)
+  LacksInside-put (among before behind) t u kept lacks =
+      let first = or_parts _ _ (sym (some_node-append shape before (more_trees t behind)) ∙ lacks) in
+      let rest = or_parts _ _ first.1 in
+      RowLacksShape-append shape before (more_trees u behind) first.0 (ap₂ ◌||◌ (kept rest.0) rest.1)
+  LacksInside-put (left_of right) t u kept lacks =
+      let sides = or_parts _ _ lacks in
+      ap₂ ◌||◌ (kept sides.0) sides.1
+  LacksInside-put (right_of left) t u kept lacks =
+      let sides = or_parts _ _ lacks in
+      ap₂ ◌||◌ sides.0 (kept sides.1)
+  LacksInside-put (inside_of w) t u kept lacks = kept lacks
+
+  -- a shape that does not depend on the part
+  pub LacksShape-put : (p : Place) (t u : Tree) → shape (put p u) ≡ shape (put p t) → (LacksShape shape t → LacksShape shape u) →
+      LacksShape shape (put p t) → LacksShape shape (put p u)
+  LacksShape-put p t u same kept lacks =
+      LacksShape-from shape (put p u) (LacksInside-put p t u kept (LacksShape-inside shape (put p t) lacks))
+      (same ∙ LacksShape-here shape (put p t) lacks)
+
+pub on_leaf-put : (test : Leaf → Bool) (p : Place) (t : Tree) → on_leaf test (put p t) ≡ false
+on_leaf-put test (among before behind) t = refl
+on_leaf-put test (left_of right) t = refl
+on_leaf-put test (right_of left) t = refl
+on_leaf-put test (inside_of w) t = refl
