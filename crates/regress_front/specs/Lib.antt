@@ -33,6 +33,7 @@ pub use Rattle.regress_tree.specs.Setting
 pub use Rattle.regress_tree.specs.Tree
 pub use Rattle.regress_tree.specs.Matching
 pub use Rattle.regress_tree.specs.WellFormed
+pub use Rattle.regress_tree.specs.Measures
 pub use Rattle.regress_tree.specs.Units
 pub use Rattle.regress_tree.specs.Shapes
 pub use Rattle.regress_tree.specs.Walk

@@ -1,21 +1,24 @@
 -- Flattening keeps what a rewrite must keep, and makes the tree less.
-use Rattle.std.proofs.Common.{◌≡◌, ℕ, ◌<◌, ◌≤◌, ◌≢◌, true, false, ◌++◌, refl, sym, ap₂, subst, ◌∙◌, append-nil, arith, le_refl, inr, List, Result, Ok, Err}
+use Rattle.std.proofs.Common.{◌≡◌, ℕ, ◌<◌, ◌≤◌, ◌≢◌, Bool, true, false, ◌||◌, ◌++◌, refl, sym, ap₂, subst, ◌∙◌, append-nil, arith, le_refl, List, Result, Ok, Err}
 use Rattle.std.specs.Prelude.{encode_utf8_all, IfOk}
 use Rattle.std.specs.declared.alloc.AllocError.{AllocError}
 use Rattle.std.specs.List.{flat_map}
+use Rattle.std.proofs.Math.Bool.{or-false}
 use Rattle.std.proofs.lemmas.Bool.{false≢true, or_right}
 use mathlib.Core.Path.{fun_ext}
 use Rattle.regress_tree.specs.Reading.{Direction}
 use Rattle.regress_tree.specs.Steps.{State}
-use Rattle.regress_tree.specs.Tree.{Tree, Trees, leaf, empty, cat, alt, wrapped, no_trees, more_trees, tree}
+use Rattle.regress_tree.specs.Tree.{Leaf, Tree, Trees, leaf, empty, cat, alt, wrapped, no_trees, more_trees, tree}
 use Rattle.regress_tree.specs.Matching.{steps, steps_in_row}
 use Rattle.regress_tree.specs.Setting.{Setting}
 use Rattle.regress_tree.specs.WellFormed.{Position, inside, last_of, MayStand, RowMayStand, captures, captures_in_row}
-use Rattle.regress_tree.specs.Units.{units, units_in_row, loops, loops_in_row, weight, weight_of_row, IsLess}
-use Rattle.regress_tree.specs.Shapes.{has_cat, is_short, is_flattened_away}
+use Rattle.regress_tree.specs.Measures.{Measure, total, total_in_row}
+use Rattle.regress_tree.specs.Units.{sizes, unrollables, weights, IsLess}
+use Rattle.regress_tree.specs.Shapes.{on_leaf, some_node, some_node_in_row, has_cat, is_short, is_flattened_away}
 use Rattle.regress_tree.proofs.laws.Alike.{Alike-from_same}
 use Rattle.regress_tree.proofs.laws.Outcomes.{flat_map-stay}
-use Rattle.regress_tree.proofs.laws.Rows.{row_append-none, steps-append, captures-append, units-append, loops-append, weight-append, RowMayStand-last_of, MayStand-from_last, RowMayStand-append}
+use Rattle.regress_tree.proofs.laws.Measures.{some_node-append, total-append, IsLess-lighter}
+use Rattle.regress_tree.proofs.laws.Rows.{row_append-none, steps-append, captures-append, RowMayStand-last_of, MayStand-from_last, RowMayStand-append}
 use Rattle.regress_rewrite.specs.declared.rewrite.PassAction.{PassAction}
 use Rattle.regress_rewrite.specs.declared.rewrite.PassAction.TheVariants.{Keep, Modified, Remove, Replace}
 use Rattle.regress_rewrite.specs.Law.{Keeps, after, IsLawful}
@@ -53,7 +56,7 @@ module _ (setting : Setting) (bytes : List ℕ) (d : Direction) where
       steps-append setting bytes d (parts_of t) (spliced ts) s
       ∙ ap₂ flat_map (fun_ext (steps-spliced ts)) (steps-parts_of t s)
 
--- Captures, units and weights.
+-- Captures and sizes.
 
 captures-parts_of : (t : Tree) → captures_in_row (parts_of t) ≡ captures t
 captures-parts_of (leaf l) = refl
@@ -65,40 +68,34 @@ captures-spliced : (ts : Trees) → captures_in_row (spliced ts) ≡ captures_in
 captures-spliced no_trees = refl
 captures-spliced (more_trees t ts) = captures-append (parts_of t) (spliced ts) ∙ ap₂ ◌++◌ (captures-parts_of t) (captures-spliced ts)
 
-units-parts_of : (t : Tree) → units_in_row (parts_of t) ≤ units t
-units-parts_of (leaf l) = omega arith
-units-parts_of (cat parts) = omega arith
-units-parts_of (alt left right) = omega arith
-units-parts_of (wrapped w body) = omega arith
+module _ (m : Measure) where
+  total-parts_of : (t : Tree) → total_in_row m (parts_of t) ≤ total m t
+  total-parts_of (leaf l) = omega arith
+  total-parts_of (cat parts) = omega arith
+  total-parts_of (alt left right) = omega arith
+  total-parts_of (wrapped w body) = omega arith
 
-units-spliced : (ts : Trees) → units_in_row (spliced ts) ≤ units_in_row ts
-units-spliced no_trees = le_refl _
-units-spliced (more_trees t ts) = omega (arith, units-append (parts_of t) (spliced ts), units-parts_of t, units-spliced ts)
+  total-spliced : (ts : Trees) → total_in_row m (spliced ts) ≤ total_in_row m ts
+  total-spliced no_trees = le_refl _
+  total-spliced (more_trees t ts) = omega (arith, total-append m (parts_of t) (spliced ts), total-parts_of t, total-spliced ts)
 
-loops-parts_of : (t : Tree) → loops_in_row (parts_of t) ≡ loops t
-loops-parts_of (leaf l) = omega arith
-loops-parts_of (cat parts) = refl
-loops-parts_of (alt left right) = omega arith
-loops-parts_of (wrapped w body) = omega arith
+-- tests on leaves find what they found
+module _ (test : Leaf → Bool) where
+  some_node-parts_of : (t : Tree) → some_node_in_row (on_leaf test) (parts_of t) ≡ some_node (on_leaf test) t
+  some_node-parts_of (leaf l) = or-false _
+  some_node-parts_of (cat parts) = refl
+  some_node-parts_of (alt left right) = or-false _
+  some_node-parts_of (wrapped w body) = or-false _
 
-loops-spliced : (ts : Trees) → loops_in_row (spliced ts) ≡ loops_in_row ts
-loops-spliced no_trees = refl
-loops-spliced (more_trees t ts) = omega (arith, loops-append (parts_of t) (spliced ts), loops-parts_of t, loops-spliced ts)
+  some_node-spliced : (ts : Trees) → some_node_in_row (on_leaf test) (spliced ts) ≡ some_node_in_row (on_leaf test) ts
+  some_node-spliced no_trees = refl
+  some_node-spliced (more_trees t ts) =
+      some_node-append (on_leaf test) (parts_of t) (spliced ts) ∙ ap₂ ◌||◌ (some_node-parts_of t) (some_node-spliced ts)
 
-weight-parts_of : (t : Tree) → weight_of_row (parts_of t) ≤ weight t
-weight-parts_of (leaf l) = omega arith
-weight-parts_of (cat parts) = omega arith
-weight-parts_of (alt left right) = omega arith
-weight-parts_of (wrapped w body) = omega arith
-
-weight-spliced : (ts : Trees) → weight_of_row (spliced ts) ≤ weight_of_row ts
-weight-spliced no_trees = le_refl _
-weight-spliced (more_trees t ts) = omega (arith, weight-append (parts_of t) (spliced ts), weight-parts_of t, weight-spliced ts)
-
--- where there is a `Cat`, the row becomes less
-weight-less : (ts : Trees) → has_cat ts ≡ true → weight_of_row (spliced ts) < weight_of_row ts
+-- where there is a `Cat`, the row becomes lighter
+weight-less : (ts : Trees) → has_cat ts ≡ true → total_in_row weights (spliced ts) < total_in_row weights ts
 weight-less no_trees some = absurd (false≢true some)
-weight-less (more_trees (cat parts) ts) some = omega (arith, weight-append parts (spliced ts), weight-spliced ts)
+weight-less (more_trees (cat parts) ts) some = omega (arith, total-append weights parts (spliced ts), total-spliced weights ts)
 weight-less (more_trees (leaf l) ts) some = omega (arith, weight-less ts some)
 weight-less (more_trees (alt left right) ts) some = omega (arith, weight-less ts some)
 weight-less (more_trees (wrapped w body) ts) some = omega (arith, weight-less ts some)
@@ -112,6 +109,7 @@ module _ (d : Direction) where
     stands = λ n p m. m.0;
     captures = refl;
     account = omega arith;
+    brackets = λ lacks. refl;
   }
 
   one_keeps : (t : Tree) → Keeps d (cat (more_trees t no_trees)) t
@@ -120,6 +118,7 @@ module _ (d : Direction) where
     stands = λ n p m. MayStand-from_last n t p m.0 m.1;
     captures = sym (append-nil (captures t));
     account = omega arith;
+    brackets = λ lacks. sym (or-false _) ∙ lacks;
   }
 
   spliced_keeps : (ts : Trees) → Keeps d (cat ts) (cat (spliced ts))
@@ -127,13 +126,11 @@ module _ (d : Direction) where
     meaning = λ setting text is_text. Alike-from_same (λ s. sym (steps-spliced setting (encode_utf8_all text) d ts s));
     stands = λ n p m. (m.0, spliced-stand n ts p m.1);
     captures = captures-spliced ts;
-    account = omega (arith, units-spliced ts, loops-spliced ts);
+    account = omega (arith, total-spliced sizes ts, total-spliced unrollables ts);
+    brackets = λ lacks. some_node-spliced _ ts ∙ lacks;
   }
 
 -- The law.
-
-lighter : (new old : Tree) → loops new ≡ loops old → weight new < weight old → IsLess new old
-lighter new old same less = record { less = inr (same, less) }
 
 changes : (d : Direction) (old left : Tree) (action : PassAction) → action ≢ Keep → is_flattened_away old ≡ true →
     Keeps d old (after action left) → IsLess (after action left) old → IsLawful is_flattened_away true d old left action
@@ -161,15 +158,15 @@ flattens_lawful d Keep old new flattens =
 flattens_lawful d Modified old new flattens =
     subst (λ (ts : Trees). IsLawful is_flattened_away true d (cat old) (cat ts) Modified) (sym flattens.1)
     (changes d (cat old) (cat (spliced old)) Modified (λ same. cc) (or_right (is_short old) (has_cat old) flattens.0) (spliced_keeps d old)
-    (lighter (cat (spliced old)) (cat old) (loops-spliced old) (omega (arith, weight-less old flattens.0))))
+    (IsLess-lighter (cat (spliced old)) (cat old) (omega (arith, total-spliced unrollables old)) (omega (arith, weight-less old flattens.0))))
 flattens_lawful d Remove old new flattens =
     subst (λ (ts : Trees). IsLawful is_flattened_away true d (cat ts) (cat new) Remove) (sym flattens)
     (changes d (cat no_trees) (cat new) Remove (λ same. cc) refl (none_keeps d)
-    (lighter (leaf empty) (cat no_trees) refl (omega arith)))
+    (IsLess-lighter (leaf empty) (cat no_trees) (omega arith) (omega arith)))
 flattens_lawful d (Replace part) old new flattens =
     subst (λ (ts : Trees). IsLawful is_flattened_away true d (cat ts) (cat new) (Replace part)) (sym flattens)
     (changes d (cat (more_trees (tree part) no_trees)) (cat new) (Replace part) (λ same. cc) refl (one_keeps d (tree part))
-    (lighter (tree part) (cat (more_trees (tree part) no_trees)) (omega arith) (omega arith)))
+    (IsLess-lighter (tree part) (cat (more_trees (tree part) no_trees)) (omega arith) (omega arith)))
 
 pub flatten_lawful : (d : Direction) (r : Result PassAction AllocError) (was is : Trees) → IfOk r (λ action. Flattens action was is) →
     IfOk r (IsLawful is_flattened_away true d (cat was) (cat is))

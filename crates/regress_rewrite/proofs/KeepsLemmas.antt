@@ -1,10 +1,11 @@
 -- What rewriting keeps, composed: one change after another, and a change of a part in the whole.
-use Rattle.std.proofs.Common.{◌∙◌, refl, le_refl, le_trans}
+use Rattle.std.proofs.Common.{◌∙◌, refl, sym, le_refl, le_trans}
 use Rattle.std.specs.Prelude.{encode_utf8_all}
 use Rattle.regress_tree.specs.Reading.{Direction}
 use Rattle.regress_tree.specs.Tree.{Tree}
+use Rattle.regress_tree.specs.Shapes.{is_simplified_away}
 use Rattle.regress_tree.proofs.laws.Alike.{Alike-refl, Alike-trans}
-use Rattle.regress_tree.proofs.laws.Places.{Place, put, direction_at, Alike-put, MayStand-put, captures-put, account-put, MayStand-part}
+use Rattle.regress_tree.proofs.laws.Places.{Place, put, direction_at, Alike-put, MayStand-put, captures-put, account-put, MayStand-part, LacksShape-put, on_leaf-put}
 use Rattle.regress_rewrite.specs.Law.{IsPart, Keeps}
 
 pub Keeps-refl : (d : Direction) (t : Tree) → Keeps d t t
@@ -13,6 +14,7 @@ Keeps-refl d t = record {
   stands = λ n p m. m;
   captures = refl;
   account = le_refl _;
+  brackets = λ lacks. lacks;
 }
 
 pub Keeps-trans : (d : Direction) {t u v : Tree} → Keeps d t u → Keeps d u v → Keeps d t v
@@ -21,6 +23,7 @@ Keeps-trans d a b = record {
   stands = λ n p m. b.stands n p (a.stands n p m);
   captures = b.captures ∙ a.captures;
   account = le_trans b.account a.account;
+  brackets = λ lacks. b.brackets (a.brackets lacks);
 }
 
 pub Keeps-put : (p : Place) (d : Direction) {t u : Tree} → Keeps (direction_at p d) t u → Keeps d (put p t) (put p u)
@@ -29,6 +32,7 @@ Keeps-put p d a = record {
   stands = MayStand-put _ _ a.stands a.captures p;
   captures = captures-put p _ _ a.captures;
   account = account-put p _ _ a.account;
+  brackets = LacksShape-put is_simplified_away p _ _ (on_leaf-put _ p _ ∙ sym (on_leaf-put _ p _)) a.brackets;
 }
 
 pub IsPart-kept : (d : Direction) {t u : Tree} → Keeps d t u → IsPart t → IsPart u

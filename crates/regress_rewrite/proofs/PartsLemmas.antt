@@ -1,14 +1,16 @@
 -- The sweep of a row of nodes, part by part.
 use Rattle.std.proofs.Common.{◌≡◌, ℕ, ◌+◌, ◌<◌, ◌≤◌, Bool, List, [], ◌∷◌, ◌++◌, length, take, drop, get_or, set, Result, Ok, suc, sym, ap, subst, ◌∙◌, arith}
 use Rattle.std.specs.declared.alloc.AllocError.{AllocError}
+use Rattle.std.proofs.Math.Bool.{or-false}
 use Rattle.std.proofs.Math.Seq.{split_at, drop-cons}
 use Rattle.std.proofs.lemmas.List.{set_split, take_more_set, take-append-drop, drop-drop, drop-set-lt}
 use Rattle.regress_tree.specs.declared.ir.node.Node.{Node}
 use Rattle.regress_tree.specs.Reading.{Direction}
-use Rattle.regress_tree.specs.Tree.{Tree, Trees, cat, no_trees, more_trees, row_append, tree, trees}
-use Rattle.regress_tree.specs.Units.{units, units_in_row}
+use Rattle.regress_tree.specs.Tree.{Tree, cat, row_append, tree, trees}
+use Rattle.regress_tree.specs.Units.{sizes, units, units_in_row}
 use Rattle.regress_tree.specs.Shapes.{LacksShape, RowLacksShape, LacksInside}
-use Rattle.regress_tree.proofs.laws.Rows.{trees-append, units-append}
+use Rattle.regress_tree.proofs.laws.Rows.{trees-append}
+use Rattle.regress_tree.proofs.laws.Measures.{total-append, RowLacksShape-append}
 use Rattle.regress_tree.proofs.laws.Places.{Place, among, put, LacksShape-part}
 use Rattle.regress_rewrite.specs.Law.{IsPart, Keeps}
 use Rattle.regress_rewrite.specs.Sweep.{Swept, SweptOf}
@@ -19,11 +21,6 @@ use Rattle.regress_rewrite.proofs.SweepLemmas.{joined, Swept-put, Swept-then}
 abbrev pub PartsSwept : (Tree → Bool) → Bool → Direction → List Node → List Node → ℕ → Result Bool AllocError → Type 0
 PartsSwept shape exact d initial now i =
     Swept (RowLacksShape shape (trees initial)) (RowLacksShape shape (trees (take i now))) exact d (cat (trees initial)) (cat (trees now))
-
-RowLacksShape-append : (shape : Tree → Bool) (ts us : Trees) → RowLacksShape shape ts → RowLacksShape shape us →
-    RowLacksShape shape (row_append ts us)
-RowLacksShape-append shape no_trees us first second = second
-RowLacksShape-append shape (more_trees t ts) us first second = (first.0, RowLacksShape-append shape ts us first.1 second)
 
 module _ (now : List Node) (i : ℕ) (in_row : i < length now) where
   -- where part `i` stands
@@ -55,7 +52,7 @@ module _ (now : List Node) (i : ℕ) (in_row : i < length now) where
         let cut : initial ≡ take i initial ++ behind = sym (take-append-drop i initial) ∙ ap (λ nodes. take i initial ++ nodes) rest in
         let whole : trees initial ≡ row_append (trees (take i initial)) (trees behind) =
         ap trees cut ∙ trees-append (take i initial) behind in
-        omega (arith, ap units_in_row whole, units-append (trees (take i initial)) (trees behind))
+        omega (arith, ap units_in_row whole, total-append sizes (trees (take i initial)) (trees behind))
 
     module _ (shape : Tree → Bool) (exact : Bool) (d : Direction) (initial : List Node) (changed : Bool) (new : Node) where
       part_lacks : RowLacksShape shape (trees initial) → cat (trees now) ≡ cat (trees initial) → LacksShape shape (tree old)
@@ -67,7 +64,7 @@ module _ (now : List Node) (i : ℕ) (in_row : i < length now) where
       more_lack : RowLacksShape shape (trees (take i now)) → LacksShape shape (tree new) →
           RowLacksShape shape (trees (take (i + 1) (set now i new)))
       more_lack before here =
-          let one : RowLacksShape shape (trees (new ∷ [])) = (here, tt) in
+          let one : RowLacksShape shape (trees (new ∷ [])) = or-false _ ∙ here in
           rw (take_more_set now i new in_row, trees-append (take i now) (new ∷ []))
           (RowLacksShape-append shape (trees (take i now)) (trees (new ∷ [])) before one)
 

@@ -1,11 +1,12 @@
 -- A pass ends.
 use Rattle.std.proofs.Common.{◌≡◌, ℕ, ◌+◌, ◌*◌, ◌<◌, ◌≤◌, ◌⊎◌, [], ◌∷◌, inl, inr, ap, arith}
 use Rattle.std.proofs.Math.Nat.{mul-le-mul_left}
-use Rattle.regress_tree.specs.Tree.{Leaf, empty, goal, char, byte_sequence, byte_set, char_set, match_any, match_any_except_line_terminator, anchor, word_boundary, bracket, back_ref, string_set, Wrapper, capture_group, loop, loop_one, lookaround, Tree, Trees, leaf, cat, alt, wrapped, no_trees, more_trees}
+use Rattle.regress_tree.specs.Tree.{Leaf, empty, goal, char, byte_sequence, byte_set, char_set, match_any, match_any_except_line_terminator, anchor, word_boundary, bracket, back_ref, string_set, Wrapper, capture_group, loop, loop_one, lookaround, Tree}
 use Rattle.regress_base.proofs.laws.Sets.{canonical_length}
-use Rattle.regress_tree.specs.WellFormed.{Position, inside, last_of, position_in, LeafMayStand, MayStand, RowMayStand}
+use Rattle.regress_tree.specs.WellFormed.{Position, LeafMayStand, MayStand}
 use Rattle.regress_rewrite.specs.Law.{IsPart}
-use Rattle.regress_tree.specs.Units.{units_of_leaf, units, units_in_row, loops, account, weight_of_leaf, weight_of_wrapper, weight, weight_of_row, IsLess}
+use Rattle.regress_tree.specs.Units.{units_of_leaf, sizes, units, loops, account, weight_of_leaf, weight_of_wrapper, weights, weight, IsLess}
+use Rattle.regress_tree.proofs.laws.Measures.{total-le}
 
 -- What one unit weighs at most: a bracket has no more intervals than half of the code points.
 abbrev heaviest : ℕ
@@ -27,24 +28,20 @@ leaf_weight-le n (bracket invert intervals) p m = omega (arith, canonical_length
 leaf_weight-le n (back_ref group icase) p m = omega arith
 leaf_weight-le n (string_set strings icase) p m = omega arith
 
-wrapper_weight-le : (w : Wrapper) → weight_of_wrapper w ≤ heaviest
+wrapper_weight-le : (w : Wrapper) → weight_of_wrapper w ≤ heaviest * 1
 wrapper_weight-le (capture_group id name) = omega arith
 wrapper_weight-le (loop quantifier start end) = omega arith
 wrapper_weight-le (loop_one quantifier) = omega arith
 wrapper_weight-le (lookaround negate backwards start end) = omega arith
 
-mutual
-  weight-le : (n : ℕ) (t : Tree) (p : Position) → MayStand n t p → weight t ≤ heaviest * units t
-  weight-le n (leaf l) p m = leaf_weight-le n l p m
-  weight-le n (cat parts) p m = omega (arith, row_weight-le n parts (last_of p) m.1)
-  weight-le n (alt left right) p m = omega (arith, weight-le n left inside m.1, weight-le n right inside m.2)
-  weight-le n (wrapped w body) p m = omega (arith, wrapper_weight-le w, weight-le n body (position_in w) m.2)
-
-  row_weight-le : (n : ℕ) (ts : Trees) (p : Position) → RowMayStand n ts p → weight_of_row ts ≤ heaviest * units_in_row ts
-  row_weight-le n no_trees p m = omega arith
-  row_weight-le n (more_trees t no_trees) p m = omega (arith, weight-le n t p m)
-  row_weight-le n (more_trees t (more_trees u us)) p m =
-      omega (arith, weight-le n t inside m.0, row_weight-le n (more_trees u us) p m.1)
+-- what may stand weighs no more than that for each of its units
+weight-le : (n : ℕ) (t : Tree) (p : Position) → MayStand n t p → weight t ≤ heaviest * units t
+weight-le = total-le heaviest weights sizes (record {
+  of_leaf = leaf_weight-le;
+  of_cat = omega arith;
+  of_alt = omega arith;
+  of_wrapper = wrapper_weight-le;
+})
 
 -- More than the changes that are still to come, where the account of the tree was `spent` at first: a loop less leaves a
 -- tree whose weight is below what each loop counts here.

@@ -1,5 +1,6 @@
 -- The way down the right sides of alternatives, and up again.
-use Rattle.std.proofs.Common.{◌≡◌, ℕ, ◌+◌, ◌-◌, ◌<◌, Bool, false, Result, Ok, sym, ap, subst, ◌∙◌, arith}
+use Rattle.std.proofs.Common.{◌≡◌, ℕ, ◌+◌, ◌-◌, ◌<◌, Bool, false, ◌||◌, Result, Ok, sym, ap, ap₂, subst, ◌∙◌, arith}
+use Rattle.std.proofs.lemmas.Bool.{or_parts}
 use Rattle.std.specs.declared.alloc.AllocError.{AllocError}
 use Rattle.regress_tree.specs.Reading.{Direction}
 use Rattle.regress_tree.specs.Tree.{Tree, leaf, cat, alt, wrapped}
@@ -10,7 +11,8 @@ use Rattle.regress_rewrite.specs.Law.{IsPart, Keeps}
 use Rattle.regress_rewrite.specs.Sweep.{Swept, SweptOf}
 use Rattle.regress_tree.specs.Spine.{Shifted, reattach, spine_length, LeftsLackShape}
 use Rattle.regress_rewrite.proofs.KeepsLemmas.{IsPart-kept, IsPart-part}
-use Rattle.regress_rewrite.proofs.SweepLemmas.{joined, Swept-put, Swept-then, Swept-same, LacksShape-here, LacksShape-from}
+use Rattle.regress_rewrite.proofs.SweepLemmas.{joined, Swept-put, Swept-then, Swept-same}
+use Rattle.regress_tree.proofs.laws.Measures.{LacksShape-here, LacksShape-inside, LacksShape-from}
 
 -- What stands at the end of the way, and the whole.
 
@@ -20,10 +22,14 @@ IsPart-reattach (cat parts) t part = part
 IsPart-reattach (alt left above) t part = IsPart-part (right_of left) t (IsPart-reattach above (alt left t) part)
 IsPart-reattach (wrapped w body) t part = part
 
+-- the two sides of what lacks a shape lack it
+sides_lack : (shape : Tree → Bool) (left right : Tree) → LacksShape shape (alt left right) → LacksShape shape left × LacksShape shape right
+sides_lack shape left right lacks = or_parts _ _ (LacksShape-inside shape (alt left right) lacks)
+
 LacksShape-reattach : (shape : Tree → Bool) (above t : Tree) → LacksShape shape (reattach above t) → LacksShape shape t
 LacksShape-reattach shape (leaf l) t lacks = lacks
 LacksShape-reattach shape (cat parts) t lacks = lacks
-LacksShape-reattach shape (alt left above) t lacks = (LacksShape-reattach shape above (alt left t) lacks).2
+LacksShape-reattach shape (alt left above) t lacks = (sides_lack shape left t (LacksShape-reattach shape above (alt left t) lacks)).1
 LacksShape-reattach shape (wrapped w body) t lacks = lacks
 
 module _ (exact : Bool) (d : Direction) where
@@ -53,7 +59,8 @@ module _ (exact : Bool) (d : Direction) where
         let second : above ≡ right = cc in
         let so_far' = rw (shifted.was, first, second) at so_far in
         Swept-then exact d so_far' (Swept-reattach right (alt left rest) (alt left' rest) (Swept-put exact (left_of rest) d here))
-        (λ lacks same. (end_lacks right (alt left rest) lacks same).1) (λ lefts this. (this, lefts))
+        (λ lacks same. (sides_lack shape left rest (end_lacks right (alt left rest) lacks same)).0)
+        (λ lefts this. (this, lefts))
 
     -- and then the last alternative
     pub down_last : (changed : Bool) (answer : Result Bool AllocError) (above node node' : Tree) → DownSwept above node (Ok changed) →
@@ -80,7 +87,7 @@ module _ (exact : Bool) (d : Direction) where
         (λ lacks same. LacksShape-here shape next (end_lacks rest next lacks same))
         (λ clean this begun.
         let parts = clean begun in
-        let lacks = LacksShape-from shape next (parts.1.0, parts.0) (sym (ap shape this.1) ∙ this.0) in
+        let lacks = LacksShape-from shape next (ap₂ ◌||◌ parts.1.0 parts.0) (sym (ap shape this.1) ∙ this.0) in
         (subst (λ (x : Tree). LacksShape shape x) (sym this.1) lacks, parts.1.1))
 
 -- a left side on the way down, which is smaller than the whole

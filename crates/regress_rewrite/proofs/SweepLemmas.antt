@@ -6,9 +6,8 @@ use Rattle.std.proofs.lemmas.Bool.{or_parts, false≢true}
 use Rattle.regress_tree.specs.Reading.{Direction}
 use Rattle.regress_tree.specs.declared.ir.walk.Walk.{Walk}
 use Rattle.regress_tree.specs.Walk.{direction_of}
-use Rattle.regress_tree.specs.Tree.{Tree, leaf, cat, alt, wrapped}
+use Rattle.regress_tree.specs.Tree.{Tree}
 use Rattle.regress_tree.specs.Units.{loops, weight, IsLess}
-use Rattle.regress_tree.specs.Shapes.{LacksShape, LacksInside}
 use Rattle.regress_tree.proofs.laws.Places.{Place, put, direction_at, IsLess-put}
 use Rattle.regress_rewrite.specs.Law.{Keeps}
 use Rattle.regress_rewrite.specs.Sweep.{TellsChange, Swept}
@@ -108,17 +107,3 @@ module _ (exact : Bool) where
       inner.in_lookbehind ≡ walk.in_lookbehind → Swept before clean exact (direction_of inner) t u answer →
       Swept before clean exact (direction_of walk) t u answer
   Swept-walk walk inner same swept = rw (← same) swept
-
--- Shapes of a node and of what lies inside it.
-
-pub LacksShape-here : (shape : Tree → Bool) (t : Tree) → LacksShape shape t → shape t ≡ false
-LacksShape-here shape (leaf l) lacks = lacks
-LacksShape-here shape (cat parts) lacks = lacks.0
-LacksShape-here shape (alt left right) lacks = lacks.0
-LacksShape-here shape (wrapped w body) lacks = lacks.0
-
-pub LacksShape-from : (shape : Tree → Bool) (t : Tree) → LacksInside shape t → shape t ≡ false → LacksShape shape t
-LacksShape-from shape (leaf l) inside here = here
-LacksShape-from shape (cat parts) inside here = (here, inside)
-LacksShape-from shape (alt left right) inside here = (here, inside.0, inside.1)
-LacksShape-from shape (wrapped w body) inside here = (here, inside)

@@ -7,6 +7,7 @@ use Rattle.regress_tree.specs.Matching.{steps}
 use Rattle.regress_tree.specs.Setting.{Setting}
 use Rattle.regress_tree.specs.WellFormed.{Position, MayStand, captures}
 use Rattle.regress_tree.specs.Units.{account, IsLess}
+use Rattle.regress_tree.specs.Shapes.{LacksShape, is_simplified_away}
 use Rattle.regress_rewrite.specs.declared.rewrite.PassAction.{PassAction}
 use Rattle.regress_rewrite.specs.declared.rewrite.PassAction.TheVariants.{Keep, Modified, Remove, Replace}
 
@@ -31,8 +32,10 @@ pub record Keeps (d : Direction) (old new : Tree) : Type 0 where
   pub stands : StandsWhere old new
   -- has its capture groups, with their ids and names,
   pub captures : captures new ≡ captures old
-  -- and is no larger, the loops counted as if they were unrolled
+  -- is no larger, the loops counted as if they were unrolled,
   pub account : account new ≤ account old
+  -- and has no bracket to be simplified if the old one has none
+  pub brackets : LacksShape is_simplified_away old → LacksShape is_simplified_away new
 
 -- the tree in the node's place after the action, where the call left `left` there
 abbrev pub after : PassAction → Tree → Tree

@@ -4,8 +4,8 @@ ghost use Rattle.regress_tree.specs.Reading.{forwards};
 ghost use Rattle.regress_tree.specs.Tree.{tree, trees, leaf, empty, cat};
 ghost use Rattle.regress_tree.specs.Walk.{direction_of};
 ghost use Rattle.regress_tree.specs.WellFormed.{IsWellFormed, captures};
-ghost use Rattle.regress_tree.specs.Units.{account};
-ghost use Rattle.regress_tree.specs.Shapes.{LacksShape, LacksInside};
+ghost use Rattle.regress_tree.specs.Units.{account, IsLess};
+ghost use Rattle.regress_tree.specs.Shapes.{LacksShape, LacksInside, is_simplified_away};
 ghost use Rattle.regress_rewrite.specs.Law.{IsPart, MeansTheSame};
 ghost use Rattle.regress_rewrite.specs.Sweep.{Swept, SweptOf};
 ghost use Rattle.regress_tree.specs.Spine.{is_alt, reattach, spine_length, LeftsLackShape};
@@ -16,7 +16,7 @@ use regress_tree::ir::{Node, NodeList, Regex, Walk};
 use std::alloc::AllocError;
 
 /// Sweeps the tree, children before parents, until a sweep changes nothing, and answers whether the
-/// tree changed. After an error some nodes are rewritten and others not.
+/// tree changed, which has made it less. After an error some nodes are rewritten and others not.
 ///
 /// A sweep is one walk over the tree, with one call of the rewrite for each node.
 pub fn run_pass<R: Rewrite>(r: &mut Regex, pass: &mut R) -> Result<bool, AllocError>
@@ -27,10 +27,12 @@ pub fn run_pass<R: Rewrite>(r: &mut Regex, pass: &mut R) -> Result<bool, AllocEr
     ensures well_formed { IsWellFormed (tree r.new.node) }
     ensures captures { captures (tree r.new.node) ≡ captures (tree r.old.node) }
     ensures account { account (tree r.new.node) ≤ account (tree r.old.node) }
+    ensures brackets { LacksShape is_simplified_away (tree r.old.node) → LacksShape is_simplified_away (tree r.new.node) }
     ensures flags { r.new.flags ≡ r.old.flags }
 
     // What is removed, and what is left as it was.
     ensures changed { IfOk result (λ changed. MatchBool changed (tree r.new.node ≢ tree r.old.node) (tree r.new.node ≡ tree r.old.node)) }
+    ensures less { IfOk result (λ changed. IsTrue changed → IsLess (tree r.new.node) (tree r.old.node)) }
     ensures removed { OnOk result (LacksShape R.removes (tree r.new.node)) }
     ensures left { IsTrue R.is_exact → LacksShape R.removes (tree r.old.node) → tree r.new.node ≡ tree r.old.node }
 {

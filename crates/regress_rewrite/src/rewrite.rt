@@ -34,8 +34,8 @@ pub trait Rewrite {
         requires { IsPart (tree node.old) }
 
         // What the action makes of the node cannot be told apart from it, stands where it stood, has
-        // its groups, is no larger and, unless it is `Keep`, is less. `Keep` leaves the node, and comes
-        // only where there is nothing to remove.
+        // its groups, is no larger, brings in no bracket to be simplified and, unless it is `Keep`, is
+        // less. `Keep` leaves the node, and comes only where there is nothing to remove.
         ensures lawful { IfOk result (IsLawful removes is_exact (direction_of walk.now) (tree node.old) (tree node.new)) }
 
         // Want of memory leaves the node.

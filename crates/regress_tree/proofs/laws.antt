@@ -1,12 +1,14 @@
 -- Laws of this crate's definitions, which the crates above may cite.
 pub mod Alike
 pub mod Assertions
+pub mod Brackets
 pub mod ByteSequences
 pub mod ByteStates
 pub mod Characters
 pub mod Classes
 pub mod Distinct
 pub mod Literals
+pub mod Measures
 pub mod Nodes
 pub mod Outcomes
 pub mod Places

@@ -10,6 +10,7 @@ pub mod Strings
 pub mod Matching
 pub mod Walk
 pub mod WellFormed
+pub mod Measures
 pub mod Units
 pub mod Shapes
 pub mod Setting

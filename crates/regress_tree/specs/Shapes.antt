@@ -1,26 +1,132 @@
--- Shapes that rewriting removes, as tests on a node.
-use Rattle.std.specs.Prelude.{◌≡◌, Bool, true, false, ◌||◌}
-use Rattle.regress_tree.specs.Tree.{Tree, Trees, leaf, cat, alt, wrapped, no_trees, more_trees}
+-- Tests on the nodes of a tree, and the shapes that rewriting removes.
+use Rattle.std.specs.Prelude.{◌≡◌, ℕ, ◌+◌, ◌-◌, Bool, true, false, not, ◌&&◌, ◌||◌, nat_le, nat_lt, if◌then◌else◌, List, [], ◌∷◌, length}
+use Rattle.regress_base.specs.Intervals.{Bounds, code_point_max}
+use Rattle.regress_base.specs.Limits.{max_char_set_length}
+use Rattle.regress_tree.specs.Tree.{Leaf, empty, goal, char, byte_sequence, byte_set, char_set, match_any, match_any_except_line_terminator, anchor, word_boundary, bracket, back_ref, string_set, Wrapper, capture_group, loop, loop_one, lookaround, Tree, Trees, leaf, cat, alt, wrapped, no_trees, more_trees}
+
+module _ (test : Tree → Bool) where
+  -- some node of the tree passes the test, or of a row
+  abbrev mutual
+    pub some_node : Tree → Bool
+    some_node (leaf l) = test (leaf l)
+    some_node (cat parts) = test (cat parts) || some_node_in_row parts
+    some_node (alt left right) = test (alt left right) || (some_node left || some_node right)
+    some_node (wrapped w body) = test (wrapped w body) || some_node body
+
+    pub some_node_in_row : Trees → Bool
+    some_node_in_row no_trees = false
+    some_node_in_row (more_trees t ts) = some_node t || some_node_in_row ts
+
+  -- some node below the root does
+  abbrev pub some_node_inside : Tree → Bool
+  some_node_inside (leaf l) = false
+  some_node_inside (cat parts) = some_node_in_row parts
+  some_node_inside (alt left right) = some_node left || some_node right
+  some_node_inside (wrapped w body) = some_node body
 
 module _ (shape : Tree → Bool) where
   -- no node of the tree has the shape
-  abbrev mutual
-    pub LacksShape : Tree → Type 0
-    LacksShape (leaf l) = shape (leaf l) ≡ false
-    LacksShape (cat parts) = (shape (cat parts) ≡ false) × RowLacksShape parts
-    LacksShape (alt left right) = (shape (alt left right) ≡ false) × LacksShape left × LacksShape right
-    LacksShape (wrapped w body) = (shape (wrapped w body) ≡ false) × LacksShape body
+  abbrev pub LacksShape : Tree → Type 0
+  LacksShape t = some_node shape t ≡ false
 
-    pub RowLacksShape : Trees → Type 0
-    RowLacksShape no_trees = Unit {0}
-    RowLacksShape (more_trees t ts) = LacksShape t × RowLacksShape ts
+  abbrev pub RowLacksShape : Trees → Type 0
+  RowLacksShape ts = some_node_in_row shape ts ≡ false
 
   -- no node below the root has the shape
   abbrev pub LacksInside : Tree → Type 0
-  LacksInside (leaf l) = Unit {0}
-  LacksInside (cat parts) = RowLacksShape parts
-  LacksInside (alt left right) = LacksShape left × LacksShape right
-  LacksInside (wrapped w body) = LacksShape body
+  LacksInside t = some_node_inside shape t ≡ false
+
+-- ---- tests on a leaf, or on a node that holds one
+
+abbrev pub on_leaf : (Leaf → Bool) → Tree → Bool
+on_leaf test (leaf l) = test l
+on_leaf test (cat parts) = false
+on_leaf test (alt left right) = false
+on_leaf test (wrapped w body) = false
+
+abbrev pub on_wrapper : (Wrapper → Bool) → Tree → Bool
+on_wrapper test (leaf l) = false
+on_wrapper test (cat parts) = false
+on_wrapper test (alt left right) = false
+on_wrapper test (wrapped w body) = test w
+
+abbrev pub is_group : Wrapper → Bool
+is_group (capture_group id name) = true
+is_group (loop quantifier start end) = false
+is_group (loop_one quantifier) = false
+is_group (lookaround negate backwards start end) = false
+
+-- a loop of either kind
+abbrev pub is_loop : Wrapper → Bool
+is_loop (capture_group id name) = false
+is_loop (loop quantifier start end) = true
+is_loop (loop_one quantifier) = true
+is_loop (lookaround negate backwards start end) = false
+
+abbrev pub is_string_set : Leaf → Bool
+is_string_set empty = false
+is_string_set goal = false
+is_string_set (char c) = false
+is_string_set (byte_sequence bytes) = false
+is_string_set (byte_set bytes) = false
+is_string_set (char_set characters) = false
+is_string_set match_any = false
+is_string_set match_any_except_line_terminator = false
+is_string_set (anchor kind multiline) = false
+is_string_set (word_boundary invert unicode_icase) = false
+is_string_set (bracket invert intervals) = false
+is_string_set (back_ref group icase) = false
+is_string_set (string_set strings icase) = true
+
+abbrev pub has_group : Tree → Bool
+has_group = some_node (on_wrapper is_group)
+
+abbrev pub has_loop : Tree → Bool
+has_loop = some_node (on_wrapper is_loop)
+
+abbrev pub has_string_set : Tree → Bool
+has_string_set = some_node (on_leaf is_string_set)
+
+-- ---- what rewriting removes
+
+-- a bracket whose `invert` and intervals pass the test
+abbrev pub is_bracket_with : (Bool → List Bounds → Bool) → Leaf → Bool
+is_bracket_with test empty = false
+is_bracket_with test goal = false
+is_bracket_with test (char c) = false
+is_bracket_with test (byte_sequence bytes) = false
+is_bracket_with test (byte_set bytes) = false
+is_bracket_with test (char_set characters) = false
+is_bracket_with test match_any = false
+is_bracket_with test match_any_except_line_terminator = false
+is_bracket_with test (anchor kind multiline) = false
+is_bracket_with test (word_boundary invert unicode_icase) = false
+is_bracket_with test (bracket invert intervals) = test invert intervals
+is_bracket_with test (back_ref group icase) = false
+is_bracket_with test (string_set strings icase) = false
+
+-- how many code points lie in the intervals
+abbrev pub code_point_count : List Bounds → ℕ
+code_point_count [] = 0
+code_point_count (iv ∷ ivs) = (iv.last + 1 - iv.first) + code_point_count ivs
+
+-- How many gaps there are before the intervals from `start` on, between them, and behind them up to the greatest code point.
+-- Those from 0 on are the intervals of the complement.
+abbrev pub gap_count : (start : ℕ) → List Bounds → ℕ
+gap_count start [] = if nat_le start code_point_max then 1 else 0
+gap_count start (iv ∷ ivs) = (if nat_lt start iv.first then 1 else 0) + gap_count (iv.last + 1) ivs
+
+-- a bracket, not inverted, of at most four code points
+abbrev pub is_small_bracket : Leaf → Bool
+is_small_bracket = is_bracket_with (λ invert intervals. not invert && nat_le (code_point_count intervals) max_char_set_length)
+
+-- a bracket with more intervals than its complement
+abbrev pub is_long_bracket : Leaf → Bool
+is_long_bracket = is_bracket_with (λ invert intervals. nat_lt (gap_count 0 intervals) (length intervals))
+
+-- What simplifying brackets removes.
+abbrev pub is_simplified_away : Tree → Bool
+is_simplified_away = on_leaf (λ l. is_small_bracket l || is_long_bracket l)
 
 abbrev pub is_cat : Tree → Bool
 is_cat (leaf l) = false

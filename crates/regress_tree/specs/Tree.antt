@@ -1,5 +1,5 @@
 -- A `Node` without memory. Two equal trees may lie in different places: contracts speak of this type.
-use Rattle.std.specs.Prelude.{ℕ, Bool, List, [], ◌∷◌, map, Option, option_map, string_bytes}
+use Rattle.std.specs.Prelude.{ℕ, zero, suc, Bool, List, [], ◌∷◌, map, Option, option_map, string_bytes}
 use Rattle.std.specs.Box.{boxed_slice_items}
 use Rattle.regress_base.specs.Intervals.{Bounds}
 use Rattle.regress_tree.specs.declared.ir.node.AnchorType.{AnchorType}
@@ -55,6 +55,11 @@ row (t ∷ ts) = more_trees t (row ts)
 abbrev pub row_append : Trees → Trees → Trees
 row_append no_trees us = us
 row_append (more_trees t ts) us = more_trees t (row_append ts us)
+
+-- n times the same tree
+abbrev pub copies : ℕ → Tree → Trees
+copies zero t = no_trees
+copies (suc n) t = more_trees t (copies n t)
 
 -- the last one first
 abbrev pub row_reverse : Trees → Trees

@@ -2,6 +2,8 @@
 pub use Rattle.regress_base.proofs.MemberLemmas.{or_assoc, is_member-nil, is_member-cons, is_member-one, is_member-append, is_member-take_more}
 pub use Rattle.regress_base.proofs.CanonicalLemmas.{canonical_parts, member_above, no_member_past_end}
 pub use Rattle.regress_base.proofs.UniqueLemmas.{canonical_unique}
+pub use Rattle.regress_base.proofs.GapsLemmas.{complement_from}
+unfoldable pub use Rattle.regress_base.proofs.GapsLemmas.{gaps_from}
 use Rattle.std.proofs.Common.{◌≡◌, ℕ, zero, suc, ◌+◌, ◌*◌, ◌<◌, ◌≤◌, ◌==◌, Bool, true, false, ◌||◌, inl, inr, IsTrue, List, [], ◌∷◌, length, refl, sym, ap, ◌∙◌, subst, le_refl, arith}
 use Rattle.std.proofs.lemmas.Bool.{cases_eq, cases_Bool, cond-true, cond-false, or_left, eq-eqb, ne_eqb}
 use Rattle.std.proofs.lemmas.Bool.Decides.{nat_tests}

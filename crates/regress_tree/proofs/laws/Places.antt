@@ -1,15 +1,17 @@
 -- Places where a tree stands as a part of another, and what of the whole follows from what is put there.
-use Rattle.std.proofs.Common.{◌≡◌, ℕ, ◌+◌, ◌<◌, ◌≤◌, ◌⊎◌, inl, inr, Bool, ◌==◌, List, ◌++◌, length, count_by, ap, ◌∙◌, arith}
+use Rattle.std.proofs.Common.{◌≡◌, ℕ, ◌+◌, ◌<◌, ◌≤◌, ◌⊎◌, inl, inr, Bool, false, ◌||◌, ◌==◌, List, ◌++◌, length, count_by, refl, sym, ap, ap₂, ◌∙◌, arith}
+use Rattle.std.proofs.lemmas.Bool.{or_parts}
 use Rattle.regress_tree.specs.Reading.{Direction}
 use Rattle.regress_tree.specs.Steps.{Step, Alike}
-use Rattle.regress_tree.specs.Tree.{Wrapper, capture_group, loop, loop_one, lookaround, Tree, Trees, cat, alt, wrapped, no_trees, more_trees, row_append}
+use Rattle.regress_tree.specs.Tree.{Leaf, Wrapper, capture_group, loop, loop_one, lookaround, Tree, Trees, cat, alt, wrapped, no_trees, more_trees, row_append}
 use Rattle.regress_tree.specs.Matching.{direction_in, wrapper_steps, steps, steps_in_row}
 use Rattle.regress_tree.specs.Setting.{Setting}
 use Rattle.regress_tree.specs.WellFormed.{captures, captures_in_row, captures_of_wrapper, Position, inside, last_of, position_in, HasGroups, WrapperMayStand, MayStand, RowMayStand}
-use Rattle.regress_tree.specs.Units.{units, units_in_row, loops, loops_in_row, unrollable, account, weight, weight_of_row, weight_of_wrapper, IsLess}
-use Rattle.regress_tree.specs.Shapes.{LacksShape, RowLacksShape, LacksInside}
+use Rattle.regress_tree.specs.Measures.{Measure, total, total_in_row}
+use Rattle.regress_tree.specs.Units.{sizes, loops, unrollables, account, weight, weights, IsLess}
+use Rattle.regress_tree.specs.Shapes.{on_leaf, LacksShape, RowLacksShape, LacksInside}
 use Rattle.regress_tree.proofs.laws.Alike.{Alike-refl, Alike-then, Alike-or, Alike-capture, Alike-repeat, Alike-look}
-use Rattle.regress_tree.proofs.laws.Rows.{units-append, loops-append, weight-append}
+use Rattle.regress_tree.proofs.laws.Measures.{total-append, some_node-append, LacksShape-here, LacksShape-inside, LacksShape-from, RowLacksShape-append}
 
 pub data Place : Type 0 where
   -- in a row, between these trees
@@ -114,64 +116,72 @@ MayStand-part (inside_of w) t n p m = (position_in w, m.2)
 
 -- How large it is.
 
-abbrev units_around : Place → ℕ
-units_around (among before behind) = 1 + (units_in_row before + units_in_row behind)
-units_around (left_of right) = 1 + units right
-units_around (right_of left) = 1 + units left
-units_around (inside_of w) = 1
+module _ (m : Measure) where
+  abbrev total_around : Place → ℕ
+  total_around (among before behind) = m.of_cat + (total_in_row m before + total_in_row m behind)
+  total_around (left_of right) = m.of_alt + total m right
+  total_around (right_of left) = m.of_alt + total m left
+  total_around (inside_of w) = m.of_wrapper w
 
-pub units-put : (p : Place) (t : Tree) → units (put p t) ≡ units_around p + units t
-units-put (among before behind) t = omega (arith, units-append before (more_trees t behind))
-units-put (left_of right) t = omega arith
-units-put (right_of left) t = omega arith
-units-put (inside_of w) t = omega arith
-
-abbrev loops_around : Place → ℕ
-loops_around (among before behind) = loops_in_row before + loops_in_row behind
-loops_around (left_of right) = loops right
-loops_around (right_of left) = loops left
-loops_around (inside_of w) = unrollable w
-
-pub loops-put : (p : Place) (t : Tree) → loops (put p t) ≡ loops_around p + loops t
-loops-put (among before behind) t = omega (arith, loops-append before (more_trees t behind))
-loops-put (left_of right) t = omega arith
-loops-put (right_of left) t = omega arith
-loops-put (inside_of w) t = omega arith
-
-abbrev weight_around : Place → ℕ
-weight_around (among before behind) = 2 + (weight_of_row before + weight_of_row behind)
-weight_around (left_of right) = 1 + weight right
-weight_around (right_of left) = 1 + weight left
-weight_around (inside_of w) = weight_of_wrapper w
-
-pub weight-put : (p : Place) (t : Tree) → weight (put p t) ≡ weight_around p + weight t
-weight-put (among before behind) t = omega (arith, weight-append before (more_trees t behind))
-weight-put (left_of right) t = omega arith
-weight-put (right_of left) t = omega arith
-weight-put (inside_of w) t = omega arith
+  pub total-put : (p : Place) (t : Tree) → total m (put p t) ≡ total_around p + total m t
+  total-put (among before behind) t = omega (arith, total-append m before (more_trees t behind))
+  total-put (left_of right) t = omega arith
+  total-put (right_of left) t = omega arith
+  total-put (inside_of w) t = omega arith
 
 pub account-put : (p : Place) (t u : Tree) → account u ≤ account t → account (put p u) ≤ account (put p t)
-account-put p t u no_more = omega (arith, units-put p t, units-put p u, loops-put p t, loops-put p u)
+account-put p t u no_more =
+    omega (arith, total-put sizes p t, total-put sizes p u, total-put unrollables p t, total-put unrollables p u)
 
 pub IsLess-put : (p : Place) (t u : Tree) → IsLess u t → IsLess (put p u) (put p t)
 IsLess-put p t u is_less = record { less = by is_less.less }
   where
     by : (loops u < loops t) ⊎ ((loops u ≡ loops t) × (weight u < weight t)) →
         (loops (put p u) < loops (put p t)) ⊎ ((loops (put p u) ≡ loops (put p t)) × (weight (put p u) < weight (put p t)))
-    by (inl fewer) = inl (omega (arith, loops-put p t, loops-put p u))
-    by (inr lighter) =
-        inr (omega (arith, lighter.0, loops-put p t, loops-put p u), omega (arith, lighter.1, weight-put p t, weight-put p u))
+    by (inl fewer) = inl (omega (arith, total-put unrollables p t, total-put unrollables p u))
+    by (inr lighter) = inr (
+      omega (arith, lighter.0, total-put unrollables p t, total-put unrollables p u),
+      omega (arith, lighter.1, total-put weights p t, total-put weights p u),
+    )
 
 -- Which shapes it lacks.
 
 module _ (shape : Tree → Bool) where
   RowLacksShape-part : (before behind : Trees) (t : Tree) → RowLacksShape shape (row_append before (more_trees t behind)) →
       LacksShape shape t
-  RowLacksShape-part no_trees behind t lacks = lacks.0
-  RowLacksShape-part (more_trees x before) behind t lacks = RowLacksShape-part before behind t lacks.1
+  RowLacksShape-part before behind t lacks =
+      let rest = (or_parts _ _ (sym (some_node-append shape before (more_trees t behind)) ∙ lacks)).1 in
+      (or_parts _ _ rest).0
 
   pub LacksShape-part : (p : Place) (t : Tree) → LacksInside shape (put p t) → LacksShape shape t
   LacksShape-part (among before behind) t lacks = RowLacksShape-part before behind t lacks
-  LacksShape-part (left_of right) t lacks = lacks.0
-  LacksShape-part (right_of left) t lacks = lacks.1
+  LacksShape-part (left_of right) t lacks = (or_parts _ _ lacks).0
+  LacksShape-part (right_of left) t lacks = (or_parts _ _ lacks).1
   LacksShape-part (inside_of w) t lacks = lacks
+
+  LacksInside-put : (p : Place) (t u : Tree) → (LacksShape shape t → LacksShape shape u) → LacksInside shape (put p t) →
+      LacksInside shape (put p u)
+  LacksInside-put (among before behind) t u kept lacks =
+      let first = or_parts _ _ (sym (some_node-append shape before (more_trees t behind)) ∙ lacks) in
+      let rest = or_parts _ _ first.1 in
+      RowLacksShape-append shape before (more_trees u behind) first.0 (ap₂ ◌||◌ (kept rest.0) rest.1)
+  LacksInside-put (left_of right) t u kept lacks =
+      let sides = or_parts _ _ lacks in
+      ap₂ ◌||◌ (kept sides.0) sides.1
+  LacksInside-put (right_of left) t u kept lacks =
+      let sides = or_parts _ _ lacks in
+      ap₂ ◌||◌ sides.0 (kept sides.1)
+  LacksInside-put (inside_of w) t u kept lacks = kept lacks
+
+  -- a shape that does not depend on the part
+  pub LacksShape-put : (p : Place) (t u : Tree) → shape (put p u) ≡ shape (put p t) → (LacksShape shape t → LacksShape shape u) →
+      LacksShape shape (put p t) → LacksShape shape (put p u)
+  LacksShape-put p t u same kept lacks =
+      LacksShape-from shape (put p u) (LacksInside-put p t u kept (LacksShape-inside shape (put p t) lacks))
+      (same ∙ LacksShape-here shape (put p t) lacks)
+
+pub on_leaf-put : (test : Leaf → Bool) (p : Place) (t : Tree) → on_leaf test (put p t) ≡ false
+on_leaf-put test (among before behind) t = refl
+on_leaf-put test (left_of right) t = refl
+on_leaf-put test (right_of left) t = refl
+on_leaf-put test (inside_of w) t = refl

@@ -1,5 +1,5 @@
 -- Rows of trees, one behind the other.
-use Rattle.std.proofs.Common.{◌≡◌, ℕ, ◌+◌, List, [], ◌∷◌, ◌++◌, map, flat_map, refl, sym, ap, ◌∙◌, append_assoc, append-nil, arith}
+use Rattle.std.proofs.Common.{◌≡◌, ℕ, List, [], ◌∷◌, ◌++◌, map, flat_map, refl, sym, ap, ◌∙◌, append_assoc, append-nil}
 use mathlib.Core.Path.{fun_ext}
 use Rattle.std.proofs.lemmas.List.{map-append}
 use Rattle.regress_tree.specs.declared.ir.node.Node.{Node}
@@ -9,7 +9,6 @@ use Rattle.regress_tree.specs.Tree.{Leaf, empty, goal, char, byte_sequence, byte
 use Rattle.regress_tree.specs.Matching.{steps, steps_in_row}
 use Rattle.regress_tree.specs.Setting.{Setting}
 use Rattle.regress_tree.specs.WellFormed.{captures, captures_in_row, Position, one_character, inside, last, root, NotAsOneCharacter, AsOneCharacter, GoalMayStand, last_of, LeafMayStand, MayStand, RowMayStand}
-use Rattle.regress_tree.specs.Units.{units_in_row, loops_in_row, weight_of_row}
 use Rattle.regress_tree.proofs.laws.Outcomes.{flat_map-then}
 
 pub row_append-none : (ts : Trees) → row_append ts no_trees ≡ ts
@@ -27,7 +26,7 @@ row-append (t ∷ ts) us = ap (more_trees t) (row-append ts us)
 pub trees-append : (xs ys : List Node) → trees (xs ++ ys) ≡ row_append (trees xs) (trees ys)
 trees-append xs ys = ap row (map-append tree xs ys) ∙ row-append (map tree xs) (map tree ys)
 
--- What a row matches, captures and counts.
+-- What a row matches and captures.
 
 pub steps-append : (setting : Setting) (bytes : List ℕ) (d : Direction) (ts us : Trees) (s : State) →
     steps_in_row setting bytes d (row_append ts us) s ≡ flat_map (steps_in_row setting bytes d us) (steps_in_row setting bytes d ts s)
@@ -40,18 +39,6 @@ pub captures-append : (ts us : Trees) → captures_in_row (row_append ts us) ≡
 captures-append no_trees us = refl
 captures-append (more_trees t ts) us =
     ap (λ cs. captures t ++ cs) (captures-append ts us) ∙ sym (append_assoc (captures t) (captures_in_row ts) (captures_in_row us))
-
-pub units-append : (ts us : Trees) → units_in_row (row_append ts us) ≡ units_in_row ts + units_in_row us
-units-append no_trees us = omega arith
-units-append (more_trees t ts) us = omega (arith, units-append ts us)
-
-pub loops-append : (ts us : Trees) → loops_in_row (row_append ts us) ≡ loops_in_row ts + loops_in_row us
-loops-append no_trees us = omega arith
-loops-append (more_trees t ts) us = omega (arith, loops-append ts us)
-
-pub weight-append : (ts us : Trees) → weight_of_row (row_append ts us) ≡ weight_of_row ts + weight_of_row us
-weight-append no_trees us = omega arith
-weight-append (more_trees t ts) us = omega (arith, weight-append ts us)
 
 -- What may stand as the last part of a `Cat` may stand where the `Cat` does.
 

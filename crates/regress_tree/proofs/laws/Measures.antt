@@ -1,0 +1,164 @@
+-- Laws of sums over a tree and of tests on its nodes, for whatever a node counts and whatever is tested.
+use Rattle.std.proofs.Common.{◌≡◌, ℕ, zero, suc, ◌+◌, ◌*◌, ◌≤◌, ◌<◌, inl, inr, Bool, false, ◌||◌, [], ◌∷◌, refl, sym, ap, ap₂, ◌∙◌, arith}
+use Rattle.std.proofs.Math.Bool.{or_assoc, or-false}
+use Rattle.std.proofs.Math.Nat.{mul-add}
+use Rattle.std.proofs.lemmas.Bool.{or_parts, cases_lt}
+use Rattle.regress_tree.specs.Tree.{Leaf, empty, goal, char, byte_sequence, byte_set, char_set, match_any, match_any_except_line_terminator, anchor, word_boundary, bracket, back_ref, string_set, Wrapper, capture_group, loop, loop_one, lookaround, Tree, Trees, leaf, cat, alt, wrapped, no_trees, more_trees, row_append, copies}
+use Rattle.regress_tree.specs.WellFormed.{Position, inside, last_of, position_in, LeafMayStand, MayStand, RowMayStand}
+use Rattle.regress_tree.specs.Measures.{Measure, total, total_in_row}
+use Rattle.regress_tree.specs.Units.{charge_of_leaf, charges, charge, units_of_leaf, sizes, units, weight_of_leaf, weight_of_wrapper, weights, weight, loops, IsLess}
+use Rattle.regress_tree.specs.Shapes.{some_node, some_node_in_row, some_node_inside, LacksShape, RowLacksShape, LacksInside}
+
+-- ---- sums
+
+module _ (m : Measure) where
+  pub total-append : (ts us : Trees) → total_in_row m (row_append ts us) ≡ total_in_row m ts + total_in_row m us
+  total-append no_trees us = omega arith
+  total-append (more_trees t ts) us = omega (arith, total-append ts us)
+
+  pub total-copies : (n : ℕ) (t : Tree) → total_in_row m (copies n t) ≡ n * total m t
+  total-copies zero t = omega arith
+  total-copies (suc n) t = omega (arith, total-copies n t)
+
+  -- A tree counts at least one where each node does.
+  pub total-positive : ((l : Leaf) → 1 ≤ m.of_leaf l) → 1 ≤ m.of_cat → 1 ≤ m.of_alt → ((w : Wrapper) → 1 ≤ m.of_wrapper w) →
+      (t : Tree) → 1 ≤ total m t
+  total-positive of_leaf of_cat of_alt of_wrapper (leaf l) = of_leaf l
+  total-positive of_leaf of_cat of_alt of_wrapper (cat parts) = omega arith
+  total-positive of_leaf of_cat of_alt of_wrapper (alt left right) = omega arith
+  total-positive of_leaf of_cat of_alt of_wrapper (wrapped w body) = omega (arith, of_wrapper w)
+
+-- at each node, where it may stand, the one counts at most k times what the other does
+pub record IsAtMost (k : ℕ) (m m' : Measure) : Type 0 where
+  pub of_leaf : (n : ℕ) (l : Leaf) (p : Position) → LeafMayStand n l p → m.of_leaf l ≤ k * m'.of_leaf l
+  pub of_cat : m.of_cat ≤ k * m'.of_cat
+  pub of_alt : m.of_alt ≤ k * m'.of_alt
+  pub of_wrapper : (w : Wrapper) → m.of_wrapper w ≤ k * m'.of_wrapper w
+
+module _ (k : ℕ) (m m' : Measure) (each : IsAtMost k m m') where
+  joined : (a b x y : ℕ) → a ≤ k * x → b ≤ k * y → a + b ≤ k * (x + y)
+  joined a b x y first second = omega (arith, mul-add k x y)
+
+  mutual
+    -- then a tree does
+    pub total-le : (n : ℕ) (t : Tree) (p : Position) → MayStand n t p → total m t ≤ k * total m' t
+    total-le n (leaf l) p stands = each.of_leaf n l p stands
+    total-le n (cat parts) p stands = joined _ _ _ _ each.of_cat (total_in_row-le n parts (last_of p) stands.1)
+    total-le n (alt left right) p stands =
+        joined _ _ _ _ each.of_alt (joined _ _ _ _ (total-le n left inside stands.1) (total-le n right inside stands.2))
+    total-le n (wrapped w body) p stands = joined _ _ _ _ (each.of_wrapper w) (total-le n body (position_in w) stands.2)
+
+    total_in_row-le : (n : ℕ) (ts : Trees) (p : Position) → RowMayStand n ts p → total_in_row m ts ≤ k * total_in_row m' ts
+    total_in_row-le n no_trees p stands = omega arith
+    total_in_row-le n (more_trees t no_trees) p stands = joined _ 0 _ 0 (total-le n t p stands) (omega arith)
+    total_in_row-le n (more_trees t (more_trees u us)) p stands =
+        joined _ _ _ _ (total-le n t inside stands.0) (total_in_row-le n (more_trees u us) p stands.1)
+
+-- ---- units, charges and weights
+
+units_of_leaf-positive : (l : Leaf) → 1 ≤ units_of_leaf l
+units_of_leaf-positive empty = omega arith
+units_of_leaf-positive goal = omega arith
+units_of_leaf-positive (char c) = omega arith
+units_of_leaf-positive (byte_sequence bytes) = omega arith
+units_of_leaf-positive (byte_set bytes) = omega arith
+units_of_leaf-positive (char_set characters) = omega arith
+units_of_leaf-positive match_any = omega arith
+units_of_leaf-positive match_any_except_line_terminator = omega arith
+units_of_leaf-positive (anchor kind multiline) = omega arith
+units_of_leaf-positive (word_boundary invert unicode_icase) = omega arith
+units_of_leaf-positive (bracket invert intervals) = omega arith
+units_of_leaf-positive (back_ref group icase) = omega arith
+units_of_leaf-positive (string_set strings icase) = omega arith
+
+pub units-positive : (t : Tree) → 1 ≤ units t
+units-positive = total-positive sizes units_of_leaf-positive (omega arith) (omega arith) (λ w. omega arith)
+
+weight_of_leaf-positive : (l : Leaf) → 1 ≤ weight_of_leaf l
+weight_of_leaf-positive empty = omega arith
+weight_of_leaf-positive goal = omega arith
+weight_of_leaf-positive (char c) = omega arith
+weight_of_leaf-positive (byte_sequence []) = omega arith
+weight_of_leaf-positive (byte_sequence (b ∷ bytes)) = omega arith
+weight_of_leaf-positive (byte_set bytes) = omega arith
+weight_of_leaf-positive (char_set characters) = omega arith
+weight_of_leaf-positive match_any = omega arith
+weight_of_leaf-positive match_any_except_line_terminator = omega arith
+weight_of_leaf-positive (anchor kind multiline) = omega arith
+weight_of_leaf-positive (word_boundary invert unicode_icase) = omega arith
+weight_of_leaf-positive (bracket invert intervals) = omega arith
+weight_of_leaf-positive (back_ref group icase) = omega arith
+weight_of_leaf-positive (string_set strings icase) = omega arith
+
+weight_of_wrapper-positive : (w : Wrapper) → 1 ≤ weight_of_wrapper w
+weight_of_wrapper-positive (capture_group id name) = omega arith
+weight_of_wrapper-positive (loop quantifier start end) = omega arith
+weight_of_wrapper-positive (loop_one quantifier) = omega arith
+weight_of_wrapper-positive (lookaround negate backwards start end) = omega arith
+
+pub weight-positive : (t : Tree) → 1 ≤ weight t
+weight-positive = total-positive weights weight_of_leaf-positive (omega arith) (omega arith) weight_of_wrapper-positive
+
+units_of_leaf-le : (n : ℕ) (l : Leaf) (p : Position) → LeafMayStand n l p → units_of_leaf l ≤ 5 * charge_of_leaf l
+units_of_leaf-le n empty p stands = omega arith
+units_of_leaf-le n goal p stands = omega arith
+units_of_leaf-le n (char c) p stands = omega arith
+units_of_leaf-le n (byte_sequence bytes) p stands = omega arith
+units_of_leaf-le n (byte_set bytes) p stands = omega arith
+units_of_leaf-le n (char_set characters) p stands = omega arith
+units_of_leaf-le n match_any p stands = omega arith
+units_of_leaf-le n match_any_except_line_terminator p stands = omega arith
+units_of_leaf-le n (anchor kind multiline) p stands = omega arith
+units_of_leaf-le n (word_boundary invert unicode_icase) p stands = omega arith
+units_of_leaf-le n (bracket invert intervals) p stands = omega arith
+units_of_leaf-le n (back_ref group icase) p stands = omega arith
+units_of_leaf-le n (string_set strings icase) p stands = omega arith
+
+-- what is charged as one counts five units at most
+pub units-le : (n : ℕ) (t : Tree) (p : Position) → MayStand n t p → units t ≤ 5 * charge t
+units-le = total-le 5 sizes charges (record {
+  of_leaf = units_of_leaf-le;
+  of_cat = omega arith;
+  of_alt = omega arith;
+  of_wrapper = λ w. omega arith;
+})
+
+-- what has no more loops to unroll and is lighter is less
+pub IsLess-lighter : (new old : Tree) → loops new ≤ loops old → weight new < weight old → IsLess new old
+IsLess-lighter new old no_more lighter = elim (cases_lt (loops new) (loops old)) [
+  | inl fewer ↦ record { less = inl fewer }
+  | inr no_fewer ↦ record { less = inr (omega arith, lighter) }
+]
+
+-- ---- tests
+
+module _ (test : Tree → Bool) where
+  -- of a tree by its root and what lies inside
+  pub some_node-root : (t : Tree) → some_node test t ≡ (test t || some_node_inside test t)
+  some_node-root (leaf l) = sym (or-false (test (leaf l)))
+  some_node-root (cat parts) = refl
+  some_node-root (alt left right) = refl
+  some_node-root (wrapped w body) = refl
+
+  pub some_node-append : (ts us : Trees) →
+      some_node_in_row test (row_append ts us) ≡ (some_node_in_row test ts || some_node_in_row test us)
+  some_node-append no_trees us = refl
+  some_node-append (more_trees t ts) us =
+      ap (λ b. some_node test t || b) (some_node-append ts us)
+      ∙ sym (or_assoc (some_node test t) (some_node_in_row test ts) (some_node_in_row test us))
+
+  pub some_node-copies : (n : ℕ) (t : Tree) → some_node test t ≡ false → some_node_in_row test (copies n t) ≡ false
+  some_node-copies zero t none = refl
+  some_node-copies (suc n) t none = ap₂ ◌||◌ none (some_node-copies n t none)
+
+  pub LacksShape-here : (t : Tree) → LacksShape test t → test t ≡ false
+  LacksShape-here t lacks = (or_parts (test t) (some_node_inside test t) (sym (some_node-root t) ∙ lacks)).0
+
+  pub LacksShape-inside : (t : Tree) → LacksShape test t → LacksInside test t
+  LacksShape-inside t lacks = (or_parts (test t) (some_node_inside test t) (sym (some_node-root t) ∙ lacks)).1
+
+  pub LacksShape-from : (t : Tree) → LacksInside test t → test t ≡ false → LacksShape test t
+  LacksShape-from t below here = some_node-root t ∙ ap₂ ◌||◌ here below
+
+  pub RowLacksShape-append : (ts us : Trees) → RowLacksShape test ts → RowLacksShape test us → RowLacksShape test (row_append ts us)
+  RowLacksShape-append ts us first second = some_node-append ts us ∙ ap₂ ◌||◌ first second
