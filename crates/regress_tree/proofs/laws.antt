@@ -1,6 +1,7 @@
 -- Laws of this crate's definitions, which the crates above may cite.
 pub mod Alike
 pub mod Assertions
+pub mod Brackets
 pub mod ByteSequences
 pub mod ByteStates
 pub mod Characters
@@ -13,6 +14,7 @@ pub mod Places
 pub mod Readings
 pub mod References
 pub mod Repetition
+pub mod Reversed
 pub mod Rows
 pub mod Simulation
 pub mod Strings
