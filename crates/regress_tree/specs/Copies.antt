@@ -1,5 +1,5 @@
 -- What copying asks of a tree.
-use Rattle.std.specs.Prelude.{ℕ, ◌+◌, ◌≤◌, max, Bool, true, false, ◌||◌}
+use Rattle.std.specs.Prelude.{ℕ, ◌+◌, ◌≤◌, max, Bool, true, false, not, ◌&&◌, ◌||◌, nat_le}
 use Rattle.regress_tree.specs.Tree.{Leaf, empty, goal, char, byte_sequence, byte_set, char_set, match_any, match_any_except_line_terminator, anchor, word_boundary, bracket, back_ref, string_set, Wrapper, capture_group, loop, loop_one, lookaround, Tree, Trees, leaf, cat, alt, wrapped, no_trees, more_trees}
 
 -- how many levels of nodes there are
@@ -41,24 +41,24 @@ abbrev mutual
   some_has_string_set no_trees = false
   some_has_string_set (more_trees t ts) = has_string_set t || some_has_string_set ts
 
--- no group is said to lie inside
-abbrev pub IsRangeEmpty : Wrapper → Type 0
-IsRangeEmpty (capture_group id name) = Unit {0}
-IsRangeEmpty (loop quantifier start end) = end ≤ start
-IsRangeEmpty (loop_one quantifier) = Unit {0}
-IsRangeEmpty (lookaround negate backwards start end) = end ≤ start
+-- it is no capture group, and no group is said to lie inside
+abbrev pub IsGroupless : Wrapper → Type 0
+IsGroupless (capture_group id name) = ⊥
+IsGroupless (loop quantifier start end) = end ≤ start
+IsGroupless (loop_one quantifier) = Unit {0}
+IsGroupless (lookaround negate backwards start end) = end ≤ start
 
--- the group range of each loop and lookaround is empty
+-- No node is a capture group, and the group range of each loop and lookaround is empty.
 abbrev mutual
-  pub HasEmptyRanges : Tree → Type 0
-  HasEmptyRanges (leaf l) = Unit {0}
-  HasEmptyRanges (cat parts) = HaveEmptyRanges parts
-  HasEmptyRanges (alt left right) = HasEmptyRanges left × HasEmptyRanges right
-  HasEmptyRanges (wrapped w body) = IsRangeEmpty w × HasEmptyRanges body
+  pub HasNoGroup : Tree → Type 0
+  HasNoGroup (leaf l) = Unit {0}
+  HasNoGroup (cat parts) = NoneHasGroup parts
+  HasNoGroup (alt left right) = HasNoGroup left × HasNoGroup right
+  HasNoGroup (wrapped w body) = IsGroupless w × HasNoGroup body
 
-  pub HaveEmptyRanges : Trees → Type 0
-  HaveEmptyRanges no_trees = Unit {0}
-  HaveEmptyRanges (more_trees t ts) = HasEmptyRanges t × HaveEmptyRanges ts
+  pub NoneHasGroup : Trees → Type 0
+  NoneHasGroup no_trees = Unit {0}
+  NoneHasGroup (more_trees t ts) = HasNoGroup t × NoneHasGroup ts
 
 -- it holds no node
 abbrev pub is_leaf : Tree → Bool
@@ -66,3 +66,15 @@ is_leaf (leaf l) = true
 is_leaf (cat parts) = false
 is_leaf (alt left right) = false
 is_leaf (wrapped w body) = false
+
+-- no node stands past the depth of 100, where the tree stands at this one, and none is a `StringSet`
+abbrev mutual
+  pub may_duplicate : (depth : ℕ) → Tree → Bool
+  may_duplicate depth (leaf l) = nat_le depth 100 && not (is_string_set l)
+  may_duplicate depth (cat parts) = nat_le depth 100 && may_duplicate_row (depth + 1) parts
+  may_duplicate depth (alt left right) = nat_le depth 100 && (may_duplicate (depth + 1) left && may_duplicate (depth + 1) right)
+  may_duplicate depth (wrapped w body) = nat_le depth 100 && may_duplicate (depth + 1) body
+
+  pub may_duplicate_row : (depth : ℕ) → Trees → Bool
+  may_duplicate_row depth no_trees = true
+  may_duplicate_row depth (more_trees t ts) = may_duplicate depth t && may_duplicate_row depth ts

@@ -1,9 +1,9 @@
 //! Copies of trees.
-ghost use Rattle.std.specs.Prelude.{◌≡◌, true, false, IfOk, map, option_map, string_bytes};
+ghost use Rattle.std.specs.Prelude.{◌≡◌, ◌≤◌, true, false, IfOk, IfSome, is_some, map, option_map, string_bytes};
 ghost use Rattle.std.specs.Box.{boxed_slice_items};
 ghost use Rattle.regress_tree.specs.Tree.{tree, trees};
 ghost use Rattle.regress_tree.specs.Spine.{is_alt};
-ghost use Rattle.regress_tree.specs.Copies.{is_leaf};
+ghost use Rattle.regress_tree.specs.Copies.{is_leaf, HasNoGroup, NoneHasGroup, may_duplicate, may_duplicate_row};
 
 use super::node::{Node, NodeList, Regex};
 use super::spine::relink;
@@ -21,6 +21,27 @@ impl Node {
         ensures { IfOk result (λ copy. tree copy ≡ tree self.now) }
     {
         copy_node(self, alloc)
+    }
+}
+
+/// The depth of the deepest nodes that [`Node::try_duplicate`] copies.
+const MAX_COPY_DEPTH: usize = 100;
+
+impl Node {
+    ghost use Rattle.std.specs.Prelude.{◌≡◌, ◌+◌, ◌&&◌, not, nat_le, is_some, IfOk, IfSome};
+    ghost use Rattle.regress_tree.specs.Tree.{tree};
+    ghost use Rattle.regress_tree.specs.Copies.{levels, has_string_set, HasNoGroup};
+
+    /// An equal node with memory of its own, where this one stands at `depth` in a tree. It is None if a
+    /// `StringSet`, which may be long, stands in it, or a node of it at a depth past 100. The caller knows that
+    /// no capture group is inside, and that the group range of each loop and lookaround inside is empty.
+    pub fn try_duplicate(&self, alloc: Global, depth: usize) -> Result<Option<Node>, AllocError>
+        requires { HasNoGroup (tree self.now) }
+        ensures copy { IfOk result (λ found. IfSome found (λ copy. tree copy ≡ tree self.now)) }
+        ensures some { IfOk result (λ found. is_some found
+            ≡ (not (has_string_set (tree self.now)) && nat_le (depth + levels (tree self.now)) 101)) }
+    {
+        duplicate_node(self, alloc, depth)
     }
 }
 
@@ -109,6 +130,94 @@ fn copy_nodes(nodes: &[Node], alloc: Global) -> Result<NodeList, AllocError>
         copies.push(copy_node(node, alloc)?)?;
     }
     Ok(copies)
+}
+
+#[cycle(duplicate)]
+fn duplicate_node(node: &Node, alloc: Global, depth: usize) -> Result<Option<Node>, AllocError>
+    requires { HasNoGroup (tree node.now) }
+    ensures copy { IfOk result (λ found. IfSome found (λ copy. tree copy ≡ tree node.now)) }
+    ensures some { IfOk result (λ found. is_some found ≡ may_duplicate depth (tree node.now)) }
+{
+    if depth > MAX_COPY_DEPTH {
+        return Ok(None);
+    }
+    let inside = depth + 1;
+    Ok(match node {
+        Node::Cat(parts) => duplicate_nodes(parts, alloc, inside)?.map(Node::Cat),
+        Node::Alt(left, right) => {
+            let Some(left) = duplicate_box(left, alloc, inside)? else {
+                return Ok(None);
+            };
+            let Some(right) = duplicate_box(right, alloc, inside)? else {
+                return Ok(None);
+            };
+            Some(Node::Alt(left, right))
+        }
+        Node::Loop {
+            loopee,
+            quant,
+            enclosed_groups,
+        } => duplicate_box(loopee, alloc, inside)?.map(|loopee| Node::Loop {
+            loopee,
+            quant: *quant,
+            enclosed_groups: enclosed_groups.start..enclosed_groups.end,
+        }),
+        Node::Loop1CharBody { loopee, quant } => {
+            duplicate_box(loopee, alloc, inside)?.map(|loopee| Node::Loop1CharBody {
+                loopee,
+                quant: *quant,
+            })
+        }
+        Node::LookaroundAssertion {
+            negate,
+            backwards,
+            start_group,
+            end_group,
+            contents,
+        } => duplicate_box(contents, alloc, inside)?.map(|contents| Node::LookaroundAssertion {
+            negate: *negate,
+            backwards: *backwards,
+            start_group: *start_group,
+            end_group: *end_group,
+            contents,
+        }),
+        Node::CaptureGroup { .. } => unreachable!(),
+        Node::StringSet { .. } => None,
+        _ => Some(copy_leaf(node, alloc)?),
+    })
+}
+
+#[cycle(duplicate)]
+fn duplicate_box(node: &Node, alloc: Global, depth: usize) -> Result<Option<Box<Node>>, AllocError>
+    requires { HasNoGroup (tree node.now) }
+    ensures copy { IfOk result (λ found. IfSome found (λ copy. tree copy.value ≡ tree node.now)) }
+    ensures some { IfOk result (λ found. is_some found ≡ may_duplicate depth (tree node.now)) }
+{
+    match duplicate_node(node, alloc, depth)? {
+        Some(copy) => Ok(Some(Box::new(alloc, copy)?)),
+        None => Ok(None),
+    }
+}
+
+#[cycle(duplicate)]
+fn duplicate_nodes(
+    nodes: &[Node],
+    alloc: Global,
+    depth: usize,
+) -> Result<Option<NodeList>, AllocError>
+    requires shallow { depth ≤ 101 }
+    requires groups { NoneHasGroup (trees nodes.now) }
+    ensures copy { IfOk result (λ found. IfSome found (λ copies. trees copies.items ≡ trees nodes.now)) }
+    ensures some { IfOk result (λ found. is_some found ≡ may_duplicate_row depth (trees nodes.now)) }
+{
+    let mut copies = Vec::with_capacity(alloc, nodes.len())?;
+    for node in nodes {
+        match duplicate_node(node, alloc, depth)? {
+            Some(copy) => copies.push(copy)?,
+            None => return Ok(None),
+        }
+    }
+    Ok(Some(copies))
 }
 
 /// Copies a node that holds no node.
