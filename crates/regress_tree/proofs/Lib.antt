@@ -2,3 +2,4 @@ pub mod laws
 mod Examples
 pub mod LoweringLemmas
 mod LiteralExamples
+mod DuplicateLemmas

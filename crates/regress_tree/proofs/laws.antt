@@ -1,4 +1,5 @@
 -- Laws of this crate's definitions, which the crates above may cite.
+pub mod Accepting
 pub mod Alike
 pub mod Assertions
 pub mod Brackets
@@ -15,6 +16,7 @@ pub mod Places
 pub mod Readings
 pub mod References
 pub mod Repetition
+pub mod Reversed
 pub mod Rows
 pub mod Simulation
 pub mod Strings

@@ -15,3 +15,5 @@ pub mod Units
 pub mod Shapes
 pub mod Setting
 pub mod Spine
+pub mod NodeTests
+pub mod Copies

@@ -1,0 +1,54 @@
+-- Which trees are duplicated.
+use Rattle.std.proofs.Common.{◌≡◌, ℕ, ◌+◌, ◌<◌, ◌≤◌, inl, inr, max, Bool, true, false, not, ◌&&◌, ◌||◌, nat_le, refl, arith}
+use Rattle.std.proofs.lemmas.Bool.{cases_lt}
+use Rattle.std.proofs.lemmas.Bool.Decides.{nat_tests}
+use Rattle.regress_tree.specs.Tree.{Tree, Trees, leaf, cat, alt, wrapped, no_trees, more_trees}
+use Rattle.regress_tree.specs.Copies.{levels, levels_in_row, is_string_set, has_string_set, some_has_string_set, may_duplicate, may_duplicate_row}
+
+one_level : (depth : ℕ) (strings : Bool) → (nat_le depth 100 && not strings) ≡ (not strings && nat_le (depth + 1) 101)
+one_level depth true = grind (arith, nat_tests)
+one_level depth false = grind (arith, nat_tests)
+
+one_inside : (depth more : ℕ) (strings : Bool) → (nat_le depth 100 && (not strings && nat_le (depth + 1 + more) 101))
+    ≡ (not strings && nat_le (depth + (1 + more)) 101)
+one_inside depth more true = grind (arith, nat_tests)
+one_inside depth more false = grind (arith, nat_tests)
+
+both_inside : (depth a b : ℕ) (s t : Bool) → ((not s && nat_le (depth + a) 101) && (not t && nat_le (depth + b) 101))
+    ≡ (not (s || t) && nat_le (depth + max a b) 101)
+both_inside depth a b true t = grind (arith, nat_tests)
+both_inside depth a b false true = grind (arith, nat_tests)
+both_inside depth a b false false = grind (arith, nat_tests)
+
+too_deep : (depth more : ℕ) (strings rest : Bool) → 100 < depth →
+    (nat_le depth 100 && rest) ≡ (not strings && nat_le (depth + (1 + more)) 101)
+too_deep depth more true rest deep = grind (arith, nat_tests)
+too_deep depth more false rest deep = grind (arith, nat_tests)
+
+-- those without a `StringSet` whose nodes all stand at a depth of at most 100
+mutual
+  pub may_duplicate-is : (depth : ℕ) (t : Tree) → may_duplicate depth t ≡ (not (has_string_set t) && nat_le (depth + levels t) 101)
+  may_duplicate-is depth (leaf l) = one_level depth (is_string_set l)
+  may_duplicate-is depth (cat parts) =
+      elim (cases_lt 100 depth) [
+        | inl deep ↦ too_deep depth (levels_in_row parts) (some_has_string_set parts) _ deep
+        | inr shallow ↦
+            rw (may_duplicate_row-is (depth + 1) parts (omega arith))
+            (one_inside depth (levels_in_row parts) (some_has_string_set parts))
+      ]
+  may_duplicate-is depth (alt left right) =
+      rw (
+        may_duplicate-is (depth + 1) left,
+        may_duplicate-is (depth + 1) right,
+        both_inside (depth + 1) (levels left) (levels right) (has_string_set left) (has_string_set right),
+      )
+      (one_inside depth (max (levels left) (levels right)) (has_string_set left || has_string_set right))
+  may_duplicate-is depth (wrapped w body) =
+      rw (may_duplicate-is (depth + 1) body) (one_inside depth (levels body) (has_string_set body))
+
+  may_duplicate_row-is : (depth : ℕ) (ts : Trees) → depth ≤ 101 →
+      may_duplicate_row depth ts ≡ (not (some_has_string_set ts) && nat_le (depth + levels_in_row ts) 101)
+  may_duplicate_row-is depth no_trees h = grind (arith, nat_tests)
+  may_duplicate_row-is depth (more_trees t ts) h =
+      rw (may_duplicate-is depth t, may_duplicate_row-is depth ts h)
+      (both_inside depth (levels t) (levels_in_row ts) (has_string_set t) (some_has_string_set ts))
