@@ -28,17 +28,21 @@ fn boundary(
 
 #[test]
 fn a_word_boundary_minds_both_of_i_and_u(rt: HostRuntime) -> Result<(), Fail> {
-    for (letters, unicode_icase) in [
-        ("", false),
-        ("i", false),
-        ("u", false),
-        ("ms", false),
-        ("iu", true),
+    for (pattern, letters, found) in [
+        ("\\b", "", (false, false)),
+        ("\\b", "i", (false, false)),
+        ("\\b", "u", (false, false)),
+        ("\\b", "ms", (false, false)),
+        ("\\b", "iu", (false, true)),
+        ("\\B", "i", (true, false)),
+        ("\\B", "u", (true, false)),
+        ("\\B", "iu", (true, true)),
     ] {
-        for (pattern, invert) in [("\\b", false), ("\\B", true)] {
-            let found = boundary(rt.alloc(), pattern, letters)?;
-            assert_eq!(rt; found, Some((invert, unicode_icase)), "{pattern} {letters}");
-        }
+        assert_eq!(rt;
+            boundary(rt.alloc(), pattern, letters)?,
+            Some(found),
+            "{pattern} {letters}"
+        );
     }
     Ok(())
 }

@@ -16,94 +16,75 @@ fn lowered(alloc: Global, cps: &[u32], icase: bool, unicode: bool) -> Result<Vec
     lower_code_point_sequence(alloc, cps, icase, unicode, &Tables::small(alloc)?)
 }
 
-/// The pieces are these, with or without the flags i and u.
+/// The pieces are shown so, with or without the flags i and u.
 fn expect_pieces(
     rt: &impl Abort,
     alloc: Global,
     cps: &[u32],
     flags: (bool, bool),
-    wanted: &[Piece],
+    wanted: &str,
 ) -> Result<(), Fail>
     requires { All (λ c. c ≤ CODE_POINT_MAX) cps.now }
 {
     let (icase, unicode) = flags;
     let pieces = lowered(alloc, cps, icase, unicode)?;
-    assert_eq!(rt; pieces.as_slice(), wanted);
+    assert_eq!(rt; format!(in alloc; "{pieces:?}")?.as_str(), wanted);
     Ok(())
 }
 
 #[test]
-fn a_letter_of_three_cases_is_a_char_set(rt: HostRuntime) -> Result<(), Fail> {
+fn literals_are_pieces(rt: HostRuntime) -> Result<(), Fail> {
     let alloc = rt.alloc();
-    let wanted = vec![in alloc; Piece::CharSet(vec![in alloc; 0x53, 0x73, 0x17F]?)]?;
-    expect_pieces(&rt, alloc, &[0x73], (true, true), &wanted)
+    expect_pieces(&rt, alloc, &[], (true, false), "[]")?;
+    expect_pieces(
+        &rt,
+        alloc,
+        &[0xE9],
+        (false, false),
+        "[ByteSequence([195, 169])]",
+    )?;
+    expect_pieces(
+        &rt,
+        alloc,
+        &[0x61, 0xE9, 0x62],
+        (false, false),
+        "[ByteSequence([97, 195, 169, 98])]",
+    )?;
+    // a surrogate stands alone among bytes
+    expect_pieces(
+        &rt,
+        alloc,
+        &[0x61, 0xD800, 0x62],
+        (false, true),
+        "[ByteSequence([97]), Char(55296), ByteSequence([98])]",
+    )?;
+    expect_pieces(
+        &rt,
+        alloc,
+        &[0x61, 0x62, 0x21],
+        (true, true),
+        "[ByteSet([65, 97]), ByteSet([66, 98]), ByteSequence([33])]",
+    )?;
+    expect_pieces(
+        &rt,
+        alloc,
+        &[0x73],
+        (true, true),
+        "[CharSet([83, 115, 383])]",
+    )
 }
 
 #[test]
-fn a_surrogate_stands_alone_among_bytes(rt: HostRuntime) -> Result<(), Fail> {
-    let alloc = rt.alloc();
-    let wanted = vec![in alloc;
-        Piece::ByteSequence(vec![in alloc; b'a']?),
-        Piece::Char(0xD800),
-        Piece::ByteSequence(vec![in alloc; b'b']?),
-    ]?;
-    expect_pieces(&rt, alloc, &[0x61, 0xD800, 0x62], (false, true), &wanted)
-}
-
-#[test]
-fn ascii_letters_without_case_are_byte_sets(rt: HostRuntime) -> Result<(), Fail> {
-    let alloc = rt.alloc();
-    let wanted = vec![in alloc;
-        Piece::ByteSet(vec![in alloc; 0x41, 0x61]?),
-        Piece::ByteSet(vec![in alloc; 0x42, 0x62]?),
-        Piece::ByteSequence(vec![in alloc; b'!']?),
-    ]?;
-    expect_pieces(&rt, alloc, &[0x61, 0x62, 0x21], (true, true), &wanted)
-}
-
-#[test]
-fn no_literal_is_no_piece(rt: HostRuntime) -> Result<(), Fail> {
-    assert!(rt; lowered(rt.alloc(), &[], true, false)?.is_empty());
-    Ok(())
-}
-
-#[test]
-fn a_character_is_its_utf8(rt: HostRuntime) -> Result<(), Fail> {
-    let alloc = rt.alloc();
-    let wanted = vec![in alloc; Piece::ByteSequence(vec![in alloc; 0xC3, 0xA9]?)]?;
-    expect_pieces(&rt, alloc, &[0xE9], (false, false), &wanted)
-}
-
-#[test]
-fn characters_in_a_row_are_one_sequence(rt: HostRuntime) -> Result<(), Fail> {
-    let alloc = rt.alloc();
-    let wanted = vec![in alloc; Piece::ByteSequence(vec![in alloc; 0x61, 0xC3, 0xA9, 0x62]?)]?;
-    expect_pieces(&rt, alloc, &[0x61, 0xE9, 0x62], (false, false), &wanted)
-}
-
-#[test]
-fn pieces_are_copied(rt: HostRuntime) -> Result<(), Fail> {
+fn pieces_are_copied_and_become_nodes(rt: HostRuntime) -> Result<(), Fail> {
     let alloc = rt.alloc();
     let pieces = lowered(alloc, &[0xD800, 0x61, 0x6B, 0x21], true, true)?;
     for piece in &pieces {
         assert_eq!(rt; &piece.try_clone(alloc)?, piece);
     }
-    Ok(())
-}
-
-#[test]
-fn pieces_become_nodes(rt: HostRuntime) -> Result<(), Fail> {
-    let alloc = rt.alloc();
-    let pieces = lowered(alloc, &[0xD800, 0x61, 0x6B, 0x21], true, true)?;
     let nodes = Piece::into_nodes(alloc, pieces)?;
-    assert_eq!(rt; nodes.len(), 4);
-    assert!(rt; matches!(&nodes[0], Node::Char { c: 0xD800 }));
-    assert!(rt;
-        matches!(&nodes[1], Node::ByteSet(bytes) if bytes.as_slice() == [0x41, 0x61].as_slice())
-    );
-    assert!(rt; matches!(&nodes[2], Node::CharSet(_)));
-    assert!(rt;
-        matches!(&nodes[3], Node::ByteSequence(bytes) if bytes.as_slice() == [0x21].as_slice())
+    assert_eq!(rt;
+        format!(in alloc; "{nodes:?}")?.as_str(),
+        "[Char { c: 55296 }, ByteSet([65, 97]), CharSet([75, 107, 8490]), ByteSequence([33])]"
     );
     Ok(())
 }

@@ -1,21 +1,23 @@
 //! Large patterns, of which each part comes out.
 ghost use Rattle.std.specs.Prelude.{◌≤◌};
 
-use super::{first_part, flags_of, repeated};
-use crate::caller::code_points;
-use regress_front::ir::Node;
-use regress_front::optimizer::parse_and_optimize;
+use super::{first_part, parsed, repeated};
+use regress_front::ir::{Node, Regex};
+use regress_front::optimizer::optimize;
 use regress_front::parse::ParseFault;
-use regress_front::unicode::Tables;
 use std::alloc::{AllocError, Global};
 use std::test::Fail;
 
+/// The optimized tree of a pattern.
+fn optimized(alloc: Global, pattern: &str, letters: &str) -> Result<Regex, ParseFault> {
+    let mut regex = parsed(alloc, pattern, letters)?;
+    optimize(alloc, &mut regex)?;
+    Ok(regex)
+}
+
 /// The parts of the optimized tree of a pattern, and the intervals of the first if it is a bracket.
 fn counted(alloc: Global, pattern: &str, letters: &str) -> Result<(usize, usize), ParseFault> {
-    let points = code_points(alloc, pattern)?;
-    let tables = Tables::small(alloc)?;
-    let (regex, optimized) = parse_and_optimize(alloc, &points, flags_of(letters), &tables)?;
-    optimized?;
+    let regex = optimized(alloc, pattern, letters)?;
     let Node::Cat(parts) = &regex.node else {
         return Ok((0, 0));
     };
@@ -104,10 +106,7 @@ fn many_groups_with_names_are_parsed(rt: HostRuntime) -> Result<(), Fail> {
 
 /// How many alternatives of three parts stand before the last one.
 fn alternatives(alloc: Global, pattern: &str) -> Result<usize, ParseFault> {
-    let points = code_points(alloc, pattern)?;
-    let tables = Tables::small(alloc)?;
-    let (regex, optimized) = parse_and_optimize(alloc, &points, flags_of(""), &tables)?;
-    optimized?;
+    let regex = optimized(alloc, pattern, "")?;
     let Some(mut last) = first_part(&regex.node) else {
         return Ok(0);
     };
