@@ -1,12 +1,12 @@
 -- Operands of a class with the flag v, as they are read.
-use Rattle.std.proofs.Common.{◌≡◌, ℕ, Bool, true, false, ◌==◌, cond, ◌∷◌, drop, Option, Some, None, sym, ap, ◌∙◌}
+use Rattle.std.proofs.Common.{◌≡◌, ℕ, Bool, true, false, ◌∷◌, drop, Option, Some, None, sym, ap, ◌∙◌}
 use Rattle.std.proofs.lemmas.Bool.{cond-true, cond-false}
 use Rattle.std.proofs.lemmas.Option.{none-some, same_Some}
 use Rattle.regress_base.specs.declared.charclasses.CharacterClassType.{CharacterClassType}
 use Rattle.regress_unicode.specs.Table.{Table}
-use Rattle.regress_lexical.specs.Source.{Source, Found, found_map, is_one_of, is_at}
+use Rattle.regress_lexical.specs.Source.{Source, Found, found_map, is_at, first_row}
 use Rattle.regress_classes.specs.ClassRows.{class_letter, class_members}
-use Rattle.regress_classes.specs.ClassSets.{Value, only, nested, Operand, character, class, quoted_at, set_character_at, operand_at, property_operand_at, escaped_character_at, escaped_operand_at}
+use Rattle.regress_classes.specs.ClassSets.{Value, only, nested, Operand, character, class, set_character_at, operand_at, operand_rows, escaped_operand_at}
 
 -- a class by an escape
 pub class_escape_read : (table : Table) (unicode in_negated : Bool) (t : Source) (c : ℕ) (rest : Source) (named : CharacterClassType × Bool) →
@@ -18,9 +18,7 @@ class_escape_read table unicode in_negated t c rest named front letter =
     by : (found : Option (CharacterClassType × Bool)) → found ≡ Some named →
         elim found as (λ _. Found Operand) [
           | Some name ↦ Some (class (only (class_members name)), rest)
-          | None ↦ cond (c == 113) (quoted_at unicode rest)
-              (cond (is_one_of "pP" c) (property_operand_at table in_negated (c == 80) rest)
-              (found_map character (escaped_character_at unicode (c ∷ rest))))
+          | None ↦ first_row (operand_rows table unicode in_negated c rest)
         ] ≡ Some (class (only (class_members named)), rest)
     by None e = absurd (none-some _ e)
     by (Some name) e = ap (λ (n : CharacterClassType × Bool). Some (class (only (class_members n)), rest)) (same_Some name named e)

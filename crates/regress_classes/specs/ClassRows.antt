@@ -5,7 +5,7 @@ use Rattle.regress_base.specs.declared.charclasses.CharacterClassType.TheVariant
 use Rattle.regress_base.specs.Classes.{digits, white_space, line_terminators, word_characters}
 use Rattle.regress_base.specs.Intervals.{Bounds, is_member, intervals_of}
 use Rattle.regress_unicode.specs.Table.{Table}
-use Rattle.regress_lexical.specs.Source.{Source, Found, ◌>>=◌, found_map, char, is_one_of, is_at}
+use Rattle.regress_lexical.specs.Source.{Source, Found, ◌>>=◌, found_map, Row, when, otherwise, first_row, char, is_one_of, is_at}
 use Rattle.regress_lexical.specs.Digits.{is_decimal, is_letter, control}
 use Rattle.regress_lexical.specs.Escapes.{escape_at}
 use Rattle.regress_classes.specs.Properties.{Property, points_of, property_at}
@@ -71,19 +71,20 @@ abbrev pub class_property_at : Table → Bool → Source → Found ClassAtom
 class_property_at table negated t = property_at false table t >>= class_property negated
 
 module _ (table : Table) (unicode : Bool) where
-  -- an escape in a class, behind its backslash
+  -- the rows of an escape in a class that begins with c and is no class itself, behind its backslash
+  abbrev pub class_escape_rows : ℕ → Source → List (Row ClassAtom)
+  class_escape_rows c t =
+      -- `\b` is backspace
+      when (c == char "b") (Some (point 8, t))
+      ∷ when (c == char "-" && unicode) (Some (point (char "-"), t))
+      ∷ when (c == char "c" && not unicode) (class_control_at t)
+      ∷ when (is_one_of "pP" c && unicode) (class_property_at table (c == char "P") t)
+      ∷ otherwise (found_map point (escape_at unicode (c ∷ t))) ∷ []
+
+  -- an escape in a class that begins with c, behind its backslash
   abbrev pub class_escape_by : ℕ → Source → Found ClassAtom
   class_escape_by c t =
-      elim (class_letter c) [
-        | Some named ↦ Some (set (class_members named), t)
-        | None ↦
-            -- `\b` is backspace
-            if c == char "b" then Some (point 8, t)
-            else if c == char "-" && unicode then Some (point (char "-"), t)
-            else if c == char "c" && not unicode then class_control_at t
-            else if is_one_of "pP" c && unicode then class_property_at table (c == char "P") t
-            else found_map point (escape_at unicode (c ∷ t))
-      ]
+      elim (class_letter c) [ None ↦ first_row (class_escape_rows c t) | Some named ↦ Some (set (class_members named), t) ]
 
   abbrev pub class_escape_at : Source → Found ClassAtom
   class_escape_at [] = None

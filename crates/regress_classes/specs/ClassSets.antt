@@ -5,7 +5,7 @@ use Rattle.std.specs.Str.{bytes_eq}
 use Rattle.regress_base.specs.Intervals.{Bounds, is_member, intervals_of}
 use Rattle.regress_base.specs.Limits.{max_nesting_depth}
 use Rattle.regress_unicode.specs.Table.{Table}
-use Rattle.regress_lexical.specs.Source.{Source, Found, ◌>>=◌, found_map, char, is_one_of, is_at}
+use Rattle.regress_lexical.specs.Source.{Source, Found, ◌>>=◌, found_map, Row, when, otherwise, first_row, char, is_one_of, is_at}
 use Rattle.regress_lexical.specs.Escapes.{escape_at}
 use Rattle.regress_classes.specs.Properties.{Property, of_points, of_strings, property_at}
 use Rattle.regress_classes.specs.ClassRows.{complement_if, class_letter, class_members, one_point, points_between}
@@ -147,16 +147,20 @@ abbrev pub are_at : ℕ → Source → Bool
 are_at c t = is_at c t && is_at c (drop 1 t)
 
 module _ (table : Table) (unicode : Bool) where
+  -- the rows of an escape that begins with c and is no class, behind its backslash
+  abbrev pub operand_rows : (in_negated : Bool) → ℕ → Source → List (Row Operand)
+  operand_rows in_negated c t =
+      when (c == char "q") (quoted_at unicode t)
+      ∷ when (is_one_of "pP" c) (property_operand_at table in_negated (c == char "P") t)
+      ∷ otherwise (found_map character (escaped_character_at unicode (c ∷ t))) ∷ []
+
   -- an escape, behind its backslash
   abbrev pub escaped_operand_at : (in_negated : Bool) → Source → Found Operand
   escaped_operand_at in_negated [] = None
   escaped_operand_at in_negated (c ∷ t) =
       elim (class_letter c) [
         | Some named ↦ Some (class (only (class_members named)), t)
-        | None ↦
-            if c == char "q" then quoted_at unicode t
-            else if is_one_of "pP" c then property_operand_at table in_negated (c == char "P") t
-            else found_map character (escaped_character_at unicode (c ∷ t))
+        | None ↦ first_row (operand_rows in_negated c t)
       ]
 
   -- The rest is said where `inner` reads what stands behind the `[` of a class, and `in_negated` says whether the class
@@ -204,16 +208,21 @@ module _ (table : Table) (unicode : Bool) where
     abbrev pub operands_at : (c : ℕ) → (Value → Value → Value) → Value → Source → Found Value
     operands_at c f value t = operands_by (length t + 1) c f value t
 
-    -- behind the first operand
+    -- ---- what a class holds: one of five forms
+
+    -- behind the first operand, by what follows it
     abbrev pub contents_behind : Operand × Source → Found Value
     contents_behind (first, t) =
+        -- operands joined by `&&`
         if are_at (char "&") t then operands_at (char "&") common (value_of first) (drop 2 t)
+        -- operands joined by `--`
         else if are_at (char "-") t then operands_at (char "-") without (value_of first) (drop 2 t)
-        -- a single `&` is a member, and begins no range
+        -- parts, of which the first takes a single `&` along: that is a member too, and begins no range
         else if is_at (char "&") t then parts_at (joined (value_of first) (only (one_point (char "&")))) (drop 1 t)
+        -- a first part, then parts, and where it is an operand and none follow, that operand alone
         else part_behind (first, t) >>= λ (part, rest). parts_at part rest
 
-    -- what a class holds, up to its `]`
+    -- all of it, up to its `]`: nothing, or what a first operand begins
     abbrev pub contents_at : Source → Found Value
     contents_at t = if is_at (char "]") t then Some (nothing, drop 1 t) else operand_at t >>= contents_behind
 

@@ -133,7 +133,11 @@ fn read_contents(cursor: &mut Cursor, around: &Surroundings) -> Result<Value, Pa
 
 /// Reads on behind the first operand.
 #[cycle(class_set)]
-fn read_behind(cursor: &mut Cursor, around: &Surroundings, first: Operand) -> Result<Value, ParseFault>
+fn read_behind(
+    cursor: &mut Cursor,
+    around: &Surroundings,
+    first: Operand,
+) -> Result<Value, ParseFault>
     requires { (operand : WrittenOperand) × IsOperand first operand }
     ensures { (operand : WrittenOperand) → IsOperand first operand → ReadsAs IsValue (source cursor.new) result
         (contents_behind (table_of around.now.tables.now) around.now.unicode (inner_of around.now) around.now.negated (operand, source cursor.old)) }
@@ -178,7 +182,11 @@ fn are_at(source: &[u32], c: char) -> bool
 
 /// Reads the parts up to `]`, which join what is held already.
 #[cycle(class_set)]
-fn read_parts(cursor: &mut Cursor, around: &Surroundings, mut value: Value) -> Result<Value, ParseFault>
+fn read_parts(
+    cursor: &mut Cursor,
+    around: &Surroundings,
+    mut value: Value,
+) -> Result<Value, ParseFault>
     ensures { (held : Written) → IsValue value held → ReadsAs IsValue (source cursor.new) result
         (parts_at (table_of around.now.tables.now) around.now.unicode (inner_of around.now) around.now.negated held (source cursor.old)) }
 {

@@ -1,5 +1,5 @@
 -- The text of a pattern, and reading from its front.
-use Rattle.std.specs.Prelude.{ℕ, ◌≤◌, Bool, true, false, not, ◌||◌, List, [], ◌∷◌, Option, Some, ◌==◌, codes, option_and_then}
+use Rattle.std.specs.Prelude.{ℕ, ◌≤◌, Bool, true, false, not, ◌||◌, List, [], ◌∷◌, Option, Some, None, if◌then◌else◌, ◌==◌, codes, option_and_then}
 use Prim.Native.Char.{Char, code}
 use Prim.Native.String.{String}
 use Rattle.std.specs.List.{list_any}
@@ -21,6 +21,21 @@ found >>= next = option_and_then next found
 -- the same, of what was found
 abbrev pub found_map : {A B : Type 0} → (A → B) → Found A → Found B
 found_map f found = found >>= λ (x, t). Some (f x, t)
+
+-- a row of the grammar: whether it applies, and what it finds then
+abbrev pub Row : Type 0 → Type 0
+Row A = Bool × Found A
+
+abbrev pub when : {A : Type 0} → Bool → Found A → Row A
+when applies found = (applies, found)
+
+abbrev pub otherwise : {A : Type 0} → Found A → Row A
+otherwise found = (true, found)
+
+-- the first row that applies is the one
+abbrev pub first_row : {A : Type 0} → List (Row A) → Found A
+first_row [] = None
+first_row ((applies, found) ∷ rows) = if applies then found else first_row rows
 
 -- a pattern is made of these, surrogates among them
 abbrev pub IsCodePoint : ℕ → Type 0

@@ -14,13 +14,14 @@ use Rattle.regress_lexical.specs.Modifiers.{Change, modifiers_at}
 use Rattle.regress_syntax.specs.Names.{group_name_at}
 use Rattle.regress_classes.specs.Properties.{Property, of_points, of_strings, property_at}
 use Rattle.regress_lexical.specs.Quantifiers.{quantifier_at}
-use Rattle.regress_syntax.specs.Rows.{Context, Head, single, opens, angle_at, behind_mark_at, group_at, property_atom, property_atom_at, is_lone_backslash, has_name, has_names, character_at, numbered_at, named_at, escaped_by, escaped_at, brace_by, brackets_at, atom_by, head_at}
-use Rattle.regress_lexical.specs.Source.{Source, Found, IsCodePoint, opening, full_stop, colon, question_mark, is_one_of, is_at, is_plain}
+use Rattle.regress_syntax.specs.Rows.{Context, Head, single, opens, angle_at, behind_mark_at, group_at, property_atom, property_atom_at, has_name, character_at, numbered_at, named_at, escape_rows, escaped_by, escaped_at, brace_by, brackets_at, atom_rows, atom_by, head_at}
+use Rattle.regress_lexical.specs.Source.{Source, Found, IsCodePoint, opening, colon, question_mark, is_at, first_row}
 use Rattle.regress_syntax.specs.Syntax.{Target, by_number, by_name, Atom, literal, dot, anchor, boundary, class_escape, class, class_set, string_property, back_reference, Group, grouping, modified, capture, look}
 use Rattle.regress_lexical.proofs.laws.Behind.{Ends, behind_all}
 use Rattle.regress_classes.proofs.laws.ClassStrings.{OfCodePoints, PropertyInRange, property_at-in_range, class_set_at-in_range}
 use Rattle.regress_lexical.proofs.laws.InRange.{Finds, finds_none, finds_some, finds_cond, finds_then, finds_map, escape_at-in_range}
 use Rattle.regress_syntax.proofs.laws.NameEnds.{IsName, name_characters}
+use Rattle.regress_lexical.proofs.laws.Sources.{EachRow, no_more, ◌also◌, first_row-has}
 
 -- the source is made of code points
 pub record AreCodePoints (t : Source) : Type 0 where
@@ -131,6 +132,17 @@ module _ (ctx : Context) (lawful : IsLawful ctx.setting.table) (n : ℕ) (within
       finds_then _ _ (group_name_at ctx.setting.table t) _ (finds_any (group_name_at ctx.setting.table t))
       (λ x _. finds_cond _ (has_name x.0 ctx.names) _ _ (λ _. finds_some _ _ tt) (λ _. finds_none _))
 
+  escape_rows-good : (c : ℕ) (t : Source) → AreCodePoints (c ∷ t) → EachRow (Finds (IsGoodAtom n)) (escape_rows ctx c t)
+  escape_rows-good c t all =
+      (λ _. finds_some _ _ tt)
+      also (λ _. finds_some _ _ tt)
+      also (λ _. finds_some _ _ (omega arith))
+      also (λ _. property_atom_at-good _ t)
+      also numbered_at-good c t all
+      also (λ _. named_at-good t)
+      also (λ _. character_at-good c t all)
+      also no_more
+
   escaped_by-good : (c : ℕ) (t : Source) → AreCodePoints (c ∷ t) → Finds (IsGoodAtom n) (escaped_by ctx c t)
   escaped_by-good c t all = by_letter (class_letter c)
     where
@@ -138,24 +150,10 @@ module _ (ctx : Context) (lawful : IsLawful ctx.setting.table) (n : ℕ) (within
           Finds (IsGoodAtom n)
           (elim letter as (λ _. Found Atom) [
             | Some named ↦ Some (class_escape ctx.setting.flags named.0 named.1, t)
-            | None ↦
-                cond (c == 98) (Some (boundary ctx.setting.flags false, t))
-                (cond (c == 66) (Some (boundary ctx.setting.flags true, t))
-                (cond (is_lone_backslash ctx.setting.flags.unicode c t) (Some (literal ctx.setting.flags 92, 99 ∷ t))
-                (cond (is_one_of "pP" c && (ctx.setting.flags.unicode || ctx.setting.flags.unicode_sets)) (property_atom_at ctx (c == 80) t)
-                (cond (is_between 49 57 c) (numbered_at ctx c t)
-                (cond (c == 107 && (ctx.setting.flags.unicode || has_names ctx.names)) (named_at ctx t) (character_at ctx c t))))))
+            | None ↦ first_row (escape_rows ctx c t)
           ])
       by_letter (Some named) = finds_some _ _ tt
-      by_letter None =
-          finds_cond _ (c == 98) _ _ (λ _. finds_some _ _ tt)
-          (λ _. finds_cond _ (c == 66) _ _ (λ _. finds_some _ _ tt)
-          (λ _. finds_cond _ (is_lone_backslash ctx.setting.flags.unicode c t) _ _ (λ _. finds_some _ _ (omega arith))
-          (λ _. finds_cond _ (is_one_of "pP" c && (ctx.setting.flags.unicode || ctx.setting.flags.unicode_sets)) _ _
-          (λ _. property_atom_at-good (c == 80) t)
-          (λ _. finds_cond _ (is_between 49 57 c) _ _ (numbered_at-good c t all)
-          (λ _. finds_cond _ (c == 107 && (ctx.setting.flags.unicode || has_names ctx.names)) _ _
-          (λ _. named_at-good t) (λ _. character_at-good c t all))))))
+      by_letter None = first_row-has (Finds (IsGoodAtom n)) (escape_rows ctx c t) (finds_none _) (escape_rows-good c t all)
 
   escaped_at-good : (t : Source) → AreCodePoints t → Finds (IsGoodAtom n) (escaped_at ctx t)
   escaped_at-good [] all = finds_none _
@@ -174,15 +172,19 @@ module _ (ctx : Context) (lawful : IsLawful ctx.setting.table) (n : ℕ) (within
       (λ _. finds_map (λ (_ : Bool × List Bounds). Unit {0}) (IsGoodAtom n) (λ (inverted, members). class ctx.setting.flags inverted members) _
       (λ x holds. tt) (finds_any (class_at ctx.setting.table ctx.setting.flags.unicode t)))
 
+  atom_rows-good : (c : ℕ) (t : Source) → IsCodePoint c → AreCodePoints t → EachRow (Finds (IsGoodAtom n)) (atom_rows ctx c t)
+  atom_rows-good c t h all =
+      (λ _. finds_some _ _ tt)
+      also (λ _. finds_some _ _ tt)
+      also (λ _. finds_some _ _ tt)
+      also (λ _. escaped_at-good t all)
+      also (λ _. brackets_at-good t all)
+      also (λ _. brace_by-good c t h)
+      also (λ _. finds_some _ _ h)
+      also no_more
+
   atom_by-good : (c : ℕ) (t : Source) → IsCodePoint c → AreCodePoints t → Finds (IsGoodAtom n) (atom_by ctx c t)
-  atom_by-good c t h all =
-      finds_cond _ (c == full_stop) _ _ (λ _. finds_some _ _ tt)
-      (λ _. finds_cond _ (c == 94) _ _ (λ _. finds_some _ _ tt)
-      (λ _. finds_cond _ (c == 36) _ _ (λ _. finds_some _ _ tt)
-      (λ _. finds_cond _ (c == 92) _ _ (λ _. escaped_at-good t all)
-      (λ _. finds_cond _ (c == 91) _ _ (λ _. brackets_at-good t all)
-      (λ _. finds_cond _ (is_one_of "{]}" c) _ _ (λ _. brace_by-good c t h)
-      (λ _. finds_cond _ (is_plain c) _ _ (λ _. finds_some _ _ h) (λ _. finds_none _)))))))
+  atom_by-good c t h all = first_row-has (Finds (IsGoodAtom n)) (atom_rows ctx c t) (finds_none _) (atom_rows-good c t h all)
 
   -- what an item begins with
   pub head_at-good : (t : Source) → AreCodePoints t → Finds (IsGoodHead n) (head_at ctx t)

@@ -1,18 +1,19 @@
 -- A scan passes properties, and classes without the flag v.
-use Rattle.std.proofs.Common.{◌≡◌, ℕ, zero, suc, ◌+◌, Bool, true, false, not, cond, ◌&&◌, ◌||◌, ◌==◌, List, [], ◌∷◌, length, drop, Option, Some, None, refl, sym, subst, arith, eqb-true}
+use Rattle.std.proofs.Common.{◌≡◌, ℕ, zero, suc, ◌+◌, Bool, true, false, cond, ◌&&◌, ◌||◌, ◌==◌, List, [], ◌∷◌, length, drop, Option, Some, None, refl, sym, subst, arith, eqb-true}
 use Rattle.std.proofs.lemmas.Bool.{false≢true}
 use Rattle.std.proofs.lemmas.Bool.Decides.{nat_tests}
 use Rattle.regress_base.specs.Intervals.{Bounds}
 use Rattle.regress_base.specs.declared.charclasses.CharacterClassType.{CharacterClassType}
 use Rattle.regress_unicode.specs.Table.{Table}
-use Rattle.regress_lexical.specs.Source.{Source, Found, found_map, is_one_of, is_at}
+use Rattle.regress_lexical.specs.Source.{Source, Found, is_at, first_row}
 use Rattle.regress_lexical.specs.Digits.{is_decimal, is_letter, control, behind}
 use Rattle.regress_lexical.specs.Escapes.{escape_at}
 use Rattle.regress_classes.specs.Properties.{Property, points_of, is_property_character, closed_property, property_at}
-use Rattle.regress_classes.specs.ClassRows.{ClassAtom, point, set, complement_if, class_letter, class_members, class_control_at, class_property_at, class_escape_by, class_escape_at, class_atom_at, atom_members, begins_range, range_of, range_at, class_part_at, class_parts_by, class_at}
+use Rattle.regress_classes.specs.ClassRows.{ClassAtom, point, set, complement_if, class_letter, class_members, class_control_at, class_property_at, class_escape_rows, class_escape_by, class_escape_at, class_atom_at, atom_members, begins_range, range_of, range_at, class_part_at, class_parts_by, class_at}
 use Rattle.regress_syntax.specs.Scan.{plain, class, class_escape, marks}
 use Rattle.regress_lexical.proofs.laws.Digits.{and_both}
 use Rattle.regress_syntax.proofs.ScanLemmas.{is_quiet, Passes, Leads, Home, in_class, home, passes_same, passes_then, leads_none, leads_some, leads_behind, leads_then, leads_map, leads_cond, pass_quiet, pass_at, pass_backslash, pass_escaped, pass_behind, lead_escape_at}
+use Rattle.regress_lexical.proofs.laws.Sources.{EachRow, no_more, ◌also◌, first_row-has}
 
 -- a class may hold anything, or nothing
 lead_made : {A : Type 0} {sets : Bool} {table : Table} (w : Home) (f : List Bounds → A) (made : Option (List Bounds)) (t : Source) →
@@ -67,6 +68,17 @@ module _ {table : Table} where
       (leads_then (property_at false table t) _ (lead_property_at (in_class 0 0) false table t)
       (λ x. lead_made (in_class 0 0) (λ members. set (complement_if negated members)) (points_of x.0) x.1))
 
+  class_escape_rows_lead : (unicode : Bool) (c : ℕ) (t : Source) →
+      EachRow (Leads false table (class_escape 0 0) (c ∷ t) (class 0 0)) (class_escape_rows table unicode c t)
+  class_escape_rows_lead unicode c t =
+      (λ _. leads_some (point 8, t) (pass_escaped (in_class 0 0) c t))
+      also (λ _. leads_some (point 45, t) (pass_escaped (in_class 0 0) c t))
+      also (λ e. subst (λ k. Leads false table (class_escape 0 0) (k ∷ t) (class 0 0) (class_control_at t)) (sym (eqb-true c 99 (and_both _ _ e).0))
+      (lead_class_control_at t))
+      also (λ _. lead_class_property_at _ c t)
+      also (λ _. leads_map point (escape_at unicode (c ∷ t)) (lead_escape_at (in_class 0 0) unicode (c ∷ t)))
+      also no_more
+
   lead_class_escape_by : (unicode : Bool) (c : ℕ) (t : Source) →
       Leads false table (class_escape 0 0) (c ∷ t) (class 0 0) (class_escape_by table unicode c t)
   lead_class_escape_by unicode c t = by (class_letter c)
@@ -75,20 +87,10 @@ module _ {table : Table} where
           Leads false table (class_escape 0 0) (c ∷ t) (class 0 0)
           (elim letter as (λ _. Found ClassAtom) [
             | Some named ↦ Some (set (class_members named), t)
-            | None ↦ cond (c == 98) (Some (point 8, t)) (cond (c == 45 && unicode) (Some (point 45, t))
-                (cond (c == 99 && not unicode) (class_control_at t)
-                (cond (is_one_of "pP" c && unicode) (class_property_at table (c == 80) t)
-                (found_map point (escape_at unicode (c ∷ t))))))
+            | None ↦ first_row (class_escape_rows table unicode c t)
           ])
       by (Some named) = leads_some (set (class_members named), t) (pass_escaped (in_class 0 0) c t)
-      by None =
-          leads_cond (c == 98) _ _ (λ _. leads_some (point 8, t) (pass_escaped (in_class 0 0) c t))
-          (λ _. leads_cond (c == 45 && unicode) _ _ (λ _. leads_some (point 45, t) (pass_escaped (in_class 0 0) c t))
-          (λ _. leads_cond (c == 99 && not unicode) _ _
-          (λ e. subst (λ k. Leads false table (class_escape 0 0) (k ∷ t) (class 0 0) (class_control_at t)) (sym (eqb-true c 99 (and_both _ _ e).0))
-          (lead_class_control_at t))
-          (λ _. leads_cond (is_one_of "pP" c && unicode) _ _ (λ _. lead_class_property_at (c == 80) c t)
-          (λ _. leads_map point (escape_at unicode (c ∷ t)) (lead_escape_at (in_class 0 0) unicode (c ∷ t))))))
+      by None = first_row-has (Leads false table (class_escape 0 0) (c ∷ t) (class 0 0)) (class_escape_rows table unicode c t) leads_none (class_escape_rows_lead unicode c t)
 
   lead_class_escape_at : (unicode : Bool) (t : Source) → Leads false table (class_escape 0 0) t (class 0 0) (class_escape_at table unicode t)
   lead_class_escape_at unicode [] = leads_none

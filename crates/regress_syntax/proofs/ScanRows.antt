@@ -7,8 +7,8 @@ use Rattle.regress_base.specs.Classes.{word_characters}
 use Rattle.regress_base.specs.Intervals.{Bounds, is_within, is_member}
 use Rattle.regress_base.specs.declared.charclasses.CharacterClassType.{CharacterClassType}
 use Rattle.regress_unicode.specs.Table.{Table, HasWordAscii, IsLawful}
-use Rattle.regress_lexical.specs.Source.{Source, Found, ◌>>=◌, found_map, opening, closing, colon, bar, full_stop, question_mark, is_one_of, is_at, is_plain}
-use Rattle.regress_lexical.specs.Digits.{is_between, is_decimal, number, front, behind}
+use Rattle.regress_lexical.specs.Source.{Source, Found, ◌>>=◌, found_map, opening, closing, colon, bar, full_stop, question_mark, is_one_of, is_at, first_row}
+use Rattle.regress_lexical.specs.Digits.{is_decimal, number, front, behind}
 use Rattle.regress_lexical.specs.Escapes.{unicode_at, escape_at}
 use Rattle.regress_tree.specs.declared.ir.node.Quantifier.{Quantifier}
 use Rattle.regress_lexical.specs.Quantifiers.{quantifier_at, is_ordered}
@@ -19,13 +19,14 @@ use Rattle.regress_lexical.specs.Modifiers.{is_modifier, letters_off, behind_let
 use Rattle.regress_syntax.specs.Names.{is_sign, begins_name, continues_name, name_character_at, rest_of_name_by, name_at, group_name_at}
 use Rattle.regress_syntax.specs.Syntax.{Name, Atom, literal, boundary, Group, modified, capture}
 use Rattle.regress_syntax.specs.Syntax as Syntax
-use Rattle.regress_syntax.specs.Rows.{Context, Head, single, opens, angle_at, modified_at, behind_mark_at, group_at, has_names, has_name, is_lone_backslash, character_at, property_atom, property_atom_at, numbered_at, named_at, escaped_by, escaped_at, brace_by, brackets_at, atom_by, head_at, no_quantifier_at, this_quantifier, times_at}
+use Rattle.regress_syntax.specs.Rows.{Context, Head, single, opens, angle_at, modified_at, behind_mark_at, group_at, has_name, character_at, property_atom, property_atom_at, numbered_at, named_at, escape_rows, escaped_by, escaped_at, brace_by, brackets_at, atom_rows, atom_by, head_at, no_quantifier_at, this_quantifier, times_at}
 use Rattle.regress_syntax.specs.Scan.{Mark, captures, mark_of_group, marks_of_atom, Mode, plain, escape, class, class_escape, opened_at, marks}
 use Rattle.regress_syntax.specs.Scan as Scan
 use Rattle.regress_lexical.proofs.laws.Digits.{and_both, drop_one_more}
 use Rattle.regress_syntax.proofs.ScanLemmas.{is_quiet, quiet_decimal, quiet_plain, Passes, Leads, Gives, in_text, gives_none, gives_some, gives_after, gives_then, gives_map, gives_cond, gives_leads, passes_same, passes_then, leads_none, leads_some, leads_behind, leads_then, leads_map, leads_cond, pass_quiet, pass_at, pass_backslash, pass_escaped, pass_behind, lead_unicode_at, lead_escape_at, lead_quantifier_at}
 use Rattle.regress_syntax.proofs.ScanClasses.{lead_property_at, lead_class_at}
 use Rattle.regress_syntax.proofs.ScanSets.{gives_class_set_at}
+use Rattle.regress_lexical.proofs.laws.Sources.{EachRow, no_more, ◌also◌, first_row-has}
 
 -- ---- names
 
@@ -192,6 +193,17 @@ module _ (ctx : Context) (lawful : IsLawful ctx.setting.table) where
   unfolding marks
   same_lone_backslash c t = refl
 
+  escape_rows_give : (c : ℕ) (t : Source) → EachRow (Gives (marks_in ctx escape (c ∷ t)) (behind_atom ctx)) (escape_rows ctx c t)
+  escape_rows_give c t =
+      (λ _. gives_some (_, t) (pass_escaped in_text c t).same)
+      also (λ _. gives_some (_, t) (pass_escaped in_text c t).same)
+      also (λ _. gives_some (_, 99 ∷ t) (same_lone_backslash c t))
+      also (λ _. gives_property_atom_at _ c t)
+      also (λ e. gives_numbered_at c t (grind (arith, nat_tests)))
+      also (λ _. gives_after (pass_escaped in_text c t).same (gives_named_at t))
+      also (λ _. gives_character_at c t)
+      also no_more
+
   gives_escaped_by : (c : ℕ) (t : Source) → Gives (marks_in ctx escape (c ∷ t)) (behind_atom ctx) (escaped_by ctx c t)
   gives_escaped_by c t = by (class_letter c)
     where
@@ -199,27 +211,10 @@ module _ (ctx : Context) (lawful : IsLawful ctx.setting.table) where
           Gives (marks_in ctx escape (c ∷ t)) (behind_atom ctx)
           (elim letter as (λ _. Found Atom) [
             | Some named ↦ Some (Syntax.class_escape ctx.setting.flags named.0 named.1, t)
-            | None ↦
-                cond (c == 98) (Some (boundary ctx.setting.flags false, t))
-                (cond (c == 66) (Some (boundary ctx.setting.flags true, t))
-                (cond (is_lone_backslash ctx.setting.flags.unicode c t) (Some (literal ctx.setting.flags 92, 99 ∷ t))
-                (cond (is_one_of "pP" c && (ctx.setting.flags.unicode || ctx.setting.flags.unicode_sets)) (property_atom_at ctx (c == 80) t)
-                (cond (is_between 49 57 c) (numbered_at ctx c t)
-                (cond (c == 107 && (ctx.setting.flags.unicode || has_names ctx.names)) (named_at ctx t)
-                (character_at ctx c t))))))
+            | None ↦ first_row (escape_rows ctx c t)
           ])
       by (Some named) = gives_some (_, t) (pass_escaped in_text c t).same
-      by None =
-          gives_cond (c == 98) _ _ (λ _. gives_some (_, t) (pass_escaped in_text c t).same)
-          (λ _. gives_cond (c == 66) _ _ (λ _. gives_some (_, t) (pass_escaped in_text c t).same)
-          (λ _. gives_cond (is_lone_backslash ctx.setting.flags.unicode c t) _ _
-          (λ _. gives_some (_, 99 ∷ t) (same_lone_backslash c t))
-          (λ _. gives_cond (is_one_of "pP" c && (ctx.setting.flags.unicode || ctx.setting.flags.unicode_sets)) _ _
-          (λ _. gives_property_atom_at (c == 80) c t)
-          (λ _. gives_cond (is_between 49 57 c) _ _ (λ e. gives_numbered_at c t (grind (arith, nat_tests)))
-          (λ _. gives_cond (c == 107 && (ctx.setting.flags.unicode || has_names ctx.names)) _ _
-          (λ _. gives_after (pass_escaped in_text c t).same (gives_named_at t))
-          (λ _. gives_character_at c t))))))
+      by None = first_row-has (Gives (marks_in ctx escape (c ∷ t)) (behind_atom ctx)) (escape_rows ctx c t) gives_none (escape_rows_give c t)
 
   gives_escaped_at : (t : Source) → Gives (marks_in ctx escape t) (behind_atom ctx) (escaped_at ctx t)
   gives_escaped_at [] = gives_none
@@ -257,20 +252,21 @@ module _ (ctx : Context) (lawful : IsLawful ctx.setting.table) where
   unfolding marks
   same_open_bracket t = refl
 
-  gives_atom_by : (c : ℕ) (t : Source) → Gives (marks_in ctx plain (c ∷ t)) (behind_atom ctx) (atom_by ctx c t)
-  gives_atom_by c t =
-      gives_cond (c == full_stop) _ _ (λ e. gives_some (_, t) (pass_at in_text full_stop (c ∷ t) refl e).same)
-      (λ _. gives_cond (c == 94) _ _ (λ e. gives_some (_, t) (pass_at in_text 94 (c ∷ t) refl e).same)
-      (λ _. gives_cond (c == 36) _ _ (λ e. gives_some (_, t) (pass_at in_text 36 (c ∷ t) refl e).same)
-      (λ _. gives_cond (c == 92) _ _
-      (λ e. subst (λ k. Gives (marks_in ctx plain (k ∷ t)) (behind_atom ctx) (escaped_at ctx t)) (sym (eqb-true c 92 e))
+  atom_rows_give : (c : ℕ) (t : Source) → EachRow (Gives (marks_in ctx plain (c ∷ t)) (behind_atom ctx)) (atom_rows ctx c t)
+  atom_rows_give c t =
+      (λ e. gives_some (_, t) (pass_at in_text full_stop (c ∷ t) refl e).same)
+      also (λ e. gives_some (_, t) (pass_at in_text 94 (c ∷ t) refl e).same)
+      also (λ e. gives_some (_, t) (pass_at in_text 36 (c ∷ t) refl e).same)
+      also (λ e. subst (λ k. Gives (marks_in ctx plain (k ∷ t)) (behind_atom ctx) (escaped_at ctx t)) (sym (eqb-true c 92 e))
       (gives_after (pass_backslash in_text t).same (gives_escaped_at t)))
-      (λ _. gives_cond (c == 91) _ _
-      (λ e. subst (λ k. Gives (marks_in ctx plain (k ∷ t)) (behind_atom ctx) (brackets_at ctx t)) (sym (eqb-true c 91 e))
+      also (λ e. subst (λ k. Gives (marks_in ctx plain (k ∷ t)) (behind_atom ctx) (brackets_at ctx t)) (sym (eqb-true c 91 e))
       (gives_after (same_open_bracket t) (gives_class ctx.setting.flags.unicode_sets t)))
-      (λ _. gives_cond (is_one_of "{]}" c) _ _ (gives_brace_by c t)
-      (λ _. gives_cond (is_plain c) _ _ (λ e. gives_some (_, t) (pass_quiet in_text c t (quiet_plain c e)).same)
-      (λ _. gives_none)))))))
+      also gives_brace_by c t
+      also (λ e. gives_some (_, t) (pass_quiet in_text c t (quiet_plain c e)).same)
+      also no_more
+
+  gives_atom_by : (c : ℕ) (t : Source) → Gives (marks_in ctx plain (c ∷ t)) (behind_atom ctx) (atom_by ctx c t)
+  gives_atom_by c t = first_row-has (Gives (marks_in ctx plain (c ∷ t)) (behind_atom ctx)) (atom_rows ctx c t) gives_none (atom_rows_give c t)
 
   -- ---- quantifiers
 

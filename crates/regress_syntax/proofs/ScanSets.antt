@@ -6,15 +6,16 @@ use Rattle.regress_base.specs.Intervals.{Bounds}
 use Rattle.regress_base.specs.Limits.{max_nesting_depth}
 use Rattle.regress_base.specs.declared.charclasses.CharacterClassType.{CharacterClassType}
 use Rattle.regress_unicode.specs.Table.{Table}
-use Rattle.regress_lexical.specs.Source.{Source, Found, ◌>>=◌, found_map, is_one_of, is_at}
+use Rattle.regress_lexical.specs.Source.{Source, Found, ◌>>=◌, found_map, is_at, first_row}
 use Rattle.regress_classes.specs.Properties.{Property, of_points, of_strings, property_at}
 use Rattle.regress_classes.specs.ClassRows.{class_letter, class_members, one_point, points_between}
-use Rattle.regress_classes.specs.ClassSets.{Value, only, joined, common, without, value_of_string, value_of_strings, nested, unless_of_strings, Operand, character, value_of, is_set_syntax, is_double, begins_double, is_reserved, escaped_character_at, set_character_at, strings_by, quoted_at, property_operand, escaped_operand_at, operand_at, range_of, part_behind, parts_by, are_at, operands_by, contents_behind, contents_at, class_set_by, class_set_at}
+use Rattle.regress_classes.specs.ClassSets.{Value, only, joined, common, without, value_of_string, value_of_strings, nested, unless_of_strings, Operand, character, value_of, is_set_syntax, is_double, begins_double, is_reserved, escaped_character_at, set_character_at, strings_by, quoted_at, property_operand, operand_rows, escaped_operand_at, operand_at, range_of, part_behind, parts_by, are_at, operands_by, contents_behind, contents_at, class_set_by, class_set_at}
 use Rattle.regress_classes.specs.ClassSets as ClassSets
 use Rattle.regress_syntax.specs.Scan.{Mark, nests, plain, class, marks}
 use Rattle.regress_lexical.proofs.laws.Digits.{and_both, drop_one_more}
 use Rattle.regress_syntax.proofs.ScanLemmas.{is_quiet, Passes, Leads, Gives, Home, in_class, home, behind_backslash, leads_none, leads_some, leads_behind, leads_then, leads_map, leads_cond, gives_none, gives_some, gives_after, gives_then, gives_map, gives_cond, gives_leads, pass_quiet, pass_at, pass_backslash, pass_escaped, lead_escape_at}
 use Rattle.regress_syntax.proofs.ScanClasses.{lead_property_at, pass_caret}
+use Rattle.regress_lexical.proofs.laws.Sources.{no_more, ◌also◌, first_row-has}
 
 -- ---- characters and strings
 
@@ -154,23 +155,23 @@ module _ (table : Table) where
         Gives (marks true table (behind_backslash (at_levels depth before levels)) (c ∷ t)) (behind_operand table depth before levels)
         (elim letter as (λ _. Found Operand) [
           | Some named ↦ Some (ClassSets.class (only (class_members named)), t)
-          | None ↦
-              cond (c == 113) (quoted_at unicode t) (cond (is_one_of "pP" c) (property_at true table t >>= property_operand in_negated (c == 80))
-              (found_map character (escaped_character_at unicode (c ∷ t))))
+          | None ↦ first_row (operand_rows table unicode in_negated c t)
         ])
     gives_escaped_by depth before levels in_negated c t (Some named) =
         gives_after (pass_escaped (at_levels depth before levels) c t).same
         (gives_some (_, t) (same_within depth before levels (max levels 0) t (omega arith)))
     gives_escaped_by depth before levels in_negated c t None =
-        gives_cond (c == 113) _ _
+        first_row-has (Gives (marks true table (behind_backslash (at_levels depth before levels)) (c ∷ t)) (behind_operand table depth before levels))
+        (operand_rows table unicode in_negated c t) gives_none (
         (λ _. gives_after (pass_escaped (at_levels depth before levels) c t).same (gives_quoted_at depth before levels t))
-        (λ _. gives_cond (is_one_of "pP" c) _ _
-        (λ _. gives_after (pass_escaped (at_levels depth before levels) c t).same
+        also (λ _. gives_after (pass_escaped (at_levels depth before levels) c t).same
         (gives_then (λ _. within table depth before levels) (property_at true table t) _
         (gives_leads (lead_property_at (at_levels depth before levels) true table t))
-        (gives_property_operand depth before levels in_negated (c == 80))))
-        (λ _. gives_flat depth before levels _ character (escaped_character_at unicode (c ∷ t)) (λ x. refl)
-        (gives_leads (lead_escaped_character_at unicode (at_levels depth before levels) (c ∷ t)))))
+        (gives_property_operand depth before levels in_negated _)))
+        also (λ _. gives_flat depth before levels _ character (escaped_character_at unicode (c ∷ t)) (λ x. refl)
+        (gives_leads (lead_escaped_character_at unicode (at_levels depth before levels) (c ∷ t))))
+        also no_more
+        )
 
     -- behind a backslash
     gives_escaped_operand_at : (depth before levels : ℕ) (in_negated : Bool) (t : Source) →

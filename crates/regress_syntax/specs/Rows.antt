@@ -8,7 +8,7 @@ use Rattle.regress_tree.specs.declared.ir.node.Quantifier.{Quantifier}
 use Rattle.regress_tree.specs.Setting.{Setting}
 use Rattle.regress_tree.specs.Reading.{forwards, backwards}
 use Rattle.regress_unicode.specs.Table.{Table}
-use Rattle.regress_lexical.specs.Source.{Source, Found, ◌>>=◌, found_map, char, is_one_of, opening, full_stop, colon, question_mark, is_at, is_plain}
+use Rattle.regress_lexical.specs.Source.{Source, Found, ◌>>=◌, found_map, Row, when, otherwise, first_row, char, is_one_of, opening, full_stop, colon, question_mark, is_at, is_plain}
 use Rattle.regress_lexical.specs.Digits.{is_between, is_decimal, number, front, behind}
 use Rattle.regress_lexical.specs.Escapes.{begins_with_letter, escape_at}
 use Rattle.regress_lexical.specs.Quantifiers.{quantifier_at, is_ordered}
@@ -153,21 +153,24 @@ module _ (ctx : Context) where
       group_name_at ctx.setting.table t >>= λ (name, rest).
       if has_name name ctx.names then Some (back_reference ctx.setting.flags (by_name name), rest) else None
 
+  -- the rows of an escape that begins with c and is no class, behind its backslash
+  abbrev pub escape_rows : ℕ → Source → List (Row Atom)
+  escape_rows c t =
+      when (c == char "b") (Some (boundary ctx.setting.flags false, t))
+      ∷ when (c == char "B") (Some (boundary ctx.setting.flags true, t))
+      ∷ when (is_lone_backslash ctx.setting.flags.unicode c t) (Some (literal ctx.setting.flags (char "\\"), char "c" ∷ t))
+      ∷ when (is_one_of "pP" c && (ctx.setting.flags.unicode || ctx.setting.flags.unicode_sets)) (property_atom_at (c == char "P") t)
+      ∷ when (begins_number c) (numbered_at c t)
+      -- without the flag u and without names, `\k` is the escape of a character
+      ∷ when (c == char "k" && (ctx.setting.flags.unicode || has_names ctx.names)) (named_at t)
+      ∷ otherwise (character_at c t) ∷ []
+
   -- an escape that begins with c, behind its backslash
   abbrev pub escaped_by : ℕ → Source → Found Atom
   escaped_by c t =
       elim (class_letter c) [
         | Some named ↦ Some (class_escape ctx.setting.flags named.0 named.1, t)
-        | None ↦
-            if c == char "b" then Some (boundary ctx.setting.flags false, t)
-            else if c == char "B" then Some (boundary ctx.setting.flags true, t)
-            else if is_lone_backslash ctx.setting.flags.unicode c t then Some (literal ctx.setting.flags (char "\\"), char "c" ∷ t)
-            else if is_one_of "pP" c && (ctx.setting.flags.unicode || ctx.setting.flags.unicode_sets)
-            then property_atom_at (c == char "P") t
-            else if begins_number c then numbered_at c t
-            -- without the flag u and without names, `\k` is the escape of a character
-            else if c == char "k" && (ctx.setting.flags.unicode || has_names ctx.names) then named_at t
-            else character_at c t
+        | None ↦ first_row (escape_rows c t)
       ]
 
   abbrev pub escaped_at : Source → Found Atom
@@ -188,17 +191,20 @@ module _ (ctx : Context) where
       else found_map (λ (inverted, members). class ctx.setting.flags inverted members)
       (class_at ctx.setting.table ctx.setting.flags.unicode t)
 
+  -- the rows of an item whose first code point is c and which holds no pattern
+  abbrev pub atom_rows : ℕ → Source → List (Row Atom)
+  atom_rows c t =
+      when (c == full_stop) (Some (dot ctx.setting.flags, t))
+      ∷ when (c == char "^") (Some (anchor ctx.setting.flags StartOfLine, t))
+      ∷ when (c == char "$") (Some (anchor ctx.setting.flags EndOfLine, t))
+      ∷ when (c == char "\\") (escaped_at t)
+      ∷ when (c == char "[") (brackets_at t)
+      ∷ when (is_one_of "{]}" c) (brace_by c t)
+      ∷ when (is_plain c) (Some (literal ctx.setting.flags c, t)) ∷ []
+
   -- an item whose first code point is c and which holds no pattern
   abbrev pub atom_by : ℕ → Source → Found Atom
-  atom_by c t =
-      if c == full_stop then Some (dot ctx.setting.flags, t)
-      else if c == char "^" then Some (anchor ctx.setting.flags StartOfLine, t)
-      else if c == char "$" then Some (anchor ctx.setting.flags EndOfLine, t)
-      else if c == char "\\" then escaped_at t
-      else if c == char "[" then brackets_at t
-      else if is_one_of "{]}" c then brace_by c t
-      else if is_plain c then Some (literal ctx.setting.flags c, t)
-      else None
+  atom_by c t = first_row (atom_rows c t)
 
   -- what an item begins with whose first code point is c
   abbrev pub head_by : ℕ → Source → Found Head

@@ -3,12 +3,13 @@ use Rattle.std.proofs.Common.{ℕ, zero, suc, ◌+◌, Bool, true, false, not, �
 use Rattle.regress_base.specs.Intervals.{Bounds}
 use Rattle.regress_base.specs.Limits.{max_nesting_depth}
 use Rattle.regress_unicode.specs.Table.{Table}
-use Rattle.regress_lexical.specs.Source.{Source, Found, ◌>>=◌, found_map, is_one_of, is_at}
+use Rattle.regress_lexical.specs.Source.{Source, Found, is_at, first_row}
 use Rattle.regress_classes.specs.Properties.{Property, of_points, of_strings, property_at}
 use Rattle.regress_classes.specs.ClassRows.{class_letter, class_members, one_point}
-use Rattle.regress_classes.specs.ClassSets.{Value, only, joined, common, without, unless_of_strings, Operand, character, class, value_of, is_set_syntax, is_double, begins_double, is_reserved, escaped_character_at, set_character_at, strings_by, quoted_at, property_operand, escaped_operand_at, operand_at, range_of, range_at, part_behind, parts_by, are_at, operands_by, contents_behind, contents_at, class_set_by, class_set_at}
+use Rattle.regress_classes.specs.ClassSets.{Value, only, joined, common, without, unless_of_strings, Operand, character, class, value_of, is_set_syntax, is_double, begins_double, is_reserved, escaped_character_at, set_character_at, strings_by, quoted_at, property_operand, operand_rows, escaped_operand_at, operand_at, range_of, range_at, part_behind, parts_by, are_at, operands_by, contents_behind, contents_at, class_set_by, class_set_at}
 use Rattle.regress_classes.proofs.laws.Pieces.{property_at-ends}
 use Rattle.regress_lexical.proofs.laws.Behind.{IsBehind, behind_same, behind_drop, Ends, ends_none, ends_some, ends_behind, ends_more, ends_then, ends_map, ends_cond, escape_at-ends}
+use Rattle.regress_lexical.proofs.laws.Sources.{EachRow, no_more, ◌also◌, first_row-has}
 
 -- ---- what stands behind an operand
 
@@ -56,21 +57,22 @@ property_operand-ends in_negated negated (of_strings written, t) =
     ends_cond (in_negated || negated) _ _ t (ends_none t) (ends_some _ t (behind_same t))
 
 module _ (table : Table) (unicode : Bool) where
+  operand_rows-end : (in_negated : Bool) (c : ℕ) (t : Source) → EachRow (λ found. Ends found (c ∷ t)) (operand_rows table unicode in_negated c t)
+  operand_rows-end in_negated c t =
+      (λ _. ends_more _ c t (quoted_at-ends unicode t))
+      also (λ _. ends_more _ c t (ends_then (property_at true table t) _ t (property_at-ends true table t) (property_operand-ends in_negated _)))
+      also (λ _. ends_map character _ (c ∷ t) (escaped_character_at-ends unicode (c ∷ t)))
+      also no_more
+
   escaped_operand_at-ends : (in_negated : Bool) (t : Source) → Ends (escaped_operand_at table unicode in_negated t) t
   escaped_operand_at-ends in_negated [] = ends_none []
   escaped_operand_at-ends in_negated (c ∷ t) =
       elim (class_letter c) as (λ named. Ends (elim named as (λ _. Found Operand) [
         | Some name ↦ Some (class (only (class_members name)), t)
-        | None ↦ cond (c == 113) (quoted_at unicode t)
-            (cond (is_one_of "pP" c) (property_at true table t >>= property_operand in_negated (c == 80))
-            (found_map character (escaped_character_at unicode (c ∷ t))))
+        | None ↦ first_row (operand_rows table unicode in_negated c t)
       ]) (c ∷ t)) [
         | Some name ↦ one-ends (class (only (class_members name))) c t
-        | None ↦
-            ends_cond (c == 113) _ _ (c ∷ t) (ends_more _ c t (quoted_at-ends unicode t))
-            (ends_cond (is_one_of "pP" c) _ _ (c ∷ t)
-            (ends_more _ c t (ends_then (property_at true table t) _ t (property_at-ends true table t) (property_operand-ends in_negated (c == 80))))
-            (ends_map character _ (c ∷ t) (escaped_character_at-ends unicode (c ∷ t))))
+        | None ↦ first_row-has (λ found. Ends found (c ∷ t)) (operand_rows table unicode in_negated c t) (ends_none (c ∷ t)) (operand_rows-end in_negated c t)
       ]
 
   -- the rest follows where what stands behind a class is at the end

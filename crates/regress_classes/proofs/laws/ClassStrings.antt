@@ -7,15 +7,16 @@ use Rattle.std.specs.Str.{bytes_eq}
 use Rattle.regress_base.specs.Intervals.{Bounds, code_point_max}
 use Rattle.regress_base.specs.Limits.{max_nesting_depth}
 use Rattle.regress_unicode.specs.Table.{Table, Named, named, is_string, IsLawful}
-use Rattle.regress_lexical.specs.Source.{Source, Found, ◌>>=◌, found_map, IsCodePoint, is_one_of, is_at}
+use Rattle.regress_lexical.specs.Source.{Source, Found, ◌>>=◌, IsCodePoint, is_at, first_row}
 use Rattle.regress_lexical.specs.Digits.{front, behind}
 use Rattle.regress_classes.specs.Properties.{Property, of_points, of_strings, is_property_character, list_named, strings_named, lone_value, value_in, closed_property, property_at}
 use Rattle.regress_classes.specs.ClassRows.{class_letter, class_members, one_point, complement_if}
-use Rattle.regress_classes.specs.ClassSets.{Value, nothing, only, joined, common, without, is_among, value_of_string, value_of_strings, nested, unless_of_strings, Operand, character, class, value_of, is_set_syntax, is_double, begins_double, is_reserved, escaped_character_at, set_character_at, strings_by, quoted_at, property_operand, escaped_operand_at, operand_at, range_of, part_behind, parts_by, are_at, operands_by, contents_behind, contents_at, class_set_by, class_set_at}
+use Rattle.regress_classes.specs.ClassSets.{Value, nothing, only, joined, common, without, is_among, value_of_string, value_of_strings, nested, unless_of_strings, Operand, character, class, value_of, is_set_syntax, is_double, begins_double, is_reserved, escaped_character_at, set_character_at, strings_by, quoted_at, property_operand, operand_rows, escaped_operand_at, operand_at, range_of, part_behind, parts_by, are_at, operands_by, contents_behind, contents_at, class_set_by, class_set_at}
 use Rattle.regress_lexical.proofs.laws.Digits.{and_both}
 use Rattle.regress_lexical.proofs.laws.Behind.{Ends, ends_then, behind_all}
 use Rattle.regress_lexical.proofs.laws.InRange.{Finds, finds_none, finds_some, finds_cond, finds_then, finds_map, escape_at-in_range}
 use Rattle.regress_classes.proofs.laws.ClassSets.{set_character_at-ends, operand_at-ends, part_behind-ends, class_set_by-ends}
+use Rattle.regress_lexical.proofs.laws.Sources.{EachRow, no_more, ◌also◌, first_row-has}
 
 abbrev pub OfCodePoints : List (List ℕ) → Type 0
 OfCodePoints strings = All (All IsCodePoint) strings
@@ -174,23 +175,25 @@ module _ (P : Value → Type 0) (kept : IsKept P) where
       (λ _. finds_some _ (class (value_of_strings written), t) (kept.strings written h))
 
   module _ (table : Table) (lawful : IsLawful table) (unicode : Bool) where
+    operand_rows-kept : (in_negated : Bool) (c : ℕ) (t : Source) → All IsCodePoint (c ∷ t) →
+        EachRow (Finds (Holds P)) (operand_rows table unicode in_negated c t)
+    operand_rows-kept in_negated c t all =
+        (λ _. quoted_at-kept unicode t (All-drop IsCodePoint 1 (c ∷ t) all))
+        also (λ _. finds_then PropertyInRange (Holds P) (property_at true table t) _ (property_at-in_range table lawful true t)
+        (property_operand-kept in_negated _))
+        also (λ _. finds_map IsCodePoint (Holds P) character _ (λ d h. h) (escaped_character_at-in_range unicode (c ∷ t) all))
+        also no_more
+
     escaped_operand_at-kept : (in_negated : Bool) (t : Source) → All IsCodePoint t →
         Finds (Holds P) (escaped_operand_at table unicode in_negated t)
     escaped_operand_at-kept in_negated [] all = finds_none _
     escaped_operand_at-kept in_negated (c ∷ t) all =
         elim (class_letter c) as (λ named. Finds (Holds P) (elim named as (λ _. Found Operand) [
           | Some name ↦ Some (class (only (class_members name)), t)
-          | None ↦ cond (c == 113) (quoted_at unicode t)
-              (cond (is_one_of "pP" c) (property_at true table t >>= property_operand in_negated (c == 80))
-              (found_map character (escaped_character_at unicode (c ∷ t))))
+          | None ↦ first_row (operand_rows table unicode in_negated c t)
         ])) [
           | Some name ↦ finds_some _ (class (only (class_members name)), t) (kept.points (class_members name))
-          | None ↦
-              finds_cond _ (c == 113) _ _ (λ _. quoted_at-kept unicode t (All-drop IsCodePoint 1 (c ∷ t) all))
-              (λ _. finds_cond _ (is_one_of "pP" c) _ _
-              (λ _. finds_then PropertyInRange (Holds P) (property_at true table t) _ (property_at-in_range table lawful true t)
-              (property_operand-kept in_negated (c == 80)))
-              (λ _. finds_map IsCodePoint (Holds P) character _ (λ d h. h) (escaped_character_at-in_range unicode (c ∷ t) all)))
+          | None ↦ first_row-has (Finds (Holds P)) (operand_rows table unicode in_negated c t) (finds_none _) (operand_rows-kept in_negated c t all)
         ]
 
     module _ (inner : Source → Found (Bool × Value)) (inner_ends : (t : Source) → Ends (inner t) t)

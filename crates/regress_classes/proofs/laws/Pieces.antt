@@ -1,16 +1,15 @@
 -- Properties and classes, read from the front of a source.
-use Rattle.std.proofs.Common.{◌≡◌, inl, inr, ℕ, zero, suc, ◌+◌, ◌<◌, Bool, true, false, not, ◌&&◌, ◌||◌, ◌==◌, cond, List, [], ◌∷◌, ◌++◌, length, drop, Option, Some, None, refl, sym, ap, ◌∙◌, subst, add-one, arith}
+use Rattle.std.proofs.Common.{◌≡◌, ℕ, zero, suc, ◌+◌, ◌<◌, Bool, true, false, ◌||◌, ◌==◌, cond, List, [], ◌∷◌, ◌++◌, length, drop, Option, Some, None, refl, sym, ap, ◌∙◌, subst, add-one, arith, eqb-true}
 use Rattle.std.proofs.lemmas.Option.{none-some}
-use Rattle.std.proofs.lemmas.Bool.{cases_eq, ne_eqb, cond-true, cond-false}
+use Rattle.std.proofs.lemmas.Bool.{cond-true, cond-false, and_parts}
 use Rattle.regress_base.specs.declared.charclasses.CharacterClassType.{CharacterClassType}
 use Rattle.regress_base.specs.Intervals.{Bounds}
 use Rattle.regress_unicode.specs.Table.{Table}
-use Rattle.regress_lexical.specs.Source.{Source, Found, ◌>>=◌, found_map, is_one_of, is_at}
+use Rattle.regress_lexical.specs.Source.{Source, Found, ◌>>=◌, is_at, first_row}
 use Rattle.regress_lexical.specs.Digits.{is_decimal, is_letter, behind}
-use Rattle.regress_lexical.specs.Escapes.{escape_at}
 use Rattle.regress_classes.specs.Properties.{Property, points_of, is_property_character, closed_property, braced_property_at, property_at}
-use Rattle.regress_classes.specs.ClassRows.{ClassAtom, point, set, complement_if, class_members, class_letter, class_control_at, class_property, class_property_at, class_escape_by, class_escape_at, class_atom_at, range_of, range_at, begins_range, class_part_at, class_parts_by, class_at, atom_members}
-use Rattle.regress_lexical.proofs.laws.Sources.{then_same, cond_same}
+use Rattle.regress_classes.specs.ClassRows.{ClassAtom, point, set, complement_if, class_members, class_letter, class_control_at, class_property, class_property_at, class_escape_rows, class_escape_by, class_escape_at, class_atom_at, range_of, range_at, begins_range, class_part_at, class_parts_by, class_at, atom_members}
+use Rattle.regress_lexical.proofs.laws.Sources.{then_same, cond_same, EachRow, no_more, ◌also◌, first_row-has}
 use Rattle.regress_lexical.proofs.laws.Behind.{IsBehind, behind_same, behind_behind, behind_drop, behind_front, behind_shorter, Ends, ends_none, ends_some, ends_behind, ends_more, ends_then, ends_map, ends_cond, escape_at-ends}
 
 -- ---- what stands behind a property
@@ -47,16 +46,6 @@ class_control_at-ends (d ∷ t) =
     ends_cond (is_letter d || is_decimal d || d == 95) _ _ (99 ∷ d ∷ t) (ends_some _ (99 ∷ d ∷ t) (behind_drop 2 (99 ∷ d ∷ t)))
     (ends_some _ (99 ∷ d ∷ t) (behind_same (99 ∷ d ∷ t)))
 
--- an escape behind `\c`, where that is one for a class alone
-control-ends : (b : Bool) (c : ℕ) (t : Source) (x : Found ClassAtom) → Ends x (c ∷ t) →
-    Ends (cond (c == 99 && b) (class_control_at t) x) (c ∷ t)
-control-ends b c t x h =
-    elim (cases_eq c 99) [
-      | inl same ↦ subst (λ (n : ℕ). Ends (cond (n == 99 && b) (class_control_at t) x) (n ∷ t)) (sym same)
-          (ends_cond b _ _ (99 ∷ t) (class_control_at-ends t) (subst (λ (n : ℕ). Ends x (n ∷ t)) same h))
-      | inr other ↦ subst (λ (d : Bool). Ends (cond (d && b) (class_control_at t) x) (c ∷ t)) (sym (ne_eqb c 99 other)) h
-    ]
-
 class_property-ends : (negated : Bool) (x : Property × Source) → Ends (class_property negated x) x.1
 class_property-ends negated (property, t) = by (points_of property)
   where
@@ -86,25 +75,25 @@ abbrev pub more_parts : List Bounds → Found (List Bounds) → Found (List Boun
 more_parts members others = others >>= λ (y : List Bounds × Source). Some (members ++ y.0, y.1)
 
 module _ (table : Table) (unicode : Bool) where
+  class_escape_rows-end : (c : ℕ) (t : Source) → EachRow (λ found. Ends found (c ∷ t)) (class_escape_rows table unicode c t)
+  class_escape_rows-end c t =
+      (λ _. one-ends _ c t)
+      also (λ _. one-ends _ c t)
+      also (λ e. subst (λ d. Ends (class_control_at t) (d ∷ t)) (sym (eqb-true c 99 (and_parts (c == 99) _ e).0)) (class_control_at-ends t))
+      also (λ _. ends_more _ c t (class_property_at-ends table _ t))
+      also (λ _. ends_map point _ (c ∷ t) (escape_at-ends unicode (c ∷ t)))
+      also no_more
+
   class_escape_by-ends : (c : ℕ) (t : Source) → Ends (class_escape_by table unicode c t) (c ∷ t)
   class_escape_by-ends c t = by (class_letter c)
     where
       by : (letter : Option (CharacterClassType × Bool)) →
           Ends (elim letter as (λ _. Found ClassAtom) [
             | Some named ↦ Some (set (class_members named), t)
-            | None ↦
-                cond (c == 98) (Some (point 8, t))
-                (cond (c == 45 && unicode) (Some (point 45, t))
-                (cond (c == 99 && not unicode) (class_control_at t)
-                (cond (is_one_of "pP" c && unicode) (class_property_at table (c == 80) t) (found_map point (escape_at unicode (c ∷ t))))))
+            | None ↦ first_row (class_escape_rows table unicode c t)
           ]) (c ∷ t)
       by (Some named) = one-ends _ c t
-      by None =
-          ends_cond (c == 98) _ _ (c ∷ t) (one-ends (point 8) c t)
-          (ends_cond (c == 45 && unicode) _ _ (c ∷ t) (one-ends (point 45) c t)
-          (control-ends (not unicode) c t _
-          (ends_cond (is_one_of "pP" c && unicode) _ _ (c ∷ t) (ends_more _ c t (class_property_at-ends table (c == 80) t))
-          (ends_map point (escape_at unicode (c ∷ t)) (c ∷ t) (escape_at-ends unicode (c ∷ t))))))
+      by None = first_row-has (λ found. Ends found (c ∷ t)) (class_escape_rows table unicode c t) (ends_none (c ∷ t)) (class_escape_rows-end c t)
 
   pub class_escape_at-ends : (t : Source) → Ends (class_escape_at table unicode t) t
   class_escape_at-ends [] = ends_none []

@@ -41,7 +41,10 @@ impl Operand {
 }
 
 /// Reads an escape, behind its backslash.
-pub(super) fn read_escaped(cursor: &mut Cursor, around: &Surroundings) -> Result<Operand, ParseFault>
+pub(super) fn read_escaped(
+    cursor: &mut Cursor,
+    around: &Surroundings,
+) -> Result<Operand, ParseFault>
     ensures { ReadsAs IsOperand (source cursor.new) result
         (escaped_operand_at (table_of around.now.tables.now) around.now.unicode around.now.negated (source cursor.old)) }
 {

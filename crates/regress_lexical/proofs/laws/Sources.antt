@@ -8,7 +8,7 @@ use Rattle.std.proofs.lemmas.Option.{none-some, same_Some}
 use Rattle.regress_lexical.specs.declared.fault.ParseFault.{ParseFault}
 use Rattle.regress_lexical.specs.declared.fault.ParseFault.TheVariants.{Syntax, Memory}
 use Rattle.regress_lexical.specs.Fault.{OnSyntax}
-use Rattle.regress_lexical.specs.Source.{Source, Found, ◌>>=◌, is_at}
+use Rattle.regress_lexical.specs.Source.{Source, Found, ◌>>=◌, Row, first_row, is_at}
 
 -- what is found behind something
 pub found_then : {A B : Type 0} (found : Found A) (next : A × Source → Found B) (y : B × Source) → found >>= next ≡ Some y →
@@ -33,6 +33,19 @@ chosen false x y z e = inr (refl, e)
 pub cond_same : {A : Type 0} (b : Bool) (x y x' y' : A) → (b ≡ true → x ≡ x') → (b ≡ false → y ≡ y') → cond b x y ≡ cond b x' y'
 cond_same true x y x' y' h k = h refl
 cond_same false x y x' y' h k = k refl
+
+-- What each row finds where it applies has the property.
+infixr 5 ◌also◌
+pub data EachRow {A : Type 0} (P : Found A → Type 0) : List (Row A) → Type 0 where
+  no_more : EachRow P []
+  ◌also◌ : {applies : Bool} {found : Found A} {rows : List (Row A)} → (applies ≡ true → P found) → EachRow P rows →
+      EachRow P ((applies, found) ∷ rows)
+
+-- So has what the first row finds that applies.
+pub first_row-has : {A : Type 0} (P : Found A → Type 0) (rows : List (Row A)) → P None → EachRow P rows → P (first_row rows)
+first_row-has P [] none no_more = none
+first_row-has P ((true, found) ∷ rows) none (has also each) = has refl
+first_row-has P ((false, found) ∷ rows) none (has also each) = first_row-has P rows none each
 
 -- what is at the front of a source is in it
 pub at_front : (k : ℕ) (t : Source) → is_at k t ≡ true → 0 < length t

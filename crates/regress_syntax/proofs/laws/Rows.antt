@@ -1,25 +1,25 @@
 -- What a row reads ends behind the front of the source.
-use Rattle.std.proofs.Common.{◌≡◌, ℕ, ◌<◌, nat_le, Bool, true, false, not, cond, ◌&&◌, ◌||◌, ◌==◌, ⊎_elim, [], ◌∷◌, length, drop, Option, Some, None, is_some, refl, sym, ap, subst, arith, eqb-true}
+use Rattle.std.proofs.Common.{◌≡◌, ℕ, ◌<◌, nat_le, Bool, true, not, ◌&&◌, ◌||◌, ◌==◌, ⊎_elim, [], ◌∷◌, length, drop, Option, Some, None, is_some, refl, sym, ap, subst, arith, eqb-true}
 use Rattle.std.proofs.lemmas.Bool.{or_cases, and_parts}
 use Rattle.std.proofs.lemmas.Option.{none-some, same_Some, cond_some}
 use Rattle.regress_base.specs.declared.charclasses.CharacterClassType.{CharacterClassType}
 use Rattle.regress_tree.specs.declared.ir.node.Quantifier.{Quantifier}
 use Rattle.regress_unicode.specs.Table.{Table}
-use Rattle.regress_lexical.specs.Source.{Source, Found, opening, closing, full_stop, colon, question_mark, bar, is_one_of, is_at, is_plain, ends_alternative}
-use Rattle.regress_syntax.specs.Syntax.{Atom, literal, boundary, class_escape}
-use Rattle.regress_lexical.specs.Digits.{is_between, is_decimal, number, front}
+use Rattle.regress_lexical.specs.Source.{Source, Found, opening, closing, colon, question_mark, bar, is_at, ends_alternative, first_row}
+use Rattle.regress_syntax.specs.Syntax.{Atom, class_escape}
+use Rattle.regress_lexical.specs.Digits.{is_decimal, number, front}
 use Rattle.regress_lexical.specs.Escapes.{begins_with_letter}
 use Rattle.regress_syntax.specs.Names.{group_name_at}
 use Rattle.regress_lexical.specs.Quantifiers.{quantifier_at, is_ordered}
 use Rattle.regress_classes.specs.Properties.{Property, of_points, of_strings, property_at}
 use Rattle.regress_classes.specs.ClassRows.{class_letter, class_at}
 use Rattle.regress_classes.specs.ClassSets.{class_set_at}
-use Rattle.regress_syntax.specs.Rows.{Context, Head, single, angle_at, behind_mark_at, group_at, has_name, has_names, is_lone_backslash, character_at, property_atom, property_atom_at, numbered_at, named_at, escaped_by, escaped_at, brace_by, brackets_at, atom_by, head_by, head_at, no_quantifier_at, this_quantifier, times_at}
+use Rattle.regress_syntax.specs.Rows.{Context, Head, single, angle_at, behind_mark_at, group_at, has_name, is_lone_backslash, character_at, property_atom, property_atom_at, numbered_at, named_at, escape_rows, escaped_by, escaped_at, brace_by, brackets_at, atom_rows, atom_by, head_by, head_at, no_quantifier_at, this_quantifier, times_at}
 use Rattle.regress_lexical.proofs.laws.Behind.{behind_same, behind_drop, behind_front, behind_shorter, Ends, ends_none, ends_some, ends_behind, ends_more, ends_then, ends_map, ends_cond, escape_at-ends, quantifier_at-ends}
 use Rattle.regress_syntax.proofs.laws.NameEnds.{group_name_at-ends, modifiers_at-ends}
 use Rattle.regress_classes.proofs.laws.Pieces.{property_at-ends, class_at-ends}
 use Rattle.regress_classes.proofs.laws.ClassSets.{class_set_at-ends}
-use Rattle.regress_lexical.proofs.laws.Sources.{Shortens, chosen}
+use Rattle.regress_lexical.proofs.laws.Sources.{Shortens, chosen, EachRow, no_more, ◌also◌, first_row-has}
 
 -- what is found leaves the source from its first code point on, or from its second
 this-ends : {A : Type 0} (x : A) (t : Source) → Ends (Some (x, t)) t
@@ -70,15 +70,22 @@ module _ (ctx : Context) where
       (λ x. ends_cond (has_name x.0 ctx.names) _ _ x.1 (this-ends _ x.1) (ends_none x.1))
 
   -- the backslash alone leaves the `c`
-  backslash-ends : (unicode : Bool) (c : ℕ) (t : Source) (x : Atom) (other : Found Atom) → Ends other (c ∷ t) →
-      Ends (cond (is_lone_backslash unicode c t) (Some (x, 99 ∷ t)) other) (c ∷ t)
-  backslash-ends unicode c t x other h = by (c == 99) refl
-    where
-      by : (b : Bool) → (c == 99) ≡ b → Ends (cond (b && not unicode && not (begins_with_letter t)) (Some (x, 99 ∷ t)) other) (c ∷ t)
-      by true e =
-          ends_cond (not unicode && not (begins_with_letter t)) _ _ (c ∷ t)
-          (subst (λ d. Ends (Some (x, 99 ∷ t)) (d ∷ t)) (sym (eqb-true c 99 e)) (this-ends x (99 ∷ t))) h
-      by false e = h
+  backslash-ends : (c : ℕ) (t : Source) (x : Atom) → is_lone_backslash ctx.setting.flags.unicode c t ≡ true → Ends (Some (x, 99 ∷ t)) (c ∷ t)
+  backslash-ends c t x e =
+      let unicode = ctx.setting.flags.unicode in
+      let front = (and_parts (c == 99 && not unicode) (not (begins_with_letter t)) e).0 in
+      subst (λ d. Ends (Some (x, 99 ∷ t)) (d ∷ t)) (sym (eqb-true c 99 (and_parts (c == 99) (not unicode) front).0)) (this-ends x (99 ∷ t))
+
+  escape_rows-end : (c : ℕ) (t : Source) → EachRow (λ found. Ends found (c ∷ t)) (escape_rows ctx c t)
+  escape_rows-end c t =
+      (λ _. next-ends _ c t)
+      also (λ _. next-ends _ c t)
+      also backslash-ends c t _
+      also (λ _. ends_more _ c t (property_atom_at-ends _ t))
+      also (λ _. numbered_at-ends c t)
+      also (λ _. ends_more _ c t (named_at-ends t))
+      also (λ _. character_at-ends c t)
+      also no_more
 
   escaped_by-ends : (c : ℕ) (t : Source) → Ends (escaped_by ctx c t) (c ∷ t)
   escaped_by-ends c t = by (class_letter c)
@@ -86,24 +93,10 @@ module _ (ctx : Context) where
       by : (letter : Option (CharacterClassType × Bool)) →
           Ends (elim letter as (λ _. Found Atom) [
             | Some named ↦ Some (class_escape ctx.setting.flags named.0 named.1, t)
-            | None ↦
-                cond (c == 98) (Some (boundary ctx.setting.flags false, t))
-                (cond (c == 66) (Some (boundary ctx.setting.flags true, t))
-                (cond (is_lone_backslash ctx.setting.flags.unicode c t) (Some (literal ctx.setting.flags 92, 99 ∷ t))
-                (cond (is_one_of "pP" c && (ctx.setting.flags.unicode || ctx.setting.flags.unicode_sets)) (property_atom_at ctx (c == 80) t)
-                (cond (is_between 49 57 c) (numbered_at ctx c t)
-                (cond (c == 107 && (ctx.setting.flags.unicode || has_names ctx.names)) (named_at ctx t) (character_at ctx c t))))))
+            | None ↦ first_row (escape_rows ctx c t)
           ]) (c ∷ t)
       by (Some named) = next-ends _ c t
-      by None =
-          ends_cond (c == 98) _ _ (c ∷ t) (next-ends _ c t)
-          (ends_cond (c == 66) _ _ (c ∷ t) (next-ends _ c t)
-          (backslash-ends ctx.setting.flags.unicode c t _ _
-          (ends_cond (is_one_of "pP" c && (ctx.setting.flags.unicode || ctx.setting.flags.unicode_sets)) _ _ (c ∷ t)
-          (ends_more _ c t (property_atom_at-ends (c == 80) t))
-          (ends_cond (is_between 49 57 c) _ _ (c ∷ t) (numbered_at-ends c t)
-          (ends_cond (c == 107 && (ctx.setting.flags.unicode || has_names ctx.names)) _ _ (c ∷ t)
-          (ends_more _ c t (named_at-ends t)) (character_at-ends c t))))))
+      by None = first_row-has (λ found. Ends found (c ∷ t)) (escape_rows ctx c t) (ends_none (c ∷ t)) (escape_rows-end c t)
 
   escaped_at-ends : (t : Source) → Ends (escaped_at ctx t) t
   escaped_at-ends [] = ends_none []
@@ -121,15 +114,19 @@ module _ (ctx : Context) where
       (ends_map _ (class_at ctx.setting.table ctx.setting.flags.unicode t) t
       (class_at-ends ctx.setting.table ctx.setting.flags.unicode t))
 
+  atom_rows-end : (c : ℕ) (t : Source) → EachRow (λ found. Ends found t) (atom_rows ctx c t)
+  atom_rows-end c t =
+      (λ _. this-ends _ t)
+      also (λ _. this-ends _ t)
+      also (λ _. this-ends _ t)
+      also (λ _. escaped_at-ends t)
+      also (λ _. brackets_at-ends t)
+      also (λ _. brace_by-ends c t)
+      also (λ _. this-ends _ t)
+      also no_more
+
   atom_by-ends : (c : ℕ) (t : Source) → Ends (atom_by ctx c t) t
-  atom_by-ends c t =
-      ends_cond (c == full_stop) _ _ t (this-ends _ t)
-      (ends_cond (c == 94) _ _ t (this-ends _ t)
-      (ends_cond (c == 36) _ _ t (this-ends _ t)
-      (ends_cond (c == 92) _ _ t (escaped_at-ends t)
-      (ends_cond (c == 91) _ _ t (brackets_at-ends t)
-      (ends_cond (is_one_of "{]}" c) _ _ t (brace_by-ends c t)
-      (ends_cond (is_plain c) _ _ t (this-ends _ t) (ends_none t)))))))
+  atom_by-ends c t = first_row-has (λ found. Ends found t) (atom_rows ctx c t) (ends_none t) (atom_rows-end c t)
 
   head_by-ends : (c : ℕ) (t : Source) → Ends (head_by ctx c t) t
   head_by-ends c t = ends_cond (c == opening) _ _ t (group_at-ends ctx.setting.table t) (ends_map single _ t (atom_by-ends c t))
