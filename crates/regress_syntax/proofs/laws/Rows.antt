@@ -19,7 +19,7 @@ use Rattle.regress_lexical.proofs.laws.Behind.{behind_same, behind_drop, behind_
 use Rattle.regress_syntax.proofs.laws.NameEnds.{group_name_at-ends, modifiers_at-ends}
 use Rattle.regress_classes.proofs.laws.Pieces.{property_at-ends, class_at-ends}
 use Rattle.regress_classes.proofs.laws.ClassSets.{class_set_at-ends}
-use Rattle.regress_lexical.proofs.laws.Sources.{Shortens, chosen, EachRow, first_row-has}
+use Rattle.regress_lexical.proofs.laws.Sources.{Shortens, chosen, EachRow, no_more, ◌also◌, first_row-has}
 
 -- what is found leaves the source from its first code point on, or from its second
 this-ends : {A : Type 0} (x : A) (t : Source) → Ends (Some (x, t)) t
@@ -77,28 +77,15 @@ module _ (ctx : Context) where
       subst (λ d. Ends (Some (x, 99 ∷ t)) (d ∷ t)) (sym (eqb-true c 99 (and_parts (c == 99) (not unicode) front).0)) (this-ends x (99 ∷ t))
 
   escape_rows-end : (c : ℕ) (t : Source) → EachRow (λ found. Ends found (c ∷ t)) (escape_rows ctx c t)
-  escape_rows-end c t = (
-    λ _. next-ends _ c t,
-    (
-      λ _. next-ends _ c t,
-      (
-        backslash-ends c t _,
-        (
-          λ _. ends_more _ c t (property_atom_at-ends _ t),
-          (
-            λ _. numbered_at-ends c t,
-            (
-              λ _. ends_more _ c t (named_at-ends t),
-              (
-                λ _. character_at-ends c t,
-                tt,
-              ),
-            ),
-          ),
-        ),
-      ),
-    ),
-  )
+  escape_rows-end c t =
+      (λ _. next-ends _ c t)
+      also (λ _. next-ends _ c t)
+      also backslash-ends c t _
+      also (λ _. ends_more _ c t (property_atom_at-ends _ t))
+      also (λ _. numbered_at-ends c t)
+      also (λ _. ends_more _ c t (named_at-ends t))
+      also (λ _. character_at-ends c t)
+      also no_more
 
   escaped_by-ends : (c : ℕ) (t : Source) → Ends (escaped_by ctx c t) (c ∷ t)
   escaped_by-ends c t = by (class_letter c)
@@ -128,28 +115,15 @@ module _ (ctx : Context) where
       (class_at-ends ctx.setting.table ctx.setting.flags.unicode t))
 
   atom_rows-end : (c : ℕ) (t : Source) → EachRow (λ found. Ends found t) (atom_rows ctx c t)
-  atom_rows-end c t = (
-    λ _. this-ends _ t,
-    (
-      λ _. this-ends _ t,
-      (
-        λ _. this-ends _ t,
-        (
-          λ _. escaped_at-ends t,
-          (
-            λ _. brackets_at-ends t,
-            (
-              λ _. brace_by-ends c t,
-              (
-                λ _. this-ends _ t,
-                tt,
-              ),
-            ),
-          ),
-        ),
-      ),
-    ),
-  )
+  atom_rows-end c t =
+      (λ _. this-ends _ t)
+      also (λ _. this-ends _ t)
+      also (λ _. this-ends _ t)
+      also (λ _. escaped_at-ends t)
+      also (λ _. brackets_at-ends t)
+      also (λ _. brace_by-ends c t)
+      also (λ _. this-ends _ t)
+      also no_more
 
   atom_by-ends : (c : ℕ) (t : Source) → Ends (atom_by ctx c t) t
   atom_by-ends c t = first_row-has (λ found. Ends found t) (atom_rows ctx c t) (ends_none t) (atom_rows-end c t)
