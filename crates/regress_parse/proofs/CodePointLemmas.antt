@@ -21,11 +21,7 @@ use Rattle.regress_lexical.proofs.laws.Behind.{Ends, behind_all}
 use Rattle.regress_classes.proofs.laws.ClassStrings.{OfCodePoints, PropertyInRange, property_at-in_range, class_set_at-in_range}
 use Rattle.regress_lexical.proofs.laws.InRange.{Finds, finds_none, finds_some, finds_cond, finds_then, finds_map, escape_at-in_range}
 use Rattle.regress_syntax.proofs.laws.NameEnds.{IsName, name_characters}
-<<<<<<< HEAD
-use Rattle.regress_lexical.proofs.laws.Sources.{EachRow, first_row-has}
-=======
 use Rattle.regress_lexical.proofs.laws.Sources.{EachRow, no_more, ◌also◌, first_row-has}
->>>>>>> h6
 
 -- the source is made of code points
 pub record AreCodePoints (t : Source) : Type 0 where
@@ -137,30 +133,6 @@ module _ (ctx : Context) (lawful : IsLawful ctx.setting.table) (n : ℕ) (within
       (λ x _. finds_cond _ (has_name x.0 ctx.names) _ _ (λ _. finds_some _ _ tt) (λ _. finds_none _))
 
   escape_rows-good : (c : ℕ) (t : Source) → AreCodePoints (c ∷ t) → EachRow (Finds (IsGoodAtom n)) (escape_rows ctx c t)
-<<<<<<< HEAD
-  escape_rows-good c t all = (
-    λ _. finds_some _ _ tt,
-    (
-      λ _. finds_some _ _ tt,
-      (
-        λ _. finds_some _ _ (omega arith),
-        (
-          λ _. property_atom_at-good _ t,
-          (
-            numbered_at-good c t all,
-            (
-              λ _. named_at-good t,
-              (
-                λ _. character_at-good c t all,
-                tt,
-              ),
-            ),
-          ),
-        ),
-      ),
-    ),
-  )
-=======
   escape_rows-good c t all =
       (λ _. finds_some _ _ tt)
       also (λ _. finds_some _ _ tt)
@@ -170,7 +142,6 @@ module _ (ctx : Context) (lawful : IsLawful ctx.setting.table) (n : ℕ) (within
       also (λ _. named_at-good t)
       also (λ _. character_at-good c t all)
       also no_more
->>>>>>> h6
 
   escaped_by-good : (c : ℕ) (t : Source) → AreCodePoints (c ∷ t) → Finds (IsGoodAtom n) (escaped_by ctx c t)
   escaped_by-good c t all = by_letter (class_letter c)
@@ -202,30 +173,6 @@ module _ (ctx : Context) (lawful : IsLawful ctx.setting.table) (n : ℕ) (within
       (λ x holds. tt) (finds_any (class_at ctx.setting.table ctx.setting.flags.unicode t)))
 
   atom_rows-good : (c : ℕ) (t : Source) → IsCodePoint c → AreCodePoints t → EachRow (Finds (IsGoodAtom n)) (atom_rows ctx c t)
-<<<<<<< HEAD
-  atom_rows-good c t h all = (
-    λ _. finds_some _ _ tt,
-    (
-      λ _. finds_some _ _ tt,
-      (
-        λ _. finds_some _ _ tt,
-        (
-          λ _. escaped_at-good t all,
-          (
-            λ _. brackets_at-good t all,
-            (
-              λ _. brace_by-good c t h,
-              (
-                λ _. finds_some _ _ h,
-                tt,
-              ),
-            ),
-          ),
-        ),
-      ),
-    ),
-  )
-=======
   atom_rows-good c t h all =
       (λ _. finds_some _ _ tt)
       also (λ _. finds_some _ _ tt)
@@ -235,7 +182,6 @@ module _ (ctx : Context) (lawful : IsLawful ctx.setting.table) (n : ℕ) (within
       also (λ _. brace_by-good c t h)
       also (λ _. finds_some _ _ h)
       also no_more
->>>>>>> h6
 
   atom_by-good : (c : ℕ) (t : Source) → IsCodePoint c → AreCodePoints t → Finds (IsGoodAtom n) (atom_by ctx c t)
   atom_by-good c t h all = first_row-has (Finds (IsGoodAtom n)) (atom_rows ctx c t) (finds_none _) (atom_rows-good c t h all)

@@ -13,11 +13,7 @@ use Rattle.regress_classes.specs.ClassRows.{ClassAtom, point, set, complement_if
 use Rattle.regress_syntax.specs.Scan.{plain, class, class_escape, marks}
 use Rattle.regress_lexical.proofs.laws.Digits.{and_both}
 use Rattle.regress_syntax.proofs.ScanLemmas.{is_quiet, Passes, Leads, Home, in_class, home, passes_same, passes_then, leads_none, leads_some, leads_behind, leads_then, leads_map, leads_cond, pass_quiet, pass_at, pass_backslash, pass_escaped, pass_behind, lead_escape_at}
-<<<<<<< HEAD
-use Rattle.regress_lexical.proofs.laws.Sources.{EachRow, first_row-has}
-=======
 use Rattle.regress_lexical.proofs.laws.Sources.{EachRow, no_more, ◌also◌, first_row-has}
->>>>>>> h6
 
 -- a class may hold anything, or nothing
 lead_made : {A : Type 0} {sets : Bool} {table : Table} (w : Home) (f : List Bounds → A) (made : Option (List Bounds)) (t : Source) →
@@ -74,25 +70,6 @@ module _ {table : Table} where
 
   class_escape_rows_lead : (unicode : Bool) (c : ℕ) (t : Source) →
       EachRow (Leads false table (class_escape 0 0) (c ∷ t) (class 0 0)) (class_escape_rows table unicode c t)
-<<<<<<< HEAD
-  class_escape_rows_lead unicode c t = (
-    λ _. leads_some (point 8, t) (pass_escaped (in_class 0 0) c t),
-    (
-      λ _. leads_some (point 45, t) (pass_escaped (in_class 0 0) c t),
-      (
-        λ e. subst (λ k. Leads false table (class_escape 0 0) (k ∷ t) (class 0 0) (class_control_at t)) (sym (eqb-true c 99 (and_both _ _ e).0))
-            (lead_class_control_at t),
-        (
-          λ _. lead_class_property_at _ c t,
-          (
-            λ _. leads_map point (escape_at unicode (c ∷ t)) (lead_escape_at (in_class 0 0) unicode (c ∷ t)),
-            tt,
-          ),
-        ),
-      ),
-    ),
-  )
-=======
   class_escape_rows_lead unicode c t =
       (λ _. leads_some (point 8, t) (pass_escaped (in_class 0 0) c t))
       also (λ _. leads_some (point 45, t) (pass_escaped (in_class 0 0) c t))
@@ -101,7 +78,6 @@ module _ {table : Table} where
       also (λ _. lead_class_property_at _ c t)
       also (λ _. leads_map point (escape_at unicode (c ∷ t)) (lead_escape_at (in_class 0 0) unicode (c ∷ t)))
       also no_more
->>>>>>> h6
 
   lead_class_escape_by : (unicode : Bool) (c : ℕ) (t : Source) →
       Leads false table (class_escape 0 0) (c ∷ t) (class 0 0) (class_escape_by table unicode c t)

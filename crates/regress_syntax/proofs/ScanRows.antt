@@ -26,11 +26,7 @@ use Rattle.regress_lexical.proofs.laws.Digits.{and_both, drop_one_more}
 use Rattle.regress_syntax.proofs.ScanLemmas.{is_quiet, quiet_decimal, quiet_plain, Passes, Leads, Gives, in_text, gives_none, gives_some, gives_after, gives_then, gives_map, gives_cond, gives_leads, passes_same, passes_then, leads_none, leads_some, leads_behind, leads_then, leads_map, leads_cond, pass_quiet, pass_at, pass_backslash, pass_escaped, pass_behind, lead_unicode_at, lead_escape_at, lead_quantifier_at}
 use Rattle.regress_syntax.proofs.ScanClasses.{lead_property_at, lead_class_at}
 use Rattle.regress_syntax.proofs.ScanSets.{gives_class_set_at}
-<<<<<<< HEAD
-use Rattle.regress_lexical.proofs.laws.Sources.{EachRow, first_row-has}
-=======
 use Rattle.regress_lexical.proofs.laws.Sources.{EachRow, no_more, ◌also◌, first_row-has}
->>>>>>> h6
 
 -- ---- names
 
@@ -198,30 +194,6 @@ module _ (ctx : Context) (lawful : IsLawful ctx.setting.table) where
   same_lone_backslash c t = refl
 
   escape_rows_give : (c : ℕ) (t : Source) → EachRow (Gives (marks_in ctx escape (c ∷ t)) (behind_atom ctx)) (escape_rows ctx c t)
-<<<<<<< HEAD
-  escape_rows_give c t = (
-    λ _. gives_some (_, t) (pass_escaped in_text c t).same,
-    (
-      λ _. gives_some (_, t) (pass_escaped in_text c t).same,
-      (
-        λ _. gives_some (_, 99 ∷ t) (same_lone_backslash c t),
-        (
-          λ _. gives_property_atom_at _ c t,
-          (
-            λ e. gives_numbered_at c t (grind (arith, nat_tests)),
-            (
-              λ _. gives_after (pass_escaped in_text c t).same (gives_named_at t),
-              (
-                λ _. gives_character_at c t,
-                tt,
-              ),
-            ),
-          ),
-        ),
-      ),
-    ),
-  )
-=======
   escape_rows_give c t =
       (λ _. gives_some (_, t) (pass_escaped in_text c t).same)
       also (λ _. gives_some (_, t) (pass_escaped in_text c t).same)
@@ -231,7 +203,6 @@ module _ (ctx : Context) (lawful : IsLawful ctx.setting.table) where
       also (λ _. gives_after (pass_escaped in_text c t).same (gives_named_at t))
       also (λ _. gives_character_at c t)
       also no_more
->>>>>>> h6
 
   gives_escaped_by : (c : ℕ) (t : Source) → Gives (marks_in ctx escape (c ∷ t)) (behind_atom ctx) (escaped_by ctx c t)
   gives_escaped_by c t = by (class_letter c)
@@ -282,32 +253,6 @@ module _ (ctx : Context) (lawful : IsLawful ctx.setting.table) where
   same_open_bracket t = refl
 
   atom_rows_give : (c : ℕ) (t : Source) → EachRow (Gives (marks_in ctx plain (c ∷ t)) (behind_atom ctx)) (atom_rows ctx c t)
-<<<<<<< HEAD
-  atom_rows_give c t = (
-    λ e. gives_some (_, t) (pass_at in_text full_stop (c ∷ t) refl e).same,
-    (
-      λ e. gives_some (_, t) (pass_at in_text 94 (c ∷ t) refl e).same,
-      (
-        λ e. gives_some (_, t) (pass_at in_text 36 (c ∷ t) refl e).same,
-        (
-          λ e. subst (λ k. Gives (marks_in ctx plain (k ∷ t)) (behind_atom ctx) (escaped_at ctx t)) (sym (eqb-true c 92 e))
-              (gives_after (pass_backslash in_text t).same (gives_escaped_at t)),
-          (
-            λ e. subst (λ k. Gives (marks_in ctx plain (k ∷ t)) (behind_atom ctx) (brackets_at ctx t)) (sym (eqb-true c 91 e))
-                (gives_after (same_open_bracket t) (gives_class ctx.setting.flags.unicode_sets t)),
-            (
-              gives_brace_by c t,
-              (
-                λ e. gives_some (_, t) (pass_quiet in_text c t (quiet_plain c e)).same,
-                tt,
-              ),
-            ),
-          ),
-        ),
-      ),
-    ),
-  )
-=======
   atom_rows_give c t =
       (λ e. gives_some (_, t) (pass_at in_text full_stop (c ∷ t) refl e).same)
       also (λ e. gives_some (_, t) (pass_at in_text 94 (c ∷ t) refl e).same)
@@ -319,7 +264,6 @@ module _ (ctx : Context) (lawful : IsLawful ctx.setting.table) where
       also gives_brace_by c t
       also (λ e. gives_some (_, t) (pass_quiet in_text c t (quiet_plain c e)).same)
       also no_more
->>>>>>> h6
 
   gives_atom_by : (c : ℕ) (t : Source) → Gives (marks_in ctx plain (c ∷ t)) (behind_atom ctx) (atom_by ctx c t)
   gives_atom_by c t = first_row-has (Gives (marks_in ctx plain (c ∷ t)) (behind_atom ctx)) (atom_rows ctx c t) gives_none (atom_rows_give c t)

@@ -9,11 +9,7 @@ use Rattle.regress_classes.specs.ClassRows.{class_letter, class_members, one_poi
 use Rattle.regress_classes.specs.ClassSets.{Value, only, joined, common, without, unless_of_strings, Operand, character, class, value_of, is_set_syntax, is_double, begins_double, is_reserved, escaped_character_at, set_character_at, strings_by, quoted_at, property_operand, operand_rows, escaped_operand_at, operand_at, range_of, range_at, part_behind, parts_by, are_at, operands_by, contents_behind, contents_at, class_set_by, class_set_at}
 use Rattle.regress_classes.proofs.laws.Pieces.{property_at-ends}
 use Rattle.regress_lexical.proofs.laws.Behind.{IsBehind, behind_same, behind_drop, Ends, ends_none, ends_some, ends_behind, ends_more, ends_then, ends_map, ends_cond, escape_at-ends}
-<<<<<<< HEAD
-use Rattle.regress_lexical.proofs.laws.Sources.{EachRow, first_row-has}
-=======
 use Rattle.regress_lexical.proofs.laws.Sources.{EachRow, no_more, ◌also◌, first_row-has}
->>>>>>> h6
 
 -- ---- what stands behind an operand
 
@@ -62,24 +58,11 @@ property_operand-ends in_negated negated (of_strings written, t) =
 
 module _ (table : Table) (unicode : Bool) where
   operand_rows-end : (in_negated : Bool) (c : ℕ) (t : Source) → EachRow (λ found. Ends found (c ∷ t)) (operand_rows table unicode in_negated c t)
-<<<<<<< HEAD
-  operand_rows-end in_negated c t = (
-    λ _. ends_more _ c t (quoted_at-ends unicode t),
-    (
-      λ _. ends_more _ c t (ends_then (property_at true table t) _ t (property_at-ends true table t) (property_operand-ends in_negated _)),
-      (
-        λ _. ends_map character _ (c ∷ t) (escaped_character_at-ends unicode (c ∷ t)),
-        tt,
-      ),
-    ),
-  )
-=======
   operand_rows-end in_negated c t =
       (λ _. ends_more _ c t (quoted_at-ends unicode t))
       also (λ _. ends_more _ c t (ends_then (property_at true table t) _ t (property_at-ends true table t) (property_operand-ends in_negated _)))
       also (λ _. ends_map character _ (c ∷ t) (escaped_character_at-ends unicode (c ∷ t)))
       also no_more
->>>>>>> h6
 
   escaped_operand_at-ends : (in_negated : Bool) (t : Source) → Ends (escaped_operand_at table unicode in_negated t) t
   escaped_operand_at-ends in_negated [] = ends_none []

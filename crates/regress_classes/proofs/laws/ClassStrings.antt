@@ -16,11 +16,7 @@ use Rattle.regress_lexical.proofs.laws.Digits.{and_both}
 use Rattle.regress_lexical.proofs.laws.Behind.{Ends, ends_then, behind_all}
 use Rattle.regress_lexical.proofs.laws.InRange.{Finds, finds_none, finds_some, finds_cond, finds_then, finds_map, escape_at-in_range}
 use Rattle.regress_classes.proofs.laws.ClassSets.{set_character_at-ends, operand_at-ends, part_behind-ends, class_set_by-ends}
-<<<<<<< HEAD
-use Rattle.regress_lexical.proofs.laws.Sources.{EachRow, first_row-has}
-=======
 use Rattle.regress_lexical.proofs.laws.Sources.{EachRow, no_more, ◌also◌, first_row-has}
->>>>>>> h6
 
 abbrev pub OfCodePoints : List (List ℕ) → Type 0
 OfCodePoints strings = All (All IsCodePoint) strings
@@ -181,26 +177,12 @@ module _ (P : Value → Type 0) (kept : IsKept P) where
   module _ (table : Table) (lawful : IsLawful table) (unicode : Bool) where
     operand_rows-kept : (in_negated : Bool) (c : ℕ) (t : Source) → All IsCodePoint (c ∷ t) →
         EachRow (Finds (Holds P)) (operand_rows table unicode in_negated c t)
-<<<<<<< HEAD
-    operand_rows-kept in_negated c t all = (
-      λ _. quoted_at-kept unicode t (All-drop IsCodePoint 1 (c ∷ t) all),
-      (
-        λ _. finds_then PropertyInRange (Holds P) (property_at true table t) _ (property_at-in_range table lawful true t)
-            (property_operand-kept in_negated _),
-        (
-          λ _. finds_map IsCodePoint (Holds P) character _ (λ d h. h) (escaped_character_at-in_range unicode (c ∷ t) all),
-          tt,
-        ),
-      ),
-    )
-=======
     operand_rows-kept in_negated c t all =
         (λ _. quoted_at-kept unicode t (All-drop IsCodePoint 1 (c ∷ t) all))
         also (λ _. finds_then PropertyInRange (Holds P) (property_at true table t) _ (property_at-in_range table lawful true t)
         (property_operand-kept in_negated _))
         also (λ _. finds_map IsCodePoint (Holds P) character _ (λ d h. h) (escaped_character_at-in_range unicode (c ∷ t) all))
         also no_more
->>>>>>> h6
 
     escaped_operand_at-kept : (in_negated : Bool) (t : Source) → All IsCodePoint t →
         Finds (Holds P) (escaped_operand_at table unicode in_negated t)

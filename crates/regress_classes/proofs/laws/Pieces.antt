@@ -9,11 +9,7 @@ use Rattle.regress_lexical.specs.Source.{Source, Found, ◌>>=◌, is_at, first_
 use Rattle.regress_lexical.specs.Digits.{is_decimal, is_letter, behind}
 use Rattle.regress_classes.specs.Properties.{Property, points_of, is_property_character, closed_property, braced_property_at, property_at}
 use Rattle.regress_classes.specs.ClassRows.{ClassAtom, point, set, complement_if, class_members, class_letter, class_control_at, class_property, class_property_at, class_escape_rows, class_escape_by, class_escape_at, class_atom_at, range_of, range_at, begins_range, class_part_at, class_parts_by, class_at, atom_members}
-<<<<<<< HEAD
-use Rattle.regress_lexical.proofs.laws.Sources.{then_same, cond_same, EachRow, first_row-has}
-=======
 use Rattle.regress_lexical.proofs.laws.Sources.{then_same, cond_same, EachRow, no_more, ◌also◌, first_row-has}
->>>>>>> h6
 use Rattle.regress_lexical.proofs.laws.Behind.{IsBehind, behind_same, behind_behind, behind_drop, behind_front, behind_shorter, Ends, ends_none, ends_some, ends_behind, ends_more, ends_then, ends_map, ends_cond, escape_at-ends}
 
 -- ---- what stands behind a property
@@ -80,24 +76,6 @@ more_parts members others = others >>= λ (y : List Bounds × Source). Some (mem
 
 module _ (table : Table) (unicode : Bool) where
   class_escape_rows-end : (c : ℕ) (t : Source) → EachRow (λ found. Ends found (c ∷ t)) (class_escape_rows table unicode c t)
-<<<<<<< HEAD
-  class_escape_rows-end c t = (
-    λ _. one-ends _ c t,
-    (
-      λ _. one-ends _ c t,
-      (
-        λ e. subst (λ d. Ends (class_control_at t) (d ∷ t)) (sym (eqb-true c 99 (and_parts (c == 99) _ e).0)) (class_control_at-ends t),
-        (
-          λ _. ends_more _ c t (class_property_at-ends table _ t),
-          (
-            λ _. ends_map point _ (c ∷ t) (escape_at-ends unicode (c ∷ t)),
-            tt,
-          ),
-        ),
-      ),
-    ),
-  )
-=======
   class_escape_rows-end c t =
       (λ _. one-ends _ c t)
       also (λ _. one-ends _ c t)
@@ -105,7 +83,6 @@ module _ (table : Table) (unicode : Bool) where
       also (λ _. ends_more _ c t (class_property_at-ends table _ t))
       also (λ _. ends_map point _ (c ∷ t) (escape_at-ends unicode (c ∷ t)))
       also no_more
->>>>>>> h6
 
   class_escape_by-ends : (c : ℕ) (t : Source) → Ends (class_escape_by table unicode c t) (c ∷ t)
   class_escape_by-ends c t = by (class_letter c)

@@ -35,17 +35,6 @@ cond_same true x y x' y' h k = h refl
 cond_same false x y x' y' h k = k refl
 
 -- What each row finds where it applies has the property.
-<<<<<<< HEAD
-abbrev pub EachRow : {A : Type 0} → (Found A → Type 0) → List (Row A) → Type 0
-EachRow P [] = Unit {0}
-EachRow P ((applies, found) ∷ rows) = (applies ≡ true → P found) × EachRow P rows
-
--- So has what the first row finds that applies.
-pub first_row-has : {A : Type 0} (P : Found A → Type 0) (rows : List (Row A)) → P None → EachRow P rows → P (first_row rows)
-first_row-has P [] none each = none
-first_row-has P ((true, found) ∷ rows) none each = each.0 refl
-first_row-has P ((false, found) ∷ rows) none each = first_row-has P rows none each.1
-=======
 infixr 5 ◌also◌
 pub data EachRow {A : Type 0} (P : Found A → Type 0) : List (Row A) → Type 0 where
   no_more : EachRow P []
@@ -57,7 +46,6 @@ pub first_row-has : {A : Type 0} (P : Found A → Type 0) (rows : List (Row A)) 
 first_row-has P [] none no_more = none
 first_row-has P ((true, found) ∷ rows) none (has also each) = has refl
 first_row-has P ((false, found) ∷ rows) none (has also each) = first_row-has P rows none each
->>>>>>> h6
 
 -- what is at the front of a source is in it
 pub at_front : (k : ℕ) (t : Source) → is_at k t ≡ true → 0 < length t
