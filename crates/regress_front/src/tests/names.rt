@@ -33,6 +33,38 @@ fn names_have_their_faults(rt: HostRuntime) -> Result<(), Fail> {
     )
 }
 
+#[test]
+fn a_duplicate_name_is_told_wherever_it_stands(rt: HostRuntime) -> Result<(), Fail> {
+    expect_limits(
+        &rt,
+        rt.alloc(),
+        "",
+        &[
+            (
+                "",
+                "(?<a>x)(?<a>y)",
+                "(",
+                256,
+                "Duplicate capture group name",
+            ),
+            (
+                "(",
+                "(?<a>x)(?<a>y)",
+                "",
+                256,
+                "Duplicate capture group name",
+            ),
+            (
+                "(",
+                "(?<a>x)(?<b>y)",
+                "",
+                256,
+                "Regular expression is too deeply nested",
+            ),
+        ],
+    )
+}
+
 // The answers of regress 0.12.0, as those in `tests.rt`: a parenthesis too many closes no level.
 #[test]
 fn a_closing_parenthesis_too_many_leaves_the_level(rt: HostRuntime) -> Result<(), Fail> {
