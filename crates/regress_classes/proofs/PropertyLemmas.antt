@@ -1,10 +1,10 @@
 -- Properties: words at the front of a source, what an escape reads, and copies of strings.
-use Rattle.std.proofs.Common.{◌≡◌, ℕ, ◌<◌, Bool, true, false, cond, List, [], ◌∷◌, ◌++◌, refl, sym, ap, ◌∙◌, append_assoc, append-nil, arith}
+use Rattle.std.proofs.Common.{◌≡◌, ℕ, ◌<◌, ◌==◌, Bool, true, false, cond, List, [], ◌∷◌, ◌++◌, length, Some, None, refl, sym, ap, ap₂, ◌∙◌, append_assoc, append-nil, arith}
 use Rattle.std.proofs.lemmas.Bool.{cond-true}
 use Rattle.std.proofs.lemmas.Bool.Decides.{nat_tests}
 use Rattle.regress_lexical.specs.Source.{Source}
 use Rattle.regress_lexical.specs.Digits.{front, behind}
-use Rattle.regress_classes.specs.Properties.{is_property_character}
+use Rattle.regress_classes.specs.Properties.{is_property_character, property_word_at}
 
 pub ascii : (c : ℕ) → is_property_character c ≡ true → c < 128
 ascii c e = grind (arith, nat_tests)
@@ -42,8 +42,8 @@ more_of_word t s rest c word new so_far next passes is = record {
 }
 
 pub all_of_word : (t rest : Source) (word : List ℕ) → WordUpTo t rest word → front is_property_character rest ≡ [] →
-    (word ≡ front is_property_character t) × (rest ≡ behind is_property_character t)
-all_of_word t rest word so_far ends = (
-  sym (append-nil word) ∙ ap (λ (u : Source). word ++ u) (sym ends) ∙ so_far.read,
-  sym (behind-none rest ends) ∙ so_far.left,
-)
+    cond (length word == 0) None (Some (word, rest)) ≡ property_word_at t
+all_of_word t rest word so_far ends =
+    let whole : word ≡ front is_property_character t = sym (append-nil word) ∙ ap (λ (u : Source). word ++ u) (sym ends) ∙ so_far.read in
+    let left : rest ≡ behind is_property_character t = sym (behind-none rest ends) ∙ so_far.left in
+    ap₂ (λ (w : List ℕ) (u : Source). cond (length w == 0) None (Some (w, u))) whole left

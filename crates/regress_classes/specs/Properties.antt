@@ -1,10 +1,10 @@
 -- Properties by a name, behind `\p` or `\P` (ECMA-262, UnicodePropertyValueExpression; the names are the table's).
-use Rattle.std.specs.Prelude.{ℕ, Bool, ◌||◌, List, drop, Option, Some, None, option_map, if◌then◌else◌, ◌==◌, codes}
+use Rattle.std.specs.Prelude.{ℕ, Bool, ◌||◌, List, length, drop, Option, Some, None, option_map, if◌then◌else◌, ◌==◌, codes}
 use Rattle.std.specs.Option.{option_or}
 use Rattle.std.specs.Str.{bytes_eq}
 use Rattle.regress_base.specs.Intervals.{Bounds}
 use Rattle.regress_unicode.specs.Table.{Table, Named, named}
-use Rattle.regress_lexical.specs.Source.{Source, Found, is_at}
+use Rattle.regress_lexical.specs.Source.{Source, Found, ◌>>=◌, is_at}
 use Rattle.regress_lexical.specs.Digits.{is_decimal, is_letter, front, behind}
 
 -- what a name stands for: code points, or strings
@@ -48,14 +48,21 @@ abbrev pub closed_property : Option Property → Source → Found Property
 closed_property None t = None
 closed_property (Some property) t = if is_at 125 t then Some (property, drop 1 t) else None
 
--- behind `{`: perhaps the name of a list and `=`, then a value and `}`
+-- a name or a value: all such characters at the front, one at least (ECMA-262, UnicodePropertyName, UnicodePropertyValue)
+abbrev pub property_word_at : Source → Found (List ℕ)
+property_word_at t =
+    if length (front is_property_character t) == 0 then None
+    else Some (front is_property_character t, behind is_property_character t)
+
+-- behind the name of a list and `=`: a value and `}`
+abbrev pub listed_value_at : Table → List ℕ → Source → Found Property
+listed_value_at table name t = property_word_at t >>= λ (value, rest). closed_property (value_in value (list_named table name)) rest
+
+-- behind `{`: the name of a list, `=`, a value and `}`, or a value alone and `}`
 abbrev pub braced_property_at : (sets : Bool) → Table → Source → Found Property
 braced_property_at sets table t =
-    let name = front is_property_character t in
-    let rest = behind is_property_character t in
-    if is_at 61 rest
-    then closed_property (value_in (front is_property_character (drop 1 rest)) (list_named table name)) (behind is_property_character (drop 1 rest))
-    else closed_property (lone_value sets table name) rest
+    property_word_at t >>= λ (word, rest).
+    if is_at 61 rest then listed_value_at table word (drop 1 rest) else closed_property (lone_value sets table word) rest
 
 -- behind `\p` or `\P`; `sets` is the flag v
 unfoldable pub property_at : (sets : Bool) → Table → Source → Found Property

@@ -1,7 +1,6 @@
 //! Classes with the flag v.
-ghost use Rattle.std.specs.Prelude.{◌≡◌, ◌<◌, ◌+◌, ◌-◌, ◌^◌, Bool, true, false, drop, [], ◌∷◌, if◌then◌else◌, IfOk, OnOk};
+ghost use Rattle.std.specs.Prelude.{◌≡◌, ◌<◌, ◌+◌, ◌-◌, ◌^◌, Bool, true, false, drop, [], ◌∷◌, if◌then◌else◌, IfOk, OnOk, OnErr};
 ghost use Rattle.regress_classes.specs.ClassSets.{Value as Written, only, Operand as WrittenOperand, nested, are_at, operand_at, part_behind, parts_at, operands_at, contents_behind, contents_at, class_set_by};
-ghost use Rattle.regress_lexical.specs.Fault.{RefusedOnlyIf};
 ghost use Rattle.regress_lexical.specs.Reads.{ReadsAs};
 ghost use Rattle.regress_classes.specs.ClassViews.{IsValue, IsOperand, IsClassSetRead, inner_of, sign_of, applied};
 ghost use Rattle.regress_lexical.specs.Views.{source};
@@ -260,7 +259,7 @@ fn read_operands(
 /// Moves past an operator. The fault comes where none comes next.
 fn consume_operator(cursor: &mut Cursor, operator: Operator) -> Result<(), ParseFault>
     ensures ok { OnOk result ((are_at (sign_of operator) (source cursor.old) ≡ true) × (source cursor.new ≡ drop 2 (source cursor.old))) }
-    ensures err { RefusedOnlyIf result (are_at (sign_of operator) (source cursor.old) ≡ false) }
+    ensures err { OnErr result (are_at (sign_of operator) (source cursor.old) ≡ false) }
 {
     if try_consume_both(cursor, operator.sign()) {
         return Ok(());

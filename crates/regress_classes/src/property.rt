@@ -1,7 +1,7 @@
 //! Properties by a name.
 ghost use Rattle.std.specs.Prelude.{◌≡◌, ◌==◌, ◌||◌, true, [], ◌∷◌, string_bytes, option_map, IfOk, IfSome, IfNone};
-ghost use Rattle.regress_lexical.specs.Digits.{front, behind};
-ghost use Rattle.regress_classes.specs.Properties.{is_property_character, lone_value, list_named, value_in, closed_property, braced_property_at, property_at};
+ghost use Rattle.regress_lexical.specs.Digits.{front};
+ghost use Rattle.regress_classes.specs.Properties.{is_property_character, lone_value, list_named, value_in, closed_property, property_word_at, braced_property_at, property_at};
 ghost use Rattle.regress_lexical.specs.Reads.{Reads};
 ghost use Rattle.regress_classes.specs.ClassViews.{property_of};
 ghost use Rattle.regress_lexical.specs.Views.{source};
@@ -58,25 +58,31 @@ fn read_named<'a>(
     ensures { IfOk result (λ found. closed_property (option_map property_of found) (source cursor.new)
         ≡ braced_property_at sets (table_of tables.now) (source cursor.old)) }
 {
-    let name = read_word(cursor)?;
+    let Some(word) = read_word(cursor)? else {
+        return Ok(None);
+    };
     if !cursor.try_consume('=') {
-        return Ok(lone_value(sets, tables, &name));
+        return Ok(lone_value(sets, tables, &word));
     }
-    let value = read_word(cursor)?;
-    Ok(listed_value(tables, &name, &value))
+    let Some(value) = read_word(cursor)? else {
+        return Ok(None);
+    };
+    Ok(listed_value(tables, &word, &value))
 }
 
-/// Reads the letters, digits and low lines at the front, perhaps none.
-fn read_word(cursor: &mut Cursor) -> Result<String, AllocError>
-    ensures word { IfOk result (λ word. string_bytes word ≡ front is_property_character (source cursor.old)) }
-    ensures behind { IfOk result (λ word. source cursor.new ≡ behind is_property_character (source cursor.old)) }
+/// Reads the letters, digits and low lines at the front, if there are any.
+fn read_word(cursor: &mut Cursor) -> Result<Option<String>, AllocError>
+    ensures { IfOk result (λ word. option_map (λ word. (string_bytes word, source cursor.new)) word ≡ property_word_at (source cursor.old)) }
 {
     let mut word = String::new(cursor.alloc);
     while let Some((c, rest)) = property_character(cursor.rest) {
         word.push(c)?;
         cursor.rest = rest;
     }
-    Ok(word)
+    if word.is_empty() {
+        return Ok(None);
+    }
+    Ok(Some(word))
 }
 
 /// The letter, digit or low line at the front, and the text behind it.

@@ -1,5 +1,5 @@
--- When a pattern is refused.
-use Rattle.std.specs.Prelude.{Result, Ok, Err}
+-- When a pattern is refused, and what is told then.
+use Rattle.std.specs.Prelude.{◌≡◌, ℕ, List, string_bytes, Result, Ok, Err}
 use Rattle.regress_lexical.specs.declared.fault.ParseFault.{ParseFault}
 use Rattle.regress_lexical.specs.declared.fault.ParseFault.TheVariants.{Syntax, Memory}
 
@@ -12,3 +12,8 @@ OnSyntax (Memory e) P = Unit {0}
 abbrev pub RefusedOnlyIf : {X : Type 0} → Result X ParseFault → Type 0 → Type 0
 RefusedOnlyIf (Ok x) P = Unit {0}
 RefusedOnlyIf (Err fault) P = OnSyntax fault P
+
+-- a fault of the pattern is told in this text, by its bytes
+abbrev pub Tells : List ℕ → ParseFault → Type 0
+Tells text (Syntax e) = string_bytes e.text ≡ text
+Tells text (Memory e) = Unit {0}

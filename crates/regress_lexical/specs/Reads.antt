@@ -9,7 +9,12 @@ abbrev pub Reads : {A B : Type 0} → (A → B) → Source → Result A ParseFau
 Reads view new (Ok a) found = found ≡ Some (view a, new)
 Reads view new (Err fault) found = OnSyntax fault (found ≡ None)
 
--- The same, where several values may stand for one that is found.
+-- The same, where what is found takes no memory: a fault of either kind comes only where nothing is.
+abbrev pub AlwaysReads : {A B : Type 0} → (A → B) → Source → Result A ParseFault → Found B → Type 0
+AlwaysReads view new (Ok a) found = found ≡ Some (view a, new)
+AlwaysReads view new (Err fault) found = found ≡ None
+
+-- It reads, where several values may stand for one that is found.
 abbrev pub ReadsAs : {A B : Type 0} → (A → B → Type 0) → Source → Result A ParseFault → Found B → Type 0
 ReadsAs {A} {B} StandsFor new (Ok a) found = (b : B) × (found ≡ Some (b, new)) × StandsFor a b
 ReadsAs StandsFor new (Err fault) found = OnSyntax fault (found ≡ None)

@@ -41,8 +41,7 @@ pub struct Cursor<'a> {
 }
 
 impl Cursor<'_> {
-    ghost use Rattle.std.specs.Prelude.{◌≡◌, [], ◌∷◌, drop, if◌then◌else◌, IfSome, IfNone, OnOk, false};
-    ghost use Rattle.regress_lexical.specs.Fault.{RefusedOnlyIf};
+    ghost use Rattle.std.specs.Prelude.{◌≡◌, [], ◌∷◌, drop, if◌then◌else◌, IfSome, IfNone, OnOk, OnErr, false};
     ghost use Rattle.regress_lexical.specs.Source.{is_at, ends_alternative, closing};
     ghost use Rattle.regress_lexical.specs.Views.{source};
 
@@ -88,7 +87,7 @@ impl Cursor<'_> {
     /// Moves past the parenthesis that closes a group. The fault comes where none comes next.
     pub fn consume_closing(&mut self) -> Result<(), ParseFault>
         ensures ok { OnOk result (source self.old ≡ closing ∷ source self.new) }
-        ensures err { RefusedOnlyIf result (is_at closing (source self.old) ≡ false) }
+        ensures err { OnErr result (is_at closing (source self.old) ≡ false) }
     {
         if self.try_consume(')') {
             Ok(())

@@ -1,6 +1,7 @@
 //! Why a pattern was refused.
 
 ghost use Rattle.std.specs.Prelude.{◌≡◌, alloc_error, string_bytes, IfOk};
+ghost use Rattle.regress_lexical.specs.Fault.{Tells};
 ghost use Rattle.regress_lexical.specs.declared.fault.ParseFault.TheVariants.{Memory};
 
 use std::alloc::{AllocError, AllocFailed, Global};
@@ -149,7 +150,9 @@ pub const UNKNOWN_NAME: &str = "Backreference to invalid named capture group: ";
 pub const DUPLICATE_NAME: &str = "Duplicate capture group name";
 
 /// A fault of the pattern. Where its text finds no memory, that is the fault.
-pub fn syntax(alloc: Global, text: &str) -> ParseFault {
+pub fn syntax(alloc: Global, text: &str) -> ParseFault
+    ensures { Tells text.now result }
+{
     match String::from_str(alloc, text) {
         Ok(text) => ParseFault::Syntax(Error { text }),
         Err(fault) => ParseFault::Memory(fault),

@@ -9,7 +9,8 @@ use Rattle.regress_lexical.specs.Source.{Source}
 use Rattle.regress_syntax.specs.Syntax.{Name, Pattern, nothing_counted, counts, names}
 use Rattle.regress_syntax.specs.Rows.{Context}
 use Rattle.regress_syntax.specs.Grammar.{IsPattern}
-use Rattle.regress_syntax.specs.Scan.{GivesMarks, plain, marks, named_by, deepest, at_the_start, placed_by, are_apart, has_apart_names, IsRefusedByMarks}
+use Rattle.regress_syntax.specs.Conflicts.{are_names_apart, has_apart_names}
+use Rattle.regress_syntax.specs.Scan.{GivesMarks, plain, marks, named_by, deepest, IsRefusedByMarks}
 use Rattle.regress_syntax.proofs.laws.Scan.{named_by-pattern, deepest-whole}
 use Rattle.regress_parse.specs.Reader.{pattern_at}
 use Rattle.regress_parse.specs.Parsing.{Fits, pattern_part}
@@ -76,16 +77,16 @@ module _ (setting : Setting) (t : Source) (gives : GivesMarks setting.flags.unic
   pub marks-refuse : IsRefusedByMarks (marks setting.flags.unicode_sets setting.table plain t) → (p : Pattern) → IsAccepted setting t p → ⊥
   marks-refuse (inl conflicts) p h =
       let same = gives (own_context setting p) p refl refl h.derived in
-      false≢true (sym conflicts ∙ ap (λ ms. are_apart (placed_by at_the_start ms)) (sym same) ∙ h.names)
+      false≢true (sym conflicts ∙ ap are_names_apart (sym same) ∙ h.names)
   marks-refuse (inr deep) p h =
       let same = gives (own_context setting p) p refl refl h.derived in
       omega (arith, deep, ap (deepest 1) same, deepest-whole p, h.limits.levels)
 
   -- the names of a pattern that is read are apart where the scan's are
-  pub marks-apart : (p : Pattern) → IsTrue (are_apart (placed_by at_the_start (marks setting.flags.unicode_sets setting.table plain t))) → IsDerived setting t p →
+  pub marks-apart : (p : Pattern) → IsTrue (are_names_apart (marks setting.flags.unicode_sets setting.table plain t)) → IsDerived setting t p →
       IsTrue (has_apart_names p)
   marks-apart p apart h =
-      subst (λ ms. IsTrue (are_apart (placed_by at_the_start ms))) (sym (gives (own_context setting p) p refl refl h)) apart
+      subst (λ ms. IsTrue (are_names_apart ms)) (sym (gives (own_context setting p) p refl refl h)) apart
 
 module _ (setting : Setting) (names : List (Option Name)) where
   pub limits-fit : (p : Pattern) → IsWithinLimits p → Fits nothing_counted 0 (pattern_part setting.table names p)

@@ -6,7 +6,8 @@ use Rattle.regress_tree.specs.Setting.{Setting}
 use Rattle.regress_tree.specs.Reading.{forwards}
 use Rattle.regress_tree.specs.Tree.{Tree, leaf, goal, back_ref, cat, alt, wrapped, capture_group, lookaround}
 use Rattle.regress_lexical.specs.Modifiers.{Change}
-use Rattle.regress_syntax.specs.Scan.{Mark, opens, captures, closes, next, marks, plain as outside_classes, marks_of, has_apart_names}
+use Rattle.regress_syntax.specs.Conflicts.{Mark, opens, captures, closes, next, marks_of, has_apart_names}
+use Rattle.regress_syntax.specs.Scan.{marks, plain as outside_classes}
 use Rattle.regress_lexical.specs.Source.{Source}
 use Rattle.regress_syntax.specs.Syntax.{Pattern, one, no_terms, more_terms, atom, literal, class, back_reference, by_number, group, modified, capture, look}
 use Rattle.regress_parse.specs.TreeOf.{tree_of}

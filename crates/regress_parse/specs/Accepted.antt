@@ -9,7 +9,7 @@ use Rattle.regress_tree.specs.Tree.{Tree}
 use Rattle.regress_lexical.specs.Source.{Source}
 use Rattle.regress_syntax.specs.Syntax.{Pattern, counts, names, levels}
 use Rattle.regress_syntax.specs.Meaning.{meaning}
-use Rattle.regress_syntax.specs.Scan.{has_apart_names}
+use Rattle.regress_syntax.specs.Conflicts.{has_apart_names}
 use Rattle.regress_syntax.specs.Rows.{Context}
 use Rattle.regress_syntax.specs.Grammar.{IsPattern}
 

@@ -57,8 +57,7 @@ impl<'a> Around<'a> {
 }
 
 impl Parser<'_> {
-    ghost use Rattle.std.specs.Prelude.{◌≡◌, ◌+◌, ◌<◌, OnOk};
-    ghost use Rattle.regress_lexical.specs.Fault.{RefusedOnlyIf};
+    ghost use Rattle.std.specs.Prelude.{◌≡◌, ◌+◌, ◌<◌, OnOk, OnErr};
     ghost use Rattle.regress_syntax.specs.Syntax.{added, one_loop, opened_by, counts_of_group};
     ghost use Rattle.regress_syntax.specs.Views.{group_of};
     ghost use Rattle.regress_parse.specs.Parsing.{text, counted};
@@ -66,7 +65,7 @@ impl Parser<'_> {
     /// Counts a group, if it captures. The fault comes where it is one too many.
     pub(crate) fn count_group(&mut self, kind: &Group) -> Result<(), ParseFault>
         ensures ok { OnOk result (counted self.new ≡ added (counted self.old) (counts_of_group (group_of kind.now))) }
-        ensures err { RefusedOnlyIf result (max_capture_groups < self.old.group_count + opened_by (group_of kind.now)) }
+        ensures err { OnErr result (max_capture_groups < self.old.group_count + opened_by (group_of kind.now)) }
         ensures text { text self.new ≡ text self.old }
     {
         if let Group::Capture(_) = kind {
@@ -81,7 +80,7 @@ impl Parser<'_> {
     /// Counts a loop. The fault comes where it is one too many.
     pub(crate) fn count_loop(&mut self) -> Result<(), ParseFault>
         ensures ok { OnOk result (counted self.new ≡ added (counted self.old) one_loop) }
-        ensures err { RefusedOnlyIf result (max_loops < self.old.loop_count + 1) }
+        ensures err { OnErr result (max_loops < self.old.loop_count + 1) }
         ensures text { text self.new ≡ text self.old }
     {
         if usize::from(self.loop_count) >= MAX_LOOPS {

@@ -16,8 +16,8 @@ use Rattle.std.specs.List.{AllAdjacentBelow, list_all}
 use Rattle.std.specs.Ordering.{nat_cmp, is_lt, is_eq, on, then_cmp, ordering_then, ordering_reverse}
 use Rattle.std.specs.declared.cmp.Ordering.{Ordering}
 use Rattle.std.specs.declared.cmp.Ordering.TheVariants.{Less, Equal, Greater}
-use Rattle.regress_syntax.specs.Scan.{Path, Placed, agree, same_name, conflict, are_apart}
-use Rattle.regress_syntax.specs.Scanning.{placed_of}
+use Rattle.regress_syntax.specs.Conflicts.{Path, CaptureAt, agree, same_name, conflict, are_apart}
+use Rattle.regress_syntax.specs.Scanning.{capture_of}
 use Rattle.regress_syntax.specs.declared.scan.scanner.NamedGroup.{NamedGroup}
 
 -- ---- paths and names in order
@@ -70,7 +70,7 @@ same_name-sym None b e = absurd (false≢true e)
 same_name-sym (Some a) None e = absurd (false≢true e)
 same_name-sym (Some a) (Some b) e = bytes_eq-sym b a e
 
-conflict-sym : (a b : Placed) → conflict a b ≡ true → conflict b a ≡ true
+conflict-sym : (a b : CaptureAt) → conflict a b ≡ true → conflict b a ≡ true
 conflict-sym a b e =
     let parts = and_parts (same_name a.name b.name) _ e in
     and_from _ _ (same_name-sym a.name b.name parts.0) (agree-sym (reverse b.path) (reverse a.path) ∙ parts.1)
@@ -175,9 +175,9 @@ module _ {X : Type 0} (r : X → X → Bool) (both_ways : (x y : X) → r x y �
 
 -- ---- groups as the code keeps them
 
-pub conflict-placed : (a b : NamedGroup) → bytes_eq a.name.items b.name.items ≡ true →
-    agree a.path.items b.path.items ≡ conflict (placed_of a) (placed_of b)
-conflict-placed a b e =
+pub conflict-captures : (a b : NamedGroup) → bytes_eq a.name.items b.name.items ≡ true →
+    agree a.path.items b.path.items ≡ conflict (capture_of a) (capture_of b)
+conflict-captures a b e =
     rw (bytes_eq-sym a.name.items b.name.items e, reverse-reverse a.path.items, reverse-reverse b.path.items) refl
 
 -- how groups are sorted
@@ -188,35 +188,35 @@ is_order : IsStrictWeakOrder (λ x y. is_lt (by_name_and_path x y))
 is_order = ranks_by (then_total (on_total (λ (g : NamedGroup). g.name.items) nat_list_cmp_total) (on_total (λ (g : NamedGroup). g.path.items) nat_list_cmp_total)) (λ (g : NamedGroup). g)
 
 groups_between : (x y z : NamedGroup) → is_lt (by_name_and_path y x) ≡ false → is_lt (by_name_and_path z y) ≡ false →
-    conflict (placed_of x) (placed_of z) ≡ true → conflict (placed_of x) (placed_of y) ≡ true
+    conflict (capture_of x) (capture_of z) ≡ true → conflict (capture_of x) (capture_of y) ≡ true
 groups_between x y z h h' e =
     let alike : bytes_eq z.name.items x.name.items ≡ true = (and_parts _ _ e).0 in
     let same : z.name.items ≡ x.name.items = (bytes_eq-Decides _ _).0 alike in
-    let paths : agree x.path.items z.path.items ≡ true = conflict-placed x z (bytes_eq-sym z.name.items x.name.items alike) ∙ e in
+    let paths : agree x.path.items z.path.items ≡ true = conflict-captures x z (bytes_eq-sym z.name.items x.name.items alike) ∙ e in
     let above : is_lt (ordering_then (slice_cmp nat_cmp x.name.items y.name.items) (slice_cmp nat_cmp z.path.items y.path.items)) ≡ false =
     subst (λ (n : List ℕ). is_lt (ordering_then (slice_cmp nat_cmp n y.name.items) (slice_cmp nat_cmp z.path.items y.path.items)) ≡ false) same h' in
     let ties = names_tied x.name.items y.name.items _ _ h above in
-    sym (conflict-placed x y (bytes_eq-sym y.name.items x.name.items ties.0)) ∙ paths_between x.path.items y.path.items z.path.items ties.1 ties.2 paths
+    sym (conflict-captures x y (bytes_eq-sym y.name.items x.name.items ties.0)) ∙ paths_between x.path.items y.path.items z.path.items ties.1 ties.2 paths
 
-are_apart-map : (gs : List NamedGroup) → are_apart (map placed_of gs) ≡ apart (λ x y. conflict (placed_of x) (placed_of y)) gs
+are_apart-map : (gs : List NamedGroup) → are_apart (map capture_of gs) ≡ apart (λ x y. conflict (capture_of x) (capture_of y)) gs
 are_apart-map [] = refl
-are_apart-map (g ∷ gs) = ap₂ (λ a b. a && b) (list_all-map (λ other. not (conflict (placed_of g) other)) placed_of gs) (are_apart-map gs)
+are_apart-map (g ∷ gs) = ap₂ (λ a b. a && b) (list_all-map (λ other. not (conflict (capture_of g) other)) capture_of gs) (are_apart-map gs)
 
 -- Groups in any order are apart if the sorted ones have no neighbours that conflict, and else they are not.
 pub apart_in_any_order : (found in_order : List NamedGroup) → IsPermutation found in_order → IsSorted by_name_and_path in_order →
-    AllAdjacentBelow (λ x y. true ≡ not (conflict (placed_of x) (placed_of y))) in_order (length in_order) → are_apart (map placed_of found) ≡ true
+    AllAdjacentBelow (λ x y. true ≡ not (conflict (capture_of x) (capture_of y))) in_order (length in_order) → are_apart (map capture_of found) ≡ true
 apart_in_any_order found in_order moved sorted near =
     are_apart-map found
-    ∙ apart_shuffled _ (λ x y. conflict-sym (placed_of x) (placed_of y)) in_order found (IsPermutation-sym _ _ moved)
-    (apart_from_neighbours _ (λ x y. conflict-sym (placed_of x) (placed_of y)) _ is_order groups_between in_order sorted
+    ∙ apart_shuffled _ (λ x y. conflict-sym (capture_of x) (capture_of y)) in_order found (IsPermutation-sym _ _ moved)
+    (apart_from_neighbours _ (λ x y. conflict-sym (capture_of x) (capture_of y)) _ is_order groups_between in_order sorted
     (λ k d l. false_from_ne_true _ (λ e. true≢false (near k d l ∙ not_from_true _ e))))
 
 pub conflict_in_any_order : (found in_order : List NamedGroup) → IsPermutation found in_order →
-    (k : ℕ) × (k + 1 < length in_order) × ((d : NamedGroup) → false ≡ not (conflict (placed_of (get_or in_order k d)) (placed_of (get_or in_order (k + 1) d)))) →
-    are_apart (map placed_of found) ≡ false
+    (k : ℕ) × (k + 1 < length in_order) × ((d : NamedGroup) → false ≡ not (conflict (capture_of (get_or in_order k d)) (capture_of (get_or in_order (k + 1) d)))) →
+    are_apart (map capture_of found) ≡ false
 conflict_in_any_order found [] moved (k, l, e) = absurd (omega arith)
 conflict_in_any_order found (g ∷ gs) moved (k, l, e) =
     are_apart-map found
-    ∙ false_from_ne_true _ (λ h. true≢false (sym (apart_shuffled _ (λ x y. conflict-sym (placed_of x) (placed_of y)) found (g ∷ gs) moved h)
-    ∙ not_apart _ (λ x y. conflict-sym (placed_of x) (placed_of y)) (g ∷ gs) k g l
+    ∙ false_from_ne_true _ (λ h. true≢false (sym (apart_shuffled _ (λ x y. conflict-sym (capture_of x) (capture_of y)) found (g ∷ gs) moved h)
+    ∙ not_apart _ (λ x y. conflict-sym (capture_of x) (capture_of y)) (g ∷ gs) k g l
     (true_from_ne_false _ (λ h. true≢false (sym (not_from_false _ h) ∙ sym (e g))))))

@@ -6,9 +6,9 @@ use Rattle.regress_base.specs.Intervals.{Bounds}
 use Rattle.regress_base.specs.declared.charclasses.CharacterClassType.{CharacterClassType}
 use Rattle.regress_unicode.specs.Table.{Table}
 use Rattle.regress_lexical.specs.Source.{Source, Found, is_at, first_row}
-use Rattle.regress_lexical.specs.Digits.{is_decimal, is_letter, control, behind}
+use Rattle.regress_lexical.specs.Digits.{is_decimal, is_letter, control, behind, front}
 use Rattle.regress_lexical.specs.Escapes.{escape_at}
-use Rattle.regress_classes.specs.Properties.{Property, points_of, is_property_character, closed_property, property_at}
+use Rattle.regress_classes.specs.Properties.{Property, points_of, is_property_character, closed_property, property_at, property_word_at}
 use Rattle.regress_classes.specs.ClassRows.{ClassAtom, point, set, complement_if, class_letter, class_members, class_control_at, class_property_at, class_escape_rows, class_escape_by, class_escape_at, class_atom_at, atom_members, begins_range, range_of, range_at, class_part_at, class_parts_by, class_at}
 use Rattle.regress_syntax.specs.Scan.{plain, class, class_escape, marks}
 use Rattle.regress_lexical.proofs.laws.Digits.{and_both}
@@ -32,19 +32,21 @@ module _ {sets : Bool} {table : Table} (w : Home) where
   lead_closed_property (Some property) t =
       leads_cond (is_at 125 t) _ _ (λ e. leads_some (property, drop 1 t) (pass_at w 125 t refl e)) (λ _. leads_none)
 
-  pass_word : (t : Source) → Passes sets table (home w) t (home w) (behind is_property_character t)
-  pass_word t = pass_behind w is_property_character quiet_property t
+  lead_property_word_at : (t : Source) → Leads sets table (home w) t (home w) (property_word_at t)
+  lead_property_word_at t =
+      leads_cond (length (front is_property_character t) == 0) _ _ (λ _. leads_none)
+      (λ _. leads_some (_, behind is_property_character t) (pass_behind w is_property_character quiet_property t))
 
   pub lead_property_at : (of_sets : Bool) (from : Table) (t : Source) → Leads sets table (home w) t (home w) (property_at of_sets from t)
   unfolding property_at
   lead_property_at of_sets from t =
-      let rest = behind is_property_character (drop 1 t) in
       leads_cond (is_at 123 t) _ _
-      (λ e. leads_behind (passes_then (pass_at w 123 t refl e) (pass_word (drop 1 t)))
-      (leads_cond (is_at 61 rest) _ _
-      (λ equals. leads_behind (passes_then (pass_at w 61 rest refl equals) (pass_word (drop 1 rest)))
-      (lead_closed_property _ (behind is_property_character (drop 1 rest))))
-      (λ _. lead_closed_property _ rest)))
+      (λ e. leads_behind (pass_at w 123 t refl e)
+      (leads_then (property_word_at (drop 1 t)) _ (lead_property_word_at (drop 1 t))
+      (λ x. leads_cond (is_at 61 x.1) _ _
+      (λ equals. leads_behind (pass_at w 61 x.1 refl equals)
+      (leads_then (property_word_at (drop 1 x.1)) _ (lead_property_word_at (drop 1 x.1)) (λ y. lead_closed_property _ y.1)))
+      (λ _. lead_closed_property _ x.1))))
       (λ _. leads_none)
 
 -- ---- classes

@@ -1,16 +1,17 @@
 -- The state of a scan, and the marks that it passes.
-use Rattle.std.proofs.Common.{◌≡◌, ℕ, ◌+◌, ◌-◌, max, ◌≤◌, Bool, true, false, cond, not, ◌==◌, ◌&&◌, Result, Ok, Err, List, [], ◌∷◌, ◌++◌, map, reverse, length, Option, Some, None, option_map, Vec, filter, is_some, ap₂, true≢false, refl, sym, ap, ◌∙◌, subst, arith, option_to_list, append-nil}
+use Rattle.std.proofs.Common.{◌≡◌, ℕ, ◌+◌, ◌-◌, ◌^◌, min, max, ◌≤◌, ◌<◌, inl, inr, ⊎_elim, append_assoc, Bool, true, false, cond, not, ◌==◌, ◌&&◌, List, [], ◌∷◌, ◌++◌, map, reverse, length, Option, Some, None, option_map, Vec, filter, is_some, ap₂, true≢false, refl, sym, ap, ◌∙◌, subst, arith, option_to_list, append-nil}
 use Rattle.std.specs.List.{list_all, zip}
 use Rattle.std.specs.declared.alloc.Global.{Global}
-use Rattle.std.proofs.lemmas.Bool.{and_left}
+use Rattle.std.proofs.lemmas.Bool.{and_left, cases_lt}
+use Rattle.std.proofs.lemmas.List.Elements.{filter-append}
 use Rattle.std.proofs.lemmas.List.{map-append}
+use Rattle.regress_base.specs.Limits.{max_nesting_depth}
 use Rattle.regress_unicode.specs.Table.{Table}
 use Rattle.regress_lexical.specs.Source.{Source}
-use Rattle.regress_syntax.specs.Scan.{Mode, plain, escape, class, class_escape, marks, Mark, opens, captures, closes, next, nests, mode_behind, mark_at, agree, deepest, Path, Placed, placed_by, at_the_start, same_name, conflict, are_apart}
-use Rattle.regress_syntax.specs.Scanning.{depth_of, has_name, placed_of, path_of, Behind}
-use Rattle.regress_lexical.specs.Fault.{RefusedOnlyIf}
-use Rattle.regress_lexical.specs.declared.fault.ParseFault.{ParseFault}
-use Rattle.regress_lexical.proofs.laws.Sources.{on_syntax_then}
+use Rattle.regress_syntax.specs.Conflicts.{Mark, opens, captures, closes, next, nests, agree, Path, CaptureAt, groups_by, at_the_start, same_name, conflict, are_apart, are_names_apart}
+use Rattle.regress_syntax.specs.Scan.{IsRefusedByMarks, named_by, Mode, plain, escape, class, class_escape, marks, mode_behind, mark_at, deepest}
+use Rattle.regress_syntax.specs.Numbering.{names_of}
+use Rattle.regress_syntax.specs.Scanning.{depth_of, bears_name, capture_of, path_of, Behind}
 use Rattle.regress_syntax.specs.declared.scan.scanner.Scanner.{Scanner}
 use Rattle.regress_syntax.specs.declared.scan.scanner.NamedGroup.{NamedGroup}
 
@@ -31,34 +32,34 @@ none-same_name : (a b : Option (List ℕ)) → is_some a ≡ false → same_name
 none-same_name None b e = refl
 none-same_name (Some a) b e = absurd (true≢false e)
 
-conflict-none : (g other : Placed) → has_name other ≡ false → conflict g other ≡ false
+conflict-none : (g other : CaptureAt) → bears_name other ≡ false → conflict g other ≡ false
 conflict-none g other e = and_left _ _ (same_name-none g.name other.name e)
 
-none-conflict : (g other : Placed) → has_name g ≡ false → conflict g other ≡ false
+none-conflict : (g other : CaptureAt) → bears_name g ≡ false → conflict g other ≡ false
 none-conflict g other e = and_left _ _ (none-same_name g.name other.name e)
 
-abbrev is_apart_from : Placed → List Placed → Bool
+abbrev is_apart_from : CaptureAt → List CaptureAt → Bool
 is_apart_from g gs = list_all (λ other. not (conflict g other)) gs
 
-apart_from_named : (g : Placed) (gs : List Placed) → is_apart_from g gs ≡ is_apart_from g (filter has_name gs)
+apart_from_named : (g : CaptureAt) (gs : List CaptureAt) → is_apart_from g gs ≡ is_apart_from g (filter bears_name gs)
 apart_from_named g [] = refl
-apart_from_named g (other ∷ gs) = by_test (apart_from_named g gs) (has_name other) refl
+apart_from_named g (other ∷ gs) = by_test (apart_from_named g gs) (bears_name other) refl
   where
-    by_test : is_apart_from g gs ≡ is_apart_from g (filter has_name gs) → (b : Bool) → has_name other ≡ b →
-        is_apart_from g (other ∷ gs) ≡ is_apart_from g (cond b (other ∷ filter has_name gs) (filter has_name gs))
+    by_test : is_apart_from g gs ≡ is_apart_from g (filter bears_name gs) → (b : Bool) → bears_name other ≡ b →
+        is_apart_from g (other ∷ gs) ≡ is_apart_from g (cond b (other ∷ filter bears_name gs) (filter bears_name gs))
     by_test same true e = ap (λ b. not (conflict g other) && b) same
     by_test same false e = ap (λ b. not b && is_apart_from g gs) (conflict-none g other e) ∙ same
 
-none_is_apart : (g : Placed) (gs : List Placed) → has_name g ≡ false → is_apart_from g gs ≡ true
+none_is_apart : (g : CaptureAt) (gs : List CaptureAt) → bears_name g ≡ false → is_apart_from g gs ≡ true
 none_is_apart g [] e = refl
 none_is_apart g (other ∷ gs) e = ap (λ b. not b && is_apart_from g gs) (none-conflict g other e) ∙ none_is_apart g gs e
 
-pub are_apart-named : (gs : List Placed) → are_apart gs ≡ are_apart (filter has_name gs)
+pub are_apart-named : (gs : List CaptureAt) → are_apart gs ≡ are_apart (filter bears_name gs)
 are_apart-named [] = refl
-are_apart-named (g ∷ gs) = by_test (are_apart-named gs) (has_name g) refl
+are_apart-named (g ∷ gs) = by_test (are_apart-named gs) (bears_name g) refl
   where
-    by_test : are_apart gs ≡ are_apart (filter has_name gs) → (b : Bool) → has_name g ≡ b →
-        are_apart (g ∷ gs) ≡ are_apart (cond b (g ∷ filter has_name gs) (filter has_name gs))
+    by_test : are_apart gs ≡ are_apart (filter bears_name gs) → (b : Bool) → bears_name g ≡ b →
+        are_apart (g ∷ gs) ≡ are_apart (cond b (g ∷ filter bears_name gs) (filter bears_name gs))
     by_test same true e = ap₂ (λ a b. a && b) (apart_from_named g gs) same
     by_test same false e = ap (λ b. b && are_apart gs) (none_is_apart g gs e) ∙ same
 
@@ -66,23 +67,17 @@ are_apart-named (g ∷ gs) = by_test (are_apart-named gs) (has_name g) refl
 
 pub named_added : (old new : List NamedGroup) (group : NamedGroup) (name : Vec ℕ Global) (path : List ℕ) (given : Option (Vec ℕ Global)) →
     given ≡ Some name → group.name.items ≡ name.items → group.path.items ≡ path → new ≡ old ++ group ∷ [] →
-    map placed_of new ≡ map placed_of old ++ filter has_name (record { path = reverse path; name = option_map (λ name. name.items) given } ∷ [])
+    map capture_of new ≡ map capture_of old ++ filter bears_name (record { path = reverse path; name = option_map (λ name. name.items) given } ∷ [])
 named_added old new group name path given e names paths pushed =
-    rw (e, ← names, ← paths, pushed) (map-append placed_of old (group ∷ []))
+    rw (e, ← names, ← paths, pushed) (map-append capture_of old (group ∷ []))
 
 pub none_added : (old new : List NamedGroup) (path : Path) (given : Option (Vec ℕ Global)) → given ≡ None → new ≡ old →
-    map placed_of new ≡ map placed_of old ++ filter has_name (record { path = path; name = option_map (λ name. name.items) given } ∷ [])
-none_added old new path given e same = rw (e, same) (sym (append-nil (map placed_of old)))
-
--- at the end of a pattern
-pub apart_behind : (all : List Mark) (scanner : Scanner) → Behind all [] scanner →
-    are_apart (placed_by at_the_start all) ≡ are_apart (map placed_of scanner.named.items)
-apart_behind all scanner behind =
-    are_apart-named (placed_by at_the_start all) ∙ ap are_apart (behind.named ∙ append-nil (map placed_of scanner.named.items))
+    map capture_of new ≡ map capture_of old ++ filter bears_name (record { path = path; name = option_map (λ name. name.items) given } ∷ [])
+none_added old new path given e same = rw (e, same) (sym (append-nil (map capture_of old)))
 
 -- ---- levels
 
-deepest_above : (n : ℕ) (ms : List Mark) → n ≤ deepest n ms
+pub deepest_above : (n : ℕ) (ms : List Mark) → n ≤ deepest n ms
 deepest_above n [] = omega arith
 deepest_above n (opens ∷ ms) = omega arith
 deepest_above n (captures name ∷ ms) = omega arith
@@ -90,18 +85,76 @@ deepest_above n (closes ∷ ms) = omega arith
 deepest_above n (next ∷ ms) = omega arith
 deepest_above n (nests levels ∷ ms) = omega (arith, deepest_above n ms)
 
--- what is refused for one reason is refused for any that follows
-pub refused_then : {X P Q : Type 0} (answer : Result X ParseFault) → (P → Q) → RefusedOnlyIf answer P → RefusedOnlyIf answer Q
-refused_then (Ok x) f h = tt
-refused_then (Err fault) f h = on_syntax_then fault f h
+-- ---- behind a mark
 
--- a level more than before the parenthesis is open behind it
-pub deeper_behind_opens : (all rest : List Mark) (scanner : Scanner) → Behind all (opens ∷ rest) scanner → length (path_of scanner) + 1 ≤ deepest 1 all
-deeper_behind_opens all rest scanner behind = omega (arith, behind.depth, deepest_above (length (path_of scanner) + 1) rest)
+pub behind_opens : (all rest : List Mark) (old new : Scanner) → new ≡ record old { path = new.path; deepest = new.deepest } →
+    path_of new ≡ 0 ∷ path_of old → new.deepest ≡ max old.deepest (length (path_of old) + 1) →
+    Behind all (opens ∷ rest) old → Behind all rest new
+behind_opens all rest old new same path counted behind =
+    let more : length (path_of new) ≡ length (path_of old) + 1 = omega (arith, ap length path) in
+    record {
+      names = behind.names ∙ ap (λ (s : Scanner). names_of s.names.items ++ named_by rest) (sym same);
+      named = λ few. behind.named few
+          ∙ ap₂ (λ (s : Scanner) (p : Path). map capture_of s.named.items ++ filter bears_name (groups_by p rest)) (sym same) (sym path);
+      some = omega (arith, more);
+      opened = omega (arith, more, counted);
+      levels = omega (arith, more, counted, behind.levels, ap (λ n. deepest n rest) more, deepest_above (length (path_of old) + 1) rest);
+    }
 
-pub deeper_behind_captures : (all rest : List Mark) (scanner : Scanner) (name : Option (List ℕ)) →
-    Behind all (captures name ∷ rest) scanner → length (path_of scanner) + 1 ≤ deepest 1 all
-deeper_behind_captures all rest scanner name behind = omega (arith, behind.depth, deepest_above (length (path_of scanner) + 1) rest)
+-- the group stands in front of its parenthesis
+pub behind_captures : (all rest : List Mark) (given : Option (Vec ℕ Global)) (old mid new : Scanner) →
+    mid ≡ record old { names = mid.names; named = mid.named } → names_of mid.names.items ≡ names_of old.names.items ++ names_of (given ∷ []) →
+    (length (path_of old) ≤ max_nesting_depth → map capture_of mid.named.items ≡ map capture_of old.named.items
+    ++ filter bears_name (record { path = path_of old; name = option_map (λ name. name.items) given } ∷ [])) →
+    new ≡ record mid { path = new.path; deepest = new.deepest } → path_of new ≡ 0 ∷ path_of mid →
+    new.deepest ≡ max mid.deepest (length (path_of mid) + 1) →
+    Behind all (captures (option_map (λ name. name.items) given) ∷ rest) old → Behind all rest new
+behind_captures all rest given old mid new added names named same path counted behind =
+    let kept : path_of mid ≡ path_of old = ap path_of added in
+    let before : mid.deepest ≡ old.deepest = ap (λ (s : Scanner). s.deepest) added in
+    let more : length (path_of new) ≡ length (path_of old) + 1 = omega (arith, ap length path, ap length kept) in
+    let count : new.deepest ≡ max old.deepest (length (path_of old) + 1) = omega (arith, counted, before, ap length kept) in
+    let group : CaptureAt = record { path = path_of old; name = option_map (λ name. name.items) given } in
+    let others = groups_by (0 ∷ path_of old) rest in
+    record {
+      names = behind.names ∙ sym (append_assoc (names_of old.names.items) (names_of (given ∷ [])) (named_by rest))
+          ∙ ap (λ ns. ns ++ named_by rest) (sym (ap (λ (s : Scanner). names_of s.names.items) same ∙ names));
+      named = λ few.
+          behind.named few
+          ∙ ap (λ gs. map capture_of old.named.items ++ gs) (filter-append bears_name (group ∷ []) others)
+          ∙ sym (append_assoc (map capture_of old.named.items) (filter bears_name (group ∷ [])) (filter bears_name others))
+          ∙ ap (λ gs. gs ++ filter bears_name others)
+          (sym (ap (λ (s : Scanner). map capture_of s.named.items) same ∙ named (omega (arith, few, behind.levels, behind.opened))))
+          ∙ ap (λ (p : Path). map capture_of new.named.items ++ filter bears_name (groups_by p rest))
+          (sym (path ∙ ap (λ (p : Path). 0 ∷ p) kept));
+      some = omega (arith, more);
+      opened = omega (arith, more, count);
+      levels = omega (arith, more, count, behind.levels, ap (λ n. deepest n rest) more, deepest_above (length (path_of old) + 1) rest);
+    }
+
+-- ---- at the end of a pattern
+
+-- as many levels as were counted, unless there are more than can be
+counted : (n d : ℕ) → min n (2 ^ 64 - 1) ≡ min d (2 ^ 64 - 1) → (d ≤ max_nesting_depth → n ≤ max_nesting_depth) × (max_nesting_depth < d → max_nesting_depth < n)
+counted n d same = (λ few. omega (arith, same), λ many. omega (arith, same))
+
+pub levels_behind : (all : List Mark) (scanner : Scanner) → Behind all [] scanner → scanner.deepest ≤ max_nesting_depth → deepest 1 all ≤ max_nesting_depth
+levels_behind all scanner behind few = (counted (deepest 1 all) _ behind.levels).0 (omega (arith, behind.opened))
+
+pub too_deep_behind : (all : List Mark) (scanner : Scanner) → Behind all [] scanner → max_nesting_depth < scanner.deepest → max_nesting_depth < deepest 1 all
+too_deep_behind all scanner behind many = (counted (deepest 1 all) _ behind.levels).1 (omega (arith, behind.opened))
+
+pub apart_behind : (all : List Mark) (scanner : Scanner) → Behind all [] scanner → deepest 1 all ≤ max_nesting_depth →
+    are_names_apart all ≡ are_apart (map capture_of scanner.named.items)
+apart_behind all scanner behind few =
+    are_apart-named (groups_by at_the_start all) ∙ ap are_apart (behind.named few ∙ append-nil (map capture_of scanner.named.items))
+
+-- two groups that conflict, or seem to past the limit
+pub refused_behind : (all : List Mark) (scanner : Scanner) → Behind all [] scanner → are_apart (map capture_of scanner.named.items) ≡ false →
+    IsRefusedByMarks all
+refused_behind all scanner behind conflicts =
+    ⊎_elim (λ (many : max_nesting_depth < deepest 1 all). inr many)
+    (λ (few : deepest 1 all ≤ max_nesting_depth). inl (apart_behind all scanner behind few ∙ conflicts)) (cases_lt max_nesting_depth (deepest 1 all))
 
 -- ---- from one code point to the next
 

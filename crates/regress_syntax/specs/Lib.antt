@@ -2,6 +2,7 @@ pub mod Names
 pub mod Syntax
 pub mod Rows
 pub mod Grammar
+pub mod Conflicts
 pub mod Scan
 pub mod Numbering
 pub mod Scanning

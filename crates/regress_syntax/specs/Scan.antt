@@ -1,62 +1,14 @@
--- The parentheses and bars of a pattern, by a scan of its code points that knows no grammar, and by its syntax tree.
-use Rattle.std.specs.Prelude.{◌≡◌, ◌⊎◌, ◌<◌, ℕ, ◌+◌, ◌-◌, max, Bool, true, false, not, ◌&&◌, List, [], ◌∷◌, ◌++◌, drop, reverse, Option, Some, None, if◌then◌else◌, ◌==◌}
-use Rattle.std.specs.List.{list_all}
+-- The parentheses and bars of a pattern, by a scan of its code points that knows no grammar.
+use Rattle.std.specs.Prelude.{◌≡◌, ◌⊎◌, ◌<◌, ℕ, ◌+◌, ◌-◌, max, Bool, false, ◌&&◌, List, [], ◌∷◌, ◌++◌, drop, Option, Some, None, if◌then◌else◌, ◌==◌}
 use Rattle.std.specs.Option.{option_to_list}
 use Rattle.regress_base.specs.Limits.{max_nesting_depth}
 use Rattle.regress_unicode.specs.Table.{Table}
 use Rattle.regress_lexical.specs.Source.{Source, opening, closing, bar, question_mark, is_at}
 use Rattle.regress_syntax.specs.Names.{group_name_at}
-use Rattle.regress_syntax.specs.Syntax as Syntax
-use Rattle.regress_syntax.specs.Syntax.{Name, is_named, Atom, literal, dot, anchor, boundary, class_set, string_property, back_reference, Group, grouping, modified, capture, look, Pattern, Terms, Item, one, either, no_terms, more_terms, atom, group}
+use Rattle.regress_syntax.specs.Syntax.{Name, Pattern}
+use Rattle.regress_syntax.specs.Conflicts.{Mark, opens, captures, closes, next, nests, marks_of, are_names_apart}
 use Rattle.regress_syntax.specs.Rows.{Context}
 use Rattle.regress_syntax.specs.Grammar.{IsPattern}
-
--- what tells the groups of a pattern apart
-pub data Mark : Type 0 where
-  -- a parenthesis that opens no capture group
-  opens : Mark
-  -- one that opens a capture group
-  captures : (name : Option Name) → Mark
-  closes : Mark
-  -- `|`
-  next : Mark
-  -- a class in which so many levels of classes lie
-  nests : (levels : ℕ) → Mark
-
--- ---- by the syntax tree
-
-abbrev pub mark_of_group : Group → Mark
-mark_of_group grouping = opens
-mark_of_group (modified change) = opens
-mark_of_group (capture name) = captures name
-mark_of_group (look negate direction) = opens
-
--- only a class with the flag v tells how deep it is
-abbrev pub marks_of_atom : Atom → List Mark
-marks_of_atom (literal flags c) = []
-marks_of_atom (dot flags) = []
-marks_of_atom (anchor flags kind) = []
-marks_of_atom (boundary flags inverted) = []
-marks_of_atom (Syntax.class_escape flags kind negated) = []
-marks_of_atom (Syntax.class flags inverted members) = []
-marks_of_atom (class_set flags negated value) = nests value.levels ∷ []
-marks_of_atom (string_property flags written) = []
-marks_of_atom (back_reference flags to) = []
-
-abbrev mutual
-  pub marks_of : Pattern → List Mark
-  marks_of (one ts) = marks_of_terms ts
-  marks_of (either ts p) = marks_of_terms ts ++ next ∷ marks_of p
-
-  pub marks_of_terms : Terms → List Mark
-  marks_of_terms no_terms = []
-  marks_of_terms (more_terms x q xs) = marks_of_item x ++ marks_of_terms xs
-
-  pub marks_of_item : Item → List Mark
-  marks_of_item (atom a) = marks_of_atom a
-  marks_of_item (group kind p) = mark_of_group kind ∷ marks_of p ++ closes ∷ []
-
--- ---- by the code points
 
 -- What a scan stands in: plain text, a class, or behind the backslash of an escape in one of these. In a class it knows how
 -- many more are open inside the outermost, and how many were at most.
@@ -128,65 +80,6 @@ deepest n (closes ∷ ms) = max n (deepest (max 1 (n - 1)) ms)
 deepest n (next ∷ ms) = max n (deepest n ms)
 deepest n (nests levels ∷ ms) = max (n + levels) (deepest n ms)
 
--- The path of a place: for each level open there, the number of the alternative in which it stands, the innermost first.
-abbrev pub Path : Type 0
-Path = List ℕ
-
--- a capture group: the path of the place before its parenthesis, and its name
-pub record Placed : Type 0 where
-  pub path : Path
-  pub name : Option Name
-
--- the next alternative of the innermost level
-abbrev pub next_alternative : Path → Path
-next_alternative [] = []
-next_alternative (k ∷ path) = (k + 1) ∷ path
-
--- the path outside the innermost level; the whole pattern is never left
-abbrev pub outside : Path → Path
-outside [] = []
-outside (k ∷ []) = k ∷ []
-outside (k ∷ j ∷ path) = j ∷ path
-
--- the capture groups, in order
-abbrev pub placed_by : Path → List Mark → List Placed
-placed_by path [] = []
-placed_by path (opens ∷ ms) = placed_by (0 ∷ path) ms
-placed_by path (captures name ∷ ms) = record { path = path; name = name } ∷ placed_by (0 ∷ path) ms
-placed_by path (closes ∷ ms) = placed_by (outside path) ms
-placed_by path (next ∷ ms) = placed_by (next_alternative path) ms
-placed_by path (nests levels ∷ ms) = placed_by path ms
-
--- the path of a whole pattern: one level, its first alternative
-abbrev pub at_the_start : Path
-at_the_start = 0 ∷ []
-
--- ---- groups of one name
-
--- the numbers agree on all levels that both have, the outermost first
-abbrev pub agree : Path → Path → Bool
-agree [] path = true
-agree (k ∷ path) [] = true
-agree (k ∷ path) (j ∷ other) = k == j && agree path other
-
-abbrev pub same_name : Option Name → Option Name → Bool
-same_name None other = false
-same_name (Some name) other = is_named name other
-
--- Two groups of one name conflict where their paths agree, number for number (this project's profile). A level is told by
--- its depth alone, not by its parenthesis.
-abbrev pub conflict : Placed → Placed → Bool
-conflict a b = same_name a.name b.name && agree (reverse a.path) (reverse b.path)
-
--- no two of them conflict
-abbrev pub are_apart : List Placed → Bool
-are_apart [] = true
-are_apart (g ∷ gs) = list_all (λ other. not (conflict g other)) gs && are_apart gs
-
--- the names of a pattern's groups conflict nowhere
-abbrev pub has_apart_names : Pattern → Bool
-has_apart_names p = are_apart (placed_by at_the_start (marks_of p))
-
 -- Two groups conflict, or the levels are more than the limit.
 abbrev pub IsRefusedByMarks : List Mark → Type 0
-IsRefusedByMarks ms = (are_apart (placed_by at_the_start ms) ≡ false) ⊎ (max_nesting_depth < deepest 1 ms)
+IsRefusedByMarks ms = (are_names_apart ms ≡ false) ⊎ (max_nesting_depth < deepest 1 ms)

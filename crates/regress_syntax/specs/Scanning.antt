@@ -1,8 +1,9 @@
 -- What the state of the scan stands for.
-use Rattle.std.specs.Prelude.{◌≡◌, ℕ, max, ◌≤◌, Bool, List, ◌++◌, map, length, reverse, Some, option_map, is_some, filter}
+use Rattle.std.specs.Prelude.{◌≡◌, ℕ, ◌-◌, ◌^◌, min, max, ◌≤◌, Bool, List, ◌++◌, map, length, reverse, Some, option_map, is_some, filter}
 use Rattle.regress_base.specs.Limits.{max_nesting_depth}
 use Rattle.regress_syntax.specs.Numbering.{names_of}
-use Rattle.regress_syntax.specs.Scan.{Mark, opens, captures, closes, next, nests, Mode, plain, escape, class, class_escape, named_by, deepest, Path, Placed, placed_by, at_the_start}
+use Rattle.regress_syntax.specs.Conflicts.{Mark, opens, captures, closes, next, nests, Path, CaptureAt, groups_by, at_the_start}
+use Rattle.regress_syntax.specs.Scan.{Mode, plain, escape, class, class_escape, named_by, deepest}
 use Rattle.regress_syntax.specs.declared.scan.mark.Mode.{Mode as CodeMode}
 use Rattle.regress_syntax.specs.declared.scan.mark.Mode.TheVariants as modes
 use Rattle.regress_syntax.specs.declared.scan.mark.Mark.{Mark as CodeMark}
@@ -35,11 +36,11 @@ depth_of (class_escape depth deepest) = depth
 -- ---- groups
 
 -- a group that has a name
-abbrev pub placed_of : NamedGroup → Placed
-placed_of group = record { path = reverse group.path.items; name = Some group.name.items }
+abbrev pub capture_of : NamedGroup → CaptureAt
+capture_of group = record { path = reverse group.path.items; name = Some group.name.items }
 
-abbrev pub has_name : Placed → Bool
-has_name group = is_some group.name
+abbrev pub bears_name : CaptureAt → Bool
+bears_name group = is_some group.name
 
 -- the path of the place, the innermost level first
 abbrev pub path_of : Scanner → Path
@@ -48,9 +49,10 @@ path_of scanner = reverse scanner.path.items
 -- What was found, and what the rest gives, is what all marks give.
 pub record Behind (all rest : List Mark) (scanner : Scanner) : Type 0 where
   pub names : named_by all ≡ names_of scanner.names.items ++ named_by rest
-  pub named : filter has_name (placed_by at_the_start all) ≡ map placed_of scanner.named.items ++ filter has_name (placed_by (path_of scanner) rest)
+  -- past the limit of levels paths are cut short
+  pub named : deepest 1 all ≤ max_nesting_depth → filter bears_name (groups_by at_the_start all)
+      ≡ map capture_of scanner.named.items ++ filter bears_name (groups_by (path_of scanner) rest)
   pub some : 1 ≤ length (path_of scanner)
-  pub depth : deepest (length (path_of scanner)) rest ≤ deepest 1 all
-  -- the limit is kept so far
-  pub room : length (path_of scanner) ≤ max_nesting_depth
-  pub limit : deepest 1 all ≤ max max_nesting_depth (deepest (length (path_of scanner)) rest)
+  pub opened : length (path_of scanner) ≤ scanner.deepest
+  -- no more are counted than a `usize` has numbers for
+  pub levels : min (deepest 1 all) (2 ^ 64 - 1) ≡ min (max scanner.deepest (deepest (length (path_of scanner)) rest)) (2 ^ 64 - 1)

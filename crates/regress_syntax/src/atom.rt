@@ -1,5 +1,7 @@
 //! Items that hold no pattern.
-ghost use Rattle.std.specs.Prelude.{◌≡◌, ◌∷◌, true, drop, is_some, option_map, IfOk};
+ghost use Rattle.std.specs.Prelude.{◌≡◌, ◌∷◌, true, drop, is_some, option_map, IfOk, ◌++◌, string_bytes, encode_utf8_all};
+ghost use Rattle.regress_lexical.specs.Fault.{Tells};
+ghost use Rattle.regress_lexical.specs.Digits.{is_between};
 ghost use Rattle.regress_lexical.specs.Escapes.{begins_with_letter, begins_with_digit};
 ghost use Rattle.regress_lexical.specs.Quantifiers.{quantifier_at};
 ghost use Rattle.regress_lexical.specs.Reads.{ReadsAs};
@@ -215,14 +217,18 @@ fn read_reference(cursor: &mut Cursor, scope: &Scope) -> Result<Atom, ParseFault
 }
 
 /// No group has this name.
-fn unknown_name(alloc: Global, name: &[char]) -> ParseFault {
+fn unknown_name(alloc: Global, name: &[char]) -> ParseFault
+    ensures { Tells (UNKNOWN_NAME.now ++ encode_utf8_all name.now) result }
+{
     match unknown_name_text(alloc, name) {
         Ok(text) => ParseFault::Syntax(Error { text }),
         Err(fault) => ParseFault::Memory(fault),
     }
 }
 
-fn unknown_name_text(alloc: Global, name: &[char]) -> Result<String, AllocError> {
+fn unknown_name_text(alloc: Global, name: &[char]) -> Result<String, AllocError>
+    ensures { IfOk result (λ text. string_bytes text ≡ UNKNOWN_NAME.now ++ encode_utf8_all name.now) }
+{
     let mut text = String::from_str(alloc, UNKNOWN_NAME)?;
     for c in name {
         text.push(*c)?;

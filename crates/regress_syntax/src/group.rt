@@ -1,5 +1,5 @@
 //! What a parenthesis opens.
-ghost use Rattle.regress_lexical.specs.Reads.{Reads};
+ghost use Rattle.regress_lexical.specs.Reads.{Reads, AlwaysReads};
 ghost use Rattle.regress_syntax.specs.Rows.{opens, named_group_at, modified_at, angle_at, behind_mark_at, group_at};
 ghost use Rattle.regress_syntax.specs.Views.{group_of};
 ghost use Rattle.regress_lexical.specs.Views.{source};
@@ -96,7 +96,7 @@ fn read_named(cursor: &mut Cursor, tables: &Tables) -> Result<Group, ParseFault>
 
 /// Reads modifiers. At the end of the pattern a name is wanting.
 fn read_modified(cursor: &mut Cursor) -> Result<Group, ParseFault>
-    ensures { Reads (λ kind. opens (group_of kind)) (source cursor.new) result (modified_at (source cursor.old)) }
+    ensures { AlwaysReads (λ kind. opens (group_of kind)) (source cursor.new) result (modified_at (source cursor.old)) }
 {
     match read_modifiers(cursor.rest) {
         Some((change, rest)) => {

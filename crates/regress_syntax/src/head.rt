@@ -1,6 +1,6 @@
 //! What an item begins with.
 ghost use Rattle.std.specs.Prelude.{◌≡◌};
-ghost use Rattle.regress_lexical.specs.Reads.{Reads, ReadsAs};
+ghost use Rattle.regress_lexical.specs.Reads.{AlwaysReads, ReadsAs};
 ghost use Rattle.regress_syntax.specs.Rows.{head_at, times_at};
 ghost use Rattle.regress_syntax.specs.Views.{context_of, IsHead};
 ghost use Rattle.regress_lexical.specs.Views.{source};
@@ -62,7 +62,7 @@ pub fn read_times(
     scope: &Scope,
     allowed: bool,
 ) -> Result<Option<Quantifier>, ParseFault>
-    ensures { Reads (λ q. q) (source cursor.new) result (times_at (context_of scope.now) allowed (source cursor.old)) }
+    ensures { AlwaysReads (λ q. q) (source cursor.new) result (times_at (context_of scope.now) allowed (source cursor.old)) }
 {
     let Some((quantifier, rest)) = read_quantifier(cursor.rest) else {
         if scope.flags.unicode && cursor.is_at('{') {

@@ -4,7 +4,8 @@ ghost use Rattle.regress_base.specs.Limits.{max_capture_groups, max_nesting_dept
 ghost use Rattle.regress_unicode.specs.TableOf.{table_of};
 ghost use Rattle.regress_lexical.specs.Fault.{RefusedOnlyIf};
 ghost use Rattle.regress_syntax.specs.Numbering.{names_of};
-ghost use Rattle.regress_syntax.specs.Scan.{GivesMarks, plain, marks, named_by, deepest, at_the_start, placed_by, are_apart, IsRefusedByMarks};
+ghost use Rattle.regress_syntax.specs.Conflicts.{are_names_apart};
+ghost use Rattle.regress_syntax.specs.Scan.{GivesMarks, plain, marks, named_by, deepest, IsRefusedByMarks};
 ghost use Rattle.regress_syntax.specs.Views.{names_in};
 
 mod mark;
@@ -19,8 +20,8 @@ use scanner::Scanner;
 use std::alloc::Global;
 
 /// Finds the capture groups of a pattern and their names, without parsing it; `sets` is the flag v, with which classes
-/// lie in one another. The fault comes where two groups of one name conflict, or where there are more levels than
-/// `MAX_NESTING_DEPTH`.
+/// lie in one another. The fault comes where two groups of one name conflict, wherever they stand, else where there are
+/// more levels than `MAX_NESTING_DEPTH`.
 pub fn scan(
     alloc: Global,
     pattern: &[u32],
@@ -29,7 +30,7 @@ pub fn scan(
 ) -> Result<Groups, ParseFault>
     ensures names { IfOk result (λ groups. names_in groups ≡ named_by (marks sets (table_of tables.now) plain pattern.now)) }
     ensures count { IfOk result (λ groups. groups.count ≡ min (length (names_in groups)) max_capture_groups) }
-    ensures apart { IfOk result (λ groups. IsTrue (are_apart (placed_by at_the_start (marks sets (table_of tables.now) plain pattern.now)))) }
+    ensures apart { IfOk result (λ groups. IsTrue (are_names_apart (marks sets (table_of tables.now) plain pattern.now))) }
     ensures levels { IfOk result (λ _. deepest 1 (marks sets (table_of tables.now) plain pattern.now) ≤ max_nesting_depth) }
     ensures refused { RefusedOnlyIf result (IsRefusedByMarks (marks sets (table_of tables.now) plain pattern.now)) }
     ensures whole { GivesMarks sets (table_of tables.now) pattern.now }
@@ -46,7 +47,7 @@ fn find_names(
     tables: &Tables,
 ) -> Result<Vec<Option<Name>>, ParseFault>
     ensures names { IfOk result (λ names. names_of names.items ≡ named_by (marks sets (table_of tables.now) plain pattern.now)) }
-    ensures apart { IfOk result (λ names. IsTrue (are_apart (placed_by at_the_start (marks sets (table_of tables.now) plain pattern.now)))) }
+    ensures apart { IfOk result (λ names. IsTrue (are_names_apart (marks sets (table_of tables.now) plain pattern.now))) }
     ensures levels { IfOk result (λ _. deepest 1 (marks sets (table_of tables.now) plain pattern.now) ≤ max_nesting_depth) }
     ensures refused { RefusedOnlyIf result (IsRefusedByMarks (marks sets (table_of tables.now) plain pattern.now)) }
 {

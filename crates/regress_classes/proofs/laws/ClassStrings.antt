@@ -8,8 +8,7 @@ use Rattle.regress_base.specs.Intervals.{Bounds, code_point_max}
 use Rattle.regress_base.specs.Limits.{max_nesting_depth}
 use Rattle.regress_unicode.specs.Table.{Table, Named, named, is_string, IsLawful}
 use Rattle.regress_lexical.specs.Source.{Source, Found, ◌>>=◌, IsCodePoint, is_at, first_row}
-use Rattle.regress_lexical.specs.Digits.{front, behind}
-use Rattle.regress_classes.specs.Properties.{Property, of_points, of_strings, is_property_character, list_named, strings_named, lone_value, value_in, closed_property, property_at}
+use Rattle.regress_classes.specs.Properties.{Property, of_points, of_strings, list_named, strings_named, lone_value, value_in, closed_property, property_at, property_word_at}
 use Rattle.regress_classes.specs.ClassRows.{class_letter, class_members, one_point, complement_if}
 use Rattle.regress_classes.specs.ClassSets.{Value, nothing, only, joined, common, without, is_among, value_of_string, value_of_strings, nested, unless_of_strings, Operand, character, class, value_of, is_set_syntax, is_double, begins_double, is_reserved, escaped_character_at, set_character_at, strings_by, quoted_at, property_operand, operand_rows, escaped_operand_at, operand_at, range_of, part_behind, parts_by, are_at, operands_by, contents_behind, contents_at, class_set_by, class_set_at}
 use Rattle.regress_lexical.proofs.laws.Digits.{and_both}
@@ -88,6 +87,11 @@ closed_property-in_range None t h = finds_none _
 closed_property-in_range (Some property) t h =
     finds_cond _ (is_at 125 t) _ _ (λ _. finds_some _ (property, drop 1 t) h) (λ _. finds_none _)
 
+-- whatever the word is
+behind_word : {A : Type 0} {P : A → Type 0} (t : Source) (next : List ℕ × Source → Found A) → ((x : List ℕ × Source) → Finds P (next x)) →
+    Finds P (property_word_at t >>= next)
+behind_word {A} {P} t next h = finds_then (λ _. Unit {0}) P (property_word_at t) next (record { each = λ x e. tt }) (λ x _. h x)
+
 module _ (table : Table) (lawful : IsLawful table) where
   lone_value-in_range : (sets : Bool) (name : List ℕ) → IfSome (lone_value sets table name) PropertyInRange
   lone_value-in_range sets name =
@@ -100,14 +104,12 @@ module _ (table : Table) (lawful : IsLawful table) where
   pub property_at-in_range : (sets : Bool) (t : Source) → Finds PropertyInRange (property_at sets table t)
   unfolding property_at
   property_at-in_range sets t =
-      let u = drop 1 t in
-      let name = front is_property_character u in
-      let rest = behind is_property_character u in
       finds_cond _ (is_at 123 t) _ _
-      (λ _. finds_cond _ (is_at 61 rest) _ _
-      (λ _. closed_property-in_range (value_in (front is_property_character (drop 1 rest)) (list_named table name)) _
-      (value_in-in_range (front is_property_character (drop 1 rest)) (list_named table name)))
-      (λ _. closed_property-in_range (lone_value sets table name) rest (lone_value-in_range sets name)))
+      (λ _. behind_word (drop 1 t) _
+      (λ x. finds_cond _ (is_at 61 x.1) _ _
+      (λ _. behind_word (drop 1 x.1) _
+      (λ y. closed_property-in_range (value_in y.0 (list_named table x.0)) y.1 (value_in-in_range y.0 (list_named table x.0))))
+      (λ _. closed_property-in_range (lone_value sets table x.0) x.1 (lone_value-in_range sets x.0))))
       (λ _. finds_none _)
 
 -- ---- strings

@@ -6,11 +6,11 @@ use Rattle.regress_base.specs.declared.charclasses.CharacterClassType.{Character
 use Rattle.regress_base.specs.Intervals.{Bounds}
 use Rattle.regress_unicode.specs.Table.{Table}
 use Rattle.regress_lexical.specs.Source.{Source, Found, ◌>>=◌, is_at, first_row}
-use Rattle.regress_lexical.specs.Digits.{is_decimal, is_letter, behind}
-use Rattle.regress_classes.specs.Properties.{Property, points_of, is_property_character, closed_property, braced_property_at, property_at}
+use Rattle.regress_lexical.specs.Digits.{is_decimal, is_letter}
+use Rattle.regress_classes.specs.Properties.{Property, points_of, is_property_character, closed_property, braced_property_at, property_at, property_word_at, listed_value_at}
 use Rattle.regress_classes.specs.ClassRows.{ClassAtom, point, set, complement_if, class_members, class_letter, class_control_at, class_property, class_property_at, class_escape_rows, class_escape_by, class_escape_at, class_atom_at, range_of, range_at, begins_range, class_part_at, class_parts_by, class_at, atom_members}
 use Rattle.regress_lexical.proofs.laws.Sources.{then_same, cond_same, EachRow, no_more, ◌also◌, first_row-has}
-use Rattle.regress_lexical.proofs.laws.Behind.{IsBehind, behind_same, behind_behind, behind_drop, behind_front, behind_shorter, Ends, ends_none, ends_some, ends_behind, ends_more, ends_then, ends_map, ends_cond, escape_at-ends}
+use Rattle.regress_lexical.proofs.laws.Behind.{IsBehind, behind_same, behind_drop, behind_front, behind_shorter, Ends, ends_none, ends_some, ends_behind, ends_more, ends_then, ends_map, ends_cond, escape_at-ends}
 
 -- ---- what stands behind a property
 
@@ -18,15 +18,18 @@ closed_property-ends : (found : Option Property) (t : Source) → Ends (closed_p
 closed_property-ends None t = ends_none t
 closed_property-ends (Some property) t = ends_cond (is_at 125 t) _ _ t (ends_some (property, drop 1 t) t (behind_drop 1 t)) (ends_none t)
 
+property_word_at-ends : (t : Source) → Ends (property_word_at t) t
+property_word_at-ends t = ends_cond _ _ _ t (ends_none t) (ends_some _ t (behind_front is_property_character t))
+
+listed_value_at-ends : (table : Table) (name : List ℕ) (t : Source) → Ends (listed_value_at table name t) t
+listed_value_at-ends table name t = ends_then (property_word_at t) _ t (property_word_at-ends t) (λ x. closed_property-ends _ x.1)
+
 braced_property_at-ends : (sets : Bool) (table : Table) (t : Source) → Ends (braced_property_at sets table t) t
 braced_property_at-ends sets table t =
-    let rest = behind is_property_character t in
-    let value = drop 1 rest in
-    ends_behind _ t rest (behind_front is_property_character t)
-    (ends_cond (is_at 61 rest) _ _ rest
-    (ends_behind _ rest (behind is_property_character value)
-    (behind_behind rest value _ (behind_drop 1 rest) (behind_front is_property_character value)) (closed_property-ends _ _))
-    (closed_property-ends _ rest))
+    ends_then (property_word_at t) _ t (property_word_at-ends t)
+    (λ x. ends_cond (is_at 61 x.1) _ _ x.1
+    (ends_behind _ x.1 (drop 1 x.1) (behind_drop 1 x.1) (listed_value_at-ends table x.0 (drop 1 x.1)))
+    (closed_property-ends _ x.1))
 
 pub property_at-ends : (sets : Bool) (table : Table) (t : Source) → Ends (property_at sets table t) t
 unfolding property_at

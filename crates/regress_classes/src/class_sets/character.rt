@@ -1,7 +1,7 @@
 //! Characters of a class with the flag v.
 ghost use Rattle.std.specs.Prelude.{◌≡◌, IfOk};
 ghost use Rattle.regress_classes.specs.ClassSets.{is_set_syntax, is_double, begins_double, is_reserved, escaped_character_at, set_character_at};
-ghost use Rattle.regress_lexical.specs.Reads.{Reads};
+ghost use Rattle.regress_lexical.specs.Reads.{AlwaysReads};
 ghost use Rattle.regress_lexical.specs.Source.{IsCodePoint};
 ghost use Rattle.regress_lexical.specs.Views.{source};
 
@@ -40,7 +40,7 @@ const RESERVED: [u32; 14] = [
 /// stand for itself, or where a backslash begins no escape of a character.
 #[tactic(auto, unfolding(crate::specs::ClassSets::set_character_at))]
 pub(super) fn read_set_character(cursor: &mut Cursor, unicode: bool) -> Result<u32, ParseFault>
-    ensures value { Reads (λ c. c) (source cursor.new) result (set_character_at unicode (source cursor.old)) }
+    ensures value { AlwaysReads (λ c. c) (source cursor.new) result (set_character_at unicode (source cursor.old)) }
     ensures in_range { IfOk result IsCodePoint }
 {
     if cursor.try_consume('\\') {
@@ -57,7 +57,7 @@ pub(super) fn read_set_character(cursor: &mut Cursor, unicode: bool) -> Result<u
 
 /// Reads the escape of a character, behind its backslash.
 pub(super) fn read_escaped_character(cursor: &mut Cursor, unicode: bool) -> Result<u32, ParseFault>
-    ensures value { Reads (λ c. c) (source cursor.new) result (escaped_character_at unicode (source cursor.old)) }
+    ensures value { AlwaysReads (λ c. c) (source cursor.new) result (escaped_character_at unicode (source cursor.old)) }
     ensures in_range { IfOk result IsCodePoint }
 {
     let Some((c, rest)) = cursor.rest.split_first() else {

@@ -73,13 +73,11 @@ read_operand-returns-in_err-character t c =
     let same : source c.try_consume.new.self ≡ source c.args.cursor.now = c.try_consume.ensures.moves ∙ cond-false _ _ _ c.if-try_consume.false in
     let still : source c.try_consume-2.new.self ≡ source c.args.cursor.now =
     c.try_consume-2.ensures.moves ∙ cond-false _ _ _ c.if-try_consume-2.false ∙ same in
-    rw (p.1, p.2) (on_syntax_then c.in_err-character.field-0.0
-    (λ (none : set_character_at around.unicode (source c.try_consume-2.new.self) ≡ None).
-    character_read (table_of around.tables.now) around.unicode (inner_of around) around.negated (source c.args.cursor.now) None
+    rw (p.1, p.2) (on_syntax c.in_err-character.field-0.0
+    (character_read (table_of around.tables.now) around.unicode (inner_of around) around.negated (source c.args.cursor.now) None
     (sym c.try_consume.ensures.found ∙ c.if-try_consume.false)
     (ap (is_at 92) (sym same) ∙ sym c.try_consume-2.ensures.found ∙ c.if-try_consume-2.false)
-    (ap (set_character_at around.unicode) (sym still) ∙ none))
-    c.in_err-character.ensures.value)
+    (ap (set_character_at around.unicode) (sym still) ∙ c.in_err-character.ensures.value)))
 
 pub read_operand-returns : goal.read_operand-returns
 read_operand-returns t c =
@@ -238,12 +236,12 @@ read_operands-returns-in_err-consume_operator t c = λ held is.
     let so_far = l.invariant held is in
     let operand = c.in_ok-operand.ensures in
     let same : source c.try_consume.new.self ≡ source c.read_operand.new.cursor = c.try_consume.ensures.moves ∙ cond-false _ _ _ c.if-try_consume.false in
-    rw (p.1, p.2) (on_syntax_then c.in_err-consume_operator.field-0.0
-    (λ none. so_far.whole
+    rw (p.1, p.2) (on_syntax c.in_err-consume_operator.field-0.0
+    (so_far.whole
     ∙ none_read (table_of around.tables.now) around.unicode (inner_of around) (ends around) around.negated (sign_of c.args.operator)
     (applied c.args.operator) so_far.value (source l.cursor) (operand.0, source c.read_operand.new.cursor) operand.1
-    (sym c.try_consume.ensures.found ∙ c.if-try_consume.false) (ap (are_at (sign_of c.args.operator)) (sym same) ∙ none))
-    c.in_err-consume_operator.ensures.err)
+    (sym c.try_consume.ensures.found ∙ c.if-try_consume.false)
+    (ap (are_at (sign_of c.args.operator)) (sym same) ∙ c.in_err-consume_operator.ensures.err)))
 
 pub read_operands-loop-value-smaller : goal.read_operands-loop-value-smaller
 read_operands-loop-value-smaller t c =

@@ -1,5 +1,6 @@
 -- A turn reads one character more, which is ASCII.
-use Rattle.std.proofs.Common.{◌++◌, ◌∙◌, ap, string_bytes}
+use Rattle.std.proofs.Common.{◌++◌, ◌==◌, ◌∙◌, sym, ap, string_bytes}
+use Rattle.std.proofs.lemmas.Bool.{cond-false}
 use Rattle.regress_classes.proofs.PropertyLemmas.{ascii, more_of_word, all_of_word}
 use Rattle.regress_classes.proofs.property.read_word.Goals as goal
 
@@ -11,5 +12,5 @@ loop-c-preserved c =
 
 pub returns : goal.returns
 returns c =
-    let all = all_of_word _ _ _ c.loop-c.invariant c.in_default.ensures.none in
-    record { word = all.0; behind = all.1 }
+    sym (cond-false _ _ _ (ap (λ n. n == 0) (sym c.loop-c.word.bytes.ok.0) ∙ sym c.if-is_empty.ensures))
+    ∙ all_of_word _ _ _ c.loop-c.invariant c.in_default.ensures.none

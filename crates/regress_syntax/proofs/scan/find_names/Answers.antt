@@ -1,20 +1,11 @@
-use Rattle.std.proofs.Common.{length, inl, inr, sym, ap, ◌∙◌, arith}
-use Rattle.std.proofs.lemmas.Result.{err_from_is_err_and}
+use Rattle.std.proofs.Common.{length, sym, ap, ◌∙◌, arith}
 use Rattle.std.specs.Option.{option_map}
 use Rattle.regress_unicode.specs.TableOf.{table_of}
 use Rattle.regress_syntax.specs.Scan.{plain, marks}
 use Rattle.regress_syntax.specs.Scanning.{mode_of, mark_of}
-use Rattle.regress_lexical.proofs.laws.Sources.{on_syntax_then}
-use Rattle.regress_syntax.proofs.ScannerLemmas.{depth-mode_behind, refused_then, at_mark, at_no_mark, all_passed}
+use Rattle.regress_syntax.proofs.ScannerLemmas.{depth-mode_behind, at_mark, at_no_mark, all_passed}
 use Rattle.regress_syntax.proofs.scan.find_names.Goals as goal
 use Rattle.regress_syntax.proofs.scan.find_names.Goals.{in-Some-2+in_ok-pass, in_default-2}
-
-pub returns-in_err-pass-clause-refused : goal.returns-in_err-pass-clause-refused
-returns-in_err-pass-clause-refused c =
-    let p = err_from_is_err_and c.from_residual-in_err-pass.result c.from_residual-in_err-pass.ensures.1 in
-    let here = at_mark c.args.sets (table_of c.args.tables.now) (mode_of c.loop-c.mode) _ _ _ _ (mark_of c.in-Some-2.mark) c.loop-c.scanner c.in-Some.ensures.cases.0
-    (sym c.in_ok-mark.ensures ∙ ap (option_map mark_of) c.in-Some-2.is) c.loop-c.invariant.found in
-    rw (p.1, p.2) (on_syntax_then c.in_err-pass.field-0.0 inr (c.in_err-pass.ensures.refused _ _ here))
 
 pub loop-c-preserved : goal.loop-c-preserved
 loop-c-preserved c =
@@ -23,7 +14,7 @@ loop-c-preserved c =
     rw c.behind-mode.ensures (record {
       found = elim c.match-branch-3.branch [
         | in-Some-2+in_ok-pass w ↦
-            rw w.scanner-is (w.in_ok-pass.ensures.ok _ _
+            rw w.scanner-is (w.in_ok-pass.ensures _ _
             (at_mark c.args.sets table (mode_of c.loop-c.mode) _ _ _ all (mark_of w.in-Some-2.mark) c.loop-c.scanner c.in-Some.ensures.cases.0
             (sym c.in_ok-mark.ensures ∙ ap (option_map mark_of) w.in-Some-2.is) c.loop-c.invariant.found))
         | in_default-2 w ↦
@@ -44,8 +35,7 @@ returns-clause-apart c =
 
 pub returns-clause-refused : goal.returns-clause-refused
 returns-clause-refused c =
-    refused_then c.finish.result inl
-    (c.finish.ensures.refused _ (all_passed c.args.sets (table_of c.args.tables.now) (mode_of c.loop-c.mode) _ _ c.loop-c.scanner c.in_default.ensures.cases c.loop-c.invariant.found))
+    c.finish.ensures.refused _ (all_passed c.args.sets (table_of c.args.tables.now) (mode_of c.loop-c.mode) _ _ c.loop-c.scanner c.in_default.ensures.cases c.loop-c.invariant.found)
 
 pub returns-clause-levels : goal.returns-clause-levels
 returns-clause-levels c =

@@ -1,8 +1,7 @@
 -- Each answer is a lemma on what was read, at the values of the call.
-use Rattle.std.proofs.Common.{◌≡◌, ◌+◌, ◌<◌, false, Some, None, length, refl, sym, ap, ap₂, ◌∙◌, subst, arith, length-drop}
+use Rattle.std.proofs.Common.{◌≡◌, ◌+◌, false, Some, None, length, refl, sym, ap, ap₂, ◌∙◌, subst, arith, length-drop}
 use Rattle.std.specs.Option.{IsSomeAnd}
 use Rattle.std.proofs.lemmas.Result.{err_from_is_err_and}
-use Rattle.regress_base.specs.Limits.{max_loops}
 use Rattle.regress_lexical.specs.Source.{Source, ends_alternative, bar as the_bar}
 use Rattle.regress_syntax.specs.Syntax.{Counts, added, one_loop, counts_of_item}
 use Rattle.regress_syntax.specs.Rows.{Head}
@@ -186,10 +185,10 @@ consume_term-returns-in_err-times t c =
     (item_behind pattern_at (context_in around) behind) c.in_ok-item.item (c.in_ok-item.ensures.value head.0 head.2) in
     let allowed = c.allows_quantifier-allowed.ensures (context_in around) head.0 head.2 in
     record {
-      value = rw (p.1, p.2) (on_syntax_then c.in_err-times.field-0.0
-          (λ none. rw (term_read (table_in around) (names_around around) (context_in around) (text old) behind found.0 c.allows_quantifier-allowed.result
-          None head.1 found.1 allowed (rw found.2.rest at none)) tt)
-          c.in_err-times.ensures);
+      value = rw (p.1, p.2) (on_syntax c.in_err-times.field-0.0
+          (let none = c.in_err-times.ensures in
+          rw (term_read (table_in around) (names_around around) (context_in around) (text old) behind found.0 c.allows_quantifier-allowed.result
+          None head.1 found.1 allowed (rw found.2.rest at none)) tt));
     }
 
 pub consume_term-returns-in_default : goal.consume_term-returns-in_default
@@ -230,11 +229,9 @@ consume_term-returns-in_err-count_loop t c =
     (Some (Some c.in-Some.quantifier, source c.read_times.new.cursor)) head.1 found.1 allowed
     (rw (sym b.rest) (c.in_ok-times.ensures ∙ ap (λ q. Some (q, source c.read_times.new.cursor)) c.in-Some.is)) in
     record {
-      value = rw (p.1, p.2) (on_syntax_then c.in_err-count_loop.field-0.0
-          (λ (many : max_loops < c.consume_item.new.self.loop_count + 1).
-          term-too_many (table_in around) (names_around around) (context_in around) (text old) _ found.0.0 c.in-Some.quantifier (counted old)
-          around.depth read (omega (arith, ap (λ (n : Counts). n.loops) b.counts, many)))
-          c.in_err-count_loop.ensures.err);
+      value = rw (p.1, p.2) (on_syntax c.in_err-count_loop.field-0.0
+          (term-too_many (table_in around) (names_around around) (context_in around) (text old) _ found.0.0 c.in-Some.quantifier (counted old)
+          around.depth read (omega (arith, ap (λ (n : Counts). n.loops) b.counts, c.in_err-count_loop.ensures.err))));
     }
 
 pub consume_term-returns : goal.consume_term-returns
