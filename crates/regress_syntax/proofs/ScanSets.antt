@@ -16,7 +16,7 @@ use Rattle.regress_syntax.specs.Scan.{plain, class, marks}
 use Rattle.regress_lexical.proofs.laws.Digits.{and_both, drop_one_more}
 use Rattle.regress_syntax.proofs.ScanLemmas.{is_quiet, Passes, Leads, Gives, Home, in_class, home, behind_backslash, leads_none, leads_some, leads_behind, leads_then, leads_map, leads_cond, gives_none, gives_some, gives_after, gives_then, gives_map, gives_cond, gives_leads, pass_quiet, pass_at, pass_backslash, pass_escaped, lead_escape_at}
 use Rattle.regress_syntax.proofs.ScanClasses.{lead_property_at, pass_caret}
-use Rattle.regress_lexical.proofs.laws.Sources.{no_more, ◌also◌, first_row-has}
+use Rattle.regress_lexical.proofs.laws.Sources.{EachRow, no_more, ◌also◌, first_row-has}
 
 -- ---- characters and strings
 
@@ -152,6 +152,19 @@ module _ (table : Table) where
         (λ _. gives_some (_, t)
         (same_within depth before levels (max levels (value_of_strings written).levels) t (omega (arith, flat_strings written))))
 
+    operand_rows_give : (depth before levels : ℕ) (in_negated : Bool) (c : ℕ) (t : Source) →
+        EachRow (Gives (marks true table (behind_backslash (at_levels depth before levels)) (c ∷ t)) (behind_operand table depth before levels))
+        (operand_rows table unicode in_negated c t)
+    operand_rows_give depth before levels in_negated c t =
+        (λ _. gives_after (pass_escaped (at_levels depth before levels) c t).same (gives_quoted_at depth before levels t))
+        also (λ _. gives_after (pass_escaped (at_levels depth before levels) c t).same
+        (gives_then (λ _. within table depth before levels) (property_at true table t) _
+        (gives_leads (lead_property_at (at_levels depth before levels) true table t))
+        (gives_property_operand depth before levels in_negated _)))
+        also (λ _. gives_flat depth before levels _ character (escaped_character_at unicode (c ∷ t)) (λ x. refl)
+        (gives_leads (lead_escaped_character_at unicode (at_levels depth before levels) (c ∷ t))))
+        also no_more
+
     gives_escaped_by : (depth before levels : ℕ) (in_negated : Bool) (c : ℕ) (t : Source) (letter : Option (CharacterClassType × Bool)) →
         Gives (marks true table (behind_backslash (at_levels depth before levels)) (c ∷ t)) (behind_operand table depth before levels)
         (elim letter as (λ _. Found Operand) [
@@ -163,16 +176,7 @@ module _ (table : Table) where
         (gives_some (_, t) (same_within depth before levels (max levels 0) t (omega arith)))
     gives_escaped_by depth before levels in_negated c t None =
         first_row-has (Gives (marks true table (behind_backslash (at_levels depth before levels)) (c ∷ t)) (behind_operand table depth before levels))
-        (operand_rows table unicode in_negated c t) gives_none (
-        (λ _. gives_after (pass_escaped (at_levels depth before levels) c t).same (gives_quoted_at depth before levels t))
-        also (λ _. gives_after (pass_escaped (at_levels depth before levels) c t).same
-        (gives_then (λ _. within table depth before levels) (property_at true table t) _
-        (gives_leads (lead_property_at (at_levels depth before levels) true table t))
-        (gives_property_operand depth before levels in_negated _)))
-        also (λ _. gives_flat depth before levels _ character (escaped_character_at unicode (c ∷ t)) (λ x. refl)
-        (gives_leads (lead_escaped_character_at unicode (at_levels depth before levels) (c ∷ t))))
-        also no_more
-        )
+        (operand_rows table unicode in_negated c t) gives_none (operand_rows_give depth before levels in_negated c t)
 
     -- behind a backslash
     gives_escaped_operand_at : (depth before levels : ℕ) (in_negated : Bool) (t : Source) →

@@ -106,8 +106,7 @@ impl Scanner {
     }
 
     /// The names of all capture groups, at the end of the pattern. The fault comes where two groups conflict, else where
-    /// there were too many levels. Past the limit two groups may be told to conflict whose paths differ only there: such a
-    /// pattern is refused in any case.
+    /// there were too many levels.
     pub(super) fn finish(self) -> Result<Vec<Option<Name>>, ParseFault>
         ensures names { (all : List Written) → Behind all [] self → IfOk result (λ names. names_of names.items ≡ named_by all) }
         ensures apart { (all : List Written) → Behind all [] self → IfOk result (λ _. IsTrue (are_names_apart all)) }
@@ -116,6 +115,7 @@ impl Scanner {
     {
         let mut named = self.named;
         named.sort()?;
+        // Paths that differ past the limit alone count as one: the pattern is refused in any case.
         if !are_neighbours_apart(&named) {
             return Err(syntax(self.alloc, DUPLICATE_NAME));
         }
@@ -144,8 +144,7 @@ fn leave(path: &mut Vec<usize>)
     }
 }
 
-/// The next alternative of the innermost level. No pattern is so long that a `usize` has no number for it: then memory
-/// would be said to be wanting.
+/// The next alternative of the innermost level. A `usize` has a number for each bar that memory holds.
 fn next_alternative(path: &mut Vec<usize>) -> Result<(), AllocError>
     ensures { OnOk result (reverse path.new.items ≡ next_alternative (reverse path.old.items)) }
 {
