@@ -13,5 +13,6 @@ pub mod WellFormed
 pub mod Measures
 pub mod Units
 pub mod Shapes
+pub mod NormalForm
 pub mod Setting
 pub mod Spine
