@@ -4,7 +4,7 @@ ghost use Rattle.regress_tree.specs.WellFormed.{IsWellFormed};
 
 use crate::{PassAction, Rewrite, optimize, run_pass};
 use regress_base::types::Flags;
-use regress_rewrite::flatten::Flatten;
+use regress_rewrite::rewrites::Flatten;
 use regress_tree::ir::{Node, Regex, Walk};
 use std::alloc::{AllocError, Global};
 use std::fmt::Write;

@@ -1,4 +1,5 @@
 pub mod KeepsLemmas
+pub mod LawfulLemmas
 pub mod SweepLemmas
 pub mod SpineLemmas
 pub mod PartsLemmas

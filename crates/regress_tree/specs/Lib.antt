@@ -14,5 +14,6 @@ pub mod Measures
 pub mod Units
 pub mod Shapes
 pub mod NormalForm
+pub mod Facts
 pub mod Setting
 pub mod Spine
