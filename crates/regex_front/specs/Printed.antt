@@ -4,7 +4,7 @@ use Rattle.regress_front.specs.Setting.{Setting}
 use Rattle.regress_front.specs.SmallTable.{small_table}
 use Rattle.regress_front.specs.Tree.{tree}
 use Rattle.regress_front.specs.WellFormed.{captures}
-use Rattle.regress_front.specs.Shapes.{IsNormal}
+use Rattle.regress_front.specs.NormalForm.{IsNormal}
 use Rattle.regress_front.specs.Syntax.{Pattern}
 use Rattle.regress_front.specs.TreeOf.{tree_of}
 use Rattle.regress_front.specs.Accepted as parse

@@ -36,6 +36,7 @@ pub use Rattle.regress_tree.specs.WellFormed
 pub use Rattle.regress_tree.specs.Measures
 pub use Rattle.regress_tree.specs.Units
 pub use Rattle.regress_tree.specs.Shapes
+pub use Rattle.regress_tree.specs.NormalForm
 pub use Rattle.regress_tree.specs.Walk
 pub use Rattle.regress_tree.specs.Literal
 -- Patterns.

@@ -6,7 +6,7 @@ use Rattle.regress_tree.specs.Reading.{forwards}
 use Rattle.regress_tree.specs.Tree.{tree}
 use Rattle.regress_tree.specs.WellFormed.{IsWellFormed, captures}
 use Rattle.regress_tree.specs.Units.{units, unrolling, loops, account}
-use Rattle.regress_tree.specs.Shapes.{IsNormal}
+use Rattle.regress_tree.specs.NormalForm.{IsNormal}
 use Rattle.regress_rewrite.specs.Law.{MeansTheSame}
 
 -- The tree means the same, in normal form unless memory was wanting, and as it was where it had that form.

@@ -6,7 +6,7 @@ ghost use Rattle.regress_tree.specs.Setting.{setting_of};
 ghost use Rattle.regress_tree.specs.Tree.{tree};
 ghost use Rattle.regress_tree.specs.WellFormed.{IsWellFormed, captures};
 ghost use Rattle.regress_tree.specs.Units.{units, unrolling, loops};
-ghost use Rattle.regress_tree.specs.Shapes.{IsNormal};
+ghost use Rattle.regress_tree.specs.NormalForm.{IsNormal};
 ghost use Rattle.regress_lexical.specs.Fault.{RefusedOnlyIf};
 ghost use Rattle.regress_syntax.specs.Syntax.{Pattern};
 ghost use Rattle.regress_parse.specs.TreeOf.{tree_of};

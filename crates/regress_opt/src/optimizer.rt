@@ -4,10 +4,10 @@ ghost use Rattle.regress_tree.specs.Reading.{forwards};
 ghost use Rattle.regress_tree.specs.Tree.{tree};
 ghost use Rattle.regress_tree.specs.WellFormed.{IsWellFormed, captures};
 ghost use Rattle.regress_tree.specs.Units.{units, unrolling, loops, account};
-ghost use Rattle.regress_tree.specs.Shapes.{IsNormal};
+ghost use Rattle.regress_tree.specs.NormalForm.{IsNormal};
 ghost use Rattle.regress_rewrite.specs.Law.{MeansTheSame};
 
-use regress_rewrite::flatten::Flatten;
+use regress_rewrite::rewrites::Flatten;
 use regress_rewrite::run_pass;
 use regress_tree::ir::Regex;
 use std::alloc::{AllocError, Global};

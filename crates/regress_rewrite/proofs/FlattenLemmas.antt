@@ -1,5 +1,5 @@
 -- Flattening keeps what a rewrite must keep, and makes the tree less.
-use Rattle.std.proofs.Common.{◌≡◌, ℕ, ◌<◌, ◌≤◌, ◌≢◌, Bool, true, false, ◌||◌, ◌++◌, refl, sym, ap₂, subst, ◌∙◌, append-nil, arith, le_refl, List, Result, Ok, Err}
+use Rattle.std.proofs.Common.{◌≡◌, ℕ, ◌<◌, ◌≤◌, Bool, true, ◌||◌, ◌++◌, refl, sym, ap₂, subst, ◌∙◌, append-nil, arith, le_refl, List, Result, Ok, Err}
 use Rattle.std.specs.Prelude.{encode_utf8_all, IfOk}
 use Rattle.std.specs.declared.alloc.AllocError.{AllocError}
 use Rattle.std.specs.List.{flat_map}
@@ -13,7 +13,7 @@ use Rattle.regress_tree.specs.Matching.{steps, steps_in_row}
 use Rattle.regress_tree.specs.Setting.{Setting}
 use Rattle.regress_tree.specs.WellFormed.{Position, inside, last_of, MayStand, RowMayStand, captures, captures_in_row}
 use Rattle.regress_tree.specs.Measures.{Measure, total, total_in_row}
-use Rattle.regress_tree.specs.Units.{sizes, unrollables, weights, IsLess}
+use Rattle.regress_tree.specs.Units.{sizes, unrollables, weights}
 use Rattle.regress_tree.specs.Shapes.{on_leaf, some_node, some_node_in_row, has_cat, is_short, is_flattened_away}
 use Rattle.regress_tree.proofs.laws.Alike.{Alike-from_same}
 use Rattle.regress_tree.proofs.laws.Outcomes.{flat_map-stay}
@@ -21,9 +21,11 @@ use Rattle.regress_tree.proofs.laws.Measures.{some_node-append, total-append, Is
 use Rattle.regress_tree.proofs.laws.Rows.{row_append-none, steps-append, captures-append, RowMayStand-last_of, MayStand-from_last, RowMayStand-append}
 use Rattle.regress_rewrite.specs.declared.rewrite.PassAction.{PassAction}
 use Rattle.regress_rewrite.specs.declared.rewrite.PassAction.TheVariants.{Keep, Modified, Remove, Replace}
-use Rattle.regress_rewrite.specs.Law.{Keeps, after, IsLawful}
+use Rattle.regress_rewrite.specs.Law.{Keeps, IsLawful}
 use Rattle.regress_rewrite.specs.Splice.{parts_of, spliced, Flattens}
-use Rattle.regress_rewrite.proofs.KeepsLemmas.{Keeps-refl}
+use Rattle.regress_rewrite.proofs.KeepsLemmas.{Keeps-part}
+use Rattle.regress_rewrite.proofs.LawfulLemmas.{keep_lawful, modified_lawful, remove_lawful, replace_lawful}
+use Rattle.regress_tree.proofs.laws.Places.{among, IsLess-part}
 
 -- Where the parts may stand.
 
@@ -113,13 +115,8 @@ module _ (d : Direction) where
   }
 
   one_keeps : (t : Tree) → Keeps d (cat (more_trees t no_trees)) t
-  one_keeps t = record {
-    meaning = λ setting text is_text. Alike-from_same (λ s. flat_map-stay _);
-    stands = λ n p m. MayStand-from_last n t p m.0 m.1;
-    captures = sym (append-nil (captures t));
-    account = omega arith;
-    brackets = λ lacks. sym (or-false _) ∙ lacks;
-  }
+  one_keeps t = Keeps-part (among no_trees no_trees) d t (λ setting text is_text. Alike-from_same (λ s. flat_map-stay _))
+      (λ n p m. MayStand-from_last n t p m.0 m.1) (sym (append-nil (captures t)))
 
   spliced_keeps : (ts : Trees) → Keeps d (cat ts) (cat (spliced ts))
   spliced_keeps ts = record {
@@ -132,41 +129,24 @@ module _ (d : Direction) where
 
 -- The law.
 
-changes : (d : Direction) (old left : Tree) (action : PassAction) → action ≢ Keep → is_flattened_away old ≡ true →
-    Keeps d old (after action left) → IsLess (after action left) old → IsLawful is_flattened_away true d old left action
-changes d old left action other some keeps is_less = record {
-  keeps = keeps;
-  less = λ changed. is_less;
-  kept = λ same. absurd (other same);
-  clean = λ same. absurd (other same);
-  exact = λ is_exact none. absurd (false≢true (sym none ∙ some));
-}
-
-keeps_lawful : (d : Direction) (t : Tree) → is_flattened_away t ≡ false → IsLawful is_flattened_away true d t t Keep
-keeps_lawful d t none = record {
-  keeps = Keeps-refl d t;
-  less = λ other. absurd (other refl);
-  kept = λ same. refl;
-  clean = λ same. none;
-  exact = λ is_exact none. refl;
-}
-
 flattens_lawful : (d : Direction) (action : PassAction) (old new : Trees) → Flattens action old new →
     IsLawful is_flattened_away true d (cat old) (cat new) action
 flattens_lawful d Keep old new flattens =
-    subst (λ (ts : Trees). IsLawful is_flattened_away true d (cat old) (cat ts) Keep) (sym flattens.1) (keeps_lawful d (cat old) flattens.0)
+    subst (λ (ts : Trees). IsLawful is_flattened_away true d (cat old) (cat ts) Keep) (sym flattens.1)
+    (keep_lawful is_flattened_away true d (cat old) flattens.0)
 flattens_lawful d Modified old new flattens =
     subst (λ (ts : Trees). IsLawful is_flattened_away true d (cat old) (cat ts) Modified) (sym flattens.1)
-    (changes d (cat old) (cat (spliced old)) Modified (λ same. cc) (or_right (is_short old) (has_cat old) flattens.0) (spliced_keeps d old)
+    (modified_lawful is_flattened_away true d (cat old) (or_right (is_short old) (has_cat old) flattens.0) (cat (spliced old))
+    (spliced_keeps d old)
     (IsLess-lighter (cat (spliced old)) (cat old) (omega (arith, total-spliced unrollables old)) (omega (arith, weight-less old flattens.0))))
 flattens_lawful d Remove old new flattens =
     subst (λ (ts : Trees). IsLawful is_flattened_away true d (cat ts) (cat new) Remove) (sym flattens)
-    (changes d (cat no_trees) (cat new) Remove (λ same. cc) refl (none_keeps d)
+    (remove_lawful is_flattened_away true d (cat no_trees) refl (cat new) (none_keeps d)
     (IsLess-lighter (leaf empty) (cat no_trees) (omega arith) (omega arith)))
 flattens_lawful d (Replace part) old new flattens =
     subst (λ (ts : Trees). IsLawful is_flattened_away true d (cat ts) (cat new) (Replace part)) (sym flattens)
-    (changes d (cat (more_trees (tree part) no_trees)) (cat new) (Replace part) (λ same. cc) refl (one_keeps d (tree part))
-    (IsLess-lighter (tree part) (cat (more_trees (tree part) no_trees)) (omega arith) (omega arith)))
+    (replace_lawful is_flattened_away true d (cat (more_trees (tree part) no_trees)) refl (cat new) part (one_keeps d (tree part))
+    (IsLess-part (among no_trees no_trees) (tree part)))
 
 pub flatten_lawful : (d : Direction) (r : Result PassAction AllocError) (was is : Trees) → IfOk r (λ action. Flattens action was is) →
     IfOk r (IsLawful is_flattened_away true d (cat was) (cat is))

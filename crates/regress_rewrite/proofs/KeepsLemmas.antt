@@ -1,12 +1,13 @@
 -- What rewriting keeps, composed: one change after another, and a change of a part in the whole.
-use Rattle.std.proofs.Common.{◌∙◌, refl, sym, le_refl, le_trans}
+use Rattle.std.proofs.Common.{◌≡◌, ◌∙◌, refl, sym, le_refl, le_trans}
 use Rattle.std.specs.Prelude.{encode_utf8_all}
 use Rattle.regress_tree.specs.Reading.{Direction}
 use Rattle.regress_tree.specs.Tree.{Tree}
+use Rattle.regress_tree.specs.WellFormed.{captures}
 use Rattle.regress_tree.specs.Shapes.{is_simplified_away}
 use Rattle.regress_tree.proofs.laws.Alike.{Alike-refl, Alike-trans}
-use Rattle.regress_tree.proofs.laws.Places.{Place, put, direction_at, Alike-put, MayStand-put, captures-put, account-put, MayStand-part, LacksShape-put, on_leaf-put}
-use Rattle.regress_rewrite.specs.Law.{IsPart, Keeps}
+use Rattle.regress_tree.proofs.laws.Places.{Place, put, direction_at, Alike-put, MayStand-put, captures-put, account-put, MayStand-part, LacksShape-put, on_leaf-put, account-part, LacksShape-whole}
+use Rattle.regress_rewrite.specs.Law.{IsPart, MeansTheSame, StandsWhere, Keeps}
 
 pub Keeps-refl : (d : Direction) (t : Tree) → Keeps d t t
 Keeps-refl d t = record {
@@ -33,6 +34,17 @@ Keeps-put p d a = record {
   captures = captures-put p _ _ a.captures;
   account = account-put p _ _ a.account;
   brackets = LacksShape-put is_simplified_away p _ _ (on_leaf-put _ p _ ∙ sym (on_leaf-put _ p _)) a.brackets;
+}
+
+-- a part in the place of the whole
+pub Keeps-part : (p : Place) (d : Direction) (t : Tree) → MeansTheSame d (put p t) t → StandsWhere (put p t) t →
+    captures t ≡ captures (put p t) → Keeps d (put p t) t
+Keeps-part p d t meaning stands captures = record {
+  meaning = meaning;
+  stands = stands;
+  captures = captures;
+  account = account-part p t;
+  brackets = LacksShape-whole is_simplified_away p t;
 }
 
 pub IsPart-kept : (d : Direction) {t u : Tree} → Keeps d t u → IsPart t → IsPart u

@@ -1,4 +1,6 @@
 pub mod KeepsLemmas
+pub mod LawfulLemmas
+pub mod TakenLemmas
 pub mod SweepLemmas
 pub mod SpineLemmas
 pub mod PartsLemmas

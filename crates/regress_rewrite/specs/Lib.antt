@@ -1,3 +1,4 @@
 pub mod Law
 pub mod Sweep
 pub mod Splice
+pub mod Taken

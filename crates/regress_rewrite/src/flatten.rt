@@ -1,34 +1,25 @@
 //! Flattening of nested `Cat`s.
-ghost use Rattle.std.specs.Prelude.{◌≡◌, ◌+◌, ◌≤◌, IfOk, IsOk, OnOk, OnErr, vec_len, vec_capacity};
+ghost use Rattle.std.specs.Prelude.{◌≡◌, ◌+◌, ◌≤◌, true, IfOk, IsOk, OnOk, OnErr, vec_len, vec_capacity};
+ghost use Rattle.regress_tree.specs.Reading.{Direction};
 ghost use Rattle.regress_tree.specs.Tree.{tree, trees, row_append};
-ghost use Rattle.regress_tree.specs.Shapes.{is_cat};
+ghost use Rattle.regress_tree.specs.Shapes.{is_cat, is_flattened_away};
+ghost use Rattle.regress_rewrite.specs.Law.{IsLawful};
 ghost use Rattle.regress_rewrite.specs.Splice.{parts_of, spliced, row_length, Flattens};
 
-use crate::rewrite::{PassAction, Rewrite};
-use regress_tree::ir::{Node, NodeList, Walk};
+use crate::rewrite::PassAction;
+use regress_tree::ir::{Node, NodeList};
 use std::alloc::{AllocError, Global};
 use std::mem;
 
 /// Removes a `Cat` of no part, puts the one part in the place of a `Cat` of one, and splices the
 /// parts of a part that is a `Cat` in at its place. The time for a `Cat` grows as its parts do.
-#[derive(Drop)]
-pub struct Flatten {
-    pub alloc: Global,
-}
-
-impl Rewrite for Flatten {
-    ghost use Rattle.std.specs.Prelude.{true};
-    ghost use Rattle.regress_tree.specs.Shapes.{is_flattened_away};
-
-    ghost removes = { is_flattened_away };
-
-    ghost is_exact = { true };
-
-    fn apply(&mut self, node: &mut Node, _walk: &Walk) -> Result<PassAction, AllocError> {
-        match node {
-            Node::Cat(parts) => flatten_cat(self.alloc, parts),
-            _ => Ok(PassAction::Keep),
-        }
+pub fn flatten(alloc: Global, node: &mut Node) -> Result<PassAction, AllocError>
+    ensures lawful { (d : Direction) → IfOk result (IsLawful is_flattened_away true d (tree node.old) (tree node.new)) }
+    ensures err { OnErr result (tree node.new ≡ tree node.old) }
+{
+    match node {
+        Node::Cat(parts) => flatten_cat(alloc, parts),
+        _ => Ok(PassAction::Keep),
     }
 }
 

@@ -4,6 +4,7 @@
 pub mod flatten;
 mod pass;
 mod rewrite;
+pub mod rewrites;
 
 pub use pass::run_pass;
 pub use rewrite::{PassAction, Rewrite};

@@ -8,6 +8,7 @@ pub mod ByteStates
 pub mod Characters
 pub mod Classes
 pub mod Distinct
+pub mod Groups
 pub mod Literals
 pub mod Measures
 pub mod Nodes

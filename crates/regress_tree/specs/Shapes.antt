@@ -151,7 +151,3 @@ is_flattened_away (leaf l) = false
 is_flattened_away (cat parts) = is_short parts || has_cat parts
 is_flattened_away (alt left right) = false
 is_flattened_away (wrapped w body) = false
-
--- The normal form: no node has a shape that rewriting removes.
-abbrev pub IsNormal : Tree → Type 0
-IsNormal = LacksShape is_flattened_away

@@ -90,7 +90,7 @@ weight_of_leaf-positive (bracket invert intervals) = omega arith
 weight_of_leaf-positive (back_ref group icase) = omega arith
 weight_of_leaf-positive (string_set strings icase) = omega arith
 
-weight_of_wrapper-positive : (w : Wrapper) → 1 ≤ weight_of_wrapper w
+pub weight_of_wrapper-positive : (w : Wrapper) → 1 ≤ weight_of_wrapper w
 weight_of_wrapper-positive (capture_group id name) = omega arith
 weight_of_wrapper-positive (loop quantifier start end) = omega arith
 weight_of_wrapper-positive (loop_one quantifier) = omega arith

@@ -11,7 +11,7 @@ use Rattle.regress_tree.specs.Measures.{Measure, total, total_in_row}
 use Rattle.regress_tree.specs.Units.{sizes, loops, unrollables, account, weight, weights, IsLess}
 use Rattle.regress_tree.specs.Shapes.{on_leaf, LacksShape, RowLacksShape, LacksInside}
 use Rattle.regress_tree.proofs.laws.Alike.{Alike-refl, Alike-then, Alike-or, Alike-capture, Alike-repeat, Alike-look}
-use Rattle.regress_tree.proofs.laws.Measures.{total-append, some_node-append, LacksShape-here, LacksShape-inside, LacksShape-from, RowLacksShape-append}
+use Rattle.regress_tree.proofs.laws.Measures.{weight_of_wrapper-positive, IsLess-lighter, total-append, some_node-append, LacksShape-here, LacksShape-inside, LacksShape-from, RowLacksShape-append}
 
 pub data Place : Type 0 where
   -- in a row, between these trees
@@ -144,6 +144,20 @@ IsLess-put p t u is_less = record { less = by is_less.less }
       omega (arith, lighter.1, total-put weights p t, total-put weights p u),
     )
 
+-- the part alone is less
+weight_around-positive : (p : Place) → 1 ≤ total_around weights p
+weight_around-positive (among before behind) = omega arith
+weight_around-positive (left_of right) = omega arith
+weight_around-positive (right_of left) = omega arith
+weight_around-positive (inside_of w) = weight_of_wrapper-positive w
+
+pub IsLess-part : (p : Place) (t : Tree) → IsLess t (put p t)
+IsLess-part p t = IsLess-lighter t (put p t) (omega (arith, total-put unrollables p t))
+    (omega (arith, total-put weights p t, weight_around-positive p))
+
+pub account-part : (p : Place) (t : Tree) → account t ≤ account (put p t)
+account-part p t = omega (arith, total-put sizes p t, total-put unrollables p t)
+
 -- Which shapes it lacks.
 
 module _ (shape : Tree → Bool) where
@@ -158,6 +172,9 @@ module _ (shape : Tree → Bool) where
   LacksShape-part (left_of right) t lacks = (or_parts _ _ lacks).0
   LacksShape-part (right_of left) t lacks = (or_parts _ _ lacks).1
   LacksShape-part (inside_of w) t lacks = lacks
+
+  pub LacksShape-whole : (p : Place) (t : Tree) → LacksShape shape (put p t) → LacksShape shape t
+  LacksShape-whole p t lacks = LacksShape-part p t (LacksShape-inside shape (put p t) lacks)
 
   LacksInside-put : (p : Place) (t u : Tree) → (LacksShape shape t → LacksShape shape u) → LacksInside shape (put p t) →
       LacksInside shape (put p u)

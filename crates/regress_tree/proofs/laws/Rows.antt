@@ -107,7 +107,7 @@ MayStand-last_of n t inside m = m
 MayStand-last_of n t last m = m
 MayStand-last_of n t root m = MayStand-last n t m
 
-RowMayStand-more : (n : ℕ) (t : Tree) (ts : Trees) (p : Position) → MayStand n t inside → RowMayStand n ts (last_of p) →
+pub RowMayStand-more : (n : ℕ) (t : Tree) (ts : Trees) (p : Position) → MayStand n t inside → RowMayStand n ts (last_of p) →
     RowMayStand n (more_trees t ts) (last_of p)
 RowMayStand-more n t no_trees p here later = MayStand-last_of n t p here
 RowMayStand-more n t (more_trees u ts) p here later = (here, later)

@@ -80,7 +80,7 @@ pub enum Node {
         quant: Quantifier,
         enclosed_groups: Range<u16>,
     },
-    /// A loop whose body always matches exactly one character.
+    /// A loop whose body takes exactly one character or fails. A surrogate as a `Char` may be the body: it never matches.
     Loop1CharBody {
         loopee: Box<Node>,
         quant: Quantifier,

@@ -3,11 +3,11 @@ use Rattle.regress_tree.specs.Tree.{trees}
 use Rattle.regress_tree.proofs.laws.Nodes.{tree-Cat}
 use Rattle.regress_tree.proofs.laws.Levels.{out-Cat}
 use Rattle.regress_rewrite.proofs.FlattenLemmas.{flatten_lawful}
-use Rattle.regress_rewrite.proofs.flatten.FlattenRewrite.apply.Goals as goal
+use Rattle.regress_rewrite.proofs.flatten.flatten.Goals as goal
 
 pub returns-in-Cat-clause-lawful : goal.returns-in-Cat-clause-lawful
-returns-in-Cat-clause-lawful c =
+returns-in-Cat-clause-lawful c d =
     let action = rw c.in-Cat.parts-is at c.flatten_cat.ensures.action in
     let was = trees c.in-Cat.parts.items in
     let is = trees c.flatten_cat.new.parts.items in
-    rw (c.in-Cat.is, out-Cat) (simp tree-Cat (flatten_lawful _ c.flatten_cat.result was is action))
+    rw (c.in-Cat.is, out-Cat) (simp tree-Cat (flatten_lawful d c.flatten_cat.result was is action))

@@ -1,0 +1,44 @@
+-- The law, for whatever is removed: what a rewrite has to show of each action.
+use Rattle.std.proofs.Common.{◌≡◌, ◌≢◌, Bool, true, false, refl, sym, ◌∙◌}
+use Rattle.std.proofs.lemmas.Bool.{false≢true}
+use Rattle.regress_tree.specs.declared.ir.node.Node.{Node}
+use Rattle.regress_tree.specs.Reading.{Direction}
+use Rattle.regress_tree.specs.Tree.{Tree, leaf, empty, tree}
+use Rattle.regress_tree.specs.Units.{IsLess}
+use Rattle.regress_rewrite.specs.declared.rewrite.PassAction.{PassAction}
+use Rattle.regress_rewrite.specs.declared.rewrite.PassAction.TheVariants.{Keep, Modified, Remove, Replace}
+use Rattle.regress_rewrite.specs.Law.{Keeps, after, IsLawful}
+use Rattle.regress_rewrite.proofs.KeepsLemmas.{Keeps-refl}
+
+module _ (removes : Tree → Bool) (exact : Bool) (d : Direction) where
+  -- a node with nothing to remove is kept
+  pub keep_lawful : (t : Tree) → removes t ≡ false → IsLawful removes exact d t t Keep
+  keep_lawful t none = record {
+    keeps = Keeps-refl d t;
+    less = λ other. absurd (other refl);
+    kept = λ same. refl;
+    clean = λ same. none;
+    exact = λ is_exact lacks. refl;
+  }
+
+  module _ (old : Tree) (some : removes old ≡ true) where
+    changed : (left : Tree) (action : PassAction) → action ≢ Keep → Keeps d old (after action left) → IsLess (after action left) old →
+        IsLawful removes exact d old left action
+    changed left action other keeps is_less = record {
+      keeps = keeps;
+      less = λ same. is_less;
+      kept = λ same. absurd (other same);
+      clean = λ same. absurd (other same);
+      exact = λ is_exact none. absurd (false≢true (sym none ∙ some));
+    }
+
+    -- one with a shape to remove may be changed, removed or replaced, by what stands for it and is less
+    pub modified_lawful : (new : Tree) → Keeps d old new → IsLess new old → IsLawful removes exact d old new Modified
+    modified_lawful new = changed new Modified (λ same. cc)
+
+    pub remove_lawful : (left : Tree) → Keeps d old (leaf empty) → IsLess (leaf empty) old → IsLawful removes exact d old left Remove
+    remove_lawful left = changed left Remove (λ same. cc)
+
+    pub replace_lawful : (left : Tree) (node : Node) → Keeps d old (tree node) → IsLess (tree node) old →
+        IsLawful removes exact d old left (Replace node)
+    replace_lawful left node = changed left (Replace node) (λ same. cc)
