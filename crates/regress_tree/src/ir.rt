@@ -5,7 +5,11 @@ mod node;
 pub mod spine;
 #[cfg(test)]
 mod tests;
-mod walk;
+mod visit;
+mod visit_mut;
+mod walker;
 
 pub use node::{AnchorType, Node, NodeList, Quantifier, Regex};
-pub use walk::Walk;
+pub use visit::walk;
+pub use visit_mut::walk_mut;
+pub use walker::Walk;
