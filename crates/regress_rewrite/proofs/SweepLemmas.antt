@@ -4,7 +4,7 @@ use Rattle.std.specs.declared.alloc.AllocError.{AllocError}
 use Rattle.std.specs.Result.{IsErr}
 use Rattle.std.proofs.lemmas.Bool.{or_parts, false≢true}
 use Rattle.regress_tree.specs.Reading.{Direction}
-use Rattle.regress_tree.specs.declared.ir.walk.Walk.{Walk}
+use Rattle.regress_tree.specs.declared.ir.walker.Walk.{Walk}
 use Rattle.regress_tree.specs.Walk.{direction_of}
 use Rattle.regress_tree.specs.Tree.{Tree}
 use Rattle.regress_tree.specs.Units.{loops, weight, IsLess}

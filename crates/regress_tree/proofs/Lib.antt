@@ -1,5 +1,6 @@
 pub mod laws
 mod Examples
 pub mod LoweringLemmas
+pub mod VisitLemmas
 mod LiteralExamples
 mod DuplicateLemmas

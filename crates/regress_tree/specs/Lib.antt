@@ -9,6 +9,8 @@ pub mod References
 pub mod Strings
 pub mod Matching
 pub mod Walk
+pub mod Visits
+pub mod Climbs
 pub mod WellFormed
 pub mod Measures
 pub mod Units

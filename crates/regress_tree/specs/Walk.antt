@@ -1,6 +1,6 @@
 -- Walks over trees.
 use Rattle.std.specs.Prelude.{if◌then◌else◌}
-use Rattle.regress_tree.specs.declared.ir.walk.Walk.{Walk}
+use Rattle.regress_tree.specs.declared.ir.walker.Walk.{Walk}
 use Rattle.regress_tree.specs.Reading.{Direction, forwards, backwards}
 
 -- the direction in which a node of the walk is matched

@@ -7,7 +7,11 @@ mod node;
 mod node_tests;
 pub mod spine;
 mod turning;
-mod walk;
+mod visit;
+mod visit_mut;
+mod walker;
 
 pub use node::{AnchorType, Node, NodeList, Quantifier, Regex};
-pub use walk::Walk;
+pub use visit::walk;
+pub use visit_mut::walk_mut;
+pub use walker::Walk;

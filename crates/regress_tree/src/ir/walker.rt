@@ -30,10 +30,21 @@ impl Walk {
         }
     }
 
+    /// The walk at the same node, as a call begins.
+    pub(crate) fn fresh(&self) -> Walk
+        ensures { result ≡ record self.now { skip_children = false } }
+    {
+        Walk {
+            skip_children: false,
+            ..*self
+        }
+    }
+
     /// The walk so many levels further inside, where no node between is a lookaround.
     pub fn inside(&self, levels: usize) -> Walk
         ensures children { result.skip_children ≡ false }
         ensures depth { result.depth ≡ min (self.now.depth + levels) usize.MAX }
+        ensures same { levels ≡ 0 → result.depth ≡ self.now.depth }
         ensures direction { result.in_lookbehind ≡ self.now.in_lookbehind }
         ensures unicode { result.unicode ≡ self.now.unicode }
     {

@@ -1,0 +1,209 @@
+-- Visits put together.
+use Rattle.std.proofs.Common.{◌≡◌, ℕ, zero, suc, ◌+◌, ◌-◌, ◌/◌, ◌<◌, ◌≤◌, min, Bool, true, false, refl, sym, ap, ◌∙◌, arith, rules, Vec, Box, Global, List, [], ◌∷◌, length, get_or, set, take, drop, le_refl}
+use Rattle.std.proofs.lemmas.List.{drop_more, drop-drop, drop-set-lt, take_more_set}
+use Rattle.regress_tree.proofs.laws.Rows.{row_append-assoc, trees-append}
+use Rattle.std.proofs.Math.Nat.{add-zero, add-suc}
+use Rattle.std.proofs.Math.Numerals.{add-one}
+use Rattle.std.specs.declared.boxed.BoxedSlice.{BoxedSlice}
+use Rattle.regress_base.specs.declared.types.bracket.BracketContents.{BracketContents}
+use Rattle.regress_tree.specs.declared.ir.node.AnchorType.{AnchorType}
+use Rattle.regress_tree.specs.declared.ir.node.Node.{Node, size-Node, the_lemmas}
+use Rattle.regress_tree.specs.declared.ir.node.Node.TheVariants.{Alt, Empty, Goal, Char, ByteSequence, ByteSet, CharSet, MatchAny, MatchAnyExceptLineTerminator, Anchor, WordBoundary, Bracket, BackRef, StringSet}
+use Rattle.regress_tree.proofs.laws.Nodes.{tree-Alt, tree-Empty, tree-Goal, tree-Char, tree-ByteSequence, tree-ByteSet, tree-CharSet, tree-MatchAny, tree-MatchAnyExceptLineTerminator, tree-Anchor, tree-WordBoundary, tree-Bracket, tree-BackRef, tree-StringSet}
+use Rattle.regress_tree.specs.Tree.{Tree, Trees, more_trees, row_append, Leaf, leaf, alt, tree, trees}
+use Rattle.regress_tree.specs.Visits.{Visited, before_children, after_children, Inside, in_leaf, in_alt, deeper, nodes, nodes_in_row, CallsMut, AddsNoNodes}
+use Rattle.regress_tree.specs.Climbs.{Climbed, ClimbedMut, further, right_side, down}
+use Rattle.regress_tree.specs.declared.ir.walker.Walk.{Walk}
+use Rattle.std.specs.Borrow.{MutBor}
+use Rattle.regress_tree.specs.Spine.{Shifted, reattach, spine_length}
+
+-- where the depth is counted in one sum
+pub further-sum : (k depth : ℕ) → 0 < k → min (depth + k) 18446744073709551615 ≡ further k depth
+further-sum zero depth some = elim some [ ]
+further-sum (suc zero) depth some = refl
+further-sum (suc (suc k)) depth some = omega (arith, further-sum (suc k) depth (omega arith))
+
+pub further-inside : (k j depth here : ℕ) → k ≡ j → here ≡ min (depth + k) 18446744073709551615 → (k ≡ 0 → here ≡ depth) →
+    here ≡ further j depth
+further-inside k zero depth here same sum none = none same
+further-inside k (suc j) depth here same sum none = sum ∙ rw same (further-sum (suc j) depth (omega arith))
+
+further-twice : (j k depth : ℕ) → further k (further j depth) ≡ further (j + k) depth
+further-twice j zero depth = rw add-zero refl
+further-twice j (suc k) depth = ap deeper (further-twice j k depth) ∙ ap (λ n. further n depth) (sym (add-suc j k))
+
+-- the right side of an `Alt` lies deeper
+pub right_smaller : (node : Node) (left right : Box Node Global) → node ≡ Alt left right → size-Node right.value ≤ size-Node node
+right_smaller node left right is = search (rules, the_lemmas)
+
+down-twice : (j k : ℕ) (t : Tree) → down k (down j t) ≡ down (j + k) t
+down-twice j zero t = rw add-zero refl
+down-twice j (suc k) t = rw add-suc (ap right_side (down-twice j k t))
+
+pub further_next : (k here depth : ℕ) → here ≡ further k depth → deeper here ≡ further (k + 1) depth
+further_next k here depth is = ap deeper is ∙ ap (λ n. further n depth) (sym (add-one k))
+
+pub down_next : (node : Node) (left right : Box Node Global) (k : ℕ) (t : Tree) → node ≡ Alt left right → tree node ≡ down k t →
+    tree right.value ≡ down (k + 1) t
+down_next node left right k t is below = rw add-one (sym (ap right_side (ap tree is ∙ tree-Alt left right)) ∙ ap right_side below)
+
+-- A row of nodes, of which one is visited.
+
+nodes_drop : (i : ℕ) (nodes' : List Node) → nodes_in_row (trees (drop i nodes')) ≤ nodes_in_row (trees nodes')
+nodes_drop zero nodes' = le_refl _
+nodes_drop (suc i) [] = le_refl _
+nodes_drop (suc i) (node ∷ rest) = omega (arith, nodes_drop i rest)
+
+module _ (now old : List Node) (i : ℕ) (in_row : i < length now) (node : Node) (at : node ≡ get_or now i node)
+    (unvisited : drop i now ≡ drop i old) where
+  -- what is not visited yet, of which the node is the first
+  pub next_is : drop i old ≡ node ∷ drop (i + 1) old
+  next_is =
+      let here : drop i now ≡ node ∷ drop (i + 1) now = drop_more now i node in_row ∙ ap (λ n. n ∷ drop (i + 1) now) (sym at) in
+      let rest : drop (i + 1) now ≡ drop (i + 1) old =
+      sym (drop-drop 1 i now) ∙ ap (drop 1) unvisited ∙ drop-drop 1 i old in
+      sym unvisited ∙ here ∙ ap (λ ns. node ∷ ns) rest
+
+  pub nodes_next : nodes (tree node) ≤ nodes_in_row (trees old)
+  nodes_next = omega (arith, ap (λ ns. nodes_in_row (trees ns)) next_is, nodes_drop i old)
+
+  module _ (new : Node) where
+    pub unvisited_next : drop (i + 1) (set now i new) ≡ drop (i + 1) old
+    unvisited_next =
+        drop-set-lt (i + 1) now i new (omega arith) ∙ sym (drop-drop 1 i now) ∙ ap (drop 1) unvisited ∙ drop-drop 1 i old
+
+    pub visited_next : (ts : Trees) →
+        row_append (trees (take (i + 1) (set now i new))) ts ≡ row_append (trees (take i now)) (more_trees (tree new) ts)
+    visited_next ts =
+        ap (λ ns. row_append (trees ns) ts) (take_more_set now i new in_row)
+        ∙ ap (λ us. row_append us ts) (trees-append (take i now) (new ∷ []))
+        ∙ row_append-assoc (trees (take i now)) (trees (new ∷ [])) ts
+
+module _ {State : Type 0} (Call : State → Tree → ℕ → Bool → State → Tree → Bool → Type 0) where
+  Climbed-both : (j k depth : ℕ) (behind : Bool) (t : Tree) (a b c : State) →
+      Climbed Call k (further j depth) behind (down j t) a b → Climbed Call j depth behind t b c → Climbed Call (j + k) depth behind t a c
+  Climbed-both j zero depth behind t a b c lower upper = rw (add-zero, lower) upper
+  Climbed-both j (suc k) depth behind t a b c lower upper =
+      let call = rw (further-twice j k depth, down-twice j k t) at lower.2 in
+      rw add-suc (lower.0, lower.1, call, Climbed-both j k depth behind t lower.0 b c lower.3 upper)
+
+  -- the calls on the lower half of a way, and then on the upper one
+  pub Climbed-two : (n depth : ℕ) (behind : Bool) (t : Tree) (a b c : State) → 1 < n →
+      Climbed Call (n - n / 2) (min (depth + n / 2) 18446744073709551615) behind (down (n / 2) t) a b →
+      Climbed Call (n / 2) depth behind t b c → Climbed Call n depth behind t a c
+  Climbed-two n depth behind t a b c some lower upper =
+      let parts : n / 2 + (n - n / 2) ≡ n = omega arith in
+      let lower' = rw (further-sum (n / 2) depth (omega (arith, some))) at lower in
+      rw parts at (Climbed-both (n / 2) (n - n / 2) depth behind t a b c lower' upper)
+
+  -- one call
+  pub Climbed-one : (n depth : ℕ) (behind skip : Bool) (t : Tree) (a b : State) → n ≡ 1 → Call a t depth behind b t skip →
+      Climbed Call n depth behind t a b
+  Climbed-one n depth behind skip t a b one call = rw one (b, skip, call, refl)
+
+  -- the children of an `Alt`
+  pub in_Alt : {p : Bool} {d : ℕ} {behind : Bool} {a b c : State} (node : Node) (left right : Box Node Global) → node ≡ Alt left right →
+      Visited Call p (deeper d) behind (tree left.value) (tree left.value) a b →
+      Visited Call p (deeper d) behind (tree right.value) (tree right.value) b c → Inside Call p d behind (tree node) (tree node) a c
+  in_Alt node left right is first second = rw (is, tree-Alt) (in_alt first second)
+
+  -- One more alternative on the way down: its children are visited, and its call is the first one on the way up.
+  pub after_next : (k here depth : ℕ) (behind : Bool) (node t : Tree) (a b e : State) (Whole : Type 0) →
+      node ≡ down k t → here ≡ further k depth →
+      ((c : State) → Visited Call true here behind node node a c → Climbed Call k depth behind t c e → Whole) →
+      Inside Call true here behind node node a b → Climbed Call (k + 1) depth behind t b e → Whole
+  after_next k here depth behind node t a b e Whole below is whole inside climbed =
+      let up : Climbed Call (suc k) depth behind t b e = rw add-one at climbed in
+      whole up.0 (after_children inside (rw (← below, ← is) at up.2)) up.3
+
+  -- A left side on the way down, whose links are turned round: with the visits to come, the whole is visited.
+  module _ (d depth : ℕ) (behind : Bool) (node above rest top left left' right : Tree) (shifted : Shifted node above rest top)
+      (is : top ≡ alt left right) where
+    side : shifted.left ≡ left
+    side =
+        let tops : alt shifted.left above ≡ alt left right = sym shifted.is ∙ is in
+        cc
+
+    way : above ≡ right
+    way =
+        let tops : alt shifted.left above ≡ alt left right = sym shifted.is ∙ is in
+        cc
+
+    sides : node ≡ alt left rest
+    sides = shifted.was ∙ ap (λ t. alt t rest) side
+
+    pub nodes_down : nodes left + nodes rest < nodes node
+    nodes_down = omega (arith, ap nodes sides)
+
+    pub levels_down : (levels : ℕ) → levels ≡ spine_length above → levels + 1 ≡ spine_length (alt left' right)
+    levels_down levels same = ap (λ n. n + 1) (same ∙ ap spine_length way)
+
+    pub before_down : (was : Tree) (a b c e : State) (t : Tree) (Whole : Tree → Type 0) →
+        ((u : Tree) → Visited Call false d behind was u a e → Whole (reattach above u)) →
+        Call a was d behind b node false → Visited Call false (deeper d) behind left left' b c →
+        Visited Call false (deeper d) behind rest t c e → Whole (reattach (alt left' right) t)
+    before_down was a b c e t Whole whole call first second =
+        rw (← way) (whole (alt left' t) (before_children (rw sides at call) (in_alt first second)))
+
+    pub after_down : (a b c e : State) (t u : Tree) (Whole : Type 0) → d ≡ further (spine_length above) depth →
+        ((v : Tree) (m : State) → Visited Call true d behind node v a m → ClimbedMut Call above depth behind v u m e → Whole) →
+        Visited Call true (deeper d) behind left left' a b → Visited Call true (deeper d) behind rest t b c →
+        ClimbedMut Call (alt left' right) depth behind t u c e → Whole
+    after_down a b c e t u Whole here whole first second climbed =
+        let back : right ≡ above = sym way in
+        let rest_climbed = rw back at climbed in
+        let called = rw (← here) at rest_climbed.3 in
+        whole rest_climbed.1 rest_climbed.0 (rw sides (after_children (in_alt first second) called)) rest_climbed.4
+
+  -- a node of a kind that holds no node
+  module _ {p : Bool} {d : ℕ} {behind : Bool} {a : State} (node : Node) where
+    at_leaf : (l : Leaf) → tree node ≡ leaf l → Inside Call p d behind (tree node) (tree node) a a
+    at_leaf l is = rw is in_leaf
+
+    pub at_Empty : node ≡ Empty → Inside Call p d behind (tree node) (tree node) a a
+    at_Empty is = at_leaf _ (ap tree is ∙ tree-Empty)
+
+    pub at_Goal : node ≡ Goal → Inside Call p d behind (tree node) (tree node) a a
+    at_Goal is = at_leaf _ (ap tree is ∙ tree-Goal)
+
+    pub at_Char : (c : ℕ) → node ≡ Char c → Inside Call p d behind (tree node) (tree node) a a
+    at_Char c is = at_leaf _ (ap tree is ∙ tree-Char c)
+
+    pub at_ByteSequence : (bytes : Vec ℕ Global) → node ≡ ByteSequence bytes → Inside Call p d behind (tree node) (tree node) a a
+    at_ByteSequence bytes is = at_leaf _ (ap tree is ∙ tree-ByteSequence bytes)
+
+    pub at_ByteSet : (bytes : Vec ℕ Global) → node ≡ ByteSet bytes → Inside Call p d behind (tree node) (tree node) a a
+    at_ByteSet bytes is = at_leaf _ (ap tree is ∙ tree-ByteSet bytes)
+
+    pub at_CharSet : (characters : Vec ℕ Global) → node ≡ CharSet characters → Inside Call p d behind (tree node) (tree node) a a
+    at_CharSet characters is = at_leaf _ (ap tree is ∙ tree-CharSet characters)
+
+    pub at_MatchAny : node ≡ MatchAny → Inside Call p d behind (tree node) (tree node) a a
+    at_MatchAny is = at_leaf _ (ap tree is ∙ tree-MatchAny)
+
+    pub at_MatchAnyExceptLineTerminator : node ≡ MatchAnyExceptLineTerminator → Inside Call p d behind (tree node) (tree node) a a
+    at_MatchAnyExceptLineTerminator is = at_leaf _ (ap tree is ∙ tree-MatchAnyExceptLineTerminator)
+
+    pub at_Anchor : (kind : AnchorType) (multiline : Bool) → node ≡ Anchor kind multiline → Inside Call p d behind (tree node) (tree node) a a
+    at_Anchor kind multiline is = at_leaf _ (ap tree is ∙ tree-Anchor kind multiline)
+
+    pub at_WordBoundary : (invert unicode_icase : Bool) → node ≡ WordBoundary invert unicode_icase → Inside Call p d behind (tree node) (tree node) a a
+    at_WordBoundary invert unicode_icase is = at_leaf _ (ap tree is ∙ tree-WordBoundary invert unicode_icase)
+
+    pub at_Bracket : (contents : BracketContents) → node ≡ Bracket contents → Inside Call p d behind (tree node) (tree node) a a
+    at_Bracket contents is = at_leaf _ (ap tree is ∙ tree-Bracket contents)
+
+    pub at_BackRef : (group : ℕ) (icase : Bool) → node ≡ BackRef group icase → Inside Call p d behind (tree node) (tree node) a a
+    at_BackRef group icase is = at_leaf _ (ap tree is ∙ tree-BackRef group icase)
+
+    pub at_StringSet : (alternatives : Vec (BoxedSlice ℕ Global) Global) (icase : Bool) → node ≡ StringSet alternatives icase → Inside Call p d behind (tree node) (tree node) a a
+    at_StringSet alternatives icase is = at_leaf _ (ap tree is ∙ tree-StringSet alternatives icase)
+
+pub ruleset at_leaves = (at_Empty, at_Goal, at_Char, at_ByteSequence, at_ByteSet, at_CharSet, at_MatchAny, at_MatchAnyExceptLineTerminator, at_Anchor, at_WordBoundary, at_Bracket, at_BackRef, at_StringSet)
+
+pub call_adds : {F : Type 0} (step : F → MutBor Node → MutBor Walk → Unit {0} → MutBor Node → MutBor Walk → F → Type 0)
+    (unicode : Bool) (a b : F) (t u : Tree) (d : ℕ) (behind skip : Bool) → AddsNoNodes step →
+    CallsMut step unicode a t d behind b u skip → nodes u ≤ nodes t
+call_adds step unicode a b t u d behind skip adds call =
+    let fewer = adds _ _ _ _ _ _ call.called in
+    rw (call.leaves, call.on) at fewer

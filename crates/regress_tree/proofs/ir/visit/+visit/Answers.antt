@@ -1,0 +1,142 @@
+-- Each answer puts the visits of the calls together.
+use Rattle.std.proofs.Common.{rules, ◌∙◌, sym, ap, refl, le_refl, le_trans, drop, ◌+◌, ◌∷◌}
+use Rattle.std.proofs.lemmas.List.{drop_more, drop_all}
+use Rattle.regress_tree.specs.Tree.{tree}
+use Rattle.regress_tree.specs.Visits.{Calls, before_children, without_children, after_children, in_cat, in_wrapped, no_more, one_more}
+use Rattle.regress_tree.proofs.laws.Nodes.{tree-Cat, tree-CaptureGroup, tree-Loop, tree-Loop1CharBody, tree-LookaroundAssertion}
+use Rattle.regress_tree.proofs.VisitLemmas.{at_WordBoundary, in_Alt, right_smaller, down_next, further_next, after_next}
+use Rattle.regress_tree.proofs.ir.visit.+visit.Goals as goal
+
+pub visit_inside-returns-in-Cat-clause-visited : goal.visit_inside-returns-in-Cat-clause-visited
+visit_inside-returns-in-Cat-clause-visited g t c =
+    let inner = c.inside-inner.ensures in
+    rw (c.in-Cat.is, tree-Cat)
+    (in_cat (rw (c.deref.ensures.value, inner.depth, inner.direction, inner.unicode) at c.visit_row.ensures.visited))
+
+pub visit_inside-returns-in-Alt-clause-visited : goal.visit_inside-returns-in-Alt-clause-visited
+visit_inside-returns-in-Alt-clause-visited g t c =
+    let inner = c.inside-inner.ensures in
+    in_Alt _ c.args.n.now c.in-Alt.left c.in-Alt.right c.in-Alt.is
+    (rw (c.deref-in-Alt.ensures, inner.depth, inner.direction, inner.unicode) at c.visit.ensures.visited)
+    (rw (c.deref-in-Alt-2.ensures, inner.depth, inner.direction, inner.unicode) at c.visit-in-Alt.ensures.visited)
+
+pub visit_inside-returns-in-CaptureGroup-clause-visited : goal.visit_inside-returns-in-CaptureGroup-clause-visited
+visit_inside-returns-in-CaptureGroup-clause-visited g t c =
+    let inner = c.inside-inner.ensures in
+    rw (c.in-CaptureGroup.is, tree-CaptureGroup)
+    (in_wrapped (rw (c.deref-in-CaptureGroup.ensures, inner.depth, inner.direction, inner.unicode) at c.visit-in-CaptureGroup.ensures.visited))
+
+pub visit_inside-returns-in-LookaroundAssertion-clause-visited : goal.visit_inside-returns-in-LookaroundAssertion-clause-visited
+visit_inside-returns-in-LookaroundAssertion-clause-visited g t c =
+    let at = c.in-LookaroundAssertion in
+    let inner = c.inside-inner.ensures in
+    let looking = c.looking.ensures in
+    rw (at.is, tree-LookaroundAssertion)
+    (in_wrapped (rw (c.deref-in-LookaroundAssertion.ensures, looking.depth, looking.direction, looking.unicode, inner.depth, inner.unicode)
+    at c.visit-in-LookaroundAssertion.ensures.visited))
+
+pub visit_inside-returns-in-Loop-clause-visited : goal.visit_inside-returns-in-Loop-clause-visited
+visit_inside-returns-in-Loop-clause-visited g t c =
+    let inner = c.inside-inner.ensures in
+    rw (c.in-Loop.is, tree-Loop)
+    (in_wrapped (rw (c.deref-in-Loop.ensures, inner.depth, inner.direction, inner.unicode) at c.visit-in-Loop.ensures.visited))
+
+pub visit_inside-returns-in-Loop1CharBody-clause-visited : goal.visit_inside-returns-in-Loop1CharBody-clause-visited
+visit_inside-returns-in-Loop1CharBody-clause-visited g t c =
+    let inner = c.inside-inner.ensures in
+    rw (c.in-Loop1CharBody.is, tree-Loop1CharBody)
+    (in_wrapped (rw (c.deref-in-Loop1CharBody.ensures, inner.depth, inner.direction, inner.unicode) at c.visit-in-Loop1CharBody.ensures.visited))
+
+pub visit_inside-returns-10-clause-visited : goal.visit_inside-returns-10-clause-visited
+visit_inside-returns-10-clause-visited g t c = search (rules, at_WordBoundary)
+
+pub visit_before-returns-in_default : goal.visit_before-returns-in_default
+visit_before-returns-in_default g t c =
+    let so_far = c.loop-node.invariant in
+    let called = rw (so_far.direction, so_far.unicode) at c.loop-node-test.ensures.called in
+    let inside = rw (so_far.direction, so_far.unicode) at c.visit_inside.ensures.visited in
+    record {
+      callable = c.visit_inside.ensures.callable;
+      visited = so_far.visited _ (before_children called inside);
+    }
+
+pub visit_before-loop-node-preserved : goal.visit_before-loop-node-preserved
+visit_before-loop-node-preserved g t c =
+    let so_far = c.loop-node.invariant in
+    let here = c.inside-here.ensures in
+    let called = rw (so_far.direction, so_far.unicode) at c.loop-node-test.ensures.called in
+    let first = rw (c.deref.ensures, here.depth, here.direction, here.unicode, so_far.direction, so_far.unicode) at c.visit.ensures.visited in
+    let is = c.in-Alt.is in
+    record {
+      callable = c.visit.ensures.callable;
+      smaller = rw c.deref-node.ensures (le_trans (right_smaller _ _ _ is) so_far.smaller);
+      direction = here.direction ∙ so_far.direction;
+      unicode = here.unicode ∙ so_far.unicode;
+      visited = λ last right.
+          let second = rw (c.deref-node.ensures, here.depth) at right in
+          so_far.visited last (before_children called (in_Alt _ _ _ _ is first second));
+    }
+
+pub visit_before-returns-clause-visited : goal.visit_before-returns-clause-visited
+visit_before-returns-clause-visited g t c =
+    let so_far = c.loop-node.invariant in
+    let called = rw (so_far.direction, so_far.unicode) at c.loop-node-test.ensures.called in
+    so_far.visited _ (without_children called)
+
+pub visit_after-loop-levels-init : goal.visit_after-loop-levels-init
+visit_after-loop-levels-init g t c =
+    let here = c.fresh-here.ensures in
+    record {
+      callable = c.requires;
+      smaller = le_refl _;
+      below = refl;
+      depth = ap (λ w. w.depth) here;
+      direction = ap (λ w. w.in_lookbehind) here;
+      unicode = ap (λ w. w.unicode) here;
+      visited = λ b c' visited none. rw (here, none) at visited;
+    }
+
+pub visit_after-loop-levels-preserved : goal.visit_after-loop-levels-preserved
+visit_after-loop-levels-preserved g t c =
+    let l = c.loop-levels in
+    let walk = c.args.walk.now in
+    let Call = Calls (goal.F-step g) walk.unicode in
+    let so_far = l.invariant in
+    let here = c.inside-here.ensures in
+    let first = rw (c.deref.ensures, here.depth, here.direction, here.unicode, so_far.direction, so_far.unicode) at c.visit.ensures.visited in
+    let is = c.in-Alt.is in
+    record {
+      callable = c.visit.ensures.callable;
+      smaller = rw c.deref-last.ensures (le_trans (right_smaller _ _ _ is) so_far.smaller);
+      below = rw c.deref-last.ensures (down_next _ _ _ l.levels _ is so_far.below);
+      depth = here.depth ∙ further_next l.levels l.here.depth walk.depth so_far.depth;
+      direction = here.direction ∙ so_far.direction;
+      unicode = here.unicode ∙ so_far.unicode;
+      visited = λ b e right climbed.
+          let second = rw (c.deref-last.ensures, here.depth) at right in
+          after_next Call l.levels l.here.depth walk.depth walk.in_lookbehind (tree l.last.now) (tree c.args.n.now) _ b e _
+          so_far.below so_far.depth (λ m visited rest. so_far.visited m e visited rest) (in_Alt _ _ _ _ is first second) climbed;
+    }
+
+pub visit_after-returns-clause-visited : goal.visit_after-returns-clause-visited
+visit_after-returns-clause-visited g t c =
+    let so_far = c.loop-levels.invariant in
+    let inside = rw (so_far.direction, so_far.unicode) at c.visit_inside.ensures.visited in
+    let called = rw (so_far.direction, so_far.unicode) at c.call.ensures.called in
+    so_far.visited _ _ (after_children inside called) c.climb.ensures.climbed
+
+pub visit_row-loop-part-preserved : goal.visit_row-loop-part-preserved
+visit_row-loop-part-preserved g t c =
+    let l = c.loop-part in
+    let parts = c.args.parts.now in
+    let behind = drop (l.part-index + 1) parts in
+    let cut = drop_more parts l.part-index c.part-item.result c.loop-part-test.true ∙ ap (λ n. n ∷ behind) (sym c.part-item.is) in
+    record {
+      callable = c.visit.ensures.callable;
+      visited = λ last rest. l.invariant.visited last (rw cut (one_more c.visit.ensures.visited rest));
+    }
+
+pub visit_row-returns-clause-visited : goal.visit_row-returns-clause-visited
+visit_row-returns-clause-visited g t c =
+    let l = c.loop-part in
+    l.invariant.visited _ (rw (drop_all l.part-index c.args.parts.now c.loop-part-test.false) no_more)

@@ -1,0 +1,190 @@
+-- Each answer puts the visits of the calls together.
+use Rattle.std.proofs.Common.{rules, arith, ◌∙◌, ap, ◌≡◌, false, length-set, [], take, drop}
+use Rattle.std.proofs.lemmas.List.{drop_all, take_all}
+use Rattle.regress_tree.proofs.laws.Rows.{row_append-none}
+use Rattle.regress_tree.specs.declared.ir.node.Node.{Node}
+use Rattle.regress_tree.specs.Tree.{tree, no_trees}
+use Rattle.regress_tree.specs.Visits.{CallsMut, Visited, before_children, without_children, after_children, in_cat, in_alt, in_wrapped, no_more, one_more}
+use Rattle.regress_tree.specs.Climbs.{further}
+use Rattle.regress_tree.proofs.laws.Nodes.{tree-Cat, tree-Alt, tree-CaptureGroup, tree-Loop, tree-Loop1CharBody, tree-LookaroundAssertion}
+use Rattle.regress_tree.proofs.laws.Levels.{out-Cat, out-Alt, out-CaptureGroup, out-Loop, out-Loop1CharBody, out-LookaroundAssertion, alt_of}
+use Rattle.regress_tree.proofs.VisitLemmas.{at_WordBoundary, further_next, nodes_down, levels_down, before_down, after_down, call_adds, next_is, nodes_next, unvisited_next, visited_next}
+use Rattle.regress_tree.proofs.ir.visit_mut.+visit_mut.Goals.{visit_before-else-loop-here-test, visit_before-then-loop-here-test+then-not-shift, visit_after-then-loop-levels-test+else-shift, visit_after-else-loop-levels-test}
+use Rattle.regress_tree.proofs.ir.visit_mut.+visit_mut.Goals as goal
+
+pub visit_inside-returns-10-clause-visited : goal.visit_inside-returns-10-clause-visited
+visit_inside-returns-10-clause-visited g t c = search (rules, at_WordBoundary)
+
+pub visit_inside-returns-in-Cat-clause-visited : goal.visit_inside-returns-in-Cat-clause-visited
+visit_inside-returns-in-Cat-clause-visited g t c =
+    let inner = c.inside-inner.ensures in
+    rw (c.in-Cat.is, out-Cat)
+    (simp tree-Cat (in_cat (rw (c.in-Cat.is, out-Cat, inner.depth, inner.direction, inner.unicode) at c.visit_row.ensures.visited)))
+
+pub visit_inside-returns-in-Alt-clause-visited : goal.visit_inside-returns-in-Alt-clause-visited
+visit_inside-returns-in-Alt-clause-visited g t c =
+    let at = c.in-Alt in
+    let inner = c.inside-inner.ensures in
+    let left_is = rw (at.is, out-Alt) at c.deref_mut.ensures.value in
+    let right_is = rw (at.is, out-Alt) at c.deref_mut-in-Alt.ensures.value in
+    let tree_with = λ (x y : Node). tree-Alt (record at.left { value = x }) (record at.right { value = y }) in
+    rw (at.is, out-Alt) (rw (tree_with at.left.value at.right.value, tree_with c.visit_mut.new.n c.visit_mut-in-Alt.new.n)
+    (in_alt (rw (left_is, inner.depth, inner.direction, inner.unicode) at c.visit_mut.ensures.visited)
+    (rw (right_is, inner.depth, inner.direction, inner.unicode) at c.visit_mut-in-Alt.ensures.visited)))
+
+pub visit_inside-returns-in-CaptureGroup-clause-visited : goal.visit_inside-returns-in-CaptureGroup-clause-visited
+visit_inside-returns-in-CaptureGroup-clause-visited g t c =
+    let inner = c.inside-inner.ensures in
+    let contents_is = rw (c.in-CaptureGroup.is, out-CaptureGroup) at c.deref_mut-in-CaptureGroup.ensures.value in
+    rw (c.in-CaptureGroup.is, out-CaptureGroup)
+    (simp tree-CaptureGroup
+    (in_wrapped (rw (contents_is, inner.depth, inner.direction, inner.unicode) at c.visit_mut-in-CaptureGroup.ensures.visited)))
+
+pub visit_inside-returns-in-Loop-clause-visited : goal.visit_inside-returns-in-Loop-clause-visited
+visit_inside-returns-in-Loop-clause-visited g t c =
+    let inner = c.inside-inner.ensures in
+    let loopee_is = rw (c.in-Loop.is, out-Loop) at c.deref_mut-in-Loop.ensures.value in
+    rw (c.in-Loop.is, out-Loop)
+    (simp tree-Loop (in_wrapped (rw (loopee_is, inner.depth, inner.direction, inner.unicode) at c.visit_mut-in-Loop.ensures.visited)))
+
+pub visit_inside-returns-in-Loop1CharBody-clause-visited : goal.visit_inside-returns-in-Loop1CharBody-clause-visited
+visit_inside-returns-in-Loop1CharBody-clause-visited g t c =
+    let inner = c.inside-inner.ensures in
+    let loopee_is = rw (c.in-Loop1CharBody.is, out-Loop1CharBody) at c.deref_mut-in-Loop1CharBody.ensures.value in
+    rw (c.in-Loop1CharBody.is, out-Loop1CharBody)
+    (simp tree-Loop1CharBody
+    (in_wrapped (rw (loopee_is, inner.depth, inner.direction, inner.unicode) at c.visit_mut-in-Loop1CharBody.ensures.visited)))
+
+pub visit_inside-returns-in-LookaroundAssertion-clause-visited : goal.visit_inside-returns-in-LookaroundAssertion-clause-visited
+visit_inside-returns-in-LookaroundAssertion-clause-visited g t c =
+    let at = c.in-LookaroundAssertion in
+    let inner = c.inside-inner.ensures in
+    let looking = c.looking.ensures in
+    let out = out-LookaroundAssertion at.negate at.backwards at.start_group at.end_group at.contents in
+    let contents_is = rw (at.is, out) at c.deref_mut-in-LookaroundAssertion.ensures.value in
+    let looks = rw (at.is, out) at looking.direction in
+    let tree_with = λ (new : Node). tree-LookaroundAssertion at.negate at.backwards at.start_group at.end_group (record at.contents { value = new }) in
+    rw (at.is, out) (rw (tree_with at.contents.value, tree_with c.visit_mut-in-LookaroundAssertion.new.n)
+    (in_wrapped (rw (contents_is, looking.depth, looks, looking.unicode, inner.depth, inner.unicode)
+    at c.visit_mut-in-LookaroundAssertion.ensures.visited)))
+
+pub visit_before-loop-here-preserved-in-Alt : goal.visit_before-loop-here-preserved-in-Alt
+visit_before-loop-here-preserved-in-Alt g t c =
+    let l = c.loop-here in
+    let walk = c.args.walk.now in
+    let Call = CallsMut (goal.F-step g) walk.unicode in
+    let so_far = l.invariant in
+    let here = c.inside-here.ensures in
+    let shifted = c.if-not-shift.ensures in
+    let node = c.deref_mut.result.now in
+    let left_is = rw (c.in-Alt.is, out-Alt) at c.deref_mut.ensures.value in
+    let top_is = alt_of c.shift.new.onto c.in-Alt.left c.in-Alt.field-1 node c.in-Alt.is left_is in
+    let called = rw (so_far.direction, so_far.unicode) at c.loop-here-test.ensures.called in
+    let first = rw (here.depth, here.direction, here.unicode, so_far.direction, so_far.unicode) at c.visit_mut.ensures.visited in
+    let fewer = nodes_down Call l.here.depth 0 walk.in_lookbehind (tree c.call.new.n) (tree l.above) _ _ (tree node) (tree node) _ shifted top_is in
+    let no_more = call_adds (goal.F-step g) _ _ _ _ _ _ _ _ c.requires.ends called in
+    rw (c.in-Alt.is, out-Alt, tree-Alt)
+    (record {
+      callable = c.visit_mut.ensures.callable;
+      smaller = omega (arith, fewer, no_more, so_far.smaller);
+      direction = here.direction ∙ so_far.direction;
+      unicode = here.unicode ∙ so_far.unicode;
+      visited = λ u e second.
+          before_down Call l.here.depth 0 walk.in_lookbehind (tree c.call.new.n) (tree l.above) _ _ (tree node) _ _ shifted top_is
+          (tree l.n) _ _ _ e u (λ v. Visited Call false walk.depth walk.in_lookbehind (tree c.args.n.now) v c.args.func.now e) (λ v whole. so_far.visited v e whole) called first (rw here.depth at second);
+    })
+
+pub visit_before-returns-clause-visited : goal.visit_before-returns-clause-visited
+visit_before-returns-clause-visited g t c =
+    let so_far = c.loop-here.invariant in
+    rw c.relink.ensures
+    (elim c.loop-here-test.branch [
+      | visit_before-else-loop-here-test w ↦
+          let called = rw (so_far.direction, so_far.unicode) at w.loop-here-test.ensures.called in
+          rw (w.n-is, w.func-is, w.above-is) (so_far.visited _ _ (without_children called))
+      | visit_before-then-loop-here-test+then-not-shift w ↦
+          let stays = w.if-not-shift.ensures in
+          let called = rw (so_far.direction, so_far.unicode) at w.loop-here-test.ensures.called in
+          let inside = rw (stays.1, so_far.direction, so_far.unicode) at w.visit_inside.ensures.visited in
+          rw (w.n-is, w.func-is, w.above-is, stays.2) (so_far.visited _ _ (before_children called inside))
+    ])
+
+pub visit_after-loop-levels-preserved-in-Alt : goal.visit_after-loop-levels-preserved-in-Alt
+visit_after-loop-levels-preserved-in-Alt g t c =
+    let l = c.loop-levels in
+    let walk = c.args.walk.now in
+    let Call = CallsMut (goal.F-step g) walk.unicode in
+    let so_far = l.invariant in
+    let here = c.inside-here.ensures in
+    let shifted = c.if-shift.ensures in
+    let node = c.deref_mut.result.now in
+    let left_is = rw (c.in-Alt.is, out-Alt) at c.deref_mut.ensures.value in
+    let top_is = alt_of c.shift.new.onto c.in-Alt.left c.in-Alt.field-1 node c.in-Alt.is left_is in
+    let first = rw (here.depth, here.direction, here.unicode, so_far.direction, so_far.unicode) at c.visit_mut.ensures.visited in
+    let depth = so_far.depth ∙ ap (λ k. further k walk.depth) so_far.levels in
+    let fewer = nodes_down Call l.here.depth walk.depth walk.in_lookbehind (tree l.n) (tree l.above) _ _ (tree node) (tree node) _ shifted top_is in
+    rw (c.in-Alt.is, out-Alt, tree-Alt)
+    (record {
+      callable = c.visit_mut.ensures.callable;
+      smaller = omega (arith, fewer, so_far.smaller);
+      levels = levels_down Call l.here.depth walk.depth walk.in_lookbehind (tree l.n) (tree l.above) _ _ (tree node) (tree node) _ shifted top_is
+          l.levels so_far.levels;
+      depth = here.depth ∙ further_next l.levels l.here.depth walk.depth so_far.depth;
+      direction = here.direction ∙ so_far.direction;
+      unicode = here.unicode ∙ so_far.unicode;
+      visited = λ u v m e second climbed.
+          after_down Call l.here.depth walk.depth walk.in_lookbehind (tree l.n) (tree l.above) _ _ (tree node) _ _ shifted top_is
+          _ _ m e u v _ depth (λ x b whole rest. so_far.visited x v b e whole rest) first (rw here.depth at second) climbed;
+    })
+
+pub visit_after-returns-clause-visited : goal.visit_after-returns-clause-visited
+visit_after-returns-clause-visited g t c =
+    let l = c.loop-levels in
+    let so_far = l.invariant in
+    let n_is : tree c.loop-levels-test.n ≡ tree l.n =
+    elim c.loop-levels-test.branch [
+      | visit_after-then-loop-levels-test+else-shift w ↦ ap tree w.n-is ∙ w.if-shift.ensures.1
+      | visit_after-else-loop-levels-test w ↦ ap tree w.n-is
+    ] in
+    let above_is : tree c.loop-levels-test.above ≡ tree l.above =
+    elim c.loop-levels-test.branch [
+      | visit_after-then-loop-levels-test+else-shift w ↦ ap tree w.above-is ∙ w.if-shift.ensures.2
+      | visit_after-else-loop-levels-test w ↦ ap tree w.above-is
+    ] in
+    let inside = rw (n_is, so_far.direction, so_far.unicode) at c.visit_inside.ensures.visited in
+    let called = rw (so_far.direction, so_far.unicode) at c.call.ensures.called in
+    so_far.visited _ _ _ _ (after_children inside called) (rw above_is at c.climb.ensures.climbed)
+
+pub visit_row-visit_mut-requires : goal.visit_row-visit_mut-requires
+visit_row-visit_mut-requires g t c κs lives =
+    let l = c.loop-i in
+    let node = c.index_mut.result.now in
+    let fewer = nodes_next l.parts.items c.args.parts.now.items l.i (search rules) node c.index_mut.ensures.value l.invariant.unvisited in
+    (omega (arith, fewer), search rules)
+
+pub visit_row-loop-i-preserved : goal.visit_row-loop-i-preserved
+visit_row-loop-i-preserved g t c =
+    let l = c.loop-i in
+    let so_far = l.invariant in
+    let old = c.args.parts.now.items in
+    let node = c.index_mut.result.now in
+    let new = c.visit_mut.new.n in
+    let at = c.index_mut.ensures.value in
+    let next = next_is l.parts.items old l.i (search rules) node at so_far.unvisited in
+    record {
+      callable = c.visit_mut.ensures.callable;
+      length = length-set l.parts.items l.i new ∙ so_far.length;
+      unvisited = unvisited_next l.parts.items old l.i (search rules) node at so_far.unvisited new;
+      visited = λ ts b rest.
+          rw (visited_next l.parts.items old l.i (search rules) node at so_far.unvisited new ts)
+          (so_far.visited _ b (rw next (one_more c.visit_mut.ensures.visited rest)));
+    }
+
+pub visit_row-returns-clause-visited : goal.visit_row-returns-clause-visited
+visit_row-returns-clause-visited g t c =
+    let l = c.loop-i in
+    let old = c.args.parts.now.items in
+    let done : drop l.i old ≡ [] = drop_all l.i old (search rules) in
+    let all : take l.i l.parts.items ≡ l.parts.items = take_all l.i l.parts.items (search rules) in
+    let whole = l.invariant.visited no_trees l.func (rw done no_more) in
+    rw (all, row_append-none) at whole

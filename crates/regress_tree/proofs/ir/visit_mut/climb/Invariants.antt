@@ -1,0 +1,21 @@
+-- The calls that are still to come complete those of the whole way.
+use Rattle.std.proofs.Common.{◌≡◌}
+use Rattle.regress_tree.specs.Tree.{tree}
+use Rattle.regress_tree.specs.Spine.{spine_length}
+use Rattle.regress_tree.specs.Visits.{CallsMut}
+use Rattle.regress_tree.specs.Climbs.{ClimbedMut}
+use Rattle.regress_tree.proofs.ir.visit_mut.climb.Given as goal
+
+abbrev pub invariant-loop-levels : goal.invariant-loop-levels
+invariant-loop-levels g l =
+    let Call = CallsMut (goal.F-step g) l.walk.unicode in
+    record {
+      callable : goal.F-IsAlwaysCallable g l.func;
+      levels : l.levels ≡ spine_length (tree l.above);
+      climbed : (last : _) (b : _) →
+          ClimbedMut Call (tree l.above) l.walk.depth l.walk.in_lookbehind (tree l.n) last l.func b →
+          ClimbedMut Call (tree l.initial.above) l.walk.depth l.walk.in_lookbehind (tree l.initial.n) last l.initial.func b;
+    }
+
+abbrev pub decreases-loop-levels : goal.decreases-loop-levels
+decreases-loop-levels g l = spine_length (tree l.above)

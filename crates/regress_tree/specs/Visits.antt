@@ -1,0 +1,93 @@
+-- The visits of a walk: on which nodes the calls are made, in which order, and what they leave.
+use Rattle.std.specs.Prelude.{◌≡◌, ℕ, ◌+◌, ◌≤◌, Bool, true, false, min}
+use Rattle.std.specs.Borrow.{Bor, MutBor}
+use Rattle.regress_tree.specs.declared.ir.node.Node.{Node}
+use Rattle.regress_tree.specs.declared.ir.walker.Walk.{Walk}
+use Rattle.regress_tree.specs.Tree.{Leaf, Wrapper, capture_group, loop, loop_one, lookaround, Tree, Trees, leaf, cat, alt, wrapped, no_trees, more_trees, tree}
+
+-- the depth of what lies one level further inside: the greatest one is as deep as it goes
+abbrev pub deeper : ℕ → ℕ
+deeper depth = min (depth + 1) 18446744073709551615
+
+-- whether what a wrapper holds is matched backwards, where the wrapper is or is not
+abbrev pub turned_by : Wrapper → Bool → Bool
+turned_by (capture_group id name) behind = behind
+turned_by (loop quantifier start end) behind = behind
+turned_by (loop_one quantifier) behind = behind
+turned_by (lookaround negate backwards start end) behind = backwards
+
+-- `Call a t depth behind b u skip` says that a call on a node of the tree t, at that depth and in a lookbehind or not, may take the
+-- closure from the state a to b, leave the tree u there, and ask to skip the children or not.
+module _ {State : Type 0} (Call : State → Tree → ℕ → Bool → State → Tree → Bool → Type 0) where
+  mutual
+    -- A walk over the tree t, whose root is at that depth and in a lookbehind or not, may take the closure from the state a to b,
+    -- and leave the tree u.
+    pub data Visited : (postorder : Bool) (depth : ℕ) (behind : Bool) (t u : Tree) (a b : State) → Type 0 where
+      -- in preorder: a call, and then the children that it left,
+      before_children : {d : ℕ} {behind : Bool} {t left u : Tree} {a b c : State} →
+          Call a t d behind b left false → Inside false d behind left u b c → Visited false d behind t u a c
+      -- or none, if it asked for that
+      without_children : {d : ℕ} {behind : Bool} {t u : Tree} {a b : State} →
+          Call a t d behind b u true → Visited false d behind t u a b
+      -- in postorder: the children, and then a call
+      after_children : {d : ℕ} {behind : Bool} {t left u : Tree} {a b c : State} {skip : Bool} →
+          Inside true d behind t left a b → Call b left d behind c u skip → Visited true d behind t u a c
+
+    -- the same of the children of such a root, in their order
+    pub data Inside : (postorder : Bool) (depth : ℕ) (behind : Bool) (t u : Tree) (a b : State) → Type 0 where
+      in_leaf : {p : Bool} {d : ℕ} {behind : Bool} {l : Leaf} {a : State} → Inside p d behind (leaf l) (leaf l) a a
+      in_cat : {p : Bool} {d : ℕ} {behind : Bool} {ts us : Trees} {a b : State} →
+          RowVisited p (deeper d) behind ts us a b → Inside p d behind (cat ts) (cat us) a b
+      in_alt : {p : Bool} {d : ℕ} {behind : Bool} {left left' right right' : Tree} {a b c : State} →
+          Visited p (deeper d) behind left left' a b → Visited p (deeper d) behind right right' b c →
+          Inside p d behind (alt left right) (alt left' right') a c
+      in_wrapped : {p : Bool} {d : ℕ} {behind : Bool} {w : Wrapper} {t u : Tree} {a b : State} →
+          Visited p (deeper d) (turned_by w behind) t u a b → Inside p d behind (wrapped w t) (wrapped w u) a b
+
+    -- and of trees in a row, one after the other
+    pub data RowVisited : (postorder : Bool) (depth : ℕ) (behind : Bool) (ts us : Trees) (a b : State) → Type 0 where
+      no_more : {p : Bool} {d : ℕ} {behind : Bool} {a : State} → RowVisited p d behind no_trees no_trees a a
+      one_more : {p : Bool} {d : ℕ} {behind : Bool} {t u : Tree} {ts us : Trees} {a b c : State} →
+          Visited p d behind t u a b → RowVisited p d behind ts us b c → RowVisited p d behind (more_trees t ts) (more_trees u us) a c
+
+-- A call by a `&`, where the pattern has the flag u or not: it leaves the tree as it is.
+pub record Calls {F : Type 0} (step : F → Bor Node → MutBor Walk → Unit {0} → MutBor Walk → F → Type 0) (unicode : Bool)
+    (before : F) (t : Tree) (depth : ℕ) (behind : Bool) (after : F) (u : Tree) (skip : Bool) : Type 0 where
+  pub node : Bor Node
+  pub walk : MutBor Walk
+  pub walk' : MutBor Walk
+  pub called : step before node walk tt walk' after
+  pub on : tree node.now ≡ t
+  pub shown : walk.now ≡ record { skip_children = false; depth = depth; in_lookbehind = behind; unicode = unicode }
+  pub leaves : u ≡ t
+  pub skips : walk'.now.skip_children ≡ skip
+
+-- A call by a `&mut`.
+pub record CallsMut {F : Type 0} (step : F → MutBor Node → MutBor Walk → Unit {0} → MutBor Node → MutBor Walk → F → Type 0) (unicode : Bool)
+    (before : F) (t : Tree) (depth : ℕ) (behind : Bool) (after : F) (u : Tree) (skip : Bool) : Type 0 where
+  pub node : MutBor Node
+  pub walk : MutBor Walk
+  pub node' : MutBor Node
+  pub walk' : MutBor Walk
+  pub called : step before node walk tt node' walk' after
+  pub on : tree node.now ≡ t
+  pub shown : walk.now ≡ record { skip_children = false; depth = depth; in_lookbehind = behind; unicode = unicode }
+  pub leaves : tree node'.now ≡ u
+  pub skips : walk'.now.skip_children ≡ skip
+
+-- how many nodes a tree has
+abbrev mutual
+  pub nodes : Tree → ℕ
+  nodes (leaf l) = 1
+  nodes (cat parts) = 1 + nodes_in_row parts
+  nodes (alt left right) = 1 + (nodes left + nodes right)
+  nodes (wrapped w body) = 1 + nodes body
+
+  pub nodes_in_row : Trees → ℕ
+  nodes_in_row no_trees = 0
+  nodes_in_row (more_trees t ts) = nodes t + nodes_in_row ts
+
+-- No call leaves more nodes than it found.
+abbrev pub AddsNoNodes : {F : Type 0} → (F → MutBor Node → MutBor Walk → Unit {0} → MutBor Node → MutBor Walk → F → Type 0) → Type 0
+AddsNoNodes {F} step = (before after : F) (node node' : MutBor Node) (walk walk' : MutBor Walk) →
+    step before node walk tt node' walk' after → nodes (tree node'.now) ≤ nodes (tree node.now)

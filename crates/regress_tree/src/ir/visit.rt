@@ -1,0 +1,168 @@
+//! Walks that only look at the nodes.
+ghost use Rattle.std.specs.Prelude.{◌≡◌, true, false};
+ghost use Rattle.regress_tree.specs.Tree.{tree, trees};
+ghost use Rattle.regress_tree.specs.Visits.{Calls, Visited, Inside, RowVisited};
+ghost use Rattle.regress_tree.specs.Climbs.{Climbed, down};
+
+use super::{Node, Walk};
+
+/// Calls `func` on each node of the tree, with the walk there: before the calls on its children, or with
+/// `postorder` after them. In preorder a call that sets `skip_children` leaves the children out. What else a
+/// call writes to its walk changes nothing.
+pub fn walk<F: FnMut(&Node, &mut Walk)>(postorder: bool, unicode: bool, n: &Node, func: &mut F)
+    requires { F.IsAlwaysCallable func.old }
+    ensures callable { F.IsAlwaysCallable func.new }
+    ensures visited { Visited (Calls F.step unicode) postorder 0 false (tree n.now) (tree n.now) func.old func.new }
+{
+    visit(postorder, n, &Walk::root(unicode), func);
+}
+
+/// Visits a node and what lies inside it.
+#[cycle(visit)]
+fn visit<F: FnMut(&Node, &mut Walk)>(postorder: bool, n: &Node, walk: &Walk, func: &mut F)
+    requires { F.IsAlwaysCallable func.old }
+    ensures callable { F.IsAlwaysCallable func.new }
+    ensures visited { Visited (Calls F.step walk.now.unicode) postorder walk.now.depth walk.now.in_lookbehind (tree n.now) (tree n.now) func.old func.new }
+{
+    if postorder {
+        visit_after(n, walk, func);
+    } else {
+        visit_before(n, walk, func);
+    }
+}
+
+/// Visits in preorder, down the right sides of alternatives.
+#[cycle(visit)]
+fn visit_before<F: FnMut(&Node, &mut Walk)>(n: &Node, walk: &Walk, func: &mut F)
+    requires { F.IsAlwaysCallable func.old }
+    ensures callable { F.IsAlwaysCallable func.new }
+    ensures visited { Visited (Calls F.step walk.now.unicode) false walk.now.depth walk.now.in_lookbehind (tree n.now) (tree n.now) func.old func.new }
+{
+    let mut node = n;
+    let mut here = walk.fresh();
+    while !call(node, &here, func) {
+        let Node::Alt(left, right) = node else {
+            return visit_inside(false, node, &here, func);
+        };
+        here = here.inside(1);
+        visit(false, left, &here, func);
+        node = right;
+    }
+}
+
+/// Visits in postorder: down the right sides of alternatives, and up again.
+#[cycle(visit)]
+fn visit_after<F: FnMut(&Node, &mut Walk)>(n: &Node, walk: &Walk, func: &mut F)
+    requires { F.IsAlwaysCallable func.old }
+    ensures callable { F.IsAlwaysCallable func.new }
+    ensures visited { Visited (Calls F.step walk.now.unicode) true walk.now.depth walk.now.in_lookbehind (tree n.now) (tree n.now) func.old func.new }
+{
+    let mut last = n;
+    let mut here = walk.fresh();
+    let mut levels = 0;
+    while levels < usize::MAX {
+        let Node::Alt(left, right) = last else {
+            break;
+        };
+        here = here.inside(1);
+        visit(true, left, &here, func);
+        last = right;
+        levels += 1;
+    }
+    visit_inside(true, last, &here, func);
+    call(last, &here, func);
+    climb(n, levels, walk, func);
+}
+
+/// Visits what lies inside a node.
+#[cycle(visit)]
+#[tactic(auto, using(crate::proofs::VisitLemmas::at_leaves))]
+fn visit_inside<F: FnMut(&Node, &mut Walk)>(postorder: bool, n: &Node, walk: &Walk, func: &mut F)
+    requires { F.IsAlwaysCallable func.old }
+    ensures callable { F.IsAlwaysCallable func.new }
+    ensures visited { Inside (Calls F.step walk.now.unicode) postorder walk.now.depth walk.now.in_lookbehind (tree n.now) (tree n.now) func.old func.new }
+{
+    let inner = walk.inside(1);
+    match n {
+        Node::Cat(parts) => visit_row(postorder, parts, &inner, func),
+        Node::Alt(left, right) => {
+            visit(postorder, left, &inner, func);
+            visit(postorder, right, &inner, func);
+        }
+        Node::CaptureGroup { contents, .. } => visit(postorder, contents, &inner, func),
+        Node::Loop { loopee, .. } => visit(postorder, loopee, &inner, func),
+        Node::Loop1CharBody { loopee, .. } => visit(postorder, loopee, &inner, func),
+        Node::LookaroundAssertion {
+            backwards,
+            contents,
+            ..
+        } => visit(postorder, contents, &inner.looking(*backwards), func),
+        Node::Empty
+        | Node::Goal
+        | Node::Char { .. }
+        | Node::ByteSequence(_)
+        | Node::ByteSet(_)
+        | Node::CharSet(_)
+        | Node::MatchAny
+        | Node::MatchAnyExceptLineTerminator
+        | Node::Anchor { .. }
+        | Node::WordBoundary { .. }
+        | Node::Bracket(_)
+        | Node::BackRef { .. }
+        | Node::StringSet { .. } => {}
+    }
+}
+
+/// Visits nodes one after the other.
+#[cycle(visit)]
+fn visit_row<F: FnMut(&Node, &mut Walk)>(postorder: bool, parts: &[Node], walk: &Walk, func: &mut F)
+    requires { F.IsAlwaysCallable func.old }
+    ensures callable { F.IsAlwaysCallable func.new }
+    ensures visited { RowVisited (Calls F.step walk.now.unicode) postorder walk.now.depth walk.now.in_lookbehind (trees parts.now) (trees parts.now) func.old func.new }
+{
+    for part in parts {
+        visit(postorder, part, walk, func);
+    }
+}
+
+/// Calls `func` on so many nodes down the right sides, the lowest one first. No link leads up, so the lower
+/// half of the way is a call of its own: the stack is as deep as the number has binary digits.
+fn climb<F: FnMut(&Node, &mut Walk)>(n: &Node, levels: usize, walk: &Walk, func: &mut F)
+    requires { F.IsAlwaysCallable func.old }
+    ensures callable { F.IsAlwaysCallable func.new }
+    ensures climbed { Climbed (Calls F.step walk.now.unicode) levels walk.now.depth walk.now.in_lookbehind (tree n.now) func.old func.new }
+{
+    let mut upper = levels;
+    while upper > 1 {
+        let half = upper / 2;
+        climb(right_side(n, half), upper - half, &walk.inside(half), func);
+        upper = half;
+    }
+    if upper == 1 {
+        call(n, walk, func);
+    }
+}
+
+/// The node so many right sides further down.
+fn right_side(n: &Node, levels: usize) -> &Node
+    ensures { tree result.now ≡ down levels (tree n.now) }
+{
+    let mut below = n;
+    for _ in 0..levels {
+        if let Node::Alt(_, right) = below {
+            below = right;
+        }
+    }
+    below
+}
+
+/// Calls `func` on a node, and answers whether to leave its children out.
+fn call<F: FnMut(&Node, &mut Walk)>(n: &Node, walk: &Walk, func: &mut F) -> bool
+    requires { F.IsAlwaysCallable func.old }
+    ensures callable { F.IsAlwaysCallable func.new }
+    ensures called { Calls F.step walk.now.unicode func.old (tree n.now) walk.now.depth walk.now.in_lookbehind func.new (tree n.now) result }
+{
+    let mut shown = walk.fresh();
+    func(n, &mut shown);
+    shown.skip_children
+}

@@ -1,0 +1,195 @@
+//! Walks that may change the nodes.
+ghost use Rattle.std.specs.Prelude.{◌≡◌, true, false};
+ghost use Rattle.regress_tree.specs.Tree.{tree, trees, leaf, empty};
+ghost use Rattle.regress_tree.specs.Spine.{spine_length};
+ghost use Rattle.regress_tree.specs.Visits.{CallsMut, Visited, Inside, RowVisited, AddsNoNodes};
+ghost use Rattle.regress_tree.specs.Climbs.{ClimbedMut};
+
+use super::spine::{relink, shift};
+use super::{Node, NodeList, Walk};
+
+/// Calls `func` on each node of the tree, with the walk there: before the calls on its children, or with
+/// `postorder` after them. In preorder the children are those that the call left, and a call that sets
+/// `skip_children` leaves them out. What else a call writes to its walk changes nothing.
+///
+/// A walk in preorder ends because no call leaves more nodes than it found.
+pub fn walk_mut<F: FnMut(&mut Node, &mut Walk)>(
+    postorder: bool,
+    unicode: bool,
+    n: &mut Node,
+    func: &mut F,
+)
+    requires callable { F.IsAlwaysCallable func.old }
+    requires ends { postorder ≡ false → AddsNoNodes F.step }
+    ensures callable { F.IsAlwaysCallable func.new }
+    ensures visited { Visited (CallsMut F.step unicode) postorder 0 false (tree n.old) (tree n.new) func.old func.new }
+{
+    visit_mut(postorder, n, &Walk::root(unicode), func);
+}
+
+/// Visits a node and what lies inside it.
+#[cycle(visit_mut)]
+fn visit_mut<F: FnMut(&mut Node, &mut Walk)>(
+    postorder: bool,
+    n: &mut Node,
+    walk: &Walk,
+    func: &mut F,
+)
+    requires callable { F.IsAlwaysCallable func.old }
+    requires ends { postorder ≡ false → AddsNoNodes F.step }
+    ensures callable { F.IsAlwaysCallable func.new }
+    ensures visited { Visited (CallsMut F.step walk.now.unicode) postorder walk.now.depth walk.now.in_lookbehind
+        (tree n.old) (tree n.new) func.old func.new }
+{
+    if postorder {
+        visit_after(n, walk, func);
+    } else {
+        visit_before(n, walk, func);
+    }
+}
+
+/// Visits in preorder, down the right sides of alternatives, whose links are turned round for the way back.
+#[cycle(visit_mut)]
+fn visit_before<F: FnMut(&mut Node, &mut Walk)>(n: &mut Node, walk: &Walk, func: &mut F)
+    requires callable { F.IsAlwaysCallable func.old }
+    requires ends { AddsNoNodes F.step }
+    ensures callable { F.IsAlwaysCallable func.new }
+    ensures visited { Visited (CallsMut F.step walk.now.unicode) false walk.now.depth walk.now.in_lookbehind
+        (tree n.old) (tree n.new) func.old func.new }
+{
+    let mut above = Node::Empty;
+    let mut here = walk.fresh();
+    while !call(n, &here, func) {
+        if !shift(n, &mut above) {
+            visit_inside(false, n, &here, func);
+            break;
+        }
+        here = here.inside(1);
+        if let Node::Alt(left, _) = &mut above {
+            visit_mut(false, left, &here, func);
+        }
+    }
+    relink(n, above);
+}
+
+/// Visits in postorder: down the right sides of alternatives, and up again.
+#[cycle(visit_mut)]
+fn visit_after<F: FnMut(&mut Node, &mut Walk)>(n: &mut Node, walk: &Walk, func: &mut F)
+    requires { F.IsAlwaysCallable func.old }
+    ensures callable { F.IsAlwaysCallable func.new }
+    ensures visited { Visited (CallsMut F.step walk.now.unicode) true walk.now.depth walk.now.in_lookbehind
+        (tree n.old) (tree n.new) func.old func.new }
+{
+    let mut above = Node::Empty;
+    let mut here = walk.fresh();
+    let mut levels = 0;
+    while levels < usize::MAX && shift(n, &mut above) {
+        here = here.inside(1);
+        levels += 1;
+        if let Node::Alt(left, _) = &mut above {
+            visit_mut(true, left, &here, func);
+        }
+    }
+    visit_inside(true, n, &here, func);
+    call(n, &here, func);
+    climb(n, above, levels, walk, func);
+}
+
+/// Visits what lies inside a node.
+#[cycle(visit_mut)]
+#[tactic(auto, using(crate::proofs::VisitLemmas::at_leaves))]
+fn visit_inside<F: FnMut(&mut Node, &mut Walk)>(
+    postorder: bool,
+    n: &mut Node,
+    walk: &Walk,
+    func: &mut F,
+)
+    requires callable { F.IsAlwaysCallable func.old }
+    requires ends { postorder ≡ false → AddsNoNodes F.step }
+    ensures callable { F.IsAlwaysCallable func.new }
+    ensures visited { Inside (CallsMut F.step walk.now.unicode) postorder walk.now.depth walk.now.in_lookbehind
+        (tree n.old) (tree n.new) func.old func.new }
+{
+    let inner = walk.inside(1);
+    match n {
+        Node::Cat(parts) => visit_row(postorder, parts, &inner, func),
+        Node::Alt(left, right) => {
+            visit_mut(postorder, left, &inner, func);
+            visit_mut(postorder, right, &inner, func);
+        }
+        Node::CaptureGroup { contents, .. } => visit_mut(postorder, contents, &inner, func),
+        Node::Loop { loopee, .. } => visit_mut(postorder, loopee, &inner, func),
+        Node::Loop1CharBody { loopee, .. } => visit_mut(postorder, loopee, &inner, func),
+        Node::LookaroundAssertion {
+            backwards,
+            contents,
+            ..
+        } => visit_mut(postorder, contents, &inner.looking(*backwards), func),
+        Node::Empty
+        | Node::Goal
+        | Node::Char { .. }
+        | Node::ByteSequence(_)
+        | Node::ByteSet(_)
+        | Node::CharSet(_)
+        | Node::MatchAny
+        | Node::MatchAnyExceptLineTerminator
+        | Node::Anchor { .. }
+        | Node::WordBoundary { .. }
+        | Node::Bracket(_)
+        | Node::BackRef { .. }
+        | Node::StringSet { .. } => {}
+    }
+}
+
+/// Visits nodes one after the other.
+#[cycle(visit_mut)]
+fn visit_row<F: FnMut(&mut Node, &mut Walk)>(
+    postorder: bool,
+    parts: &mut NodeList,
+    walk: &Walk,
+    func: &mut F,
+)
+    requires callable { F.IsAlwaysCallable func.old }
+    requires ends { postorder ≡ false → AddsNoNodes F.step }
+    ensures callable { F.IsAlwaysCallable func.new }
+    ensures visited { RowVisited (CallsMut F.step walk.now.unicode) postorder walk.now.depth walk.now.in_lookbehind
+        (trees parts.old.items) (trees parts.new.items) func.old func.new }
+{
+    for i in 0..parts.len() {
+        visit_mut(postorder, &mut parts[i], walk, func);
+    }
+}
+
+/// Goes all the way up again, and calls `func` on each alternative.
+fn climb<F: FnMut(&mut Node, &mut Walk)>(
+    n: &mut Node,
+    above: Node,
+    levels: usize,
+    walk: &Walk,
+    func: &mut F,
+)
+    requires callable { F.IsAlwaysCallable func.old }
+    requires levels { levels ≡ spine_length (tree above) }
+    ensures callable { F.IsAlwaysCallable func.new }
+    ensures climbed { ClimbedMut (CallsMut F.step walk.now.unicode) (tree above) walk.now.depth walk.now.in_lookbehind
+        (tree n.old) (tree n.new) func.old func.new }
+{
+    let mut above = above;
+    let mut levels = levels;
+    while shift(&mut above, n) {
+        levels -= 1;
+        call(n, &walk.inside(levels), func);
+    }
+}
+
+/// Calls `func` on a node, and answers whether to leave its children out.
+fn call<F: FnMut(&mut Node, &mut Walk)>(n: &mut Node, walk: &Walk, func: &mut F) -> bool
+    requires { F.IsAlwaysCallable func.old }
+    ensures callable { F.IsAlwaysCallable func.new }
+    ensures called { CallsMut F.step walk.now.unicode func.old (tree n.old) walk.now.depth walk.now.in_lookbehind func.new
+        (tree n.new) result }
+{
+    let mut shown = walk.fresh();
+    func(n, &mut shown);
+    shown.skip_children
+}
