@@ -46,7 +46,8 @@ pub const MAX_CAPTURE_GROUPS: usize = 65535;
 /// How many loops (quantified items) a pattern may have.
 pub const MAX_LOOPS: usize = 65535;
 
-/// How many levels a pattern may have: the whole pattern is one, and so is each group, and with the flag v each class.
+/// How many levels a pattern may have: the whole pattern is one, each group is one, and with the flag v so is each class
+/// in another one.
 pub const MAX_NESTING_DEPTH: u32 = 256;
 
 /// How many members a small set of bytes or code points may have.

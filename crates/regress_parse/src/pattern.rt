@@ -25,9 +25,9 @@ use std::alloc::Global;
 /// other classes, for `\p` and `\P`, and for properties of strings. A caller who wants JavaScript's flag v sets u too.
 ///
 /// `Syntax` is answered with one of the texts of `regress_syntax::fault`, which says where each is due:
-/// - before the pattern is parsed, `Regular expression is too deeply nested` (`MAX_NESTING_DEPTH` levels: the
-///   whole pattern is one, each parenthesis that is open, and with the flag v each class that is open inside of
-///   another), or `Duplicate capture group name` where two groups of one name conflict;
+/// - before the pattern is parsed, `Duplicate capture group name` where two groups of one name conflict, and else
+///   `Regular expression is too deeply nested` (`MAX_NESTING_DEPTH` levels: the whole pattern is one, and so is each
+///   group, lookaround, and class with the flag v that lies in another);
 /// - past another limit, `Capture group count limit exceeded` (`MAX_CAPTURE_GROUPS`) or `Loop count limit
 ///   exceeded` (`MAX_LOOPS`, a loop being an item with a quantifier);
 /// - else where no row applies: `Unbalanced parenthesis`, or a text on an item, a group, a reference,
