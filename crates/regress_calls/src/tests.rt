@@ -15,6 +15,7 @@ mod sets;
 mod tables;
 mod types;
 mod util;
+mod walks;
 
 use crate::caller::code_points;
 use regress_front::ir::{Node, Regex};

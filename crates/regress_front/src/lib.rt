@@ -15,4 +15,3 @@ pub mod parse {
 pub mod optimizer {
     pub use regress_opt::{PassAction, Rewrite, optimize, parse_and_optimize, run_pass};
 }
-

@@ -1,7 +1,7 @@
 //! Turning the parts of a `Cat` for a lookbehind.
 
-use super::node::Node;
 use super::Walk;
+use super::node::Node;
 
 impl Node {
     ghost use Rattle.std.specs.Prelude.{◌≡◌, true, false};
