@@ -1,9 +1,11 @@
 -- Which trees are duplicated.
-use Rattle.std.proofs.Common.{◌≡◌, ℕ, ◌+◌, ◌<◌, ◌≤◌, inl, inr, max, Bool, true, false, not, ◌&&◌, ◌||◌, nat_le, refl, arith}
+use Rattle.std.proofs.Common.{◌≡◌, ℕ, ◌+◌, ◌<◌, ◌≤◌, inl, inr, max, Bool, true, false, not, ◌&&◌, ◌||◌, nat_le, arith}
 use Rattle.std.proofs.lemmas.Bool.{cases_lt}
 use Rattle.std.proofs.lemmas.Bool.Decides.{nat_tests}
 use Rattle.regress_tree.specs.Tree.{Tree, Trees, leaf, cat, alt, wrapped, no_trees, more_trees}
-use Rattle.regress_tree.specs.Copies.{levels, levels_in_row, is_string_set, has_string_set, some_has_string_set, may_duplicate, may_duplicate_row}
+use Rattle.regress_tree.specs.Copies.{may_duplicate, may_duplicate_row}
+use Rattle.regress_tree.specs.Measures.{levels, levels_of_deepest}
+use Rattle.regress_tree.specs.Shapes.{on_leaf, is_string_set, has_string_set, some_node_in_row}
 
 one_level : (depth : ℕ) (strings : Bool) → (nat_le depth 100 && not strings) ≡ (not strings && nat_le (depth + 1) 101)
 one_level depth true = grind (arith, nat_tests)
@@ -31,10 +33,10 @@ mutual
   may_duplicate-is depth (leaf l) = one_level depth (is_string_set l)
   may_duplicate-is depth (cat parts) =
       elim (cases_lt 100 depth) [
-        | inl deep ↦ too_deep depth (levels_in_row parts) (some_has_string_set parts) _ deep
+        | inl deep ↦ too_deep depth (levels_of_deepest parts) (some_node_in_row (on_leaf is_string_set) parts) _ deep
         | inr shallow ↦
             rw (may_duplicate_row-is (depth + 1) parts (omega arith))
-            (one_inside depth (levels_in_row parts) (some_has_string_set parts))
+            (one_inside depth (levels_of_deepest parts) (some_node_in_row (on_leaf is_string_set) parts))
       ]
   may_duplicate-is depth (alt left right) =
       rw (
@@ -47,8 +49,8 @@ mutual
       rw (may_duplicate-is (depth + 1) body) (one_inside depth (levels body) (has_string_set body))
 
   may_duplicate_row-is : (depth : ℕ) (ts : Trees) → depth ≤ 101 →
-      may_duplicate_row depth ts ≡ (not (some_has_string_set ts) && nat_le (depth + levels_in_row ts) 101)
+      may_duplicate_row depth ts ≡ (not (some_node_in_row (on_leaf is_string_set) ts) && nat_le (depth + levels_of_deepest ts) 101)
   may_duplicate_row-is depth no_trees h = grind (arith, nat_tests)
   may_duplicate_row-is depth (more_trees t ts) h =
       rw (may_duplicate-is depth t, may_duplicate_row-is depth ts h)
-      (both_inside depth (levels t) (levels_in_row ts) (has_string_set t) (some_has_string_set ts))
+      (both_inside depth (levels t) (levels_of_deepest ts) (has_string_set t) (some_node_in_row (on_leaf is_string_set) ts))

@@ -30,7 +30,9 @@ const MAX_COPY_DEPTH: usize = 100;
 impl Node {
     ghost use Rattle.std.specs.Prelude.{◌≡◌, ◌+◌, ◌&&◌, not, nat_le, is_some, IfOk, IfSome};
     ghost use Rattle.regress_tree.specs.Tree.{tree};
-    ghost use Rattle.regress_tree.specs.Copies.{levels, has_string_set, HasNoGroup};
+    ghost use Rattle.regress_tree.specs.Copies.{HasNoGroup};
+    ghost use Rattle.regress_tree.specs.Measures.{levels};
+    ghost use Rattle.regress_tree.specs.Shapes.{has_string_set};
 
     /// An equal node with memory of its own, where this one stands at `depth` in a tree. It is None if a
     /// `StringSet`, which may be long, stands in it, or a node of it at a depth past 100. The caller knows that
