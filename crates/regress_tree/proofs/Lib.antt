@@ -2,4 +2,12 @@ pub mod laws
 mod Examples
 pub mod LoweringLemmas
 mod LiteralExamples
+mod BracketLemmas
 mod DuplicateLemmas
+mod GroupIdLemmas
+mod IdLemmas
+mod PassLemmas
+mod RootLemmas
+mod StandingLemmas
+mod SurveyLemmas
+mod TextLemmas
