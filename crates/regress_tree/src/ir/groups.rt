@@ -32,9 +32,9 @@ impl GroupIds {
     {
         let page = (id / PAGE) as usize;
         let member = (id % PAGE) as u8;
-        let is_new = !self.pages[page].contains(member);
+        let was_there = self.pages[page].contains(member);
         self.pages[page].set(member);
-        is_new
+        !was_there
     }
 }
 

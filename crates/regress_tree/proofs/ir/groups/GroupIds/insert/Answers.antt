@@ -6,7 +6,7 @@ pub returns-clause-new : goal.returns-clause-new
 returns-clause-new c =
     let h = c.well_formed in
     let inside : c.args.id / 256 < length c.args.self.now.pages = search rules in
-    ap not (c.contains-is_new.ensures ∙ holds-there c.args.self.now c.args.id _ inside)
+    ap not (c.contains-was_there.ensures ∙ holds-there c.args.self.now c.args.id _ inside)
 
 pub returns-clause-after : goal.returns-clause-after
 returns-clause-after c =
