@@ -3,4 +3,12 @@ mod Examples
 pub mod LoweringLemmas
 pub mod VisitLemmas
 mod LiteralExamples
+mod BracketLemmas
 mod DuplicateLemmas
+mod GroupIdLemmas
+mod IdLemmas
+mod PassLemmas
+mod RootLemmas
+mod StandingLemmas
+mod SurveyLemmas
+mod TextLemmas

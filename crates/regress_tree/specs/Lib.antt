@@ -21,3 +21,4 @@ pub mod Setting
 pub mod Spine
 pub mod NodeTests
 pub mod Copies
+pub mod Survey

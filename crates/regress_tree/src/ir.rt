@@ -3,6 +3,7 @@
 mod brackets;
 mod copies;
 mod display;
+mod groups;
 mod node;
 mod node_tests;
 pub mod spine;
@@ -10,6 +11,7 @@ mod turning;
 mod visit;
 mod visit_mut;
 mod walker;
+mod well_formed;
 
 pub use node::{AnchorType, Node, NodeList, Quantifier, Regex};
 pub use visit::walk;

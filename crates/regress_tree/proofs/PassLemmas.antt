@@ -1,0 +1,191 @@
+-- What passes and what fails: rows, alternatives, and what holds one node.
+use Rattle.std.proofs.Common.{◌≡◌, ◌≢◌, ℕ, ◌+◌, ◌<◌, ◌==◌, ◌||◌, ◌⊎◌, inl, inr, Bool, true, false, not, List, [], ◌∷◌, ◌++◌, length, get_or, take, drop, max, Option, refl, sym, ap, subst, ◌∙◌, suc, append-nil, append_assoc, arith}
+use Rattle.std.specs.Option.{IfSome}
+use Rattle.std.proofs.Math.Seq.{split_at}
+use Rattle.std.proofs.lemmas.List.{take_more}
+use Rattle.std.proofs.lemmas.Bool.{false≢true}
+use Rattle.regress_tree.specs.declared.ir.groups.GroupIds.{GroupIds}
+use Rattle.regress_tree.specs.declared.ir.groups.Groups.{Groups}
+use Rattle.regress_tree.specs.declared.ir.node.Node.{Node}
+use Rattle.regress_tree.specs.declared.ir.node.Quantifier.{Quantifier}
+use Rattle.regress_tree.specs.Tree.{capture_group, loop, lookaround, Tree, Trees, cat, alt, wrapped, no_trees, more_trees, row_append, tree, trees}
+use Rattle.regress_tree.specs.WellFormed.{Capture, captures, captures_in_row, inside, IsQuantifier, HasGroups}
+use Rattle.regress_tree.specs.Survey.{holds, reference, reference_in_row, Tells, joined, one, fill, StandsAt, PassesAt, FailsAt}
+use Rattle.regress_tree.proofs.laws.Rows.{trees-append, captures-append}
+use Rattle.regress_tree.proofs.IdLemmas.{fill-has, has-fill, times-append}
+use Rattle.regress_tree.proofs.SurveyLemmas.{Tells-joined, Tells-one, Passes-then, Passes-as, Passes-none, Fails-first, Fails-second, Fails-as, differ-held, held-insert}
+use Rattle.regress_tree.proofs.StandingLemmas.{MayStand-more, stands-alt, sides-stand, stands-append, rows-stand, stands-single, single-stands}
+
+reference-append : (ts us : Trees) → reference_in_row (row_append ts us) ≡ max (reference_in_row ts) (reference_in_row us)
+reference-append no_trees us = omega arith
+reference-append (more_trees t ts) us = omega (arith, reference-append ts us)
+
+-- Rows.
+
+module _ (ts us : Trees) (before mid : GroupIds) (g : Groups) where
+  pub rows-pass : (after : GroupIds) (h : Groups) → PassesAt inside (cat ts) before mid g → PassesAt inside (cat us) mid after h →
+      PassesAt inside (cat (row_append ts us)) before after (joined g h)
+  rows-pass after h a b =
+      Passes-as _ _ _ (stands-append ts us) (sym (captures-append ts us)) (sym (reference-append ts us)) (Passes-then a b)
+
+  pub rows-fail : PassesAt inside (cat ts) before mid g → FailsAt inside (cat us) mid → FailsAt inside (cat (row_append ts us)) before
+  rows-fail a b = Fails-as _ _ (rows-stand ts us) (sym (captures-append ts us)) (Fails-second a b)
+
+pub rows-fail-first : (ts us : Trees) (before : GroupIds) → FailsAt inside (cat ts) before → FailsAt inside (cat (row_append ts us)) before
+rows-fail-first ts us before a =
+    Fails-as _ _ (rows-stand ts us) (sym (captures-append ts us)) (Fails-first (StandsAt inside (cat us)) (captures_in_row us) a)
+
+single-pass : (t : Tree) (before after : GroupIds) (g : Groups) → PassesAt inside t before after g →
+    PassesAt inside (cat (more_trees t no_trees)) before after g
+single-pass t before after g a = Passes-as _ _ _ (stands-single t) (sym (append-nil (captures t))) (omega arith) a
+
+single-fail : (t : Tree) (before : GroupIds) → FailsAt inside t before → FailsAt inside (cat (more_trees t no_trees)) before
+single-fail t before a = Fails-as _ _ (single-stands t) (sym (append-nil (captures t))) a
+
+module _ (parts : List Node) (i : ℕ) (in_row : i < length parts) (d node : Node) (at : node ≡ get_or parts i d)
+    (before mid : GroupIds) (g : Groups) (passed : PassesAt inside (cat (trees (take i parts))) before mid g) where
+  more_parts : trees (take (i + 1) parts) ≡ row_append (trees (take i parts)) (more_trees (tree node) no_trees)
+  more_parts =
+      ap trees (take_more parts i d in_row ∙ ap (λ n. take i parts ++ n ∷ []) (sym at)) ∙ trees-append (take i parts) (node ∷ [])
+
+  pub parts-next : (after : GroupIds) (h : Groups) → PassesAt inside (tree node) mid after h →
+      PassesAt inside (cat (trees (take (i + 1) parts))) before after (joined g h)
+  parts-next after h here =
+      subst (λ ts. PassesAt inside (cat ts) before after (joined g h)) (sym more_parts)
+      (rows-pass (trees (take i parts)) (more_trees (tree node) no_trees) before mid g after h passed
+      (single-pass (tree node) mid after h here))
+
+  pub parts-fail : FailsAt inside (tree node) mid → FailsAt inside (cat (trees parts)) before
+  parts-fail here =
+      let rest = trees (drop (suc i) parts) in
+      let whole : trees parts ≡ row_append (trees (take i parts)) (row_append (more_trees (tree node) no_trees) rest) =
+      ap trees (split_at parts i d in_row ∙ ap (λ n. take i parts ++ n ∷ drop (suc i) parts) (sym at)) ∙ trees-append (take i parts) (node ∷ drop (suc i) parts) in
+      subst (λ ts. FailsAt inside (cat ts) before) (sym whole)
+      (rows-fail (trees (take i parts)) (row_append (more_trees (tree node) no_trees) rest) before mid g passed
+      (rows-fail-first (more_trees (tree node) no_trees) rest mid (single-fail (tree node) mid here)))
+
+-- Alternatives: the left sides so far, and what is still on the right.
+
+abbrev alternatives : Trees → Tree → Tree
+alternatives no_trees t = t
+alternatives (more_trees left lefts) t = alt left (alternatives lefts t)
+
+alternatives-push : (lefts : Trees) (left right : Tree) →
+    alternatives (row_append lefts (more_trees left no_trees)) right ≡ alternatives lefts (alt left right)
+alternatives-push no_trees left right = refl
+alternatives-push (more_trees l lefts) left right = ap (alt l) (alternatives-push lefts left right)
+
+captures-alternatives : (lefts : Trees) (t : Tree) → captures (alternatives lefts t) ≡ captures_in_row lefts ++ captures t
+captures-alternatives no_trees t = refl
+captures-alternatives (more_trees l lefts) t =
+    ap (λ cs. captures l ++ cs) (captures-alternatives lefts t) ∙ sym (append_assoc (captures l) (captures_in_row lefts) (captures t))
+
+reference-alternatives : (lefts : Trees) (t : Tree) → reference (alternatives lefts t) ≡ max (reference_in_row lefts) (reference t)
+reference-alternatives no_trees t = omega arith
+reference-alternatives (more_trees l lefts) t = omega (arith, reference-alternatives lefts t)
+
+stands-alternatives : (lefts : Trees) (t : Tree) → StandsAt inside (cat lefts) × StandsAt inside t → StandsAt inside (alternatives lefts t)
+stands-alternatives no_trees t (a, b) = b
+stands-alternatives (more_trees l lefts) t (a, b) =
+    let parts = rows-stand (more_trees l no_trees) lefts a in
+    stands-alt l (alternatives lefts t) (single-stands l parts.0, stands-alternatives lefts t (parts.1, b))
+
+alternatives-stand : (lefts : Trees) (t : Tree) → StandsAt inside (alternatives lefts t) → StandsAt inside (cat lefts) × StandsAt inside t
+alternatives-stand no_trees t s = ((0, (tt, tt)), s)
+alternatives-stand (more_trees l lefts) t s =
+    let sides = sides-stand l (alternatives lefts t) s in
+    let rest = alternatives-stand lefts t sides.1 in
+    (stands-append (more_trees l no_trees) lefts (stands-single l sides.0, rest.0), rest.1)
+
+pub record SpineSurveyed (whole node : Tree) (before now : GroupIds) (so_far : Groups) : Type 0 where
+  pub lefts : Trees
+  pub whole_is : whole ≡ alternatives lefts node
+  pub passed : PassesAt inside (cat lefts) before now so_far
+
+pub spine-start : (t : Tree) (ids : GroupIds) (g : Groups) → Tells g [] 0 → SpineSurveyed t t ids ids g
+spine-start t ids g told = record { lefts = no_trees; whole_is = refl; passed = Passes-none (0, (tt, tt)) told }
+
+module _ (whole : Tree) (before mid : GroupIds) (g : Groups) where
+  pub spine-next : (left right : Tree) (after : GroupIds) (h : Groups) → SpineSurveyed whole (alt left right) before mid g →
+      PassesAt inside left mid after h → SpineSurveyed whole right before after (joined g h)
+  spine-next left right after h s here = record {
+    lefts = row_append s.lefts (more_trees left no_trees);
+    whole_is = s.whole_is ∙ sym (alternatives-push s.lefts left right);
+    passed = rows-pass s.lefts (more_trees left no_trees) before mid g after h s.passed (single-pass left mid after h here);
+  }
+
+  pub spine-last : (node : Tree) (after : GroupIds) (h : Groups) → SpineSurveyed whole node before mid g →
+      PassesAt inside node mid after h → PassesAt inside whole before after (joined g h)
+  spine-last node after h s here =
+      subst (λ t. PassesAt inside t before after (joined g h)) (sym s.whole_is)
+      (Passes-as _ _ _ (stands-alternatives s.lefts node) (sym (captures-alternatives s.lefts node))
+      (sym (reference-alternatives s.lefts node)) (Passes-then s.passed here))
+
+  pub spine-fail-last : (node : Tree) → SpineSurveyed whole node before mid g → FailsAt inside node mid → FailsAt inside whole before
+  spine-fail-last node s here =
+      subst (λ t. FailsAt inside t before) (sym s.whole_is)
+      (Fails-as _ _ (alternatives-stand s.lefts node) (sym (captures-alternatives s.lefts node)) (Fails-second s.passed here))
+
+  pub spine-fail : (left right : Tree) → SpineSurveyed whole (alt left right) before mid g → FailsAt inside left mid →
+      FailsAt inside whole before
+  spine-fail left right s here =
+      spine-fail-last (alt left right) s
+      (Fails-as _ _ (sides-stand left right) refl (Fails-first (StandsAt inside right) (captures right) here))
+
+-- What holds one node.
+
+pub group-pass : (id : ℕ) (name : Option (List ℕ)) (body : Tree) (before mid after : GroupIds) (g : Groups) →
+    IfSome name (λ bytes. bytes ≢ []) → id < 65536 → holds before id ≡ false →
+    ((k : ℕ) → holds mid k ≡ ((k == id) || holds before k)) → PassesAt inside body mid after g →
+    PassesAt inside (wrapped (capture_group id name) body) before after (joined (one id) g)
+group-pass id name body before mid after g named small fresh more p = record {
+  stands =
+      (max (id + 1) p.stands.0, (tt, (omega arith, named), MayStand-more p.stands.0 _ body inside (omega arith) p.stands.1));
+  ids = λ k. omega (arith, p.ids k, held-insert before mid group fresh more k, times-append k (group ∷ []) (captures body));
+  told = subst (λ r. Tells (joined (one id) g) (group ∷ captures body) r) (max_zero (reference body))
+      (Tells-joined (one id) g (group ∷ []) (captures body) 0 (reference body) (Tells-one id group refl small) p.told);
+}
+  where
+    group : Capture
+    group = record { id = id; name = name }
+
+    max_zero : (n : ℕ) → max 0 n ≡ n
+    max_zero n = omega arith
+
+module _ (body : Tree) (before after : GroupIds) (g : Groups) (p : PassesAt inside body before after g) (start end : ℕ) where
+  has_groups : end < 65536 → fill start end g ≡ true → HasGroups start end body
+  has_groups small full =
+      fill-has g (captures body) (reference body) p.told (differ-held before after (captures body) p.ids) start end (omega arith) full
+
+  lacks_groups : start < 65536 → end < 65536 → fill start end g ≡ false → HasGroups start end body → ⊥
+  lacks_groups small small' other has =
+      false≢true (sym other ∙ has-fill g (captures body) (reference body) p.told start end (omega arith) (omega arith) has)
+
+  pub loop-pass : (q : Quantifier) → end < 65536 → IsQuantifier q → fill start end g ≡ true →
+      PassesAt inside (wrapped (loop q start end) body) before after g
+  loop-pass q small is full = record {
+    stands = (p.stands.0, (tt, (is, has_groups small full), p.stands.1));
+    ids = p.ids;
+    told = p.told;
+  }
+
+  pub loop-fail : (q : Quantifier) → start < 65536 → end < 65536 → (IsQuantifier q → ⊥) ⊎ (fill start end g ≡ false) →
+      FailsAt inside (wrapped (loop q start end) body) before
+  loop-fail q small small' (inl not_one) = record { refuted = λ s differ. not_one s.1.1.0 }
+  loop-fail q small small' (inr other) = record { refuted = λ s differ. lacks_groups small small' other s.1.1.1 }
+
+  pub look-pass : (negate backwards : Bool) → end < 65536 → fill start end g ≡ true →
+      PassesAt inside (wrapped (lookaround negate backwards start end) body) before after g
+  look-pass negate backwards small full = record {
+    stands = (p.stands.0, (tt, has_groups small full, p.stands.1));
+    ids = p.ids;
+    told = p.told;
+  }
+
+  pub look-fail : (negate backwards : Bool) → start < 65536 → end < 65536 → fill start end g ≡ false →
+      FailsAt inside (wrapped (lookaround negate backwards start end) body) before
+  look-fail negate backwards small small' other = record { refuted = λ s differ. lacks_groups small small' other s.1.1 }
+
+pub not-true : (told b : Bool) → told ≡ not b → told ≡ true → b ≡ false
+not-true told true is said = absurd (false≢true (sym is ∙ said))
+not-true told false is said = refl

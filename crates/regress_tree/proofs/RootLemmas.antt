@@ -1,0 +1,181 @@
+-- The root, where the goal may stand, and what the whole pass tells.
+use Rattle.std.proofs.Common.{◌≡◌, ℕ, ◌≤◌, ◌&&◌, nat_le, nat_lt, Bool, true, false, Option, Some, None, MatchOption, [], ◌++◌, length, max, refl, sym, ap, subst, ◌∙◌, le-leb, leb-true, arith}
+use Rattle.std.specs.Prelude.{if◌then◌else◌}
+use Rattle.std.proofs.lemmas.Bool.{false≢true, cond-true, cond-false, and_parts}
+use Rattle.regress_tree.specs.declared.ir.groups.GroupIds.{GroupIds}
+use Rattle.regress_tree.specs.declared.ir.groups.Groups.{Groups}
+use Rattle.regress_tree.specs.Shapes.{is_cat}
+use Rattle.regress_tree.specs.Tree.{Leaf, empty, goal, char, byte_sequence, byte_set, char_set, match_any, match_any_except_line_terminator, anchor, word_boundary, bracket, back_ref, string_set, Tree, Trees, leaf, cat, alt, wrapped, no_trees, more_trees, row_append}
+use Rattle.regress_tree.specs.WellFormed.{captures, captures_in_row, Position, inside, last, root, LeafMayStand, MayStand, RowMayStand, IsWellFormed}
+use Rattle.regress_tree.specs.Survey.{holds, times_held, reference, reference_in_row, fill, PassesAt, FailsAt, is_goal_leaf, is_goal, without_goal}
+use Rattle.regress_tree.proofs.laws.Rows.{MayStand-from_last}
+use Rattle.regress_tree.proofs.IdLemmas.{all-has, has-all}
+use Rattle.regress_tree.proofs.SurveyLemmas.{Passes-as, Fails-as, differ-held}
+use Rattle.regress_tree.proofs.StandingLemmas.{MayStand-bounded, MayStand-at, row-cons, row-parts}
+
+-- The goal at the end.
+
+pub drop-goal : (us : Trees) (t : Tree) → is_goal t ≡ true → without_goal (row_append us (more_trees t no_trees)) ≡ us
+drop-goal no_trees t e = cond-true _ no_trees (more_trees t no_trees) e
+drop-goal (more_trees u no_trees) t e = ap (more_trees u) (cond-true _ no_trees (more_trees t no_trees) e)
+drop-goal (more_trees u (more_trees v vs)) t e = ap (more_trees u) (drop-goal (more_trees v vs) t e)
+
+pub keep-last : (us : Trees) (t : Tree) → is_goal t ≡ false →
+    without_goal (row_append us (more_trees t no_trees)) ≡ row_append us (more_trees t no_trees)
+keep-last no_trees t e = cond-false _ no_trees (more_trees t no_trees) e
+keep-last (more_trees u no_trees) t e = ap (more_trees u) (cond-false _ no_trees (more_trees t no_trees) e)
+keep-last (more_trees u (more_trees v vs)) t e = ap (more_trees u) (keep-last (more_trees v vs) t e)
+
+goal_leaf-is : (l : Leaf) → is_goal_leaf l ≡ true → l ≡ goal
+goal_leaf-is empty e = absurd (false≢true e)
+goal_leaf-is goal e = refl
+goal_leaf-is (char c) e = absurd (false≢true e)
+goal_leaf-is (byte_sequence bytes) e = absurd (false≢true e)
+goal_leaf-is (byte_set bytes) e = absurd (false≢true e)
+goal_leaf-is (char_set characters) e = absurd (false≢true e)
+goal_leaf-is match_any e = absurd (false≢true e)
+goal_leaf-is match_any_except_line_terminator e = absurd (false≢true e)
+goal_leaf-is (anchor kind multiline) e = absurd (false≢true e)
+goal_leaf-is (word_boundary invert unicode_icase) e = absurd (false≢true e)
+goal_leaf-is (bracket invert intervals) e = absurd (false≢true e)
+goal_leaf-is (back_ref group icase) e = absurd (false≢true e)
+goal_leaf-is (string_set strings icase) e = absurd (false≢true e)
+
+goal-is : (t : Tree) → is_goal t ≡ true → t ≡ leaf goal
+goal-is (leaf l) e = ap leaf (goal_leaf-is l e)
+goal-is (cat parts) e = absurd (false≢true e)
+goal-is (alt left right) e = absurd (false≢true e)
+goal-is (wrapped w body) e = absurd (false≢true e)
+
+-- what is no goal may stand inside wherever it stands
+leaf-inside : (n : ℕ) (l : Leaf) (p : Position) → is_goal_leaf l ≡ false → LeafMayStand n l p → LeafMayStand n l inside
+leaf-inside n empty p e m = tt
+leaf-inside n goal p e m = absurd (false≢true (sym e))
+leaf-inside n (char c) p e m = m
+leaf-inside n (byte_sequence bytes) p e m =
+    record { characters = m.characters; are_scalar = m.are_scalar; encoded = m.encoded; one = tt }
+leaf-inside n (byte_set bytes) p e m = record { bounded = m.bounded; small = m.small; some = tt }
+leaf-inside n (char_set characters) p e m = record { bounded = m.bounded; small = m.small; some = tt }
+leaf-inside n match_any p e m = tt
+leaf-inside n match_any_except_line_terminator p e m = tt
+leaf-inside n (anchor kind multiline) p e m = tt
+leaf-inside n (word_boundary invert unicode_icase) p e m = tt
+leaf-inside n (bracket invert intervals) p e m = record { canonical = m.canonical; some = tt }
+leaf-inside n (back_ref group icase) p e m = record { free = tt; low = m.low; high = m.high }
+leaf-inside n (string_set strings icase) p e m = record { free = tt; bounded = m.bounded }
+
+last-inside : (n : ℕ) (t : Tree) → is_goal t ≡ false → MayStand n t last → MayStand n t inside
+last-inside n (leaf l) e m = leaf-inside n l last e m
+last-inside n (cat parts) e m = m
+last-inside n (alt left right) e m = m
+last-inside n (wrapped w body) e m = m
+
+root-inside : (n : ℕ) (t : Tree) → is_goal t ≡ false → is_cat t ≡ false → MayStand n t root → MayStand n t inside
+root-inside n (leaf l) e f m = leaf-inside n l root e m
+root-inside n (cat parts) e f m = absurd (false≢true (sym f))
+root-inside n (alt left right) e f m = m
+root-inside n (wrapped w body) e f m = m
+
+inside-root : (n : ℕ) (t : Tree) → MayStand n t inside → MayStand n t root
+inside-root n t m = MayStand-from_last n t root tt (MayStand-from_last n t last tt m)
+
+-- the one part of a row, by whether it is the goal
+abbrev but_goal : Bool → Tree → Trees
+but_goal goes t = if goes then no_trees else more_trees t no_trees
+
+one-last : (n : ℕ) (t : Tree) (goes : Bool) → is_goal t ≡ goes → RowMayStand n (but_goal goes t) inside → MayStand n t last
+one-last n t true e m = subst (λ x. MayStand n x last) (sym (goal-is t e)) tt
+one-last n t false e m = MayStand-from_last n t last tt m
+
+last-one : (n : ℕ) (t : Tree) (goes : Bool) → is_goal t ≡ goes → MayStand n t last → RowMayStand n (but_goal goes t) inside
+last-one n t true e m = tt
+last-one n t false e m = last-inside n t e m
+
+row-last : (n : ℕ) (ts : Trees) → RowMayStand n (without_goal ts) inside → RowMayStand n ts last
+row-last n no_trees m = tt
+row-last n (more_trees t no_trees) m = one-last n t (is_goal t) refl m
+row-last n (more_trees t (more_trees u us)) m =
+    let parts = row-parts n t (without_goal (more_trees u us)) m in
+    (parts.0, row-last n (more_trees u us) parts.1)
+
+last-row : (n : ℕ) (ts : Trees) → RowMayStand n ts last → RowMayStand n (without_goal ts) inside
+last-row n no_trees m = tt
+last-row n (more_trees t no_trees) m = last-one n t (is_goal t) refl m
+last-row n (more_trees t (more_trees u us)) m =
+    row-cons n t (without_goal (more_trees u us)) m.0 (last-row n (more_trees u us) m.1)
+
+captures-one : (t : Tree) (goes : Bool) → is_goal t ≡ goes → captures_in_row (but_goal goes t) ≡ captures_in_row (more_trees t no_trees)
+captures-one t true e = ap (λ x. captures x ++ []) (sym (goal-is t e))
+captures-one t false e = refl
+
+captures-without : (ts : Trees) → captures_in_row (without_goal ts) ≡ captures_in_row ts
+captures-without no_trees = refl
+captures-without (more_trees t no_trees) = captures-one t (is_goal t) refl
+captures-without (more_trees t (more_trees u us)) = ap (λ cs. captures t ++ cs) (captures-without (more_trees u us))
+
+reference-one : (t : Tree) (goes : Bool) → is_goal t ≡ goes → reference_in_row (but_goal goes t) ≡ reference_in_row (more_trees t no_trees)
+reference-one t true e = ap (λ x. max (reference x) 0) (sym (goal-is t e))
+reference-one t false e = refl
+
+reference-without : (ts : Trees) → reference_in_row (without_goal ts) ≡ reference_in_row ts
+reference-without no_trees = refl
+reference-without (more_trees t no_trees) = reference-one t (is_goal t) refl
+reference-without (more_trees t (more_trees u us)) = ap (λ r. max (reference t) r) (reference-without (more_trees u us))
+
+-- The whole.
+
+pub cat-passes : (ts : Trees) (before after : GroupIds) (g : Groups) → PassesAt inside (cat (without_goal ts)) before after g →
+    PassesAt root (cat ts) before after g
+cat-passes ts before after g p =
+    Passes-as _ _ _ (λ s. (s.0, (tt, row-last s.0 ts s.1.1))) (captures-without ts) (reference-without ts) p
+
+pub cat-fails : (ts : Trees) (before : GroupIds) → FailsAt inside (cat (without_goal ts)) before → FailsAt root (cat ts) before
+cat-fails ts before f = Fails-as _ _ (λ s. (s.0, (tt, last-row s.0 ts s.1.1))) (captures-without ts) f
+
+pub other-passes : (t : Tree) (before after : GroupIds) (g : Groups) → PassesAt inside t before after g → PassesAt root t before after g
+other-passes t before after g p = Passes-as _ _ _ (λ s. (s.0, inside-root s.0 t s.1)) refl refl p
+
+pub other-fails : (t : Tree) (before : GroupIds) → is_goal t ≡ false → is_cat t ≡ false → FailsAt inside t before → FailsAt root t before
+other-fails t before e f fails = Fails-as _ _ (λ s. (s.0, root-inside s.0 t e f s.1)) refl fails
+
+abbrev one_if : Bool → ℕ
+one_if b = if b then 1 else 0
+
+from-zero : (k n : ℕ) → one_if (nat_le 0 k && nat_lt k n) ≡ one_if (nat_lt k n)
+from-zero k n = ap (λ b. one_if (b && nat_lt k n)) (le-leb 0 k (omega arith))
+
+pub well_formed-from : (t : Tree) (before after : GroupIds) (g : Groups) → PassesAt root t before after g → fill 0 g.count g ≡ true →
+    g.reference ≤ g.count → IsWellFormed t
+well_formed-from t before after g p full low =
+    let all = all-has g (captures t) (reference t) p.told (differ-held before after (captures t) p.ids) full in
+    let rest = and_parts (nat_le 0 g.least) _ full in
+    let past = and_parts (nat_le g.past g.count) _ rest.1 in
+    record {
+      stands = MayStand-at p.stands.0 (length (captures t)) t root p.stands.1 (record {
+        references = omega (arith, all.0, low, p.told.reference);
+        ids = omega (arith, all.0, leb-true g.past g.count past.0, p.told.past);
+      });
+      ids = λ k. all.1 k ∙ from-zero k (length (captures t));
+    }
+
+pub from-well_formed : (t : Tree) (before after : GroupIds) (g : Groups) → PassesAt root t before after g → IsWellFormed t →
+    (fill 0 g.count g ≡ true) × (g.reference ≤ g.count)
+from-well_formed t before after g p w =
+    let all = has-all g (captures t) (reference t) p.told (λ k. w.ids k ∙ sym (from-zero k (length (captures t)))) in
+    let bounded = MayStand-bounded (length (captures t)) t root w.stands in
+    (all.1, omega (arith, all.0, bounded.references, p.told.reference))
+
+pub fails-well_formed : (t : Tree) (before : GroupIds) → ((k : ℕ) → holds before k ≡ false) → FailsAt root t before → IsWellFormed t → ⊥
+fails-well_formed t before none fails w =
+    fails.refuted (length (captures t), w.stands)
+    (λ k. let held : times_held before k ≡ 0 = ap one_if (none k) in
+    omega (arith, held, w.ids k, at_most_one (nat_lt k (length (captures t)))))
+  where
+    at_most_one : (b : Bool) → one_if b ≤ 1
+    at_most_one true = omega arith
+    at_most_one false = omega arith
+
+pub MatchOption-as : {T : Type 0} (r : Option T) (P P' : Type 0) (Q Q' : T → Type 0) → (P → P') → ((x : T) → Q x → Q' x) →
+    MatchOption r P Q → MatchOption r P' Q'
+MatchOption-as None P P' Q Q' p q m = p m
+MatchOption-as (Some x) P P' Q Q' p q m = q x m

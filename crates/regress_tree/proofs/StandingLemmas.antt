@@ -1,0 +1,176 @@
+-- Where parts may stand, whatever the number of capture groups.
+use Rattle.std.proofs.Common.{ℕ, ◌≤◌, List, [], ◌++◌, max, arith}
+use Rattle.regress_tree.specs.Tree.{Leaf, empty, goal, char, byte_sequence, byte_set, char_set, match_any, match_any_except_line_terminator, anchor, word_boundary, bracket, back_ref, string_set, Wrapper, capture_group, loop, loop_one, lookaround, Tree, Trees, leaf, cat, alt, wrapped, no_trees, more_trees, row_append}
+use Rattle.regress_tree.specs.WellFormed.{Capture, captures, captures_in_row, captures_of_wrapper, Position, inside, last_of, position_in, LeafMayStand, WrapperMayStand, MayStand, RowMayStand}
+use Rattle.regress_tree.specs.Survey.{past_ids, reference_of, reference, reference_in_row, StandsAt}
+use Rattle.regress_tree.proofs.SurveyLemmas.{past-append}
+
+-- A part stands where there are as many groups as it speaks of.
+
+leaf_bound : (n : ℕ) (l : Leaf) (p : Position) → LeafMayStand n l p → reference_of l ≤ n
+leaf_bound n empty p m = omega arith
+leaf_bound n goal p m = omega arith
+leaf_bound n (char c) p m = omega arith
+leaf_bound n (byte_sequence bytes) p m = omega arith
+leaf_bound n (byte_set bytes) p m = omega arith
+leaf_bound n (char_set characters) p m = omega arith
+leaf_bound n match_any p m = omega arith
+leaf_bound n match_any_except_line_terminator p m = omega arith
+leaf_bound n (anchor kind multiline) p m = omega arith
+leaf_bound n (word_boundary invert unicode_icase) p m = omega arith
+leaf_bound n (bracket invert intervals) p m = omega arith
+leaf_bound n (back_ref group icase) p m = m.high
+leaf_bound n (string_set strings icase) p m = omega arith
+
+leaf_at : (m n : ℕ) (l : Leaf) (p : Position) → LeafMayStand m l p → reference_of l ≤ n → LeafMayStand n l p
+leaf_at m n empty p s h = s
+leaf_at m n goal p s h = s
+leaf_at m n (char c) p s h = s
+leaf_at m n (byte_sequence bytes) p s h = s
+leaf_at m n (byte_set bytes) p s h = s
+leaf_at m n (char_set characters) p s h = s
+leaf_at m n match_any p s h = s
+leaf_at m n match_any_except_line_terminator p s h = s
+leaf_at m n (anchor kind multiline) p s h = s
+leaf_at m n (word_boundary invert unicode_icase) p s h = s
+leaf_at m n (bracket invert intervals) p s h = s
+leaf_at m n (back_ref group icase) p s h = record { free = s.free; low = s.low; high = h }
+leaf_at m n (string_set strings icase) p s h = s
+
+pub record Bounded (n referred : ℕ) (cs : List Capture) : Type 0 where
+  pub references : referred ≤ n
+  pub ids : past_ids cs ≤ n
+
+bounded-both : (n r q : ℕ) (cs ds : List Capture) → Bounded n r cs → Bounded n q ds → Bounded n (max r q) (cs ++ ds)
+bounded-both n r q cs ds a b = record {
+  references = omega (arith, a.references, b.references);
+  ids = omega (arith, a.ids, b.ids, past-append cs ds);
+}
+
+bounded-first : (n r q : ℕ) (cs ds : List Capture) → Bounded n (max r q) (cs ++ ds) → Bounded n r cs
+bounded-first n r q cs ds a = record { references = omega (arith, a.references); ids = omega (arith, a.ids, past-append cs ds) }
+
+bounded-second : (n r q : ℕ) (cs ds : List Capture) → Bounded n (max r q) (cs ++ ds) → Bounded n q ds
+bounded-second n r q cs ds a = record { references = omega (arith, a.references); ids = omega (arith, a.ids, past-append cs ds) }
+
+bounded-wrapper : (n : ℕ) (w : Wrapper) (body : Tree) → WrapperMayStand n w body → Bounded n (reference body) (captures body) →
+    Bounded n (reference body) (captures_of_wrapper w ++ captures body)
+bounded-wrapper n (capture_group id name) body m b =
+    record { references = b.references; ids = omega (arith, m.0, b.ids) }
+bounded-wrapper n (loop quantifier start end) body m b = b
+bounded-wrapper n (loop_one quantifier) body m b = b
+bounded-wrapper n (lookaround negate backwards start end) body m b = b
+
+mutual
+  pub MayStand-bounded : (n : ℕ) (t : Tree) (p : Position) → MayStand n t p → Bounded n (reference t) (captures t)
+  MayStand-bounded n (leaf l) p m = record { references = leaf_bound n l p m; ids = omega arith }
+  MayStand-bounded n (cat parts) p m = RowMayStand-bounded n parts (last_of p) m.1
+  MayStand-bounded n (alt left right) p m =
+      bounded-both n (reference left) (reference right) (captures left) (captures right)
+      (MayStand-bounded n left inside m.1) (MayStand-bounded n right inside m.2)
+  MayStand-bounded n (wrapped w body) p m = bounded-wrapper n w body m.1 (MayStand-bounded n body (position_in w) m.2)
+
+  RowMayStand-bounded : (n : ℕ) (ts : Trees) (p : Position) → RowMayStand n ts p → Bounded n (reference_in_row ts) (captures_in_row ts)
+  RowMayStand-bounded n no_trees p m = record { references = omega arith; ids = omega arith }
+  RowMayStand-bounded n (more_trees t no_trees) p m =
+      bounded-both n (reference t) 0 (captures t) [] (MayStand-bounded n t p m) (record { references = omega arith; ids = omega arith })
+  RowMayStand-bounded n (more_trees t (more_trees u us)) p m =
+      bounded-both n (reference t) (reference_in_row (more_trees u us)) (captures t) (captures_in_row (more_trees u us))
+      (MayStand-bounded n t inside m.0) (RowMayStand-bounded n (more_trees u us) p m.1)
+
+wrapper_at : (m n : ℕ) (w : Wrapper) (body : Tree) → WrapperMayStand m w body →
+    Bounded n (reference body) (captures_of_wrapper w ++ captures body) → WrapperMayStand n w body
+wrapper_at m n (capture_group id name) body s b = (omega (arith, b.ids), s.1)
+wrapper_at m n (loop quantifier start end) body s b = s
+wrapper_at m n (loop_one quantifier) body s b = s
+wrapper_at m n (lookaround negate backwards start end) body s b = s
+
+bounded-inside : (n : ℕ) (w : Wrapper) (body : Tree) → Bounded n (reference body) (captures_of_wrapper w ++ captures body) →
+    Bounded n (reference body) (captures body)
+bounded-inside n w body b =
+    record { references = b.references; ids = omega (arith, b.ids, past-append (captures_of_wrapper w) (captures body)) }
+
+mutual
+  pub MayStand-at : (m n : ℕ) (t : Tree) (p : Position) → MayStand m t p → Bounded n (reference t) (captures t) → MayStand n t p
+  MayStand-at m n (leaf l) p s b = leaf_at m n l p s b.references
+  MayStand-at m n (cat parts) p s b = (s.0, RowMayStand-at m n parts (last_of p) s.1 b)
+  MayStand-at m n (alt left right) p s b = (
+    s.0,
+    MayStand-at m n left inside s.1 (bounded-first n (reference left) (reference right) (captures left) (captures right) b),
+    MayStand-at m n right inside s.2 (bounded-second n (reference left) (reference right) (captures left) (captures right) b),
+  )
+  MayStand-at m n (wrapped w body) p s b =
+      (s.0, wrapper_at m n w body s.1 b, MayStand-at m n body (position_in w) s.2 (bounded-inside n w body b))
+
+  RowMayStand-at : (m n : ℕ) (ts : Trees) (p : Position) → RowMayStand m ts p → Bounded n (reference_in_row ts) (captures_in_row ts) →
+      RowMayStand n ts p
+  RowMayStand-at m n no_trees p s b = tt
+  RowMayStand-at m n (more_trees t no_trees) p s b =
+      MayStand-at m n t p s (bounded-first n (reference t) 0 (captures t) [] b)
+  RowMayStand-at m n (more_trees t (more_trees u us)) p s b = (
+    MayStand-at m n t inside s.0
+        (bounded-first n (reference t) (reference_in_row (more_trees u us)) (captures t) (captures_in_row (more_trees u us)) b),
+    RowMayStand-at m n (more_trees u us) p s.1
+        (bounded-second n (reference t) (reference_in_row (more_trees u us)) (captures t) (captures_in_row (more_trees u us)) b),
+  )
+
+bounded-more : (m n r : ℕ) (cs : List Capture) → m ≤ n → Bounded m r cs → Bounded n r cs
+bounded-more m n r cs h b = record { references = omega (arith, b.references); ids = omega (arith, b.ids) }
+
+pub MayStand-more : (m n : ℕ) (t : Tree) (p : Position) → m ≤ n → MayStand m t p → MayStand n t p
+MayStand-more m n t p h s = MayStand-at m n t p s (bounded-more m n _ _ h (MayStand-bounded m t p s))
+
+pub RowMayStand-more_groups : (m n : ℕ) (ts : Trees) (p : Position) → m ≤ n → RowMayStand m ts p → RowMayStand n ts p
+RowMayStand-more_groups m n ts p h s = RowMayStand-at m n ts p s (bounded-more m n _ _ h (RowMayStand-bounded m ts p s))
+
+-- Two parts.
+
+pub stands-alt : (left right : Tree) → StandsAt inside left × StandsAt inside right → StandsAt inside (alt left right)
+stands-alt left right (a, b) =
+    (max a.0 b.0, (tt, MayStand-more a.0 _ left inside (omega arith) a.1, MayStand-more b.0 _ right inside (omega arith) b.1))
+
+pub sides-stand : (left right : Tree) → StandsAt inside (alt left right) → StandsAt inside left × StandsAt inside right
+sides-stand left right s = ((s.0, s.1.1), (s.0, s.1.2))
+
+pub row-cons : (n : ℕ) (t : Tree) (ts : Trees) → MayStand n t inside → RowMayStand n ts inside → RowMayStand n (more_trees t ts) inside
+row-cons n t no_trees a b = a
+row-cons n t (more_trees u us) a b = (a, b)
+
+pub row-parts : (n : ℕ) (t : Tree) (ts : Trees) → RowMayStand n (more_trees t ts) inside → MayStand n t inside × RowMayStand n ts inside
+row-parts n t no_trees s = (s, tt)
+row-parts n t (more_trees u us) s = s
+
+row-join : (n : ℕ) (ts us : Trees) → RowMayStand n ts inside → RowMayStand n us inside → RowMayStand n (row_append ts us) inside
+row-join n no_trees us a b = b
+row-join n (more_trees t ts) us a b =
+    let parts = row-parts n t ts a in
+    row-cons n t (row_append ts us) parts.0 (row-join n ts us parts.1 b)
+
+row-split : (n : ℕ) (ts us : Trees) → RowMayStand n (row_append ts us) inside → RowMayStand n ts inside × RowMayStand n us inside
+row-split n no_trees us s = (tt, s)
+row-split n (more_trees t ts) us s =
+    let parts = row-parts n t (row_append ts us) s in
+    let rest = row-split n ts us parts.1 in
+    (row-cons n t ts parts.0 rest.0, rest.1)
+
+pub stands-append : (ts us : Trees) → StandsAt inside (cat ts) × StandsAt inside (cat us) → StandsAt inside (cat (row_append ts us))
+stands-append ts us (a, b) =
+    let n = max a.0 b.0 in (
+      n,
+      (
+        tt,
+        row-join n ts us (RowMayStand-more_groups a.0 n ts inside (omega arith) a.1.1)
+            (RowMayStand-more_groups b.0 n us inside (omega arith) b.1.1),
+      ),
+    )
+
+pub rows-stand : (ts us : Trees) → StandsAt inside (cat (row_append ts us)) → StandsAt inside (cat ts) × StandsAt inside (cat us)
+rows-stand ts us s =
+    let parts = row-split s.0 ts us s.1.1 in
+    ((s.0, (tt, parts.0)), (s.0, (tt, parts.1)))
+
+pub stands-single : (t : Tree) → StandsAt inside t → StandsAt inside (cat (more_trees t no_trees))
+stands-single t s = (s.0, (tt, s.1))
+
+pub single-stands : (t : Tree) → StandsAt inside (cat (more_trees t no_trees)) → StandsAt inside t
+single-stands t s = (s.0, s.1.1)

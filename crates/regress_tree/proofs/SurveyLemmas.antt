@@ -1,0 +1,114 @@
+-- What one pass over a tree gathers, composed.
+use Rattle.std.proofs.Common.{◌≡◌, ℕ, ◌+◌, ◌<◌, ◌≤◌, ◌==◌, Bool, true, false, ◌||◌, List, [], ◌∷◌, ◌++◌, min, max, refl, sym, ap, subst, ◌∙◌, inl, inr, length-append, arith}
+use Rattle.std.specs.Prelude.{if◌then◌else◌}
+use Rattle.std.proofs.lemmas.Bool.{cases_eq, ne_eqb, eq-eqb}
+use Rattle.regress_tree.specs.declared.ir.groups.GroupIds.{GroupIds}
+use Rattle.regress_tree.specs.declared.ir.groups.Groups.{Groups}
+use Rattle.regress_tree.specs.WellFormed.{Capture}
+use Rattle.regress_tree.specs.Survey.{holds, times_held, times, least_id, past_ids, Tells, joined, one, Passes, Fails}
+use Rattle.regress_tree.proofs.IdLemmas.{times-append, Differ}
+
+-- What is told, of two parts.
+
+least-append : (cs ds : List Capture) → least_id (cs ++ ds) ≡ min (least_id cs) (least_id ds)
+least-append [] ds = omega (arith, least-bound ds)
+  where
+    least-bound : (ds : List Capture) → least_id ds ≤ 65536
+    least-bound [] = omega arith
+    least-bound (d ∷ ds) = omega (arith, least-bound ds)
+least-append (c ∷ cs) ds = omega (arith, least-append cs ds)
+
+pub past-append : (cs ds : List Capture) → past_ids (cs ++ ds) ≡ max (past_ids cs) (past_ids ds)
+past-append [] ds = omega arith
+past-append (c ∷ cs) ds = omega (arith, past-append cs ds)
+
+pub Tells-joined : (g h : Groups) (cs ds : List Capture) (r q : ℕ) → Tells g cs r → Tells h ds q → Tells (joined g h) (cs ++ ds) (max r q)
+Tells-joined g h cs ds r q a b = record {
+  count = omega (arith, a.count, b.count, length-append cs ds);
+  least = omega (arith, a.least, b.least, least-append cs ds);
+  past = omega (arith, a.past, b.past, past-append cs ds);
+  past_in_range = omega (arith, a.past_in_range, b.past_in_range);
+  reference = omega (arith, a.reference, b.reference);
+}
+
+pub Tells-one : (id : ℕ) (c : Capture) → c.id ≡ id → id < 65536 → Tells (one id) (c ∷ []) 0
+Tells-one id c same small = record {
+  count = refl;
+  least = omega arith;
+  past = omega arith;
+  past_in_range = omega arith;
+  reference = refl;
+}
+
+-- Two parts, one after the other.
+
+module _ {A B : Type 0} {cs ds : List Capture} {r q : ℕ} {before mid after : GroupIds} {g h : Groups} where
+  pub Passes-then : Passes A cs r before mid g → Passes B ds q mid after h → Passes (A × B) (cs ++ ds) (max r q) before after (joined g h)
+  Passes-then a b = record {
+    stands = (a.stands, b.stands);
+    ids = λ k. omega (arith, a.ids k, b.ids k, times-append k cs ds);
+    told = Tells-joined g h cs ds r q a.told b.told;
+  }
+
+-- a second part that fails
+pub Fails-second : {A B : Type 0} {cs ds : List Capture} {r : ℕ} {before mid : GroupIds} {g : Groups} → Passes A cs r before mid g →
+    Fails B ds mid → Fails (A × B) (cs ++ ds) before
+Fails-second {cs = cs} {ds = ds} a b = record {
+  refuted = λ stands differ. b.refuted stands.1 (λ k. omega (arith, a.ids k, differ k, times-append k cs ds));
+}
+
+-- or the first
+pub Fails-first : {A : Type 0} {cs : List Capture} {before : GroupIds} (B : Type 0) (ds : List Capture) → Fails A cs before →
+    Fails (A × B) (cs ++ ds) before
+Fails-first {cs = cs} B ds a = record {
+  refuted = λ stands differ. a.refuted stands.0 (λ k. omega (arith, differ k, times-append k cs ds));
+}
+
+-- The same under another name.
+
+pub Passes-as : {A : Type 0} {cs : List Capture} {r : ℕ} {before after : GroupIds} {g : Groups} (B : Type 0) (ds : List Capture) (q : ℕ) →
+    (A → B) → cs ≡ ds → r ≡ q → Passes A cs r before after g → Passes B ds q before after g
+Passes-as {r = r} {before = before} {after = after} {g = g} B ds q from same same' p =
+    subst (λ s. Passes B ds s before after g) same'
+    (subst (λ l. Passes B l r before after g) same (record { stands = from p.stands; ids = p.ids; told = p.told }))
+
+pub Fails-as : {A : Type 0} {cs : List Capture} {before : GroupIds} (B : Type 0) (ds : List Capture) → (B → A) → cs ≡ ds →
+    Fails A cs before → Fails B ds before
+Fails-as {before = before} B ds to same fails =
+    subst (λ l. Fails B l before) same (record { refuted = λ stands differ. fails.refuted (to stands) differ })
+
+-- Where there is no group.
+
+pub Passes-none : {A : Type 0} {r : ℕ} {ids : GroupIds} {g : Groups} → A → Tells g [] r → Passes A [] r ids ids g
+Passes-none stands told = record { stands = stands; ids = λ k. omega arith; told = told }
+
+-- what passes has ids that differ
+pub differ-held : (before after : GroupIds) (cs : List Capture) → ((k : ℕ) → times_held after k ≡ times_held before k + times k cs) → Differ cs
+differ-held before after cs ids k = omega (arith, ids k, held_once (holds after k))
+  where
+    held_once : (b : Bool) → (if b then 1 else 0) ≤ 1
+    held_once true = omega arith
+    held_once false = omega arith
+
+-- One id more.
+
+pub held-insert : (before after : GroupIds) (c : Capture) → holds before c.id ≡ false →
+    ((k : ℕ) → holds after k ≡ ((k == c.id) || holds before k)) → (k : ℕ) →
+    times_held after k ≡ times_held before k + times k (c ∷ [])
+held-insert before after c fresh more k =
+    elim (cases_eq k c.id) [
+      | inl e ↦
+          let old : holds before k ≡ false = ap (holds before) e ∙ fresh in
+          rw (more k, old, eq-eqb k c.id e, eq-eqb c.id k (sym e))
+      | inr ne ↦ rw (more k, ne_eqb k c.id ne, ne_eqb c.id k (λ e. ne (sym e))) (omega arith)
+    ]
+
+pub fails-held : {A : Type 0} (before : GroupIds) (c : Capture) (cs : List Capture) → holds before c.id ≡ true → Fails A (c ∷ cs) before
+fails-held before c cs there = record {
+  refuted = λ stands differ.
+      let held : times_held before c.id ≡ 1 = ap (λ b. if b then 1 else 0) there in
+      omega (arith, held, differ c.id, times-append c.id (c ∷ []) cs, once);
+}
+  where
+    once : times c.id (c ∷ []) ≡ 1
+    once = rw (eq-eqb c.id c.id refl)

@@ -1,0 +1,138 @@
+-- What one pass over a tree gathers of its capture groups and references.
+use Rattle.std.specs.Prelude.{◌≡◌, ℕ, ◌+◌, ◌≤◌, ◌-◌, ◌/◌, ◌%◌, Bool, true, false, ◌&&◌, nat_le, ◌==◌, List, [], ◌∷◌, length, count_by, min, max, Option, Some, None, slice_get, if◌then◌else◌}
+use Rattle.regress_base.specs.ByteBitmap.{contains}
+use Rattle.regress_base.specs.declared.bytesearch.bitmap.ByteBitmap.{ByteBitmap}
+use Rattle.regress_tree.specs.declared.ir.groups.GroupIds.{GroupIds}
+use Rattle.regress_tree.specs.declared.ir.groups.Groups.{Groups}
+use Rattle.regress_tree.specs.Tree.{Leaf, empty, goal, char, byte_sequence, byte_set, char_set, match_any, match_any_except_line_terminator, anchor, word_boundary, bracket, back_ref, string_set, Tree, Trees, leaf, cat, alt, wrapped, no_trees, more_trees}
+use Rattle.regress_tree.specs.WellFormed.{Capture, captures, Position, MayStand}
+
+-- Sets of ids.
+
+abbrev pub page_holds : Option ByteBitmap → ℕ → Bool
+page_holds None k = false
+page_holds (Some page) k = contains page k
+
+-- bit k % 256 of page k / 256
+unfoldable pub holds : GroupIds → ℕ → Bool
+holds ids k = page_holds (slice_get ids.pages (k / 256)) (k % 256)
+
+-- how often the set holds the id
+abbrev pub times_held : GroupIds → ℕ → ℕ
+times_held ids k = if holds ids k then 1 else 0
+
+-- how many groups have the id
+abbrev pub times : ℕ → List Capture → ℕ
+times k cs = count_by (λ c. c.id == k) cs
+
+-- What is gathered.
+
+-- the least id, and one past the greatest; 65536 and 0 where there is none
+abbrev pub least_id : List Capture → ℕ
+least_id [] = 65536
+least_id (c ∷ cs) = min c.id (least_id cs)
+
+abbrev pub past_ids : List Capture → ℕ
+past_ids [] = 0
+past_ids (c ∷ cs) = max (c.id + 1) (past_ids cs)
+
+abbrev pub reference_of : Leaf → ℕ
+reference_of empty = 0
+reference_of goal = 0
+reference_of (char c) = 0
+reference_of (byte_sequence bytes) = 0
+reference_of (byte_set bytes) = 0
+reference_of (char_set characters) = 0
+reference_of match_any = 0
+reference_of match_any_except_line_terminator = 0
+reference_of (anchor kind multiline) = 0
+reference_of (word_boundary invert unicode_icase) = 0
+reference_of (bracket invert intervals) = 0
+reference_of (back_ref group icase) = group
+reference_of (string_set strings icase) = 0
+
+-- the greatest group that is referred to, counted from 1
+abbrev mutual
+  pub reference : Tree → ℕ
+  reference (leaf l) = reference_of l
+  reference (cat parts) = reference_in_row parts
+  reference (alt left right) = max (reference left) (reference right)
+  reference (wrapped w body) = reference body
+
+  pub reference_in_row : Trees → ℕ
+  reference_in_row no_trees = 0
+  reference_in_row (more_trees t ts) = max (reference t) (reference_in_row ts)
+
+-- what is told of these groups and of the greatest reference beside them
+pub record Tells (g : Groups) (cs : List Capture) (referred : ℕ) : Type 0 where
+  pub count : g.count ≡ min (length cs) 0xFFFFFFFF
+  pub least : g.least ≡ least_id cs
+  pub past : g.past ≡ past_ids cs
+  pub past_in_range : g.past ≤ 65536
+  pub reference : g.reference ≡ referred
+
+-- what is told of two parts
+abbrev pub joined : Groups → Groups → Groups
+joined g h = record {
+  count = min (g.count + h.count) 0xFFFFFFFF;
+  least = min g.least h.least;
+  past = max g.past h.past;
+  reference = max g.reference h.reference;
+}
+
+-- one group
+abbrev pub one : ℕ → Groups
+one id = record { count = 1; least = id; past = id + 1; reference = 0 }
+
+-- none lies outside of start to end - 1, and there are as many
+abbrev pub fill : (start end : ℕ) → Groups → Bool
+fill start end g = nat_le start g.least && (nat_le g.past end && (g.count == end - start))
+
+-- The part may stand, none of its groups has an id that was there before or another one has, and the ids are now there too.
+pub record Passes (Stands : Type 0) (cs : List Capture) (referred : ℕ) (before after : GroupIds) (g : Groups) : Type 0 where
+  pub stands : Stands
+  pub ids : (k : ℕ) → times_held after k ≡ times_held before k + times k cs
+  pub told : Tells g cs referred
+
+-- It may not stand, or some id comes twice.
+pub record Fails (Stands : Type 0) (cs : List Capture) (before : GroupIds) : Type 0 where
+  pub refuted : Stands → ((k : ℕ) → times_held before k + times k cs ≤ 1) → ⊥
+
+-- it may stand there in a tree of enough capture groups
+abbrev pub StandsAt : Position → Tree → Type 0
+StandsAt p t = (n : ℕ) × MayStand n t p
+
+abbrev pub PassesAt : Position → Tree → GroupIds → GroupIds → Groups → Type 0
+PassesAt p t = Passes (StandsAt p t) (captures t) (reference t)
+
+abbrev pub FailsAt : Position → Tree → GroupIds → Type 0
+FailsAt p t = Fails (StandsAt p t) (captures t)
+
+-- The goal at the end.
+
+abbrev pub is_goal_leaf : Leaf → Bool
+is_goal_leaf empty = false
+is_goal_leaf goal = true
+is_goal_leaf (char c) = false
+is_goal_leaf (byte_sequence bytes) = false
+is_goal_leaf (byte_set bytes) = false
+is_goal_leaf (char_set characters) = false
+is_goal_leaf match_any = false
+is_goal_leaf match_any_except_line_terminator = false
+is_goal_leaf (anchor kind multiline) = false
+is_goal_leaf (word_boundary invert unicode_icase) = false
+is_goal_leaf (bracket invert intervals) = false
+is_goal_leaf (back_ref group icase) = false
+is_goal_leaf (string_set strings icase) = false
+
+abbrev pub is_goal : Tree → Bool
+is_goal (leaf l) = is_goal_leaf l
+is_goal (cat parts) = false
+is_goal (alt left right) = false
+is_goal (wrapped w body) = false
+
+-- the row, but for a goal that is its last part
+abbrev pub without_goal : Trees → Trees
+without_goal no_trees = no_trees
+without_goal (more_trees t no_trees) = if is_goal t then no_trees else more_trees t no_trees
+without_goal (more_trees t (more_trees u us)) = more_trees t (without_goal (more_trees u us))

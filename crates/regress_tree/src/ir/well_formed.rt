@@ -1,0 +1,272 @@
+//! Whether a tree is well formed.
+ghost use Rattle.std.specs.Prelude.{◌≡◌, ◌↔◌, true, false, [], IsTrue, MatchOption, IfSome, All, map, option_map, string_bytes, ◌≢◌, ◌≤◌};
+ghost use Rattle.std.specs.Box.{boxed_slice_items};
+ghost use Rattle.regress_base.specs.Intervals.{code_point_max};
+ghost use Rattle.regress_tree.specs.Tree.{tree, trees, cat};
+ghost use Rattle.regress_tree.specs.WellFormed.{IsQuantifier, IsSmallSet, AreUtf8, root, inside, one_character};
+ghost use Rattle.regress_tree.specs.Spine.{is_alt};
+ghost use Rattle.regress_tree.specs.Copies.{is_leaf};
+ghost use Rattle.regress_tree.specs.Survey.{Tells, reference, StandsAt, PassesAt, FailsAt, is_goal, without_goal};
+
+use super::brackets::accepts_none;
+use super::groups::{GroupIds, Groups};
+use super::node::{Node, Quantifier, Regex};
+use regress_base::codepointset::{CODE_POINT_MAX, is_canonical};
+use regress_base::types::{CaptureGroupName, MAX_CHAR_SET_LENGTH};
+use std::boxed::BoxedSlice;
+use std::str;
+
+impl Regex {
+    ghost use Rattle.std.specs.Prelude.{◌↔◌, IsTrue};
+    ghost use Rattle.regress_tree.specs.Tree.{tree};
+    ghost use Rattle.regress_tree.specs.WellFormed.{IsWellFormed};
+
+    /// Whether the tree is well formed: each part may stand where it does, and the ids of its n capture groups
+    /// are 0 to n - 1, each once. Each parsed tree is. It takes one pass over the tree, and no memory: 8 KiB of
+    /// stack tell which ids have come.
+    pub fn is_well_formed(&self) -> bool
+        ensures { IsTrue result ↔ IsWellFormed (tree self.now.node) }
+    {
+        let mut ids = GroupIds::new();
+        match survey_root(&self.node, &mut ids) {
+            Some(groups) => groups.are(0, groups.count) && groups.reference <= groups.count,
+            None => false,
+        }
+    }
+}
+
+/// Goes over a whole tree. It answers None where a part may not stand where it does or an id comes twice,
+/// whatever else there is.
+fn survey_root(node: &Node, ids: &mut GroupIds) -> Option<Groups>
+    ensures { MatchOption result (FailsAt root (tree node.now) ids.old) (PassesAt root (tree node.now) ids.old ids.new) }
+{
+    match node {
+        Node::Goal => Some(Groups::none(0)),
+        Node::Cat(parts) => survey_parts(without_goal(parts), ids),
+        _ => survey(node, ids),
+    }
+}
+
+/// The parts of a `Cat` that is the root, but for the goal at the end.
+fn without_goal(parts: &[Node]) -> &[Node]
+    ensures { trees result.now ≡ without_goal (trees parts.now) }
+{
+    let Some((last, others)) = parts.split_last() else {
+        return parts;
+    };
+    if is_goal(last) { others } else { parts }
+}
+
+fn is_goal(node: &Node) -> bool
+    ensures { result ≡ is_goal (tree node.now) }
+{
+    matches!(node, Node::Goal)
+}
+
+/// Goes over a part that stands inside. It goes down the right sides of alternatives in a loop: there may be
+/// as many levels as alternatives.
+#[cycle(survey)]
+fn survey(node: &Node, ids: &mut GroupIds) -> Option<Groups>
+    ensures { MatchOption result (FailsAt inside (tree node.now) ids.old) (PassesAt inside (tree node.now) ids.old ids.new) }
+{
+    let mut node = node;
+    let mut groups = Groups::none(0);
+    while let Node::Alt(left, right) = node {
+        groups = groups.join(survey(left, ids)?);
+        node = right;
+    }
+    Some(groups.join(survey_other(node, ids)?))
+}
+
+/// Goes over the parts of a `Cat`.
+#[cycle(survey)]
+fn survey_parts(parts: &[Node], ids: &mut GroupIds) -> Option<Groups>
+    ensures { MatchOption result (FailsAt inside (cat (trees parts.now)) ids.old)
+        (PassesAt inside (cat (trees parts.now)) ids.old ids.new) }
+{
+    let mut groups = Groups::none(0);
+    for part in parts {
+        groups = groups.join(survey(part, ids)?);
+    }
+    Some(groups)
+}
+
+/// Goes over a part that is no `Alt`.
+#[cycle(survey)]
+fn survey_other(node: &Node, ids: &mut GroupIds) -> Option<Groups>
+    requires { is_alt (tree node.now) ≡ false }
+    ensures { MatchOption result (FailsAt inside (tree node.now) ids.old) (PassesAt inside (tree node.now) ids.old ids.new) }
+{
+    match node {
+        Node::Cat(parts) => survey_parts(parts, ids),
+        Node::CaptureGroup { id, contents, name } => {
+            if !is_name(name) || !ids.insert(*id) {
+                return None;
+            }
+            Some(survey(contents, ids)?.with(*id))
+        }
+        Node::Loop {
+            loopee,
+            quant,
+            enclosed_groups,
+        } => {
+            let (start, end) = (enclosed_groups.start, enclosed_groups.end);
+            let groups = survey(loopee, ids)?;
+            if is_quantifier(quant) && groups.are(u32::from(start), u32::from(end)) {
+                Some(groups)
+            } else {
+                None
+            }
+        }
+        Node::Loop1CharBody { loopee, quant } => {
+            if is_quantifier(quant) && is_one_character(loopee) {
+                Some(Groups::none(0))
+            } else {
+                None
+            }
+        }
+        Node::LookaroundAssertion {
+            start_group,
+            end_group,
+            contents,
+            ..
+        } => {
+            let (start, end) = (*start_group, *end_group);
+            let groups = survey(contents, ids)?;
+            if groups.are(u32::from(start), u32::from(end)) {
+                Some(groups)
+            } else {
+                None
+            }
+        }
+        _ => survey_leaf(node),
+    }
+}
+
+/// Goes over a part that holds no node.
+fn survey_leaf(node: &Node) -> Option<Groups>
+    requires { is_leaf (tree node.now) ≡ true }
+    ensures { MatchOption result (StandsAt inside (tree node.now) → ⊥)
+        (λ groups. StandsAt inside (tree node.now) × Tells groups [] (reference (tree node.now))) }
+{
+    if !leaf_stands(node) {
+        return None;
+    }
+    Some(Groups::none(match node {
+        Node::BackRef { group, .. } => *group,
+        _ => 0,
+    }))
+}
+
+/// Whether a part that holds no node may stand inside, if there are enough groups.
+fn leaf_stands(node: &Node) -> bool
+    requires { is_leaf (tree node.now) ≡ true }
+    ensures { IsTrue result ↔ StandsAt inside (tree node.now) }
+{
+    match node {
+        Node::Empty
+        | Node::MatchAny
+        | Node::MatchAnyExceptLineTerminator
+        | Node::Anchor { .. }
+        | Node::WordBoundary { .. } => true,
+        Node::Goal => false,
+        Node::Char { c } => *c <= CODE_POINT_MAX,
+        Node::ByteSequence(bytes) => is_encoded(bytes),
+        Node::ByteSet(bytes) => is_byte_set(bytes),
+        Node::CharSet(characters) => is_char_set(characters),
+        Node::Bracket(contents) => is_canonical(contents.cps.intervals()),
+        Node::BackRef { group, .. } => *group >= 1,
+        Node::StringSet { alternatives, .. } => are_strings(alternatives),
+        Node::Cat(_)
+        | Node::Alt(..)
+        | Node::CaptureGroup { .. }
+        | Node::Loop { .. }
+        | Node::Loop1CharBody { .. }
+        | Node::LookaroundAssertion { .. } => unreachable!(),
+    }
+}
+
+/// Whether it may be the body of a loop over one character.
+fn is_one_character(node: &Node) -> bool
+    ensures { IsTrue result ↔ StandsAt one_character (tree node.now) }
+{
+    match node {
+        Node::Char { c } => *c <= CODE_POINT_MAX,
+        Node::ByteSequence(bytes) => is_encoded_character(bytes),
+        Node::ByteSet(bytes) => !bytes.is_empty() && is_byte_set(bytes),
+        Node::CharSet(characters) => !characters.is_empty() && is_char_set(characters),
+        Node::MatchAny | Node::MatchAnyExceptLineTerminator => true,
+        Node::Bracket(contents) => !accepts_none(contents),
+        _ => false,
+    }
+}
+
+/// Whether the name, if there is one, is not empty.
+fn is_name(name: &Option<CaptureGroupName>) -> bool
+    ensures { IsTrue result ↔ IfSome (option_map string_bytes name.now) (λ bytes. bytes ≢ []) }
+{
+    match name {
+        Some(name) => !name.is_empty(),
+        None => true,
+    }
+}
+
+/// Whether the least number is not above the greatest.
+fn is_quantifier(quant: &Quantifier) -> bool
+    ensures { IsTrue result ↔ IsQuantifier quant.now }
+{
+    match quant.max {
+        Some(max) => quant.min <= max,
+        None => true,
+    }
+}
+
+/// Whether the bytes are the UTF-8 of characters.
+fn is_encoded(bytes: &[u8]) -> bool
+    ensures { IsTrue result ↔ AreUtf8 bytes.now inside }
+{
+    str::from_utf8(bytes).is_ok()
+}
+
+/// Whether the bytes are the UTF-8 of one character.
+fn is_encoded_character(bytes: &[u8]) -> bool
+    ensures { IsTrue result ↔ AreUtf8 bytes.now one_character }
+{
+    match str::from_utf8(bytes) {
+        Ok(text) => text.chars().count() == 1,
+        Err(_) => false,
+    }
+}
+
+/// Whether the bytes are at most four and ASCII.
+fn is_byte_set(bytes: &[u8]) -> bool
+    ensures { IsTrue result ↔ IsSmallSet bytes.now 127 inside }
+{
+    bytes.len() <= MAX_CHAR_SET_LENGTH && bytes.iter().all(|b| *b <= 0x7F)
+}
+
+/// Whether they are at most four code points.
+fn is_char_set(characters: &[u32]) -> bool
+    ensures { IsTrue result ↔ IsSmallSet characters.now code_point_max inside }
+{
+    characters.len() <= MAX_CHAR_SET_LENGTH && are_code_points(characters)
+}
+
+/// Whether all are code points.
+fn are_code_points(characters: &[u32]) -> bool
+    ensures { IsTrue result ↔ All (λ c. c ≤ code_point_max) characters.now }
+{
+    characters.iter().all(|c| *c <= CODE_POINT_MAX)
+}
+
+/// Whether all are strings of code points.
+fn are_strings(strings: &[BoxedSlice<u32>]) -> bool
+    ensures { IsTrue result ↔ All (All (λ c. c ≤ code_point_max)) (map boxed_slice_items strings.now) }
+{
+    for string in strings {
+        if !are_code_points(string) {
+            return false;
+        }
+    }
+    true
+}
