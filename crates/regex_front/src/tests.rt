@@ -257,10 +257,10 @@ fn arguments_are_utf_8(rt: HostRuntime) -> Result<(), Fail> {
 }
 
 /// The program with these arguments ends so, and writes this to its output and its other writer.
-fn expect_end(
+fn expect_end<'a>(
     rt: &impl Abort,
     alloc: Global,
-    words: &[&[u8]],
+    words: &'a [&'a [u8]],
     status: u8,
     out: &str,
     err: &str,
