@@ -8,7 +8,7 @@ use Rattle.regress_tree.specs.Measures.{Measure, total_in_row}
 use Rattle.regress_tree.specs.Matching.{steps, steps_in_row}
 use Rattle.regress_tree.specs.Reading.{Direction}
 use Rattle.regress_tree.specs.Setting.{Setting}
-use Rattle.regress_tree.specs.Shapes.{some_node, some_node_in_row, is_simplified_away, RowLacksShape}
+use Rattle.regress_tree.specs.Shapes.{some_node, some_node_in_row, some_in_row, is_simplified_away, RowLacksShape}
 use Rattle.regress_tree.specs.Steps.{State, stay}
 use Rattle.regress_tree.specs.Tree.{Tree, Trees, cat, no_trees, more_trees}
 use Rattle.regress_tree.specs.Units.{sizes, unrollables, weights, IsLess}
@@ -17,7 +17,7 @@ use Rattle.regress_tree.proofs.laws.Alike.{Alike-from_same}
 use Rattle.regress_tree.proofs.laws.Measures.{IsLess-lighter, weight-positive}
 use Rattle.regress_tree.proofs.laws.Rows.{RowMayStand-more}
 use Rattle.regress_rewrite.specs.Law.{Keeps}
-use Rattle.regress_rewrite.specs.Taken.{row_without, some_in_row}
+use Rattle.regress_rewrite.specs.Taken.{row_without}
 
 module _ (test : Tree → Bool) where
   -- the row with one tree more, whether it is taken out or not

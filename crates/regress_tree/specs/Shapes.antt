@@ -1,7 +1,13 @@
 -- Tests on the nodes of a tree, and the shapes that rewriting removes.
-use Rattle.std.specs.Prelude.{◌≡◌, ℕ, ◌+◌, ◌-◌, Bool, true, false, not, ◌&&◌, ◌||◌, nat_le, nat_lt, if◌then◌else◌, List, [], ◌∷◌, length}
+use Rattle.std.specs.Prelude.{◌≡◌, ℕ, ◌+◌, ◌-◌, ◌==◌, Bool, true, false, not, ◌&&◌, ◌||◌, nat_le, nat_lt, if◌then◌else◌, List, [], ◌∷◌, length, Option, Some, None}
+use Rattle.std.specs.List.{list_all}
+use lib.Utf8.{scalar}
 use Rattle.regress_base.specs.Intervals.{Bounds, code_point_max}
 use Rattle.regress_base.specs.Limits.{max_char_set_length}
+use Rattle.regress_tree.specs.declared.ir.node.Quantifier.{Quantifier}
+use Rattle.regress_tree.specs.Measures.{levels}
+use Rattle.regress_tree.specs.NodeTests.{is_none, is_empty, match_always_fails, matches_exactly_one_char}
+use Rattle.regress_tree.specs.Units.{charge}
 use Rattle.regress_tree.specs.Tree.{Leaf, empty, goal, char, byte_sequence, byte_set, char_set, match_any, match_any_except_line_terminator, anchor, word_boundary, bracket, back_ref, string_set, Wrapper, capture_group, loop, loop_one, lookaround, Tree, Trees, leaf, cat, alt, wrapped, no_trees, more_trees}
 
 module _ (test : Tree → Bool) where
@@ -49,6 +55,33 @@ on_wrapper test (leaf l) = false
 on_wrapper test (cat parts) = false
 on_wrapper test (alt left right) = false
 on_wrapper test (wrapped w body) = test w
+
+-- a `Loop` whose quantifier, group range and body pass the test
+abbrev pub on_loop : (Quantifier → (start end : ℕ) → Tree → Bool) → Tree → Bool
+on_loop test (leaf l) = false
+on_loop test (cat parts) = false
+on_loop test (alt left right) = false
+on_loop test (wrapped w body) = by w
+  where
+    by : Wrapper → Bool
+    by (capture_group id name) = false
+    by (loop quantifier start end) = test quantifier start end body
+    by (loop_one quantifier) = false
+    by (lookaround negate backwards start end) = false
+
+-- some tree of the row passes the test itself
+abbrev pub some_in_row : (Tree → Bool) → Trees → Bool
+some_in_row test no_trees = false
+some_in_row test (more_trees t ts) = test t || some_in_row test ts
+
+abbrev pub first_in_row : (Tree → Bool) → Trees → Bool
+first_in_row test no_trees = false
+first_in_row test (more_trees t ts) = test t
+
+-- two neighbours in the row pass the test
+abbrev pub has_neighbours : (Tree → Bool) → Trees → Bool
+has_neighbours test no_trees = false
+has_neighbours test (more_trees t ts) = (test t && first_in_row test ts) || has_neighbours test ts
 
 abbrev pub is_group : Wrapper → Bool
 is_group (capture_group id name) = true
@@ -151,3 +184,69 @@ is_flattened_away (leaf l) = false
 is_flattened_away (cat parts) = is_short parts || has_cat parts
 is_flattened_away (alt left right) = false
 is_flattened_away (wrapped w body) = false
+
+-- The body of this loop is copied as often as it must be matched: one to five times, and it holds no group, no loop and no
+-- `StringSet`, is charged at most 256 and has at most 101 levels.
+abbrev pub may_unroll : Quantifier → (start end : ℕ) → Tree → Bool
+may_unroll quantifier start end body =
+    nat_le end start && (nat_le 1 quantifier.min && nat_le quantifier.min 5)
+    && (not (has_loop body) && not (has_string_set body)) && (nat_le (charge body) 256 && nat_le (levels body) 101)
+
+-- What unrolling removes.
+abbrev pub is_unrolled_away : Tree → Bool
+is_unrolled_away = on_loop may_unroll
+
+-- What promotion removes: a `Loop` whose body matches exactly one character, as far as is looked at.
+abbrev pub is_promoted_away : Tree → Bool
+is_promoted_away = on_loop (λ quantifier start end body. matches_exactly_one_char body)
+
+-- a `ByteSequence` whose bytes pass the test
+abbrev pub is_byte_sequence_with : (List ℕ → Bool) → Leaf → Bool
+is_byte_sequence_with test (byte_sequence bytes) = test bytes
+is_byte_sequence_with test l = false
+
+-- a `ByteSequence` with a byte
+abbrev pub has_bytes : Tree → Bool
+has_bytes = on_leaf (is_byte_sequence_with (λ bytes. not (is_none bytes)))
+
+-- a `Char` that is a character, and a `CharSet` of ASCII alone, the empty one too
+abbrev pub is_bytes_leaf : Leaf → Bool
+is_bytes_leaf (char c) = scalar c
+is_bytes_leaf (char_set characters) = list_all (λ c. nat_le c 127) characters
+is_bytes_leaf l = false
+
+-- What forming literal bytes removes: such a leaf, and a `Cat` with two neighbours that are a `ByteSequence` with a byte.
+abbrev pub is_formed_away : Tree → Bool
+is_formed_away (leaf l) = is_bytes_leaf l
+is_formed_away (cat parts) = has_neighbours has_bytes parts
+is_formed_away (alt left right) = false
+is_formed_away (wrapped w body) = false
+
+abbrev pub is_zero : Option ℕ → Bool
+is_zero None = false
+is_zero (Some n) = n == 0
+
+-- A `Loop` with an `Empty` body, or of no turn and without groups; a lookaround for `Empty` that is not negated.
+abbrev pub is_empty_wrapper : Wrapper → Tree → Bool
+is_empty_wrapper (capture_group id name) body = false
+is_empty_wrapper (loop quantifier start end) body = is_empty body || (is_zero quantifier.max && nat_le end start)
+is_empty_wrapper (loop_one quantifier) body = false
+is_empty_wrapper (lookaround negate backwards start end) body = not negate && is_empty body
+
+-- What removing empties removes: these, a `ByteSequence` without a byte, an `Alt` of two `Empty`, and a `Cat` with an `Empty` part.
+abbrev pub is_emptied_away : Tree → Bool
+is_emptied_away (leaf l) = is_byte_sequence_with is_none l
+is_emptied_away (cat parts) = some_in_row is_empty parts
+is_emptied_away (alt left right) = is_empty left && is_empty right
+is_emptied_away (wrapped w body) = is_empty_wrapper w body
+
+-- A `Cat` with a part that always fails, an `Alt` with such a side, and a `Loop` of at least one turn with such a body.
+abbrev pub fails_by_part : Tree → Bool
+fails_by_part (leaf l) = false
+fails_by_part (cat parts) = some_in_row match_always_fails parts
+fails_by_part (alt left right) = match_always_fails left || match_always_fails right
+fails_by_part (wrapped w body) = on_loop (λ quantifier start end inner. nat_le 1 quantifier.min && match_always_fails inner) (wrapped w body)
+
+-- What propagating early failure removes: these, where no capture group is inside.
+abbrev pub is_failed_away : Tree → Bool
+is_failed_away t = fails_by_part t && not (has_group t)
