@@ -3,5 +3,6 @@
 #![tactic(auto)]
 
 pub mod caller;
+pub mod linter;
 #[cfg(test)]
 mod tests;

@@ -37,6 +37,9 @@ pub use Rattle.regress_tree.specs.Measures
 pub use Rattle.regress_tree.specs.Units
 pub use Rattle.regress_tree.specs.Shapes
 pub use Rattle.regress_tree.specs.NormalForm
+pub use Rattle.regress_tree.specs.NodeTests
+pub use Rattle.regress_tree.specs.Copies
+pub use Rattle.regress_tree.specs.Visits
 pub use Rattle.regress_tree.specs.Walk
 pub use Rattle.regress_tree.specs.Literal
 -- Patterns.

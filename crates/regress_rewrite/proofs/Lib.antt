@@ -4,7 +4,6 @@ pub mod TakenLemmas
 pub mod SweepLemmas
 pub mod SpineLemmas
 pub mod PartsLemmas
-pub mod PassLemmas
 pub mod CheckedLemmas
 pub mod FlattenLemmas
 pub mod SpliceLemmas

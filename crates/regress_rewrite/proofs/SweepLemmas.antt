@@ -7,24 +7,12 @@ use Rattle.regress_tree.specs.Reading.{Direction}
 use Rattle.regress_tree.specs.declared.ir.walker.Walk.{Walk}
 use Rattle.regress_tree.specs.Walk.{direction_of}
 use Rattle.regress_tree.specs.Tree.{Tree}
-use Rattle.regress_tree.specs.Units.{loops, weight, IsLess}
+use Rattle.regress_tree.specs.Units.{IsLess}
+use Rattle.regress_tree.proofs.laws.Falling.{IsLess-trans}
 use Rattle.regress_tree.proofs.laws.Places.{Place, put, direction_at, IsLess-put}
 use Rattle.regress_rewrite.specs.Law.{Keeps}
 use Rattle.regress_rewrite.specs.Sweep.{TellsChange, Swept}
 use Rattle.regress_rewrite.proofs.KeepsLemmas.{Keeps-trans, Keeps-put}
-
--- What falls.
-
-IsLess-trans : (t u v : Tree) → IsLess u t → IsLess v u → IsLess v t
-IsLess-trans t u v a b = record { less = by a.less b.less }
-  where
-    by : (loops u < loops t) ⊎ ((loops u ≡ loops t) × (weight u < weight t)) →
-        (loops v < loops u) ⊎ ((loops v ≡ loops u) × (weight v < weight u)) →
-        (loops v < loops t) ⊎ ((loops v ≡ loops t) × (weight v < weight t))
-    by (inl first) (inl second) = inl (omega arith)
-    by (inl first) (inr second) = inl (omega (arith, second.0))
-    by (inr first) (inl second) = inl (omega (arith, first.0))
-    by (inr first) (inr second) = inr (omega (arith, first.0, second.0), omega (arith, first.1, second.1))
 
 -- What is told of changes.
 

@@ -8,6 +8,8 @@ pub mod ByteStates
 pub mod Characters
 pub mod Classes
 pub mod Distinct
+pub mod Falling
+pub mod Gathered
 pub mod Groups
 pub mod Literals
 pub mod Measures

@@ -2,7 +2,7 @@ use Rattle.std.proofs.Common.{length}
 use Rattle.regress_tree.specs.Tree.{tree}
 use Rattle.regress_tree.specs.WellFormed.{captures, root}
 use Rattle.regress_tree.specs.Units.{account}
-use Rattle.regress_rewrite.proofs.PassLemmas.{changes_left-falls}
+use Rattle.regress_tree.proofs.laws.Falling.{changes_left-falls}
 use Rattle.regress_rewrite.proofs.pass.run_pass.Goals as goal
 
 pub loop-changed-smaller : goal.loop-changed-smaller
@@ -11,4 +11,4 @@ loop-changed-smaller g c =
     let so_far = c.loop-changed.invariant.swept.keeps in
     let n = length (captures (tree c.args.r.now.node)) in
     changes_left-falls (account (tree c.args.r.now.node)) (tree c.loop-changed.r.node) (tree c.sweep.new.node)
-    (n, root, swept.keeps.stands n root (so_far.stands n root c.requires.stands)) so_far.account swept.keeps.account swept.changed
+    n root (swept.keeps.stands n root (so_far.stands n root c.requires.stands)) so_far.account swept.keeps.account swept.changed

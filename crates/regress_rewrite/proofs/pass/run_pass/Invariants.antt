@@ -4,7 +4,7 @@ use Rattle.regress_tree.specs.Tree.{tree}
 use Rattle.regress_tree.specs.Units.{account}
 use Rattle.regress_tree.specs.Shapes.{LacksShape}
 use Rattle.regress_rewrite.specs.Sweep.{Swept}
-use Rattle.regress_rewrite.proofs.PassLemmas.{changes_left}
+use Rattle.regress_tree.proofs.laws.Falling.{changes_left}
 use Rattle.regress_rewrite.proofs.pass.run_pass.Given as goal
 
 -- each sweep so far has changed something, so nothing is known to be clean

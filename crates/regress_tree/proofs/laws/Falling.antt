@@ -1,10 +1,9 @@
--- A pass ends.
+-- What falls with every change by a rewrite, as a number: passes over a tree end.
 use Rattle.std.proofs.Common.{◌≡◌, ℕ, ◌+◌, ◌*◌, ◌<◌, ◌≤◌, ◌⊎◌, [], ◌∷◌, inl, inr, ap, arith}
 use Rattle.std.proofs.Math.Nat.{mul-le-mul_left}
 use Rattle.regress_tree.specs.Tree.{Leaf, empty, goal, char, byte_sequence, byte_set, char_set, match_any, match_any_except_line_terminator, anchor, word_boundary, bracket, back_ref, string_set, Wrapper, capture_group, loop, loop_one, lookaround, Tree}
 use Rattle.regress_base.proofs.laws.Sets.{canonical_length}
 use Rattle.regress_tree.specs.WellFormed.{Position, LeafMayStand, MayStand}
-use Rattle.regress_rewrite.specs.Law.{IsPart}
 use Rattle.regress_tree.specs.Units.{units_of_leaf, sizes, units, loops, account, weight_of_leaf, weight_of_wrapper, weights, weight, IsLess}
 use Rattle.regress_tree.proofs.laws.Measures.{total-le}
 
@@ -48,12 +47,24 @@ weight-le = total-le heaviest weights sizes (record {
 abbrev pub changes_left : ℕ → Tree → ℕ
 changes_left spent t = (heaviest * spent + 1) * loops t + weight t
 
-pub changes_left-falls : (spent : ℕ) (t u : Tree) → IsPart u → account t ≤ spent → account u ≤ account t → IsLess u t →
+pub changes_left-falls : (spent : ℕ) (t u : Tree) (n : ℕ) (p : Position) → MayStand n u p → account t ≤ spent → account u ≤ account t → IsLess u t →
     changes_left spent u < changes_left spent t
-changes_left-falls spent t u part within no_more is_less = by is_less.less
+changes_left-falls spent t u n p part within no_more is_less = by is_less.less
   where
     by : (loops u < loops t) ⊎ ((loops u ≡ loops t) × (weight u < weight t)) → changes_left spent u < changes_left spent t
     by (inl fewer) =
         let loop : loops u + 1 ≤ loops t = omega (arith, fewer) in
-        omega (arith, mul-le-mul_left (heaviest * spent + 1) loop, weight-le part.0 u part.1 part.2, within, no_more)
+        omega (arith, mul-le-mul_left (heaviest * spent + 1) loop, weight-le n u p part, within, no_more)
     by (inr lighter) = omega (arith, ap (λ k. (heaviest * spent + 1) * k) lighter.0, lighter.1)
+
+-- one change after another
+pub IsLess-trans : (t u v : Tree) → IsLess u t → IsLess v u → IsLess v t
+IsLess-trans t u v a b = record { less = by a.less b.less }
+  where
+    by : (loops u < loops t) ⊎ ((loops u ≡ loops t) × (weight u < weight t)) →
+        (loops v < loops u) ⊎ ((loops v ≡ loops u) × (weight v < weight u)) →
+        (loops v < loops t) ⊎ ((loops v ≡ loops t) × (weight v < weight t))
+    by (inl first) (inl second) = inl (omega arith)
+    by (inl first) (inr second) = inl (omega (arith, second.0))
+    by (inr first) (inl second) = inl (omega (arith, first.0))
+    by (inr first) (inr second) = inr (omega (arith, first.0, second.0), omega (arith, first.1, second.1))

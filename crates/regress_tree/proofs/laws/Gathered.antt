@@ -1,0 +1,59 @@
+-- What the calls of a walk add up to, for a caller of `walk` whose calls gather something.
+use Rattle.std.proofs.Common.{◌≡◌, ℕ, Bool, false, List, [], ◌++◌, refl, sym, ap, ap₂, subst}
+use Rattle.std.proofs.lemmas.Bool.{false≢true}
+use Rattle.regress_tree.specs.Tree.{Tree, Trees, leaf, cat, alt, wrapped, no_trees, more_trees}
+use Rattle.regress_tree.specs.WellFormed.{captures, captures_in_row, captures_of_wrapper}
+use Rattle.regress_tree.specs.Visits.{Visited, before_children, without_children, Inside, in_leaf, in_cat, in_alt, in_wrapped, RowVisited, no_more, one_more, gathered, gathered_in_row, own_group}
+
+-- Each call adds what its node has, leaves the node and skips nothing. `Added a b xs` says that the closure has gathered these
+-- between the two states.
+pub record Adds {State X : Type 0} (Call : State → Tree → ℕ → Bool → State → Tree → Bool → Type 0) (own : Tree → List X)
+    (Added : State → State → List X → Type 0) : Type 0 where
+  pub none : (a : State) → Added a a []
+  pub joined : (a b c : State) (xs ys : List X) → Added a b xs → Added b c ys → Added a c (xs ++ ys)
+  pub adds : (a b : State) (t u : Tree) (d : ℕ) (behind skip : Bool) → Call a t d behind b u skip → Added a b (own t)
+  pub leaves : (a b : State) (t u : Tree) (d : ℕ) (behind skip : Bool) → Call a t d behind b u skip → u ≡ t
+  pub goes_on : (a b : State) (t u : Tree) (d : ℕ) (behind skip : Bool) → Call a t d behind b u skip → skip ≡ false
+
+module _ {State X : Type 0} (Call : State → Tree → ℕ → Bool → State → Tree → Bool → Type 0) (own : Tree → List X)
+    (Added : State → State → List X → Type 0) (r : Adds Call own Added) where
+  mutual
+    -- a walk in preorder adds what the nodes of the tree have
+    pub visited_adds : (t u : Tree) (a b : State) (d : ℕ) (behind : Bool) → Visited Call false d behind t u a b → Added a b (gathered own t)
+    visited_adds t u a c d behind (before_children {left = left} {b = b} call inside) =
+        let same = r.leaves a b t left d behind false call in
+        let here = subst (λ (x : Tree). Added a b (own x)) (sym same) (r.adds a b t left d behind false call) in
+        subst (λ (x : Tree). Added a c (gathered own x)) same (inside_adds left u a b c d behind here inside)
+    visited_adds t u a b d behind (without_children call) = absurd (false≢true (sym (r.goes_on a b t u d behind _ call)))
+
+    inside_adds : (t u : Tree) (a b c : State) (d : ℕ) (behind : Bool) → Added a b (own t) → Inside Call false d behind t u b c →
+        Added a c (gathered own t)
+    inside_adds t u a b c d behind here in_leaf = here
+    inside_adds t u a b c d behind here (in_cat {ts = ts} {us = us} row) =
+        r.joined a b c (own t) (gathered_in_row own ts) here (row_adds ts us b c _ behind row)
+    inside_adds t u a b c d behind here (in_alt {left = left} {left' = left'} {right = right} {right' = right'} {b = m} first second) =
+        r.joined a b c (own t) _ here
+        (r.joined b m c (gathered own left) (gathered own right) (visited_adds left left' b m _ behind first)
+        (visited_adds right right' m c _ behind second))
+    inside_adds t u a b c d behind here (in_wrapped {t = body} {u = body'} inner) =
+        r.joined a b c (own t) _ here (visited_adds body body' b c _ _ inner)
+
+    row_adds : (ts us : Trees) (a b : State) (d : ℕ) (behind : Bool) → RowVisited Call false d behind ts us a b →
+        Added a b (gathered_in_row own ts)
+    row_adds ts us a b d behind no_more = r.none a
+    row_adds ts us a c d behind (one_more {t = t} {u = u} {ts = ts'} {us = us'} {b = b} first rest) =
+        r.joined a b c (gathered own t) (gathered_in_row own ts') (visited_adds t u a b d behind first) (row_adds ts' us' b c d behind rest)
+
+-- ---- capture groups
+
+mutual
+  -- those of all nodes are the tree's
+  pub gathered-groups : (t : Tree) → gathered own_group t ≡ captures t
+  gathered-groups (leaf l) = refl
+  gathered-groups (cat parts) = gathered_in_row-groups parts
+  gathered-groups (alt left right) = ap₂ ◌++◌ (gathered-groups left) (gathered-groups right)
+  gathered-groups (wrapped w body) = ap (λ cs. captures_of_wrapper w ++ cs) (gathered-groups body)
+
+  gathered_in_row-groups : (ts : Trees) → gathered_in_row own_group ts ≡ captures_in_row ts
+  gathered_in_row-groups no_trees = refl
+  gathered_in_row-groups (more_trees t ts) = ap₂ ◌++◌ (gathered-groups t) (gathered_in_row-groups ts)
