@@ -1,3 +1,4 @@
+pub mod laws
 pub mod KeepsLemmas
 pub mod LawfulLemmas
 pub mod TakenLemmas

@@ -15,7 +15,8 @@ use Rattle.regress_tree.proofs.laws.Places.{Place, among, put, LacksShape-part}
 use Rattle.regress_rewrite.specs.Law.{IsPart, Keeps}
 use Rattle.regress_rewrite.specs.Sweep.{Swept, SweptOf}
 use Rattle.regress_rewrite.proofs.KeepsLemmas.{IsPart-kept, IsPart-part}
-use Rattle.regress_rewrite.proofs.SweepLemmas.{joined, Swept-put, Swept-then}
+use Rattle.regress_rewrite.proofs.laws.Changes.{joined}
+use Rattle.regress_rewrite.proofs.SweepLemmas.{Swept-put, Swept-then}
 
 -- what the sweep of the row `initial` has made of it when it has come to part `i`
 abbrev pub PartsSwept : (Tree → Bool) → Bool → Direction → List Node → List Node → ℕ → Result Bool AllocError → Type 0

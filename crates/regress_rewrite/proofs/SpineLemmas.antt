@@ -11,7 +11,8 @@ use Rattle.regress_rewrite.specs.Law.{IsPart, Keeps}
 use Rattle.regress_rewrite.specs.Sweep.{Swept, SweptOf}
 use Rattle.regress_tree.specs.Spine.{Shifted, reattach, spine_length, LeftsLackShape}
 use Rattle.regress_rewrite.proofs.KeepsLemmas.{IsPart-kept, IsPart-part}
-use Rattle.regress_rewrite.proofs.SweepLemmas.{joined, Swept-put, Swept-then, Swept-same}
+use Rattle.regress_rewrite.proofs.laws.Changes.{joined}
+use Rattle.regress_rewrite.proofs.SweepLemmas.{Swept-put, Swept-then, Swept-same}
 use Rattle.regress_tree.proofs.laws.Measures.{LacksShape-here, LacksShape-inside, LacksShape-from}
 
 -- What stands at the end of the way, and the whole.

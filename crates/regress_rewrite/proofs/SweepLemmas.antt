@@ -12,6 +12,7 @@ use Rattle.regress_tree.proofs.laws.Falling.{IsLess-trans}
 use Rattle.regress_tree.proofs.laws.Places.{Place, put, direction_at, IsLess-put}
 use Rattle.regress_rewrite.specs.Law.{Keeps}
 use Rattle.regress_rewrite.specs.Sweep.{TellsChange, Swept}
+use Rattle.regress_rewrite.proofs.laws.Changes.{joined, joined-false, TellsChange-then}
 use Rattle.regress_rewrite.proofs.KeepsLemmas.{Keeps-trans, Keeps-put}
 
 -- What is told of changes.
@@ -21,26 +22,6 @@ TellsChange-put : (p : Place) (answer : Result Bool AllocError) (t u : Tree) →
 TellsChange-put p (Ok true) t u tells = IsLess-put p t u tells
 TellsChange-put p (Ok false) t u tells = ap (put p) tells
 TellsChange-put p (Err e) t u tells = tt
-
--- the answer of what follows a change, or none
-abbrev pub joined : Bool → Result Bool AllocError → Result Bool AllocError
-joined a (Ok b) = Ok (a || b)
-joined a (Err e) = Err e
-
-TellsChange-then : (a : Bool) (answer : Result Bool AllocError) (t u v : Tree) → TellsChange (Ok a) t u → TellsChange answer u v →
-    TellsChange (joined a answer) t v
-TellsChange-then true (Ok true) t u v first second = IsLess-trans t u v first second
-TellsChange-then true (Ok false) t u v first second = subst (λ (x : Tree). IsLess x t) (sym second) first
-TellsChange-then false (Ok true) t u v first second = subst (λ (x : Tree). IsLess v x) first second
-TellsChange-then false (Ok false) t u v first second = second ∙ first
-TellsChange-then a (Err e) t u v first second = tt
-
-joined-false : (a : Bool) (answer : Result Bool AllocError) → joined a answer ≡ Ok false → (a ≡ false) × (answer ≡ Ok false)
-joined-false a (Ok b) same =
-    let both : (a || b) ≡ false = cc in
-    let parts = or_parts a b both in
-    (parts.0, ap Ok parts.1)
-joined-false a (Err e) same = cc
 
 -- Sweeps.
 
