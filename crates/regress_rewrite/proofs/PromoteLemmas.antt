@@ -1,23 +1,25 @@
 -- Promotion keeps what a rewrite must keep, and makes the loop less.
 use Rattle.std.proofs.Common.{◌≡◌, ℕ, ◌+◌, ◌≤◌, true, [], ◌∷◌, length, refl, sym, ap, ◌∙◌, le_refl, arith}
-use Rattle.std.specs.Prelude.{encode_utf8_all}
+use Rattle.std.specs.Prelude.{encode_utf8_all, IfOk, Result, Ok, Err}
+use Rattle.std.specs.declared.alloc.AllocError.{AllocError}
 use Rattle.std.proofs.lemmas.Bool.{false≢true, not-true}
-use Rattle.regress_tree.specs.declared.ir.node.Node.{Node}
 use Rattle.regress_tree.specs.declared.ir.node.Quantifier.{Quantifier}
 use Rattle.regress_tree.specs.NodeTests.{leaf_matches_exactly_one_char, matches_exactly_one_char}
 use Rattle.regress_tree.specs.Reading.{Direction}
 use Rattle.regress_tree.specs.Repetition.{more_turns, turns, up_to, repeat}
 use Rattle.regress_tree.specs.Shapes.{is_promoted_away}
 use Rattle.regress_tree.specs.Steps.{Step, ◌then_◌}
-use Rattle.regress_tree.specs.Tree.{Leaf, empty, goal, char, byte_sequence, byte_set, char_set, match_any, match_any_except_line_terminator, anchor, word_boundary, bracket, back_ref, string_set, loop, loop_one, Tree, leaf, cat, alt, wrapped, tree}
+use Rattle.regress_tree.specs.Tree.{Leaf, empty, goal, char, byte_sequence, byte_set, char_set, match_any, match_any_except_line_terminator, anchor, word_boundary, bracket, back_ref, string_set, loop, loop_one, Tree, leaf, cat, alt, wrapped}
 use Rattle.regress_tree.specs.WellFormed.{one_character, inside, captures, HasGroups, MayStand, LeafMayStand}
 use Rattle.regress_tree.proofs.laws.Accepting.{accepts_some}
 use Rattle.regress_tree.proofs.laws.Alike.{Alike-from_same}
 use Rattle.regress_tree.proofs.laws.Groups.{HasGroups-none, turn-none}
 use Rattle.regress_tree.proofs.laws.Measures.{IsLess-lighter}
-use Rattle.regress_rewrite.specs.declared.rewrite.PassAction.TheVariants.{Replace}
+use Rattle.regress_rewrite.specs.declared.rewrite.PassAction.{PassAction}
+use Rattle.regress_rewrite.specs.declared.rewrite.PassAction.TheVariants.{Keep, Modified, Remove, Replace}
 use Rattle.regress_rewrite.specs.Law.{IsPart, Keeps, IsLawful}
-use Rattle.regress_rewrite.proofs.LawfulLemmas.{replace_lawful}
+use Rattle.regress_rewrite.specs.Promote.{Promotes}
+use Rattle.regress_rewrite.proofs.LawfulLemmas.{keep_lawful, replace_lawful}
 
 -- turns without a group inside forget nothing
 repeat-none : (bound : ℕ) (q : Quantifier) (start end : ℕ) (f : Step) → end ≤ start → repeat bound q start end f ≡ repeat bound q 0 0 f
@@ -59,9 +61,12 @@ one_character-captures (cat parts) one = absurd (false≢true one)
 one_character-captures (alt left right) one = absurd (false≢true one)
 one_character-captures (wrapped w body) one = absurd (false≢true one)
 
-module _ (d : Direction) (q : Quantifier) (start end : ℕ) (body : Tree) (one : matches_exactly_one_char body ≡ true) where
-  promoted_keeps : HasGroups start end body → Keeps d (wrapped (loop q start end) body) (wrapped (loop_one q) body)
-  promoted_keeps groups = record {
+-- ---- the law
+
+module _ (d : Direction) (q : Quantifier) (start end : ℕ) (body : Tree) where
+  promoted_keeps : matches_exactly_one_char body ≡ true → HasGroups start end body →
+      Keeps d (wrapped (loop q start end) body) (wrapped (loop_one q) body)
+  promoted_keeps one groups = record {
     meaning = λ setting text is_text. Alike-from_same (λ s.
         ap (λ (f : Step). f s)
         (repeat-none (length (encode_utf8_all text) + 1) q start end _
@@ -72,9 +77,19 @@ module _ (d : Direction) (q : Quantifier) (start end : ℕ) (body : Tree) (one :
     brackets = λ lacks. lacks;
   }
 
-  pub promoted_lawful : (left : Tree) (node : Node) → IsPart (wrapped (loop q start end) body) → tree node ≡ wrapped (loop_one q) body →
-      IsLawful is_promoted_away true d (wrapped (loop q start end) body) left (Replace node)
-  promoted_lawful left node part is =
-      replace_lawful is_promoted_away true d (wrapped (loop q start end) body) one left node
-      (rw is (promoted_keeps part.2.1.1))
-      (rw is (IsLess-lighter (wrapped (loop_one q) body) (wrapped (loop q start end) body) (omega arith) (omega arith)))
+  promotes_lawful : (action : PassAction) (left : Tree) → HasGroups start end body → Promotes action q body left →
+      IsLawful is_promoted_away true d (wrapped (loop q start end) body) (wrapped (loop q start end) left) action
+  promotes_lawful Keep left groups promotes =
+      rw promotes.1 (keep_lawful is_promoted_away true d (wrapped (loop q start end) body) promotes.0)
+  promotes_lawful Modified left groups none = absurd none
+  promotes_lawful Remove left groups none = absurd none
+  promotes_lawful (Replace node) left groups promotes =
+      replace_lawful is_promoted_away true d (wrapped (loop q start end) body) promotes.0 (wrapped (loop q start end) left) node
+      (rw promotes.1 (promoted_keeps promotes.0 groups))
+      (rw promotes.1 (IsLess-lighter (wrapped (loop_one q) body) (wrapped (loop q start end) body) (omega arith) (omega arith)))
+
+  pub promote_lawful : (r : Result PassAction AllocError) (left : Tree) → IsPart (wrapped (loop q start end) body) →
+      IfOk r (λ action. Promotes action q body left) →
+      IfOk r (IsLawful is_promoted_away true d (wrapped (loop q start end) body) (wrapped (loop q start end) left))
+  promote_lawful (Ok action) left part promotes = promotes_lawful action left part.2.1.1 promotes
+  promote_lawful (Err e) left part promotes = tt

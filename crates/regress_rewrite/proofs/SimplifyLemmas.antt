@@ -32,7 +32,7 @@ use Rattle.regress_rewrite.specs.Law.{IsPart, Keeps, IsLawful}
 use Rattle.regress_rewrite.specs.Simplify.{bracket_of, Simplifies}
 use Rattle.regress_rewrite.proofs.LawfulLemmas.{keep_lawful, modified_lawful, replace_lawful}
 
--- what may be the body of a loop over one character if another may
+-- what follows from P may be asked in its place
 AsOneCharacter-map : (p : Position) (P Q : Type 0) → (P → Q) → AsOneCharacter p P → AsOneCharacter p Q
 AsOneCharacter-map one_character P Q f holds = f holds
 AsOneCharacter-map inside P Q f holds = holds

@@ -1,9 +1,10 @@
 //! Promotion of loops over one character.
 ghost use Rattle.std.specs.Prelude.{◌≡◌, true, IfOk, OnErr};
 ghost use Rattle.regress_tree.specs.Reading.{Direction};
-ghost use Rattle.regress_tree.specs.Tree.{tree, wrapped, loop_one};
+ghost use Rattle.regress_tree.specs.Tree.{tree};
 ghost use Rattle.regress_tree.specs.Shapes.{is_promoted_away};
 ghost use Rattle.regress_rewrite.specs.Law.{IsPart, IsLawful};
+ghost use Rattle.regress_rewrite.specs.Promote.{Promotes};
 
 use crate::rewrite::PassAction;
 use regress_tree::ir::{Node, Quantifier};
@@ -18,19 +19,25 @@ pub fn promote_1char_loops(alloc: Global, node: &mut Node) -> Result<PassAction,
     ensures err { OnErr result (tree node.new ≡ tree node.old) }
 {
     match node {
-        Node::Loop { loopee, quant, .. } if loopee.matches_exactly_one_char() => {
-            Ok(PassAction::Replace(loop_over(alloc, loopee, *quant)?))
-        }
+        Node::Loop { loopee, quant, .. } => promote_loop(alloc, loopee, *quant),
         _ => Ok(PassAction::Keep),
     }
 }
 
-/// Takes the body into a `Loop1CharBody`.
-fn loop_over(alloc: Global, body: &mut Box<Node>, quant: Quantifier) -> Result<Node, AllocError>
-    ensures ok { IfOk result (λ node. tree node ≡ wrapped (loop_one quant) (tree body.old.value)) }
+/// Promotes a loop of this body, or tells that it stays as it is.
+fn promote_loop(
+    alloc: Global,
+    body: &mut Box<Node>,
+    quant: Quantifier,
+) -> Result<PassAction, AllocError>
+    ensures action { IfOk result (λ action. Promotes action quant (tree body.old.value) (tree body.new.value)) }
     ensures err { OnErr result (body.new ≡ body.old) }
 {
+    if !body.matches_exactly_one_char() {
+        return Ok(PassAction::Keep);
+    }
+    // The body is moved once there is room for it.
     let mut loopee = Box::new(alloc, Node::Empty)?;
     mem::swap(&mut loopee, body);
-    Ok(Node::Loop1CharBody { loopee, quant })
+    Ok(PassAction::Replace(Node::Loop1CharBody { loopee, quant }))
 }

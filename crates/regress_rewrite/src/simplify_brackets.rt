@@ -16,7 +16,8 @@ use std::alloc::{AllocError, Global};
 
 /// Makes a bracket of at most four code points a `CharSet` of them, ascending, unless it is inverted.
 /// Any other bracket with more intervals than its complement takes the complement and flips `invert`.
-/// Linear in the intervals where it takes the complement, else constant.
+/// The error comes where there is no memory for the set or the complement. Linear in the intervals where
+/// it takes the complement, else constant.
 pub fn simplify_brackets(alloc: Global, node: &mut Node) -> Result<PassAction, AllocError>
     requires { IsPart (tree node.old) }
     ensures lawful { (d : Direction) → IfOk result (IsLawful is_simplified_away true d (tree node.old) (tree node.new)) }
