@@ -8,3 +8,5 @@ pub mod PartsLemmas
 pub mod CheckedLemmas
 pub mod FlattenLemmas
 pub mod SpliceLemmas
+pub mod PromoteLemmas
+pub mod SimplifyLemmas

@@ -2,3 +2,5 @@ pub mod Law
 pub mod Sweep
 pub mod Splice
 pub mod Taken
+pub mod Promote
+pub mod Simplify

@@ -3,8 +3,10 @@
 
 pub mod flatten;
 mod pass;
+pub mod promote_1char_loops;
 mod rewrite;
 pub mod rewrites;
+pub mod simplify_brackets;
 
 pub use pass::run_pass;
 pub use rewrite::{PassAction, Rewrite};

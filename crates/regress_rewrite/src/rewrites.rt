@@ -1,7 +1,9 @@
 //! The rewrites, as what a pass runs: each finds what is to be known of a node, and rewrites it.
 
 use crate::flatten::flatten;
+use crate::promote_1char_loops::promote_1char_loops;
 use crate::rewrite::{PassAction, Rewrite};
+use crate::simplify_brackets::simplify_brackets;
 use regress_tree::ir::{Node, Walk};
 use std::alloc::{AllocError, Global};
 
@@ -21,5 +23,43 @@ impl Rewrite for Flatten {
 
     fn apply(&mut self, node: &mut Node, _walk: &Walk) -> Result<PassAction, AllocError> {
         flatten(self.alloc, node)
+    }
+}
+
+/// Simplification of brackets, which looks at nothing but the node.
+#[derive(Drop)]
+pub struct SimplifyBrackets {
+    pub alloc: Global,
+}
+
+impl Rewrite for SimplifyBrackets {
+    ghost use Rattle.std.specs.Prelude.{true};
+    ghost use Rattle.regress_tree.specs.Shapes.{is_simplified_away};
+
+    ghost removes = { is_simplified_away };
+
+    ghost is_exact = { true };
+
+    fn apply(&mut self, node: &mut Node, _walk: &Walk) -> Result<PassAction, AllocError> {
+        simplify_brackets(self.alloc, node)
+    }
+}
+
+/// Promotion of loops over one character, which looks at nothing but the node.
+#[derive(Drop)]
+pub struct Promote1CharLoops {
+    pub alloc: Global,
+}
+
+impl Rewrite for Promote1CharLoops {
+    ghost use Rattle.std.specs.Prelude.{true};
+    ghost use Rattle.regress_tree.specs.Shapes.{is_promoted_away};
+
+    ghost removes = { is_promoted_away };
+
+    ghost is_exact = { true };
+
+    fn apply(&mut self, node: &mut Node, _walk: &Walk) -> Result<PassAction, AllocError> {
+        promote_1char_loops(self.alloc, node)
     }
 }

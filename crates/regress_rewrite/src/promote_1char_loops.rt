@@ -1,0 +1,43 @@
+//! Promotion of loops over one character.
+ghost use Rattle.std.specs.Prelude.{◌≡◌, true, IfOk, OnErr};
+ghost use Rattle.regress_tree.specs.Reading.{Direction};
+ghost use Rattle.regress_tree.specs.Tree.{tree};
+ghost use Rattle.regress_tree.specs.Shapes.{is_promoted_away};
+ghost use Rattle.regress_rewrite.specs.Law.{IsPart, IsLawful};
+ghost use Rattle.regress_rewrite.specs.Promote.{Promotes};
+
+use crate::rewrite::PassAction;
+use regress_tree::ir::{Node, Quantifier};
+use std::alloc::{AllocError, Global};
+use std::mem;
+
+/// Makes a `Loop` whose body passes [`Node::matches_exactly_one_char`] a `Loop1CharBody` of the same
+/// turns. The error comes where there is no memory for a node. Constant.
+pub fn promote_1char_loops(alloc: Global, node: &mut Node) -> Result<PassAction, AllocError>
+    requires { IsPart (tree node.old) }
+    ensures lawful { (d : Direction) → IfOk result (IsLawful is_promoted_away true d (tree node.old) (tree node.new)) }
+    ensures err { OnErr result (tree node.new ≡ tree node.old) }
+{
+    match node {
+        Node::Loop { loopee, quant, .. } => promote_loop(alloc, loopee, *quant),
+        _ => Ok(PassAction::Keep),
+    }
+}
+
+/// Promotes a loop of this body, or tells that it stays as it is.
+fn promote_loop(
+    alloc: Global,
+    body: &mut Box<Node>,
+    quant: Quantifier,
+) -> Result<PassAction, AllocError>
+    ensures action { IfOk result (λ action. Promotes action quant (tree body.old.value) (tree body.new.value)) }
+    ensures err { OnErr result (body.new ≡ body.old) }
+{
+    if !body.matches_exactly_one_char() {
+        return Ok(PassAction::Keep);
+    }
+    // The body is moved once there is room for it.
+    let mut loopee = Box::new(alloc, Node::Empty)?;
+    mem::swap(&mut loopee, body);
+    Ok(PassAction::Replace(Node::Loop1CharBody { loopee, quant }))
+}

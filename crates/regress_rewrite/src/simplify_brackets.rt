@@ -1,0 +1,79 @@
+//! Simplification of brackets.
+ghost use Rattle.std.specs.Prelude.{◌≡◌, true, not, nat_le, nat_lt, length, flat_map, IfOk, OnErr};
+ghost use Rattle.regress_base.specs.Limits.{max_char_set_length};
+ghost use Rattle.regress_unicode.specs.Table.{code_points};
+ghost use Rattle.regress_tree.specs.Reading.{Direction};
+ghost use Rattle.regress_tree.specs.Tree.{tree};
+ghost use Rattle.regress_tree.specs.Shapes.{code_point_count, gap_count, is_simplified_away};
+ghost use Rattle.regress_rewrite.specs.Law.{IsPart, IsLawful};
+ghost use Rattle.regress_rewrite.specs.Simplify.{Simplifies};
+
+use crate::rewrite::PassAction;
+use regress_base::codepointset::{CodePointSet, Interval};
+use regress_base::types::{BracketContents, MAX_CHAR_SET_LENGTH};
+use regress_tree::ir::Node;
+use std::alloc::{AllocError, Global};
+
+/// Makes a bracket of at most four code points a `CharSet` of them, ascending, unless it is inverted.
+/// Any other bracket with more intervals than its complement takes the complement and flips `invert`.
+/// The error comes where there is no memory for the set or the complement. Linear in the intervals where
+/// it takes the complement, else constant.
+pub fn simplify_brackets(alloc: Global, node: &mut Node) -> Result<PassAction, AllocError>
+    requires { IsPart (tree node.old) }
+    ensures lawful { (d : Direction) → IfOk result (IsLawful is_simplified_away true d (tree node.old) (tree node.new)) }
+    ensures err { OnErr result (tree node.new ≡ tree node.old) }
+{
+    match node {
+        Node::Bracket(contents) => simplify_bracket(alloc, contents),
+        _ => Ok(PassAction::Keep),
+    }
+}
+
+/// Simplifies a bracket of these contents, or tells what is to stand in its place.
+fn simplify_bracket(alloc: Global, contents: &mut BracketContents) -> Result<PassAction, AllocError>
+    ensures action { IfOk result (λ action. Simplifies action contents.old contents.new) }
+    ensures err { OnErr result (contents.new ≡ contents.old) }
+{
+    if !contents.invert && is_small(contents.cps.intervals()) {
+        let characters = code_points(alloc, contents.cps.intervals())?;
+        return Ok(PassAction::Replace(Node::CharSet(characters)));
+    }
+    if is_long(&contents.cps) {
+        contents.cps = contents.cps.inverted()?;
+        contents.invert = !contents.invert;
+        return Ok(PassAction::Modified);
+    }
+    Ok(PassAction::Keep)
+}
+
+/// Whether a small set has room for the code points. It looks at five intervals at most.
+fn is_small(intervals: &[Interval]) -> bool
+    ensures { result ≡ nat_le (code_point_count intervals.now) max_char_set_length }
+{
+    let mut room = MAX_CHAR_SET_LENGTH;
+    for iv in intervals {
+        let count = iv.count_codepoints();
+        if count > room {
+            return false;
+        }
+        room -= count;
+    }
+    true
+}
+
+/// Whether the complement has fewer intervals. Constant.
+fn is_long(set: &CodePointSet) -> bool
+    ensures { result ≡ nat_lt (gap_count 0 set.now) (length set.now) }
+{
+    set.inverted_interval_count() < set.intervals().len()
+}
+
+/// The code points of the intervals, in their order.
+fn code_points(alloc: Global, intervals: &[Interval]) -> Result<Vec<u32>, AllocError>
+    ensures { IfOk result (λ list. list.items ≡ flat_map code_points intervals.now) }
+{
+    intervals
+        .iter()
+        .flat_map(|iv| iv.codepoints())
+        .collect(alloc)
+}
