@@ -5,6 +5,7 @@ pub mod flatten;
 mod pass;
 mod rewrite;
 pub mod rewrites;
+pub mod unroll_loops;
 
 pub use pass::run_pass;
 pub use rewrite::{PassAction, Rewrite};
