@@ -8,4 +8,5 @@ pub mod PassLemmas
 pub mod CheckedLemmas
 pub mod FlattenLemmas
 pub mod SpliceLemmas
+pub mod CopiesLemmas
 pub mod UnrollLemmas

@@ -1,115 +1,45 @@
 -- Unrolling keeps what a rewrite must keep, and makes the tree less.
-use Rattle.std.proofs.Common.{◌≡◌, ℕ, zero, suc, ◌+◌, ◌-◌, ◌*◌, ◌≤◌, ◌==◌, Bool, true, false, not, ◌&&◌, ◌||◌, cond, nat_le, inl, inr, min, List, [], ◌∷◌, ◌++◌, length, Option, Some, None, Result, Ok, Err, refl, sym, ap, ap₂, subst, ◌∙◌, append-nil, flat_map, mul-le-mul, arith}
+use Rattle.std.proofs.Common.{◌≡◌, ℕ, zero, suc, ◌+◌, ◌-◌, ◌*◌, ◌≤◌, Bool, true, false, not, ◌&&◌, ◌||◌, nat_le, inl, inr, List, [], ◌∷◌, ◌++◌, length, Option, Some, None, refl, sym, ap, ap₂, ◌∙◌, append-nil, flat_map, mul-le-mul, arith}
 use Rattle.std.specs.Prelude.{encode_utf8_all}
 use Rattle.std.specs.Option.{option_eq}
 use lib.Dec.{eqb}
-use Rattle.std.proofs.lemmas.Bool.{cases_Bool, cond-true, cond-false, or_parts, false≢true, eqb-true}
+use Rattle.std.proofs.lemmas.Bool.{cases_Bool, false≢true, eqb-true}
 use Rattle.std.proofs.lemmas.Bool.Decides.{nat_tests}
-use Rattle.std.proofs.Math.Nat.{suc-add}
 use mathlib.Core.Path.{fun_ext}
 use Rattle.regress_tree.specs.declared.ir.node.Node.{Node}
 use Rattle.regress_tree.specs.declared.ir.node.Quantifier.{Quantifier}
-use Rattle.regress_tree.specs.Copies.{HasNoGroup, NoneHasGroup}
+use Rattle.regress_tree.specs.Copies.{HasNoGroup}
 use Rattle.regress_tree.specs.Matching.{steps, steps_in_row}
-use Rattle.regress_tree.specs.Measures.{total, total_in_row, levels}
+use Rattle.regress_tree.specs.Measures.{total_in_row, levels}
 use Rattle.regress_tree.specs.Reading.{Direction}
-use Rattle.regress_tree.specs.Repetition.{turn, turns, up_to, more_turns, repeat}
+use Rattle.regress_tree.specs.Repetition.{turns, up_to, more_turns, repeat}
 use Rattle.regress_tree.specs.Setting.{Setting}
-use Rattle.regress_tree.specs.Shapes.{on_wrapper, some_node, some_node_in_row, is_loop, has_loop, has_string_set, is_simplified_away, may_unroll, is_unrolled_away, is_zero, LacksShape, RowLacksShape}
-use Rattle.regress_tree.specs.Steps.{State, Step, stay, ◌then_◌}
-use Rattle.regress_tree.specs.Tree.{Tree, Trees, leaf, cat, alt, wrapped, capture_group, loop, loop_one, lookaround, no_trees, more_trees, row_append, copies, tree, trees}
+use Rattle.regress_tree.specs.Shapes.{has_loop, has_string_set, is_simplified_away, may_unroll, is_unrolled_away, is_zero, LacksShape, RowLacksShape}
+use Rattle.regress_tree.specs.Steps.{State, Step, ◌then_◌}
+use Rattle.regress_tree.specs.Tree.{Tree, Trees, cat, wrapped, loop, no_trees, more_trees, row_append, copies, tree, trees}
 use Rattle.regress_tree.specs.Units.{sizes, units, unrollables, loops, charge, IsLess}
-use Rattle.regress_tree.specs.WellFormed.{Capture, captures, captures_in_row, Position, one_character, inside, last, root, last_of, position_in, NotAsOneCharacter, IsQuantifier, MayStand, RowMayStand}
+use Rattle.regress_tree.specs.WellFormed.{captures, captures_in_row, Position, one_character, inside, last, root, last_of, NotAsOneCharacter, IsQuantifier, MayStand, RowMayStand}
 use Rattle.regress_tree.proofs.laws.Alike.{Alike-from_same}
-use Rattle.regress_tree.proofs.laws.Groups.{HasGroups-none, captures-none, turn-none}
-use Rattle.regress_tree.proofs.laws.Measures.{total-append, total-copies, units-le, some_node-append, some_node-copies, RowLacksShape-append}
+use Rattle.regress_tree.proofs.laws.Groups.{captures-none, turn-none}
+use Rattle.regress_tree.proofs.laws.Measures.{total-append, total-copies, units-le, some_node-copies, RowLacksShape-append}
 use Rattle.regress_tree.proofs.laws.Outcomes.{flat_map-stay}
 use Rattle.regress_tree.proofs.laws.Rows.{row_append-none, steps-append, captures-append, trees-append, RowMayStand-append}
 use Rattle.regress_rewrite.specs.declared.rewrite.PassAction.TheVariants.{Modified}
 use Rattle.regress_rewrite.specs.Law.{IsPart, Keeps, IsLawful}
-use Rattle.regress_rewrite.specs.Unroll.{after_least, other_turns, unrolled}
+use Rattle.regress_rewrite.specs.Unroll.{further_turns, further_loop, unrolled}
+use Rattle.regress_rewrite.proofs.CopiesLemmas.{HasNoGroup-from, loops-none, copies-stand, captures-copies}
 use Rattle.regress_rewrite.proofs.LawfulLemmas.{modified_lawful}
 
--- What has no capture group has empty ranges of groups.
+-- The turns that may follow the least number.
 
-append_none : {X : Type 0} (xs ys : List X) → xs ++ ys ≡ [] → (xs ≡ []) × (ys ≡ [])
-append_none [] ys none = (refl, none)
-append_none (x ∷ xs) ys none = absurd (cc)
-
-mutual
-  pub HasNoGroup-from : (n : ℕ) (t : Tree) (p : Position) → MayStand n t p → captures t ≡ [] → HasNoGroup t
-  HasNoGroup-from n (leaf l) p m none = tt
-  HasNoGroup-from n (cat parts) p m none = NoneHasGroup-from n parts (last_of p) m.1 none
-  HasNoGroup-from n (alt left right) p m none =
-      let sides = append_none (captures left) (captures right) none in
-      (HasNoGroup-from n left inside m.1 sides.0, HasNoGroup-from n right inside m.2 sides.1)
-  HasNoGroup-from n (wrapped (capture_group id name) body) p m none = absurd (cc)
-  HasNoGroup-from n (wrapped (loop q start end) body) p m none =
-      (HasGroups-none start end body m.1.1 none, HasNoGroup-from n body inside m.2 none)
-  HasNoGroup-from n (wrapped (loop_one q) body) p m none = (tt, HasNoGroup-from n body (position_in (loop_one q)) m.2 none)
-  HasNoGroup-from n (wrapped (lookaround negate backwards start end) body) p m none =
-      (HasGroups-none start end body m.1 none, HasNoGroup-from n body inside m.2 none)
-
-  NoneHasGroup-from : (n : ℕ) (ts : Trees) (p : Position) → RowMayStand n ts p → captures_in_row ts ≡ [] → NoneHasGroup ts
-  NoneHasGroup-from n no_trees p m none = tt
-  NoneHasGroup-from n (more_trees t no_trees) p m none =
-      (HasNoGroup-from n t p m (append_none (captures t) [] none).0, tt)
-  NoneHasGroup-from n (more_trees t (more_trees u us)) p m none =
-      let both = append_none (captures t) (captures_in_row (more_trees u us)) none in
-      (HasNoGroup-from n t inside m.0 both.0, NoneHasGroup-from n (more_trees u us) p m.1 both.1)
-
--- What has no loop has none that may be unrolled.
-
-mutual
-  loops-none : (t : Tree) → has_loop t ≡ false → loops t ≡ 0
-  loops-none (leaf l) none = refl
-  loops-none (cat parts) none = omega (arith, loops-none_in_row parts none)
-  loops-none (alt left right) none =
-      let sides = or_parts (has_loop left) (has_loop right) none in
-      omega (arith, loops-none left sides.0, loops-none right sides.1)
-  loops-none (wrapped (capture_group id name) body) none = omega (arith, loops-none body none)
-  loops-none (wrapped (loop q start end) body) none = absurd (false≢true (sym none))
-  loops-none (wrapped (loop_one q) body) none = absurd (false≢true (sym none))
-  loops-none (wrapped (lookaround negate backwards start end) body) none = omega (arith, loops-none body none)
-
-  loops-none_in_row : (ts : Trees) → some_node_in_row (on_wrapper is_loop) ts ≡ false → total_in_row unrollables ts ≡ 0
-  loops-none_in_row no_trees none = refl
-  loops-none_in_row (more_trees t ts) none =
-      let both = or_parts (has_loop t) (some_node_in_row (on_wrapper is_loop) ts) none in
-      omega (arith, loops-none t both.0, loops-none_in_row ts both.1)
-
--- Copies.
-
-copies-stand : (n k : ℕ) (t : Tree) → MayStand n t inside → RowMayStand n (copies k t) inside
-copies-stand n zero t m = tt
-copies-stand n (suc zero) t m = m
-copies-stand n (suc (suc k)) t m = (m, copies-stand n (suc k) t m)
-
-captures-copies : (n : ℕ) (t : Tree) → captures t ≡ [] → captures_in_row (copies n t) ≡ []
-captures-copies zero t none = refl
-captures-copies (suc n) t none = ap₂ ◌++◌ none (captures-copies n t none)
-
--- one copy more
-copies-push : (n : ℕ) (t : Tree) → row_append (copies n t) (more_trees t no_trees) ≡ copies (n + 1) t
-copies-push zero t = refl
-copies-push (suc n) t = ap (more_trees t) (copies-push n t) ∙ ap (λ (k : ℕ). copies k t) (sym (suc-add n 1))
-
-pub copied-more : (parts : List Node) (n : ℕ) (body : Tree) (copy : Node) → trees parts ≡ copies n body → tree copy ≡ body →
-    trees (parts ++ copy ∷ []) ≡ copies (n + 1) body
-copied-more parts n body copy copied is =
-    trees-append parts (copy ∷ []) ∙ ap₂ (λ (ts : Trees) (t : Tree). row_append ts (more_trees t no_trees)) copied is
-    ∙ copies-push n body
-
--- The turns behind the least number.
-
-more_turns-after : (bound least : ℕ) (max : Option ℕ) (greedy : Bool) →
-    more_turns bound (after_least (record { min = least; max = max; greedy = greedy }))
+more_turns-further : (bound least : ℕ) (max : Option ℕ) (greedy : Bool) →
+    more_turns bound (further_turns (record { min = least; max = max; greedy = greedy }))
     ≡ more_turns bound (record { min = least; max = max; greedy = greedy })
-more_turns-after bound least None greedy = refl
-more_turns-after bound least (Some max) greedy = omega arith
+more_turns-further bound least None greedy = refl
+more_turns-further bound least (Some max) greedy = omega arith
 
 more_turns-none : (bound least : ℕ) (max : Option ℕ) (greedy : Bool) →
-    is_zero (after_least (record { min = least; max = max; greedy = greedy })).max ≡ true →
+    is_zero (further_turns (record { min = least; max = max; greedy = greedy })).max ≡ true →
     more_turns bound (record { min = least; max = max; greedy = greedy }) ≡ 0
 more_turns-none bound least None greedy none = absurd (false≢true none)
 more_turns-none bound least (Some max) greedy none = omega (arith, eqb-true (max - least) 0 none)
@@ -119,10 +49,10 @@ pub is_zero-told : (max : Option ℕ) → is_zero max ≡ option_eq eqb max (Som
 is_zero-told None = refl
 is_zero-told (Some n) = refl
 
-IsQuantifier-after : (least : ℕ) (max : Option ℕ) (greedy : Bool) →
-    IsQuantifier (after_least (record { min = least; max = max; greedy = greedy }))
-IsQuantifier-after least None greedy = tt
-IsQuantifier-after least (Some max) greedy = omega arith
+IsQuantifier-further : (least : ℕ) (max : Option ℕ) (greedy : Bool) →
+    IsQuantifier (further_turns (record { min = least; max = max; greedy = greedy }))
+IsQuantifier-further least None greedy = tt
+IsQuantifier-further least (Some max) greedy = omega arith
 
 inside-free : (p : Position) → NotAsOneCharacter (last_of p)
 inside-free one_character = tt
@@ -160,10 +90,10 @@ MayUnroll-from q start end body may = by (has_loop body) refl (has_string_set bo
     }
 
 module _ (q : Quantifier) (start end : ℕ) (body : Tree) where
-  -- the row behind the copies: none, or the loop of the other turns
-  with_other : (P : Trees → Type 0) → (is_zero (after_least q).max ≡ true → P no_trees) →
-      P (more_trees (wrapped (loop (after_least q) start end) body) no_trees) → P (other_turns q start end body)
-  with_other P none some = elim (cases_Bool (is_zero (after_least q).max)) [
+  -- what holds of the row behind the copies, whether the loop is there or not
+  with_further : (P : Trees → Type 0) → (is_zero (further_turns q).max ≡ true → P no_trees) →
+      P (more_trees (wrapped (loop (further_turns q) start end) body) no_trees) → P (further_loop q start end body)
+  with_further P none some = elim (cases_Bool (is_zero (further_turns q).max)) [
     | inl is ↦ rw is (none is)
     | inr is_not ↦ rw is_not some
   ]
@@ -187,61 +117,61 @@ module _ (q : Quantifier) (start end : ℕ) (body : Tree) where
     steps-loop s =
         ap (λ (f : Step). (turns q.min f then_ up_to q.greedy (more_turns bound q) f) s) (turn-none start end ends body_steps)
 
-    steps-after : (s : State) → steps setting bytes d (wrapped (loop (after_least q) start end) body) s
+    steps-further : (s : State) → steps setting bytes d (wrapped (loop (further_turns q) start end) body) s
         ≡ up_to q.greedy (more_turns bound q) body_steps s
     unfolding repeat
-    steps-after s =
+    steps-further s =
         append-nil _
-        ∙ ap₂ (λ (n : ℕ) (f : Step). up_to q.greedy n f s) (more_turns-after bound q.min q.max q.greedy) (turn-none start end ends body_steps)
+        ∙ ap₂ (λ (n : ℕ) (f : Step). up_to q.greedy n f s) (more_turns-further bound q.min q.max q.greedy) (turn-none start end ends body_steps)
 
-    steps-other : (s : State) → steps_in_row setting bytes d (other_turns q start end body) s
+    steps-further_loop : (s : State) → steps_in_row setting bytes d (further_loop q start end body) s
         ≡ up_to q.greedy (more_turns bound q) body_steps s
-    steps-other s =
-        with_other (λ ts. steps_in_row setting bytes d ts s ≡ up_to q.greedy (more_turns bound q) body_steps s)
+    steps-further_loop s =
+        with_further (λ ts. steps_in_row setting bytes d ts s ≡ up_to q.greedy (more_turns bound q) body_steps s)
         (λ none. ap (λ (n : ℕ). up_to q.greedy n body_steps s) (sym (more_turns-none bound q.min q.max q.greedy none)))
-        (flat_map-stay _ ∙ steps-after s)
+        (flat_map-stay _ ∙ steps-further s)
 
     steps-unrolled : (s : State) → steps setting bytes d (unrolled q start end body) s
         ≡ steps setting bytes d (wrapped (loop q start end) body) s
     steps-unrolled s =
-        steps-append setting bytes d (copies q.min body) (other_turns q start end body) s
-        ∙ ap₂ (λ (f g : Step). flat_map g (f s)) (steps-copies q.min) (fun_ext steps-other)
+        steps-append setting bytes d (copies q.min body) (further_loop q start end body) s
+        ∙ ap₂ (λ (f g : Step). flat_map g (f s)) (steps-copies q.min) (fun_ext steps-further_loop)
         ∙ sym (steps-loop s)
 
   -- Where it may stand, its groups and its size.
 
   unrolled-stand : (n : ℕ) (p : Position) → MayStand n (wrapped (loop q start end) body) p → MayStand n (unrolled q start end body) p
   unrolled-stand n p m =
-      let other = with_other (λ ts. RowMayStand n ts (last_of p)) (λ none. tt)
-      (inside-free p, (IsQuantifier-after q.min q.max q.greedy, m.1.1), m.2) in
-      (m.0, RowMayStand-append n (copies q.min body) (other_turns q start end body) p (copies-stand n q.min body m.2) other)
+      let behind = with_further (λ ts. RowMayStand n ts (last_of p)) (λ none. tt)
+      (inside-free p, (IsQuantifier-further q.min q.max q.greedy, m.1.1), m.2) in
+      (m.0, RowMayStand-append n (copies q.min body) (further_loop q start end body) p (copies-stand n q.min body m.2) behind)
 
   captures-unrolled : captures body ≡ [] → captures (unrolled q start end body) ≡ captures body
   captures-unrolled none =
-      let other : captures_in_row (other_turns q start end body) ≡ [] =
-      with_other (λ ts. captures_in_row ts ≡ []) (λ zero. refl) (append-nil (captures body) ∙ none) in
-      captures-append (copies q.min body) (other_turns q start end body)
-      ∙ ap₂ ◌++◌ (captures-copies q.min body none) other ∙ sym none
+      let behind : captures_in_row (further_loop q start end body) ≡ [] =
+      with_further (λ ts. captures_in_row ts ≡ []) (λ zero. refl) (append-nil (captures body) ∙ none) in
+      captures-append (copies q.min body) (further_loop q start end body)
+      ∙ ap₂ ◌++◌ (captures-copies q.min body none) behind ∙ sym none
 
   loops-unrolled : loops body ≡ 0 → loops (unrolled q start end body) ≡ 0
   loops-unrolled none =
-      let other : total_in_row unrollables (other_turns q start end body) ≡ 0 =
-      with_other (λ ts. total_in_row unrollables ts ≡ 0) (λ zero. refl) (omega (arith, none)) in
+      let behind : total_in_row unrollables (further_loop q start end body) ≡ 0 =
+      with_further (λ ts. total_in_row unrollables ts ≡ 0) (λ zero. refl) (omega (arith, none)) in
       let first : total_in_row unrollables (copies q.min body) ≡ 0 = omega (arith, total-copies unrollables q.min body, ap (λ n. q.min * n) none) in
-      omega (arith, first, other, total-append unrollables (copies q.min body) (other_turns q start end body))
+      omega (arith, first, behind, total-append unrollables (copies q.min body) (further_loop q start end body))
 
   units-unrolled : q.min ≤ 5 → units body ≤ 1280 → units (unrolled q start end body) ≤ units body + 6402
   units-unrolled most small =
-      let other : total_in_row sizes (other_turns q start end body) ≤ 1 + units body =
-      with_other (λ ts. total_in_row sizes ts ≤ 1 + units body) (λ zero. omega arith) (omega arith) in
+      let behind : total_in_row sizes (further_loop q start end body) ≤ 1 + units body =
+      with_further (λ ts. total_in_row sizes ts ≤ 1 + units body) (λ zero. omega arith) (omega arith) in
       let each : q.min * units body ≤ 5 * 1280 = mul-le-mul most small in
-      omega (arith, each, other, total-copies sizes q.min body, total-append sizes (copies q.min body) (other_turns q start end body))
+      omega (arith, each, behind, total-copies sizes q.min body, total-append sizes (copies q.min body) (further_loop q start end body))
 
   lacks-unrolled : LacksShape is_simplified_away body → LacksShape is_simplified_away (unrolled q start end body)
   lacks-unrolled lacks =
-      RowLacksShape-append is_simplified_away (copies q.min body) (other_turns q start end body)
+      RowLacksShape-append is_simplified_away (copies q.min body) (further_loop q start end body)
       (some_node-copies is_simplified_away q.min body lacks)
-      (with_other (λ ts. RowLacksShape is_simplified_away ts) (λ zero. refl) (ap (λ b. b || false) lacks))
+      (with_further (λ ts. RowLacksShape is_simplified_away ts) (λ zero. refl) (ap (λ b. b || false) lacks))
 
   module _ (may : MayUnroll q start end body) where
     one_loop : 1 ≤ loops (wrapped (loop q start end) body)
@@ -278,13 +208,13 @@ module _ (q : Quantifier) (start end : ℕ) (body : Tree) where
       modified_lawful is_unrolled_away true d (wrapped (loop q start end) body) may (unrolled q start end body)
       (unrolled_keeps facts d part) (unrolled_less facts)
 
-  -- What the code makes of the copies, without the loop and with it.
+  -- The node of the code: the copies, without the loop and with it.
 
   module _ (parts : List Node) (copied : trees parts ≡ copies q.min body) where
-    pub unrolled-all : is_zero (after_least q).max ≡ true → cat (trees parts) ≡ unrolled q start end body
-    unrolled-all none = rw none (ap cat copied ∙ ap cat (sym (row_append-none (copies q.min body))))
+    pub unrolled-without : is_zero (further_turns q).max ≡ true → cat (trees parts) ≡ unrolled q start end body
+    unrolled-without none = rw none (ap cat copied ∙ ap cat (sym (row_append-none (copies q.min body))))
 
-    pub unrolled-first : (other : Node) → tree other ≡ wrapped (loop (after_least q) start end) body →
-        is_zero (after_least q).max ≡ false → cat (trees (parts ++ other ∷ [])) ≡ unrolled q start end body
-    unrolled-first other is some =
-        rw some (ap cat (trees-append parts (other ∷ []) ∙ ap₂ (λ (ts : Trees) (t : Tree). row_append ts (more_trees t no_trees)) copied is))
+    pub unrolled-with : (further : Node) → tree further ≡ wrapped (loop (further_turns q) start end) body →
+        is_zero (further_turns q).max ≡ false → cat (trees (parts ++ further ∷ [])) ≡ unrolled q start end body
+    unrolled-with further is some =
+        rw some (ap cat (trees-append parts (further ∷ []) ∙ ap₂ (λ (ts : Trees) (t : Tree). row_append ts (more_trees t no_trees)) copied is))

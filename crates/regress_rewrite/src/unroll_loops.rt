@@ -1,4 +1,4 @@
-//! Unrolling of the turns that a loop must take.
+//! Unrolling of loops: the turns that must be taken are written out.
 ghost use Rattle.std.specs.Prelude.{◌≡◌, ◌<◌, ◌≤◌, true, false, IfOk, OnErr, vec_len, vec_capacity};
 ghost use Rattle.regress_tree.specs.Copies.{HasNoGroup};
 ghost use Rattle.regress_tree.specs.Measures.{levels};
@@ -7,22 +7,20 @@ ghost use Rattle.regress_tree.specs.Shapes.{has_string_set, is_unrolled_away};
 ghost use Rattle.regress_tree.specs.Tree.{tree, trees, copies};
 ghost use Rattle.regress_tree.specs.WellFormed.{IsQuantifier};
 ghost use Rattle.regress_rewrite.specs.Law.{IsPart, IsLawful};
-ghost use Rattle.regress_rewrite.specs.Unroll.{charged, charged_row, after_least};
+ghost use Rattle.regress_rewrite.specs.Unroll.{after_charge, after_charge_row, further_turns};
 
 use crate::rewrite::PassAction;
 use regress_tree::ir::{Node, NodeList, Quantifier};
 use std::alloc::{AllocError, Global};
 use std::mem;
 
-/// What a body that is copied is charged at most: one for a node, and one more for each byte of a
-/// `ByteSequence`.
+/// What a body that is copied is charged at most.
 const MAX_CHARGE: usize = 256;
 
 /// How many levels a body that is copied has at most.
 const MAX_LEVELS: usize = 101;
 
-/// Writes out the turns that a loop must take, as copies of its body in front of the loop of the
-/// other turns, which is left out where there are none. A loop is unrolled where `may_unroll` says so.
+/// Unrolls a loop that `may_unroll` finds, as `unroll` does, and keeps any other node.
 pub fn unroll_loops(alloc: Global, node: &mut Node) -> Result<PassAction, AllocError>
     requires { IsPart (tree node.old) }
     ensures lawful { (d : Direction) → IfOk result (IsLawful is_unrolled_away true d (tree node.old) (tree node.new)) }
@@ -35,8 +33,8 @@ pub fn unroll_loops(alloc: Global, node: &mut Node) -> Result<PassAction, AllocE
     }
 }
 
-/// Whether it is a `Loop` without groups of which one to five turns must be taken, and whose body may
-/// be copied. It looks at no more than 257 nodes of the body.
+/// Whether it is a `Loop` without groups that must take one to five turns, and whose body is small
+/// enough to be copied for each of them. It looks at no more than 257 nodes of the body.
 pub fn may_unroll(node: &Node) -> bool
     ensures { result ≡ is_unrolled_away (tree node.now) }
 {
@@ -54,7 +52,9 @@ pub fn may_unroll(node: &Node) -> bool
     }
 }
 
-/// Unrolls a loop for which `may_unroll` is true. All memory is taken before the loop is changed.
+/// Makes a loop that `may_unroll` finds a `Cat`: a copy of the body for each turn that must be taken,
+/// and the loop of the turns that may follow, unless there are none. All memory is taken before the
+/// loop is changed.
 pub fn unroll(alloc: Global, node: &mut Node) -> Result<PassAction, AllocError>
     requires part { IsPart (tree node.old) }
     requires shape { is_unrolled_away (tree node.old) ≡ true }
@@ -65,8 +65,8 @@ pub fn unroll(alloc: Global, node: &mut Node) -> Result<PassAction, AllocError>
         unreachable!()
     };
     let mut parts = copy_times(alloc, loopee, quant.min)?;
-    *quant = other_turns(quant);
-    // There is room for it.
+    // There is room for the loop: nothing fails from here on.
+    *quant = further_turns(quant);
     if quant.max != Some(0) {
         parts.push(mem::replace(node, Node::Empty))?;
     }
@@ -94,9 +94,9 @@ fn copy_times(alloc: Global, body: &Node, times: usize) -> Result<NodeList, Allo
 }
 
 /// How many turns may follow those that must be taken.
-fn other_turns(quant: &Quantifier) -> Quantifier
+fn further_turns(quant: &Quantifier) -> Quantifier
     requires { IsQuantifier quant.now }
-    ensures { result ≡ after_least quant.now }
+    ensures { result ≡ further_turns quant.now }
 {
     Quantifier {
         min: 0,
@@ -105,12 +105,14 @@ fn other_turns(quant: &Quantifier) -> Quantifier
     }
 }
 
-/// What is left of the budget where a copy of the tree is charged to it. It is None where that is too much, where
-/// the tree has more levels than so many, or a loop or a `StringSet` inside. As each node is charged,
-/// it looks at no more nodes than the budget and one.
+/// What is left of a budget once a copy of the node is charged to it: one for each node, and one
+/// more for each byte of a `ByteSequence`. It is None where the budget is too small, the node has more
+/// than so many levels, or a loop or a `StringSet` is inside.
+///
+/// The budget is charged on the way down, so it looks at one node more than the budget at most.
 #[cycle(charge)]
 fn charge(node: &Node, levels: usize, budget: usize) -> Option<usize>
-    ensures { result ≡ charged levels budget (tree node.now) }
+    ensures { result ≡ after_charge levels budget (tree node.now) }
 {
     let inside = levels.checked_sub(1)?;
     let left = budget.checked_sub(1)?;
@@ -136,9 +138,10 @@ fn charge(node: &Node, levels: usize, budget: usize) -> Option<usize>
     }
 }
 
+/// What is left once copies of all parts are charged.
 #[cycle(charge)]
 fn charge_parts(parts: &[Node], levels: usize, budget: usize) -> Option<usize>
-    ensures { result ≡ charged_row levels budget (trees parts.now) }
+    ensures { result ≡ after_charge_row levels budget (trees parts.now) }
 {
     let mut left = budget;
     for part in parts {

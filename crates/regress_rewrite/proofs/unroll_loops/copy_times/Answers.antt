@@ -1,6 +1,6 @@
 use Rattle.std.proofs.Common.{rules, ap, ◌∙◌}
 use Rattle.regress_tree.specs.Tree.{tree, trees}
-use Rattle.regress_rewrite.proofs.UnrollLemmas.{copied-more}
+use Rattle.regress_rewrite.proofs.CopiesLemmas.{copied-more}
 use Rattle.regress_rewrite.proofs.unroll_loops.copy_times.Goals as goal
 
 pub loop-preserved : goal.loop-preserved
