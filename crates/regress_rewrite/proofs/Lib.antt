@@ -8,5 +8,6 @@ pub mod PassLemmas
 pub mod CheckedLemmas
 pub mod FlattenLemmas
 pub mod SpliceLemmas
+pub mod ChargeLemmas
 pub mod CopiesLemmas
 pub mod UnrollLemmas
