@@ -10,3 +10,6 @@ pub mod FlattenLemmas
 pub mod SpliceLemmas
 pub mod PromoteLemmas
 pub mod SimplifyLemmas
+pub mod ChargeLemmas
+pub mod CopiesLemmas
+pub mod UnrollLemmas

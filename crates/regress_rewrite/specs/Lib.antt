@@ -4,3 +4,4 @@ pub mod Splice
 pub mod Taken
 pub mod Promote
 pub mod Simplify
+pub mod Unroll

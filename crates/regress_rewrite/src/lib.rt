@@ -7,6 +7,7 @@ pub mod promote_1char_loops;
 mod rewrite;
 pub mod rewrites;
 pub mod simplify_brackets;
+pub mod unroll_loops;
 
 pub use pass::run_pass;
 pub use rewrite::{PassAction, Rewrite};

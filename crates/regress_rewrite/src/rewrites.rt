@@ -4,6 +4,7 @@ use crate::flatten::flatten;
 use crate::promote_1char_loops::promote_1char_loops;
 use crate::rewrite::{PassAction, Rewrite};
 use crate::simplify_brackets::simplify_brackets;
+use crate::unroll_loops::unroll_loops;
 use regress_tree::ir::{Node, Walk};
 use std::alloc::{AllocError, Global};
 
@@ -61,5 +62,24 @@ impl Rewrite for Promote1CharLoops {
 
     fn apply(&mut self, node: &mut Node, _walk: &Walk) -> Result<PassAction, AllocError> {
         promote_1char_loops(self.alloc, node)
+    }
+}
+
+/// Unrolling of loops, which looks at no more of each than 257 nodes of its body.
+#[derive(Drop)]
+pub struct UnrollLoops {
+    pub alloc: Global,
+}
+
+impl Rewrite for UnrollLoops {
+    ghost use Rattle.std.specs.Prelude.{true};
+    ghost use Rattle.regress_tree.specs.Shapes.{is_unrolled_away};
+
+    ghost removes = { is_unrolled_away };
+
+    ghost is_exact = { true };
+
+    fn apply(&mut self, node: &mut Node, _walk: &Walk) -> Result<PassAction, AllocError> {
+        unroll_loops(self.alloc, node)
     }
 }

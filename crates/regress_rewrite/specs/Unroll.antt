@@ -1,0 +1,35 @@
+-- Loops that are unrolled.
+use Rattle.std.specs.Prelude.{ℕ, ◌-◌, Bool, not, ◌&&◌, nat_le, Option, Some, None, option_map, if◌then◌else◌}
+use Rattle.regress_tree.specs.declared.ir.node.Quantifier.{Quantifier}
+use Rattle.regress_tree.specs.Measures.{total_in_row, levels, levels_of_deepest}
+use Rattle.regress_tree.specs.Shapes.{on_leaf, on_wrapper, some_node_in_row, is_loop, is_string_set, has_loop, has_string_set, is_zero}
+use Rattle.regress_tree.specs.Tree.{Tree, Trees, cat, wrapped, loop, no_trees, more_trees, row_append, copies}
+use Rattle.regress_tree.specs.Units.{charges, charge}
+
+-- What a charge leaves of a budget: None where the budget is too small, there are more than `most` levels, or there are loops or
+-- sets of strings.
+abbrev pub left_of_budget : (most budget : ℕ) (loops strings : Bool) (charge levels : ℕ) → Option ℕ
+left_of_budget most budget loops strings charge levels =
+    if (not loops && not strings) && (nat_le charge budget && nat_le levels most) then Some (budget - charge) else None
+
+-- what a copy of the tree leaves, and copies of all trees of a row
+abbrev pub after_charge : (most budget : ℕ) → Tree → Option ℕ
+after_charge most budget t = left_of_budget most budget (has_loop t) (has_string_set t) (charge t) (levels t)
+
+abbrev pub after_charge_row : (most budget : ℕ) → Trees → Option ℕ
+after_charge_row most budget ts =
+    left_of_budget most budget (some_node_in_row (on_wrapper is_loop) ts) (some_node_in_row (on_leaf is_string_set) ts)
+    (total_in_row charges ts) (levels_of_deepest ts)
+
+-- the turns that may follow the least number
+abbrev pub further_turns : Quantifier → Quantifier
+further_turns q = record q { min = 0; max = option_map (λ max. max - q.min) q.max }
+
+-- the loop of these, unless there are none
+abbrev pub further_loop : Quantifier → (start end : ℕ) → Tree → Trees
+further_loop q start end body =
+    if is_zero (further_turns q).max then no_trees else more_trees (wrapped (loop (further_turns q) start end) body) no_trees
+
+-- a copy of the body for each turn of the least number, and that loop
+abbrev pub unrolled : Quantifier → (start end : ℕ) → Tree → Tree
+unrolled q start end body = cat (row_append (copies q.min body) (further_loop q start end body))

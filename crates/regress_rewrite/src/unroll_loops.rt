@@ -1,0 +1,151 @@
+//! Unrolling of loops: the turns that must be taken are written out.
+ghost use Rattle.std.specs.Prelude.{◌≡◌, ◌<◌, ◌≤◌, true, false, IfOk, OnErr, vec_len, vec_capacity};
+ghost use Rattle.regress_tree.specs.Copies.{HasNoGroup};
+ghost use Rattle.regress_tree.specs.Measures.{levels};
+ghost use Rattle.regress_tree.specs.Reading.{Direction};
+ghost use Rattle.regress_tree.specs.Shapes.{has_string_set, is_unrolled_away};
+ghost use Rattle.regress_tree.specs.Tree.{tree, trees, copies};
+ghost use Rattle.regress_tree.specs.WellFormed.{IsQuantifier};
+ghost use Rattle.regress_rewrite.specs.Law.{IsPart, IsLawful};
+ghost use Rattle.regress_rewrite.specs.Unroll.{after_charge, after_charge_row, further_turns};
+
+use crate::rewrite::PassAction;
+use regress_tree::ir::{Node, NodeList, Quantifier};
+use std::alloc::{AllocError, Global};
+use std::mem;
+
+/// What a body that is copied is charged at most.
+const MAX_CHARGE: usize = 256;
+
+/// How many levels a body that is copied has at most.
+const MAX_LEVELS: usize = 101;
+
+/// Unrolls a loop that `may_unroll` finds, as `unroll` does, and keeps any other node.
+pub fn unroll_loops(alloc: Global, node: &mut Node) -> Result<PassAction, AllocError>
+    requires { IsPart (tree node.old) }
+    ensures lawful { (d : Direction) → IfOk result (IsLawful is_unrolled_away true d (tree node.old) (tree node.new)) }
+    ensures err { OnErr result (tree node.new ≡ tree node.old) }
+{
+    if may_unroll(node) {
+        unroll(alloc, node)
+    } else {
+        Ok(PassAction::Keep)
+    }
+}
+
+/// Whether it is a `Loop` without groups that must take one to five turns, and whose body is small
+/// enough to be copied for each of them. It looks at no more than 257 nodes of the body.
+pub fn may_unroll(node: &Node) -> bool
+    ensures { result ≡ is_unrolled_away (tree node.now) }
+{
+    match node {
+        Node::Loop {
+            loopee,
+            quant,
+            enclosed_groups,
+        } => {
+            enclosed_groups.is_empty()
+                && matches!(quant.min, 1..=5)
+                && charge(loopee, MAX_LEVELS, MAX_CHARGE).is_some()
+        }
+        _ => false,
+    }
+}
+
+/// Makes a loop that `may_unroll` finds a `Cat`: a copy of the body for each turn that must be taken,
+/// and the loop of the turns that may follow, unless there are none. All memory is taken before the
+/// loop is changed.
+pub fn unroll(alloc: Global, node: &mut Node) -> Result<PassAction, AllocError>
+    requires part { IsPart (tree node.old) }
+    requires shape { is_unrolled_away (tree node.old) ≡ true }
+    ensures lawful { (d : Direction) → IfOk result (IsLawful is_unrolled_away true d (tree node.old) (tree node.new)) }
+    ensures err { OnErr result (tree node.new ≡ tree node.old) }
+{
+    let Node::Loop { loopee, quant, .. } = node else {
+        unreachable!()
+    };
+    let mut parts = copy_times(alloc, loopee, quant.min)?;
+    // There is room for the loop: nothing fails from here on.
+    *quant = further_turns(quant);
+    if quant.max != Some(0) {
+        parts.push(mem::replace(node, Node::Empty))?;
+    }
+    *node = Node::Cat(parts);
+    Ok(PassAction::Modified)
+}
+
+/// So many copies of a body, with room for one node more.
+fn copy_times(alloc: Global, body: &Node, times: usize) -> Result<NodeList, AllocError>
+    requires times { times ≤ 5 }
+    requires groups { HasNoGroup (tree body.now) }
+    requires strings { has_string_set (tree body.now) ≡ false }
+    requires levels { levels (tree body.now) ≤ 101 }
+    ensures copies { IfOk result (λ parts. trees parts.items ≡ copies times (tree body.now)) }
+    ensures room { IfOk result (λ parts. vec_len parts < vec_capacity parts) }
+{
+    let mut parts = Vec::with_capacity(alloc, times + 1)?;
+    for _ in 0..times {
+        match body.try_duplicate(alloc, 0)? {
+            Some(copy) => parts.push(copy)?,
+            None => unreachable!(),
+        }
+    }
+    Ok(parts)
+}
+
+/// How many turns may follow those that must be taken.
+fn further_turns(quant: &Quantifier) -> Quantifier
+    requires { IsQuantifier quant.now }
+    ensures { result ≡ further_turns quant.now }
+{
+    Quantifier {
+        min: 0,
+        max: quant.max.map(|max| max - quant.min),
+        greedy: quant.greedy,
+    }
+}
+
+/// What is left of a budget once a copy of the node is charged to it: one for each node, and one
+/// more for each byte of a `ByteSequence`. It is None where the budget is too small, the node has more
+/// than so many levels, or a loop or a `StringSet` is inside.
+///
+/// The budget is charged on the way down, so it looks at one node more than the budget at most.
+#[cycle(charge)]
+fn charge(node: &Node, levels: usize, budget: usize) -> Option<usize>
+    ensures { result ≡ after_charge levels budget (tree node.now) }
+{
+    let inside = levels.checked_sub(1)?;
+    let left = budget.checked_sub(1)?;
+    match node {
+        Node::Cat(parts) => charge_parts(parts, inside, left),
+        Node::Alt(first, second) => charge(second, inside, charge(first, inside, left)?),
+        Node::CaptureGroup { contents, .. } | Node::LookaroundAssertion { contents, .. } => {
+            charge(contents, inside, left)
+        }
+        Node::ByteSequence(bytes) => left.checked_sub(bytes.len()),
+        Node::Loop { .. } | Node::Loop1CharBody { .. } | Node::StringSet { .. } => None,
+        Node::Empty
+        | Node::Goal
+        | Node::Char { .. }
+        | Node::ByteSet(_)
+        | Node::CharSet(_)
+        | Node::MatchAny
+        | Node::MatchAnyExceptLineTerminator
+        | Node::Anchor { .. }
+        | Node::WordBoundary { .. }
+        | Node::Bracket(_)
+        | Node::BackRef { .. } => Some(left),
+    }
+}
+
+/// What is left once copies of all parts are charged.
+#[cycle(charge)]
+fn charge_parts(parts: &[Node], levels: usize, budget: usize) -> Option<usize>
+    ensures { result ≡ after_charge_row levels budget (trees parts.now) }
+{
+    let mut left = budget;
+    for part in parts {
+        left = charge(part, levels, left)?;
+    }
+    Some(left)
+}
