@@ -3,7 +3,17 @@
 #![tactic(auto)]
 
 pub use regress_base::{bytesearch, charclasses, codepointset, types, util};
-pub use regress_tree::{ir, literal, unicode};
+pub use regress_tree::unicode;
+
+/// The tree.
+pub mod ir {
+    pub use regress_tree::ir::{AnchorType, Node, NodeList, Quantifier, Regex, Walk, walk, walk_mut};
+}
+
+/// Lowering of literals.
+pub mod literal {
+    pub use regress_tree::literal::{Piece, lower_code_point_sequence};
+}
 
 /// From the text of a pattern to its tree.
 pub mod parse {

@@ -1,0 +1,29 @@
+//! The linter of docs/CALLING.md.
+
+use super::parsed;
+use crate::linter::lint;
+use std::test::Fail;
+
+#[test]
+fn a_linter_lists_groups_and_warns_of_nested_loops(rt: HostRuntime) -> Result<(), Fail> {
+    let alloc = rt.alloc();
+    for (pattern, wanted) in [
+        (
+            "(?<year>a)|(b(c))",
+            "Report { groups: [Group { id: 0, name: Some(\"year\") }, Group { id: 1, name: None }, Group { id: 2, name: None }], loops: 0, lookarounds: 0, nested: false }",
+        ),
+        (
+            "(?:a+b)*(?=c)",
+            "Report { groups: [], loops: 2, lookarounds: 1, nested: true }",
+        ),
+        // side by side, and with a greatest number of turns
+        (
+            "a+b*(?:c+){3}",
+            "Report { groups: [], loops: 4, lookarounds: 0, nested: false }",
+        ),
+    ] {
+        let report = lint(alloc, &parsed(alloc, pattern, "")?)?;
+        assert_eq!(rt; format!(in alloc; "{report:?}")?.as_str(), wanted, "{pattern}");
+    }
+    Ok(())
+}

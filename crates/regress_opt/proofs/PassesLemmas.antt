@@ -1,0 +1,116 @@
+-- Passes one after another.
+use Rattle.std.proofs.Common.{◌≡◌, ◌≢◌, ℕ, ◌+◌, ◌<◌, ◌≤◌, Bool, true, false, IsTrue, Result, Ok, Err, List, [], ◌∷◌, length, take, get_or, refl, sym, ap, subst, ◌∙◌, le_refl, le_trans}
+use Rattle.std.specs.Prelude.{IfOk, OnOk, MatchBool}
+use Rattle.std.proofs.lemmas.List.Elements.{All-more, All-get_or}
+use Rattle.std.specs.declared.alloc.AllocError.{AllocError}
+use Rattle.regress_tree.specs.declared.ir.node.Regex.{Regex}
+use Rattle.regress_tree.specs.Reading.{forwards}
+use Rattle.regress_tree.specs.Shapes.{LacksShape, is_simplified_away}
+use Rattle.regress_tree.specs.Tree.{Tree, tree}
+use Rattle.regress_tree.specs.Units.{account, IsLess}
+use Rattle.regress_tree.specs.WellFormed.{IsWellFormed, captures, root}
+use Rattle.regress_tree.proofs.laws.Alike.{Alike-refl, Alike-trans}
+use Rattle.regress_tree.proofs.laws.Falling.{changes_left, changes_left-falls}
+use Rattle.regress_rewrite.specs.Law.{MeansTheSame}
+use Rattle.regress_rewrite.specs.Sweep.{TellsChange}
+use Rattle.regress_rewrite.proofs.laws.Changes.{joined, joined-false, TellsChange-then}
+use Rattle.regress_opt.specs.declared.optimizer.Pass.{Pass}
+use Rattle.regress_opt.specs.Passes.{removed_by, LacksAll, Kept, Passed, PassedAll}
+
+pub Kept-refl : (r : Regex) → IsWellFormed (tree r.node) → Kept r r
+Kept-refl r well_formed = record {
+  meaning = λ setting text is_text. Alike-refl _;
+  well_formed = well_formed;
+  captures = refl;
+  account = le_refl _;
+  brackets = λ lacks. lacks;
+  flags = refl;
+}
+
+pub Kept-then : (a b c : Regex) → Kept a b → Kept b c → Kept a c
+Kept-then a b c first second = record {
+  meaning = λ setting text is_text. Alike-trans (first.meaning setting text is_text) (second.meaning setting text is_text);
+  well_formed = second.well_formed;
+  captures = second.captures ∙ first.captures;
+  account = le_trans second.account first.account;
+  brackets = λ lacks. second.brackets (first.brackets lacks);
+  flags = second.flags ∙ first.flags;
+}
+
+-- what a pass ensures
+pub of_pass : (pass : Pass) (old new : Regex) (answer : Result Bool AllocError) →
+    MeansTheSame forwards (tree old.node) (tree new.node) → IsWellFormed (tree new.node) →
+    captures (tree new.node) ≡ captures (tree old.node) → account (tree new.node) ≤ account (tree old.node) →
+    (LacksShape is_simplified_away (tree old.node) → LacksShape is_simplified_away (tree new.node)) → new.flags ≡ old.flags →
+    IfOk answer (λ changed. MatchBool changed (tree new.node ≢ tree old.node) (tree new.node ≡ tree old.node)) →
+    IfOk answer (λ changed. IsTrue changed → IsLess (tree new.node) (tree old.node)) →
+    OnOk answer (LacksShape (removed_by pass) (tree new.node)) →
+    (LacksShape (removed_by pass) (tree old.node) → tree new.node ≡ tree old.node) →
+    PassedAll (pass ∷ []) old new answer
+of_pass pass old new answer meaning well_formed captures account brackets flags changed less removed left = record {
+  kept = record {
+    meaning = meaning;
+    well_formed = well_formed;
+    captures = captures;
+    account = account;
+    brackets = brackets;
+    flags = flags;
+  };
+  changed = tells answer changed less;
+  removed = λ same. (of_ok answer same removed, tt);
+  left = λ lacks. left lacks.0;
+}
+  where
+    tells : (answer : Result Bool AllocError) →
+        IfOk answer (λ changed. MatchBool changed (tree new.node ≢ tree old.node) (tree new.node ≡ tree old.node)) →
+        IfOk answer (λ changed. IsTrue changed → IsLess (tree new.node) (tree old.node)) →
+        TellsChange answer (tree old.node) (tree new.node)
+    tells (Ok true) changed less = less tt
+    tells (Ok false) changed less = changed
+    tells (Err e) changed less = tt
+
+    of_ok : (answer : Result Bool AllocError) → answer ≡ Ok false → OnOk answer (LacksShape (removed_by pass) (tree new.node)) →
+        LacksShape (removed_by pass) (tree new.node)
+    of_ok (Ok b) same removed = removed
+    of_ok (Err e) same removed = cc
+
+pub Passed-none : (all : List Pass) (r : Regex) → IsWellFormed (tree r.node) → Passed all [] r r (Ok false)
+Passed-none all r well_formed = record { kept = Kept-refl r well_formed; changed = refl; removed = λ same. tt; left = λ lacks. refl }
+
+-- after an error nothing is said of what is removed
+pub Passed-error : (all done done' : List Pass) (a b : Regex) (e : AllocError) → Passed all done a b (Err e) → Passed all done' a b (Err e)
+Passed-error all done done' a b e passed = record {
+  kept = passed.kept;
+  changed = tt;
+  removed = λ same. cc;
+  left = passed.left;
+}
+
+-- one pass more
+module _ (all : List Pass) (i : ℕ) (pass : Pass) (in_row : i < length all) (at : pass ≡ get_or all i pass) (a b c : Regex)
+    (changed : Bool) (answer : Result Bool AllocError) where
+  pub Passed-next : Passed all (take i all) a b (Ok changed) → PassedAll (pass ∷ []) b c answer →
+      Passed all (take (i + 1) all) a c (joined changed answer)
+  Passed-next first second = record {
+    kept = Kept-then a b c first.kept second.kept;
+    changed = TellsChange-then changed answer (tree a.node) (tree b.node) (tree c.node) first.changed second.changed;
+    removed = λ same.
+        let parts = joined-false changed answer same in
+        let still = subst (λ (r : Result Bool AllocError). TellsChange r (tree b.node) (tree c.node)) parts.1 second.changed in
+        let before = subst (λ (t : Tree). LacksAll (take i all) t) (sym still) (first.removed (ap Ok parts.0)) in
+        let here = subst (λ (p : Pass). LacksShape (removed_by p) (tree c.node)) at (second.removed parts.1).0 in
+        All-more (λ p. LacksShape (removed_by p) (tree c.node)) all i pass in_row before here;
+    left = λ lacks.
+        let same = first.left lacks in
+        let there = All-get_or (λ p. LacksShape (removed_by p) (tree a.node)) all i pass in_row lacks in
+        let here = subst (λ (t : Tree). LacksShape (removed_by pass) t) (sym same)
+        (subst (λ (p : Pass). LacksShape (removed_by p) (tree a.node)) (sym at) there) in
+        second.left (here, tt) ∙ same;
+  }
+
+-- Rounds end.
+pub falls : (a b c : Regex) → Kept a b → Kept b c → IsLess (tree c.node) (tree b.node) →
+    changes_left (account (tree a.node)) (tree c.node) < changes_left (account (tree a.node)) (tree b.node)
+falls a b c first second less =
+    changes_left-falls (account (tree a.node)) (tree b.node) (tree c.node) (length (captures (tree c.node))) root
+    second.well_formed.stands first.account second.account less
