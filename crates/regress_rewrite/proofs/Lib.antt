@@ -1,6 +1,8 @@
 pub mod KeepsLemmas
 pub mod LawfulLemmas
 pub mod TakenLemmas
+pub mod RowLemmas
+pub mod GroupLemmas
 pub mod SweepLemmas
 pub mod SpineLemmas
 pub mod PartsLemmas
@@ -8,3 +10,5 @@ pub mod PassLemmas
 pub mod CheckedLemmas
 pub mod FlattenLemmas
 pub mod SpliceLemmas
+pub mod EmptiesLemmas
+pub mod FailsLemmas

@@ -2,7 +2,10 @@
 #![tactic(auto)]
 
 pub mod flatten;
+pub mod has_group;
 mod pass;
+pub mod propagate_early_fails;
+pub mod remove_empties;
 mod rewrite;
 pub mod rewrites;
 
