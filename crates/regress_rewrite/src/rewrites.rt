@@ -44,7 +44,8 @@ impl Rewrite for RemoveEmpties {
     }
 }
 
-/// Propagating early failure. It looks for a capture group only where a part fails.
+/// Propagating early failure. It looks for a capture group only where a part fails: at each alternative that
+/// does through those behind it, so for an alternation the time may grow with the square of its length.
 #[derive(Drop)]
 pub struct PropagateEarlyFails {
     pub alloc: Global,
