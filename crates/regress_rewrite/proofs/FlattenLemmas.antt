@@ -18,12 +18,12 @@ use Rattle.regress_tree.specs.Shapes.{on_leaf, some_node, some_node_in_row, has_
 use Rattle.regress_tree.proofs.laws.Alike.{Alike-from_same}
 use Rattle.regress_tree.proofs.laws.Outcomes.{flat_map-stay}
 use Rattle.regress_tree.proofs.laws.Measures.{some_node-append, total-append, IsLess-lighter}
-use Rattle.regress_tree.proofs.laws.Rows.{row_append-none, steps-append, captures-append, RowMayStand-last_of, MayStand-from_last, RowMayStand-append}
+use Rattle.regress_tree.proofs.laws.Rows.{row_append-none, steps-append, captures-append, RowMayStand-last_of, RowMayStand-append}
 use Rattle.regress_rewrite.specs.declared.rewrite.PassAction.{PassAction}
 use Rattle.regress_rewrite.specs.declared.rewrite.PassAction.TheVariants.{Keep, Modified, Remove, Replace}
 use Rattle.regress_rewrite.specs.Law.{Keeps, IsLawful}
 use Rattle.regress_rewrite.specs.Splice.{parts_of, spliced, Flattens}
-use Rattle.regress_rewrite.proofs.KeepsLemmas.{Keeps-part}
+use Rattle.regress_rewrite.proofs.KeepsLemmas.{Keeps-no_part, Keeps-one_part}
 use Rattle.regress_rewrite.proofs.LawfulLemmas.{keep_lawful, modified_lawful, remove_lawful, replace_lawful}
 use Rattle.regress_tree.proofs.laws.Places.{among, IsLess-part}
 
@@ -102,30 +102,14 @@ weight-less (more_trees (leaf l) ts) some = omega (arith, weight-less ts some)
 weight-less (more_trees (alt left right) ts) some = omega (arith, weight-less ts some)
 weight-less (more_trees (wrapped w body) ts) some = omega (arith, weight-less ts some)
 
--- The three actions that change something.
-
-module _ (d : Direction) where
-  none_keeps : Keeps d (cat no_trees) (leaf empty)
-  none_keeps = record {
-    meaning = λ setting text is_text. Alike-from_same (λ s. refl);
-    stands = λ n p m. m.0;
-    captures = refl;
-    account = omega arith;
-    brackets = λ lacks. refl;
-  }
-
-  one_keeps : (t : Tree) → Keeps d (cat (more_trees t no_trees)) t
-  one_keeps t = Keeps-part (among no_trees no_trees) d t (λ setting text is_text. Alike-from_same (λ s. flat_map-stay _))
-      (λ n p m. MayStand-from_last n t p m.0 m.1) (sym (append-nil (captures t)))
-
-  spliced_keeps : (ts : Trees) → Keeps d (cat ts) (cat (spliced ts))
-  spliced_keeps ts = record {
-    meaning = λ setting text is_text. Alike-from_same (λ s. sym (steps-spliced setting (encode_utf8_all text) d ts s));
-    stands = λ n p m. (m.0, spliced-stand n ts p m.1);
-    captures = captures-spliced ts;
-    account = omega (arith, total-spliced sizes ts, total-spliced unrollables ts);
-    brackets = λ lacks. some_node-spliced _ ts ∙ lacks;
-  }
+spliced_keeps : (d : Direction) (ts : Trees) → Keeps d (cat ts) (cat (spliced ts))
+spliced_keeps d ts = record {
+  meaning = λ setting text is_text. Alike-from_same (λ s. sym (steps-spliced setting (encode_utf8_all text) d ts s));
+  stands = λ n p m. (m.0, spliced-stand n ts p m.1);
+  captures = captures-spliced ts;
+  account = omega (arith, total-spliced sizes ts, total-spliced unrollables ts);
+  brackets = λ lacks. some_node-spliced _ ts ∙ lacks;
+}
 
 -- The law.
 
@@ -141,11 +125,11 @@ flattens_lawful d Modified old new flattens =
     (IsLess-lighter (cat (spliced old)) (cat old) (omega (arith, total-spliced unrollables old)) (omega (arith, weight-less old flattens.0))))
 flattens_lawful d Remove old new flattens =
     subst (λ (ts : Trees). IsLawful is_flattened_away true d (cat ts) (cat new) Remove) (sym flattens)
-    (remove_lawful is_flattened_away true d (cat no_trees) refl (cat new) (none_keeps d)
+    (remove_lawful is_flattened_away true d (cat no_trees) refl (cat new) (Keeps-no_part d)
     (IsLess-lighter (leaf empty) (cat no_trees) (omega arith) (omega arith)))
 flattens_lawful d (Replace part) old new flattens =
     subst (λ (ts : Trees). IsLawful is_flattened_away true d (cat ts) (cat new) (Replace part)) (sym flattens)
-    (replace_lawful is_flattened_away true d (cat (more_trees (tree part) no_trees)) refl (cat new) part (one_keeps d (tree part))
+    (replace_lawful is_flattened_away true d (cat (more_trees (tree part) no_trees)) refl (cat new) part (Keeps-one_part d (tree part))
     (IsLess-part (among no_trees no_trees) (tree part)))
 
 pub flatten_lawful : (d : Direction) (r : Result PassAction AllocError) (was is : Trees) → IfOk r (λ action. Flattens action was is) →

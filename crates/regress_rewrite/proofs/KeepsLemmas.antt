@@ -1,12 +1,14 @@
 -- What rewriting keeps, composed: one change after another, and a change of a part in the whole.
-use Rattle.std.proofs.Common.{◌≡◌, ◌∙◌, refl, sym, le_refl, le_trans}
+use Rattle.std.proofs.Common.{◌≡◌, ◌∙◌, refl, sym, le_refl, le_trans, append-nil, arith}
 use Rattle.std.specs.Prelude.{encode_utf8_all}
 use Rattle.regress_tree.specs.Reading.{Direction}
-use Rattle.regress_tree.specs.Tree.{Tree}
+use Rattle.regress_tree.specs.Tree.{Tree, leaf, empty, cat, no_trees, more_trees}
 use Rattle.regress_tree.specs.WellFormed.{captures}
 use Rattle.regress_tree.specs.Shapes.{is_simplified_away}
-use Rattle.regress_tree.proofs.laws.Alike.{Alike-refl, Alike-trans}
-use Rattle.regress_tree.proofs.laws.Places.{Place, put, direction_at, Alike-put, MayStand-put, captures-put, account-put, MayStand-part, LacksShape-put, on_leaf-put, account-part, LacksShape-whole}
+use Rattle.regress_tree.proofs.laws.Alike.{Alike-refl, Alike-trans, Alike-from_same}
+use Rattle.regress_tree.proofs.laws.Outcomes.{flat_map-stay}
+use Rattle.regress_tree.proofs.laws.Rows.{MayStand-from_last}
+use Rattle.regress_tree.proofs.laws.Places.{Place, among, put, direction_at, Alike-put, MayStand-put, captures-put, account-put, MayStand-part, LacksShape-put, on_leaf-put, account-part, LacksShape-whole}
 use Rattle.regress_rewrite.specs.Law.{IsPart, MeansTheSame, StandsWhere, Keeps}
 
 pub Keeps-refl : (d : Direction) (t : Tree) → Keeps d t t
@@ -46,6 +48,20 @@ Keeps-part p d t meaning stands captures = record {
   account = account-part p t;
   brackets = LacksShape-whole is_simplified_away p t;
 }
+
+-- what stands for a `Cat` of no part, and of one
+pub Keeps-no_part : (d : Direction) → Keeps d (cat no_trees) (leaf empty)
+Keeps-no_part d = record {
+  meaning = λ setting text is_text. Alike-from_same (λ s. refl);
+  stands = λ n p m. m.0;
+  captures = refl;
+  account = omega arith;
+  brackets = λ lacks. refl;
+}
+
+pub Keeps-one_part : (d : Direction) (t : Tree) → Keeps d (cat (more_trees t no_trees)) t
+Keeps-one_part d t = Keeps-part (among no_trees no_trees) d t (λ setting text is_text. Alike-from_same (λ s. flat_map-stay _))
+    (λ n p m. MayStand-from_last n t p m.0 m.1) (sym (append-nil (captures t)))
 
 pub IsPart-kept : (d : Direction) {t u : Tree} → Keeps d t u → IsPart t → IsPart u
 IsPart-kept d keeps part = (part.0, part.1, keeps.stands part.0 part.1 part.2)

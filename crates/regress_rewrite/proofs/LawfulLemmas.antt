@@ -1,14 +1,18 @@
 -- The law, for whatever is removed: what a rewrite has to show of each action.
-use Rattle.std.proofs.Common.{◌≡◌, ◌≢◌, Bool, true, false, refl, sym, ◌∙◌}
+use Rattle.std.proofs.Common.{◌≡◌, ◌≢◌, Bool, true, false, refl, sym, subst, ◌∙◌, arith}
 use Rattle.std.proofs.lemmas.Bool.{false≢true}
 use Rattle.regress_tree.specs.declared.ir.node.Node.{Node}
 use Rattle.regress_tree.specs.Reading.{Direction}
-use Rattle.regress_tree.specs.Tree.{Tree, leaf, empty, tree}
+use Rattle.regress_tree.specs.Tree.{Tree, Trees, leaf, empty, cat, no_trees, tree}
 use Rattle.regress_tree.specs.Units.{IsLess}
 use Rattle.regress_rewrite.specs.declared.rewrite.PassAction.{PassAction}
 use Rattle.regress_rewrite.specs.declared.rewrite.PassAction.TheVariants.{Keep, Modified, Remove, Replace}
 use Rattle.regress_rewrite.specs.Law.{Keeps, after, IsLawful}
-use Rattle.regress_rewrite.proofs.KeepsLemmas.{Keeps-refl}
+use Rattle.regress_rewrite.specs.Taken.{StandsForCat}
+use Rattle.regress_tree.proofs.laws.Measures.{IsLess-lighter}
+use Rattle.regress_tree.proofs.laws.Places.{among, IsLess-part}
+use Rattle.regress_rewrite.proofs.KeepsLemmas.{Keeps-refl, Keeps-trans, Keeps-no_part, Keeps-one_part}
+use Rattle.regress_tree.proofs.laws.Falling.{IsLess-trans}
 
 module _ (removes : Tree → Bool) (exact : Bool) (d : Direction) where
   -- a node with nothing to remove is kept
@@ -42,3 +46,18 @@ module _ (removes : Tree → Bool) (exact : Bool) (d : Direction) where
     pub replace_lawful : (left : Tree) (node : Node) → Keeps d old (tree node) → IsLess (tree node) old →
         IsLawful removes exact d old left (Replace node)
     replace_lawful left node = changed left (Replace node) (λ same. cc)
+
+    -- what is left of a `Cat` may stand in it, or for it where it is one part or none
+    pub cat_lawful : (action : PassAction) (parts left : Trees) → Keeps d old (cat parts) → IsLess (cat parts) old →
+        StandsForCat action parts left → IsLawful removes exact d old (cat left) action
+    cat_lawful Keep parts left keeps is_less stands = absurd stands
+    cat_lawful Modified parts left keeps is_less stands =
+        subst (λ (ts : Trees). IsLawful removes exact d old (cat ts) Modified) (sym stands) (modified_lawful (cat parts) keeps is_less)
+    cat_lawful Remove parts left keeps is_less stands =
+        remove_lawful (cat left) (Keeps-trans d (subst (λ (ts : Trees). Keeps d old (cat ts)) stands keeps) (Keeps-no_part d))
+        (IsLess-trans old (cat parts) (leaf empty) is_less
+        (IsLess-lighter (leaf empty) (cat parts) (omega arith) (omega arith)))
+    cat_lawful (Replace part) parts left keeps is_less stands =
+        replace_lawful (cat left) part (Keeps-trans d (subst (λ (ts : Trees). Keeps d old (cat ts)) stands keeps) (Keeps-one_part d (tree part)))
+        (IsLess-trans old (cat parts) (tree part) is_less
+        (subst (λ (ts : Trees). IsLess (tree part) (cat ts)) (sym stands) (IsLess-part (among no_trees no_trees) (tree part))))

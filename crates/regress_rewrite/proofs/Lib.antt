@@ -2,6 +2,8 @@ pub mod laws
 pub mod KeepsLemmas
 pub mod LawfulLemmas
 pub mod TakenLemmas
+pub mod RowLemmas
+pub mod GroupLemmas
 pub mod SweepLemmas
 pub mod SpineLemmas
 pub mod PartsLemmas
@@ -13,3 +15,5 @@ pub mod SimplifyLemmas
 pub mod ChargeLemmas
 pub mod CopiesLemmas
 pub mod UnrollLemmas
+pub mod EmptiesLemmas
+pub mod FailsLemmas

@@ -8,7 +8,6 @@ use Rattle.regress_tree.specs.declared.ir.walker.Walk.{Walk}
 use Rattle.regress_tree.specs.Walk.{direction_of}
 use Rattle.regress_tree.specs.Tree.{Tree}
 use Rattle.regress_tree.specs.Units.{IsLess}
-use Rattle.regress_tree.proofs.laws.Falling.{IsLess-trans}
 use Rattle.regress_tree.proofs.laws.Places.{Place, put, direction_at, IsLess-put}
 use Rattle.regress_rewrite.specs.Law.{Keeps}
 use Rattle.regress_rewrite.specs.Sweep.{TellsChange, Swept}

@@ -2,8 +2,11 @@
 #![tactic(auto)]
 
 pub mod flatten;
+pub mod has_group;
 mod pass;
 pub mod promote_1char_loops;
+pub mod propagate_early_fails;
+pub mod remove_empties;
 mod rewrite;
 pub mod rewrites;
 pub mod simplify_brackets;

@@ -1,12 +1,34 @@
 //! The rewrites, as what a pass runs: each finds what is to be known of a node, and rewrites it.
 
 use crate::flatten::flatten;
+use crate::has_group::has_group;
 use crate::promote_1char_loops::promote_1char_loops;
+use crate::propagate_early_fails::{fails_by_part, propagate_early_fails};
+use crate::remove_empties::remove_empties;
 use crate::rewrite::{PassAction, Rewrite};
 use crate::simplify_brackets::simplify_brackets;
 use crate::unroll_loops::unroll_loops;
 use regress_tree::ir::{Node, Walk};
 use std::alloc::{AllocError, Global};
+
+/// Simplification of brackets, which looks at nothing but the node.
+#[derive(Drop)]
+pub struct SimplifyBrackets {
+    pub alloc: Global,
+}
+
+impl Rewrite for SimplifyBrackets {
+    ghost use Rattle.std.specs.Prelude.{true};
+    ghost use Rattle.regress_tree.specs.Shapes.{is_simplified_away};
+
+    ghost removes = { is_simplified_away };
+
+    ghost is_exact = { true };
+
+    fn apply(&mut self, node: &mut Node, _walk: &Walk) -> Result<PassAction, AllocError> {
+        simplify_brackets(self.alloc, node)
+    }
+}
 
 /// Flattening, which looks at nothing but the node.
 #[derive(Drop)]
@@ -27,22 +49,22 @@ impl Rewrite for Flatten {
     }
 }
 
-/// Simplification of brackets, which looks at nothing but the node.
+/// Unrolling of loops, which looks at no more of each than 257 nodes of its body.
 #[derive(Drop)]
-pub struct SimplifyBrackets {
+pub struct UnrollLoops {
     pub alloc: Global,
 }
 
-impl Rewrite for SimplifyBrackets {
+impl Rewrite for UnrollLoops {
     ghost use Rattle.std.specs.Prelude.{true};
-    ghost use Rattle.regress_tree.specs.Shapes.{is_simplified_away};
+    ghost use Rattle.regress_tree.specs.Shapes.{is_unrolled_away};
 
-    ghost removes = { is_simplified_away };
+    ghost removes = { is_unrolled_away };
 
     ghost is_exact = { true };
 
     fn apply(&mut self, node: &mut Node, _walk: &Walk) -> Result<PassAction, AllocError> {
-        simplify_brackets(self.alloc, node)
+        unroll_loops(self.alloc, node)
     }
 }
 
@@ -65,21 +87,42 @@ impl Rewrite for Promote1CharLoops {
     }
 }
 
-/// Unrolling of loops, which looks at no more of each than 257 nodes of its body.
+/// Removing empties, which looks at nothing but the node.
 #[derive(Drop)]
-pub struct UnrollLoops {
-    pub alloc: Global,
-}
+pub struct RemoveEmpties;
 
-impl Rewrite for UnrollLoops {
+impl Rewrite for RemoveEmpties {
     ghost use Rattle.std.specs.Prelude.{true};
-    ghost use Rattle.regress_tree.specs.Shapes.{is_unrolled_away};
+    ghost use Rattle.regress_tree.specs.Shapes.{is_emptied_away};
 
-    ghost removes = { is_unrolled_away };
+    ghost removes = { is_emptied_away };
 
     ghost is_exact = { true };
 
     fn apply(&mut self, node: &mut Node, _walk: &Walk) -> Result<PassAction, AllocError> {
-        unroll_loops(self.alloc, node)
+        Ok(remove_empties(node))
+    }
+}
+
+/// Propagating early failure. It looks for a capture group only where a part fails: at each alternative that
+/// does through those behind it, so for an alternation the time may grow with the square of its length.
+#[derive(Drop)]
+pub struct PropagateEarlyFails {
+    pub alloc: Global,
+}
+
+impl Rewrite for PropagateEarlyFails {
+    ghost use Rattle.std.specs.Prelude.{true};
+    ghost use Rattle.regress_tree.specs.Shapes.{is_failed_away};
+
+    ghost removes = { is_failed_away };
+
+    ghost is_exact = { true };
+
+    fn apply(&mut self, node: &mut Node, _walk: &Walk) -> Result<PassAction, AllocError> {
+        if !fails_by_part(node) || has_group(node) {
+            return Ok(PassAction::Keep);
+        }
+        Ok(propagate_early_fails(self.alloc, node))
     }
 }

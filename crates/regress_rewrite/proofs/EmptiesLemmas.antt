@@ -1,0 +1,217 @@
+-- What matches the empty text alone becomes `Empty`, and a `Cat` loses its `Empty` parts.
+use Rattle.std.proofs.Common.{◌≡◌, ℕ, zero, suc, ◌+◌, ◌-◌, ◌≤◌, Bool, true, false, not, ◌&&◌, ◌||◌, cond, inl, inr, List, [], ◌∷◌, ◌++◌, length, Option, Some, None, refl, sym, ap, ap₂, subst, ◌∙◌, append-nil, add-zero, eqb-true, arith}
+use Rattle.std.specs.Prelude.{encode_utf8_all, IfSome, nat_le}
+use Rattle.std.specs.List.{flat_map}
+use Rattle.std.proofs.lemmas.Bool.{cases_Bool, true≢false, false≢true, and_parts, eq-eqb, leb-true, le-leb}
+use Rattle.std.proofs.lemmas.Str.{length-le-encodes}
+use Rattle.regress_tree.specs.declared.ir.node.Quantifier.{Quantifier}
+use Rattle.regress_tree.specs.Reading.{Direction, forwards, backwards}
+use Rattle.regress_tree.specs.Steps.{State, Step, stay, ◌then_◌, these_bytes}
+use Rattle.regress_tree.specs.Repetition.{turn, turns, moving, up_to, more_turns, repeat}
+use Rattle.regress_tree.specs.Lookaround.{look}
+use Rattle.regress_tree.specs.Setting.{Setting}
+use Rattle.regress_tree.specs.Matching.{steps}
+use Rattle.regress_tree.specs.Tree.{Leaf, empty, goal, char, byte_sequence, byte_set, char_set, match_any, match_any_except_line_terminator, anchor, word_boundary, bracket, back_ref, string_set, Wrapper, capture_group, loop, loop_one, lookaround, Tree, Trees, leaf, cat, alt, wrapped}
+use Rattle.regress_tree.specs.WellFormed.{captures, Position, one_character, inside, last, root, NotAsOneCharacter, AreUtf8, IsQuantifier, MayStand}
+use Rattle.regress_tree.specs.Units.{IsLess}
+use Rattle.regress_tree.specs.NodeTests.{is_none, is_empty}
+use Rattle.regress_tree.specs.Shapes.{is_cat, is_zero, some_in_row, is_byte_sequence_with, is_empty_wrapper, is_emptied_away}
+use Rattle.regress_tree.proofs.laws.Alike.{Alike-from_same}
+use Rattle.regress_tree.proofs.laws.Distinct.{same_state-refl}
+use Rattle.regress_tree.proofs.laws.Groups.{HasGroups-none, captures-none, turn-none}
+use Rattle.regress_tree.proofs.laws.Measures.{units-positive, IsLess-lighter}
+use Rattle.regress_rewrite.specs.Law.{IsPart, MeansTheSame, Keeps, IsLawful}
+use Rattle.regress_rewrite.specs.Taken.{row_without, StandsForCat}
+use Rattle.regress_rewrite.specs.declared.rewrite.PassAction.{PassAction}
+use Rattle.regress_rewrite.specs.declared.rewrite.PassAction.TheVariants.{Remove}
+use Rattle.regress_rewrite.proofs.LawfulLemmas.{remove_lawful, cat_lawful}
+use Rattle.regress_rewrite.proofs.TakenLemmas.{without_keeps, without-less}
+
+-- Outcomes of what matches the empty text alone.
+
+these_bytes-none : (d : Direction) (bytes : List ℕ) (s : State) → these_bytes d bytes [] s ≡ stay s
+unfolding these_bytes
+these_bytes-none forwards bytes s = ap (λ k. record s { place = k } ∷ []) (add-zero s.place)
+these_bytes-none backwards bytes s =
+    ap (λ b. cond (b && true) (record s { place = s.place - 0 } ∷ []) []) (le-leb 0 s.place (omega arith))
+    ∙ ap (λ k. record s { place = k } ∷ []) (omega arith)
+
+-- turns of it change nothing
+turns-stay : (n : ℕ) (s : State) → turns n stay s ≡ stay s
+turns-stay zero s = refl
+turns-stay (suc n) s = append-nil _ ∙ turns-stay n s
+
+moving-stay : (s : State) → moving stay s ≡ []
+moving-stay s = ap (λ b. cond (not b) (s ∷ []) []) (eq-eqb s.place s.place refl)
+
+up_to-stay : (greedy : Bool) (n : ℕ) (s : State) → up_to greedy n stay s ≡ stay s
+up_to-stay greedy zero s = refl
+up_to-stay true (suc n) s = ap (λ states. flat_map (up_to true n stay) states ++ s ∷ []) (moving-stay s)
+up_to-stay false (suc n) s = ap (λ states. s ∷ flat_map (up_to false n stay) states) (moving-stay s)
+
+module _ (bound : ℕ) (q : Quantifier) (start end : ℕ) where
+  repeat-stay : end ≤ start → (s : State) → repeat bound q start end stay s ≡ stay s
+  unfolding repeat
+  repeat-stay ends s =
+      ap (λ (f : Step). (turns q.min f then_ up_to q.greedy (more_turns bound q) f) s) (turn-none start end ends stay)
+      ∙ ap (flat_map (up_to q.greedy (more_turns bound q) stay)) (turns-stay q.min s)
+      ∙ append-nil _ ∙ up_to-stay q.greedy (more_turns bound q) s
+
+  more_turns-none : q.max ≡ Some 0 → more_turns bound q ≡ 0
+  more_turns-none is = rw is (omega arith)
+
+  -- no turn
+  repeat-none : q.max ≡ Some 0 → IsQuantifier q → (f : Step) (s : State) → repeat bound q start end f s ≡ stay s
+  unfolding repeat
+  repeat-none is quantifier f s =
+      let least : q.min ≤ 0 = subst (λ (max : Option ℕ). IfSome max (λ m. q.min ≤ m)) is quantifier in
+      let none : q.min ≡ 0 = omega (arith, least) in
+      ap₂ (λ (n m : ℕ). (turns n (turn start end f) then_ up_to q.greedy m (turn start end f)) s) none (more_turns-none is)
+
+-- What tests tell.
+
+is_zero-Some : (max : Option ℕ) → is_zero max ≡ true → max ≡ Some 0
+is_zero-Some None is = absurd (false≢true is)
+is_zero-Some (Some n) is = ap (λ (m : ℕ). Some m) (eqb-true n 0 is)
+
+is_empty-leaf : (t : Tree) → is_empty t ≡ true → t ≡ leaf empty
+is_empty-leaf (leaf empty) is = refl
+is_empty-leaf (leaf goal) is = absurd (false≢true is)
+is_empty-leaf (leaf (char c)) is = absurd (false≢true is)
+is_empty-leaf (leaf (byte_sequence bytes)) is = absurd (false≢true is)
+is_empty-leaf (leaf (byte_set bytes)) is = absurd (false≢true is)
+is_empty-leaf (leaf (char_set characters)) is = absurd (false≢true is)
+is_empty-leaf (leaf match_any) is = absurd (false≢true is)
+is_empty-leaf (leaf match_any_except_line_terminator) is = absurd (false≢true is)
+is_empty-leaf (leaf (anchor kind multiline)) is = absurd (false≢true is)
+is_empty-leaf (leaf (word_boundary invert unicode_icase)) is = absurd (false≢true is)
+is_empty-leaf (leaf (bracket invert intervals)) is = absurd (false≢true is)
+is_empty-leaf (leaf (back_ref group icase)) is = absurd (false≢true is)
+is_empty-leaf (leaf (string_set strings icase)) is = absurd (false≢true is)
+is_empty-leaf (cat parts) is = absurd (false≢true is)
+is_empty-leaf (alt left right) is = absurd (false≢true is)
+is_empty-leaf (wrapped w body) is = absurd (false≢true is)
+
+-- no byte is the UTF-8 of no character
+no_byte-free : (p : Position) → AreUtf8 [] p → NotAsOneCharacter p
+no_byte-free one_character m = absurd (omega (arith, m.one, ap length m.encoded, length-le-encodes m.characters))
+no_byte-free inside m = tt
+no_byte-free last m = tt
+no_byte-free root m = tt
+
+-- What becomes `Empty`.
+
+module _ (d : Direction) where
+  record Vanishes (t : Tree) : Type 0 where
+    keeps : Keeps d t (leaf empty)
+    less : IsLess (leaf empty) t
+
+  vanishes : (t : Tree) → MeansTheSame d t (leaf empty) → ((n : ℕ) (p : Position) → MayStand n t p → NotAsOneCharacter p) →
+      captures t ≡ [] → IsLess (leaf empty) t → Vanishes t
+  vanishes t same free none is_less = record {
+    keeps = record {
+      meaning = same;
+      stands = free;
+      captures = sym none;
+      account = omega (arith, units-positive t);
+      brackets = λ lacks. refl;
+    };
+    less = is_less;
+  }
+
+  leaf_vanishes : (l : Leaf) → is_byte_sequence_with is_none l ≡ true → Vanishes (leaf l)
+  leaf_vanishes empty is = absurd (false≢true is)
+  leaf_vanishes goal is = absurd (false≢true is)
+  leaf_vanishes (char c) is = absurd (false≢true is)
+  leaf_vanishes (byte_sequence []) is =
+      vanishes (leaf (byte_sequence [])) (λ setting text is_text. Alike-from_same (these_bytes-none d (encode_utf8_all text)))
+      (λ n p m. no_byte-free p m) refl (IsLess-lighter (leaf empty) (leaf (byte_sequence [])) (omega arith) (omega arith))
+  leaf_vanishes (byte_sequence (b ∷ bytes)) is = absurd (false≢true is)
+  leaf_vanishes (byte_set bytes) is = absurd (false≢true is)
+  leaf_vanishes (char_set characters) is = absurd (false≢true is)
+  leaf_vanishes match_any is = absurd (false≢true is)
+  leaf_vanishes match_any_except_line_terminator is = absurd (false≢true is)
+  leaf_vanishes (anchor kind multiline) is = absurd (false≢true is)
+  leaf_vanishes (word_boundary invert unicode_icase) is = absurd (false≢true is)
+  leaf_vanishes (bracket invert intervals) is = absurd (false≢true is)
+  leaf_vanishes (back_ref group icase) is = absurd (false≢true is)
+  leaf_vanishes (string_set strings icase) is = absurd (false≢true is)
+
+  -- the second side finds what the first one does
+  sides_vanish : Vanishes (alt (leaf empty) (leaf empty))
+  sides_vanish =
+      vanishes (alt (leaf empty) (leaf empty))
+      (λ setting text is_text. record { same = λ s. ap (λ b. s ∷ cond (not b) (s ∷ []) []) (same_state-refl s) })
+      (λ n p m. m.0) refl (IsLess-lighter (leaf empty) (alt (leaf empty) (leaf empty)) (omega arith) (omega arith))
+
+  loop_vanishes : (q : Quantifier) (start end : ℕ) (body : Tree) →
+      ((setting : Setting) (bytes : List ℕ) (s : State) → steps setting bytes d (wrapped (loop q start end) body) s ≡ stay s) →
+      captures body ≡ [] → Vanishes (wrapped (loop q start end) body)
+  loop_vanishes q start end body stays none =
+      vanishes (wrapped (loop q start end) body) (λ setting text is_text. Alike-from_same (stays setting (encode_utf8_all text)))
+      (λ n p m. m.0) none
+      (IsLess-lighter (leaf empty) (wrapped (loop q start end) body) (omega arith) (omega arith))
+
+  loop_of_empty : (q : Quantifier) (start end : ℕ) → end ≤ start → Vanishes (wrapped (loop q start end) (leaf empty))
+  loop_of_empty q start end ends =
+      loop_vanishes q start end (leaf empty) (λ setting bytes s. repeat-stay (length bytes + 1) q start end ends s) refl
+
+  loop_of_none : (q : Quantifier) (start end : ℕ) (body : Tree) → q.max ≡ Some 0 → IsQuantifier q → captures body ≡ [] →
+      Vanishes (wrapped (loop q start end) body)
+  loop_of_none q start end body is quantifier none =
+      loop_vanishes q start end body
+      (λ setting bytes s. repeat-none (length bytes + 1) q start end is quantifier (steps setting bytes d body) s) none
+
+  look_of_empty : (behind : Bool) (start end : ℕ) → Vanishes (wrapped (lookaround false behind start end) (leaf empty))
+  unfolding look
+  look_of_empty behind start end =
+      vanishes (wrapped (lookaround false behind start end) (leaf empty)) (λ setting text is_text. Alike-from_same (λ s. refl))
+      (λ n p m. m.0) refl
+      (IsLess-lighter (leaf empty) (wrapped (lookaround false behind start end) (leaf empty)) (omega arith) (omega arith))
+
+  wrapper_vanishes : (w : Wrapper) (body : Tree) → is_empty_wrapper w body ≡ true → IsPart (wrapped w body) → Vanishes (wrapped w body)
+  wrapper_vanishes (capture_group id name) body is part = absurd (false≢true is)
+  wrapper_vanishes (loop q start end) body is part =
+      let asked = part.2.1 in
+      elim (cases_Bool (is_empty body)) [
+        | inl is_empty_body ↦
+            let body_is = is_empty-leaf body is_empty_body in
+            subst (λ (t : Tree). Vanishes (wrapped (loop q start end) t)) (sym body_is)
+            (loop_of_empty q start end (HasGroups-none start end body asked.1 (ap captures body_is)))
+        | inr other ↦
+            let both = and_parts (is_zero q.max) (nat_le end start)
+            (sym (ap (λ b. b || (is_zero q.max && nat_le end start)) other) ∙ is) in
+            loop_of_none q start end body (is_zero-Some q.max both.0) asked.0
+            (captures-none start end body asked.1 (leb-true end start both.1))
+      ]
+  wrapper_vanishes (loop_one q) body is part = absurd (false≢true is)
+  wrapper_vanishes (lookaround true behind start end) body is part = absurd (false≢true is)
+  wrapper_vanishes (lookaround false behind start end) body is part =
+      subst (λ (t : Tree). Vanishes (wrapped (lookaround false behind start end) t)) (sym (is_empty-leaf body is))
+      (look_of_empty behind start end)
+
+  tree_vanishes : (t : Tree) → is_cat t ≡ false → is_emptied_away t ≡ true → IsPart t → Vanishes t
+  tree_vanishes (leaf l) other is part = leaf_vanishes l is
+  tree_vanishes (cat parts) other is part = absurd (true≢false other)
+  tree_vanishes (alt left right) other is part =
+      let both = and_parts (is_empty left) (is_empty right) is in
+      subst (λ (t : Tree). Vanishes t)
+      (sym (ap₂ (λ (l r : Tree). alt l r) (is_empty-leaf left both.0) (is_empty-leaf right both.1))) sides_vanish
+  tree_vanishes (wrapped w body) other is part = wrapper_vanishes w body is part
+
+  -- The law.
+
+  pub whole_lawful : (t left : Tree) → is_cat t ≡ false → is_emptied_away t ≡ true → IsPart t →
+      IsLawful is_emptied_away true d t left Remove
+  whole_lawful t left other is part =
+      let gone = tree_vanishes t other is part in
+      remove_lawful is_emptied_away true d t is left gone.keeps gone.less
+
+  empty_stays : (setting : Setting) (bytes : List ℕ) (t : Tree) → is_empty t ≡ true → (s : State) → steps setting bytes d t s ≡ stay s
+  empty_stays setting bytes t is s = ap (λ (u : Tree). steps setting bytes d u s) (is_empty-leaf t is)
+
+  pub parts_lawful : (action : PassAction) (old left : Trees) → some_in_row is_empty old ≡ true →
+      StandsForCat action (row_without is_empty old) left → IsLawful is_emptied_away true d (cat old) (cat left) action
+  parts_lawful action old left some stands =
+      cat_lawful is_emptied_away true d (cat old) some action (row_without is_empty old) left
+      (without_keeps is_empty (λ t is. ap captures (is_empty-leaf t is)) d empty_stays old) (without-less is_empty old some) stands

@@ -1,0 +1,51 @@
+//! Whether a capture group lies in a node.
+ghost use Rattle.std.specs.Prelude.{◌≡◌, false};
+ghost use Rattle.regress_tree.specs.Tree.{tree, trees};
+ghost use Rattle.regress_tree.specs.Spine.{is_alt};
+ghost use Rattle.regress_tree.specs.Shapes.{has_group, on_wrapper, is_group, some_node_in_row};
+
+use regress_tree::ir::Node;
+
+/// Whether the node is a capture group, or one lies in it. The search stops at the first one. It goes down the
+/// right sides of alternatives in a loop: there may be as many levels as alternatives.
+#[cycle(search)]
+pub fn has_group(node: &Node) -> bool
+    ensures { result ≡ has_group (tree node.now) }
+{
+    let mut node = node;
+    while let Node::Alt(left, right) = node {
+        if has_group(left) {
+            return true;
+        }
+        node = right;
+    }
+    other_has_group(node)
+}
+
+/// The same of a node that is no `Alt`.
+#[cycle(search)]
+fn other_has_group(node: &Node) -> bool
+    requires { is_alt (tree node.now) ≡ false }
+    ensures { result ≡ has_group (tree node.now) }
+{
+    match node {
+        Node::CaptureGroup { .. } => true,
+        Node::Cat(parts) => some_has_group(parts),
+        Node::Loop { loopee, .. } | Node::Loop1CharBody { loopee, .. } => has_group(loopee),
+        Node::LookaroundAssertion { contents, .. } => has_group(contents),
+        _ => false,
+    }
+}
+
+/// Whether a capture group lies in some of the nodes.
+#[cycle(search)]
+fn some_has_group(nodes: &[Node]) -> bool
+    ensures { result ≡ some_node_in_row (on_wrapper is_group) (trees nodes.now) }
+{
+    for node in nodes {
+        if has_group(node) {
+            return true;
+        }
+    }
+    false
+}

@@ -1,0 +1,58 @@
+//! A node that never matches, since a part of it does not, becomes one that says so.
+ghost use Rattle.std.specs.Prelude.{◌≡◌, true, false, [], ◌||◌};
+ghost use Rattle.regress_tree.specs.Reading.{Direction};
+ghost use Rattle.regress_tree.specs.Tree.{tree, leaf, char_set};
+ghost use Rattle.regress_tree.specs.NodeTests.{match_always_fails};
+ghost use Rattle.regress_tree.specs.Shapes.{fails_by_part, has_group, is_failed_away};
+ghost use Rattle.regress_rewrite.specs.Law.{IsPart, IsLawful};
+
+use crate::rewrite::PassAction;
+use regress_tree::ir::Node;
+use std::alloc::Global;
+use std::mem;
+
+/// Whether it is a `Cat` with a part that always fails, an `Alt` with such a side, or a `Loop` of at least one
+/// turn with such a body. The time for a `Cat` grows as its parts do.
+pub fn fails_by_part(node: &Node) -> bool
+    ensures { result ≡ fails_by_part (tree node.now) }
+{
+    match node {
+        Node::Cat(parts) => parts.iter().any(Node::match_always_fails),
+        Node::Alt(left, right) => left.match_always_fails() || right.match_always_fails(),
+        Node::Loop { loopee, quant, .. } => quant.min > 0 && loopee.match_always_fails(),
+        _ => false,
+    }
+}
+
+/// Puts the other side in the place of an `Alt` with a side that always fails, and a node that always fails in
+/// that of another node which does by a part. The caller knows that no capture group is inside. It takes no memory.
+pub fn propagate_early_fails(alloc: Global, node: &mut Node) -> PassAction
+    requires part { IsPart (tree node.old) }
+    requires free { has_group (tree node.old) ≡ false }
+    ensures { (d : Direction) → IsLawful is_failed_away true d (tree node.old) (tree node.new) result }
+{
+    if !fails_by_part(node) {
+        return PassAction::Keep;
+    }
+    match node {
+        Node::Alt(left, right) => PassAction::Replace(take_side(alloc, left, right)),
+        _ => PassAction::Replace(Node::make_always_fails(alloc)),
+    }
+}
+
+/// Takes out a side that does not always fail, the left one first, else makes a node that always fails.
+fn take_side(alloc: Global, left: &mut Node, right: &mut Node) -> Node
+    ensures left { match_always_fails (tree left.old) ≡ false → tree result ≡ tree left.old }
+    ensures right { match_always_fails (tree left.old) ≡ true → match_always_fails (tree right.old) ≡ false →
+        tree result ≡ tree right.old }
+    ensures neither { match_always_fails (tree left.old) ≡ true → match_always_fails (tree right.old) ≡ true →
+        tree result ≡ leaf (char_set []) }
+{
+    if !left.match_always_fails() {
+        return mem::replace(left, Node::Empty);
+    }
+    if !right.match_always_fails() {
+        return mem::replace(right, Node::Empty);
+    }
+    Node::make_always_fails(alloc)
+}

@@ -1,0 +1,62 @@
+//! What matches the empty text alone is removed.
+ghost use Rattle.std.specs.Prelude.{◌≡◌, true};
+ghost use Rattle.regress_tree.specs.Reading.{Direction};
+ghost use Rattle.regress_tree.specs.Tree.{tree, trees};
+ghost use Rattle.regress_tree.specs.NodeTests.{is_empty};
+ghost use Rattle.regress_tree.specs.Shapes.{is_emptied_away};
+ghost use Rattle.regress_rewrite.specs.Law.{IsPart, IsLawful};
+ghost use Rattle.regress_rewrite.specs.Taken.{row_without, StandsForCat};
+
+use crate::rewrite::PassAction;
+use regress_tree::ir::{Node, NodeList};
+
+/// Removes a node that matches the empty text alone, as far as is looked at, and takes the `Empty` parts out of
+/// a `Cat`: what is left of it is the `Cat`, its one part or `Empty`. The time for a `Cat` grows as its parts do.
+pub fn remove_empties(node: &mut Node) -> PassAction
+    requires { IsPart (tree node.old) }
+    ensures { (d : Direction) → IsLawful is_emptied_away true d (tree node.old) (tree node.new) result }
+{
+    if !has_empties(node) {
+        return PassAction::Keep;
+    }
+    match node {
+        Node::Cat(parts) => remove_empty_parts(parts),
+        _ => PassAction::Remove,
+    }
+}
+
+/// Whether there is something to remove. An empty set is not `Empty`: it matches nothing.
+fn has_empties(node: &Node) -> bool
+    ensures { result ≡ is_emptied_away (tree node.now) }
+{
+    match node {
+        Node::ByteSequence(bytes) => bytes.is_empty(),
+        Node::Cat(parts) => parts.iter().any(Node::is_empty),
+        Node::Alt(left, right) => left.is_empty() && right.is_empty(),
+        Node::Loop {
+            loopee,
+            quant,
+            enclosed_groups,
+        } => loopee.is_empty() || (quant.max == Some(0) && enclosed_groups.is_empty()),
+        Node::LookaroundAssertion {
+            negate,
+            contents,
+            ..
+        } => !*negate && contents.is_empty(),
+        _ => false,
+    }
+}
+
+/// Takes the `Empty` parts out of a `Cat` of these, and tells what is to stand in its place.
+fn remove_empty_parts(parts: &mut NodeList) -> PassAction
+    ensures { StandsForCat result (row_without is_empty (trees parts.old.items)) (trees parts.new.items) }
+{
+    parts.retain(|part| !part.is_empty());
+    if parts.len() > 1 {
+        return PassAction::Modified;
+    }
+    match parts.pop() {
+        Some(part) => PassAction::Replace(part),
+        None => PassAction::Remove,
+    }
+}
