@@ -4,11 +4,14 @@ ghost use Rattle.regress_front.specs.Tree.{tree};
 ghost use Rattle.regress_front.specs.WellFormed.{IsWellFormed};
 
 mod calls;
+mod copies;
 mod faults;
 mod fields;
+mod linting;
 mod literal;
 mod nodes;
 mod passes;
+mod rewrites;
 mod scale;
 mod searches;
 mod sets;
@@ -16,6 +19,7 @@ mod tables;
 mod types;
 mod util;
 mod walks;
+mod well_formed;
 
 use crate::caller::code_points;
 use regress_front::ir::{Node, Regex};
