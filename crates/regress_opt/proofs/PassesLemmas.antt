@@ -5,6 +5,7 @@ use Rattle.std.proofs.lemmas.List.Elements.{All-more, All-get_or}
 use Rattle.std.specs.declared.alloc.AllocError.{AllocError}
 use Rattle.regress_tree.specs.declared.ir.node.Regex.{Regex}
 use Rattle.regress_tree.specs.Reading.{forwards}
+use Rattle.regress_tree.specs.NormalForm.{IsNormal}
 use Rattle.regress_tree.specs.Shapes.{LacksShape, is_simplified_away}
 use Rattle.regress_tree.specs.Tree.{Tree, tree}
 use Rattle.regress_tree.specs.Units.{account, IsLess}
@@ -15,7 +16,7 @@ use Rattle.regress_rewrite.specs.Law.{MeansTheSame}
 use Rattle.regress_rewrite.specs.Sweep.{TellsChange}
 use Rattle.regress_rewrite.proofs.laws.Changes.{joined, joined-false, TellsChange-then}
 use Rattle.regress_opt.specs.declared.optimizer.Pass.{Pass}
-use Rattle.regress_opt.specs.Passes.{removed_by, LacksAll, Kept, Passed, PassedAll}
+use Rattle.regress_opt.specs.Passes.{removed_by, of_round, LacksAll, Kept, Passed, PassedAll}
 
 pub Kept-refl : (r : Regex) → IsWellFormed (tree r.node) → Kept r r
 Kept-refl r well_formed = record {
@@ -114,3 +115,19 @@ pub falls : (a b c : Regex) → Kept a b → Kept b c → IsLess (tree c.node) (
 falls a b c first second less =
     changes_left-falls (account (tree a.node)) (tree b.node) (tree c.node) (length (captures (tree c.node))) root
     second.well_formed.stands first.account second.account less
+
+-- The normal form, by brackets and by what a round removes.
+pub normal_from : (t : Tree) → LacksShape is_simplified_away t → LacksAll of_round t → IsNormal t
+normal_from t simplified lacks = record {
+  simplified = simplified;
+  flattened = lacks.0;
+  unrolled = lacks.1;
+  promoted = lacks.2;
+  formed = lacks.3;
+  emptied = lacks.4;
+  failed = lacks.5.0;
+}
+
+pub round_from : (t : Tree) → IsNormal t → LacksAll of_round t
+round_from t normal =
+    (normal.flattened, normal.unrolled, normal.promoted, normal.formed, normal.emptied, normal.failed, tt)
