@@ -8,3 +8,4 @@ pub mod PassLemmas
 pub mod CheckedLemmas
 pub mod FlattenLemmas
 pub mod SpliceLemmas
+pub mod form

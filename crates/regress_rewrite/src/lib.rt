@@ -2,6 +2,7 @@
 #![tactic(auto)]
 
 pub mod flatten;
+pub mod form_literal_bytes;
 mod pass;
 mod rewrite;
 pub mod rewrites;
