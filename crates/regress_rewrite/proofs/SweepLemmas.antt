@@ -15,7 +15,7 @@ use Rattle.regress_rewrite.proofs.KeepsLemmas.{Keeps-trans, Keeps-put}
 
 -- What falls.
 
-IsLess-trans : (t u v : Tree) → IsLess u t → IsLess v u → IsLess v t
+pub IsLess-trans : (t u v : Tree) → IsLess u t → IsLess v u → IsLess v t
 IsLess-trans t u v a b = record { less = by a.less b.less }
   where
     by : (loops u < loops t) ⊎ ((loops u ≡ loops t) × (weight u < weight t)) →

@@ -1,7 +1,8 @@
 -- Where the bytes of two parts of a row are joined, with none between them, the row keeps what a rewrite must keep and is less.
-use Rattle.std.proofs.Common.{◌≡◌, ◌≢◌, ℕ, zero, suc, ◌+◌, ◌<◌, ◌≤◌, ◌||◌, List, [], ◌∷◌, ◌++◌, flat_map, length, refl, sym, ap, ap₂, ◌∙◌, subst, append-nil, arith, nat_le, length-append}
+use Rattle.std.proofs.Common.{◌≡◌, ◌≢◌, ℕ, zero, suc, ◌+◌, ◌-◌, ◌<◌, ◌≤◌, ◌||◌, List, [], ◌∷◌, ◌++◌, flat_map, length, refl, sym, ap, ap₂, ◌∙◌, subst, append-nil, arith, nat_le, length-append}
 use Rattle.std.specs.Prelude.{encode_utf8_all}
 use Rattle.std.specs.Char.{IsScalar}
+use Rattle.std.proofs.lemmas.Bool.{cond-true, and_from, le-leb}
 use Rattle.std.proofs.lemmas.List.Elements.{All-append}
 use Rattle.std.proofs.lemmas.Str.{encodes-append}
 use mathlib.Core.Path.{fun_ext}
@@ -22,14 +23,16 @@ use Rattle.regress_tree.proofs.laws.ByteSequences.{these_bytes-nil, these_bytes-
 use Rattle.regress_rewrite.specs.Law.{Keeps}
 use Rattle.regress_rewrite.specs.Joined.{joined}
 
-abbrev written : List ℕ → Tree
+abbrev pub written : List ℕ → Tree
 written bytes = leaf (byte_sequence bytes)
 
 -- What the bytes match.
 
 these_bytes_before-nil : (bytes : List ℕ) (s : State) → these_bytes backwards bytes [] s ≡ stay s
 unfolding these_bytes
-these_bytes_before-nil bytes s = let e : s.place - 0 ≡ s.place = omega arith in ap (λ p. record s { place = p } ∷ []) e
+these_bytes_before-nil bytes s =
+    let e : s.place - 0 ≡ s.place = omega arith in
+    cond-true _ _ _ (and_from _ _ (le-leb 0 s.place (omega arith)) refl) ∙ ap (λ p. record s { place = p } ∷ []) e
 
 none_stays : (d : Direction) (bytes : List ℕ) (s : State) → these_bytes d bytes [] s ≡ stay s
 none_stays forwards bytes s = these_bytes-nil bytes s
