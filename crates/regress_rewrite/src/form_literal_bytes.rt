@@ -4,7 +4,7 @@ ghost use Rattle.regress_tree.specs.Reading.{Direction, forwards, backwards};
 ghost use Rattle.regress_tree.specs.Tree.{tree, trees, leaf, char, char_set, byte_sequence, cat};
 ghost use Rattle.regress_tree.specs.Walk.{direction_of};
 ghost use Rattle.regress_tree.specs.Shapes.{has_bytes, is_formed_away};
-ghost use Rattle.regress_rewrite.specs.Law.{IsPart, IsLawful};
+ghost use Rattle.regress_rewrite.specs.Law.{IsLawful};
 ghost use Rattle.regress_rewrite.specs.Joined.{bytes_of, part_at, HaveBytes, joined_at, Joins};
 
 use crate::rewrite::PassAction;
@@ -23,7 +23,6 @@ pub fn form_literal_bytes(
     node: &mut Node,
     walk: &Walk,
 ) -> Result<PassAction, AllocError>
-    requires { IsPart (tree node.old) }
     ensures lawful { IfOk result (IsLawful is_formed_away true (direction_of walk.now) (tree node.old) (tree node.new)) }
     ensures err { OnErr result (tree node.new ≡ tree node.old) }
 {

@@ -2,16 +2,21 @@
 use Rattle.std.proofs.Common.{◌≡◌, ℕ, ◌-◌, ◌<◌, List, [], ◌++◌, map, length, get_or, set, length-append, Result, Ok, Err, refl, sym, ap, ap₂, ◌∙◌, arith}
 use Rattle.std.specs.Prelude.{OnOk, OnErr}
 use Rattle.std.proofs.Math.Seq.{map-set_same}
-use Rattle.std.proofs.lemmas.List.{map-set, map-append, length-set, set-append_left, set-append_right, get_or_append_left, get_or-append_right}
+use Rattle.std.proofs.lemmas.List.{map-set, map-append, length-set, set-append_left, set-append_right, get_or-map, get_or_append_left, get_or-append_right}
 use Rattle.regress_tree.specs.declared.ir.node.Node.{Node}
 use Rattle.regress_tree.specs.Reading.{Direction}
-use Rattle.regress_tree.specs.Tree.{Tree, tree}
+use Rattle.regress_tree.specs.Tree.{Tree, leaf, empty, tree}
 use Rattle.regress_rewrite.specs.Joined.{joined, bytes_of, part_at, joined_at}
 use Rattle.regress_rewrite.proofs.form.JoinLemmas.{written}
-use Rattle.regress_rewrite.proofs.form.NeighbourLemmas.{part_at-tree}
 
 module _ (all front back : List Node) (k : ℕ) (cut : all ≡ front ++ back) (here : length front ≡ k) (i : ℕ) (x y : Node)
-    (inside : i < length front) (some : 0 < length back) (first : x ≡ get_or front i x) (second : y ≡ get_or back 0 y) where
+    (inside : i < length front) (some : 0 < length back) where
+  abbrev first : Node
+  first = get_or front i x
+
+  abbrev second : Node
+  second = get_or back 0 y
+
   module _ (x' y' : Node) where
     abbrev now : List Node
     now = set front i x' ++ set back 0 y'
@@ -23,26 +28,24 @@ module _ (all front back : List Node) (k : ℕ) (cut : all ≡ front ++ back) (h
         ∙ set-append_right (set front i x') back k k y' (length-set front i x' ∙ here) (omega arith)
         ∙ ap (λ n. set front i x' ++ set back n y') none)
 
-    pub halves_kept : tree x' ≡ tree x → tree y' ≡ tree y → map tree now ≡ map tree all
+    pub halves_kept : tree x' ≡ tree first → tree y' ≡ tree second → map tree now ≡ map tree all
     halves_kept same same' =
         map-append tree (set front i x') (set back 0 y')
-        ∙ ap₂ (λ (ts us : List Tree). ts ++ us) (map-set_same tree front i x' x (same ∙ ap tree first))
-        (map-set_same tree back 0 y' y (same' ∙ ap tree second))
+        ∙ ap₂ (λ (ts us : List Tree). ts ++ us) (map-set_same tree front i x' x same) (map-set_same tree back 0 y' y same')
         ∙ sym (ap (map tree) cut ∙ map-append tree front back)
 
-    part_at-first : part_at i (map tree all) ≡ tree x
+    part_at-first : part_at i (map tree all) ≡ tree first
     part_at-first =
-        part_at-tree all i x (omega (arith, inside, ap length cut, length-append front back))
-        (first ∙ sym (ap (λ nodes. get_or nodes i x) cut ∙ get_or_append_left front back x i inside))
+        get_or-map tree all i x (leaf empty) (omega (arith, inside, ap length cut, length-append front back))
+        ∙ ap tree (ap (λ nodes. get_or nodes i x) cut ∙ get_or_append_left front back x i inside)
 
-    part_at-second : part_at k (map tree all) ≡ tree y
+    part_at-second : part_at k (map tree all) ≡ tree second
     part_at-second =
         let none : k - k ≡ 0 = omega arith in
-        part_at-tree all k y (omega (arith, some, here, ap length cut, length-append front back))
-        (second
-        ∙ sym (ap (λ nodes. get_or nodes k y) cut ∙ get_or-append_right front back k k y here (omega arith) ∙ ap (λ n. get_or back n y) none))
+        get_or-map tree all k y (leaf empty) (omega (arith, some, here, ap length cut, length-append front back))
+        ∙ ap tree (ap (λ nodes. get_or nodes k y) cut ∙ get_or-append_right front back k k y here (omega arith) ∙ ap (λ n. get_or back n y) none)
 
-    pub halves_joined : (d : Direction) → tree x' ≡ written [] → tree y' ≡ written (joined d (bytes_of (tree x)) (bytes_of (tree y))) →
+    pub halves_joined : (d : Direction) → tree x' ≡ written [] → tree y' ≡ written (joined d (bytes_of (tree first)) (bytes_of (tree second))) →
         map tree now ≡ joined_at d i k (map tree all)
     halves_joined d none both =
         ap (map tree) both_set
@@ -59,3 +62,7 @@ on_ok_both (Err e) both p q = tt
 pub on_err_both : {T E P Q R : Type 0} (r : Result T E) → (P → Q → R) → OnErr r P → OnErr r Q → OnErr r R
 on_err_both (Ok x) both p q = tt
 on_err_both (Err e) both p q = both p q
+
+pub on_err_from : {T E P : Type 0} (r : Result T E) → P → OnErr r P
+on_err_from (Ok x) p = tt
+on_err_from (Err e) p = p

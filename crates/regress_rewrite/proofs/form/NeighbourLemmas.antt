@@ -2,17 +2,13 @@
 use Rattle.std.proofs.Common.{◌≡◌, ℕ, zero, suc, ◌+◌, ◌-◌, ◌<◌, ◌≤◌, Bool, true, false, ◌&&◌, ◌||◌, List, [], ◌∷◌, map, length, get_or, drop, refl, sym, ap, ap₂, ◌∙◌, subst, arith, add-one, add-suc}
 use Rattle.std.proofs.Math.Bool.{or-false}
 use Rattle.std.proofs.lemmas.Bool.{false≢true, or_right, and_from, and_parts}
-use Rattle.std.proofs.lemmas.List.{get_or-map, length-map}
+use Rattle.std.proofs.lemmas.List.{length-map}
 use Rattle.regress_tree.specs.declared.ir.node.Node.{Node}
 use Rattle.regress_tree.specs.Reading.{Direction, forwards, backwards}
 use Rattle.regress_tree.specs.Shapes.{has_bytes, has_neighbours, is_formed_away}
-use Rattle.regress_tree.specs.Tree.{Tree, leaf, empty, cat, row, tree}
+use Rattle.regress_tree.specs.Tree.{Tree, cat, row, tree}
 use Rattle.regress_rewrite.specs.Joined.{part_at, HaveBytes, joined_at, JoinsSome, Joins}
 use Rattle.regress_rewrite.proofs.form.PartLemmas.{HasGap, HasGap-none, join_gap, join_more, join_first}
-
-pub part_at-tree : (nodes : List Node) (i : ℕ) (node : Node) → i < length nodes → node ≡ get_or nodes i node →
-    part_at i (map tree nodes) ≡ tree node
-part_at-tree nodes i node within at = get_or-map tree nodes i node (leaf empty) within ∙ ap tree (sym at)
 
 -- whether there are neighbours with bytes from a place on
 abbrev pub has_more : ℕ → List Tree → Bool

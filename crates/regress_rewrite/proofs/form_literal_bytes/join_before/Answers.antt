@@ -13,7 +13,7 @@ returns-clause-ok c =
     (λ both none.
     halves_joined all c.split_at_mut-front.result.0.now c.split_at_mut-front.result.1.now c.args.later cut.value cut.front_len
     c.args.earlier c.index-front-earlier.result c.index-back-0.result (omega (arith, c.requires.ordered, cut.front_len))
-    (omega (arith, c.requires.within, cut.back_len, length-map all tree)) c.index-front-earlier.is c.index-back-0.is
+    (omega (arith, c.requires.within, cut.back_len, length-map all tree))
     c.append.new.other c.append.new.part backwards none both)
     c.append.ensures.ok c.append.ensures.other
 
@@ -25,6 +25,6 @@ returns-clause-err c =
     (λ same same'.
     halves_kept all c.split_at_mut-front.result.0.now c.split_at_mut-front.result.1.now c.args.later cut.value cut.front_len
     c.args.earlier c.index-front-earlier.result c.index-back-0.result (omega (arith, c.requires.ordered, cut.front_len))
-    (omega (arith, c.requires.within, cut.back_len, length-map all tree)) c.index-front-earlier.is c.index-back-0.is
+    (omega (arith, c.requires.within, cut.back_len, length-map all tree))
     c.append.new.other c.append.new.part same' same)
     c.append.ensures.err c.append.ensures.err_other
