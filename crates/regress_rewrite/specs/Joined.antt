@@ -2,7 +2,7 @@
 use Rattle.std.specs.Prelude.{◌≡◌, ℕ, ◌<◌, Bool, true, false, List, [], ◌++◌, length, get_or, set}
 use Rattle.regress_tree.specs.Reading.{Direction, forwards, backwards}
 use Rattle.regress_tree.specs.Shapes.{has_bytes, is_formed_away}
-use Rattle.regress_tree.specs.Tree.{Leaf, empty, goal, char, byte_sequence, byte_set, char_set, match_any, match_any_except_line_terminator, anchor, word_boundary, bracket, back_ref, string_set, Tree, Trees, leaf, cat, alt, wrapped}
+use Rattle.regress_tree.specs.Tree.{Leaf, empty, byte_sequence, Tree, Trees, leaf, cat, alt, wrapped}
 use Rattle.regress_tree.specs.Units.{IsLess}
 use Rattle.regress_rewrite.specs.Law.{Keeps}
 

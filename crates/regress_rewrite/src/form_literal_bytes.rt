@@ -50,10 +50,10 @@ fn form_character(alloc: Global, c: u32) -> Result<PassAction, AllocError>
 fn form_set(alloc: Global, characters: &[u32]) -> Result<PassAction, AllocError>
     ensures { (d : Direction) → IfOk result (IsLawful is_formed_away true d (leaf (char_set characters.now)) (leaf (char_set characters.now))) }
 {
-    Ok(match ascii(alloc, characters)? {
-        Some(bytes) => PassAction::Replace(Node::ByteSet(bytes)),
-        None => PassAction::Keep,
-    })
+    match ascii(alloc, characters)? {
+        Some(bytes) => Ok(PassAction::Replace(Node::ByteSet(bytes))),
+        None => Ok(PassAction::Keep),
+    }
 }
 
 /// Joins the bytes of neighbours.

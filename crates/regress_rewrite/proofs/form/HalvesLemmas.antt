@@ -1,21 +1,45 @@
 -- Two nodes of a row that is cut between them, each changed in its half.
-use Rattle.std.proofs.Common.{◌≡◌, ℕ, ◌-◌, ◌<◌, List, [], ◌++◌, map, length, get_or, set, length-append, Result, Ok, Err, refl, sym, ap, ap₂, ◌∙◌, arith}
+use Rattle.std.proofs.Common.{◌≡◌, ℕ, ◌-◌, ◌<◌, true, List, [], ◌++◌, map, length, get_or, set, length-append, Result, Ok, Err, sym, ap, ap₂, ◌∙◌, arith}
 use Rattle.std.specs.Prelude.{OnOk, OnErr}
 use Rattle.std.proofs.Math.Seq.{map-set_same}
-use Rattle.std.proofs.lemmas.List.{map-set, map-append, length-set, set-append_left, set-append_right, get_or-map, get_or_append_left, get_or-append_right}
+use Rattle.std.proofs.lemmas.List.{map-set, map-append, length-map, length-set, set-append_left, set-append_right, get_or-map, get_or_append_left, get_or-append_right}
 use Rattle.regress_tree.specs.declared.ir.node.Node.{Node}
 use Rattle.regress_tree.specs.Reading.{Direction}
+use Rattle.regress_tree.specs.Shapes.{has_bytes}
 use Rattle.regress_tree.specs.Tree.{Tree, leaf, empty, tree}
-use Rattle.regress_rewrite.specs.Joined.{joined, bytes_of, part_at, joined_at}
+use Rattle.regress_rewrite.specs.Joined.{joined, bytes_of, part_at, HaveBytes, joined_at}
 use Rattle.regress_rewrite.proofs.form.JoinLemmas.{written}
 
-module _ (all front back : List Node) (k : ℕ) (cut : all ≡ front ++ back) (here : length front ≡ k) (i : ℕ) (x y : Node)
-    (inside : i < length front) (some : 0 < length back) where
+module _ (all front back : List Node) (i k : ℕ) (have : HaveBytes i k (map tree all)) (cut : all ≡ front ++ back) (here : length front ≡ k)
+    (x y : Node) where
+  inside : i < length front
+  inside = omega (arith, have.ordered, here)
+
+  some : 0 < length back
+  some = omega (arith, have.within, here, ap length cut, length-append front back, length-map all tree)
+
   abbrev first : Node
   first = get_or front i x
 
   abbrev second : Node
   second = get_or back 0 y
+
+  part_at-first : part_at i (map tree all) ≡ tree first
+  part_at-first =
+      get_or-map tree all i x (leaf empty) (omega (arith, inside, ap length cut, length-append front back))
+      ∙ ap tree (ap (λ nodes. get_or nodes i x) cut ∙ get_or_append_left front back x i inside)
+
+  part_at-second : part_at k (map tree all) ≡ tree second
+  part_at-second =
+      let none : k - k ≡ 0 = omega arith in
+      get_or-map tree all k y (leaf empty) (omega (arith, some, here, ap length cut, length-append front back))
+      ∙ ap tree (ap (λ nodes. get_or nodes k y) cut ∙ get_or-append_right front back k k y here (omega arith) ∙ ap (λ n. get_or back n y) none)
+
+  pub first_has : has_bytes (tree first) ≡ true
+  first_has = ap has_bytes (sym part_at-first) ∙ have.first
+
+  pub second_has : has_bytes (tree second) ≡ true
+  second_has = ap has_bytes (sym part_at-second) ∙ have.second
 
   module _ (x' y' : Node) where
     abbrev now : List Node
@@ -33,17 +57,6 @@ module _ (all front back : List Node) (k : ℕ) (cut : all ≡ front ++ back) (h
         map-append tree (set front i x') (set back 0 y')
         ∙ ap₂ (λ (ts us : List Tree). ts ++ us) (map-set_same tree front i x' x same) (map-set_same tree back 0 y' y same')
         ∙ sym (ap (map tree) cut ∙ map-append tree front back)
-
-    part_at-first : part_at i (map tree all) ≡ tree first
-    part_at-first =
-        get_or-map tree all i x (leaf empty) (omega (arith, inside, ap length cut, length-append front back))
-        ∙ ap tree (ap (λ nodes. get_or nodes i x) cut ∙ get_or_append_left front back x i inside)
-
-    part_at-second : part_at k (map tree all) ≡ tree second
-    part_at-second =
-        let none : k - k ≡ 0 = omega arith in
-        get_or-map tree all k y (leaf empty) (omega (arith, some, here, ap length cut, length-append front back))
-        ∙ ap tree (ap (λ nodes. get_or nodes k y) cut ∙ get_or-append_right front back k k y here (omega arith) ∙ ap (λ n. get_or back n y) none)
 
     pub halves_joined : (d : Direction) → tree x' ≡ written [] → tree y' ≡ written (joined d (bytes_of (tree first)) (bytes_of (tree second))) →
         map tree now ≡ joined_at d i k (map tree all)

@@ -1,5 +1,5 @@
 -- Where the bytes of two parts of a row are joined, with none between them, the row keeps what a rewrite must keep and is less.
-use Rattle.std.proofs.Common.{◌≡◌, ◌≢◌, ℕ, zero, suc, ◌+◌, ◌-◌, ◌<◌, ◌≤◌, ◌||◌, List, [], ◌∷◌, ◌++◌, flat_map, length, refl, sym, ap, ap₂, ◌∙◌, subst, append-nil, arith, nat_le, length-append}
+use Rattle.std.proofs.Common.{◌≡◌, ◌≢◌, ℕ, zero, suc, ◌+◌, ◌-◌, ◌≤◌, ◌||◌, List, [], ◌∷◌, ◌++◌, flat_map, length, refl, sym, ap, ap₂, ◌∙◌, append-nil, arith, length-append}
 use Rattle.std.specs.Prelude.{encode_utf8_all}
 use Rattle.std.specs.Char.{IsScalar}
 use Rattle.std.proofs.lemmas.Bool.{cond-true, and_from, le-leb}
@@ -9,15 +9,15 @@ use mathlib.Core.Path.{fun_ext}
 use Rattle.regress_tree.specs.Reading.{Direction, forwards, backwards}
 use Rattle.regress_tree.specs.Steps.{State, stay, ◌then_◌, these_bytes}
 use Rattle.regress_tree.specs.Tree.{Tree, Trees, leaf, byte_sequence, cat, no_trees, more_trees, row_append, copies}
-use Rattle.regress_tree.specs.Matching.{steps, steps_in_row}
+use Rattle.regress_tree.specs.Matching.{steps_in_row}
 use Rattle.regress_tree.specs.Setting.{Setting}
-use Rattle.regress_tree.specs.WellFormed.{Position, one_character, inside, last, root, last_of, AsOneCharacter, AreUtf8, MayStand, RowMayStand, captures_in_row}
-use Rattle.regress_tree.specs.Measures.{Measure, total, total_in_row}
+use Rattle.regress_tree.specs.WellFormed.{Position, one_character, inside, last, root, last_of, AsOneCharacter, AreUtf8, RowMayStand, captures_in_row}
+use Rattle.regress_tree.specs.Measures.{Measure, total_in_row}
 use Rattle.regress_tree.specs.Units.{sizes, unrollables, weights, weight_of_leaf, IsLess}
 use Rattle.regress_tree.specs.Shapes.{some_node_in_row, is_simplified_away}
 use Rattle.regress_tree.proofs.laws.Alike.{Alike-from_same}
 use Rattle.regress_tree.proofs.laws.Outcomes.{flat_map-then}
-use Rattle.regress_tree.proofs.laws.Measures.{some_node-append, some_node-copies, total-append, total-copies, IsLess-lighter}
+use Rattle.regress_tree.proofs.laws.Measures.{some_node-append, total-append, IsLess-lighter}
 use Rattle.regress_tree.proofs.laws.Rows.{steps-append, captures-append}
 use Rattle.regress_tree.proofs.laws.ByteSequences.{these_bytes-nil, these_bytes-append, these_bytes_before-append}
 use Rattle.regress_rewrite.specs.Law.{Keeps}
@@ -173,8 +173,14 @@ module _ (before behind : Trees) (k : ℕ) (d : Direction) (a b : List ℕ) wher
         Alike-from_same (λ s. sym (steps-joined before behind k d a b setting (encode_utf8_all text) s));
     stands = λ n p m. (m.0, joined_stands n p d a b behind k before m.1);
     captures = captures-joined;
-    account = omega (arith, total-run sizes a b, total-run sizes [] (joined d a b), total-run unrollables a b,
-        total-run unrollables [] (joined d a b), length-joined d a b);
+    account = omega (
+      arith,
+      total-run sizes a b,
+      total-run sizes [] (joined d a b),
+      total-run unrollables a b,
+      total-run unrollables [] (joined d a b),
+      length-joined d a b,
+    );
     brackets = λ lacks. brackets-run [] (joined d a b) ∙ sym (brackets-run a b) ∙ lacks;
   }
 
@@ -190,5 +196,11 @@ module _ (before behind : Trees) (k : ℕ) (d : Direction) (a b : List ℕ) wher
   joined_less first second =
       IsLess-lighter (cat new) (cat old)
       (omega (arith, total-run unrollables a b, total-run unrollables [] (joined d a b)))
-      (omega (arith, total-run weights a b, total-run weights [] (joined d a b), weight-some a first, weight-some b second,
-      weight-any (joined d a b)))
+      (omega (
+        arith,
+        total-run weights a b,
+        total-run weights [] (joined d a b),
+        weight-some a first,
+        weight-some b second,
+        weight-any (joined d a b),
+      ))

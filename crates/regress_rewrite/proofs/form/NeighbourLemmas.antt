@@ -1,12 +1,12 @@
 -- Joining all neighbours of a list of trees, from one end to the other.
-use Rattle.std.proofs.Common.{◌≡◌, ℕ, zero, suc, ◌+◌, ◌-◌, ◌<◌, ◌≤◌, Bool, true, false, ◌&&◌, ◌||◌, List, [], ◌∷◌, map, length, get_or, drop, refl, sym, ap, ap₂, ◌∙◌, subst, arith, add-one, add-suc}
+use Rattle.std.proofs.Common.{◌≡◌, ℕ, zero, suc, ◌+◌, ◌-◌, ◌<◌, ◌≤◌, Bool, true, false, ◌&&◌, ◌||◌, List, [], ◌∷◌, map, length, drop, refl, sym, ap, ap₂, ◌∙◌, subst, arith}
 use Rattle.std.proofs.Math.Bool.{or-false}
 use Rattle.std.proofs.lemmas.Bool.{false≢true, or_right, and_from, and_parts}
 use Rattle.std.proofs.lemmas.List.{length-map}
 use Rattle.regress_tree.specs.declared.ir.node.Node.{Node}
-use Rattle.regress_tree.specs.Reading.{Direction, forwards, backwards}
-use Rattle.regress_tree.specs.Shapes.{has_bytes, has_neighbours, is_formed_away}
-use Rattle.regress_tree.specs.Tree.{Tree, cat, row, tree}
+use Rattle.regress_tree.specs.Reading.{forwards, backwards}
+use Rattle.regress_tree.specs.Shapes.{has_bytes, has_neighbours}
+use Rattle.regress_tree.specs.Tree.{Tree, row, tree}
 use Rattle.regress_rewrite.specs.Joined.{part_at, HaveBytes, joined_at, JoinsSome, Joins}
 use Rattle.regress_rewrite.proofs.form.PartLemmas.{HasGap, HasGap-none, join_gap, join_more, join_first}
 
@@ -59,11 +59,12 @@ module _ (i : ℕ) (old now : List Tree) where
       let on : i + 1 - 1 ≡ suc (i - 1) = omega (arith, low) in
       let here : both (i - 1) old ≡ false =
       subst (λ ts. both (i - 1) ts ≡ false) so_far.0 (subst (λ k. (has_bytes (part_at (i - 1) now) && has_bytes (part_at k now)) ≡ false) (sym back) not_both) in
-      let inside : suc (i - 1) < length old = omega (arith, within, back, ap length so_far.0) in
-      (so_far.0,
-      ap (λ k. has_more k old) on
-      ∙ sym (has_more-next old (i - 1) inside ∙ ap (λ b. b || has_more (suc (i - 1)) old) here)
-      ∙ so_far.1)
+      let inside : suc (i - 1) < length old = omega (arith, within, back, ap length so_far.0) in (
+        so_far.0,
+        ap (λ k. has_more k old) on
+            ∙ sym (has_more-next old (i - 1) inside ∙ ap (λ b. b || has_more (suc (i - 1)) old) here)
+            ∙ so_far.1,
+      )
 
   pub forward_join : (joined : Bool) → 1 ≤ i → HaveBytes (i - 1) i now → ForwardSoFar joined i old now →
       JoinsSome forwards (row old) (row (joined_at forwards (i - 1) i now))

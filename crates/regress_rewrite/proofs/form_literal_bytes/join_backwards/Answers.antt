@@ -1,11 +1,11 @@
 -- Each pair is joined, or is no pair of neighbours with bytes.
-use Rattle.std.proofs.Common.{◌≡◌, ◌+◌, ◌-◌, true, Bool, List, map, arith, sym, ap, subst, ◌∙◌}
+use Rattle.std.proofs.Common.{◌-◌, List, map, arith, sym, subst, ◌∙◌}
 use Rattle.std.proofs.lemmas.List.{length-map}
 use Rattle.regress_tree.specs.Reading.{backwards}
 use Rattle.regress_tree.specs.Tree.{Tree, row, tree}
 use Rattle.regress_rewrite.specs.Joined.{JoinsSome}
 use Rattle.regress_rewrite.proofs.form.PartLemmas.{HasGap, HasGap-none}
-use Rattle.regress_rewrite.proofs.form.NeighbourLemmas.{BackwardSoFar, backward_start, backward_skip, backward_join, backward_gap, backward_end, have_bytes}
+use Rattle.regress_rewrite.proofs.form.NeighbourLemmas.{backward_start, backward_skip, backward_join, backward_gap, have_bytes}
 use Rattle.regress_rewrite.proofs.form_literal_bytes.join_backwards.Goals as goal
 
 pub loop-earlier-init : goal.loop-earlier-init

@@ -1,4 +1,4 @@
-use Rattle.std.proofs.Common.{◌≡◌, ◌≤◌, ◌-◌, map, length}
+use Rattle.std.proofs.Common.{◌≤◌, ◌-◌, map, length}
 use Rattle.regress_tree.specs.Tree.{tree}
 use Rattle.regress_rewrite.proofs.form.PartLemmas.{HasGap}
 use Rattle.regress_rewrite.proofs.form.NeighbourLemmas.{BackwardSoFar}

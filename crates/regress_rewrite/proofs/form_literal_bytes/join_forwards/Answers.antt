@@ -1,5 +1,5 @@
 -- Each pair is joined, or is no pair of neighbours with bytes.
-use Rattle.std.proofs.Common.{◌≡◌, ◌+◌, ◌-◌, true, Bool, List, map, arith, sym, ap, subst, ◌∙◌}
+use Rattle.std.proofs.Common.{◌+◌, ◌-◌, Bool, List, map, arith, sym, ap, subst, ◌∙◌}
 use Rattle.std.proofs.lemmas.List.{length-map}
 use Rattle.regress_tree.specs.declared.ir.node.Node.{Node}
 use Rattle.regress_tree.specs.Reading.{forwards}

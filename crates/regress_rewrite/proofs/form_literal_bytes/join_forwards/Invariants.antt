@@ -1,4 +1,4 @@
-use Rattle.std.proofs.Common.{◌≡◌, ◌≤◌, map}
+use Rattle.std.proofs.Common.{map}
 use Rattle.regress_tree.specs.Tree.{tree}
 use Rattle.regress_rewrite.proofs.form.NeighbourLemmas.{ForwardSoFar}
 use Rattle.regress_rewrite.proofs.form_literal_bytes.join_forwards.Given as goal
