@@ -1,5 +1,5 @@
 pub mod Law
 pub mod Sweep
 pub mod Splice
-pub mod Joined
+pub mod Formed
 pub mod Taken

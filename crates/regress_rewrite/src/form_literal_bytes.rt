@@ -2,10 +2,11 @@
 ghost use Rattle.std.specs.Prelude.{◌≡◌, ◌<◌, ◌++◌, ◌-◌, ◌&&◌, [], length, map, true, IfOk, OnOk, OnErr};
 ghost use Rattle.regress_tree.specs.Reading.{Direction, forwards, backwards};
 ghost use Rattle.regress_tree.specs.Tree.{tree, trees, leaf, char, char_set, byte_sequence, cat};
+ghost use Rattle.regress_tree.specs.Literal.{set_of};
 ghost use Rattle.regress_tree.specs.Walk.{direction_of};
 ghost use Rattle.regress_tree.specs.Shapes.{has_bytes, is_formed_away};
-ghost use Rattle.regress_rewrite.specs.Law.{IsLawful};
-ghost use Rattle.regress_rewrite.specs.Joined.{bytes_of, part_at, HaveBytes, joined_at, Joins};
+ghost use Rattle.regress_rewrite.specs.Law.{after, IsLawful};
+ghost use Rattle.regress_rewrite.specs.Formed.{formed_character, bytes_of, part_at, HaveBytes, joined_at, Joins};
 
 use crate::rewrite::PassAction;
 use regress_tree::ir::{Node, Walk};
@@ -36,7 +37,8 @@ pub fn form_literal_bytes(
 
 /// The UTF-8 of a code point, if it is a character.
 fn form_character(alloc: Global, c: u32) -> Result<PassAction, AllocError>
-    ensures { (d : Direction) → IfOk result (IsLawful is_formed_away true d (leaf (char c)) (leaf (char c))) }
+    ensures lawful { (d : Direction) → IfOk result (IsLawful is_formed_away true d (leaf (char c)) (leaf (char c))) }
+    ensures formed { IfOk result (λ action. after action (leaf (char c)) ≡ leaf (formed_character c)) }
 {
     let Some(c) = char::from_u32(c) else {
         return Ok(PassAction::Keep);
@@ -48,7 +50,8 @@ fn form_character(alloc: Global, c: u32) -> Result<PassAction, AllocError>
 
 /// The set of the same members as bytes, if all are ASCII.
 fn form_set(alloc: Global, characters: &[u32]) -> Result<PassAction, AllocError>
-    ensures { (d : Direction) → IfOk result (IsLawful is_formed_away true d (leaf (char_set characters.now)) (leaf (char_set characters.now))) }
+    ensures lawful { (d : Direction) → IfOk result (IsLawful is_formed_away true d (leaf (char_set characters.now)) (leaf (char_set characters.now))) }
+    ensures formed { IfOk result (λ action. after action (leaf (char_set characters.now)) ≡ leaf (set_of characters.now)) }
 {
     match ascii(alloc, characters)? {
         Some(bytes) => Ok(PassAction::Replace(Node::ByteSet(bytes))),

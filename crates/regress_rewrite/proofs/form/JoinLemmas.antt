@@ -21,7 +21,7 @@ use Rattle.regress_tree.proofs.laws.Measures.{some_node-append, total-append, Is
 use Rattle.regress_tree.proofs.laws.Rows.{steps-append, captures-append}
 use Rattle.regress_tree.proofs.laws.ByteSequences.{these_bytes-nil, these_bytes-append, these_bytes_before-append}
 use Rattle.regress_rewrite.specs.Law.{Keeps}
-use Rattle.regress_rewrite.specs.Joined.{joined}
+use Rattle.regress_rewrite.specs.Formed.{joined}
 
 abbrev pub written : List ℕ → Tree
 written bytes = leaf (byte_sequence bytes)

@@ -7,7 +7,7 @@ use Rattle.regress_tree.specs.declared.ir.node.Node.{Node}
 use Rattle.regress_tree.specs.Reading.{forwards, backwards}
 use Rattle.regress_tree.specs.Shapes.{has_bytes, has_neighbours}
 use Rattle.regress_tree.specs.Tree.{Tree, row, tree}
-use Rattle.regress_rewrite.specs.Joined.{part_at, HaveBytes, joined_at, JoinsSome, Joins}
+use Rattle.regress_rewrite.specs.Formed.{part_at, HaveBytes, joined_at, JoinsSome, Joins}
 use Rattle.regress_rewrite.proofs.form.PartLemmas.{HasGap, HasGap-none, join_gap, join_more, join_first}
 
 -- whether there are neighbours with bytes from a place on

@@ -8,7 +8,7 @@ use Rattle.regress_tree.specs.Shapes.{has_bytes, is_formed_away}
 use Rattle.regress_tree.specs.Tree.{empty, goal, char, byte_sequence, byte_set, char_set, match_any, match_any_except_line_terminator, anchor, word_boundary, bracket, back_ref, string_set, Tree, Trees, leaf, cat, alt, wrapped, more_trees, row, row_append, copies}
 use Rattle.regress_tree.specs.Units.{IsLess}
 use Rattle.regress_rewrite.specs.Law.{Keeps}
-use Rattle.regress_rewrite.specs.Joined.{joined, bytes_of, part_at, HaveBytes, joined_at, JoinsSome}
+use Rattle.regress_rewrite.specs.Formed.{joined, bytes_of, part_at, HaveBytes, joined_at, JoinsSome}
 use Rattle.regress_rewrite.proofs.KeepsLemmas.{Keeps-trans}
 use Rattle.regress_rewrite.proofs.SweepLemmas.{IsLess-trans}
 use Rattle.regress_rewrite.proofs.form.JoinLemmas.{written, with_run, joined_keeps, joined_less}

@@ -3,8 +3,8 @@ use Rattle.std.specs.Char.{encode_utf8}
 use Rattle.regress_rewrite.proofs.form.LeafLemmas.{encoded_lawful}
 use Rattle.regress_rewrite.proofs.form_literal_bytes.form_character.Goals as goal
 
-pub returns : goal.returns
-returns c d =
+pub returns-clause-lawful : goal.returns-clause-lawful
+returns-clause-lawful c d =
     let character = c.in-Some.ensures.value in
     encoded_lawful d c.args.c character.0 c.into_bytes.result
     (ap (λ v. v.items) c.into_bytes.ensures.value

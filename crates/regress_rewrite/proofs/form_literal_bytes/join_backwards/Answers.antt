@@ -3,7 +3,7 @@ use Rattle.std.proofs.Common.{◌-◌, List, map, arith, sym, subst, ◌∙◌}
 use Rattle.std.proofs.lemmas.List.{length-map}
 use Rattle.regress_tree.specs.Reading.{backwards}
 use Rattle.regress_tree.specs.Tree.{Tree, row, tree}
-use Rattle.regress_rewrite.specs.Joined.{JoinsSome}
+use Rattle.regress_rewrite.specs.Formed.{JoinsSome}
 use Rattle.regress_rewrite.proofs.form.PartLemmas.{HasGap, HasGap-none}
 use Rattle.regress_rewrite.proofs.form.NeighbourLemmas.{backward_start, backward_skip, backward_join, backward_gap, have_bytes}
 use Rattle.regress_rewrite.proofs.form_literal_bytes.join_backwards.Goals as goal

@@ -4,7 +4,7 @@ use Rattle.std.proofs.lemmas.List.{length-map}
 use Rattle.regress_tree.specs.declared.ir.node.Node.{Node}
 use Rattle.regress_tree.specs.Reading.{forwards}
 use Rattle.regress_tree.specs.Tree.{Tree, row, tree}
-use Rattle.regress_rewrite.specs.Joined.{JoinsSome}
+use Rattle.regress_rewrite.specs.Formed.{JoinsSome}
 use Rattle.regress_rewrite.proofs.form.NeighbourLemmas.{ForwardSoFar, forward_skip, forward_join, forward_end, have_bytes}
 use Rattle.regress_rewrite.proofs.form_literal_bytes.join_forwards.Goals as goal
 use Rattle.regress_rewrite.proofs.form_literal_bytes.join_forwards.Goals.{then-have_bytes+in_default, else-have_bytes}

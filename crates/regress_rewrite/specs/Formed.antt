@@ -1,10 +1,15 @@
--- Bytes of two parts of a row, joined in the later one.
-use Rattle.std.specs.Prelude.{◌≡◌, ℕ, ◌<◌, Bool, true, false, List, [], ◌++◌, length, get_or, set}
+-- What forming literal bytes makes of a character, and of two parts of a row, whose bytes are joined in the later one.
+use Rattle.std.specs.Prelude.{if◌then◌else◌, encode_utf8, ◌≡◌, ℕ, ◌<◌, Bool, true, false, List, [], ◌++◌, length, get_or, set}
+use lib.Utf8.{scalar}
 use Rattle.regress_tree.specs.Reading.{Direction, forwards, backwards}
 use Rattle.regress_tree.specs.Shapes.{has_bytes, is_formed_away}
-use Rattle.regress_tree.specs.Tree.{Leaf, empty, byte_sequence, Tree, Trees, leaf, cat, alt, wrapped}
+use Rattle.regress_tree.specs.Tree.{Leaf, empty, char, byte_sequence, Tree, Trees, leaf, cat, alt, wrapped}
 use Rattle.regress_tree.specs.Units.{IsLess}
 use Rattle.regress_rewrite.specs.Law.{Keeps}
+
+-- the UTF-8 of a character, and any other code point as it is
+abbrev pub formed_character : ℕ → Leaf
+formed_character c = if scalar c then byte_sequence (encode_utf8 c) else char c
 
 -- the bytes of an earlier part and of a later one, as they are written: in a lookbehind the later part stands first in the text
 abbrev pub joined : Direction → (earlier later : List ℕ) → List ℕ
