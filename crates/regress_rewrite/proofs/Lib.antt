@@ -17,3 +17,4 @@ pub mod CopiesLemmas
 pub mod UnrollLemmas
 pub mod EmptiesLemmas
 pub mod FailsLemmas
+pub mod form

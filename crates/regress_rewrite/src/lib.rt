@@ -3,6 +3,7 @@
 
 pub mod flatten;
 pub mod has_group;
+pub mod form_literal_bytes;
 mod pass;
 pub mod promote_1char_loops;
 pub mod propagate_early_fails;

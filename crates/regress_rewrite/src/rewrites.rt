@@ -1,6 +1,7 @@
 //! The rewrites, as what a pass runs: each finds what is to be known of a node, and rewrites it.
 
 use crate::flatten::flatten;
+use crate::form_literal_bytes::form_literal_bytes;
 use crate::has_group::has_group;
 use crate::promote_1char_loops::promote_1char_loops;
 use crate::propagate_early_fails::{fails_by_part, propagate_early_fails};
@@ -84,6 +85,25 @@ impl Rewrite for Promote1CharLoops {
 
     fn apply(&mut self, node: &mut Node, _walk: &Walk) -> Result<PassAction, AllocError> {
         promote_1char_loops(self.alloc, node)
+    }
+}
+
+/// Forming of literal bytes, which looks at the node and at the direction.
+#[derive(Drop)]
+pub struct FormLiteralBytes {
+    pub alloc: Global,
+}
+
+impl Rewrite for FormLiteralBytes {
+    ghost use Rattle.std.specs.Prelude.{true};
+    ghost use Rattle.regress_tree.specs.Shapes.{is_formed_away};
+
+    ghost removes = { is_formed_away };
+
+    ghost is_exact = { true };
+
+    fn apply(&mut self, node: &mut Node, walk: &Walk) -> Result<PassAction, AllocError> {
+        form_literal_bytes(self.alloc, node, walk)
     }
 }
 

@@ -132,7 +132,7 @@ fn piece_of(alloc: Global, class: Vec<u32>) -> Result<Piece, AllocError>
 }
 
 /// The members as bytes, if all are ASCII.
-fn ascii(alloc: Global, members: &[u32]) -> Result<Option<Vec<u8>>, AllocError>
+pub fn ascii(alloc: Global, members: &[u32]) -> Result<Option<Vec<u8>>, AllocError>
     ensures { IfOk result (λ found. option_map (λ bytes. bytes.items) found
         ≡ (if is_ascii members.now then Some members.now else None)) }
 {

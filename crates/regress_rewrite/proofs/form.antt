@@ -1,0 +1,5 @@
+pub mod HalvesLemmas
+pub mod JoinLemmas
+pub mod LeafLemmas
+pub mod PartLemmas
+pub mod NeighbourLemmas

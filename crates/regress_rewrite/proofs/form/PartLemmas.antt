@@ -1,0 +1,202 @@
+-- Joining two parts of a list of trees, and all neighbours of one.
+use Rattle.std.proofs.Common.{◌≡◌, ◌≢◌, ℕ, zero, suc, ◌+◌, ◌-◌, true, List, [], ◌∷◌, ◌++◌, length, set, take, drop, replicate, refl, sym, ap, ap₂, ◌∙◌, subst, arith, length-append, append_assoc}
+use Rattle.std.proofs.lemmas.Bool.{false≢true}
+use Rattle.std.proofs.lemmas.List.{set_at, length-replicate, length-take-le, drop_at}
+use Rattle.std.proofs.Math.Seq.{split_at, drop-cons, set-append_seam, get_or-append_seam, drop-append_seam}
+use Rattle.regress_tree.specs.Reading.{Direction}
+use Rattle.regress_tree.specs.Shapes.{has_bytes, is_formed_away}
+use Rattle.regress_tree.specs.Tree.{empty, goal, char, byte_sequence, byte_set, char_set, match_any, match_any_except_line_terminator, anchor, word_boundary, bracket, back_ref, string_set, Tree, Trees, leaf, cat, alt, wrapped, more_trees, row, row_append, copies}
+use Rattle.regress_tree.specs.Units.{IsLess}
+use Rattle.regress_rewrite.specs.Law.{Keeps}
+use Rattle.regress_rewrite.specs.Formed.{joined, bytes_of, part_at, HaveBytes, joined_at, JoinsSome}
+use Rattle.regress_rewrite.proofs.KeepsLemmas.{Keeps-trans}
+use Rattle.regress_rewrite.proofs.SweepLemmas.{IsLess-trans}
+use Rattle.regress_rewrite.proofs.form.JoinLemmas.{written, with_run, joined_keeps, joined_less}
+
+-- A part with bytes.
+
+pub record IsWritten (t : Tree) : Type 0 where
+  pub is : t ≡ written (bytes_of t)
+  pub some : bytes_of t ≢ []
+
+is_written : (t : Tree) → has_bytes t ≡ true → IsWritten t
+is_written (leaf empty) has = absurd (false≢true has)
+is_written (leaf goal) has = absurd (false≢true has)
+is_written (leaf (char c)) has = absurd (false≢true has)
+is_written (leaf (byte_sequence [])) has = absurd (false≢true has)
+is_written (leaf (byte_sequence (b ∷ bytes))) has = record { is = refl; some = λ none. cc }
+is_written (leaf (byte_set bytes)) has = absurd (false≢true has)
+is_written (leaf (char_set characters)) has = absurd (false≢true has)
+is_written (leaf match_any) has = absurd (false≢true has)
+is_written (leaf match_any_except_line_terminator) has = absurd (false≢true has)
+is_written (leaf (anchor kind multiline)) has = absurd (false≢true has)
+is_written (leaf (word_boundary invert unicode_icase)) has = absurd (false≢true has)
+is_written (leaf (bracket invert intervals)) has = absurd (false≢true has)
+is_written (leaf (back_ref group icase)) has = absurd (false≢true has)
+is_written (leaf (string_set strings icase)) has = absurd (false≢true has)
+is_written (cat parts) has = absurd (false≢true has)
+is_written (alt left right) has = absurd (false≢true has)
+is_written (wrapped w body) has = absurd (false≢true has)
+
+-- A list with two parts, and parts without bytes between them, as a row.
+
+row-append : (ts us : List Tree) → row (ts ++ us) ≡ row_append (row ts) (row us)
+row-append [] us = refl
+row-append (t ∷ ts) us = ap (more_trees t) (row-append ts us)
+
+row-replicate : (n : ℕ) (t : Tree) → row (replicate n t) ≡ copies n t
+row-replicate zero t = refl
+row-replicate (suc n) t = ap (more_trees t) (row-replicate n t)
+
+module _ (front : List Tree) (n : ℕ) (behind : List Tree) where
+  abbrev pub in_row : (x y : Tree) → List Tree
+  in_row x y = front ++ x ∷ (replicate n (written []) ++ y ∷ behind)
+
+  row-in_row : (a b : List ℕ) → row (in_row (written a) (written b)) ≡ with_run (row front) (row behind) n a b
+  row-in_row a b =
+      row-append front (written a ∷ (replicate n (written []) ++ written b ∷ behind))
+      ∙ ap (λ ts. row_append (row front) (more_trees (written a) ts))
+      (row-append (replicate n (written [])) (written b ∷ behind)
+      ∙ ap (λ us. row_append us (more_trees (written b) (row behind))) (row-replicate n (written [])))
+
+  abbrev later : ℕ
+  later = length front + 1 + n
+
+  place_before : (x : Tree) → length (front ++ x ∷ replicate n (written [])) ≡ later
+  place_before x = omega (arith, length-append front (x ∷ replicate n (written [])), length-replicate n (written []))
+
+  regroup : (x y : Tree) → in_row x y ≡ (front ++ x ∷ replicate n (written [])) ++ y ∷ behind
+  regroup x y = sym (append_assoc front (x ∷ replicate n (written [])) (y ∷ behind))
+
+  part_at-first : (x y : Tree) → part_at (length front) (in_row x y) ≡ x
+  part_at-first x y = get_or-append_seam front x (replicate n (written []) ++ y ∷ behind) (leaf empty)
+
+  part_at-later : (x y : Tree) → part_at later (in_row x y) ≡ y
+  part_at-later x y =
+      ap (part_at later) (regroup x y)
+      ∙ ap (λ k. part_at k ((front ++ x ∷ replicate n (written [])) ++ y ∷ behind)) (sym (place_before x))
+      ∙ get_or-append_seam (front ++ x ∷ replicate n (written [])) y behind (leaf empty)
+
+  joined-in_row : (d : Direction) (x y : Tree) →
+      joined_at d (length front) later (in_row x y) ≡ in_row (written []) (written (joined d (bytes_of x) (bytes_of y)))
+  joined-in_row d x y =
+      ap₂ (λ a b. set (set (in_row x y) (length front) (written [])) later (written (joined d (bytes_of a) (bytes_of b))))
+      (part_at-first x y) (part_at-later x y)
+      ∙ ap (λ ts. set ts later (written (joined d (bytes_of x) (bytes_of y))))
+      (set-append_seam front x (replicate n (written []) ++ y ∷ behind) (written []) ∙ regroup (written []) y)
+      ∙ set_at (front ++ written [] ∷ replicate n (written [])) y behind (written (joined d (bytes_of x) (bytes_of y))) later
+      (place_before (written []))
+      ∙ sym (regroup (written []) (written (joined d (bytes_of x) (bytes_of y))))
+
+  -- where both parts have bytes, joining them keeps the row and makes it less
+  module _ (d : Direction) (x y : Tree) (first : has_bytes x ≡ true) (second : has_bytes y ≡ true) where
+    abbrev a : List ℕ
+    a = bytes_of x
+
+    abbrev b : List ℕ
+    b = bytes_of y
+
+    was : row (in_row x y) ≡ with_run (row front) (row behind) n a b
+    was = ap₂ (λ s t. row (in_row s t)) (is_written x first).is (is_written y second).is ∙ row-in_row a b
+
+    is : row (joined_at d (length front) later (in_row x y)) ≡ with_run (row front) (row behind) n [] (joined d a b)
+    is = ap row (joined-in_row d x y) ∙ row-in_row [] (joined d a b)
+
+    split_keeps : Keeps d (cat (row (in_row x y))) (cat (row (joined_at d (length front) later (in_row x y))))
+    split_keeps =
+        subst (λ (ts : Trees). Keeps d (cat ts) (cat (row (joined_at d (length front) later (in_row x y))))) (sym was)
+        (subst (λ (ts : Trees). Keeps d (cat (with_run (row front) (row behind) n a b)) (cat ts)) (sym is)
+        (joined_keeps (row front) (row behind) n d a b))
+
+    split_less : IsLess (cat (row (joined_at d (length front) later (in_row x y)))) (cat (row (in_row x y)))
+    split_less =
+        subst (λ (ts : Trees). IsLess (cat (row (joined_at d (length front) later (in_row x y)))) (cat ts)) (sym was)
+        (subst (λ (ts : Trees). IsLess (cat ts) (cat (with_run (row front) (row behind) n a b))) (sym is)
+        (joined_less (row front) (row behind) n d a b (is_written x first).some (is_written y second).some))
+
+  -- the parts from the earlier one on
+  split_gap : (d : Direction) (x y : Tree) →
+      drop (length front) (joined_at d (length front) later (in_row x y))
+      ≡ replicate (suc n) (written []) ++ drop later (joined_at d (length front) later (in_row x y))
+  split_gap d x y =
+      let z = written (joined d (bytes_of x) (bytes_of y)) in
+      let rest = drop_at (front ++ written [] ∷ replicate n (written [])) (z ∷ behind) later (place_before (written [])) in
+      ap (drop (length front)) (joined-in_row d x y)
+      ∙ drop-append_seam front (replicate (suc n) (written []) ++ z ∷ behind)
+      ∙ ap (λ (us : List Tree). replicate (suc n) (written []) ++ us)
+      (sym (ap (drop later) (joined-in_row d x y ∙ regroup (written []) z) ∙ rest))
+
+-- Two parts of a list with none that has bytes between them.
+
+abbrev pub HasGap : (earlier later : ℕ) → List Tree → Type 0
+HasGap i k ts = drop i ts ≡ replicate (k - i) (written []) ++ drop k ts
+
+pub HasGap-none : (i : ℕ) (ts : List Tree) → HasGap i i ts
+HasGap-none i ts =
+    let none : i - i ≡ 0 = omega arith in
+    sym (ap (λ m. replicate m (written []) ++ drop i ts) none)
+
+module _ (ts : List Tree) (j k : ℕ) (have : HaveBytes j k ts) (gap : HasGap (suc j) k ts) where
+  abbrev front : List Tree
+  front = take j ts
+
+  abbrev behind : List Tree
+  behind = drop (suc k) ts
+
+  abbrev between : ℕ
+  between = k - suc j
+
+  abbrev split : List Tree
+  split = in_row front between behind (part_at j ts) (part_at k ts)
+
+  cut : ts ≡ split
+  cut =
+      split_at ts j (leaf empty) (omega (arith, have.ordered, have.within))
+      ∙ ap (λ us. front ++ part_at j ts ∷ us)
+      (gap ∙ ap (λ us. replicate between (written []) ++ us) (drop-cons ts k (leaf empty) have.within))
+
+  front_len : length front ≡ j
+  front_len = length-take-le j ts (omega (arith, have.ordered, have.within))
+
+  later_is : later front between behind ≡ k
+  later_is = omega (arith, front_len, have.ordered)
+
+  at_split : (P : List Tree → List Tree → Type 0) (d : Direction) →
+      P split (joined_at d (length front) (later front between behind) split) → P ts (joined_at d j k ts)
+  at_split P d h =
+      subst (λ us. P us (joined_at d j k us)) (sym cut)
+      (subst (λ i. P split (joined_at d i k split)) front_len
+      (subst (λ i. P split (joined_at d (length front) i split)) later_is h))
+
+  pub join_keeps : (d : Direction) → Keeps d (cat (row ts)) (cat (row (joined_at d j k ts)))
+  join_keeps d =
+      at_split (λ us vs. Keeps d (cat (row us)) (cat (row vs))) d
+      (split_keeps front between behind d (part_at j ts) (part_at k ts) have.first have.second)
+
+  pub join_less : (d : Direction) → IsLess (cat (row (joined_at d j k ts))) (cat (row ts))
+  join_less d =
+      at_split (λ us vs. IsLess (cat (row vs)) (cat (row us))) d
+      (split_less front between behind d (part_at j ts) (part_at k ts) have.first have.second)
+
+  pub join_gap : (d : Direction) → HasGap j k (joined_at d j k ts)
+  join_gap d =
+      let more : suc between ≡ k - j = omega (arith, have.ordered) in
+      at_split (λ us vs. drop j vs ≡ replicate (k - j) (written []) ++ drop k vs) d
+      (subst (λ i. drop i (joined_at d (length front) (later front between behind) split)
+      ≡ replicate (k - j) (written []) ++ drop k (joined_at d (length front) (later front between behind) split)) front_len
+      (subst (λ i. drop (length front) (joined_at d (length front) (later front between behind) split)
+      ≡ replicate i (written []) ++ drop k (joined_at d (length front) (later front between behind) split)) more
+      (subst (λ i. drop (length front) (joined_at d (length front) (later front between behind) split)
+      ≡ replicate (suc between) (written []) ++ drop i (joined_at d (length front) (later front between behind) split)) later_is
+      (split_gap front between behind d (part_at j ts) (part_at k ts)))))
+
+  -- a row that was joined already is joined further
+  pub join_more : (d : Direction) (old : Trees) → JoinsSome d old (row ts) → JoinsSome d old (row (joined_at d j k ts))
+  join_more d old so_far = record {
+    keeps = Keeps-trans d so_far.keeps (join_keeps d);
+    less = IsLess-trans _ _ _ so_far.less (join_less d);
+    found = so_far.found;
+  }
+
+  pub join_first : (d : Direction) → is_formed_away (cat (row ts)) ≡ true → JoinsSome d (row ts) (row (joined_at d j k ts))
+  join_first d found = record { keeps = join_keeps d; less = join_less d; found = found }

@@ -1,0 +1,172 @@
+//! Forming of literal bytes.
+ghost use Rattle.std.specs.Prelude.{◌≡◌, ◌<◌, ◌++◌, ◌-◌, ◌&&◌, [], length, map, true, IfOk, OnOk, OnErr};
+ghost use Rattle.regress_tree.specs.Reading.{Direction, forwards, backwards};
+ghost use Rattle.regress_tree.specs.Tree.{tree, trees, leaf, char, char_set, byte_sequence, cat};
+ghost use Rattle.regress_tree.specs.Literal.{set_of};
+ghost use Rattle.regress_tree.specs.Walk.{direction_of};
+ghost use Rattle.regress_tree.specs.Shapes.{has_bytes, is_formed_away};
+ghost use Rattle.regress_rewrite.specs.Law.{after, IsLawful};
+ghost use Rattle.regress_rewrite.specs.Formed.{formed_character, bytes_of, part_at, HaveBytes, joined_at, Joins};
+
+use crate::rewrite::PassAction;
+use regress_tree::ir::{Node, Walk};
+use regress_tree::literal::ascii;
+use std::alloc::{AllocError, Global};
+use std::mem;
+
+/// Makes a character the `ByteSequence` of its UTF-8, makes a set of ASCII a `ByteSet`, and joins the bytes
+/// of neighbours in a `Cat`: the last part of each run takes all. The time for a `Cat` grows as its parts
+/// and their bytes do.
+///
+/// Where memory is refused after something was joined, that is answered: the next sweep tries again.
+pub fn form_literal_bytes(
+    alloc: Global,
+    node: &mut Node,
+    walk: &Walk,
+) -> Result<PassAction, AllocError>
+    ensures lawful { IfOk result (IsLawful is_formed_away true (direction_of walk.now) (tree node.old) (tree node.new)) }
+    ensures err { OnErr result (tree node.new ≡ tree node.old) }
+{
+    match node {
+        Node::Char { c } => form_character(alloc, *c),
+        Node::CharSet(characters) => form_set(alloc, characters),
+        Node::Cat(parts) => join_parts(parts, walk),
+        _ => Ok(PassAction::Keep),
+    }
+}
+
+/// The UTF-8 of a code point, if it is a character.
+fn form_character(alloc: Global, c: u32) -> Result<PassAction, AllocError>
+    ensures lawful { (d : Direction) → IfOk result (IsLawful is_formed_away true d (leaf (char c)) (leaf (char c))) }
+    ensures formed { IfOk result (λ action. after action (leaf (char c)) ≡ leaf (formed_character c)) }
+{
+    let Some(c) = char::from_u32(c) else {
+        return Ok(PassAction::Keep);
+    };
+    let mut text = String::new(alloc);
+    text.push(c)?;
+    Ok(PassAction::Replace(Node::ByteSequence(text.into_bytes())))
+}
+
+/// The set of the same members as bytes, if all are ASCII.
+fn form_set(alloc: Global, characters: &[u32]) -> Result<PassAction, AllocError>
+    ensures lawful { (d : Direction) → IfOk result (IsLawful is_formed_away true d (leaf (char_set characters.now)) (leaf (char_set characters.now))) }
+    ensures formed { IfOk result (λ action. after action (leaf (char_set characters.now)) ≡ leaf (set_of characters.now)) }
+{
+    match ascii(alloc, characters)? {
+        Some(bytes) => Ok(PassAction::Replace(Node::ByteSet(bytes))),
+        None => Ok(PassAction::Keep),
+    }
+}
+
+/// Joins the bytes of neighbours.
+fn join_parts(parts: &mut [Node], walk: &Walk) -> Result<PassAction, AllocError>
+    ensures lawful { IfOk result (IsLawful is_formed_away true (direction_of walk.now) (cat (trees parts.old)) (cat (trees parts.new))) }
+    ensures err { OnErr result (trees parts.new ≡ trees parts.old) }
+{
+    let joined = if walk.in_lookbehind {
+        join_backwards(parts)?
+    } else {
+        join_forwards(parts)?
+    };
+    Ok(if joined {
+        PassAction::Modified
+    } else {
+        PassAction::Keep
+    })
+}
+
+/// Joins neighbours from left to right, where the bytes of the earlier part come first, and answers
+/// whether there were any.
+fn join_forwards(parts: &mut [Node]) -> Result<bool, AllocError>
+    ensures joins { IfOk result (λ joined. Joins forwards joined (trees parts.old) (trees parts.new)) }
+    ensures err { OnErr result (trees parts.new ≡ trees parts.old) }
+{
+    let mut joined = false;
+    for later in 1..parts.len() {
+        if have_bytes(parts, later - 1, later) {
+            if let Err(e) = join_after(parts, later) {
+                return if joined { Ok(true) } else { Err(e) };
+            }
+            joined = true;
+        }
+    }
+    Ok(joined)
+}
+
+/// Joins neighbours from right to left, where the bytes of the later part come first, and answers whether
+/// there were any.
+fn join_backwards(parts: &mut [Node]) -> Result<bool, AllocError>
+    ensures joins { IfOk result (λ joined. Joins backwards joined (trees parts.old) (trees parts.new)) }
+    ensures err { OnErr result (trees parts.new ≡ trees parts.old) }
+{
+    let mut joined = false;
+    // The part that takes the bytes: those before it, as far as here, have given it theirs.
+    let mut last = parts.len().saturating_sub(1);
+    for earlier in (0..last).rev() {
+        if have_bytes(parts, earlier, last) {
+            if let Err(e) = join_before(parts, earlier, last) {
+                return if joined { Ok(true) } else { Err(e) };
+            }
+            joined = true;
+        } else {
+            last = earlier;
+        }
+    }
+    Ok(joined)
+}
+
+/// Whether both parts are a `ByteSequence` with a byte.
+fn have_bytes(parts: &[Node], earlier: usize, later: usize) -> bool
+    requires earlier { earlier < length parts.now }
+    requires later { later < length parts.now }
+    ensures { result ≡ (has_bytes (part_at earlier (map tree parts.now)) && has_bytes (part_at later (map tree parts.now))) }
+{
+    has_bytes(&parts[earlier]) && has_bytes(&parts[later])
+}
+
+fn has_bytes(node: &Node) -> bool
+    ensures { result ≡ has_bytes (tree node.now) }
+{
+    matches!(node, Node::ByteSequence(bytes) if !bytes.is_empty())
+}
+
+/// Gives a part the bytes of the part before it, which come first. Its buffer becomes that of the other.
+fn join_after(parts: &mut [Node], later: usize) -> Result<(), AllocError>
+    requires { HaveBytes (later - 1) later (map tree parts.old) }
+    ensures ok { OnOk result (map tree parts.new ≡ joined_at forwards (later - 1) later (map tree parts.old)) }
+    ensures err { OnErr result (map tree parts.new ≡ map tree parts.old) }
+{
+    let (front, back) = parts.split_at_mut(later);
+    let (part, next) = (&mut front[later - 1], &mut back[0]);
+    append(part, next)?;
+    mem::swap(part, next);
+    Ok(())
+}
+
+/// Gives a part the bytes of an earlier one, which come last.
+fn join_before(parts: &mut [Node], earlier: usize, later: usize) -> Result<(), AllocError>
+    requires { HaveBytes earlier later (map tree parts.old) }
+    ensures ok { OnOk result (map tree parts.new ≡ joined_at backwards earlier later (map tree parts.old)) }
+    ensures err { OnErr result (map tree parts.new ≡ map tree parts.old) }
+{
+    let (front, back) = parts.split_at_mut(later);
+    append(&mut back[0], &mut front[earlier])
+}
+
+/// Moves the bytes of one part behind those of another. Where memory is refused both keep theirs.
+fn append(part: &mut Node, other: &mut Node) -> Result<(), AllocError>
+    requires part { has_bytes (tree part.old) ≡ true }
+    requires other { has_bytes (tree other.old) ≡ true }
+    ensures ok { OnOk result (tree part.new ≡ leaf (byte_sequence (bytes_of (tree part.old) ++ bytes_of (tree other.old)))) }
+    ensures other { OnOk result (tree other.new ≡ leaf (byte_sequence [])) }
+    ensures err { OnErr result (tree part.new ≡ tree part.old) }
+    ensures err_other { OnErr result (tree other.new ≡ tree other.old) }
+{
+    if let Node::ByteSequence(bytes) = part
+        && let Node::ByteSequence(more) = other
+    {
+        bytes.append(more)?;
+    }
+    Ok(())
+}
