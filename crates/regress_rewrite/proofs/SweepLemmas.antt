@@ -14,22 +14,6 @@ use Rattle.regress_rewrite.specs.Sweep.{TellsChange, Swept}
 use Rattle.regress_rewrite.proofs.laws.Changes.{joined, joined-false, TellsChange-then}
 use Rattle.regress_rewrite.proofs.KeepsLemmas.{Keeps-trans, Keeps-put}
 
-<<<<<<< HEAD
-=======
--- What falls.
-
-pub IsLess-trans : (t u v : Tree) → IsLess u t → IsLess v u → IsLess v t
-IsLess-trans t u v a b = record { less = by a.less b.less }
-  where
-    by : (loops u < loops t) ⊎ ((loops u ≡ loops t) × (weight u < weight t)) →
-        (loops v < loops u) ⊎ ((loops v ≡ loops u) × (weight v < weight u)) →
-        (loops v < loops t) ⊎ ((loops v ≡ loops t) × (weight v < weight t))
-    by (inl first) (inl second) = inl (omega arith)
-    by (inl first) (inr second) = inl (omega (arith, second.0))
-    by (inr first) (inl second) = inl (omega (arith, first.0))
-    by (inr first) (inr second) = inr (omega (arith, first.0, second.0), omega (arith, first.1, second.1))
-
->>>>>>> k2
 -- What is told of changes.
 
 TellsChange-put : (p : Place) (answer : Result Bool AllocError) (t u : Tree) → TellsChange answer t u →

@@ -10,7 +10,7 @@ use Rattle.regress_tree.specs.Units.{IsLess}
 use Rattle.regress_rewrite.specs.Law.{Keeps}
 use Rattle.regress_rewrite.specs.Formed.{joined, bytes_of, part_at, HaveBytes, joined_at, JoinsSome}
 use Rattle.regress_rewrite.proofs.KeepsLemmas.{Keeps-trans}
-use Rattle.regress_rewrite.proofs.SweepLemmas.{IsLess-trans}
+use Rattle.regress_tree.proofs.laws.Falling.{IsLess-trans}
 use Rattle.regress_rewrite.proofs.form.JoinLemmas.{written, with_run, joined_keeps, joined_less}
 
 -- A part with bytes.
