@@ -29,14 +29,6 @@ pub trees-push : (nodes : List Node) (node : Node) → trees (nodes ++ node ∷ 
 trees-push [] node = refl
 trees-push (n ∷ nodes) node = ap (more_trees (tree n)) (trees-push nodes node)
 
--- nodes turned are a row turned
-pub trees-reverse : (nodes : List Node) → trees (reverse nodes) ≡ row_reverse (trees nodes)
-trees-reverse [] = refl
-trees-reverse (n ∷ nodes) =
-    ap trees (reverse_onto nodes n [])
-    ∙ trees-push (reverse nodes) n
-    ∙ ap (λ r. row_append r (more_trees (tree n) no_trees)) (trees-reverse nodes)
-
 -- ---- references
 
 abbrev pub reference : Bool → ℕ → Tree
