@@ -18,7 +18,8 @@ use std::mem;
 /// of neighbours in a `Cat`: the last part of each run takes all. The time for a `Cat` grows as its parts
 /// and their bytes do.
 ///
-/// Where memory is refused after something was joined, that is answered: the next sweep tries again.
+/// An error comes only where nothing was changed. Where memory is refused later, what was joined so far is
+/// answered as `Modified`: the next sweep tries again.
 pub fn form_literal_bytes(
     alloc: Global,
     node: &mut Node,
@@ -116,7 +117,7 @@ fn join_backwards(parts: &mut [Node]) -> Result<bool, AllocError>
     Ok(joined)
 }
 
-/// Whether both parts are a `ByteSequence` with a byte.
+/// Whether each of the two parts is a `ByteSequence` with a byte.
 fn have_bytes(parts: &[Node], earlier: usize, later: usize) -> bool
     requires earlier { earlier < length parts.now }
     requires later { later < length parts.now }
@@ -131,7 +132,8 @@ fn has_bytes(node: &Node) -> bool
     matches!(node, Node::ByteSequence(bytes) if !bytes.is_empty())
 }
 
-/// Gives a part the bytes of the part before it, which come first. Its buffer becomes that of the other.
+/// Gives a part the bytes of the part before it, which come first: they get its own behind them, and are
+/// handed on with their buffer.
 fn join_after(parts: &mut [Node], later: usize) -> Result<(), AllocError>
     requires { HaveBytes (later - 1) later (map tree parts.old) }
     ensures ok { OnOk result (map tree parts.new ≡ joined_at forwards (later - 1) later (map tree parts.old)) }

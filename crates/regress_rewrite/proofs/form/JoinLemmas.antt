@@ -1,9 +1,9 @@
 -- Where the bytes of two parts of a row are joined, with none between them, the row keeps what a rewrite must keep and is less.
-use Rattle.std.proofs.Common.{◌≡◌, ◌≢◌, ℕ, zero, suc, ◌+◌, ◌-◌, ◌≤◌, ◌||◌, List, [], ◌∷◌, ◌++◌, flat_map, length, refl, sym, ap, ap₂, ◌∙◌, append-nil, arith, length-append}
+use Rattle.std.proofs.Common.{◌≡◌, ◌≢◌, ℕ, zero, suc, ◌+◌, ◌-◌, ◌||◌, List, [], ◌∷◌, ◌++◌, flat_map, length, refl, sym, ap, ap₂, ◌∙◌, append-nil, arith, length-append}
 use Rattle.std.specs.Prelude.{encode_utf8_all}
 use Rattle.std.specs.Char.{IsScalar}
 use Rattle.std.proofs.lemmas.Bool.{cond-true, and_from, le-leb}
-use Rattle.std.proofs.lemmas.List.Elements.{All-append}
+use Rattle.std.proofs.lemmas.List.Elements.{All-append, All-nil}
 use Rattle.std.proofs.lemmas.Str.{encodes-append}
 use mathlib.Core.Path.{fun_ext}
 use Rattle.regress_tree.specs.Reading.{Direction, forwards, backwards}
@@ -21,6 +21,7 @@ use Rattle.regress_tree.proofs.laws.Measures.{some_node-append, total-append, Is
 use Rattle.regress_tree.proofs.laws.Rows.{steps-append, captures-append}
 use Rattle.regress_tree.proofs.laws.ByteSequences.{these_bytes-nil, these_bytes-append, these_bytes_before-append}
 use Rattle.regress_rewrite.specs.Law.{Keeps}
+use Rattle.regress_rewrite.proofs.form.LeafLemmas.{weight-bytes}
 use Rattle.regress_rewrite.specs.Formed.{joined}
 
 abbrev pub written : List ℕ → Tree
@@ -34,9 +35,9 @@ these_bytes_before-nil bytes s =
     let e : s.place - 0 ≡ s.place = omega arith in
     cond-true _ _ _ (and_from _ _ (le-leb 0 s.place (omega arith)) refl) ∙ ap (λ p. record s { place = p } ∷ []) e
 
-none_stays : (d : Direction) (bytes : List ℕ) (s : State) → these_bytes d bytes [] s ≡ stay s
-none_stays forwards bytes s = these_bytes-nil bytes s
-none_stays backwards bytes s = these_bytes_before-nil bytes s
+these_bytes-none : (d : Direction) (bytes : List ℕ) (s : State) → these_bytes d bytes [] s ≡ stay s
+these_bytes-none forwards bytes s = these_bytes-nil bytes s
+these_bytes-none backwards bytes s = these_bytes_before-nil bytes s
 
 both_match : (d : Direction) (bytes a b : List ℕ) (s : State) →
     these_bytes d bytes (joined d a b) s ≡ (these_bytes d bytes a then_ these_bytes d bytes b) s
@@ -45,7 +46,7 @@ both_match backwards bytes a b s = these_bytes_before-append bytes b a s
 
 module _ (setting : Setting) (bytes : List ℕ) (d : Direction) where
   none_first : (ts : Trees) (s : State) → steps_in_row setting bytes d (more_trees (written []) ts) s ≡ steps_in_row setting bytes d ts s
-  none_first ts s = ap (flat_map (steps_in_row setting bytes d ts)) (none_stays d bytes s) ∙ append-nil _
+  none_first ts s = ap (flat_map (steps_in_row setting bytes d ts)) (these_bytes-none d bytes s) ∙ append-nil _
 
   steps-nones : (k : ℕ) (ts : Trees) (s : State) →
       steps_in_row setting bytes d (row_append (copies k (written [])) ts) s ≡ steps_in_row setting bytes d ts s
@@ -89,7 +90,7 @@ free last P = tt
 free root P = tt
 
 AreUtf8-none : (p : Position) → AreUtf8 [] (last_of p)
-AreUtf8-none p = record { characters = []; are_scalar = λ k d below. absurd (omega (arith, below)); encoded = refl; one = free p _ }
+AreUtf8-none p = record { characters = []; are_scalar = All-nil IsScalar; encoded = refl; one = free p _ }
 
 AreUtf8-append : {a b : List ℕ} {p q : Position} (r : Position) → AreUtf8 a p → AreUtf8 b q → AreUtf8 (a ++ b) (last_of r)
 AreUtf8-append {a} {b} r first second = record {
@@ -188,10 +189,6 @@ module _ (before behind : Trees) (k : ℕ) (d : Direction) (a b : List ℕ) wher
   weight-some [] some = absurd (some refl)
   weight-some (y ∷ ys) some = refl
 
-  weight-any : (x : List ℕ) → weight_of_leaf (byte_sequence x) ≤ 3
-  weight-any [] = omega arith
-  weight-any (y ∷ ys) = omega arith
-
   pub joined_less : a ≢ [] → b ≢ [] → IsLess (cat new) (cat old)
   joined_less first second =
       IsLess-lighter (cat new) (cat old)
@@ -202,5 +199,5 @@ module _ (before behind : Trees) (k : ℕ) (d : Direction) (a b : List ℕ) wher
         total-run weights [] (joined d a b),
         weight-some a first,
         weight-some b second,
-        weight-any (joined d a b),
+        weight-bytes (joined d a b),
       ))

@@ -33,7 +33,7 @@ always inside P holds = tt
 always last P holds = tt
 always root P holds = tt
 
-weight-bytes : (bytes : List ℕ) → weight_of_leaf (byte_sequence bytes) ≤ 3
+pub weight-bytes : (bytes : List ℕ) → weight_of_leaf (byte_sequence bytes) ≤ 3
 weight-bytes [] = omega arith
 weight-bytes (b ∷ bytes) = omega arith
 

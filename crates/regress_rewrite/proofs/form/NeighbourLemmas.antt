@@ -11,7 +11,7 @@ use Rattle.regress_rewrite.specs.Formed.{part_at, HaveBytes, joined_at, JoinsSom
 use Rattle.regress_rewrite.proofs.form.PartLemmas.{HasGap, HasGap-none, join_gap, join_more, join_first}
 
 -- whether there are neighbours with bytes from a place on
-abbrev pub has_more : ℕ → List Tree → Bool
+abbrev has_more : ℕ → List Tree → Bool
 has_more i ts = has_neighbours has_bytes (row (drop i ts))
 
 abbrev both : ℕ → List Tree → Bool
@@ -58,7 +58,8 @@ module _ (i : ℕ) (old now : List Tree) where
       let back : suc (i - 1) ≡ i = omega (arith, low) in
       let on : i + 1 - 1 ≡ suc (i - 1) = omega (arith, low) in
       let here : both (i - 1) old ≡ false =
-      subst (λ ts. both (i - 1) ts ≡ false) so_far.0 (subst (λ k. (has_bytes (part_at (i - 1) now) && has_bytes (part_at k now)) ≡ false) (sym back) not_both) in
+      subst (λ ts. both (i - 1) ts ≡ false) so_far.0
+      (subst (λ k. (has_bytes (part_at (i - 1) now) && has_bytes (part_at k now)) ≡ false) (sym back) not_both) in
       let inside : suc (i - 1) < length old = omega (arith, within, back, ap length so_far.0) in (
         so_far.0,
         ap (λ k. has_more k old) on
@@ -99,6 +100,9 @@ module _ (i last : ℕ) (old now : List Tree) (some : 1 ≤ i) where
   before : suc (i - 1) ≡ i
   before = omega (arith, some)
 
+  gap_before : HasGap i last now → HasGap (suc (i - 1)) last now
+  gap_before gap = subst (λ k. HasGap k last now) (sym before) gap
+
   pub backward_skip : (joined : Bool) → i ≤ last → last < length now →
       (has_bytes (part_at (i - 1) now) && has_bytes (part_at last now)) ≡ false →
       BackwardSoFar joined i last old now → BackwardSoFar joined (i - 1) (i - 1) old now
@@ -113,11 +117,8 @@ module _ (i last : ℕ) (old now : List Tree) (some : 1 ≤ i) where
 
   pub backward_join : (joined : Bool) → HaveBytes (i - 1) last now → HasGap i last now → BackwardSoFar joined i last old now →
       JoinsSome backwards (row old) (row (joined_at backwards (i - 1) last now))
-  backward_join joined have gap so_far = by_cases joined so_far (backward_gap gap)
+  backward_join joined have gap so_far = by_cases joined so_far (gap_before gap)
     where
-      backward_gap : HasGap i last now → HasGap (suc (i - 1)) last now
-      backward_gap gap = subst (λ k. HasGap k last now) (sym before) gap
-
       by_cases : (joined : Bool) → BackwardSoFar joined i last old now → HasGap (suc (i - 1)) last now →
           JoinsSome backwards (row old) (row (joined_at backwards (i - 1) last now))
       by_cases true so_far gap = join_more now (i - 1) last have gap backwards (row old) so_far
@@ -127,7 +128,7 @@ module _ (i last : ℕ) (old now : List Tree) (some : 1 ≤ i) where
           (has_more-all now (i - 1) (have_both (i - 1) last now have (so_far.1 ∙ sym before))))
 
   pub backward_gap : HaveBytes (i - 1) last now → HasGap i last now → HasGap (i - 1) last (joined_at backwards (i - 1) last now)
-  backward_gap have gap = join_gap now (i - 1) last have (subst (λ k. HasGap k last now) (sym before) gap) backwards
+  backward_gap have gap = join_gap now (i - 1) last have (gap_before gap) backwards
 
 pub backward_end : (joined : Bool) (last : ℕ) (old now : List Tree) → BackwardSoFar joined 0 last old now →
     Joins backwards joined (row old) (row now)

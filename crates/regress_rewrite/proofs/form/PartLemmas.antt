@@ -15,7 +15,7 @@ use Rattle.regress_rewrite.proofs.form.JoinLemmas.{written, with_run, joined_kee
 
 -- A part with bytes.
 
-pub record IsWritten (t : Tree) : Type 0 where
+record IsWritten (t : Tree) : Type 0 where
   pub is : t ≡ written (bytes_of t)
   pub some : bytes_of t ≢ []
 
@@ -38,7 +38,7 @@ is_written (cat parts) has = absurd (false≢true has)
 is_written (alt left right) has = absurd (false≢true has)
 is_written (wrapped w body) has = absurd (false≢true has)
 
--- A list with two parts, and parts without bytes between them, as a row.
+-- A list as a row.
 
 row-append : (ts us : List Tree) → row (ts ++ us) ≡ row_append (row ts) (row us)
 row-append [] us = refl
@@ -48,8 +48,20 @@ row-replicate : (n : ℕ) (t : Tree) → row (replicate n t) ≡ copies n t
 row-replicate zero t = refl
 row-replicate (suc n) t = ap (more_trees t) (row-replicate n t)
 
+-- From the earlier place up to the later one no part has bytes.
+
+abbrev pub HasGap : (earlier later : ℕ) → List Tree → Type 0
+HasGap i k ts = drop i ts ≡ replicate (k - i) (written []) ++ drop k ts
+
+pub HasGap-none : (i : ℕ) (ts : List Tree) → HasGap i i ts
+HasGap-none i ts =
+    let none : i - i ≡ 0 = omega arith in
+    sym (ap (λ m. replicate m (written []) ++ drop i ts) none)
+
+-- Two parts, and parts without bytes between them.
+
 module _ (front : List Tree) (n : ℕ) (behind : List Tree) where
-  abbrev pub in_row : (x y : Tree) → List Tree
+  abbrev in_row : (x y : Tree) → List Tree
   in_row x y = front ++ x ∷ (replicate n (written []) ++ y ∷ behind)
 
   row-in_row : (a b : List ℕ) → row (in_row (written a) (written b)) ≡ with_run (row front) (row behind) n a b
@@ -88,6 +100,15 @@ module _ (front : List Tree) (n : ℕ) (behind : List Tree) where
       (place_before (written []))
       ∙ sym (regroup (written []) (written (joined d (bytes_of x) (bytes_of y))))
 
+  joined-gap : (d : Direction) (x y : Tree) → HasGap (length front) later (joined_at d (length front) later (in_row x y))
+  joined-gap d x y =
+      let z = written (joined d (bytes_of x) (bytes_of y)) in
+      let nones : later - length front ≡ suc n = omega arith in
+      let rest = drop_at (front ++ written [] ∷ replicate n (written [])) (z ∷ behind) later (place_before (written [])) in
+      subst (HasGap (length front) later) (sym (joined-in_row d x y))
+      (drop-append_seam front (replicate (suc n) (written []) ++ z ∷ behind)
+      ∙ ap₂ (λ (m : ℕ) (us : List Tree). replicate m (written []) ++ us) (sym nones) (sym (ap (drop later) (regroup (written []) z) ∙ rest)))
+
   -- where both parts have bytes, joining them keeps the row and makes it less
   module _ (d : Direction) (x y : Tree) (first : has_bytes x ≡ true) (second : has_bytes y ≡ true) where
     abbrev a : List ℕ
@@ -114,28 +135,6 @@ module _ (front : List Tree) (n : ℕ) (behind : List Tree) where
         (subst (λ (ts : Trees). IsLess (cat ts) (cat (with_run (row front) (row behind) n a b))) (sym is)
         (joined_less (row front) (row behind) n d a b (is_written x first).some (is_written y second).some))
 
-  -- the parts from the earlier one on
-  split_gap : (d : Direction) (x y : Tree) →
-      drop (length front) (joined_at d (length front) later (in_row x y))
-      ≡ replicate (suc n) (written []) ++ drop later (joined_at d (length front) later (in_row x y))
-  split_gap d x y =
-      let z = written (joined d (bytes_of x) (bytes_of y)) in
-      let rest = drop_at (front ++ written [] ∷ replicate n (written [])) (z ∷ behind) later (place_before (written [])) in
-      ap (drop (length front)) (joined-in_row d x y)
-      ∙ drop-append_seam front (replicate (suc n) (written []) ++ z ∷ behind)
-      ∙ ap (λ (us : List Tree). replicate (suc n) (written []) ++ us)
-      (sym (ap (drop later) (joined-in_row d x y ∙ regroup (written []) z) ∙ rest))
-
--- Two parts of a list with none that has bytes between them.
-
-abbrev pub HasGap : (earlier later : ℕ) → List Tree → Type 0
-HasGap i k ts = drop i ts ≡ replicate (k - i) (written []) ++ drop k ts
-
-pub HasGap-none : (i : ℕ) (ts : List Tree) → HasGap i i ts
-HasGap-none i ts =
-    let none : i - i ≡ 0 = omega arith in
-    sym (ap (λ m. replicate m (written []) ++ drop i ts) none)
-
 module _ (ts : List Tree) (j k : ℕ) (have : HaveBytes j k ts) (gap : HasGap (suc j) k ts) where
   abbrev front : List Tree
   front = take j ts
@@ -161,34 +160,26 @@ module _ (ts : List Tree) (j k : ℕ) (have : HaveBytes j k ts) (gap : HasGap (s
   later_is : later front between behind ≡ k
   later_is = omega (arith, front_len, have.ordered)
 
-  at_split : (P : List Tree → List Tree → Type 0) (d : Direction) →
-      P split (joined_at d (length front) (later front between behind) split) → P ts (joined_at d j k ts)
+  at_split : (P : ℕ → ℕ → List Tree → List Tree → Type 0) (d : Direction) →
+      P (length front) (later front between behind) split (joined_at d (length front) (later front between behind) split) →
+      P j k ts (joined_at d j k ts)
   at_split P d h =
-      subst (λ us. P us (joined_at d j k us)) (sym cut)
-      (subst (λ i. P split (joined_at d i k split)) front_len
-      (subst (λ i. P split (joined_at d (length front) i split)) later_is h))
+      subst (λ us. P j k us (joined_at d j k us)) (sym cut)
+      (subst (λ i. P i k split (joined_at d i k split)) front_len
+      (subst (λ i. P (length front) i split (joined_at d (length front) i split)) later_is h))
 
-  pub join_keeps : (d : Direction) → Keeps d (cat (row ts)) (cat (row (joined_at d j k ts)))
+  join_keeps : (d : Direction) → Keeps d (cat (row ts)) (cat (row (joined_at d j k ts)))
   join_keeps d =
-      at_split (λ us vs. Keeps d (cat (row us)) (cat (row vs))) d
+      at_split (λ i l us vs. Keeps d (cat (row us)) (cat (row vs))) d
       (split_keeps front between behind d (part_at j ts) (part_at k ts) have.first have.second)
 
-  pub join_less : (d : Direction) → IsLess (cat (row (joined_at d j k ts))) (cat (row ts))
+  join_less : (d : Direction) → IsLess (cat (row (joined_at d j k ts))) (cat (row ts))
   join_less d =
-      at_split (λ us vs. IsLess (cat (row vs)) (cat (row us))) d
+      at_split (λ i l us vs. IsLess (cat (row vs)) (cat (row us))) d
       (split_less front between behind d (part_at j ts) (part_at k ts) have.first have.second)
 
   pub join_gap : (d : Direction) → HasGap j k (joined_at d j k ts)
-  join_gap d =
-      let more : suc between ≡ k - j = omega (arith, have.ordered) in
-      at_split (λ us vs. drop j vs ≡ replicate (k - j) (written []) ++ drop k vs) d
-      (subst (λ i. drop i (joined_at d (length front) (later front between behind) split)
-      ≡ replicate (k - j) (written []) ++ drop k (joined_at d (length front) (later front between behind) split)) front_len
-      (subst (λ i. drop (length front) (joined_at d (length front) (later front between behind) split)
-      ≡ replicate i (written []) ++ drop k (joined_at d (length front) (later front between behind) split)) more
-      (subst (λ i. drop (length front) (joined_at d (length front) (later front between behind) split)
-      ≡ replicate (suc between) (written []) ++ drop i (joined_at d (length front) (later front between behind) split)) later_is
-      (split_gap front between behind d (part_at j ts) (part_at k ts)))))
+  join_gap d = at_split (λ i l us vs. HasGap i l vs) d (joined-gap front between behind d (part_at j ts) (part_at k ts))
 
   -- a row that was joined already is joined further
   pub join_more : (d : Direction) (old : Trees) → JoinsSome d old (row ts) → JoinsSome d old (row (joined_at d j k ts))
