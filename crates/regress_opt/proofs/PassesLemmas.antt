@@ -1,7 +1,9 @@
 -- Passes one after another.
-use Rattle.std.proofs.Common.{◌≡◌, ◌≢◌, ℕ, ◌+◌, ◌<◌, ◌≤◌, Bool, true, false, IsTrue, Result, Ok, Err, List, [], ◌∷◌, length, take, get_or, refl, sym, ap, subst, ◌∙◌, le_refl, le_trans}
+use Rattle.std.proofs.Common.{◌≡◌, ◌≢◌, ℕ, zero, suc, ◌+◌, ◌<◌, ◌≤◌, Bool, true, false, IsTrue, Result, Ok, Err, List, [], ◌∷◌, length, take, get_or, refl, sym, ap, subst, ◌∙◌, le_refl, le_trans, arith}
 use Rattle.std.specs.Prelude.{IfOk, OnOk, MatchBool}
-use Rattle.std.proofs.lemmas.List.Elements.{All-more, All-get_or}
+use Rattle.std.specs.Result.{IsErr}
+use Rattle.std.proofs.lemmas.Bool.{false≢true}
+use Rattle.std.proofs.Math.Numerals.{add-one}
 use Rattle.std.specs.declared.alloc.AllocError.{AllocError}
 use Rattle.regress_tree.specs.declared.ir.node.Regex.{Regex}
 use Rattle.regress_tree.specs.Reading.{forwards}
@@ -38,6 +40,21 @@ Kept-then a b c first second = record {
   flags = second.flags ∙ first.flags;
 }
 
+-- What several passes remove, one by one.
+
+LacksAll-at : (passes : List Pass) (i : ℕ) (pass : Pass) (t : Tree) → i < length passes → LacksAll passes t →
+    LacksShape (removed_by (get_or passes i pass)) t
+LacksAll-at [] i pass t in_row lacks = absurd (omega (arith, in_row))
+LacksAll-at (p ∷ passes) zero pass t in_row lacks = lacks.0
+LacksAll-at (p ∷ passes) (suc i) pass t in_row lacks = LacksAll-at passes i pass t (omega (arith, in_row)) lacks.1
+
+LacksAll-more : (passes : List Pass) (i : ℕ) (pass : Pass) (t : Tree) → i < length passes → LacksAll (take i passes) t →
+    LacksShape (removed_by (get_or passes i pass)) t → LacksAll (take (suc i) passes) t
+LacksAll-more [] i pass t in_row before here = absurd (omega (arith, in_row))
+LacksAll-more (p ∷ passes) zero pass t in_row before here = (here, tt)
+LacksAll-more (p ∷ passes) (suc i) pass t in_row before here =
+    (before.0, LacksAll-more passes i pass t (omega (arith, in_row)) before.1 here)
+
 -- what a pass ensures
 pub of_pass : (pass : Pass) (old new : Regex) (answer : Result Bool AllocError) →
     MeansTheSame forwards (tree old.node) (tree new.node) → IsWellFormed (tree new.node) →
@@ -66,7 +83,7 @@ of_pass pass old new answer meaning well_formed captures account brackets flags 
         IfOk answer (λ changed. MatchBool changed (tree new.node ≢ tree old.node) (tree new.node ≡ tree old.node)) →
         IfOk answer (λ changed. IsTrue changed → IsLess (tree new.node) (tree old.node)) →
         TellsChange answer (tree old.node) (tree new.node)
-    tells (Ok true) changed less = less tt
+    tells (Ok true) changed less = less refl
     tells (Ok false) changed less = changed
     tells (Err e) changed less = tt
 
@@ -78,56 +95,67 @@ of_pass pass old new answer meaning well_formed captures account brackets flags 
 pub Passed-none : (all : List Pass) (r : Regex) → IsWellFormed (tree r.node) → Passed all [] r r (Ok false)
 Passed-none all r well_formed = record { kept = Kept-refl r well_formed; changed = refl; removed = λ same. tt; left = λ lacks. refl }
 
+-- one pass more
+pub Passed-next : (all : List Pass) (i : ℕ) (pass : Pass) (a b c : Regex) (changed : Bool) (answer : Result Bool AllocError) →
+    Passed all (take i all) a b (Ok changed) → PassedAll (pass ∷ []) b c answer → i < length all → pass ≡ get_or all i pass →
+    Passed all (take (i + 1) all) a c (joined changed answer)
+Passed-next all i pass a b c changed answer first second in_row at = record {
+  kept = Kept-then a b c first.kept second.kept;
+  changed = TellsChange-then changed answer (tree a.node) (tree b.node) (tree c.node) first.changed second.changed;
+  removed = λ same.
+      let parts = joined-false changed answer same in
+      let still = subst (λ (r : Result Bool AllocError). TellsChange r (tree b.node) (tree c.node)) parts.1 second.changed in
+      let before = subst (λ (t : Tree). LacksAll (take i all) t) (sym still) (first.removed (ap Ok parts.0)) in
+      let here = subst (λ (p : Pass). LacksShape (removed_by p) (tree c.node)) at (second.removed parts.1).0 in
+      subst (λ (n : ℕ). LacksAll (take n all) (tree c.node)) (sym (add-one i)) (LacksAll-more all i pass (tree c.node) in_row before here);
+  left = λ lacks.
+      let same = first.left lacks in
+      let there = LacksAll-at all i pass (tree a.node) in_row lacks in
+      let here = subst (λ (t : Tree). LacksShape (removed_by pass) t) (sym same)
+      (subst (λ (p : Pass). LacksShape (removed_by p) (tree a.node)) (sym at) there) in
+      second.left (here, tt) ∙ same;
+}
+
 -- after an error nothing is said of what is removed
-pub Passed-error : (all done done' : List Pass) (a b : Regex) (e : AllocError) → Passed all done a b (Err e) → Passed all done' a b (Err e)
-Passed-error all done done' a b e passed = record {
+pub Passed-error : (all done done' : List Pass) (a b : Regex) (answer answer' : Result Bool AllocError) → Passed all done a b answer →
+    IsErr answer' → Passed all done' a b answer'
+Passed-error all done done' a b answer (Ok changed) passed err = absurd (false≢true err)
+Passed-error all done done' a b answer (Err e) passed err = record {
   kept = passed.kept;
   changed = tt;
   removed = λ same. cc;
   left = passed.left;
 }
 
--- one pass more
-module _ (all : List Pass) (i : ℕ) (pass : Pass) (in_row : i < length all) (at : pass ≡ get_or all i pass) (a b c : Regex)
-    (changed : Bool) (answer : Result Bool AllocError) where
-  pub Passed-next : Passed all (take i all) a b (Ok changed) → PassedAll (pass ∷ []) b c answer →
-      Passed all (take (i + 1) all) a c (joined changed answer)
-  Passed-next first second = record {
-    kept = Kept-then a b c first.kept second.kept;
-    changed = TellsChange-then changed answer (tree a.node) (tree b.node) (tree c.node) first.changed second.changed;
-    removed = λ same.
-        let parts = joined-false changed answer same in
-        let still = subst (λ (r : Result Bool AllocError). TellsChange r (tree b.node) (tree c.node)) parts.1 second.changed in
-        let before = subst (λ (t : Tree). LacksAll (take i all) t) (sym still) (first.removed (ap Ok parts.0)) in
-        let here = subst (λ (p : Pass). LacksShape (removed_by p) (tree c.node)) at (second.removed parts.1).0 in
-        All-more (λ p. LacksShape (removed_by p) (tree c.node)) all i pass in_row before here;
-    left = λ lacks.
-        let same = first.left lacks in
-        let there = All-get_or (λ p. LacksShape (removed_by p) (tree a.node)) all i pass in_row lacks in
-        let here = subst (λ (t : Tree). LacksShape (removed_by pass) t) (sym same)
-        (subst (λ (p : Pass). LacksShape (removed_by p) (tree a.node)) (sym at) there) in
-        second.left (here, tt) ∙ same;
-  }
-
 -- Rounds end.
-pub falls : (a b c : Regex) → Kept a b → Kept b c → IsLess (tree c.node) (tree b.node) →
-    changes_left (account (tree a.node)) (tree c.node) < changes_left (account (tree a.node)) (tree b.node)
-falls a b c first second less =
+pub falls : (a b c : Regex) → Kept a b → (passes : List Pass) (answer : Result Bool AllocError) → PassedAll passes b c answer →
+    answer ≡ Ok true → changes_left (account (tree a.node)) (tree c.node) < changes_left (account (tree a.node)) (tree b.node)
+falls a b c first passes answer passed is =
+    let second = passed.kept in
+    let less = subst (λ (r : Result Bool AllocError). TellsChange r (tree b.node) (tree c.node)) is passed.changed in
     changes_left-falls (account (tree a.node)) (tree b.node) (tree c.node) (length (captures (tree c.node))) root
     second.well_formed.stands first.account second.account less
+
+-- what is left as it was once, and once more
+pub left_then : (passes : List Pass) (a b c : Regex) (answer : Result Bool AllocError) →
+    (LacksAll passes (tree a.node) → tree b.node ≡ tree a.node) → PassedAll passes b c answer →
+    LacksAll passes (tree a.node) → tree c.node ≡ tree a.node
+left_then passes a b c answer left passed lacks =
+    let same = left lacks in
+    passed.left (subst (λ (t : Tree). LacksAll passes t) (sym same) lacks) ∙ same
 
 -- The normal form, by brackets and by what a round removes.
 pub normal_from : (t : Tree) → LacksShape is_simplified_away t → LacksAll of_round t → IsNormal t
 normal_from t simplified lacks = record {
   simplified = simplified;
   flattened = lacks.0;
-  unrolled = lacks.1;
-  promoted = lacks.2;
-  formed = lacks.3;
-  emptied = lacks.4;
-  failed = lacks.5.0;
+  unrolled = lacks.1.0;
+  promoted = lacks.1.1.0;
+  formed = lacks.1.1.1.0;
+  emptied = lacks.1.1.1.1.0;
+  failed = lacks.1.1.1.1.1.0;
 }
 
 pub round_from : (t : Tree) → IsNormal t → LacksAll of_round t
 round_from t normal =
-    (normal.flattened, normal.unrolled, normal.promoted, normal.formed, normal.emptied, normal.failed, tt)
+    (normal.flattened, (normal.unrolled, (normal.promoted, (normal.formed, (normal.emptied, (normal.failed, tt))))))

@@ -1,5 +1,5 @@
 -- What passes over a tree make of it.
-use Rattle.std.specs.Prelude.{◌≡◌, ◌≤◌, Bool, false, List, [], ◌∷◌, All, Result, Ok}
+use Rattle.std.specs.Prelude.{◌≡◌, ◌≤◌, Bool, false, List, [], ◌∷◌, Result, Ok}
 use Rattle.std.specs.declared.alloc.AllocError.{AllocError}
 use Rattle.regress_tree.specs.declared.ir.node.Regex.{Regex}
 use Rattle.regress_tree.specs.Reading.{forwards}
@@ -27,7 +27,8 @@ of_round = Flatten ∷ UnrollLoops ∷ Promote1CharLoops ∷ FormLiteralBytes �
 
 -- no node has a shape that one of the passes removes
 abbrev pub LacksAll : List Pass → Tree → Type 0
-LacksAll passes t = All (λ pass. LacksShape (removed_by pass) t) passes
+LacksAll [] t = Unit {0}
+LacksAll (pass ∷ passes) t = LacksShape (removed_by pass) t × LacksAll passes t
 
 -- what passes keep, whatever they answer
 pub record Kept (old new : Regex) : Type 0 where

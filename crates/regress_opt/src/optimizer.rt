@@ -94,7 +94,6 @@ enum Pass {
 }
 
 /// Runs one pass, and answers whether it changed the tree.
-#[tactic(auto, using(crate::proofs::PassesLemmas::of_pass))]
 fn run(alloc: Global, r: &mut Regex, pass: Pass) -> Result<bool, AllocError>
     requires { IsWellFormed (tree r.old.node) }
     ensures { PassedAll (pass ∷ []) r.old r.new result }

@@ -1,13 +1,17 @@
 //! Each rewrite by itself, run over the tree of a pattern.
 
+ghost use Rattle.regress_front.specs.Tree.{tree};
+ghost use Rattle.regress_front.specs.WellFormed.{IsWellFormed};
+
 use super::parsed;
-use regress_front::optimizer::{Rewrite, run_pass};
+use regress_front::ir::Regex;
+use regress_front::optimizer::{Rewrite, optimize, run_pass};
 use regress_front::parse::ParseFault;
 use regress_rewrite::rewrites::{
     Flatten, FormLiteralBytes, Promote1CharLoops, PropagateEarlyFails, RemoveEmpties,
     SimplifyBrackets, UnrollLoops,
 };
-use std::alloc::Global;
+use std::alloc::{AllocError, Global};
 use std::process::Abort;
 use std::test::Fail;
 
@@ -168,4 +172,56 @@ fn sequences_in_sequences_are_flattened(rt: HostRuntime) -> Result<(), Fail> {
         pass,
         "true\nfalse\nCat\n..'97'\n..'98'\n..'99'\n..Goal\n",
     )
+}
+
+/// Whether one of the rewrites changes the tree.
+fn is_changed(alloc: Global, regex: &mut Regex) -> Result<bool, AllocError>
+    requires { IsWellFormed (tree regex.old.node) }
+    ensures { IsWellFormed (tree regex.new.node) }
+{
+    Ok(run_pass(regex, &mut SimplifyBrackets { alloc })?
+        || run_pass(regex, &mut Flatten { alloc })?
+        || run_pass(regex, &mut UnrollLoops { alloc })?
+        || run_pass(regex, &mut Promote1CharLoops { alloc })?
+        || run_pass(regex, &mut FormLiteralBytes { alloc })?
+        || run_pass(regex, &mut RemoveEmpties)?
+        || run_pass(regex, &mut PropagateEarlyFails { alloc })?)
+}
+
+// The worked patterns, one or more for each rewrite.
+#[test]
+fn optimized_trees_are_left_as_they_are(rt: HostRuntime) -> Result<(), Fail> {
+    let alloc = rt.alloc();
+    for pattern in [
+        "",
+        "(?:|)",
+        "(?=)",
+        "(?:ab){2}",
+        "(?<=ab)c",
+        "(?:(?:(?:(?:a{5}){5}){5}){5}){5}",
+        "(?:a|b){3,5}",
+        "x{0}",
+        "(?:xy){0}",
+        "(x){0}",
+        "a*",
+        ".+?",
+        "[]|a",
+        "[](a)",
+        "\\D",
+        "[^]",
+        "(?i:a)b",
+        "(?:[]|.)*",
+        "(?:a[])+b",
+        "(?<=a(?:bc))",
+        "(?:(a)){2}",
+    ] {
+        let mut regex = parsed(alloc, pattern, "")?;
+        optimize(alloc, &mut regex)?;
+        let optimized = format!(in alloc; "{regex}")?;
+        assert!(rt; !is_changed(alloc, &mut regex)?, "{pattern}");
+        optimize(alloc, &mut regex)?;
+        let again = format!(in alloc; "{regex}")?;
+        assert_eq!(rt; again.as_str(), optimized.as_str(), "{pattern}");
+    }
+    Ok(())
 }
