@@ -15,8 +15,8 @@ fn optimized(alloc: Global, pattern: &str, letters: &str) -> Result<Regex, Parse
     Ok(regex)
 }
 
-/// The parts of the optimized tree of a pattern, and the size of the first: the intervals if it is a bracket, the bytes if
-/// it is a byte sequence, and else 0.
+/// The parts of the optimized tree of a pattern, and the size of the first: its intervals if it is a bracket, its bytes
+/// if it is a byte sequence, and else 0.
 fn counted(alloc: Global, pattern: &str, letters: &str) -> Result<(usize, usize), ParseFault> {
     let regex = optimized(alloc, pattern, letters)?;
     let Node::Cat(parts) = &regex.node else {
