@@ -93,25 +93,17 @@ fn strings(alloc: Global, words: &[&str]) -> Result<Vec<String>, AllocError> {
     Ok(args)
 }
 
-const FIRST_PATTERN: &str = "(?:a|bc)d";
+const FIRST_PATTERN: &str = "(?:ab){2}";
 
 const FIRST_OUTPUT: &str = "Cat
-..Cat
-....Alt
+..Loop (groups 0..0) Quantifier { min: 2, max: Some(2), greedy: true }
+....Cat
 ......'97'
-......Cat
-........'98'
-........'99'
-....'100'
+......'98'
 ..Goal
 --
 Cat
-..Alt
-....'97'
-....Cat
-......'98'
-......'99'
-..'100'
+..ByteSeq4 0x61626162
 ..Goal
 ";
 
@@ -124,12 +116,7 @@ fn each_status_comes_with_its_output(rt: HostRuntime) -> Result<(), Fail> {
     let rows: [(&[&str], u8, &str, &str); 15] = [
         (&[FIRST_PATTERN], 0, FIRST_OUTPUT, ""),
         (&[".", "s"], 0, any, ""),
-        (
-            &["", ""],
-            0,
-            "Cat\n..Empty\n..Goal\n--\nCat\n..Empty\n..Goal\n",
-            "",
-        ),
+        (&["", ""], 0, "Cat\n..Empty\n..Goal\n--\nGoal\n", ""),
         (&["a)"], 1, "", "error: Unbalanced parenthesis\n"),
         (
             &["k", "ui"],
@@ -137,12 +124,12 @@ fn each_status_comes_with_its_output(rt: HostRuntime) -> Result<(), Fail> {
             "Cat\n..CharSet 0x4b, 0x6b, 0x212a\n..Goal\n--\nCat\n..CharSet 0x4b, 0x6b, 0x212a\n..Goal\n",
             "",
         ),
-        (&["\\x4", "u"], 1, "", "error: Invalid character escape\n"),
+        (&["\\2(a)", "u"], 1, "", "error: Invalid character escape\n"),
         (&["\\p{L}", "u"], 1, "", "error: Invalid property name\n"),
         (
             &["[ab]", "musv"],
             0,
-            "Cat\n..Bracket BracketContents { invert: false, cps: CodePointSet { ivs: [U+0061-U+0062] } }\n..Goal\n--\nCat\n..Bracket BracketContents { invert: false, cps: CodePointSet { ivs: [U+0061-U+0062] } }\n..Goal\n",
+            "Cat\n..Bracket BracketContents { invert: false, cps: CodePointSet { ivs: [U+0061-U+0062] } }\n..Goal\n--\nCat\n..ByteSet2 0x61 0x62\n..Goal\n",
             "",
         ),
         (&[], 2, "", USAGE),

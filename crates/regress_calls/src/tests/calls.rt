@@ -17,7 +17,7 @@ fn one_call_parses_and_optimizes(rt: HostRuntime) -> Result<(), Fail> {
     optimized?;
     assert_eq!(rt;
         format!(in alloc; "{regex}")?.as_str(),
-        "Cat\n..'97'\n..'98'\n..Goal\n"
+        "Cat\n..ByteSeq2 0x6162\n..Goal\n"
     );
     assert!(rt; regex.flags == flags);
     Ok(())
@@ -31,7 +31,7 @@ fn two_calls_parse_and_optimize(rt: HostRuntime) -> Result<(), Fail> {
     optimize(alloc, &mut regex)?;
     assert_eq!(rt;
         format!(in alloc; "{regex}")?.as_str(),
-        "Cat\n..'97'\n..'98'\n..Goal\n"
+        "Cat\n..ByteSeq2 0x6162\n..Goal\n"
     );
     assert!(rt; regex.flags == flags_of("mu"));
     Ok(())
@@ -41,7 +41,10 @@ fn two_calls_parse_and_optimize(rt: HostRuntime) -> Result<(), Fail> {
 fn another_crate_calls_the_library(rt: HostRuntime) -> Result<(), Fail> {
     let alloc = rt.alloc();
     let text = optimized_text(alloc, "(?:a|\u{E9})", Flags::default())?;
-    assert_eq!(rt; text.as_str(), "Cat\n..Alt\n....'97'\n....'233'\n..Goal\n");
+    assert_eq!(rt;
+        text.as_str(),
+        "Cat\n..Alt\n....ByteSeq1 0x61\n....ByteSeq2 0xc3a9\n..Goal\n"
+    );
     match optimized_text(alloc, "a)", Flags::default()) {
         Ok(_text) => assert!(rt; false, "it is accepted"),
         Err(fault) => {

@@ -15,17 +15,19 @@ fn optimized(alloc: Global, pattern: &str, letters: &str) -> Result<Regex, Parse
     Ok(regex)
 }
 
-/// The parts of the optimized tree of a pattern, and the intervals of the first if it is a bracket.
+/// The parts of the optimized tree of a pattern, and the size of the first: its intervals if it is a bracket, its bytes
+/// if it is a byte sequence, and else 0.
 fn counted(alloc: Global, pattern: &str, letters: &str) -> Result<(usize, usize), ParseFault> {
     let regex = optimized(alloc, pattern, letters)?;
     let Node::Cat(parts) = &regex.node else {
         return Ok((0, 0));
     };
-    let intervals = match parts.first() {
+    let size = match parts.first() {
         Some(Node::Bracket(contents)) => contents.cps.intervals().len(),
+        Some(Node::ByteSequence(bytes)) => bytes.len(),
         _ => 0,
     };
-    Ok((parts.len(), intervals))
+    Ok((parts.len(), size))
 }
 
 /// The same of the item so many times, behind the front; (0, 0) where that is refused.
@@ -43,19 +45,19 @@ fn counted_times(
 #[test]
 fn many_items_are_parsed_and_optimized(rt: HostRuntime) -> Result<(), Fail> {
     let rows = [
-        ("a", "", 100_000, 100_001),
-        ("k", "iu", 100_000, 100_001),
-        ("\\x41", "", 33_000, 33_001),
-        ("\\W", "", 33_000, 33_001),
-        ("a*", "", 50_000, 50_001),
-        ("(?:[a-z]{2,3}?\\b)", "i", 33_000, 66_001),
-        ("(?=a)", "", 33_000, 33_001),
-        ("(?<=a)", "", 33_000, 33_001),
-        ("(?i:a)", "", 33_000, 33_001),
+        ("a", "", 100_000, (2, 100_000)),
+        ("k", "iu", 100_000, (100_001, 0)),
+        ("\\x41", "", 33_000, (2, 33_000)),
+        ("\\W", "", 33_000, (33_001, 4)),
+        ("a*", "", 50_000, (50_001, 0)),
+        ("(?:[a-z]{2,3}?\\b)", "i", 33_000, (132_001, 4)),
+        ("(?=a)", "", 33_000, (33_001, 0)),
+        ("(?<=a)", "", 33_000, (33_001, 0)),
+        ("(?i:a)", "", 33_000, (33_001, 0)),
     ];
     for (item, letters, times, want) in rows {
-        let (parts, _) = counted_times(rt.alloc(), "", item, letters, times)?;
-        assert_eq!(rt; parts, want, "{item} {times} times");
+        let found = counted_times(rt.alloc(), "", item, letters, times)?;
+        assert_eq!(rt; found, want, "{item} {times} times");
     }
     Ok(())
 }
@@ -104,7 +106,7 @@ fn many_groups_with_names_are_parsed(rt: HostRuntime) -> Result<(), Fail> {
     Ok(())
 }
 
-/// How many alternatives of three parts stand before the last one.
+/// How many alternatives of three bytes stand before the last one.
 fn alternatives(alloc: Global, pattern: &str) -> Result<usize, ParseFault> {
     let regex = optimized(alloc, pattern, "")?;
     let Some(mut last) = first_part(&regex.node) else {
@@ -112,7 +114,7 @@ fn alternatives(alloc: Global, pattern: &str) -> Result<usize, ParseFault> {
     };
     let mut found: usize = 0;
     while let Node::Alt(left, right) = last {
-        if matches!(&**left, Node::Cat(parts) if parts.len() == 3) {
+        if matches!(&**left, Node::ByteSequence(bytes) if bytes.len() == 3) {
             found = found.saturating_add(1);
         }
         last = right;
@@ -125,5 +127,16 @@ fn alternatives(alloc: Global, pattern: &str) -> Result<usize, ParseFault> {
 fn many_alternatives_are_rewritten_and_dropped(rt: HostRuntime) -> Result<(), Fail> {
     let pattern = repeated(rt.alloc(), "", "(?:ab)c|", 200_000)?;
     assert_eq!(rt; alternatives(rt.alloc(), pattern.as_str())?, 200_000);
+    Ok(())
+}
+
+#[test]
+fn a_body_of_101_levels_at_most_is_unrolled(rt: HostRuntime) -> Result<(), Fail> {
+    for (bars, want) in [(100, 3), (101, 2)] {
+        let mut pattern = repeated(rt.alloc(), "(?:.", "|.", bars)?;
+        pattern.push_str("){2}")?;
+        let (parts, _) = counted(rt.alloc(), pattern.as_str(), "").unwrap_or((0, 0));
+        assert_eq!(rt; parts, want, "{bars} bars");
+    }
     Ok(())
 }
