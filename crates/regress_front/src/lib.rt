@@ -7,7 +7,9 @@ pub use regress_tree::unicode;
 
 /// The tree.
 pub mod ir {
-    pub use regress_tree::ir::{AnchorType, Node, NodeList, Quantifier, Regex, Walk, walk, walk_mut};
+    pub use regress_tree::ir::{
+        AnchorType, Node, NodeList, Quantifier, Regex, Walk, walk, walk_mut,
+    };
 }
 
 /// Lowering of literals.

@@ -2,8 +2,8 @@
 #![tactic(auto)]
 
 pub mod flatten;
-pub mod has_group;
 pub mod form_literal_bytes;
+pub mod has_group;
 mod pass;
 pub mod promote_1char_loops;
 pub mod propagate_early_fails;

@@ -23,7 +23,11 @@ fn a_linter_lists_groups_and_warns_of_nested_loops(rt: HostRuntime) -> Result<()
         ),
     ] {
         let report = lint(alloc, &parsed(alloc, pattern, "")?)?;
-        assert_eq!(rt; format!(in alloc; "{report:?}")?.as_str(), wanted, "{pattern}");
+        assert_eq!(rt;
+            format!(in alloc; "{report:?}")?.as_str(),
+            wanted,
+            "{pattern}"
+        );
     }
     Ok(())
 }

@@ -16,11 +16,7 @@ use std::process::Abort;
 use std::test::Fail;
 
 /// What a pass makes of a pattern's tree, with a line for each of two runs: whether it changed something.
-fn rewritten<R: Rewrite>(
-    alloc: Global,
-    pattern: &str,
-    pass: &mut R,
-) -> Result<String, ParseFault> {
+fn rewritten<R: Rewrite>(alloc: Global, pattern: &str, pass: &mut R) -> Result<String, ParseFault> {
     let mut regex = parsed(alloc, pattern, "")?;
     let first = run_pass(&mut regex, pass)?;
     let second = run_pass(&mut regex, pass)?;
@@ -179,13 +175,15 @@ fn is_changed(alloc: Global, regex: &mut Regex) -> Result<bool, AllocError>
     requires { IsWellFormed (tree regex.old.node) }
     ensures { IsWellFormed (tree regex.new.node) }
 {
-    Ok(run_pass(regex, &mut SimplifyBrackets { alloc })?
-        || run_pass(regex, &mut Flatten { alloc })?
-        || run_pass(regex, &mut UnrollLoops { alloc })?
-        || run_pass(regex, &mut Promote1CharLoops { alloc })?
-        || run_pass(regex, &mut FormLiteralBytes { alloc })?
-        || run_pass(regex, &mut RemoveEmpties)?
-        || run_pass(regex, &mut PropagateEarlyFails { alloc })?)
+    Ok(
+        run_pass(regex, &mut SimplifyBrackets { alloc })?
+            || run_pass(regex, &mut Flatten { alloc })?
+            || run_pass(regex, &mut UnrollLoops { alloc })?
+            || run_pass(regex, &mut Promote1CharLoops { alloc })?
+            || run_pass(regex, &mut FormLiteralBytes { alloc })?
+            || run_pass(regex, &mut RemoveEmpties)?
+            || run_pass(regex, &mut PropagateEarlyFails { alloc })?,
+    )
 }
 
 // The worked patterns, one or more for each rewrite.

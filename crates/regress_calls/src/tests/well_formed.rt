@@ -71,9 +71,15 @@ fn leaves_that_break_a_rule_are_not_well_formed(rt: HostRuntime) -> Result<(), F
     let bytes = Vec::from_slice(alloc, b"\x80")?;
     assert!(rt; !is_well_formed(Node::ByteSet(bytes)), "a byte past ASCII");
     let bytes = Vec::from_slice(alloc, b"\xC3")?;
-    assert!(rt; !is_well_formed(Node::ByteSequence(bytes)), "half a character");
+    assert!(rt;
+        !is_well_formed(Node::ByteSequence(bytes)),
+        "half a character"
+    );
     let characters = Vec::from_slice(alloc, &[97, 98, 99, 100, 101])?;
-    assert!(rt; !is_well_formed(Node::CharSet(characters)), "five characters");
+    assert!(rt;
+        !is_well_formed(Node::CharSet(characters)),
+        "five characters"
+    );
     let past = Node::Char { c: 0x110000 };
     assert!(rt; !is_well_formed(past), "past the last code point");
     Ok(())
@@ -82,11 +88,17 @@ fn leaves_that_break_a_rule_are_not_well_formed(rt: HostRuntime) -> Result<(), F
 #[test]
 fn nodes_around_what_breaks_a_rule_are_not_well_formed(rt: HostRuntime) -> Result<(), Fail> {
     let alloc = rt.alloc();
-    assert!(rt; !is_well_formed(group(alloc, 1)?), "group 1 without group 0");
+    assert!(rt;
+        !is_well_formed(group(alloc, 1)?),
+        "group 1 without group 0"
+    );
     let twice = row_of(alloc, group(alloc, 0)?, group(alloc, 0)?)?;
     assert!(rt; !is_well_formed(twice), "an id twice");
     let reversed = loop_of(alloc, Node::MatchAny, (2, 1), (0, 0))?;
-    assert!(rt; !is_well_formed(reversed), "more turns at least than at most");
+    assert!(rt;
+        !is_well_formed(reversed),
+        "more turns at least than at most"
+    );
     let goals = row_of(alloc, Node::Goal, Node::Goal)?;
     assert!(rt; !is_well_formed(goals), "two goals");
     let body = Node::Loop1CharBody {
@@ -111,6 +123,9 @@ fn ranges_of_groups_are_those_inside(rt: HostRuntime) -> Result<(), Fail> {
     let narrow = loop_of(alloc, group(alloc, 0)?, (0, 1), (0, 0))?;
     assert!(rt; !is_well_formed(narrow), "a range too narrow");
     let past = loop_of(alloc, Node::MatchAny, (0, 0), (1, 0))?;
-    assert!(rt; is_well_formed(past), "an empty range that ends before it starts");
+    assert!(rt;
+        is_well_formed(past),
+        "an empty range that ends before it starts"
+    );
     Ok(())
 }
