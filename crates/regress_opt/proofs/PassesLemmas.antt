@@ -1,5 +1,5 @@
 -- Passes one after another.
-use Rattle.std.proofs.Common.{◌≡◌, ◌≢◌, ℕ, zero, suc, ◌+◌, ◌<◌, ◌≤◌, Bool, true, false, IsTrue, Result, Ok, Err, List, [], ◌∷◌, length, take, get_or, refl, sym, ap, subst, ◌∙◌, le_refl, le_trans, arith}
+use Rattle.std.proofs.Common.{◌≡◌, ◌≢◌, ℕ, zero, suc, ◌+◌, ◌<◌, ◌≤◌, Bool, true, false, IsTrue, Result, Ok, Err, List, [], ◌∷◌, length, take, get_or, refl, sym, ap, subst, ◌∙◌, le_trans, arith}
 use Rattle.std.specs.Prelude.{IfOk, OnOk, MatchBool}
 use Rattle.std.specs.Result.{IsErr}
 use Rattle.std.proofs.lemmas.Bool.{false≢true}
@@ -7,28 +7,17 @@ use Rattle.std.proofs.Math.Numerals.{add-one}
 use Rattle.std.specs.declared.alloc.AllocError.{AllocError}
 use Rattle.regress_tree.specs.declared.ir.node.Regex.{Regex}
 use Rattle.regress_tree.specs.Reading.{forwards}
-use Rattle.regress_tree.specs.NormalForm.{IsNormal}
 use Rattle.regress_tree.specs.Shapes.{LacksShape, is_simplified_away}
 use Rattle.regress_tree.specs.Tree.{Tree, tree}
 use Rattle.regress_tree.specs.Units.{account, IsLess}
 use Rattle.regress_tree.specs.WellFormed.{IsWellFormed, captures, root}
-use Rattle.regress_tree.proofs.laws.Alike.{Alike-refl, Alike-trans}
+use Rattle.regress_tree.proofs.laws.Alike.{Alike-trans}
 use Rattle.regress_tree.proofs.laws.Falling.{changes_left, changes_left-falls}
 use Rattle.regress_rewrite.specs.Law.{MeansTheSame}
 use Rattle.regress_rewrite.specs.Sweep.{TellsChange}
 use Rattle.regress_rewrite.proofs.laws.Changes.{joined, joined-false, TellsChange-then}
 use Rattle.regress_opt.specs.declared.optimizer.Pass.{Pass}
-use Rattle.regress_opt.specs.Passes.{removed_by, of_round, LacksAll, Kept, Passed, PassedAll}
-
-pub Kept-refl : (r : Regex) → IsWellFormed (tree r.node) → Kept r r
-Kept-refl r well_formed = record {
-  meaning = λ setting text is_text. Alike-refl _;
-  well_formed = well_formed;
-  captures = refl;
-  account = le_refl _;
-  brackets = λ lacks. lacks;
-  flags = refl;
-}
+use Rattle.regress_opt.specs.Passes.{removed_by, LacksAll, Kept, Passed, PassedAll}
 
 pub Kept-then : (a b c : Regex) → Kept a b → Kept b c → Kept a c
 Kept-then a b c first second = record {
@@ -92,9 +81,6 @@ of_pass pass old new answer meaning well_formed captures account brackets flags 
     of_ok (Ok b) same removed = removed
     of_ok (Err e) same removed = cc
 
-pub Passed-none : (all : List Pass) (r : Regex) → IsWellFormed (tree r.node) → Passed all [] r r (Ok false)
-Passed-none all r well_formed = record { kept = Kept-refl r well_formed; changed = refl; removed = λ same. tt; left = λ lacks. refl }
-
 -- one pass more
 pub Passed-next : (all : List Pass) (i : ℕ) (pass : Pass) (a b c : Regex) (changed : Bool) (answer : Result Bool AllocError) →
     Passed all (take i all) a b (Ok changed) → PassedAll (pass ∷ []) b c answer → i < length all → pass ≡ get_or all i pass →
@@ -143,19 +129,3 @@ pub left_then : (passes : List Pass) (a b c : Regex) (answer : Result Bool Alloc
 left_then passes a b c answer left passed lacks =
     let same = left lacks in
     passed.left (subst (λ (t : Tree). LacksAll passes t) (sym same) lacks) ∙ same
-
--- The normal form, by brackets and by what a round removes.
-pub normal_from : (t : Tree) → LacksShape is_simplified_away t → LacksAll of_round t → IsNormal t
-normal_from t simplified lacks = record {
-  simplified = simplified;
-  flattened = lacks.0;
-  unrolled = lacks.1.0;
-  promoted = lacks.1.1.0;
-  formed = lacks.1.1.1.0;
-  emptied = lacks.1.1.1.1.0;
-  failed = lacks.1.1.1.1.1.0;
-}
-
-pub round_from : (t : Tree) → IsNormal t → LacksAll of_round t
-round_from t normal =
-    (normal.flattened, (normal.unrolled, (normal.promoted, (normal.formed, (normal.emptied, (normal.failed, tt))))))
