@@ -13,11 +13,6 @@ mod nodes;
 mod passes;
 mod rewrites;
 mod scale;
-mod searches;
-mod sets;
-mod tables;
-mod types;
-mod util;
 mod walks;
 mod well_formed;
 

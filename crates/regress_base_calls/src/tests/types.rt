@@ -1,10 +1,10 @@
 //! Brackets, groups, loops, limits and the classes of characters.
 
-use regress_front::charclasses::{
+use regress_base::charclasses::{
     WHITESPACE, digit_intervals, line_terminator_intervals, white_space_intervals, word_intervals,
 };
-use regress_front::codepointset::{CODE_POINT_MAX, CodePointSet, Interval, is_canonical};
-use regress_front::types::{
+use regress_base::codepointset::{CODE_POINT_MAX, CodePointSet, Interval, is_canonical};
+use regress_base::types::{
     BracketContents, GroupData, LoopData, MAX_CAPTURE_GROUPS, MAX_CHAR_SET_LENGTH, MAX_LOOPS,
     MAX_NESTING_DEPTH, limits_are_as_defined,
 };

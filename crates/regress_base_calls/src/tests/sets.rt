@@ -1,6 +1,6 @@
 //! Sets of code points.
 
-use regress_front::codepointset::{
+use regress_base::codepointset::{
     CODE_POINT_MAX, CodePointSet, Interval, canonical_form_is_unique, is_canonical,
 };
 use std::alloc::Global;

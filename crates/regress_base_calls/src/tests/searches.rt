@@ -1,6 +1,6 @@
 //! Byte sets and searches.
 
-use regress_front::bytesearch::{
+use regress_base::bytesearch::{
     AsciiBitmap, ByteArraySet, ByteBitmap, ByteSearcher, ByteSet, EmptyString, Needle,
     SmallArraySet, charset_contains,
 };

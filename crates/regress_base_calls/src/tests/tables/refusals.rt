@@ -1,8 +1,8 @@
 //! Which tables are refused.
 ghost use Rattle.std.specs.Prelude.{◌≤◌};
 
-use regress_front::codepointset::{CodePointSet, Interval};
-use regress_front::unicode::{FoldRange, Tables, TablesError};
+use regress_base::codepointset::{CodePointSet, Interval};
+use regress_unicode::{FoldRange, Tables, TablesError};
 use std::alloc::{AllocError, Global};
 use std::process::Abort;
 use std::test::Fail;

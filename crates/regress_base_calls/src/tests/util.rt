@@ -1,8 +1,8 @@
 //! Equal ranges and UTF-8.
 
-use regress_front::bytesearch::ByteBitmap;
-use regress_front::codepointset::{CODE_POINT_MAX, Interval};
-use regress_front::util::{
+use regress_base::bytesearch::ByteBitmap;
+use regress_base::codepointset::{CODE_POINT_MAX, Interval};
+use regress_base::util::{
     add_utf8_first_bytes_to_bitmap, equal_range_by, is_utf8_continuation, to_char_sat,
     utf8_first_byte, utf8_w2, utf8_w3, utf8_w4,
 };

@@ -1,8 +1,8 @@
 //! The table, its images and its lists.
 ghost use Rattle.std.specs.Prelude.{◌<◌, ◌^◌};
 
-use regress_front::codepointset::{CODE_POINT_MAX, CodePointSet, Interval};
-use regress_front::unicode::{
+use regress_base::codepointset::{CODE_POINT_MAX, CodePointSet, Interval};
+use regress_unicode::{
     CodePointRange, Tables, add_icase_code_points, expand_code_point, fold, unfold_char,
     unfold_uppercase_char, uppercase,
 };

@@ -1,0 +1,7 @@
+//! Tests of calls.
+
+mod searches;
+mod sets;
+mod tables;
+mod types;
+mod util;
