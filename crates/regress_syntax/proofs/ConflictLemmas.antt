@@ -1,5 +1,5 @@
 -- Groups that conflict, in a list that is sorted by names and then by paths.
-use Rattle.std.proofs.Common.{◌≡◌, ◌≢◌, ℕ, zero, suc, ◌+◌, ◌<◌, ◌≤◌, ◌⊎◌, inl, inr, ⊎_elim, ◌==◌, Bool, true, false, not, ◌&&◌, List, [], ◌∷◌, map, reverse, length, get_or, Option, Some, None, IsPermutation, IsSorted, IsSortedBy, swap, ap₂, bytes_eq, refl, sym, ap, subst, ◌∙◌, arith}
+use Rattle.std.proofs.Common.{◌≡◌, ◌≢◌, ℕ, zero, suc, ◌+◌, ◌-◌, ◌<◌, ◌≤◌, ◌⊎◌, inl, inr, ⊎_elim, ◌==◌, Bool, true, false, not, ◌&&◌, List, [], ◌∷◌, map, reverse, length, get_or, Option, Some, None, IsPermutation, IsSorted, IsSortedBy, swap, ap₂, bytes_eq, refl, sym, ap, subst, ◌∙◌, arith}
 use Rattle.std.proofs.lemmas.Bool.{false≢true, true≢false, and_parts, and_from, cases_eq, cases_lt, not_from_false, not_from_true, false_from_ne_true, true_from_ne_false}
 use Rattle.std.proofs.lemmas.Bool.Decides.{nat_tests}
 use Rattle.std.proofs.lemmas.Cmp.{on_total, then_total, nat_cmp_total, nat_list_cmp_total}
@@ -153,21 +153,26 @@ module _ {X : Type 0} (r : X → X → Bool) (both_ways : (x y : X) → r x y �
   apart_shuffled xs ys s e =
       apart_from_no_two ys (IsPermutation-keeps xs (NoTwo r) (no_two_from_apart xs e) (λ l a b la lb h. no_two_swapped l a b la lb h) ys s)
 
-  -- In a sorted list two conflict only if two neighbours do.
+  -- In a sorted list two conflict only if two neighbours do: of those that conflict one is nearer to the one between.
   module _ (lt : X → X → Bool) (order : IsStrictWeakOrder lt)
-      (between : (x y z : X) → lt y x ≡ false → lt z y ≡ false → r x z ≡ true → r x y ≡ true) where
+      (between : (x y z : X) → lt y x ≡ false → lt z y ≡ false → r x z ≡ true → (r x y ≡ true) ⊎ (r y z ≡ true)) where
+    -- with so many between them
     far : (xs : List X) → IsSortedBy lt xs → AllAdjacentBelow (λ x y. r x y ≡ false) xs (length xs) →
-        (i j : ℕ) (d : X) → i < j → j < length xs → r (get_or xs i d) (get_or xs j d) ≡ false
-    far xs up near i j d l m =
-        false_from_ne_true _ (λ h. true≢false (sym (between _ _ _
-        (sorted_far lt order xs up i (i + 1) d (omega arith) (omega arith))
-        (sorted_far lt order xs up (i + 1) j d (omega arith) m) h) ∙ near i d (omega arith)))
+        (between i j : ℕ) (d : X) → j ≡ i + 1 + between → j < length xs → r (get_or xs i d) (get_or xs j d) ≡ false
+    far xs up near zero i j d e m = subst (λ k. r (get_or xs i d) (get_or xs k d) ≡ false) (omega (arith, e)) (near i d (omega (arith, e, m)))
+    far xs up near (suc n) i j d e m =
+        false_from_ne_true _ (λ h.
+        ⊎_elim (λ (first : r (get_or xs i d) (get_or xs (i + 1) d) ≡ true). true≢false (sym first ∙ near i d (omega (arith, e, m))))
+        (λ (second : r (get_or xs (i + 1) d) (get_or xs j d) ≡ true). true≢false (sym second ∙ far xs up near n (i + 1) j d (omega (arith, e)) m))
+        (between _ _ _
+        (sorted_far lt order xs up i (i + 1) d (omega arith) (omega (arith, e, m)))
+        (sorted_far lt order xs up (i + 1) j d (omega (arith, e)) m) h))
 
     pub apart_from_neighbours : (xs : List X) → IsSortedBy lt xs → AllAdjacentBelow (λ x y. r x y ≡ false) xs (length xs) → apart r xs ≡ true
     apart_from_neighbours xs up near =
         apart_from_no_two xs (λ i j d ne l m.
-        ⊎_elim (λ (less : i < j). far xs up near i j d less m)
-        (λ (more : j ≤ i). other_way _ _ (far xs up near j i d (omega arith) l)) (cases_lt i j))
+        ⊎_elim (λ (less : i < j). far xs up near (j - (i + 1)) i j d (omega (arith, less)) m)
+        (λ (more : j ≤ i). other_way _ _ (far xs up near (i - (j + 1)) j i d (omega (arith, more, ne)) l)) (cases_lt i j))
 
   pub not_apart : (xs : List X) (k : ℕ) (d : X) → k + 1 < length xs → r (get_or xs k d) (get_or xs (k + 1) d) ≡ true → apart r xs ≡ false
   not_apart xs k d l e =
@@ -188,7 +193,8 @@ is_order : IsStrictWeakOrder (λ x y. is_lt (by_name_and_path x y))
 is_order = ranks_by (then_total (on_total (λ (g : NamedGroup). g.name.items) nat_list_cmp_total) (on_total (λ (g : NamedGroup). g.path.items) nat_list_cmp_total)) (λ (g : NamedGroup). g)
 
 groups_between : (x y z : NamedGroup) → is_lt (by_name_and_path y x) ≡ false → is_lt (by_name_and_path z y) ≡ false →
-    conflict (capture_of x) (capture_of z) ≡ true → conflict (capture_of x) (capture_of y) ≡ true
+    conflict (capture_of x) (capture_of z) ≡ true →
+    (conflict (capture_of x) (capture_of y) ≡ true) ⊎ (conflict (capture_of y) (capture_of z) ≡ true)
 groups_between x y z h h' e =
     let alike : bytes_eq z.name.items x.name.items ≡ true = (and_parts _ _ e).0 in
     let same : z.name.items ≡ x.name.items = (bytes_eq-Decides _ _).0 alike in
@@ -196,7 +202,7 @@ groups_between x y z h h' e =
     let above : is_lt (ordering_then (slice_cmp nat_cmp x.name.items y.name.items) (slice_cmp nat_cmp z.path.items y.path.items)) ≡ false =
     subst (λ (n : List ℕ). is_lt (ordering_then (slice_cmp nat_cmp n y.name.items) (slice_cmp nat_cmp z.path.items y.path.items)) ≡ false) same h' in
     let ties = names_tied x.name.items y.name.items _ _ h above in
-    sym (conflict-captures x y (bytes_eq-sym y.name.items x.name.items ties.0)) ∙ paths_between x.path.items y.path.items z.path.items ties.1 ties.2 paths
+    inl (sym (conflict-captures x y (bytes_eq-sym y.name.items x.name.items ties.0)) ∙ paths_between x.path.items y.path.items z.path.items ties.1 ties.2 paths)
 
 are_apart-map : (gs : List NamedGroup) → are_apart (map capture_of gs) ≡ apart (λ x y. conflict (capture_of x) (capture_of y)) gs
 are_apart-map [] = refl
