@@ -9,7 +9,8 @@ use Rattle.regress_lexical.specs.Source.{Source}
 use Rattle.regress_syntax.specs.Syntax.{Name, Pattern, nothing_counted, counts, names}
 use Rattle.regress_syntax.specs.Rows.{Context}
 use Rattle.regress_syntax.specs.Grammar.{IsPattern}
-use Rattle.regress_syntax.specs.Conflicts.{are_names_apart, has_apart_names}
+use Rattle.regress_syntax.specs.Marks.{marks_of}
+use Rattle.regress_syntax.specs.SameNames.{NoneConflict, are_names_apart}
 use Rattle.regress_syntax.specs.Scan.{GivesMarks, plain, marks, named_by, deepest, IsRefusedByMarks}
 use Rattle.regress_syntax.proofs.laws.Scan.{named_by-pattern, deepest-whole}
 use Rattle.regress_parse.specs.Reader.{pattern_at}
@@ -83,10 +84,10 @@ module _ (setting : Setting) (t : Source) (gives : GivesMarks setting.flags.unic
       omega (arith, deep, ap (deepest 1) same, deepest-whole p, h.limits.levels)
 
   -- the names of a pattern that is read are apart where the scan's are
-  pub marks-apart : (p : Pattern) → IsTrue (are_names_apart (marks setting.flags.unicode_sets setting.table plain t)) → IsDerived setting t p →
-      IsTrue (has_apart_names p)
+  pub marks-apart : (p : Pattern) → NoneConflict (marks setting.flags.unicode_sets setting.table plain t) → IsDerived setting t p →
+      NoneConflict (marks_of p)
   marks-apart p apart h =
-      subst (λ ms. IsTrue (are_names_apart ms)) (sym (gives (own_context setting p) p refl refl h)) apart
+      subst NoneConflict (sym (gives (own_context setting p) p refl refl h)) apart
 
 module _ (setting : Setting) (names : List (Option Name)) where
   pub limits-fit : (p : Pattern) → IsWithinLimits p → Fits nothing_counted 0 (pattern_part setting.table names p)

@@ -6,7 +6,8 @@ use Rattle.regress_tree.specs.Setting.{Setting}
 use Rattle.regress_tree.specs.Reading.{forwards}
 use Rattle.regress_tree.specs.Tree.{Tree, leaf, goal, back_ref, cat, alt, wrapped, capture_group, lookaround}
 use Rattle.regress_lexical.specs.Modifiers.{Change}
-use Rattle.regress_syntax.specs.Conflicts.{Mark, opens, captures, closes, next, marks_of, has_apart_names}
+use Rattle.regress_syntax.specs.Marks.{Mark, opens, captures, closes, next, marks_of}
+use Rattle.regress_syntax.specs.SameNames.{are_names_apart}
 use Rattle.regress_syntax.specs.Scan.{marks, plain as outside_classes}
 use Rattle.regress_lexical.specs.Source.{Source}
 use Rattle.regress_syntax.specs.Syntax.{Pattern, one, no_terms, more_terms, atom, literal, class, back_reference, by_number, group, modified, capture, look}
@@ -173,7 +174,7 @@ marks_behind_a_class = (refl, refl)
 -- whether the source is a pattern whose names conflict nowhere
 unfoldable names_apart : Source → Option Bool
 unfolding pattern_of
-names_apart source = option_map has_apart_names (pattern_of named source)
+names_apart source = option_map (λ p. are_names_apart (marks_of p)) (pattern_of named source)
 
 one_name_in_two_alternatives : names_apart (codes "(?<a>x)|(?<a>y)") ≡ Some true
 unfolding names_apart

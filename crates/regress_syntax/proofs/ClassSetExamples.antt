@@ -13,7 +13,7 @@ use Rattle.regress_lexical.specs.Digits.{front, behind}
 use Rattle.regress_lexical.specs.Escapes.{escape_at, unicode_at}
 use Rattle.regress_syntax.specs.Meaning.{longest_first}
 use Rattle.regress_classes.specs.Properties.{Property, of_points, of_strings, property_at}
-use Rattle.regress_syntax.specs.Conflicts.{captures, closes, nests}
+use Rattle.regress_syntax.specs.Marks.{captures, closes, nests}
 use Rattle.regress_syntax.specs.Scan.{plain, marks}
 use Rattle.regress_lexical.specs.Source.{Source, Found}
 

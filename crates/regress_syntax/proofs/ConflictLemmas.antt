@@ -1,8 +1,8 @@
 -- Groups that conflict, in a list that is sorted by names and then by paths.
-use Rattle.std.proofs.Common.{◌≡◌, ◌≢◌, ℕ, zero, suc, ◌+◌, ◌-◌, ◌<◌, ◌≤◌, ◌⊎◌, inl, inr, ⊎_elim, ◌==◌, Bool, true, false, not, ◌&&◌, List, [], ◌∷◌, map, reverse, length, get_or, Option, Some, None, IsPermutation, IsSorted, IsSortedBy, swap, ap₂, bytes_eq, refl, sym, ap, subst, ◌∙◌, arith}
+use Rattle.std.proofs.Common.{◌≡◌, ◌≢◌, ℕ, zero, suc, ◌+◌, ◌-◌, ◌<◌, ◌≤◌, ◌⊎◌, inl, inr, ⊎_elim, ◌==◌, Bool, true, false, not, ◌&&◌, ◌||◌, List, [], ◌∷◌, map, reverse, length, get_or, Option, Some, None, IsPermutation, IsSorted, IsSortedBy, swap, ap₂, bytes_eq, refl, sym, ap, subst, ◌∙◌, arith}
 use Rattle.std.proofs.lemmas.Bool.{false≢true, true≢false, and_parts, and_from, cases_eq, cases_lt, not_from_false, not_from_true, false_from_ne_true, true_from_ne_false}
 use Rattle.std.proofs.lemmas.Bool.Decides.{nat_tests}
-use Rattle.std.proofs.lemmas.Cmp.{on_total, then_total, nat_cmp_total, nat_list_cmp_total}
+use Rattle.std.proofs.lemmas.Cmp.{on_total, then_total, lists_total, nat_cmp_total, nat_list_cmp_total}
 use Rattle.std.proofs.lemmas.Map.Text.{is_eq-slice_cmp}
 use Rattle.std.proofs.lemmas.Slice.Eq.{bytes_eq-Decides}
 use Rattle.std.proofs.lemmas.List.{reverse-reverse}
@@ -10,14 +10,15 @@ use Rattle.std.proofs.lemmas.List.Edits.{Swapped, swapped_from_swap, length-swap
 use Rattle.std.proofs.lemmas.List.Folds.{list_all-map}
 use Rattle.std.proofs.lemmas.List.Sorted.{sorted_far, IsPermutation-keeps, IsPermutation-sym, ranks_by}
 use Rattle.std.proofs.lemmas.List.Sums.{AllPass-from_list_all, list_all-from_AllPass}
-use Rattle.std.specs.Cmp.{IsStrictWeakOrder}
+use Rattle.std.specs.Cmp.{IsStrictWeakOrder, IsTotalOrder}
 use Rattle.std.specs.Cmp.Lexicographic.{slice_cmp}
 use Rattle.std.specs.List.{AllAdjacentBelow, list_all}
 use Rattle.std.specs.Ordering.{nat_cmp, is_lt, is_eq, on, then_cmp, ordering_then, ordering_reverse}
 use Rattle.std.specs.declared.cmp.Ordering.{Ordering}
 use Rattle.std.specs.declared.cmp.Ordering.TheVariants.{Less, Equal, Greater}
-use Rattle.regress_syntax.specs.Conflicts.{Path, CaptureAt, agree, same_name, conflict, are_apart}
-use Rattle.regress_syntax.specs.Scanning.{capture_of}
+use Rattle.regress_syntax.specs.SameNames.{Path, CaptureAt, are_alternatives, same_name, conflict, are_apart}
+use Rattle.regress_syntax.specs.Scanning.{capture_of, level_of}
+use Rattle.regress_syntax.specs.declared.scan.path.Level.{Level as CodeLevel}
 use Rattle.regress_syntax.specs.declared.scan.scanner.NamedGroup.{NamedGroup}
 
 -- ---- paths and names in order
@@ -29,12 +30,6 @@ tied Less o o' h k = absurd (true≢false h)
 tied Equal o o' h k = (refl, h, k)
 tied Greater o o' h k = absurd (true≢false k)
 
-numbers_tied : (k m : ℕ) (o o' : Ordering) → is_lt (ordering_then (nat_cmp m k) o) ≡ false → is_lt (ordering_then (nat_cmp k m) o') ≡ false →
-    ((k == m) ≡ true) × (is_lt o ≡ false) × (is_lt o' ≡ false)
-numbers_tied k m o o' h h' =
-    let both = tied (nat_cmp m k) o o' h (subst (λ (r : Ordering). is_lt (ordering_then r o') ≡ false) (nat_cmp_total.antisymm k m) h') in
-    (grind (arith, nat_tests, both.0), both.1, both.2)
-
 names_tied : (a b : List ℕ) (o o' : Ordering) → is_lt (ordering_then (slice_cmp nat_cmp b a) o) ≡ false →
     is_lt (ordering_then (slice_cmp nat_cmp a b) o') ≡ false → (bytes_eq b a ≡ true) × (is_lt o ≡ false) × (is_lt o' ≡ false)
 names_tied a b o o' h h' =
@@ -42,25 +37,81 @@ names_tied a b o o' h h' =
     (subst (λ (r : Ordering). is_lt (ordering_then r o') ≡ false) (nat_list_cmp_total.antisymm a b) h') in
     (sym (is_eq-slice_cmp b a) ∙ both.0, both.1, both.2)
 
--- A path between two that agree agrees with the first.
-paths_between : (p q s : List ℕ) → is_lt (slice_cmp nat_cmp q p) ≡ false → is_lt (slice_cmp nat_cmp s q) ≡ false →
-    agree p s ≡ true → agree p q ≡ true
-paths_between [] q s h h' e = refl
-paths_between (k ∷ p) [] s h h' e = refl
-paths_between (k ∷ p) (m ∷ q) [] h h' e = absurd (true≢false h')
-paths_between (k ∷ p) (m ∷ q) (j ∷ s) h h' e =
-    let parts = and_parts (k == j) (agree p s) e in
-    let same : j ≡ k = grind (arith, nat_tests, parts.0) in
-    let above : is_lt (ordering_then (nat_cmp k m) (slice_cmp nat_cmp s q)) ≡ false =
-    subst (λ n. is_lt (ordering_then (nat_cmp n m) (slice_cmp nat_cmp s q)) ≡ false) same h' in
-    let ties = numbers_tied k m _ _ h above in
-    and_from _ _ ties.0 (paths_between p q s ties.1 ties.2 parts.1)
+-- how levels are sorted
+abbrev by_numbers : CodeLevel → CodeLevel → Ordering
+by_numbers = then_cmp (on (λ (l : CodeLevel). l.opening) nat_cmp) (on (λ (l : CodeLevel). l.alternative) nat_cmp)
 
-agree-sym : (p q : Path) → agree p q ≡ agree q p
-agree-sym [] [] = refl
-agree-sym [] (j ∷ q) = refl
-agree-sym (k ∷ p) [] = refl
-agree-sym (k ∷ p) (j ∷ q) = let e = agree-sym p q in grind (arith, nat_tests)
+by_numbers_total : IsTotalOrder by_numbers
+by_numbers_total = then_total (on_total (λ (l : CodeLevel). l.opening) nat_cmp_total) (on_total (λ (l : CodeLevel). l.alternative) nat_cmp_total)
+
+abbrev by_levels : List CodeLevel → List CodeLevel → Ordering
+by_levels = slice_cmp by_numbers
+
+by_levels_total : IsTotalOrder by_levels
+by_levels_total = lists_total by_numbers_total
+
+-- no disjunction holds both in different alternatives
+abbrev are_together : List CodeLevel → List CodeLevel → Bool
+are_together p q = not (are_alternatives (map level_of p) (map level_of q))
+
+-- one number between two others
+numbers_between : (k m j : ℕ) (o o' : Ordering) → is_lt (ordering_then (nat_cmp m k) o) ≡ false → is_lt (ordering_then (nat_cmp j m) o') ≡ false →
+    (k == j) ≡ true → ((k == m) ≡ true) × (is_lt o ≡ false) × (is_lt o' ≡ false)
+numbers_between k m j o o' h h' e =
+    let same : j ≡ k = grind (arith, nat_tests, e) in
+    let above : is_lt (ordering_then (nat_cmp k m) o') ≡ false = subst (λ n. is_lt (ordering_then (nat_cmp n m) o') ≡ false) same h' in
+    let both = tied (nat_cmp m k) o o' h (subst (λ (r : Ordering). is_lt (ordering_then r o') ≡ false) (nat_cmp_total.antisymm k m) above) in
+    (grind (arith, nat_tests, both.0), both.1, both.2)
+
+then_assoc : (r o o' : Ordering) → ordering_then (ordering_then r o) o' ≡ ordering_then r (ordering_then o o')
+then_assoc Less o o' = refl
+then_assoc Equal o o' = refl
+then_assoc Greater o o' = refl
+
+-- of a level and what lies further inside
+levels_between : (k m j : CodeLevel) (o o' : Ordering) → is_lt (ordering_then (by_numbers m k) o) ≡ false →
+    is_lt (ordering_then (by_numbers j m) o') ≡ false → (k.opening == j.opening) ≡ true → (k.alternative == j.alternative) ≡ true →
+    ((k.alternative == m.alternative) ≡ true) × (is_lt o ≡ false) × (is_lt o' ≡ false)
+levels_between k m j o o' h h' opening alternative =
+    let outer = numbers_between k.opening m.opening j.opening _ _
+    (ap is_lt (sym (then_assoc (nat_cmp m.opening k.opening) (nat_cmp m.alternative k.alternative) o)) ∙ h)
+    (ap is_lt (sym (then_assoc (nat_cmp j.opening m.opening) (nat_cmp j.alternative m.alternative) o')) ∙ h') opening in
+    numbers_between k.alternative m.alternative j.alternative o o' outer.1 outer.2 alternative
+
+neither : (a b : Bool) → not (not a || b) ≡ true → (a ≡ true) × (not b ≡ true)
+neither true b e = (refl, e)
+neither false b e = absurd (false≢true e)
+
+-- A path between two that no disjunction holds in different alternatives stands so with one of them.
+paths_between : (p q s : List CodeLevel) → is_lt (by_levels q p) ≡ false → is_lt (by_levels s q) ≡ false →
+    are_together p s ≡ true → (are_together p q ≡ true) ⊎ (are_together q s ≡ true)
+paths_between [] q s h h' e = inl refl
+paths_between (k ∷ p) [] s h h' e = inl refl
+paths_between (k ∷ p) (m ∷ q) [] h h' e = inr refl
+paths_between (k ∷ p) (m ∷ q) (j ∷ s) h h' e = by (paths_between p q s) (k.opening == m.opening) (m.opening == j.opening) refl refl
+  where
+    by : (is_lt (by_levels q p) ≡ false → is_lt (by_levels s q) ≡ false → are_together p s ≡ true →
+        (are_together p q ≡ true) ⊎ (are_together q s ≡ true)) →
+        (first second : Bool) → (k.opening == m.opening) ≡ first → (m.opening == j.opening) ≡ second →
+        (are_together (k ∷ p) (m ∷ q) ≡ true) ⊎ (are_together (m ∷ q) (j ∷ s) ≡ true)
+    by inside false second f g = inl (rw f refl)
+    by inside true false f g = inr (rw g refl)
+    by inside true true f g =
+        let outer : (k.opening == j.opening) ≡ true = grind (arith, nat_tests, f, g) in
+        let together : not (not (k.alternative == j.alternative) || are_alternatives (map level_of p) (map level_of s)) ≡ true = rw outer at e in
+        let parts = neither _ _ together in
+        let ties = levels_between k m j (by_levels q p) (by_levels s q) h h' outer parts.0 in
+        let beside : (m.alternative == j.alternative) ≡ true = grind (arith, nat_tests, ties.0, parts.0) in
+        elim (inside ties.1 ties.2 parts.1) [
+          | inl first ↦ inl (rw (f, ties.0) first)
+          | inr second ↦ inr (rw (g, beside) second)
+        ]
+
+are_alternatives-sym : (p q : Path) → are_alternatives p q ≡ are_alternatives q p
+are_alternatives-sym [] [] = refl
+are_alternatives-sym [] (j ∷ q) = refl
+are_alternatives-sym (k ∷ p) [] = refl
+are_alternatives-sym (k ∷ p) (j ∷ q) = let e = are_alternatives-sym p q in grind (arith, nat_tests)
 
 pub bytes_eq-sym : (a b : List ℕ) → bytes_eq a b ≡ true → bytes_eq b a ≡ true
 bytes_eq-sym a b e = (bytes_eq-Decides b a).1 (sym ((bytes_eq-Decides a b).0 e))
@@ -73,7 +124,7 @@ same_name-sym (Some a) (Some b) e = bytes_eq-sym b a e
 conflict-sym : (a b : CaptureAt) → conflict a b ≡ true → conflict b a ≡ true
 conflict-sym a b e =
     let parts = and_parts (same_name a.name b.name) _ e in
-    and_from _ _ (same_name-sym a.name b.name parts.0) (agree-sym (reverse b.path) (reverse a.path) ∙ parts.1)
+    and_from _ _ (same_name-sym a.name b.name parts.0) (ap not (are_alternatives-sym (reverse b.path) (reverse a.path)) ∙ parts.1)
 
 -- ---- lists in which no two conflict
 
@@ -181,16 +232,16 @@ module _ {X : Type 0} (r : X → X → Bool) (both_ways : (x y : X) → r x y �
 -- ---- groups as the code keeps them
 
 pub conflict-captures : (a b : NamedGroup) → bytes_eq a.name.items b.name.items ≡ true →
-    agree a.path.items b.path.items ≡ conflict (capture_of a) (capture_of b)
+    are_together a.path.levels.items b.path.levels.items ≡ conflict (capture_of a) (capture_of b)
 conflict-captures a b e =
-    rw (bytes_eq-sym a.name.items b.name.items e, reverse-reverse a.path.items, reverse-reverse b.path.items) refl
+    rw (bytes_eq-sym a.name.items b.name.items e, reverse-reverse (map level_of a.path.levels.items), reverse-reverse (map level_of b.path.levels.items)) refl
 
 -- how groups are sorted
 abbrev by_name_and_path : NamedGroup → NamedGroup → Ordering
-by_name_and_path = then_cmp (on (λ (g : NamedGroup). g.name.items) (slice_cmp nat_cmp)) (on (λ (g : NamedGroup). g.path.items) (slice_cmp nat_cmp))
+by_name_and_path = then_cmp (on (λ (g : NamedGroup). g.name.items) (slice_cmp nat_cmp)) (on (λ (g : NamedGroup). g.path.levels.items) by_levels)
 
 is_order : IsStrictWeakOrder (λ x y. is_lt (by_name_and_path x y))
-is_order = ranks_by (then_total (on_total (λ (g : NamedGroup). g.name.items) nat_list_cmp_total) (on_total (λ (g : NamedGroup). g.path.items) nat_list_cmp_total)) (λ (g : NamedGroup). g)
+is_order = ranks_by (then_total (on_total (λ (g : NamedGroup). g.name.items) nat_list_cmp_total) (on_total (λ (g : NamedGroup). g.path.levels.items) by_levels_total)) (λ (g : NamedGroup). g)
 
 groups_between : (x y z : NamedGroup) → is_lt (by_name_and_path y x) ≡ false → is_lt (by_name_and_path z y) ≡ false →
     conflict (capture_of x) (capture_of z) ≡ true →
@@ -198,11 +249,16 @@ groups_between : (x y z : NamedGroup) → is_lt (by_name_and_path y x) ≡ false
 groups_between x y z h h' e =
     let alike : bytes_eq z.name.items x.name.items ≡ true = (and_parts _ _ e).0 in
     let same : z.name.items ≡ x.name.items = (bytes_eq-Decides _ _).0 alike in
-    let paths : agree x.path.items z.path.items ≡ true = conflict-captures x z (bytes_eq-sym z.name.items x.name.items alike) ∙ e in
-    let above : is_lt (ordering_then (slice_cmp nat_cmp x.name.items y.name.items) (slice_cmp nat_cmp z.path.items y.path.items)) ≡ false =
-    subst (λ (n : List ℕ). is_lt (ordering_then (slice_cmp nat_cmp n y.name.items) (slice_cmp nat_cmp z.path.items y.path.items)) ≡ false) same h' in
+    let paths : are_together x.path.levels.items z.path.levels.items ≡ true = conflict-captures x z (bytes_eq-sym z.name.items x.name.items alike) ∙ e in
+    let above : is_lt (ordering_then (slice_cmp nat_cmp x.name.items y.name.items) (by_levels z.path.levels.items y.path.levels.items)) ≡ false =
+    subst (λ (n : List ℕ). is_lt (ordering_then (slice_cmp nat_cmp n y.name.items) (by_levels z.path.levels.items y.path.levels.items)) ≡ false) same h' in
     let ties = names_tied x.name.items y.name.items _ _ h above in
-    inl (sym (conflict-captures x y (bytes_eq-sym y.name.items x.name.items ties.0)) ∙ paths_between x.path.items y.path.items z.path.items ties.1 ties.2 paths)
+    let first : bytes_eq x.name.items y.name.items ≡ true = bytes_eq-sym y.name.items x.name.items ties.0 in
+    let second : bytes_eq y.name.items z.name.items ≡ true = subst (λ n. bytes_eq y.name.items n ≡ true) (sym same) ties.0 in
+    elim (paths_between x.path.levels.items y.path.levels.items z.path.levels.items ties.1 ties.2 paths) [
+      | inl together ↦ inl (sym (conflict-captures x y first) ∙ together)
+      | inr together ↦ inr (sym (conflict-captures y z second) ∙ together)
+    ]
 
 are_apart-map : (gs : List NamedGroup) → are_apart (map capture_of gs) ≡ apart (λ x y. conflict (capture_of x) (capture_of y)) gs
 are_apart-map [] = refl

@@ -1,8 +1,10 @@
 pub mod ClassSetExamples
+mod SameNameExamples
 pub mod laws
 mod ConflictLemmas
 mod NameLemmas
 mod NumberingLemmas
+mod PathLemmas
 mod ReferenceLemmas
 mod ScanClasses
 mod ScanLemmas

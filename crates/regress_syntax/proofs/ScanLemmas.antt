@@ -10,7 +10,7 @@ use Rattle.regress_lexical.specs.Source.{Source, Found, ◌>>=◌, found_map, op
 use Rattle.regress_lexical.specs.Digits.{is_between, is_decimal, is_letter, is_octal, is_hex, control, number, front, behind, hex_at}
 use Rattle.regress_lexical.specs.Escapes.{braced_hex_at, unit_at, second_half_at, paired, with_second_half, unicode_at, or_itself, octal_digits, letter_escape, begins_with_digit, is_syntax_character, control_at, other_escape, escape_at}
 use Rattle.regress_lexical.specs.Quantifiers.{Times, count_at, closed_brace, most_at, times_by, greedy_or_lazy, quantifier_at}
-use Rattle.regress_syntax.specs.Conflicts.{Mark}
+use Rattle.regress_syntax.specs.Marks.{Mark}
 use Rattle.regress_syntax.specs.Scan.{Mode, plain, escape, class, class_escape, marks}
 use Rattle.regress_lexical.proofs.laws.Digits.{and_both}
 

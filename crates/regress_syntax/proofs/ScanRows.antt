@@ -20,9 +20,9 @@ use Rattle.regress_syntax.specs.Names.{is_sign, begins_name, continues_name, nam
 use Rattle.regress_syntax.specs.Syntax.{Name, Atom, literal, Group, modified, capture}
 use Rattle.regress_syntax.specs.Syntax as Syntax
 use Rattle.regress_syntax.specs.Rows.{Context, Head, single, opens, angle_at, modified_at, behind_mark_at, group_at, has_name, character_at, property_atom, property_atom_at, numbered_at, named_at, escape_rows, escaped_by, escaped_at, brace_by, brackets_at, atom_rows, atom_by, head_at, no_quantifier_at, this_quantifier, times_at}
-use Rattle.regress_syntax.specs.Scan.{Mode, plain, escape, class, class_escape, opened_at, marks}
-use Rattle.regress_syntax.specs.Conflicts.{Mark, captures, mark_of_group, marks_of_atom}
-use Rattle.regress_syntax.specs.Conflicts as Conflicts
+use Rattle.regress_syntax.specs.Scan.{Mode, plain, escape, class, opened_at, marks}
+use Rattle.regress_syntax.specs.Marks.{Mark, captures, mark_of_group, marks_of_atom}
+use Rattle.regress_syntax.specs.Marks as Marks
 use Rattle.regress_lexical.proofs.laws.Digits.{and_both, drop_one_more}
 use Rattle.regress_syntax.proofs.ScanLemmas.{is_quiet, quiet_decimal, quiet_plain, Passes, Leads, Gives, in_text, gives_none, gives_some, gives_after, gives_then, gives_map, gives_cond, gives_leads, passes_same, passes_then, leads_none, leads_some, leads_behind, leads_then, leads_map, leads_cond, pass_quiet, pass_at, pass_backslash, pass_escaped, pass_behind, lead_unicode_at, lead_escape_at, lead_quantifier_at}
 use Rattle.regress_syntax.proofs.ScanClasses.{lead_property_at, lead_class_at}
@@ -333,7 +333,7 @@ behind_head sets table head t = marks_of_head head ++ marks sets table plain t
 
 -- the mark of a parenthesis with `?`, as a name is found behind that
 abbrev named_mark : Found Name → Mark
-named_mark found = elim found as (λ _. Mark) [ None ↦ Conflicts.opens | Some x ↦ captures (Some x.0) ]
+named_mark found = elim found as (λ _. Mark) [ None ↦ Marks.opens | Some x ↦ captures (Some x.0) ]
 
 -- another code point stands at the front
 other_at : (k j : ℕ) (t : Source) → (k == j) ≡ false → is_at k t ≡ true → is_at j t ≡ false
@@ -355,7 +355,7 @@ module _ {sets : Bool} {table : Table} where
   gives_named (Some x) h = gives_some (opens (capture (Some x.0)), x.1) (ap (λ ms. captures (Some x.0) ∷ ms) (h.each x refl).same)
 
   -- a group without a name
-  nameless : (kind : Group) (t rest : Source) → mark_of_group kind ≡ Conflicts.opens → group_name_at table t ≡ None →
+  nameless : (kind : Group) (t rest : Source) → mark_of_group kind ≡ Marks.opens → group_name_at table t ≡ None →
       Passes sets table plain t plain rest → Gives (named_mark (group_name_at table t) ∷ marks sets table plain t) (behind_head sets table) (Some (opens kind, rest))
   nameless kind t rest opens_none none h =
       gives_some (opens kind, rest) (ap₂ (λ a b. a ∷ b) (ap named_mark none ∙ sym opens_none) h.same)
@@ -374,7 +374,7 @@ module _ (sets : Bool) {table : Table} (lawful : IsLawful table) where
       (λ _. gives_named (group_name_at table t) (lead_group_name_at lawful t)))
 
   -- a sign that opens no capture group
-  gives_sign : (kind : Group) (k : ℕ) (t : Source) → mark_of_group kind ≡ Conflicts.opens → is_quiet k ≡ true → (k == 60) ≡ false → is_at k t ≡ true →
+  gives_sign : (kind : Group) (k : ℕ) (t : Source) → mark_of_group kind ≡ Marks.opens → is_quiet k ≡ true → (k == 60) ≡ false → is_at k t ≡ true →
       Gives (named_mark (group_name_at table t) ∷ marks sets table plain t) (behind_head sets table) (Some (opens kind, drop 1 t))
   gives_sign kind k t same quiet other e = nameless kind t (drop 1 t) same (no_angle table t (other_at k 60 t other e)) (pass_at in_text k t quiet e)
 
@@ -385,7 +385,7 @@ module _ (sets : Bool) {table : Table} (lawful : IsLawful table) where
       (λ _. gives_cond (is_at 33 t) _ _ (gives_sign _ 33 t refl refl refl)
       (λ _. gives_cond (is_at 60 t) _ _ (gives_angle_at t)
       (λ other. subst (λ found. Gives (named_mark found ∷ marks sets table plain t) (behind_head sets table) (modified_at t)) (sym (no_angle table t other))
-      (gives_marked Conflicts.opens (λ change. opens (modified change)) (modifiers_at t) (lead_modifiers_at t) (λ change. refl))))))
+      (gives_marked Marks.opens (λ change. opens (modified change)) (modifiers_at t) (lead_modifiers_at t) (λ change. refl))))))
 
   gives_group_at : (t : Source) → Gives (opened_at table t ∷ marks sets table plain t) (behind_head sets table) (group_at table t)
   gives_group_at t = by (is_at question_mark t) refl

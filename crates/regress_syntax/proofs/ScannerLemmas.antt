@@ -1,6 +1,6 @@
 -- The state of a scan, and the marks that it passes.
-use Rattle.std.proofs.Common.{◌≡◌, ℕ, ◌+◌, ◌-◌, ◌^◌, min, max, ◌≤◌, ◌<◌, inl, inr, ⊎_elim, append_assoc, Bool, true, false, cond, not, ◌==◌, ◌&&◌, List, [], ◌∷◌, ◌++◌, map, reverse, length, Option, Some, None, option_map, Vec, filter, is_some, ap₂, true≢false, refl, sym, ap, ◌∙◌, subst, arith, option_to_list, append-nil}
-use Rattle.std.specs.List.{list_all, zip}
+use Rattle.std.proofs.Common.{◌≡◌, ℕ, ◌+◌, ◌-◌, ◌^◌, min, max, ◌≤◌, ◌<◌, inl, inr, ⊎_elim, append_assoc, Bool, true, false, cond, not, ◌==◌, ◌&&◌, List, [], ◌∷◌, ◌++◌, map, length, Option, Some, None, option_map, Vec, filter, is_some, ap₂, true≢false, refl, sym, ap, ◌∙◌, subst, arith, option_to_list, append-nil}
+use Rattle.std.specs.List.{list_all}
 use Rattle.std.specs.declared.alloc.Global.{Global}
 use Rattle.std.proofs.lemmas.Bool.{and_left, cases_lt}
 use Rattle.std.proofs.lemmas.List.Elements.{filter-append}
@@ -8,18 +8,13 @@ use Rattle.std.proofs.lemmas.List.{map-append}
 use Rattle.regress_base.specs.Limits.{max_nesting_depth}
 use Rattle.regress_unicode.specs.Table.{Table}
 use Rattle.regress_lexical.specs.Source.{Source}
-use Rattle.regress_syntax.specs.Conflicts.{Mark, opens, captures, closes, next, nests, agree, Path, CaptureAt, groups_by, at_the_start, same_name, conflict, are_apart, are_names_apart}
+use Rattle.regress_syntax.specs.Marks.{Mark, opens, captures, closes, next, nests}
+use Rattle.regress_syntax.specs.SameNames.{Path, Place, enter, CaptureAt, groups_by, at_the_start, same_name, conflict, are_apart, are_names_apart}
 use Rattle.regress_syntax.specs.Scan.{IsRefusedByMarks, named_by, Mode, plain, escape, class, class_escape, marks, mode_behind, mark_at, deepest}
 use Rattle.regress_syntax.specs.Numbering.{names_of}
-use Rattle.regress_syntax.specs.Scanning.{depth_of, bears_name, capture_of, path_of, Behind}
+use Rattle.regress_syntax.specs.Scanning.{depth_of, bears_name, capture_of, path_of, place_of, Behind}
 use Rattle.regress_syntax.specs.declared.scan.scanner.Scanner.{Scanner}
 use Rattle.regress_syntax.specs.declared.scan.scanner.NamedGroup.{NamedGroup}
-
--- two paths agree where their numbers do pair by pair
-pub agree_in_pairs : (path other : List ℕ) → list_all (λ (pair : ℕ × ℕ). pair.0 == pair.1) (zip path other) ≡ agree path other
-agree_in_pairs [] other = refl
-agree_in_pairs (k ∷ path) [] = refl
-agree_in_pairs (k ∷ path) (j ∷ other) = ap (λ b. k == j && b) (agree_in_pairs path other)
 
 -- ---- groups without names conflict with none
 
@@ -65,9 +60,9 @@ are_apart-named (g ∷ gs) = by_test (are_apart-named gs) (bears_name g) refl
 
 -- ---- what is found
 
-pub named_added : (old new : List NamedGroup) (group : NamedGroup) (name : Vec ℕ Global) (path : List ℕ) (given : Option (Vec ℕ Global)) →
-    given ≡ Some name → group.name.items ≡ name.items → group.path.items ≡ path → new ≡ old ++ group ∷ [] →
-    map capture_of new ≡ map capture_of old ++ filter bears_name (record { path = reverse path; name = option_map (λ name. name.items) given } ∷ [])
+pub named_added : (old new : List NamedGroup) (group : NamedGroup) (name : Vec ℕ Global) (path : Path) (given : Option (Vec ℕ Global)) →
+    given ≡ Some name → group.name.items ≡ name.items → path_of group.path ≡ path → new ≡ old ++ group ∷ [] →
+    map capture_of new ≡ map capture_of old ++ filter bears_name (record { path = path; name = option_map (λ name. name.items) given } ∷ [])
 named_added old new group name path given e names paths pushed =
     rw (e, ← names, ← paths, pushed) (map-append capture_of old (group ∷ []))
 
@@ -87,35 +82,37 @@ deepest_above n (nests levels ∷ ms) = omega (arith, deepest_above n ms)
 
 -- ---- behind a mark
 
-pub behind_opens : (all rest : List Mark) (old new : Scanner) → new ≡ record old { path = new.path; deepest = new.deepest } →
-    path_of new ≡ 0 ∷ path_of old → new.deepest ≡ max old.deepest (length (path_of old) + 1) →
+pub behind_opens : (all rest : List Mark) (old new : Scanner) →
+    new ≡ record old { path = new.path; opened = new.opened; deepest = new.deepest } →
+    place_of new ≡ enter (place_of old) → new.deepest ≡ max old.deepest (length (path_of old.path) + 1) →
     Behind all (opens ∷ rest) old → Behind all rest new
-behind_opens all rest old new same path counted behind =
-    let more : length (path_of new) ≡ length (path_of old) + 1 = omega (arith, ap length path) in
+behind_opens all rest old new same place counted behind =
+    let more : length (path_of new.path) ≡ length (path_of old.path) + 1 = omega (arith, ap (λ (p : Place). length p.path) place) in
     record {
       names = behind.names ∙ ap (λ (s : Scanner). names_of s.names.items ++ named_by rest) (sym same);
       named = λ few. behind.named few
-          ∙ ap₂ (λ (s : Scanner) (p : Path). map capture_of s.named.items ++ filter bears_name (groups_by p rest)) (sym same) (sym path);
+          ∙ ap₂ (λ (s : Scanner) (p : Place). map capture_of s.named.items ++ filter bears_name (groups_by p rest)) (sym same) (sym place);
       some = omega (arith, more);
       opened = omega (arith, more, counted);
-      levels = omega (arith, more, counted, behind.levels, ap (λ n. deepest n rest) more, deepest_above (length (path_of old) + 1) rest);
+      levels = omega (arith, more, counted, behind.levels, ap (λ n. deepest n rest) more, deepest_above (length (path_of old.path) + 1) rest);
     }
 
 -- the group stands in front of its parenthesis
 pub behind_captures : (all rest : List Mark) (given : Option (Vec ℕ Global)) (old mid new : Scanner) →
     mid ≡ record old { names = mid.names; named = mid.named } → names_of mid.names.items ≡ names_of old.names.items ++ names_of (given ∷ []) →
-    (length (path_of old) ≤ max_nesting_depth → map capture_of mid.named.items ≡ map capture_of old.named.items
-    ++ filter bears_name (record { path = path_of old; name = option_map (λ name. name.items) given } ∷ [])) →
-    new ≡ record mid { path = new.path; deepest = new.deepest } → path_of new ≡ 0 ∷ path_of mid →
-    new.deepest ≡ max mid.deepest (length (path_of mid) + 1) →
+    (length (path_of old.path) ≤ max_nesting_depth → map capture_of mid.named.items ≡ map capture_of old.named.items
+    ++ filter bears_name (record { path = path_of old.path; name = option_map (λ name. name.items) given } ∷ [])) →
+    new ≡ record mid { path = new.path; opened = new.opened; deepest = new.deepest } → place_of new ≡ enter (place_of mid) →
+    new.deepest ≡ max mid.deepest (length (path_of mid.path) + 1) →
     Behind all (captures (option_map (λ name. name.items) given) ∷ rest) old → Behind all rest new
-behind_captures all rest given old mid new added names named same path counted behind =
-    let kept : path_of mid ≡ path_of old = ap path_of added in
+behind_captures all rest given old mid new added names named same place counted behind =
+    let kept : place_of mid ≡ place_of old = ap place_of added in
     let before : mid.deepest ≡ old.deepest = ap (λ (s : Scanner). s.deepest) added in
-    let more : length (path_of new) ≡ length (path_of old) + 1 = omega (arith, ap length path, ap length kept) in
-    let count : new.deepest ≡ max old.deepest (length (path_of old) + 1) = omega (arith, counted, before, ap length kept) in
-    let group : CaptureAt = record { path = path_of old; name = option_map (λ name. name.items) given } in
-    let others = groups_by (0 ∷ path_of old) rest in
+    let held : length (path_of mid.path) ≡ length (path_of old.path) = ap (λ (p : Place). length p.path) kept in
+    let more : length (path_of new.path) ≡ length (path_of old.path) + 1 = omega (arith, ap (λ (p : Place). length p.path) place, held) in
+    let count : new.deepest ≡ max old.deepest (length (path_of old.path) + 1) = omega (arith, counted, before, held) in
+    let group : CaptureAt = record { path = path_of old.path; name = option_map (λ name. name.items) given } in
+    let others = groups_by (enter (place_of old)) rest in
     record {
       names = behind.names ∙ sym (append_assoc (names_of old.names.items) (names_of (given ∷ [])) (named_by rest))
           ∙ ap (λ ns. ns ++ named_by rest) (sym (ap (λ (s : Scanner). names_of s.names.items) same ∙ names));
@@ -125,11 +122,11 @@ behind_captures all rest given old mid new added names named same path counted b
           ∙ sym (append_assoc (map capture_of old.named.items) (filter bears_name (group ∷ [])) (filter bears_name others))
           ∙ ap (λ gs. gs ++ filter bears_name others)
           (sym (ap (λ (s : Scanner). map capture_of s.named.items) same ∙ named (omega (arith, few, behind.levels, behind.opened))))
-          ∙ ap (λ (p : Path). map capture_of new.named.items ++ filter bears_name (groups_by p rest))
-          (sym (path ∙ ap (λ (p : Path). 0 ∷ p) kept));
+          ∙ ap (λ (p : Place). map capture_of new.named.items ++ filter bears_name (groups_by p rest))
+          (sym (place ∙ ap enter kept));
       some = omega (arith, more);
       opened = omega (arith, more, count);
-      levels = omega (arith, more, count, behind.levels, ap (λ n. deepest n rest) more, deepest_above (length (path_of old) + 1) rest);
+      levels = omega (arith, more, count, behind.levels, ap (λ n. deepest n rest) more, deepest_above (length (path_of old.path) + 1) rest);
     }
 
 -- ---- at the end of a pattern

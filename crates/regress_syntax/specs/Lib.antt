@@ -2,7 +2,8 @@ pub mod Names
 pub mod Syntax
 pub mod Rows
 pub mod Grammar
-pub mod Conflicts
+pub mod Marks
+pub mod SameNames
 pub mod Scan
 pub mod Numbering
 pub mod Scanning

@@ -6,7 +6,8 @@ use Rattle.regress_unicode.specs.Table.{Table}
 use Rattle.regress_lexical.specs.Source.{Source, opening, closing, bar, question_mark, is_at}
 use Rattle.regress_syntax.specs.Names.{group_name_at}
 use Rattle.regress_syntax.specs.Syntax.{Name, Pattern}
-use Rattle.regress_syntax.specs.Conflicts.{Mark, opens, captures, closes, next, nests, marks_of, are_names_apart}
+use Rattle.regress_syntax.specs.Marks.{Mark, opens, captures, closes, next, nests, marks_of}
+use Rattle.regress_syntax.specs.SameNames.{are_names_apart}
 use Rattle.regress_syntax.specs.Rows.{Context}
 use Rattle.regress_syntax.specs.Grammar.{IsPattern}
 

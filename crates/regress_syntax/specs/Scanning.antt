@@ -1,13 +1,16 @@
 -- What the state of the scan stands for.
-use Rattle.std.specs.Prelude.{◌≡◌, ℕ, ◌-◌, ◌^◌, min, max, ◌≤◌, Bool, List, ◌++◌, map, length, reverse, Some, option_map, is_some, filter}
+use Rattle.std.specs.Prelude.{◌≡◌, ℕ, ◌-◌, ◌^◌, min, max, ◌≤◌, Bool, List, [], ◌∷◌, ◌++◌, map, length, reverse, Some, option_map, is_some, filter}
 use Rattle.regress_base.specs.Limits.{max_nesting_depth}
 use Rattle.regress_syntax.specs.Numbering.{names_of}
-use Rattle.regress_syntax.specs.Conflicts.{Mark, opens, captures, closes, next, nests, Path, CaptureAt, groups_by, at_the_start}
+use Rattle.regress_syntax.specs.Marks.{Mark, opens, captures, closes, next, nests}
+use Rattle.regress_syntax.specs.SameNames.{Level, Path, Place, CaptureAt, groups_by, at_the_start}
 use Rattle.regress_syntax.specs.Scan.{Mode, plain, escape, class, class_escape, named_by, deepest}
 use Rattle.regress_syntax.specs.declared.scan.mark.Mode.{Mode as CodeMode}
 use Rattle.regress_syntax.specs.declared.scan.mark.Mode.TheVariants as modes
 use Rattle.regress_syntax.specs.declared.scan.mark.Mark.{Mark as CodeMark}
 use Rattle.regress_syntax.specs.declared.scan.mark.Mark.TheVariants as code_marks
+use Rattle.regress_syntax.specs.declared.scan.path.Level.{Level as CodeLevel}
+use Rattle.regress_syntax.specs.declared.scan.path.Path.{Path as CodePath}
 use Rattle.regress_syntax.specs.declared.scan.scanner.Scanner.{Scanner}
 use Rattle.regress_syntax.specs.declared.scan.scanner.NamedGroup.{NamedGroup}
 
@@ -33,26 +36,43 @@ depth_of escape = 0
 depth_of (class depth deepest) = depth
 depth_of (class_escape depth deepest) = depth
 
+-- ---- where groups stand
+
+abbrev pub level_of : CodeLevel → Level
+level_of level = record { opening = level.opening; alternative = level.alternative }
+
+-- the innermost level first
+abbrev pub path_of : CodePath → Path
+path_of path = reverse (map level_of path.levels.items)
+
+abbrev pub place_of : Scanner → Place
+place_of scanner = record { path = path_of scanner.path; opened = scanner.opened }
+
+-- the highest number of an alternative
+abbrev pub highest : Path → ℕ
+highest [] = 0
+highest (level ∷ path) = max level.alternative (highest path)
+
+-- the highest number that a place has
+abbrev pub highest_at : Place → ℕ
+highest_at place = max place.opened (highest place.path)
+
 -- ---- groups
 
 -- a group that has a name
 abbrev pub capture_of : NamedGroup → CaptureAt
-capture_of group = record { path = reverse group.path.items; name = Some group.name.items }
+capture_of group = record { path = path_of group.path; name = Some group.name.items }
 
 abbrev pub bears_name : CaptureAt → Bool
 bears_name group = is_some group.name
-
--- the path of the place, the innermost level first
-abbrev pub path_of : Scanner → Path
-path_of scanner = reverse scanner.path.items
 
 -- What was found, and what the rest gives, is what all marks give.
 pub record Behind (all rest : List Mark) (scanner : Scanner) : Type 0 where
   pub names : named_by all ≡ names_of scanner.names.items ++ named_by rest
   -- past the limit of levels paths are cut short
   pub named : deepest 1 all ≤ max_nesting_depth → filter bears_name (groups_by at_the_start all)
-      ≡ map capture_of scanner.named.items ++ filter bears_name (groups_by (path_of scanner) rest)
-  pub some : 1 ≤ length (path_of scanner)
-  pub opened : length (path_of scanner) ≤ scanner.deepest
+      ≡ map capture_of scanner.named.items ++ filter bears_name (groups_by (place_of scanner) rest)
+  pub some : 1 ≤ length (path_of scanner.path)
+  pub opened : length (path_of scanner.path) ≤ scanner.deepest
   -- no more are counted than a `usize` has numbers for
-  pub levels : min (deepest 1 all) (2 ^ 64 - 1) ≡ min (max scanner.deepest (deepest (length (path_of scanner)) rest)) (2 ^ 64 - 1)
+  pub levels : min (deepest 1 all) (2 ^ 64 - 1) ≡ min (max scanner.deepest (deepest (length (path_of scanner.path)) rest)) (2 ^ 64 - 1)

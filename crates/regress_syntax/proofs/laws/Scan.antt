@@ -5,9 +5,9 @@ use Rattle.regress_lexical.specs.Source.{Source, closing, bar}
 use Rattle.regress_syntax.specs.Syntax.{Atom, literal, dot, anchor, boundary, class_escape, class, class_set, string_property, back_reference, levels_of_atom, Group, grouping, modified, capture, look, Pattern, Terms, Item, one, either, no_terms, more_terms, atom, group, names, names_of_group, names_of_terms, names_of_item, levels, levels_of_terms, levels_of_item}
 use Rattle.regress_syntax.specs.Rows.{Context, context_inside, single, opens, head_of_item, allows}
 use Rattle.regress_syntax.specs.Grammar.{IsPattern, AreTerms, IsItem}
-use Rattle.regress_syntax.specs.Conflicts.{Mark, captures, closes, next, nests, mark_of_group, marks_of_atom, marks_of, marks_of_terms, marks_of_item}
+use Rattle.regress_syntax.specs.Marks.{Mark, captures, closes, next, nests, mark_of_group, marks_of_atom, marks_of, marks_of_terms, marks_of_item}
 use Rattle.regress_syntax.specs.Scan.{plain, marks, GivesMarks, named_by, deepest}
-use Rattle.regress_syntax.specs.Conflicts as Conflicts
+use Rattle.regress_syntax.specs.Marks as Marks
 use Rattle.regress_syntax.proofs.ScanRows.{gives_head_at, lead_times_at}
 
 -- ---- by the grammar
@@ -86,7 +86,7 @@ gives_marks sets table t lawful ctx p flag same h =
 
 named_by-append : (xs ys : List Mark) → named_by (xs ++ ys) ≡ named_by xs ++ named_by ys
 named_by-append [] ys = refl
-named_by-append (Conflicts.opens ∷ xs) ys = named_by-append xs ys
+named_by-append (Marks.opens ∷ xs) ys = named_by-append xs ys
 named_by-append (captures name ∷ xs) ys = ap (λ zs. name ∷ zs) (named_by-append xs ys)
 named_by-append (closes ∷ xs) ys = named_by-append xs ys
 named_by-append (next ∷ xs) ys = named_by-append xs ys
@@ -131,7 +131,7 @@ mutual
 -- as many levels are open at least as before
 deepest-least : (n : ℕ) (ms : List Mark) → n ≤ deepest n ms
 deepest-least n [] = omega arith
-deepest-least n (Conflicts.opens ∷ ms) = omega arith
+deepest-least n (Marks.opens ∷ ms) = omega arith
 deepest-least n (captures name ∷ ms) = omega arith
 deepest-least n (closes ∷ ms) = omega arith
 deepest-least n (next ∷ ms) = omega arith

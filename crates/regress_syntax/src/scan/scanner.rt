@@ -1,14 +1,16 @@
 //! The state of a scan.
-ghost use Rattle.std.specs.Prelude.{◌≡◌, ◌≤◌, ◌+◌, ◌-◌, ◌^◌, min, max, List, ◌∷◌, [], ◌++◌, filter, IsTrue, length, map, not, reverse, option_map, IfOk, OnOk};
+ghost use Rattle.std.specs.Prelude.{◌≡◌, ◌<◌, ◌≤◌, ◌+◌, ◌-◌, ◌^◌, min, max, List, ◌∷◌, [], ◌++◌, filter, length, map, not, option_map, IfOk, OnOk};
 ghost use Rattle.std.specs.List.{IsAllAdjacentAnswer};
 ghost use Rattle.regress_base.specs.Limits.{max_nesting_depth};
 ghost use Rattle.regress_lexical.specs.Fault.{RefusedOnlyIf};
 ghost use Rattle.regress_syntax.specs.Numbering.{names_of};
-ghost use Rattle.regress_syntax.specs.Conflicts.{Mark as Written, CaptureAt, agree, are_names_apart, conflict, outside, next_alternative};
+ghost use Rattle.regress_syntax.specs.Marks.{Mark as Written};
+ghost use Rattle.regress_syntax.specs.SameNames.{CaptureAt, NoneConflict, conflict, enter};
 ghost use Rattle.regress_syntax.specs.Scan.{named_by, deepest, IsRefusedByMarks};
-ghost use Rattle.regress_syntax.specs.Scanning.{mark_of, capture_of, bears_name, path_of, Behind};
+ghost use Rattle.regress_syntax.specs.Scanning.{mark_of, capture_of, bears_name, path_of, place_of, highest_at, Behind};
 
 use super::mark::Mark;
+use super::path::Path;
 use crate::names::Name;
 use regress_base::types::MAX_NESTING_DEPTH;
 use regress_lexical::fault::{DUPLICATE_NAME, ParseFault, TOO_DEEP, syntax};
@@ -18,8 +20,10 @@ use std::alloc::{AllocError, Global};
 #[derive(Drop)]
 pub(super) struct Scanner {
     alloc: Global,
-    /// The number of the alternative in each level that is open, the outermost first.
-    path: Vec<usize>,
+    /// The disjunctions that hold the place.
+    path: Path,
+    /// How many parentheses were opened.
+    opened: u64,
     /// How many levels were open at most, with those of a class that lay in them. It saturates.
     deepest: usize,
     /// The name of each capture group.
@@ -28,23 +32,25 @@ pub(super) struct Scanner {
     named: Vec<NamedGroup>,
 }
 
-/// A capture group with a name, and the path of its place: `MAX_NESTING_DEPTH` numbers of it at most, so that the paths of
+/// A capture group with a name, and the path of its place: `MAX_NESTING_DEPTH` levels of it at most, so that the paths of
 /// a deep pattern don't grow as its square.
 #[derive(PartialEq, Eq, PartialOrd, Ord, Drop)]
 struct NamedGroup {
     name: Name,
-    path: Vec<usize>,
+    path: Path,
 }
 
 impl Scanner {
     /// At the start of a pattern: one level is open.
     #[tactic(auto, using(crate::proofs::ScannerLemmas::deepest_above))]
     pub(super) fn new(alloc: Global) -> Result<Scanner, AllocError>
-        ensures { (all : List Written) → IfOk result (Behind all all) }
+        ensures found { (all : List Written) → IfOk result (Behind all all) }
+        ensures numbers { IfOk result (λ scanner. highest_at (place_of scanner) ≡ 0) }
     {
         Ok(Scanner {
             alloc,
-            path: vec![in alloc; 0]?,
+            path: Path::new(alloc)?,
+            opened: 0,
             deepest: 1,
             names: Vec::new(alloc),
             named: Vec::new(alloc),
@@ -53,7 +59,9 @@ impl Scanner {
 
     /// Moves behind a mark.
     pub(super) fn pass(&mut self, mark: Mark) -> Result<(), AllocError>
-        ensures { (all rest : List Written) → Behind all (mark_of mark ∷ rest) self.old → OnOk result (Behind all rest self.new) }
+        requires { highest_at (place_of self.old) + 1 < 2 ^ 64 }
+        ensures found { (all rest : List Written) → Behind all (mark_of mark ∷ rest) self.old → OnOk result (Behind all rest self.new) }
+        ensures numbers { OnOk result (highest_at (place_of self.new) ≤ highest_at (place_of self.old) + 1) }
     {
         match mark {
             Mark::Opens => self.open()?,
@@ -61,8 +69,8 @@ impl Scanner {
                 self.add(name)?;
                 self.open()?;
             }
-            Mark::Closes => leave(&mut self.path),
-            Mark::Next => next_alternative(&mut self.path)?,
+            Mark::Closes => self.path.leave(),
+            Mark::Next => self.path.next_alternative(),
             Mark::Nests(levels) => self.hold(levels),
         }
         Ok(())
@@ -70,35 +78,37 @@ impl Scanner {
 
     /// Opens a level.
     fn open(&mut self) -> Result<(), AllocError>
-        ensures same { OnOk result (self.new ≡ record self.old { path = self.new.path; deepest = self.new.deepest }) }
-        ensures path { OnOk result (path_of self.new ≡ 0 ∷ path_of self.old) }
-        ensures deepest { OnOk result (self.new.deepest ≡ max self.old.deepest (length (path_of self.old) + 1)) }
+        requires { highest_at (place_of self.old) + 1 < 2 ^ 64 }
+        ensures same { OnOk result (self.new ≡ record self.old { path = self.new.path; opened = self.new.opened; deepest = self.new.deepest }) }
+        ensures place { OnOk result (place_of self.new ≡ enter (place_of self.old)) }
+        ensures deepest { OnOk result (self.new.deepest ≡ max self.old.deepest (length (path_of self.old.path) + 1)) }
     {
-        self.path.push(0)?;
-        self.deepest = self.deepest.max(self.path.len());
+        self.opened += 1;
+        self.path.enter(self.opened)?;
+        self.deepest = self.deepest.max(self.path.depth());
         Ok(())
     }
 
     /// Passes a class in which so many levels lie, inside those that are open.
     fn hold(&mut self, levels: usize)
         ensures same { self.new ≡ record self.old { deepest = self.new.deepest } }
-        ensures deepest { self.new.deepest ≡ max self.old.deepest (min (length (path_of self.old) + levels) (2 ^ 64 - 1)) }
+        ensures deepest { self.new.deepest ≡ max self.old.deepest (min (length (path_of self.old.path) + levels) (2 ^ 64 - 1)) }
     {
-        self.deepest = self.deepest.max(self.path.len().saturating_add(levels));
+        self.deepest = self.deepest.max(self.path.depth().saturating_add(levels));
     }
 
     /// Adds a capture group at the place.
     fn add(&mut self, name: Option<Name>) -> Result<(), AllocError>
         ensures same { OnOk result (self.new ≡ record self.old { names = self.new.names; named = self.new.named }) }
         ensures names { OnOk result (names_of self.new.names.items ≡ names_of self.old.names.items ++ names_of (name ∷ [])) }
-        ensures named { length (path_of self.old) ≤ max_nesting_depth →
+        ensures named { length (path_of self.old.path) ≤ max_nesting_depth →
             OnOk result (map capture_of self.new.named.items ≡ map capture_of self.old.named.items
-            ++ filter bears_name (record { path = path_of self.old; name = option_map (λ name. name.items) name } ∷ [])) }
+            ++ filter bears_name (record { path = path_of self.old.path; name = option_map (λ name. name.items) name } ∷ [])) }
     {
         if let Some(name) = &name {
             self.named.push(NamedGroup {
                 name: name.clone()?,
-                path: Vec::from_slice(self.alloc, within_limit(&self.path))?,
+                path: self.path.outermost(self.alloc, MAX_NESTING_DEPTH as usize)?,
             })?;
         }
         self.names.push(name)?;
@@ -109,7 +119,7 @@ impl Scanner {
     /// there were too many levels.
     pub(super) fn finish(self) -> Result<Vec<Option<Name>>, ParseFault>
         ensures names { (all : List Written) → Behind all [] self → IfOk result (λ names. names_of names.items ≡ named_by all) }
-        ensures apart { (all : List Written) → Behind all [] self → IfOk result (λ _. IsTrue (are_names_apart all)) }
+        ensures apart { (all : List Written) → Behind all [] self → IfOk result (λ _. NoneConflict all) }
         ensures levels { (all : List Written) → Behind all [] self → IfOk result (λ _. deepest 1 all ≤ max_nesting_depth) }
         ensures refused { (all : List Written) → Behind all [] self → RefusedOnlyIf result (IsRefusedByMarks all) }
     {
@@ -126,48 +136,13 @@ impl Scanner {
     }
 }
 
-/// The outermost numbers of a path, as many as there may be levels.
-fn within_limit(path: &[usize]) -> &[usize]
-    ensures { length path.now ≤ max_nesting_depth → result.now ≡ path.now }
-{
-    &path[..path.len().min(MAX_NESTING_DEPTH as usize)]
-}
-
-/// Leaves the innermost level, but never the whole pattern: a `)` too many closes nothing.
-fn leave(path: &mut Vec<usize>)
-    ensures path { reverse path.new.items ≡ outside (reverse path.old.items) }
-    ensures length { 1 ≤ length (reverse path.old.items) →
-        length (reverse path.new.items) ≡ max 1 (length (reverse path.old.items) - 1) }
-{
-    if path.len() > 1 {
-        path.pop();
-    }
-}
-
-/// The next alternative of the innermost level. A `usize` has a number for each bar that memory holds.
-fn next_alternative(path: &mut Vec<usize>) -> Result<(), AllocError>
-    ensures { OnOk result (reverse path.new.items ≡ next_alternative (reverse path.old.items)) }
-{
-    if let Some(number) = path.pop() {
-        path.push(number.checked_add(1).ok_or(AllocError)?)?;
-    }
-    Ok(())
-}
-
 impl NamedGroup {
-    /// Whether both have one name and neither stands in another alternative of a level that both have.
+    /// Whether both have one name and no disjunction holds both in different alternatives.
     fn conflicts_with(&self, other: &NamedGroup) -> bool
         ensures { result ≡ conflict (capture_of self.now) (capture_of other.now) }
     {
-        self.name == other.name && agree(&self.path, &other.path)
+        self.name == other.name && !self.path.is_alternative_to(&other.path)
     }
-}
-
-/// Whether one of the paths is the front of the other.
-fn agree(path: &[usize], other: &[usize]) -> bool
-    ensures { result ≡ agree path.now other.now }
-{
-    path.iter().zip(other).all(|(k, j)| k == j)
 }
 
 /// Whether no group conflicts with the one behind it. Where the groups are sorted none conflicts with any then.

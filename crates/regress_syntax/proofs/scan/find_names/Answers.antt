@@ -14,13 +14,17 @@ loop-c-preserved c =
     rw c.behind-mode.ensures (record {
       found = elim c.match-branch-3.branch [
         | in-Some-2+in_ok-pass w ↦
-            rw w.scanner-is (w.in_ok-pass.ensures _ _
+            rw w.scanner-is (w.in_ok-pass.ensures.found _ _
             (at_mark c.args.sets table (mode_of c.loop-c.mode) _ _ _ all (mark_of w.in-Some-2.mark) c.loop-c.scanner c.in-Some.ensures.cases.0
             (sym c.in_ok-mark.ensures ∙ ap (option_map mark_of) w.in-Some-2.is) c.loop-c.invariant.found))
         | in_default-2 w ↦
             rw w.scanner-is
             (at_no_mark c.args.sets table (mode_of c.loop-c.mode) _ _ _ all c.loop-c.scanner c.in-Some.ensures.cases.0
             (sym c.in_ok-mark.ensures ∙ ap (option_map mark_of) w.in_default-2.is) c.loop-c.invariant.found)
+      ];
+      numbers = elim c.match-branch-3.branch [
+        | in-Some-2+in_ok-pass w ↦ rw w.scanner-is (omega (arith, w.in_ok-pass.ensures.numbers, c.loop-c.invariant.numbers, ap length c.in-Some.ensures.cases.0))
+        | in_default-2 w ↦ rw w.scanner-is (omega (arith, c.loop-c.invariant.numbers, ap length c.in-Some.ensures.cases.0))
       ];
       depth = omega (arith, depth-mode_behind c.args.sets (mode_of c.loop-c.mode) c.in-Some.c.now, ap length c.in-Some.ensures.cases.0);
     })
@@ -40,3 +44,10 @@ returns-clause-refused c =
 pub returns-clause-levels : goal.returns-clause-levels
 returns-clause-levels c =
     c.finish.ensures.levels _ (all_passed c.args.sets (table_of c.args.tables.now) (mode_of c.loop-c.mode) _ _ c.loop-c.scanner c.in_default.ensures.cases c.loop-c.invariant.found)
+
+pub loop-c-init : goal.loop-c-init
+loop-c-init c = record {
+  found = c.in_ok-scanner.ensures.found _;
+  depth = omega arith;
+  numbers = omega (arith, c.in_ok-scanner.ensures.numbers);
+}

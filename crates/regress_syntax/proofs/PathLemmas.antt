@@ -1,0 +1,79 @@
+-- Paths as the code keeps them.
+use Rattle.std.proofs.Common.{◌≡◌, ℕ, zero, suc, ◌+◌, ◌≤◌, Bool, true, false, not, ◌==◌, ◌&&◌, List, [], ◌∷◌, ◌++◌, map, reverse, length, get_or, slice_set, Option, Some, None, option_map, refl, sym, ap, ◌∙◌, arith}
+use Rattle.std.specs.List.{zip, find}
+use Rattle.std.specs.Option.{MatchOption}
+use Rattle.std.proofs.lemmas.List.{map-append, reverse-append, reverse-reverse}
+use Rattle.regress_syntax.specs.SameNames.{Path, are_alternatives, outside, next_alternative}
+use Rattle.regress_syntax.specs.Scanning.{level_of, path_of, highest}
+use Rattle.regress_syntax.specs.declared.scan.path.Level.{Level as CodeLevel}
+use Rattle.regress_syntax.specs.declared.scan.path.Path.{Path as CodePath}
+
+-- ---- the first difference
+
+-- The first level at which two paths differ tells whether they are alternatives.
+abbrev pub differ : CodeLevel × CodeLevel → Bool
+differ pair = not (pair.0.opening == pair.1.opening && pair.0.alternative == pair.1.alternative)
+
+abbrev pub tells : Option (CodeLevel × CodeLevel) → Bool
+tells None = false
+tells (Some pair) = pair.0.opening == pair.1.opening
+
+-- where a test of what was found was called
+pub told_by_call : {A : Type 0} (v : A → CodeLevel × CodeLevel) (found : Option A) (result : Bool) (Post : A → Type 0) →
+    MatchOption found (result ≡ false) Post → ((x : A) → Post x → result ≡ tells (Some (v x))) → result ≡ tells (option_map v found)
+told_by_call v None result Post e post = e
+told_by_call v (Some x) result Post called post = post x called
+
+by_first_difference : (path other : List CodeLevel) →
+    tells (find differ (zip path other)) ≡ are_alternatives (map level_of path) (map level_of other)
+by_first_difference [] other = refl
+by_first_difference (k ∷ path) [] = refl
+by_first_difference (k ∷ path) (j ∷ other) =
+    by (by_first_difference path other) (k.opening == j.opening) (k.alternative == j.alternative) refl refl
+  where
+    by : tells (find differ (zip path other)) ≡ are_alternatives (map level_of path) (map level_of other) →
+        (opening alternative : Bool) → (k.opening == j.opening) ≡ opening → (k.alternative == j.alternative) ≡ alternative →
+        tells (find differ (zip (k ∷ path) (j ∷ other))) ≡ are_alternatives (map level_of (k ∷ path)) (map level_of (j ∷ other))
+    by inside true true e f = rw (e, f) inside
+    by inside true false e f = rw (e, f) e
+    by inside false alternative e f = rw e e
+
+pub told_by_paths : (path other : CodePath) →
+    tells (find differ (zip path.levels.items other.levels.items)) ≡ are_alternatives (reverse (path_of path)) (reverse (path_of other))
+told_by_paths path other =
+    rw (reverse-reverse (map level_of path.levels.items), reverse-reverse (map level_of other.levels.items))
+    (by_first_difference path.levels.items other.levels.items)
+
+-- ---- the innermost level
+
+-- a list up to its last element, and with another one there
+up_to_last : {X : Type 0} (n : ℕ) (xs : List X) (last new d : X) → length xs ≡ n + 1 → last ≡ get_or xs n d →
+    (others : List X) × (xs ≡ others ++ last ∷ []) × (slice_set xs n new ≡ others ++ new ∷ [])
+up_to_last n [] last new d l e = absurd (omega (arith, l))
+up_to_last zero (x ∷ []) last new d l e = ([], ap (λ y. y ∷ []) (sym e), refl)
+up_to_last zero (x ∷ y ∷ ys) last new d l e = absurd (omega (arith, l))
+up_to_last (suc n) (x ∷ xs) last new d l e =
+    let inside = up_to_last n xs last new d (omega (arith, l)) e in
+    (x ∷ inside.0, ap (λ ys. x ∷ ys) inside.1, ap (λ ys. x ∷ ys) inside.2)
+
+innermost_last : (outer : List CodeLevel) (level : CodeLevel) → reverse (map level_of (outer ++ level ∷ [])) ≡ level_of level ∷ reverse (map level_of outer)
+innermost_last outer level =
+    ap reverse (map-append level_of outer (level ∷ [])) ∙ reverse-append (map level_of outer) (level_of level ∷ [])
+
+pub counted_on : (levels : List CodeLevel) (n : ℕ) (level : CodeLevel) → length levels ≡ n + 1 → level ≡ get_or levels n level →
+    reverse (map level_of (slice_set levels n (record level { alternative = level.alternative + 1 }))) ≡ next_alternative (reverse (map level_of levels))
+counted_on levels n level l e =
+    let parts = up_to_last n levels level (record level { alternative = level.alternative + 1 }) level l e in
+    ap (λ ls. reverse (map level_of ls)) parts.2 ∙ innermost_last parts.0 _
+    ∙ sym (ap next_alternative (ap (λ ls. reverse (map level_of ls)) parts.1 ∙ innermost_last parts.0 level))
+
+-- ---- the numbers of a path
+
+pub highest-outside : (path : Path) → highest (outside path) ≤ highest path
+highest-outside [] = omega arith
+highest-outside (level ∷ []) = omega arith
+highest-outside (level ∷ around ∷ path) = omega arith
+
+pub highest-next : (path : Path) → highest (next_alternative path) ≤ highest path + 1
+highest-next [] = omega arith
+highest-next (level ∷ path) = omega arith
