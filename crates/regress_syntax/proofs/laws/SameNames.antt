@@ -1,7 +1,7 @@
 -- Where the groups of a list of marks stand: two of them are alternatives where any disjunction at all holds both in
 -- different alternatives, wherever it stands in their paths. And by this rule more is refused than by one that compares the
 -- numbers of alternatives alone, level by level, as the Rust crate does.
-use Rattle.std.proofs.Common.{◌≡◌, ℕ, ◌+◌, ◌<◌, ◌≤◌, Bool, true, false, not, ◌==◌, ◌&&◌, ◌||◌, List, [], ◌∷◌, ◌++◌, map, reverse, refl, sym, ap, ap₂, ◌∙◌, subst, arith, append_assoc}
+use Rattle.std.proofs.Common.{◌≡◌, ℕ, ◌+◌, ◌<◌, ◌≤◌, Bool, true, false, not, ◌==◌, ◌&&◌, ◌||◌, List, [], ◌∷◌, ◌++◌, reverse, refl, sym, ap, ap₂, ◌∙◌, subst, arith, append_assoc}
 use Rattle.std.proofs.lemmas.Bool.{true≢false, and_parts, and_from, and_left, and_right, or_from, or_left, or_right, not_from_true, not_from_false, false_from_ne_true}
 use Rattle.std.proofs.lemmas.Bool.Decides.{nat_tests}
 use Rattle.std.proofs.lemmas.List.{reverse-append}
@@ -135,7 +135,7 @@ no_alternatives (level ∷ path) (beside ∷ other) n h k = and_left _ _ (lower_
 data Stands (old : Path) (n : ℕ) (now : Path) : Type 0 where
   shared : (inner outer more : Path) → old ≡ inner ++ outer → now ≡ more ++ outer → From n more → Stands old n now
   parted : (inner outer more : Path) (before here : Level) → old ≡ inner ++ before ∷ outer → now ≡ more ++ here ∷ outer →
-    before.opening ≡ here.opening → before.alternative < here.alternative → Stands old n now
+      before.opening ≡ here.opening → before.alternative < here.alternative → Stands old n now
 
 module _ (old : Path) (n : ℕ) where
   stands_inside : (now : Path) (level : Level) → n ≤ level.opening → Stands old n now → Stands old n (level ∷ now)
@@ -218,6 +218,7 @@ module _ (old : Path) (n : ℕ) where
         turned front level =
             reverse-append front (level ∷ outer) ∙ ap (λ p. p ++ reverse front) (reverse-append (level ∷ []) outer)
             ∙ append_assoc (reverse outer) (level ∷ []) (reverse front)
+
         first : (path other : Path) → are_alternatives (before ∷ path) (here ∷ other) ≡ true
         first path other =
             and_from _ _ (same_number before.opening here.opening same)
