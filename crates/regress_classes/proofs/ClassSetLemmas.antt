@@ -144,7 +144,7 @@ pub held_where : (keep : Bool → Bool) (a b : Value) (old other : CodeValue) (s
     ((c : ℕ) → is_member set c ≡ (is_member old.set c && keep (is_member other.set c))) →
     ((string : Vec ℕ Global) → p string ≡ keep (is_among (strings_of other.strings.items) string.items)) →
     strings.items ≡ filter p old.strings.items → levels ≡ max old.levels other.levels →
-    IsValue (record { set = set; strings = strings; levels = levels }) (record {
+    IsValue (record old { set = set; strings = strings; levels = levels }) (record {
       members = intervals_of (λ c. is_member a.members c && keep (is_member b.members c));
       strings = filter (λ s. keep (is_among b.strings s)) a.strings;
       levels = max a.levels b.levels;
@@ -161,7 +161,7 @@ held_where keep a b old other set strings levels p h k canonical members same ke
 -- a class in another one
 pub held_nested : (read : Bool × Value) (negated : Bool) (old : CodeValue) (set : List Bounds) → (negated ≡ read.0) × IsValue old read.1 →
     HasMembers (complement_if negated old.set) set →
-    IsValue (record { set = set; strings = old.strings; levels = old.levels + 1 }) (nested read)
+    IsValue (record old { set = set; levels = old.levels + 1 }) (nested read)
 held_nested (negated, value) b old set (same, h) members = rw (sym same) (record {
   members = record {
     canonical = members.canonical;

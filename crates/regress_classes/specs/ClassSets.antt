@@ -22,9 +22,13 @@ pub record Value : Type 0 where
 abbrev pub nothing : Value
 nothing = record { members = []; strings = []; levels = 0 }
 
+-- whether it holds a string beside its code points
+abbrev pub has_strings : Value → Bool
+has_strings v = not (length v.strings == 0)
+
 -- these code points alone
 abbrev pub only : List Bounds → Value
-only members = record { members = members; strings = []; levels = 0 }
+only members = record nothing { members = members }
 
 -- what is in one or the other
 abbrev pub joined : Value → Value → Value
@@ -53,7 +57,7 @@ without a b = record {
 abbrev pub value_of_string : List ℕ → Value
 value_of_string [] = nothing
 value_of_string (c ∷ []) = only (one_point c)
-value_of_string (c ∷ d ∷ cs) = record { members = []; strings = (c ∷ d ∷ cs) ∷ []; levels = 0 }
+value_of_string (c ∷ d ∷ cs) = record nothing { strings = (c ∷ d ∷ cs) ∷ [] }
 
 abbrev pub value_of_strings : List (List ℕ) → Value
 value_of_strings [] = nothing
@@ -61,11 +65,11 @@ value_of_strings (s ∷ ss) = joined (value_of_string s) (value_of_strings ss)
 
 -- a class that lies in another one: it is complemented where it stands
 abbrev pub nested : Bool × Value → Value
-nested (negated, v) = record { members = complement_if negated v.members; strings = v.strings; levels = v.levels + 1 }
+nested (negated, v) = record v { members = complement_if negated v.members; levels = v.levels + 1 }
 
 -- no complement of what holds a string
 abbrev pub unless_of_strings : Bool → Value × Source → Found (Bool × Value)
-unless_of_strings negated (v, t) = if negated && not (length v.strings == 0) then None else Some ((negated, v), t)
+unless_of_strings negated (v, t) = if negated && has_strings v then None else Some ((negated, v), t)
 
 -- ---- operands
 

@@ -5,7 +5,7 @@ ghost use Rattle.std.specs.Cmp.Lexicographic.{slice_cmp};
 ghost use Rattle.std.specs.Ordering.{nat_cmp};
 ghost use Rattle.regress_base.specs.Intervals.{Bounds};
 ghost use Rattle.regress_classes.specs.ClassRows.{one_point};
-ghost use Rattle.regress_classes.specs.ClassSets.{Value as Written, nothing, only, joined, is_among, value_of_string};
+ghost use Rattle.regress_classes.specs.ClassSets.{Value as Written, nothing, has_strings, only, joined, is_among, value_of_string};
 ghost use Rattle.regress_lexical.specs.Source.{IsCodePoint};
 ghost use Rattle.regress_classes.specs.ClassViews.{HasMembers, IsValue, strings_of, applied};
 
@@ -41,6 +41,13 @@ impl Value {
             strings: Vec::new(alloc),
             levels: 0,
         }
+    }
+
+    /// Whether it holds a string beside its code points.
+    pub fn has_strings(&self) -> bool
+        ensures { (value : Written) → IsValue self.now value → result ≡ has_strings value }
+    {
+        !self.strings.is_empty()
     }
 
     /// One code point.
