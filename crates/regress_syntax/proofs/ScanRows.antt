@@ -20,7 +20,7 @@ use Rattle.regress_syntax.specs.Names.{is_sign, begins_name, continues_name, nam
 use Rattle.regress_syntax.specs.Syntax.{Name, Atom, literal, Group, modified, capture}
 use Rattle.regress_syntax.specs.Syntax as Syntax
 use Rattle.regress_syntax.specs.Rows.{Context, Head, single, opens, angle_at, modified_at, behind_mark_at, group_at, has_name, character_at, property_atom, property_atom_at, numbered_at, named_at, escape_rows, escaped_by, escaped_at, brace_by, brackets_at, atom_rows, atom_by, head_at, no_quantifier_at, this_quantifier, times_at}
-use Rattle.regress_syntax.specs.Scan.{Mode, plain, escape, class, class_escape, opened_at, marks}
+use Rattle.regress_syntax.specs.Scan.{Mode, plain, escape, class, opened_at, marks}
 use Rattle.regress_syntax.specs.Conflicts.{Mark, captures, mark_of_group, marks_of_atom}
 use Rattle.regress_syntax.specs.Conflicts as Conflicts
 use Rattle.regress_lexical.proofs.laws.Digits.{and_both, drop_one_more}
