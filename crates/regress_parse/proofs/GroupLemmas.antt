@@ -99,7 +99,7 @@ captures-tree_of_atom table all (class_escape flags kind negated) = refl
 captures-tree_of_atom table all (class flags inverted members) = refl
 captures-tree_of_atom table all (class_set flags negated value) =
     captures-alternation (class_parts flags.icase negated value (intervals_of (is_in_class table flags false value.members)))
-    (class_parts-have CapturesNothing flags.icase negated value (intervals_of (is_in_class table flags false value.members)) refl refl)
+    (class_parts-have CapturesNothing flags.icase negated value (intervals_of (is_in_class table flags false value.members)) refl refl refl)
 captures-tree_of_atom table all (string_property flags written) = refl
 captures-tree_of_atom table all (back_reference flags to) =
     captures-alternation (references flags.icase (referred all to))

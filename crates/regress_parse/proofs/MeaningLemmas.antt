@@ -14,12 +14,12 @@ use Rattle.regress_tree.specs.Assertions.{is_line_terminator, is_word_character,
 use Rattle.regress_tree.specs.declared.ir.node.Quantifier.{Quantifier}
 use Rattle.regress_tree.specs.Literal.{class_of}
 use Rattle.regress_unicode.specs.Table.{stands_for}
-use Rattle.regress_tree.specs.Tree.{Tree, Trees, leaf, no_trees, more_trees, match_any, match_any_except_line_terminator, char, char_set, bracket, back_ref, string_set}
+use Rattle.regress_tree.specs.Tree.{Tree, Trees, leaf, no_trees, more_trees, empty, match_any, match_any_except_line_terminator, char, char_set, bracket, back_ref, string_set}
 use Rattle.regress_syntax.specs.Syntax.{Atom, literal, dot, anchor, boundary, class_escape, class, class_set, string_property, back_reference, Group, grouping, modified, capture, look, Name, Pattern, Terms, Item, one, either, no_terms, more_terms, atom, group, opened_by, counts_of_item, counts_of_term, counts_of_terms, names}
 use Rattle.regress_syntax.specs.Meaning.{is_in_class, longest_first, along, direction_of_group, group_steps, referred, any_reference, times_steps, atom_steps, pattern_steps, terms_steps, item_steps}
 use Rattle.regress_classes.specs.ClassRows.{members_of}
 use Rattle.regress_classes.specs.ClassSets.{Value, has_strings}
-use Rattle.regress_parse.specs.TreeOf.{turned, joined, tree_of_group, tree_of_times, leaf_of_members, references, strings_part, bracket_part, class_parts, alternation, tree_of_atom, tree_of_pattern, trees_of_terms, tree_of_item, tree_of}
+use Rattle.regress_parse.specs.TreeOf.{turned, joined, tree_of_group, tree_of_times, leaf_of_members, references, strings_part, bracket_part, empty_part, class_parts, alternation, tree_of_atom, tree_of_pattern, trees_of_terms, tree_of_item, tree_of}
 use Rattle.regress_parse.specs.Accepted.{Means}
 use Rattle.regress_tree.proofs.laws.Assertions.{Simulates-anchor, Simulates-boundary}
 use Rattle.regress_tree.proofs.laws.Classes.{agreeing_simulates, is_accepted-scalar}
@@ -216,6 +216,10 @@ module _ (setting : Setting) (text : List ℕ) (is_text : IsText text) where
   unfolding one_character
   bracket-none d s = taken-none s (next_character d (of_bytes (encode_utf8_all text)) s.place)
 
+  empty_part_simulates : (d : Direction) (has_empty : Bool) → PartsSimulate d (cond has_empty stay fail) (empty_part has_empty)
+  empty_part_simulates d true = one_simulates d stay (leaf empty) (Simulates-stay text d)
+  empty_part_simulates d false = Simulates-fail text d
+
   -- what a test passes, which a bracket accepts
   module _ (d : Direction) (p q : ℕ → Bool) where
     abbrev BracketSimulates : Bool → List Bounds → Type 0
@@ -233,14 +237,17 @@ module _ (setting : Setting) (text : List ℕ) (is_text : IsText text) where
     class_set_simulates : (icase negated : Bool) (value : Value) → ((x : ℕ) → q x ≡ differ negated (p x)) →
         TreeSimulates setting text d
         (any_string d (of_characters text) (stands_for setting.table icase setting.flags.unicode) (longest_first value.strings)
-        or_ one_character d (of_characters text) q)
+        or_ one_character d (of_characters text) q or_ cond value.has_empty stay fail)
         (alternation (class_parts icase negated value (intervals_of p)))
     class_set_simulates icase negated value e =
-        alternation_simulates d _ (class_parts icase negated value (intervals_of p))
-        (all_simulate d _ _ (strings_part icase (longest_first value.strings))
-        (bracket_part (not (has_strings value)) negated (intervals_of p))
-        (strings_part_simulates d icase (longest_first value.strings))
+        let strings = strings_part icase (longest_first value.strings) in
+        let bracket' = bracket_part (not (has_strings value)) negated (intervals_of p) in
+        let empty' = empty_part value.has_empty in
+        alternation_simulates d _ (strings ++ bracket' ++ empty')
+        (all_simulate d _ _ (strings ++ bracket') empty'
+        (all_simulate d _ _ strings bracket' (strings_part_simulates d icase (longest_first value.strings))
         (bracket_part_simulates (not (has_strings value)) negated (intervals_of p) (bracket_simulates d negated p q e)))
+        (empty_part_simulates d value.has_empty))
 
 module _ (setting : Setting) (names : List (Option Name)) (text : List ℕ) (is_text : IsText text) where
   atom_simulates : (d : Direction) (a : Atom) →

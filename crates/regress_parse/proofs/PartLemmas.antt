@@ -1,11 +1,11 @@
 -- Parts of which one is to match: what holds of all of them.
-use Rattle.std.proofs.Common.{ℕ, Bool, true, false, cond, not, List, [], ◌∷◌, All}
+use Rattle.std.proofs.Common.{ℕ, Bool, true, false, cond, not, List, [], ◌∷◌, ◌++◌, All}
 use Rattle.std.proofs.lemmas.List.Elements.{All-nil, All-cons, All-head, All-tail, All-append, All-map}
 use Rattle.regress_base.specs.Intervals.{Bounds}
-use Rattle.regress_tree.specs.Tree.{Tree, leaf, alt, char_set, bracket, back_ref, string_set}
+use Rattle.regress_tree.specs.Tree.{Tree, leaf, alt, empty, char_set, bracket, back_ref, string_set}
 use Rattle.regress_classes.specs.ClassSets.{Value, has_strings}
 use Rattle.regress_syntax.specs.Meaning.{longest_first}
-use Rattle.regress_parse.specs.TreeOf.{alternation, references, strings_part, bracket_part, class_parts}
+use Rattle.regress_parse.specs.TreeOf.{alternation, references, strings_part, bracket_part, empty_part, class_parts}
 
 module _ (P : Tree → Type 0) where
   pub alternation-has : P (leaf (char_set [])) → ((t u : Tree) → P t → P u → P (alt t u)) → (ts : List Tree) → All P ts → P (alternation ts)
@@ -27,9 +27,12 @@ module _ (P : Tree → Type 0) where
   part_if false t h = All-nil P
 
   pub class_parts-have : (icase negated : Bool) (value : Value) (closed : List Bounds) →
-      P (leaf (string_set (longest_first value.strings) icase)) → P (leaf (bracket negated closed)) →
+      P (leaf (string_set (longest_first value.strings) icase)) → P (leaf (bracket negated closed)) → P (leaf empty) →
       All P (class_parts icase negated value closed)
-  class_parts-have icase negated value closed of_strings of_bracket =
-      All-append P (strings_part icase (longest_first value.strings)) (bracket_part (not (has_strings value)) negated closed)
-      (strings_part-has icase (longest_first value.strings) of_strings)
-      (part_if _ (leaf (bracket negated closed)) of_bracket)
+  class_parts-have icase negated value closed of_strings of_bracket of_empty =
+      let strings = strings_part icase (longest_first value.strings) in
+      let bracket' = bracket_part (not (has_strings value)) negated closed in
+      All-append P (strings ++ bracket') (empty_part value.has_empty)
+      (All-append P strings bracket' (strings_part-has icase (longest_first value.strings) of_strings)
+      (part_if _ (leaf (bracket negated closed)) of_bracket))
+      (part_if _ (leaf empty) of_empty)

@@ -97,7 +97,7 @@ module _ (m : ℕ) where
       alternation_may_stand (class_parts icase negated value (intervals_of p))
       (class_parts-have (λ t. MayStand m t inside) icase negated value (intervals_of p)
       (strings_may_stand icase (longest_first value.strings) (All-longest_first (All IsCodePoint) value.strings bounded))
-      (bracket_may_stand negated p))
+      (bracket_may_stand negated p) tt)
 
 module _ (m : ℕ) (table : Table) (lawful : IsLawful table) where
   literal_may_stand : (icase unicode : Bool) (c : ℕ) → IsCodePoint c →

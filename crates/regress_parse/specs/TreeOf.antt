@@ -71,11 +71,16 @@ abbrev pub bracket_part : (alone negated : Bool) → List Bounds → List Tree
 bracket_part alone negated members =
     if alone || negated || not (length members == 0) then leaf (bracket negated members) ∷ [] else []
 
+-- the empty string of a class, if it is there
+abbrev pub empty_part : Bool → List Tree
+empty_part has_empty = if has_empty then leaf empty ∷ [] else []
+
 -- The parts of a class with the flag v, in the order in which they are tried. Once closed its code points are these.
 abbrev pub class_parts : (icase negated : Bool) → Value → (closed : List Bounds) → List Tree
 class_parts icase negated value closed =
     strings_part icase (longest_first value.strings)
     ++ bracket_part (not (has_strings value)) negated closed
+    ++ empty_part value.has_empty
 
 module _ (table : Table) (names : List (Option Name)) where
   abbrev pub tree_of_atom : Atom → Tree

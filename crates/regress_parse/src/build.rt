@@ -11,7 +11,7 @@ ghost use Rattle.regress_classes.specs.ClassRows.{members_of};
 ghost use Rattle.regress_syntax.specs.Syntax.{Atom as Written};
 ghost use Rattle.regress_syntax.specs.Views.{IsAtom, IsSomeAtom, context_of, names_in, direction_if, group_of};
 ghost use Rattle.regress_classes.specs.ClassViews.{IsValue, HasMembers, strings_of};
-ghost use Rattle.regress_parse.specs.TreeOf.{turned, joined, leaf_of_members, leaf_of_literal, references, strings_part, bracket_part, class_parts, alternation, tree_of_atom, tree_of_group, tree_of_times};
+ghost use Rattle.regress_parse.specs.TreeOf.{turned, joined, leaf_of_members, leaf_of_literal, references, strings_part, bracket_part, empty_part, class_parts, alternation, tree_of_atom, tree_of_group, tree_of_times};
 ghost use Rattle.regress_parse.specs.Parsing.{alternatives};
 
 use regress_base::charclasses::CharacterClassType;
@@ -113,7 +113,8 @@ fn make_class_escape(
     }))
 }
 
-/// The node of a class with the flag v: first its strings, longest first, then its code points.
+/// The node of a class with the flag v: first its strings of two or more, longest first, then its code points, and last
+/// the empty string.
 fn make_class_set(
     alloc: Global,
     negated: bool,
@@ -125,6 +126,7 @@ fn make_class_set(
         (intervals_of (is_in_class (table_of scope.now.tables.now) scope.now.flags false written.members)))) }
 {
     let alone = !value.has_strings();
+    let has_empty = value.has_empty;
     let mut strings = value.strings;
     sort_longest_first(&mut strings)?;
     let contents = BracketContents {
@@ -134,6 +136,7 @@ fn make_class_set(
     let mut parts = Vec::new(alloc);
     push_strings(&mut parts, strings, scope.flags.icase)?;
     push_bracket(&mut parts, contents, alone)?;
+    push_empty(&mut parts, has_empty)?;
     make_alternation(alloc, parts)
 }
 
@@ -165,6 +168,16 @@ fn push_bracket(
 {
     if alone || contents.invert || !contents.cps.is_empty() {
         parts.push(Node::Bracket(contents))?;
+    }
+    Ok(())
+}
+
+/// Adds the empty string of a class, if it is there.
+fn push_empty(parts: &mut NodeList, has_empty: bool) -> Result<(), AllocError>
+    ensures { OnOk result (map tree parts.new.items ≡ map tree parts.old.items ++ empty_part has_empty) }
+{
+    if has_empty {
+        parts.push(Node::Empty)?;
     }
     Ok(())
 }
