@@ -1,14 +1,13 @@
 -- What a value holds.
 use Rattle.std.proofs.Common.{◌≡◌, ℕ, ◌+◌, ◌<◌, ◌≤◌, Vec, Bool, true, false, not, ◌&&◌, ◌||◌, ◌==◌, max, List, [], ◌∷◌, ◌++◌, length, take, get_or, cond, filter, refl, sym, ap, ap₂, ◌∙◌, subst, append_assoc, append-nil, arith}
 use Rattle.std.proofs.lemmas.Bool.Decides.{nat_tests}
-use Rattle.std.proofs.lemmas.List.{length-map, take_all}
+use Rattle.std.proofs.lemmas.List.{take_all}
 use Rattle.std.proofs.lemmas.List.Folds.{list_any_more}
 use Rattle.std.proofs.lemmas.Map.Text.{is_eq-slice_cmp}
 use Rattle.std.specs.Cmp.Lexicographic.{slice_cmp}
 use Rattle.std.specs.List.{list_any}
 use Rattle.std.specs.Ordering.{nat_cmp, is_eq}
 use Rattle.std.specs.Str.{bytes_eq}
-use Rattle.std.specs.Vec.{vec_len}
 use Rattle.std.specs.declared.alloc.Global.{Global}
 use Rattle.regress_base.specs.Intervals.{Bounds, is_within, is_member, IsCanonical, IsComplement, intervals_of}
 use Rattle.regress_base.proofs.laws.Sets.{is_member-one, is_member-append, canonical_is, intervals_of-agree}
@@ -61,13 +60,26 @@ is_one_point c n = is_itself c n ∙ sym (is_member-one (record { first = c; las
 
 pub joined-assoc : (a b c : Value) → joined (joined a b) c ≡ joined a (joined b c)
 joined-assoc a b c =
-    rw (append_assoc a.members b.members c.members, append_assoc a.strings b.strings c.strings, max-assoc a.levels b.levels c.levels) refl
+    rw (
+      append_assoc a.members b.members c.members,
+      append_assoc a.strings b.strings c.strings,
+      or_assoc a.has_empty b.has_empty c.has_empty,
+      max-assoc a.levels b.levels c.levels,
+    ) refl
   where
+    or_assoc : (x y z : Bool) → ((x || y) || z) ≡ (x || (y || z))
+    or_assoc true y z = refl
+    or_assoc false y z = refl
+
     max-assoc : (i j k : ℕ) → max (max i j) k ≡ max i (max j k)
     max-assoc i j k = omega arith
 
+or_false : (x : Bool) → (x || false) ≡ x
+or_false true = refl
+or_false false = refl
+
 pub joined-nothing : (a : Value) → joined a nothing ≡ a
-joined-nothing a = rw (append-nil a.members, append-nil a.strings, max-zero a.levels) refl
+joined-nothing a = rw (append-nil a.members, append-nil a.strings, or_false a.has_empty, max-zero a.levels) refl
   where
     max-zero : (i : ℕ) → max i 0 ≡ i
     max-zero i = omega arith
@@ -88,6 +100,7 @@ with_point a c old set h canonical e = record {
     each = λ n. e n ∙ ap₂ (λ x y. x || y) (h.members.each n) (is_one_point c n) ∙ sym (is_member-append a.members (one_point c) n);
   };
   strings = h.strings ∙ sym (append-nil a.strings);
+  has_empty = h.has_empty ∙ sym (or_false a.has_empty);
   levels = omega (arith, h.levels);
 }
 
@@ -140,34 +153,37 @@ kept_strings test p same (string ∷ strings) =
 
 -- what the other one has, or what it lacks, of both kinds
 pub held_where : (keep : Bool → Bool) (a b : Value) (old other : CodeValue) (set : List Bounds) (strings : Vec (Vec ℕ Global) Global)
-    (levels : ℕ) (p : Vec ℕ Global → Bool) → IsValue old a → IsValue other b → IsCanonical set →
+    (has_empty : Bool) (levels : ℕ) (p : Vec ℕ Global → Bool) → IsValue old a → IsValue other b → IsCanonical set →
     ((c : ℕ) → is_member set c ≡ (is_member old.set c && keep (is_member other.set c))) →
     ((string : Vec ℕ Global) → p string ≡ keep (is_among (strings_of other.strings.items) string.items)) →
-    strings.items ≡ filter p old.strings.items → levels ≡ max old.levels other.levels →
-    IsValue (record { set = set; strings = strings; levels = levels }) (record {
+    strings.items ≡ filter p old.strings.items → has_empty ≡ (old.has_empty && keep other.has_empty) → levels ≡ max old.levels other.levels →
+    IsValue (record { set = set; strings = strings; has_empty = has_empty; levels = levels }) (record {
       members = intervals_of (λ c. is_member a.members c && keep (is_member b.members c));
       strings = filter (λ s. keep (is_among b.strings s)) a.strings;
+      has_empty = a.has_empty && keep b.has_empty;
       levels = max a.levels b.levels;
     })
-held_where keep a b old other set strings levels p h k canonical members same kept deep = record {
+held_where keep a b old other set strings has_empty levels p h k canonical members same kept empty deep = record {
   members = members_where (λ c. is_member a.members c && keep (is_member b.members c)) set canonical
       (λ c. members c ∙ ap₂ (λ x y. x && keep y) (h.members.each c) (k.members.each c));
   strings = ap strings_of kept
       ∙ kept_strings (λ s. keep (is_among b.strings s)) p (λ string. same string ∙ ap (λ l. keep (is_among l string.items)) k.strings) old.strings.items
       ∙ ap (filter (λ s. keep (is_among b.strings s))) h.strings;
+  has_empty = empty ∙ ap₂ (λ x y. x && keep y) h.has_empty k.has_empty;
   levels = deep ∙ ap₂ max h.levels k.levels;
 }
 
 -- a class in another one
 pub held_nested : (read : Bool × Value) (negated : Bool) (old : CodeValue) (set : List Bounds) → (negated ≡ read.0) × IsValue old read.1 →
     HasMembers (complement_if negated old.set) set →
-    IsValue (record { set = set; strings = old.strings; levels = old.levels + 1 }) (nested read)
+    IsValue (record old { set = set; levels = old.levels + 1 }) (nested read)
 held_nested (negated, value) b old set (same, h) members = rw (sym same) (record {
   members = record {
     canonical = members.canonical;
     each = λ c. members.each c ∙ complements b c;
   };
   strings = h.strings;
+  has_empty = h.has_empty;
   levels = ap (λ n. n + 1) h.levels;
 })
   where
@@ -176,7 +192,3 @@ held_nested (negated, value) b old set (same, h) members = rw (sym same) (record
         ap (λ (l : List Bounds). is_member l c) (intervals_of-agree (λ n. not (is_member old.set n)) (λ n. not (is_member value.members n))
         (λ n le. ap not (h.members.each n)))
     complements false c = h.members.each c
-
--- as many strings
-pub same_count : (held : CodeValue) (value : Value) → IsValue held value → vec_len held.strings ≡ length value.strings
-same_count held value h = held.strings.ok.0 ∙ sym (length-map held.strings.items (λ (string : Vec ℕ Global). string.items)) ∙ ap length h.strings

@@ -12,23 +12,33 @@ use Rattle.regress_classes.specs.ClassRows.{complement_if, class_letter, class_m
 
 -- ---- what a class holds
 
--- Code points, of which some may overlap, strings of two or more in the order in which they were read, repeats kept, and
--- how many levels of classes lie in it.
+-- Code points, of which some may overlap, strings of two or more in the order in which they were read, repeats kept,
+-- whether the empty string is there, and how many levels of classes lie in it.
 pub record Value : Type 0 where
   pub members : List Bounds
   pub strings : List (List ℕ)
+  pub has_empty : Bool
   pub levels : ℕ
 
 abbrev pub nothing : Value
-nothing = record { members = []; strings = []; levels = 0 }
+nothing = record { members = []; strings = []; has_empty = false; levels = 0 }
+
+-- whether it holds a string beside its code points, be it the empty one
+abbrev pub has_strings : Value → Bool
+has_strings v = not (length v.strings == 0) || v.has_empty
 
 -- these code points alone
 abbrev pub only : List Bounds → Value
-only members = record { members = members; strings = []; levels = 0 }
+only members = record nothing { members = members }
 
 -- what is in one or the other
 abbrev pub joined : Value → Value → Value
-joined a b = record { members = a.members ++ b.members; strings = a.strings ++ b.strings; levels = max a.levels b.levels }
+joined a b = record {
+  members = a.members ++ b.members;
+  strings = a.strings ++ b.strings;
+  has_empty = a.has_empty || b.has_empty;
+  levels = max a.levels b.levels;
+}
 
 abbrev pub is_among : List (List ℕ) → List ℕ → Bool
 is_among strings s = list_any (λ other. bytes_eq other s) strings
@@ -38,6 +48,7 @@ abbrev pub common : Value → Value → Value
 common a b = record {
   members = intervals_of (λ c. is_member a.members c && is_member b.members c);
   strings = filter (is_among b.strings) a.strings;
+  has_empty = a.has_empty && b.has_empty;
   levels = max a.levels b.levels;
 }
 
@@ -46,14 +57,15 @@ abbrev pub without : Value → Value → Value
 without a b = record {
   members = intervals_of (λ c. is_member a.members c && not (is_member b.members c));
   strings = filter (λ s. not (is_among b.strings s)) a.strings;
+  has_empty = a.has_empty && not b.has_empty;
   levels = max a.levels b.levels;
 }
 
--- A string of one is a code point, and an empty one is dropped.
+-- A string of one is a code point.
 abbrev pub value_of_string : List ℕ → Value
-value_of_string [] = nothing
+value_of_string [] = record nothing { has_empty = true }
 value_of_string (c ∷ []) = only (one_point c)
-value_of_string (c ∷ d ∷ cs) = record { members = []; strings = (c ∷ d ∷ cs) ∷ []; levels = 0 }
+value_of_string (c ∷ d ∷ cs) = record nothing { strings = (c ∷ d ∷ cs) ∷ [] }
 
 abbrev pub value_of_strings : List (List ℕ) → Value
 value_of_strings [] = nothing
@@ -61,11 +73,11 @@ value_of_strings (s ∷ ss) = joined (value_of_string s) (value_of_strings ss)
 
 -- a class that lies in another one: it is complemented where it stands
 abbrev pub nested : Bool × Value → Value
-nested (negated, v) = record { members = complement_if negated v.members; strings = v.strings; levels = v.levels + 1 }
+nested (negated, v) = record v { members = complement_if negated v.members; levels = v.levels + 1 }
 
 -- no complement of what holds a string
 abbrev pub unless_of_strings : Bool → Value × Source → Found (Bool × Value)
-unless_of_strings negated (v, t) = if negated && not (length v.strings == 0) then None else Some ((negated, v), t)
+unless_of_strings negated (v, t) = if negated && has_strings v then None else Some ((negated, v), t)
 
 -- ---- operands
 

@@ -57,6 +57,7 @@ property_of (properties.Strings written) = of_strings (strings_of written.now)
 pub record IsValue (held : CodeValue) (value : Value) : Type 0 where
   pub members : HasMembers value.members held.set
   pub strings : strings_of held.strings.items ≡ value.strings
+  pub has_empty : held.has_empty ≡ value.has_empty
   pub levels : held.levels ≡ value.levels
 
 -- an operand of such a class; a character is a code point

@@ -108,7 +108,7 @@ pub fn read_class_set(
         levels: levels - 1,
     };
     let value = read_contents(cursor, &around)?;
-    if negated && !value.strings.is_empty() {
+    if negated && value.has_strings() {
         return Err(syntax(cursor.alloc, INVALID_NEGATED_CLASS));
     }
     Ok(ClassSet { negated, value })

@@ -1,6 +1,5 @@
 -- Lists of nodes as trees.
-use Rattle.std.proofs.Common.{◌≡◌, ℕ, ◌<◌, Bool, true, false, cond, not, List, [], ◌∷◌, ◌++◌, length, map, reverse, refl, sym, ap, ◌∙◌, arith}
-use Rattle.std.proofs.lemmas.Grind.{reverse_onto}
+use Rattle.std.proofs.Common.{◌≡◌, ℕ, ◌<◌, Bool, true, false, cond, not, List, [], ◌∷◌, ◌++◌, length, map, refl, sym, ap, ◌∙◌, arith}
 use Rattle.regress_base.specs.declared.types.Flags.{Flags}
 use Rattle.regress_base.specs.Intervals.{Bounds, is_member, IsCanonical, IsComplement, intervals_of}
 use Rattle.regress_base.proofs.laws.Sets.{canonical_is, intervals_of-member}
@@ -8,10 +7,10 @@ use Rattle.regress_tree.specs.declared.ir.node.Node.{Node}
 use Rattle.regress_tree.specs.Reading.{Direction}
 use Rattle.regress_unicode.specs.Table.{Table, is_in_closure}
 use Rattle.regress_unicode.proofs.laws.Closures.{closure_same}
-use Rattle.regress_tree.specs.Tree.{Tree, tree, trees, leaf, back_ref, alt, cat, row_append, row_reverse, no_trees, more_trees}
+use Rattle.regress_tree.specs.Tree.{Tree, tree, trees, alt, cat, row_append, no_trees, more_trees}
 use Rattle.regress_syntax.specs.Meaning.{is_in_class}
 use Rattle.regress_classes.specs.ClassViews.{HasMembers}
-use Rattle.regress_parse.specs.TreeOf.{turned, joined, tree_of_references}
+use Rattle.regress_parse.specs.TreeOf.{turned, joined, alternation}
 use Rattle.regress_parse.specs.Parsing.{alternatives}
 
 pub alternatives-push : (nodes : List Node) (node : Node) (last : Tree) →
@@ -29,31 +28,13 @@ pub trees-push : (nodes : List Node) (node : Node) → trees (nodes ++ node ∷ 
 trees-push [] node = refl
 trees-push (n ∷ nodes) node = ap (more_trees (tree n)) (trees-push nodes node)
 
--- ---- references
+-- ---- parts of which one is to match
 
-abbrev pub reference : Bool → ℕ → Tree
-reference icase k = leaf (back_ref k icase)
-
-alternatives-onto : (ts : List Tree) (t last : Tree) → alternatives (ts ++ t ∷ []) last ≡ alternatives ts (alt t last)
-alternatives-onto [] t last = refl
-alternatives-onto (u ∷ ts) t last = ap (alt u) (alternatives-onto ts t last)
-
-map-push : (icase : Bool) (ks : List ℕ) (k : ℕ) → map (reference icase) (ks ++ k ∷ []) ≡ map (reference icase) ks ++ reference icase k ∷ []
-map-push icase [] k = refl
-map-push icase (j ∷ ks) k = ap (λ ts. reference icase j ∷ ts) (map-push icase ks k)
-
--- a reference before those that are joined
-pub references-push : (icase : Bool) (ks : List ℕ) (k : ℕ) (last : Tree) →
-    alternatives (map (reference icase) (ks ++ k ∷ [])) last ≡ alternatives (map (reference icase) ks) (alt (reference icase k) last)
-references-push icase ks k last =
-    ap (λ ts. alternatives ts last) (map-push icase ks k) ∙ alternatives-onto (map (reference icase) ks) (reference icase k) last
-
--- references before a last one
-pub references-are : (icase : Bool) (ks : List ℕ) (k : ℕ) →
-    alternatives (map (reference icase) ks) (reference icase k) ≡ tree_of_references icase (ks ++ k ∷ [])
-references-are icase [] k = refl
-references-are icase (j ∷ []) k = refl
-references-are icase (j ∷ (i ∷ ks)) k = ap (alt (reference icase j)) (references-are icase (i ∷ ks) k)
+pub alternatives-are : (before : List Node) (last : Node) →
+    alternatives (map tree before) (tree last) ≡ alternation (map tree (before ++ last ∷ []))
+alternatives-are [] last = refl
+alternatives-are (n ∷ []) last = refl
+alternatives-are (n ∷ (m ∷ before)) last = ap (alt (tree n)) (alternatives-are (m ∷ before) last)
 
 -- ---- sets of classes
 

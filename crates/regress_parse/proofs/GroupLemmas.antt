@@ -1,11 +1,11 @@
 -- The capture groups of a pattern's tree are the pattern's, numbered as they open.
-use Rattle.std.proofs.Common.{◌≡◌, ℕ, ◌+◌, Bool, true, false, cond, ◌&&◌, ◌==◌, nat_le, nat_lt, List, [], ◌∷◌, ◌++◌, length, Option, Some, None, option_map, count_by, encode_utf8_all, refl, sym, ap, ap₂, subst, ◌∙◌, arith, append-nil}
+use Rattle.std.proofs.Common.{◌≡◌, ℕ, ◌+◌, false, cond, ◌&&◌, ◌==◌, nat_le, nat_lt, List, [], ◌∷◌, ◌++◌, length, Option, Some, None, option_map, count_by, All, encode_utf8_all, refl, sym, ap, ap₂, subst, ◌∙◌, arith, append-nil}
 use Rattle.std.specs.List.Sorted.{IsPermutation}
 use Rattle.std.proofs.lemmas.List.{length-append}
 use Rattle.std.proofs.lemmas.List.Sums.{sum_by-cons}
 use Rattle.std.proofs.lemmas.List.Sorted.{IsPermutation-refl, IsPermutation-trans, IsPermutation-append_left, IsPermutation-append_right, length_permutation, sum_by-IsPermutation}
 use Rattle.std.proofs.lemmas.Bool.Decides.{nat_tests}
-use Rattle.regress_base.specs.Intervals.{Bounds, intervals_of}
+use Rattle.regress_base.specs.Intervals.{intervals_of}
 use Rattle.regress_tree.specs.Reading.{Direction, forwards, backwards}
 use Rattle.regress_unicode.specs.Table.{Table}
 use Rattle.regress_tree.specs.declared.ir.node.Quantifier.{Quantifier}
@@ -13,8 +13,9 @@ use Rattle.regress_tree.specs.Tree.{Tree, Trees, no_trees, more_trees}
 use Rattle.regress_tree.specs.WellFormed.{Capture, captures, captures_in_row, HasGroups}
 use Rattle.regress_tree.proofs.laws.Turned.{captures-row_reverse}
 use Rattle.regress_syntax.specs.Syntax.{Name, Atom, literal, dot, anchor, boundary, class_escape, class, class_set, string_property, back_reference, Group, grouping, modified, capture, look, Pattern, Terms, Item, one, either, no_terms, more_terms, atom, group, opened_by, counts, counts_of_times, counts_of_terms, counts_of_term, counts_of_item, names, names_of_group, names_of_terms, names_of_item}
-use Rattle.regress_syntax.specs.Meaning.{is_in_class, longest_first, direction_of_group, referred}
-use Rattle.regress_parse.specs.TreeOf.{turned, joined, tree_of_group, tree_of_times, tree_of_references, tree_of_class_set, tree_of_atom, tree_of_pattern, trees_of_terms, tree_of_item, tree_of}
+use Rattle.regress_syntax.specs.Meaning.{is_in_class, direction_of_group, referred}
+use Rattle.regress_parse.specs.TreeOf.{turned, joined, tree_of_group, tree_of_times, references, class_parts, alternation, tree_of_atom, tree_of_pattern, trees_of_terms, tree_of_item, tree_of}
+use Rattle.regress_parse.proofs.PartLemmas.{alternation-has, references-have, class_parts-have}
 
 -- the groups of these names, with ids from n on
 abbrev pub numbered : ℕ → List (Option Name) → List Capture
@@ -83,17 +84,11 @@ captures-tree_of_times : (q : Option Quantifier) (start end : ℕ) (body : Tree)
 captures-tree_of_times None start end body = refl
 captures-tree_of_times (Some q) start end body = refl
 
-captures-tree_of_references : (icase : Bool) (ks : List ℕ) → captures (tree_of_references icase ks) ≡ []
-captures-tree_of_references icase [] = refl
-captures-tree_of_references icase (k ∷ []) = refl
-captures-tree_of_references icase (k ∷ next ∷ ks) = captures-tree_of_references icase (next ∷ ks)
+abbrev CapturesNothing : Tree → Type 0
+CapturesNothing t = captures t ≡ []
 
-captures-tree_of_class_set : (icase negated : Bool) (strings : List (List ℕ)) (members : List Bounds) →
-    captures (tree_of_class_set icase negated strings members) ≡ []
-captures-tree_of_class_set icase negated [] members = refl
-captures-tree_of_class_set icase true (s ∷ ss) members = refl
-captures-tree_of_class_set icase false (s ∷ ss) [] = refl
-captures-tree_of_class_set icase false (s ∷ ss) (iv ∷ ivs) = refl
+captures-alternation : (ts : List Tree) → All CapturesNothing ts → captures (alternation ts) ≡ []
+captures-alternation = alternation-has CapturesNothing refl (λ t u h k. ap₂ (λ xs ys. xs ++ ys) h k)
 
 captures-tree_of_atom : (table : Table) (all : List (Option Name)) (a : Atom) → captures (tree_of_atom table all a) ≡ []
 captures-tree_of_atom table all (literal flags c) = refl
@@ -103,9 +98,12 @@ captures-tree_of_atom table all (boundary flags inverted) = refl
 captures-tree_of_atom table all (class_escape flags kind negated) = refl
 captures-tree_of_atom table all (class flags inverted members) = refl
 captures-tree_of_atom table all (class_set flags negated value) =
-    captures-tree_of_class_set flags.icase negated (longest_first value.strings) (intervals_of (is_in_class table flags false value.members))
+    captures-alternation (class_parts flags.icase negated value (intervals_of (is_in_class table flags false value.members)))
+    (class_parts-have CapturesNothing flags.icase negated value (intervals_of (is_in_class table flags false value.members)) refl refl refl)
 captures-tree_of_atom table all (string_property flags written) = refl
-captures-tree_of_atom table all (back_reference flags to) = captures-tree_of_references flags.icase (referred all to)
+captures-tree_of_atom table all (back_reference flags to) =
+    captures-alternation (references flags.icase (referred all to))
+    (references-have CapturesNothing flags.icase (referred all to) (λ i k lt. refl))
 
 -- ---- in either direction a tree has the groups of its pattern
 

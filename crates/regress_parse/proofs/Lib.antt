@@ -8,6 +8,7 @@ pub mod AlternativesLemmas
 pub mod TermLemmas
 pub mod ParserLemmas
 pub mod AcceptedLemmas
+pub mod PartLemmas
 pub mod MeaningLemmas
 pub mod GroupLemmas
 pub mod CodePointLemmas

@@ -1,6 +1,6 @@
 -- The tree of a pattern means what the pattern does.
-use Rattle.std.proofs.Common.{◌≡◌, ℕ, ◌+◌, ◌-◌, Bool, true, false, cond, not, ◌&&◌, ◌||◌, ◌==◌, List, [], ◌∷◌, ◌++◌, append-nil, length, Option, Some, None, encode_utf8_all, refl, sym, ap, subst, ◌∙◌}
-use Rattle.std.proofs.lemmas.List.Elements.{All-nil}
+use Rattle.std.proofs.Common.{◌≡◌, ℕ, ◌+◌, ◌-◌, Bool, true, false, cond, not, ◌&&◌, ◌||◌, ◌==◌, List, [], ◌∷◌, ◌++◌, append-nil, append_assoc, length, Option, Some, None, encode_utf8_all, refl, sym, ap, subst, ◌∙◌, arith}
+use Rattle.std.proofs.lemmas.Bool.Decides.{nat_tests}
 use Rattle.regress_base.specs.Brackets.{is_accepted}
 use Rattle.regress_base.specs.Intervals.{Bounds, is_member, intervals_of}
 use Rattle.regress_tree.specs.Reading.{Direction, Read, next_character, forwards, backwards, IsText, of_characters, of_bytes}
@@ -14,11 +14,12 @@ use Rattle.regress_tree.specs.Assertions.{is_line_terminator, is_word_character,
 use Rattle.regress_tree.specs.declared.ir.node.Quantifier.{Quantifier}
 use Rattle.regress_tree.specs.Literal.{class_of}
 use Rattle.regress_unicode.specs.Table.{stands_for}
-use Rattle.regress_tree.specs.Tree.{Tree, Trees, leaf, alt, no_trees, more_trees, match_any, match_any_except_line_terminator, char, char_set, bracket, back_ref, string_set}
+use Rattle.regress_tree.specs.Tree.{Tree, Trees, leaf, no_trees, more_trees, empty, match_any, match_any_except_line_terminator, char, char_set, bracket, back_ref, string_set}
 use Rattle.regress_syntax.specs.Syntax.{Atom, literal, dot, anchor, boundary, class_escape, class, class_set, string_property, back_reference, Group, grouping, modified, capture, look, Name, Pattern, Terms, Item, one, either, no_terms, more_terms, atom, group, opened_by, counts_of_item, counts_of_term, counts_of_terms, names}
 use Rattle.regress_syntax.specs.Meaning.{is_in_class, longest_first, along, direction_of_group, group_steps, referred, any_reference, times_steps, atom_steps, pattern_steps, terms_steps, item_steps}
 use Rattle.regress_classes.specs.ClassRows.{members_of}
-use Rattle.regress_parse.specs.TreeOf.{turned, joined, tree_of_group, tree_of_times, leaf_of_members, tree_of_references, tree_of_class_set, tree_of_atom, tree_of_pattern, trees_of_terms, tree_of_item, tree_of}
+use Rattle.regress_classes.specs.ClassSets.{Value, has_strings}
+use Rattle.regress_parse.specs.TreeOf.{turned, joined, tree_of_group, tree_of_times, leaf_of_members, references, strings_part, bracket_part, empty_part, class_parts, alternation, tree_of_atom, tree_of_pattern, trees_of_terms, tree_of_item, tree_of}
 use Rattle.regress_parse.specs.Accepted.{Means}
 use Rattle.regress_tree.proofs.laws.Assertions.{Simulates-anchor, Simulates-boundary}
 use Rattle.regress_tree.proofs.laws.Classes.{agreeing_simulates, is_accepted-scalar}
@@ -27,7 +28,7 @@ use Rattle.regress_tree.proofs.laws.References.{Simulates-back_reference}
 use Rattle.regress_tree.proofs.laws.Repetition.{Simulates-repeat}
 use Rattle.regress_tree.proofs.laws.ByteStates.{distinct-byte_state}
 use Rattle.regress_tree.proofs.laws.Outcomes.{flat_map-stay}
-use Rattle.regress_tree.proofs.laws.Simulation.{Simulates, Simulates-within, Simulates-same_right, Simulates-stay, Simulates-then, Simulates-or, Simulates-one_character, Simulates-capture, Simulates-look}
+use Rattle.regress_tree.proofs.laws.Simulation.{Simulates, Simulates-within, Simulates-same_right, Simulates-stay, Simulates-fail, Simulates-then, Simulates-or, Simulates-one_character, Simulates-capture, Simulates-look}
 use Rattle.regress_tree.proofs.laws.Strings.{Simulates-any_string}
 use Rattle.regress_tree.proofs.laws.Turned.{steps-row_reverse}
 
@@ -137,12 +138,43 @@ module _ (setting : Setting) (text : List ℕ) (is_text : IsText text) where
   moved-none s None = refl
   moved-none s (Some read) = refl
 
-  empty_set_simulates : (d : Direction) → TreeSimulates setting text d fail (leaf (char_set []))
+  -- ---- parts of which one is to match
+
+  -- what the first part matches, and then what the next ones do
+  abbrev any_part : Direction → List Tree → Step
+  any_part d [] = fail
+  any_part d (t ∷ ts) = steps setting (encode_utf8_all text) d t or_ any_part d ts
+
+  abbrev PartsSimulate : Direction → Step → List Tree → Type 0
+  PartsSimulate d f ts = Simulates text d f (any_part d ts)
+
+  steps-alternation : (d : Direction) (ts : List Tree) (s : State) →
+      steps setting (encode_utf8_all text) d (alternation ts) s ≡ any_part d ts s
   unfolding one_character
-  empty_set_simulates d = record {
-    same = λ s in'. moved-none (byte_state text s) (next_character d (of_bytes (encode_utf8_all text)) (byte_state text s).place);
-    reached = λ s in'. All-nil _;
-  }
+  steps-alternation d [] s = moved-none s (next_character d (of_bytes (encode_utf8_all text)) s.place)
+  steps-alternation d (t ∷ []) s = sym (append-nil (steps setting (encode_utf8_all text) d t s))
+  steps-alternation d (t ∷ next ∷ ts) s =
+      ap (λ others. steps setting (encode_utf8_all text) d t s ++ others) (steps-alternation d (next ∷ ts) s)
+
+  alternation_simulates : (d : Direction) (f : Step) (ts : List Tree) → PartsSimulate d f ts → TreeSimulates setting text d f (alternation ts)
+  alternation_simulates d f ts sim = Simulates-same_right text d _ _ _ (steps-alternation d ts) sim
+
+  one_simulates : (d : Direction) (f : Step) (t : Tree) → TreeSimulates setting text d f t → PartsSimulate d f (t ∷ [])
+  one_simulates d f t sim =
+      Simulates-same_right text d _ _ _ (λ s. append-nil (steps setting (encode_utf8_all text) d t s)) sim
+
+  any_part-append : (d : Direction) (ts us : List Tree) (s : State) → any_part d (ts ++ us) s ≡ (any_part d ts or_ any_part d us) s
+  any_part-append d [] us s = refl
+  any_part-append d (t ∷ ts) us s =
+      ap (λ others. steps setting (encode_utf8_all text) d t s ++ others) (any_part-append d ts us s)
+      ∙ sym (append_assoc (steps setting (encode_utf8_all text) d t s) (any_part d ts s) (any_part d us s))
+
+  all_simulate : (d : Direction) (f g : Step) (ts us : List Tree) → PartsSimulate d f ts → PartsSimulate d g us →
+      PartsSimulate d (f or_ g) (ts ++ us)
+  all_simulate d f g ts us h k =
+      Simulates-same_right text d _ _ _ (any_part-append d ts us) (Simulates-or text d _ _ _ _ h k)
+
+  -- ---- references
 
   reference_simulates : (d : Direction) (icase : Bool) (k : ℕ) →
       TreeSimulates setting text d (References.back_reference d (of_characters text) (stands_for setting.table icase setting.flags.unicode) (k - 1))
@@ -151,34 +183,28 @@ module _ (setting : Setting) (text : List ℕ) (is_text : IsText text) where
       Simulates-back_reference text is_text d (stands_for setting.table icase setting.flags.unicode) (k - 1)
 
   references_simulate : (d : Direction) (icase : Bool) (ks : List ℕ) →
-      TreeSimulates setting text d
+      PartsSimulate d
       (any_reference (λ k. References.back_reference d (of_characters text) (stands_for setting.table icase setting.flags.unicode) (k - 1)) ks)
-      (tree_of_references icase ks)
-  references_simulate d icase [] = empty_set_simulates d
-  references_simulate d icase (k ∷ []) = reference_simulates d icase k
+      (references icase ks)
+  references_simulate d icase [] = Simulates-fail text d
+  references_simulate d icase (k ∷ []) = one_simulates d _ (leaf (back_ref k icase)) (reference_simulates d icase k)
   references_simulate d icase (k ∷ next ∷ ks) =
       Simulates-or text d _ _ _ _ (reference_simulates d icase k) (references_simulate d icase (next ∷ ks))
 
-  -- ---- strings
+  -- ---- classes with the flag v
 
   strings_simulate : (d : Direction) (icase : Bool) (strings : List (List ℕ)) →
       TreeSimulates setting text d (any_string d (of_characters text) (stands_for setting.table icase setting.flags.unicode) strings)
       (leaf (string_set strings icase))
   strings_simulate d icase strings = Simulates-any_string text is_text d (stands_for setting.table icase setting.flags.unicode) strings
 
-  -- strings, and then what a test passes, which a bracket accepts
-  module _ (d : Direction) (icase negated : Bool) (p q : ℕ → Bool) (e : (x : ℕ) → q x ≡ differ negated (p x)) where
-    abbrev strings_or : List (List ℕ) → Step
-    strings_or strings =
-        any_string d (of_characters text) (stands_for setting.table icase setting.flags.unicode) strings
-        or_ one_character d (of_characters text) q
-
-    both_simulate : (strings : List (List ℕ)) (members : List Bounds) → intervals_of p ≡ members →
-        TreeSimulates setting text d (strings_or strings) (alt (leaf (string_set strings icase)) (leaf (bracket negated members)))
-    both_simulate strings members same =
-        Simulates-or text d _ _ _ _ (strings_simulate d icase strings)
-        (subst (λ ivs. TreeSimulates setting text d (one_character d (of_characters text) q) (leaf (bracket negated ivs))) same
-        (bracket_simulates d negated p q e))
+  strings_part_simulates : (d : Direction) (icase : Bool) (strings : List (List ℕ)) →
+      PartsSimulate d (any_string d (of_characters text) (stands_for setting.table icase setting.flags.unicode) strings)
+      (strings_part icase strings)
+  unfolding any_string
+  strings_part_simulates d icase [] = Simulates-fail text d
+  strings_part_simulates d icase (s ∷ ss) =
+      one_simulates d _ (leaf (string_set (s ∷ ss) icase)) (strings_simulate d icase (s ∷ ss))
 
   -- a bracket that holds nothing takes nothing
   taken-none : (s : State) (found : Option Read) → moved (is_accepted false []) s found ≡ []
@@ -190,20 +216,38 @@ module _ (setting : Setting) (text : List ℕ) (is_text : IsText text) where
   unfolding one_character
   bracket-none d s = taken-none s (next_character d (of_bytes (encode_utf8_all text)) s.place)
 
-  class_set_simulates : (d : Direction) (icase negated : Bool) (p q : ℕ → Bool) (e : (x : ℕ) → q x ≡ differ negated (p x))
-      (strings : List (List ℕ)) (members : List Bounds) → intervals_of p ≡ members →
-      TreeSimulates setting text d (strings_or d icase negated p q e strings) (tree_of_class_set icase negated strings members)
-  unfolding any_string
-  class_set_simulates d icase negated p q e [] members same =
-      subst (λ ivs. TreeSimulates setting text d (one_character d (of_characters text) q) (leaf (bracket negated ivs))) same
-      (bracket_simulates d negated p q e)
-  class_set_simulates d icase true p q e (s ∷ ss) members same = both_simulate d icase true p q e (s ∷ ss) members same
-  class_set_simulates d icase false p q e (s ∷ ss) [] same =
-      Simulates-same_right text d _ _ _
-      (λ state. sym (ap (λ others. steps setting (encode_utf8_all text) d (leaf (string_set (s ∷ ss) icase)) state ++ others) (bracket-none d state)
-      ∙ append-nil _))
-      (both_simulate d icase false p q e (s ∷ ss) [] same)
-  class_set_simulates d icase false p q e (s ∷ ss) (iv ∷ ivs) same = both_simulate d icase false p q e (s ∷ ss) (iv ∷ ivs) same
+  empty_part_simulates : (d : Direction) (has_empty : Bool) → PartsSimulate d (cond has_empty stay fail) (empty_part has_empty)
+  empty_part_simulates d true = one_simulates d stay (leaf empty) (Simulates-stay text d)
+  empty_part_simulates d false = Simulates-fail text d
+
+  -- what a test passes, which a bracket accepts
+  module _ (d : Direction) (p q : ℕ → Bool) where
+    abbrev BracketSimulates : Bool → List Bounds → Type 0
+    BracketSimulates negated closed = TreeSimulates setting text d (one_character d (of_characters text) q) (leaf (bracket negated closed))
+
+    bracket_part_simulates : (alone negated : Bool) (closed : List Bounds) → BracketSimulates negated closed →
+        PartsSimulate d (one_character d (of_characters text) q) (bracket_part alone negated closed)
+    bracket_part_simulates true negated closed sim = one_simulates d _ (leaf (bracket negated closed)) sim
+    bracket_part_simulates false true closed sim = one_simulates d _ (leaf (bracket true closed)) sim
+    bracket_part_simulates false false [] sim = Simulates-same_right text d _ _ _ (λ s. sym (bracket-none d s)) sim
+    bracket_part_simulates false false (iv ∷ ivs) sim =
+        let some : (length (iv ∷ ivs) == 0) ≡ false = grind (arith, nat_tests) in
+        rw some (one_simulates d _ (leaf (bracket false (iv ∷ ivs))) sim)
+
+    class_set_simulates : (icase negated : Bool) (value : Value) → ((x : ℕ) → q x ≡ differ negated (p x)) →
+        TreeSimulates setting text d
+        (any_string d (of_characters text) (stands_for setting.table icase setting.flags.unicode) (longest_first value.strings)
+        or_ one_character d (of_characters text) q or_ cond value.has_empty stay fail)
+        (alternation (class_parts icase negated value (intervals_of p)))
+    class_set_simulates icase negated value e =
+        let strings = strings_part icase (longest_first value.strings) in
+        let bracket' = bracket_part (not (has_strings value)) negated (intervals_of p) in
+        let empty' = empty_part value.has_empty in
+        alternation_simulates d _ (strings ++ bracket' ++ empty')
+        (all_simulate d _ _ (strings ++ bracket') empty'
+        (all_simulate d _ _ strings bracket' (strings_part_simulates d icase (longest_first value.strings))
+        (bracket_part_simulates (not (has_strings value)) negated (intervals_of p) (bracket_simulates d negated p q e)))
+        (empty_part_simulates d value.has_empty))
 
 module _ (setting : Setting) (names : List (Option Name)) (text : List ℕ) (is_text : IsText text) where
   atom_simulates : (d : Direction) (a : Atom) →
@@ -218,10 +262,11 @@ module _ (setting : Setting) (names : List (Option Name)) (text : List ℕ) (is_
   atom_simulates d (class flags inverted members) =
       bracket_simulates setting text is_text d inverted (is_in_class setting.table flags false members) _ (λ x. refl)
   atom_simulates d (class_set flags negated value) =
-      class_set_simulates setting text is_text d flags.icase negated (is_in_class setting.table flags false value.members) _ (λ x. refl)
-      (longest_first value.strings) _ refl
+      class_set_simulates setting text is_text d (is_in_class setting.table flags false value.members) _ flags.icase negated value (λ x. refl)
   atom_simulates d (string_property flags written) = strings_simulate setting text is_text d flags.icase written
-  atom_simulates d (back_reference flags to) = references_simulate setting text is_text d flags.icase (referred names to)
+  atom_simulates d (back_reference flags to) =
+      alternation_simulates setting text is_text d _ (references flags.icase (referred names to))
+      (references_simulate setting text is_text d flags.icase (referred names to))
 
   mutual
     -- equal with repeats, whatever stands before

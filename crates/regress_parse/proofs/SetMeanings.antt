@@ -2,7 +2,7 @@
 use Rattle.std.proofs.Common.{true, [], ◌∷◌, refl, codes}
 use Rattle.regress_tree.specs.Setting.{Setting}
 use Rattle.regress_parse.proofs.CharacterSets.{own_set, few_letters, k_set, closed_nothing, words_but_digits, words_but_digits_set, consonants, consonants_set}
-use Rattle.regress_parse.proofs.Meanings.{run, no_flags, plain, unicode, Gives, from, at}
+use Rattle.regress_parse.proofs.Meanings.{run, no_flags, plain, unicode, Gives, from, at, span}
 
 -- settings with the flag v
 abbrev with_v : Setting
@@ -59,6 +59,25 @@ each_turn_may_take_another_string : Gives with_v (codes "[\\q{ab|ba}]{2}") (code
     (from 0 (at 4 [] ∷ []) ∷ from 2 [] ∷ from 4 [] ∷ [])
 unfolding Gives
 each_turn_may_take_another_string = (refl, rw (own_set [] refl) refl)
+
+the_empty_string_matches_everywhere : Gives with_v (codes "[\\q{}]") (codes "a") (from 0 (at 0 [] ∷ []) ∷ from 1 (at 1 [] ∷ []) ∷ [])
+unfolding Gives
+the_empty_string_matches_everywhere = (refl, rw (own_set [] refl) refl)
+
+the_empty_string_comes_behind_strings_and_characters : Gives with_v (codes "[a\\q{|ab}]") (codes "ab")
+    (from 0 (at 2 [] ∷ at 1 [] ∷ at 0 [] ∷ []) ∷ from 1 (at 1 [] ∷ []) ∷ from 2 (at 2 [] ∷ []) ∷ [])
+unfolding Gives
+the_empty_string_comes_behind_strings_and_characters = (refl, rw (own_set (run 97 97 ∷ []) refl) refl)
+
+backwards_the_empty_string_comes_last_too : Gives with_v (codes "(?<=([\\q{|b}]))") (codes "b")
+    (from 0 (at 0 (span 0 0 ∷ []) ∷ []) ∷ from 1 (at 1 (span 0 1 ∷ []) ∷ []) ∷ [])
+unfolding Gives
+backwards_the_empty_string_comes_last_too = (refl, rw (own_set (run 98 98 ∷ []) refl) refl)
+
+a_turn_of_the_empty_string_ends_a_loop : Gives with_v (codes "[\\q{a|}]*") (codes "aa")
+    (from 0 (at 2 [] ∷ at 1 [] ∷ at 0 [] ∷ []) ∷ from 1 (at 2 [] ∷ at 1 [] ∷ []) ∷ from 2 (at 2 [] ∷ []) ∷ [])
+unfolding Gives
+a_turn_of_the_empty_string_ends_a_loop = (refl, rw (own_set (run 97 97 ∷ []) refl) refl)
 
 -- ---- operators and complements
 

@@ -1,22 +1,23 @@
 -- The tree of a derived pattern is well formed.
-use Rattle.std.proofs.Common.{◌≡◌, ◌≢◌, ℕ, ◌+◌, ◌≤◌, Bool, true, false, cond, nat_le, List, [], ◌∷◌, length, All, IsTrue, Option, Some, None, option_map, encode_utf8_all, refl, subst, arith}
+use Rattle.std.proofs.Common.{◌≡◌, ◌≢◌, ℕ, ◌+◌, ◌≤◌, Bool, true, false, cond, nat_le, List, [], ◌∷◌, length, All, IsTrue, Option, Some, None, option_map, encode_utf8_all, subst, arith}
 use Rattle.std.specs.Option.{IfSome}
 use Rattle.std.proofs.lemmas.Bool.{leb-true}
-use Rattle.std.proofs.lemmas.List.Elements.{All-nil, All-cons, All-head, All-tail}
+use Rattle.std.proofs.lemmas.List.Elements.{All-nil, All-cons, All-head, All-weaker}
 use Rattle.std.proofs.lemmas.Str.{encodes_same}
-use Rattle.regress_base.specs.Intervals.{Bounds, intervals_of}
+use Rattle.regress_base.specs.Intervals.{intervals_of}
 use Rattle.regress_base.specs.Limits.{max_char_set_length}
 use Rattle.regress_base.proofs.laws.Sets.{intervals_of-canonical}
 use Rattle.regress_tree.specs.declared.ir.node.Quantifier.{Quantifier}
 use Rattle.regress_tree.specs.Literal.{class_of}
 use Rattle.regress_tree.specs.Reading.{Direction, forwards, backwards}
 use Rattle.regress_unicode.specs.Table.{Table, IsLawful}
-use Rattle.regress_tree.specs.Tree.{Tree, Trees, no_trees, more_trees, char, match_any, match_any_except_line_terminator, bracket, string_set}
+use Rattle.regress_tree.specs.Tree.{Tree, Trees, no_trees, more_trees, char, match_any, match_any_except_line_terminator, bracket, back_ref, string_set}
 use Rattle.regress_tree.specs.Setting.{Setting}
 use Rattle.regress_tree.specs.WellFormed.{inside, LeafMayStand, IsQuantifier, HasGroups, MayStand, RowMayStand, IsWellFormed, captures}
 use Rattle.regress_tree.proofs.laws.Literals.{class_of-bounded, class_of-few}
 use Rattle.regress_tree.proofs.laws.Turned.{RowMayStand-row_reverse}
 use Rattle.regress_classes.specs.ClassRows.{members_of}
+use Rattle.regress_classes.specs.ClassSets.{Value}
 use Rattle.regress_lexical.specs.Source.{Source, IsCodePoint}
 use Rattle.regress_syntax.specs.Syntax.{Name, is_named, Target, by_number, by_name, Atom, literal, dot, anchor, boundary, class_escape, class, class_set, string_property, back_reference, Group, grouping, modified, capture, look, Pattern, Terms, Item, one, either, no_terms, more_terms, atom, group, opened_by, counts, counts_of_terms, counts_of_term, counts_of_item, names}
 use Rattle.regress_syntax.specs.Meaning.{is_in_class, longest_first, direction_of_group, groups_named, referred}
@@ -25,9 +26,10 @@ use Rattle.regress_syntax.specs.Grammar.{IsPattern, AreTerms, IsItem}
 use Rattle.regress_classes.proofs.laws.ClassStrings.{OfCodePoints}
 use Rattle.regress_syntax.proofs.laws.NameEnds.{IsName}
 use Rattle.regress_syntax.proofs.laws.Rows.{head_at-ends, times_at-ends, times_at-ordered}
-use Rattle.regress_parse.specs.TreeOf.{turned, joined, tree_of_group, tree_of_times, leaf_of_members, tree_of_references, tree_of_class_set, tree_of_atom, tree_of_pattern, trees_of_terms, tree_of_item, tree_of}
+use Rattle.regress_parse.specs.TreeOf.{turned, joined, tree_of_group, tree_of_times, leaf_of_members, references, class_parts, alternation, tree_of_atom, tree_of_pattern, trees_of_terms, tree_of_item, tree_of}
 use Rattle.regress_parse.specs.Accepted.{IsDerived, own_context}
 use Rattle.regress_parse.proofs.CodePointLemmas.{AreCodePoints, rest_of, behind_found, IsGoodTarget, IsGoodAtom, IsGoodGroup, head_at-good}
+use Rattle.regress_parse.proofs.PartLemmas.{alternation-has, references-have, class_parts-have}
 use Rattle.regress_parse.proofs.StringLemmas.{All-longest_first}
 use Rattle.regress_parse.proofs.GroupLemmas.{length-names, HasGroups-tree_of_item, HasGroups-tree_of_pattern, length-captures-tree_of, count_id-tree_of}
 
@@ -61,13 +63,15 @@ module _ (m : ℕ) where
   referred_are_groups all (by_number k) few h = All-cons IsGroup k [] h (All-nil IsGroup)
   referred_are_groups all (by_name name) few h = named_are_groups name 1 all (omega arith) (omega arith)
 
-  references_may_stand : (icase : Bool) (ks : List ℕ) → All IsGroup ks → MayStand m (tree_of_references icase ks) inside
-  references_may_stand icase [] h = record { bounded = All-nil _; small = omega arith; some = tt }
-  references_may_stand icase (k ∷ []) h =
-      let first = All-head IsGroup k [] h in record { free = tt; low = first.0; high = first.1 }
-  references_may_stand icase (k ∷ next ∷ ks) h =
-      let first = All-head IsGroup k (next ∷ ks) h in
-      (tt, record { free = tt; low = first.0; high = first.1 }, references_may_stand icase (next ∷ ks) (All-tail IsGroup k (next ∷ ks) h))
+  alternation_may_stand : (ts : List Tree) → All (λ t. MayStand m t inside) ts → MayStand m (alternation ts) inside
+  alternation_may_stand =
+      alternation-has (λ t. MayStand m t inside) (record { bounded = All-nil _; small = omega arith; some = tt }) (λ t u h k. (tt, h, k))
+
+  references_may_stand : (icase : Bool) (ks : List ℕ) → All IsGroup ks → MayStand m (alternation (references icase ks)) inside
+  references_may_stand icase ks h =
+      alternation_may_stand (references icase ks)
+      (references-have (λ t. MayStand m t inside) icase ks
+      (All-weaker IsGroup (λ k. LeafMayStand m (back_ref k icase) inside) (λ k is. record { free = tt; low = is.0; high = is.1 }) ks h))
 
   dot_may_stand : (dot_all : Bool) → LeafMayStand m (cond dot_all match_any match_any_except_line_terminator) inside
   dot_may_stand true = tt
@@ -87,21 +91,13 @@ module _ (m : ℕ) where
   strings_may_stand : (icase : Bool) (strings : List (List ℕ)) → OfCodePoints strings → LeafMayStand m (string_set strings icase) inside
   strings_may_stand icase strings bounded = record { free = tt; bounded = bounded }
 
-  class_set_may_stand : (icase negated : Bool) (p : ℕ → Bool) (strings : List (List ℕ)) (members : List Bounds) → intervals_of p ≡ members →
-      OfCodePoints strings → MayStand m (tree_of_class_set icase negated strings members) inside
-  class_set_may_stand icase negated p [] members same bounded =
-      subst (λ ivs. LeafMayStand m (bracket negated ivs) inside) same (bracket_may_stand negated p)
-  class_set_may_stand icase true p (s ∷ ss) members same bounded = (
-    tt,
-    strings_may_stand icase (s ∷ ss) bounded,
-    subst (λ ivs. LeafMayStand m (bracket true ivs) inside) same (bracket_may_stand true p),
-  )
-  class_set_may_stand icase false p (s ∷ ss) [] same bounded = strings_may_stand icase (s ∷ ss) bounded
-  class_set_may_stand icase false p (s ∷ ss) (iv ∷ ivs) same bounded = (
-    tt,
-    strings_may_stand icase (s ∷ ss) bounded,
-    subst (λ ivs. LeafMayStand m (bracket false ivs) inside) same (bracket_may_stand false p),
-  )
+  class_set_may_stand : (icase negated : Bool) (p : ℕ → Bool) (value : Value) → OfCodePoints value.strings →
+      MayStand m (alternation (class_parts icase negated value (intervals_of p))) inside
+  class_set_may_stand icase negated p value bounded =
+      alternation_may_stand (class_parts icase negated value (intervals_of p))
+      (class_parts-have (λ t. MayStand m t inside) icase negated value (intervals_of p)
+      (strings_may_stand icase (longest_first value.strings) (All-longest_first (All IsCodePoint) value.strings bounded))
+      (bracket_may_stand negated p) tt)
 
 module _ (m : ℕ) (table : Table) (lawful : IsLawful table) where
   literal_may_stand : (icase unicode : Bool) (c : ℕ) → IsCodePoint c →
@@ -118,8 +114,7 @@ module _ (m : ℕ) (table : Table) (lawful : IsLawful table) where
   atom_may_stand all (class_escape flags kind negated) few h = bracket_may_stand m false (is_in_class table flags negated (members_of kind))
   atom_may_stand all (class flags inverted members) few h = bracket_may_stand m inverted (is_in_class table flags false members)
   atom_may_stand all (class_set flags negated value) few h =
-      class_set_may_stand m flags.icase negated (is_in_class table flags false value.members) (longest_first value.strings) _ refl
-      (All-longest_first (All IsCodePoint) value.strings h)
+      class_set_may_stand m flags.icase negated (is_in_class table flags false value.members) value h
   atom_may_stand all (string_property flags written) few h = strings_may_stand m flags.icase written h
   atom_may_stand all (back_reference flags to) few h =
       references_may_stand m flags.icase (referred all to) (referred_are_groups m all to few h)

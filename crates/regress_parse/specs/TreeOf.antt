@@ -1,5 +1,5 @@
 -- The tree of a syntax tree.
-use Rattle.std.specs.Prelude.{ℕ, ◌+◌, Bool, true, false, ◌&&◌, List, [], ◌∷◌, Option, Some, None, option_map, if◌then◌else◌, encode_utf8_all}
+use Rattle.std.specs.Prelude.{ℕ, ◌+◌, Bool, true, false, not, ◌&&◌, ◌||◌, ◌==◌, List, [], ◌∷◌, ◌++◌, length, map, Option, Some, None, option_map, if◌then◌else◌, encode_utf8_all}
 use Rattle.regress_base.specs.Intervals.{Bounds, intervals_of}
 use Rattle.regress_base.specs.declared.types.Flags.{Flags}
 use Rattle.regress_tree.specs.declared.ir.node.Quantifier.{Quantifier}
@@ -9,6 +9,7 @@ use Rattle.regress_unicode.specs.Table.{Table}
 use Rattle.regress_tree.specs.Tree.{Leaf, empty, goal, char, char_set, match_any, match_any_except_line_terminator, word_boundary, bracket, back_ref, string_set, Tree, Trees, leaf, cat, alt, wrapped, capture_group, loop, lookaround, no_trees, more_trees, row_reverse}
 use Rattle.regress_tree.specs.Tree as tree
 use Rattle.regress_classes.specs.ClassRows.{members_of}
+use Rattle.regress_classes.specs.ClassSets.{Value, has_strings}
 use Rattle.regress_syntax.specs.Syntax.{Name, Atom, literal, dot, anchor, boundary, class_escape, class, class_set, string_property, back_reference, Group, grouping, modified, capture, look, Pattern, Terms, Item, one, either, no_terms, more_terms, atom, group, opened_by, counts_of_item, counts_of_terms, counts_of_term, names}
 use Rattle.regress_syntax.specs.Meaning.{is_in_class, longest_first, direction_of_group, referred}
 
@@ -50,21 +51,37 @@ module _ (table : Table) where
   abbrev pub leaf_of_literal : Flags → ℕ → Leaf
   leaf_of_literal flags c = if flags.icase then leaf_of_members (class_of table true flags.unicode c) else char c
 
--- references to these groups, as alternatives are
-abbrev pub tree_of_references : (icase : Bool) → List ℕ → Tree
-tree_of_references icase [] = leaf (char_set [])
-tree_of_references icase (k ∷ []) = leaf (back_ref k icase)
-tree_of_references icase (k ∷ next ∷ ks) = alt (leaf (back_ref k icase)) (tree_of_references icase (next ∷ ks))
+-- Parts of which one is to match: a, b and c stand as `Alt(a, Alt(b, c))`, one part alone as it is. Without a part
+-- nothing matches.
+abbrev pub alternation : List Tree → Tree
+alternation [] = leaf (char_set [])
+alternation (t ∷ []) = t
+alternation (t ∷ next ∷ ts) = alt t (alternation (next ∷ ts))
 
--- Strings and a bracket: both as alternatives, or one of them where the other has nothing. No strings stand in a negated
--- class.
-abbrev pub tree_of_class_set : (icase negated : Bool) → List (List ℕ) → List Bounds → Tree
-tree_of_class_set icase negated [] members = leaf (bracket negated members)
-tree_of_class_set icase true (s ∷ ss) members = alt (leaf (string_set (s ∷ ss) icase)) (leaf (bracket true members))
-tree_of_class_set icase false (s ∷ ss) [] = leaf (string_set (s ∷ ss) icase)
-tree_of_class_set icase false (s ∷ ss) (iv ∷ ivs) = alt (leaf (string_set (s ∷ ss) icase)) (leaf (bracket false (iv ∷ ivs)))
+abbrev pub references : (icase : Bool) → List ℕ → List Tree
+references icase = map (λ k. leaf (back_ref k icase))
 
--- the names are those of all groups of the whole pattern
+-- the strings of a class, if it has any
+abbrev pub strings_part : (icase : Bool) → List (List ℕ) → List Tree
+strings_part icase [] = []
+strings_part icase (s ∷ ss) = leaf (string_set (s ∷ ss) icase) ∷ []
+
+-- the bracket of a class, if a character may pass it or it stands alone
+abbrev pub bracket_part : (alone negated : Bool) → List Bounds → List Tree
+bracket_part alone negated members =
+    if alone || negated || not (length members == 0) then leaf (bracket negated members) ∷ [] else []
+
+-- the empty string of a class, if it is there
+abbrev pub empty_part : Bool → List Tree
+empty_part has_empty = if has_empty then leaf empty ∷ [] else []
+
+-- The parts of a class with the flag v, in the order in which they are tried. Once closed its code points are these.
+abbrev pub class_parts : (icase negated : Bool) → Value → (closed : List Bounds) → List Tree
+class_parts icase negated value closed =
+    strings_part icase (longest_first value.strings)
+    ++ bracket_part (not (has_strings value)) negated closed
+    ++ empty_part value.has_empty
+
 module _ (table : Table) (names : List (Option Name)) where
   abbrev pub tree_of_atom : Atom → Tree
   tree_of_atom (literal flags c) = leaf (leaf_of_literal table flags c)
@@ -76,10 +93,9 @@ module _ (table : Table) (names : List (Option Name)) where
       leaf (bracket false (intervals_of (is_in_class table flags negated (members_of kind))))
   tree_of_atom (class flags inverted members) = leaf (bracket inverted (intervals_of (is_in_class table flags false members)))
   tree_of_atom (class_set flags negated value) =
-      tree_of_class_set flags.icase negated (longest_first value.strings)
-      (intervals_of (is_in_class table flags false value.members))
+      alternation (class_parts flags.icase negated value (intervals_of (is_in_class table flags false value.members)))
   tree_of_atom (string_property flags written) = leaf (string_set written flags.icase)
-  tree_of_atom (back_reference flags to) = tree_of_references flags.icase (referred names to)
+  tree_of_atom (back_reference flags to) = alternation (references flags.icase (referred names to))
 
   -- the tree, in a direction, of what stands behind n opened groups
   abbrev mutual

@@ -1,5 +1,5 @@
 //! Trees from parts.
-ghost use Rattle.std.specs.Prelude.{◌≡◌, ◌≢◌, ℕ, Bool, false, List, [], Some, IfOk, OnOk, map, option_map, string_bytes, encode_utf8_all};
+ghost use Rattle.std.specs.Prelude.{◌≡◌, ℕ, Bool, false, List, ◌++◌, Some, IfOk, OnOk, map, option_map, string_bytes, encode_utf8_all};
 ghost use Rattle.regress_tree.specs.Assertions.{differ};
 ghost use Rattle.regress_base.specs.Intervals.{Bounds, intervals_of};
 ghost use Rattle.regress_tree.specs.Tree.{tree, trees, leaf, bracket, string_set};
@@ -11,7 +11,7 @@ ghost use Rattle.regress_classes.specs.ClassRows.{members_of};
 ghost use Rattle.regress_syntax.specs.Syntax.{Atom as Written};
 ghost use Rattle.regress_syntax.specs.Views.{IsAtom, IsSomeAtom, context_of, names_in, direction_if, group_of};
 ghost use Rattle.regress_classes.specs.ClassViews.{IsValue, HasMembers, strings_of};
-ghost use Rattle.regress_parse.specs.TreeOf.{turned, joined, leaf_of_members, leaf_of_literal, tree_of_references, tree_of_class_set, tree_of_atom, tree_of_group, tree_of_times};
+ghost use Rattle.regress_parse.specs.TreeOf.{turned, joined, leaf_of_members, leaf_of_literal, references, strings_part, bracket_part, empty_part, class_parts, alternation, tree_of_atom, tree_of_group, tree_of_times};
 ghost use Rattle.regress_parse.specs.Parsing.{alternatives};
 
 use regress_base::charclasses::CharacterClassType;
@@ -54,19 +54,24 @@ pub(crate) fn make_atom(alloc: Global, atom: Atom, scope: &Scope) -> Result<Node
 }
 
 /// The node of references to these groups, which are tried one after the other.
-fn make_references(alloc: Global, mut numbers: Vec<u32>, icase: bool) -> Result<Node, AllocError>
-    requires { numbers.items ≢ [] }
-    ensures { IfOk result (λ node. tree node ≡ tree_of_references icase numbers.items) }
+fn make_references(alloc: Global, numbers: Vec<u32>, icase: bool) -> Result<Node, AllocError>
+    ensures { IfOk result (λ node. tree node ≡ alternation (references icase numbers.items)) }
 {
-    let Some(last) = numbers.pop() else {
-        return Ok(Node::Empty);
-    };
-    let mut node = Node::BackRef { group: last, icase };
-    while let Some(group) = numbers.pop() {
-        let reference = Node::BackRef { group, icase };
-        node = Node::Alt(Box::new(alloc, reference)?, Box::new(alloc, node)?);
+    let mut references = Vec::with_capacity(alloc, numbers.len())?;
+    for group in numbers {
+        references.push(Node::BackRef { group, icase })?;
     }
-    Ok(node)
+    make_alternation(alloc, references)
+}
+
+/// The node of parts that are tried one after the other. Without any part nothing matches.
+fn make_alternation(alloc: Global, mut parts: NodeList) -> Result<Node, AllocError>
+    ensures { IfOk result (λ node. tree node ≡ alternation (map tree parts.items)) }
+{
+    match parts.pop() {
+        Some(last) => make_alt(alloc, parts, last),
+        None => Ok(Node::CharSet(Vec::new(alloc))),
+    }
 }
 
 /// The node of a literal: with the flag i all that it stands for.
@@ -108,7 +113,8 @@ fn make_class_escape(
     }))
 }
 
-/// The node of a class with the flag v, whose strings are tried longest first.
+/// The node of a class with the flag v: first its strings of two or more, longest first, then its code points, and last
+/// the empty string.
 fn make_class_set(
     alloc: Global,
     negated: bool,
@@ -116,16 +122,22 @@ fn make_class_set(
     scope: &Scope,
 ) -> Result<Node, AllocError>
     ensures { (written : WrittenValue) → IsValue value written → IfOk result (λ node. tree node ≡
-        tree_of_class_set scope.now.flags.icase negated (longest_first written.strings)
-        (intervals_of (is_in_class (table_of scope.now.tables.now) scope.now.flags false written.members))) }
+        alternation (class_parts scope.now.flags.icase negated written
+        (intervals_of (is_in_class (table_of scope.now.tables.now) scope.now.flags false written.members)))) }
 {
+    let alone = !value.has_strings();
+    let has_empty = value.has_empty;
     let mut strings = value.strings;
     sort_longest_first(&mut strings)?;
     let contents = BracketContents {
         invert: negated,
         cps: close(value.set, scope)?,
     };
-    make_strings_or_bracket(alloc, strings, contents, scope.flags.icase)
+    let mut parts = Vec::new(alloc);
+    push_strings(&mut parts, strings, scope.flags.icase)?;
+    push_bracket(&mut parts, contents, alone)?;
+    push_empty(&mut parts, has_empty)?;
+    make_alternation(alloc, parts)
 }
 
 /// Sorts the strings by falling length. Those of one length keep their order.
@@ -135,24 +147,39 @@ fn sort_longest_first(strings: &mut Vec<Vec<u32>>) -> Result<(), AllocError>
     strings.sort_by_key(|string| Reverse(string.len()))
 }
 
-/// The node of these strings and a bracket: both as alternatives, or one of them where the other has nothing.
-fn make_strings_or_bracket(
-    alloc: Global,
-    strings: Vec<Vec<u32>>,
-    contents: BracketContents,
-    icase: bool,
-) -> Result<Node, AllocError>
-    ensures { IfOk result (λ node. tree node ≡ tree_of_class_set icase contents.invert (strings_of strings.items) contents.cps) }
+/// Adds the strings of a class, if it has any.
+fn push_strings(parts: &mut NodeList, strings: Vec<Vec<u32>>, icase: bool) -> Result<(), AllocError>
+    ensures { OnOk result (map tree parts.new.items ≡ map tree parts.old.items ++ strings_part icase (strings_of strings.items)) }
 {
-    if strings.is_empty() {
-        return Ok(Node::Bracket(contents));
+    if !strings.is_empty() {
+        let alloc = *parts.allocator();
+        parts.push(make_strings(alloc, strings, icase)?)?;
     }
-    let strings = make_strings(alloc, strings, icase)?;
-    if contents.cps.is_empty() && !contents.invert {
-        return Ok(strings);
+    Ok(())
+}
+
+/// Adds the bracket of a class, if a character may pass it or it stands alone.
+fn push_bracket(
+    parts: &mut NodeList,
+    contents: BracketContents,
+    alone: bool,
+) -> Result<(), AllocError>
+    ensures { OnOk result (map tree parts.new.items ≡ map tree parts.old.items ++ bracket_part alone contents.invert contents.cps) }
+{
+    if alone || contents.invert || !contents.cps.is_empty() {
+        parts.push(Node::Bracket(contents))?;
     }
-    let bracket = Node::Bracket(contents);
-    Ok(Node::Alt(Box::new(alloc, strings)?, Box::new(alloc, bracket)?))
+    Ok(())
+}
+
+/// Adds the empty string of a class, if it is there.
+fn push_empty(parts: &mut NodeList, has_empty: bool) -> Result<(), AllocError>
+    ensures { OnOk result (map tree parts.new.items ≡ map tree parts.old.items ++ empty_part has_empty) }
+{
+    if has_empty {
+        parts.push(Node::Empty)?;
+    }
+    Ok(())
 }
 
 /// The node of these strings, tried in their order.

@@ -8,7 +8,7 @@ use Rattle.regress_base.proofs.laws.Sets.{canonical_is, intervals_of-member}
 use Rattle.regress_unicode.specs.SmallTable.{small_table}
 use Rattle.regress_unicode.specs.Table.{named}
 use Rattle.regress_classes.specs.ClassRows.{complement}
-use Rattle.regress_classes.specs.ClassSets.{Value, class_set_at, class_set_by, parts_by, operands_by, operand_at, set_character_at, strings_by}
+use Rattle.regress_classes.specs.ClassSets.{Value, nothing, class_set_at, class_set_by, parts_by, operands_by, operand_at, set_character_at, strings_by}
 use Rattle.regress_lexical.specs.Digits.{front, behind}
 use Rattle.regress_lexical.specs.Escapes.{escape_at, unicode_at}
 use Rattle.regress_syntax.specs.Meaning.{longest_first}
@@ -32,10 +32,15 @@ read t = class_set_at small_table false t
 -- The whole source is a class, negated or not, of these code points and strings, with so many levels inside.
 abbrev Reads : (negated : Bool) → Source → List Bounds → List (List ℕ) → ℕ → Type 0
 Reads negated t members strings levels =
-    read t ≡ Some ((negated, record { members = members; strings = strings; levels = levels }), [])
+    read t ≡ Some ((negated, record nothing { members = members; strings = strings; levels = levels }), [])
 
 abbrev Holds : Source → List Bounds → List (List ℕ) → Type 0
 Holds t members strings = Reads false t members strings 0
+
+-- the same, with the empty string
+abbrev HoldsEmpty : Source → List Bounds → List (List ℕ) → Type 0
+HoldsEmpty t members strings =
+    read t ≡ Some ((false, record nothing { members = members; strings = strings; has_empty = true }), [])
 
 abbrev Nests : Source → List Bounds → (levels : ℕ) → Type 0
 Nests t members levels = Reads false t members [] levels
@@ -75,9 +80,22 @@ a_string_of_one_is_a_character : Holds (codes "\\q{ab|c|abc}]") (one 99 ∷ []) 
 unfolding read
 a_string_of_one_is_a_character = refl
 
-an_empty_string_is_dropped : Holds (codes "\\q{}]") [] []
+an_empty_string_is_kept : HoldsEmpty (codes "\\q{}]") [] []
 unfolding read
-an_empty_string_is_dropped = refl
+an_empty_string_is_kept = refl
+
+an_empty_string_beside_a_character : HoldsEmpty (codes "a\\q{}]") (one 97 ∷ []) []
+unfolding read
+an_empty_string_beside_a_character = refl
+
+an_empty_string_between_others : HoldsEmpty (codes "\\q{ab||c}]") (one 99 ∷ []) (codes "ab" ∷ [])
+unfolding read
+an_empty_string_between_others = refl
+
+an_empty_string_in_a_class_inside : read (codes "a[\\q{|bc}]]")
+    ≡ Some ((false, record { members = one 97 ∷ []; strings = codes "bc" ∷ []; has_empty = true; levels = 1 }), [])
+unfolding read
+an_empty_string_in_a_class_inside = refl
 
 in_a_string_an_escaped_d_is_the_letter : Holds (codes "\\q{\\d}]") (one 0x64 ∷ []) []
 unfolding read
@@ -148,6 +166,34 @@ an_intersection_with_a_complement : Nests (codes "[a-z]&&[^aeiou]]") consonants 
 unfolding read
 an_intersection_with_a_complement = rw letters_but_vowels refl
 
+nothing_common : intervals_of (λ c. is_member (one 97 ∷ []) c && is_member (one 98 ∷ []) c) ≡ []
+unfolding is_member is_within
+nothing_common = listed [] (λ c. is_member (one 97 ∷ []) c && is_member (one 98 ∷ []) c) refl (λ c h. grind (arith, nat_tests))
+
+an_intersection_keeps_the_empty_string_of_both : HoldsEmpty (codes "\\q{|a}&&\\q{b|}]") [] []
+unfolding read
+an_intersection_keeps_the_empty_string_of_both = rw nothing_common refl
+
+no_points : intervals_of (λ c. is_member [] c && is_member [] c) ≡ []
+unfolding is_member
+no_points = listed [] (λ c. is_member [] c && is_member [] c) refl (λ c h. refl)
+
+an_intersection_lacks_the_empty_string_of_one : Holds (codes "\\q{|ab}&&\\q{ab|cd}]") [] (codes "ab" ∷ [])
+unfolding read
+an_intersection_lacks_the_empty_string_of_one = rw no_points refl
+
+only_a : intervals_of (λ c. is_member (one 97 ∷ []) c && not (is_member [] c)) ≡ one 97 ∷ []
+unfolding is_member is_within
+only_a = listed _ (λ c. is_member (one 97 ∷ []) c && not (is_member [] c)) refl (λ c h. grind (arith, nat_tests))
+
+a_difference_lacks_the_empty_string_of_the_second : Holds (codes "\\q{a|}--\\q{}]") (one 97 ∷ []) []
+unfolding read
+a_difference_lacks_the_empty_string_of_the_second = rw only_a refl
+
+a_difference_keeps_the_empty_string_of_the_first : HoldsEmpty (codes "\\q{a|}--\\q{bc}]") (one 97 ∷ []) []
+unfolding read
+a_difference_keeps_the_empty_string_of_the_first = rw only_a refl
+
 -- ---- where nothing is read
 
 a_hyphen_behind_an_ampersand : ReadsNothing (codes "a&-c]")
@@ -213,6 +259,14 @@ a_negated_class_of_strings = refl
 a_negated_class_of_strings_inside : ReadsNothing (codes "[^\\q{ab}]]")
 unfolding read
 a_negated_class_of_strings_inside = refl
+
+a_negated_class_of_the_empty_string : ReadsNothing (codes "^\\q{}]")
+unfolding read
+a_negated_class_of_the_empty_string = refl
+
+a_negated_class_of_the_empty_string_inside : ReadsNothing (codes "[^\\q{a|}]]")
+unfolding read
+a_negated_class_of_the_empty_string_inside = refl
 
 a_property_of_strings_in_a_negated_class : ReadsNothing (codes "^\\p{Emoji_Keycap_Sequence}]")
 unfolding read

@@ -1,5 +1,5 @@
 -- What a scan gives of classes with the flag v.
-use Rattle.std.proofs.Common.{◌≡◌, ℕ, zero, suc, ◌+◌, ◌-◌, max, Bool, true, false, not, cond, ◌&&◌, ◌||◌, ◌==◌, List, [], ◌∷◌, ◌++◌, length, drop, Option, Some, None, refl, sym, ap, ◌∙◌, subst, ap₂, arith, eqb-true, add-one}
+use Rattle.std.proofs.Common.{◌≡◌, ℕ, zero, suc, ◌+◌, ◌-◌, max, Bool, true, false, cond, ◌&&◌, ◌||◌, ◌==◌, List, [], ◌∷◌, ◌++◌, length, drop, Option, Some, None, refl, sym, ap, ◌∙◌, subst, ap₂, arith, eqb-true, add-one}
 use Rattle.std.proofs.lemmas.Bool.{false≢true}
 use Rattle.std.proofs.lemmas.Bool.Decides.{nat_tests}
 use Rattle.regress_base.specs.Intervals.{Bounds}
@@ -9,7 +9,7 @@ use Rattle.regress_unicode.specs.Table.{Table}
 use Rattle.regress_lexical.specs.Source.{Source, Found, ◌>>=◌, found_map, is_at, first_row}
 use Rattle.regress_classes.specs.Properties.{Property, of_points, of_strings, property_at}
 use Rattle.regress_classes.specs.ClassRows.{class_letter, class_members, one_point, points_between}
-use Rattle.regress_classes.specs.ClassSets.{Value, only, joined, common, without, value_of_string, value_of_strings, nested, unless_of_strings, Operand, character, value_of, is_set_syntax, is_double, begins_double, is_reserved, escaped_character_at, set_character_at, strings_by, quoted_at, property_operand, operand_rows, escaped_operand_at, operand_at, range_of, part_behind, parts_by, are_at, operands_by, contents_behind, contents_at, class_set_by, class_set_at}
+use Rattle.regress_classes.specs.ClassSets.{Value, has_strings, only, joined, common, without, value_of_string, value_of_strings, nested, unless_of_strings, Operand, character, value_of, is_set_syntax, is_double, begins_double, is_reserved, escaped_character_at, set_character_at, strings_by, quoted_at, property_operand, operand_rows, escaped_operand_at, operand_at, range_of, part_behind, parts_by, are_at, operands_by, contents_behind, contents_at, class_set_by, class_set_at}
 use Rattle.regress_classes.specs.ClassSets as ClassSets
 use Rattle.regress_syntax.specs.Marks.{Mark, nests}
 use Rattle.regress_syntax.specs.Scan.{plain, class, marks}
@@ -307,7 +307,7 @@ module _ (table : Table) where
     gives_unless_of_strings : (depth before : ℕ) (negated : Bool) (x : Value × Source) →
         Gives (behind_class table depth before x.0 x.1) (λ inside. behind_class table depth before inside.1) (unless_of_strings negated x)
     gives_unless_of_strings depth before negated (v, t) =
-        gives_cond (negated && not (length v.strings == 0)) _ _ (λ _. gives_none) (λ _. gives_some ((negated, v), t) refl)
+        gives_cond (negated && has_strings v) _ _ (λ _. gives_none) (λ _. gives_some ((negated, v), t) refl)
 
     gives_class_set_by : (n : ℕ) → GivesInner table (class_set_by table unicode n)
     unfolding class_set_by

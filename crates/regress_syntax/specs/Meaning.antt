@@ -101,10 +101,11 @@ module _ (setting : Setting) (names : List (Option Name)) (text : List ℕ) wher
       one_character d (of_characters text) (is_in_class setting.table flags negated (members_of kind))
   atom_steps d (class flags inverted members) =
       one_character d (of_characters text) (is_in_class setting.table flags inverted members)
-  -- first the strings, then one of the code points
+  -- first the strings of two or more, then one of the code points, and last the empty string
   atom_steps d (class_set flags negated value) =
       one_of_strings d flags (longest_first value.strings)
       or_ one_character d (of_characters text) (is_in_class setting.table flags negated value.members)
+      or_ (if value.has_empty then stay else fail)
   atom_steps d (string_property flags written) = one_of_strings d flags written
   -- no group switches the flag u, which is the setting's
   atom_steps d (back_reference flags to) =

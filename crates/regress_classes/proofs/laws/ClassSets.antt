@@ -1,12 +1,12 @@
 -- Classes with the flag v, read from the front of a source.
-use Rattle.std.proofs.Common.{ℕ, zero, suc, ◌+◌, Bool, true, false, not, ◌&&◌, ◌||◌, ◌==◌, cond, List, [], ◌∷◌, ◌++◌, length, drop, Option, Some, None}
+use Rattle.std.proofs.Common.{ℕ, zero, suc, ◌+◌, Bool, true, false, ◌&&◌, ◌||◌, ◌==◌, cond, List, [], ◌∷◌, ◌++◌, length, drop, Option, Some, None}
 use Rattle.regress_base.specs.Intervals.{Bounds}
 use Rattle.regress_base.specs.Limits.{max_nesting_depth}
 use Rattle.regress_unicode.specs.Table.{Table}
 use Rattle.regress_lexical.specs.Source.{Source, Found, is_at, first_row}
 use Rattle.regress_classes.specs.Properties.{Property, of_points, of_strings, property_at}
 use Rattle.regress_classes.specs.ClassRows.{class_letter, class_members, one_point}
-use Rattle.regress_classes.specs.ClassSets.{Value, only, joined, common, without, unless_of_strings, Operand, character, class, value_of, is_set_syntax, is_double, begins_double, is_reserved, escaped_character_at, set_character_at, strings_by, quoted_at, property_operand, operand_rows, escaped_operand_at, operand_at, range_of, range_at, part_behind, parts_by, are_at, operands_by, contents_behind, contents_at, class_set_by, class_set_at}
+use Rattle.regress_classes.specs.ClassSets.{Value, has_strings, only, joined, common, without, unless_of_strings, Operand, character, class, value_of, is_set_syntax, is_double, begins_double, is_reserved, escaped_character_at, set_character_at, strings_by, quoted_at, property_operand, operand_rows, escaped_operand_at, operand_at, range_of, range_at, part_behind, parts_by, are_at, operands_by, contents_behind, contents_at, class_set_by, class_set_at}
 use Rattle.regress_classes.proofs.laws.Pieces.{property_at-ends}
 use Rattle.regress_lexical.proofs.laws.Behind.{IsBehind, behind_same, behind_drop, Ends, ends_none, ends_some, ends_behind, ends_more, ends_then, ends_map, ends_cond, escape_at-ends}
 use Rattle.regress_lexical.proofs.laws.Sources.{EachRow, no_more, ◌also◌, first_row-has}
@@ -140,7 +140,7 @@ module _ (table : Table) (unicode : Bool) where
 
   unless_of_strings-ends : (negated : Bool) (x : Value × Source) → Ends (unless_of_strings negated x) x.1
   unless_of_strings-ends negated (v, t) =
-      ends_cond (negated && not (length v.strings == 0)) _ _ t (ends_none t) (ends_some _ t (behind_same t))
+      ends_cond (negated && has_strings v) _ _ t (ends_none t) (ends_some _ t (behind_same t))
 
   inside-behind : (t : Source) → IsBehind t (cond (is_at 94 t) (drop 1 t) t)
   inside-behind t = elim (is_at 94 t) as (λ b. IsBehind t (cond b (drop 1 t) t)) [ true ↦ behind_drop 1 t | false ↦ behind_same t ]

@@ -10,7 +10,7 @@ use Rattle.regress_unicode.specs.Table.{Table, Named, named, is_string, IsLawful
 use Rattle.regress_lexical.specs.Source.{Source, Found, ◌>>=◌, IsCodePoint, is_at, first_row}
 use Rattle.regress_classes.specs.Properties.{Property, of_points, of_strings, list_named, strings_named, lone_value, value_in, closed_property, property_at, property_word_at}
 use Rattle.regress_classes.specs.ClassRows.{class_letter, class_members, one_point, complement_if}
-use Rattle.regress_classes.specs.ClassSets.{Value, nothing, only, joined, common, without, is_among, value_of_string, value_of_strings, nested, unless_of_strings, Operand, character, class, value_of, is_set_syntax, is_double, begins_double, is_reserved, escaped_character_at, set_character_at, strings_by, quoted_at, property_operand, operand_rows, escaped_operand_at, operand_at, range_of, part_behind, parts_by, are_at, operands_by, contents_behind, contents_at, class_set_by, class_set_at}
+use Rattle.regress_classes.specs.ClassSets.{Value, has_strings, nothing, only, joined, common, without, is_among, value_of_string, value_of_strings, nested, unless_of_strings, Operand, character, class, value_of, is_set_syntax, is_double, begins_double, is_reserved, escaped_character_at, set_character_at, strings_by, quoted_at, property_operand, operand_rows, escaped_operand_at, operand_at, range_of, part_behind, parts_by, are_at, operands_by, contents_behind, contents_at, class_set_by, class_set_at}
 use Rattle.regress_lexical.proofs.laws.Digits.{and_both}
 use Rattle.regress_lexical.proofs.laws.Behind.{Ends, ends_then, behind_all}
 use Rattle.regress_lexical.proofs.laws.InRange.{Finds, finds_none, finds_some, finds_cond, finds_then, finds_map, escape_at-in_range}
@@ -285,7 +285,7 @@ inside-in_range t all =
 unless_of_strings-kept : (P : Value → Type 0) (negated : Bool) (x : Value × Source) → P x.0 →
     Finds (λ found. P found.1) (unless_of_strings negated x)
 unless_of_strings-kept P negated (v, t) h =
-    finds_cond _ (negated && not (length v.strings == 0)) _ _ (λ _. finds_none _) (λ _. finds_some _ ((negated, v), t) h)
+    finds_cond _ (negated && has_strings v) _ _ (λ _. finds_none _) (λ _. finds_some _ ((negated, v), t) h)
 
 -- ---- strings of code points
 

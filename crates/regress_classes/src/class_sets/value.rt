@@ -5,7 +5,7 @@ ghost use Rattle.std.specs.Cmp.Lexicographic.{slice_cmp};
 ghost use Rattle.std.specs.Ordering.{nat_cmp};
 ghost use Rattle.regress_base.specs.Intervals.{Bounds};
 ghost use Rattle.regress_classes.specs.ClassRows.{one_point};
-ghost use Rattle.regress_classes.specs.ClassSets.{Value as Written, nothing, only, joined, is_among, value_of_string};
+ghost use Rattle.regress_classes.specs.ClassSets.{Value as Written, nothing, has_strings, only, joined, is_among, value_of_string};
 ghost use Rattle.regress_lexical.specs.Source.{IsCodePoint};
 ghost use Rattle.regress_classes.specs.ClassViews.{HasMembers, IsValue, strings_of, applied};
 
@@ -15,12 +15,14 @@ use regress_base::codepointset::CodePointSet;
 use std::alloc::{AllocError, Global};
 use std::collections::BTreeSet;
 
-/// Code points, strings of two or more, and how many levels of classes lie in it.
+/// Code points, strings, and how many levels of classes lie in it.
 #[derive(Drop)]
 pub struct Value {
     pub set: CodePointSet,
-    /// The strings in the order in which they were read, repeats kept.
+    /// The strings of two or more, in the order in which they were read, repeats kept.
     pub strings: Vec<Vec<u32>>,
+    /// Whether the empty string is there.
+    pub has_empty: bool,
     pub levels: u32,
 }
 
@@ -39,8 +41,16 @@ impl Value {
         Value {
             set,
             strings: Vec::new(alloc),
+            has_empty: false,
             levels: 0,
         }
+    }
+
+    /// Whether it holds a string beside its code points, be it the empty one.
+    pub fn has_strings(&self) -> bool
+        ensures { (value : Written) → IsValue self.now value → result ≡ has_strings value }
+    {
+        !self.strings.is_empty() || self.has_empty
     }
 
     /// One code point.
@@ -59,18 +69,19 @@ impl Value {
     {
         add_intervals(&mut self.set, other.set.intervals())?;
         self.strings.append(&mut other.strings)?;
+        self.has_empty |= other.has_empty;
         self.levels = self.levels.max(other.levels);
         set_is_canonical(&self.set);
         Ok(())
     }
 
-    /// Adds a string. One of one character is a code point, and an empty one is dropped.
+    /// Adds a string. One of one character is a code point.
     pub(super) fn add_string(&mut self, string: Vec<u32>) -> Result<(), AllocError>
         requires { All IsCodePoint string.items }
         ensures { OnOk result ((a : Written) → IsValue self.old a → IsValue self.new (joined a (value_of_string string.items))) }
     {
         match string.as_slice() {
-            [] => {}
+            [] => self.has_empty = true,
             [c] => self.set.add_one(*c)?,
             _ => self.strings.push(string)?,
         }
@@ -86,10 +97,12 @@ impl Value {
             Operator::Intersection => {
                 self.set.intersect(other.set.intervals())?;
                 keep_strings(&mut self.strings, &others);
+                self.has_empty &= other.has_empty;
             }
             Operator::Subtraction => {
                 self.set.remove(other.set.intervals())?;
                 remove_strings(&mut self.strings, &others);
+                self.has_empty &= !other.has_empty;
             }
         }
         self.levels = self.levels.max(other.levels);

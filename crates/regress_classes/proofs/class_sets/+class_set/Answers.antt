@@ -1,11 +1,11 @@
 -- Each answer is a lemma on what was read, at the values of the call.
-use Rattle.std.proofs.Common.{◌≡◌, Bool, false, not, ◌&&◌, ◌==◌, ◌-◌, Some, None, length, drop, refl, sym, ap, ap₂, subst, arith, length-drop, ◌∙◌}
+use Rattle.std.proofs.Common.{◌≡◌, Bool, false, ◌&&◌, ◌-◌, Some, None, length, drop, refl, sym, ap, ap₂, subst, arith, length-drop, ◌∙◌}
 use Rattle.std.proofs.lemmas.Bool.{cond-true, cond-false}
 use Rattle.std.proofs.lemmas.Result.{err_from_is_err_and}
 use Rattle.regress_unicode.specs.TableOf.{table_of}
 use Rattle.regress_classes.specs.declared.class_sets.Surroundings.{Surroundings}
 use Rattle.regress_classes.specs.ClassRows.{one_point}
-use Rattle.regress_classes.specs.ClassSets.{Value, only, joined, nested, unless_of_strings, set_character_at, character, class, value_of, are_at}
+use Rattle.regress_classes.specs.ClassSets.{Value, has_strings, only, joined, nested, unless_of_strings, set_character_at, character, class, value_of, are_at}
 use Rattle.regress_lexical.specs.Reads.{ReadsAs}
 use Rattle.regress_lexical.specs.Source.{Source, is_at}
 use Rattle.regress_classes.specs.ClassViews.{IsValue, IsOperand, inner_of, sign_of, applied}
@@ -17,9 +17,8 @@ use Rattle.regress_classes.proofs.laws.ClassStrings.{class_set_by-levels}
 use Rattle.regress_lexical.proofs.laws.Sources.{length-none}
 use Rattle.regress_classes.proofs.ClassOperandLemmas.{nested_read, escape_read, character_read}
 use Rattle.regress_classes.proofs.ClassContentsLemmas.{no_operand, operand_shortens, parts_closed, no_contents, ampersand_read, no_first, no_part, one_part, parts_end, no_last, last_read, more_read, none_read, no_levels, class_read, read_on}
-use Rattle.regress_classes.proofs.ClassSetLemmas.{same_count}
 use Rattle.regress_classes.proofs.class_sets.+class_set.Goals as goal
-use Rattle.regress_classes.proofs.class_sets.+class_set.Goals.{read_class_set-else-negated-via-then-negated+else-not-is_empty, read_class_set-else-negated-via-else-negated}
+use Rattle.regress_classes.proofs.class_sets.+class_set.Goals.{read_class_set-else-negated-via-then-negated+else-has_strings, read_class_set-else-negated-via-else-negated}
 
 ends : (around : Surroundings) (t : Source) → Ends (inner_of around t) t
 ends around = class_set_by-ends (table_of around.tables.now) around.unicode around.levels
@@ -289,20 +288,19 @@ read_class_set-returns-in_err-value-clause-value t c =
     c.try_consume-negated.ensures.found c.try_consume-negated.ensures.moves)
     c.in_err-value.ensures)
 
-pub read_class_set-returns-then-not-is_empty-clause-value : goal.read_class_set-returns-then-not-is_empty-clause-value
-read_class_set-returns-then-not-is_empty-clause-value t c =
+pub read_class_set-returns-then-has_strings-clause-value : goal.read_class_set-returns-then-has_strings-clause-value
+read_class_set-returns-then-has_strings-clause-value t c =
     let found = c.in_ok-value.ensures in
     let rest = source c.read_contents.new.cursor in
-    let strings = same_count c.in_ok-value.value found.0 found.2 in
-    on_syntax c.syntax-then-not-is_empty.result
+    on_syntax c.syntax-then-has_strings.result
     (class_read (table_of c.args.tables.now) c.args.unicode c.args.levels (c.args.levels - 1) (source c.args.cursor.now)
     (source c.try_consume-negated.new.self) c.try_consume-negated.result (Some (found.0, rest)) (omega (arith, c.if-levels-eq0.false))
     c.try_consume-negated.ensures.found c.try_consume-negated.ensures.moves found.1
-    ∙ cond-true _ _ _ (ap₂ (λ a b. a && not b) c.if-negated.true
-    (ap (λ n. n == 0) (sym strings) ∙ sym c.is_empty.ensures ∙ c.if-not-is_empty.true)))
+    ∙ cond-true _ _ _ (ap₂ (λ a b. a && b) c.if-negated.true
+    (sym (c.has_strings.ensures found.0 found.2) ∙ c.if-has_strings.true)))
 
 -- a class that is not negated, or holds no string, is what it holds
-kept_class : (negated : Bool) (value : Value) (t : Source) → (negated && not (length value.strings == 0)) ≡ false →
+kept_class : (negated : Bool) (value : Value) (t : Source) → (negated && has_strings value) ≡ false →
     unless_of_strings negated (value, t) ≡ Some ((negated, value), t)
 kept_class negated value t allowed = cond-false _ _ _ allowed
 
@@ -310,12 +308,11 @@ pub read_class_set-returns-clause-value : goal.read_class_set-returns-clause-val
 read_class_set-returns-clause-value t c =
     let found = c.in_ok-value.ensures in
     let rest = source c.read_contents.new.cursor in
-    let strings = same_count c.in_ok-value.value found.0 found.2 in
-    let allowed : (c.try_consume-negated.result && not (length found.0.strings == 0)) ≡ false =
+    let allowed : (c.try_consume-negated.result && has_strings found.0) ≡ false =
     elim c.else-negated.branch [
-      | read_class_set-else-negated-via-then-negated+else-not-is_empty w ↦
-          ap₂ (λ a b. a && not b) w.if-negated.true (ap (λ n. n == 0) (sym strings) ∙ sym w.is_empty.ensures ∙ w.if-not-is_empty.false)
-      | read_class_set-else-negated-via-else-negated w ↦ ap (λ a. a && not (length found.0.strings == 0)) w.if-negated.false
+      | read_class_set-else-negated-via-then-negated+else-has_strings w ↦
+          ap₂ (λ a b. a && b) w.if-negated.true (sym (w.has_strings.ensures found.0 found.2) ∙ w.if-has_strings.false)
+      | read_class_set-else-negated-via-else-negated w ↦ ap (λ a. a && has_strings found.0) w.if-negated.false
     ] in (
       (c.try_consume-negated.result, found.0),
       class_read (table_of c.args.tables.now) c.args.unicode c.args.levels (c.args.levels - 1) (source c.args.cursor.now)

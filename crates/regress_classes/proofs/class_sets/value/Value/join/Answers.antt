@@ -13,5 +13,6 @@ returns c = λ a b h k.
           (λ n. c.in_ok-add_intervals.ensures n ∙ ap (λ (l : List Bounds). is_member old.set n || is_member l n) c.intervals.ensures.value);
       strings = ap strings_of c.in_ok-append.ensures.items ∙ map-append (λ string. string.items) old.strings.items c.args.other.strings.items
           ∙ ap₂ (λ xs ys. xs ++ ys) h.strings k.strings;
+      has_empty = ap₂ (λ x y. x || y) h.has_empty k.has_empty;
       levels = c.max-self.ensures ∙ ap₂ max h.levels k.levels;
     }
