@@ -1,4 +1,5 @@
 -- Laws of this crate's definitions, which the crates above may cite.
 pub mod NameEnds
+pub mod Plain
 pub mod Rows
 pub mod Scan
