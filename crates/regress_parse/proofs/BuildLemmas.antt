@@ -55,6 +55,16 @@ references-are icase [] k = refl
 references-are icase (j ∷ []) k = refl
 references-are icase (j ∷ (i ∷ ks)) k = ap (alt (reference icase j)) (references-are icase (i ∷ ks) k)
 
+-- a reference before others
+pub references-more : (icase : Bool) (k : ℕ) (ks : List ℕ) (last : ℕ) →
+    alt (reference icase k) (tree_of_references icase (ks ++ last ∷ [])) ≡ tree_of_references icase (k ∷ (ks ++ last ∷ []))
+references-more icase k [] last = refl
+references-more icase k (j ∷ ks) last = refl
+
+pub no_others : (ks : List ℕ) → length ks ≡ 0 → ks ≡ []
+no_others [] e = refl
+no_others (k ∷ ks) e = absurd (omega (arith, e))
+
 -- ---- sets of classes
 
 -- the closure of a set is that of the members that it was written with

@@ -1,5 +1,5 @@
 //! Trees from parts.
-ghost use Rattle.std.specs.Prelude.{◌≡◌, ◌≢◌, ℕ, Bool, false, List, [], Some, IfOk, OnOk, map, option_map, string_bytes, encode_utf8_all};
+ghost use Rattle.std.specs.Prelude.{◌≡◌, ℕ, Bool, false, List, [], ◌∷◌, ◌++◌, Some, IfOk, OnOk, map, option_map, string_bytes, encode_utf8_all};
 ghost use Rattle.regress_tree.specs.Assertions.{differ};
 ghost use Rattle.regress_base.specs.Intervals.{Bounds, intervals_of};
 ghost use Rattle.regress_tree.specs.Tree.{tree, trees, leaf, bracket, string_set};
@@ -49,20 +49,46 @@ pub(crate) fn make_atom(alloc: Global, atom: Atom, scope: &Scope) -> Result<Node
         }),
         Atom::ClassSet { negated, value } => make_class_set(alloc, negated, value, scope)?,
         Atom::Strings(strings) => make_strings(alloc, strings, scope.flags.icase)?,
-        Atom::BackReferences(numbers) => make_references(alloc, numbers, scope.flags.icase)?,
+        Atom::BackReferences { first, others } => {
+            make_references(alloc, first, others, scope.flags.icase)?
+        }
     })
 }
 
 /// The node of references to these groups, which are tried one after the other.
-fn make_references(alloc: Global, mut numbers: Vec<u32>, icase: bool) -> Result<Node, AllocError>
-    requires { numbers.items ≢ [] }
-    ensures { IfOk result (λ node. tree node ≡ tree_of_references icase numbers.items) }
+fn make_references(
+    alloc: Global,
+    first: u32,
+    mut others: Vec<u32>,
+    icase: bool,
+) -> Result<Node, AllocError>
+    ensures { IfOk result (λ node. tree node ≡ tree_of_references icase (first ∷ others.items)) }
 {
-    let Some(last) = numbers.pop() else {
-        return Ok(Node::Empty);
+    let Some(last) = others.pop() else {
+        return Ok(Node::BackRef {
+            group: first,
+            icase,
+        });
     };
+    let rest = make_further_references(alloc, others, last, icase)?;
+    let reference = Node::BackRef {
+        group: first,
+        icase,
+    };
+    Ok(Node::Alt(Box::new(alloc, reference)?, Box::new(alloc, rest)?))
+}
+
+/// The node of references to groups before a last one.
+fn make_further_references(
+    alloc: Global,
+    mut before: Vec<u32>,
+    last: u32,
+    icase: bool,
+) -> Result<Node, AllocError>
+    ensures { IfOk result (λ node. tree node ≡ tree_of_references icase (before.items ++ last ∷ [])) }
+{
     let mut node = Node::BackRef { group: last, icase };
-    while let Some(group) = numbers.pop() {
+    while let Some(group) = before.pop() {
         let reference = Node::BackRef { group, icase };
         node = Node::Alt(Box::new(alloc, reference)?, Box::new(alloc, node)?);
     }
@@ -70,7 +96,7 @@ fn make_references(alloc: Global, mut numbers: Vec<u32>, icase: bool) -> Result<
 }
 
 /// The node of a literal: with the flag i all that it stands for.
-fn make_literal(alloc: Global, c: u32, scope: &Scope) -> Result<Node, AllocError>
+pub(crate) fn make_literal(alloc: Global, c: u32, scope: &Scope) -> Result<Node, AllocError>
     requires { IsCodePoint c }
     ensures { IfOk result (λ node. tree node ≡ leaf (leaf_of_literal (table_of scope.now.tables.now) scope.now.flags c)) }
 {
@@ -246,7 +272,7 @@ fn name_text(alloc: Global, name: Option<Name>) -> Result<Option<String>, AllocE
 fn text_of(alloc: Global, characters: &[char]) -> Result<String, AllocError>
     ensures { IfOk result (λ text. string_bytes text ≡ encode_utf8_all characters.now) }
 {
-    let mut text = String::new(alloc);
+    let mut text = String::with_capacity(alloc, characters.len())?;
     for c in characters {
         text.push(*c)?;
     }
