@@ -3,3 +3,4 @@ pub mod Sources
 pub mod Digits
 pub mod Behind
 pub mod InRange
+pub mod Quantifiers

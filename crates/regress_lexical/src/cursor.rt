@@ -4,6 +4,7 @@ ghost use Rattle.std.proofs.Props.{props};
 ghost use Rattle.regress_lexical.specs.Source.{IsCodePoint, is_plain};
 
 use crate::fault::{ParseFault, UNBALANCED, syntax};
+use crate::quantifier::may_begin;
 use std::alloc::Global;
 
 /// The code points that begin rows of their own, or none.
@@ -41,7 +42,8 @@ pub struct Cursor<'a> {
 }
 
 impl Cursor<'_> {
-    ghost use Rattle.std.specs.Prelude.{◌≡◌, [], ◌∷◌, drop, if◌then◌else◌, IfSome, IfNone, OnOk, OnErr, false};
+    ghost use Rattle.std.specs.Prelude.{◌≡◌, [], ◌∷◌, drop, if◌then◌else◌, IfSome, IfNone, OnOk, OnErr, true, false};
+    ghost use Rattle.regress_lexical.specs.Quantifiers.{may_begin};
     ghost use Rattle.regress_lexical.specs.Source.{is_at, ends_alternative, closing};
     ghost use Rattle.regress_lexical.specs.Views.{source};
 
@@ -80,6 +82,21 @@ impl Cursor<'_> {
         ensures none { IfNone result (source self.old ≡ []) }
     {
         let (next, rest) = self.rest.split_first()?;
+        self.rest = rest;
+        Some(*next)
+    }
+
+    /// Takes the next code point, if it stands for itself and no quantifier can begin behind it, as with most.
+    pub fn next_plain(&mut self) -> Option<u32>
+        ensures some { IfSome result (λ c. source self.old ≡ c ∷ source self.new) }
+        ensures plain { IfSome result (λ c. is_plain c ≡ true) }
+        ensures alone { IfSome result (λ c. may_begin (source self.new) ≡ false) }
+        ensures none { IfNone result (source self.new ≡ source self.old) }
+    {
+        let (next, rest) = self.rest.split_first()?;
+        if !is_plain(*next) || may_begin(rest) {
+            return None;
+        }
         self.rest = rest;
         Some(*next)
     }

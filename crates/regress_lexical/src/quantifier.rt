@@ -1,6 +1,6 @@
 //! Quantifiers.
 ghost use Rattle.std.specs.Prelude.{◌≡◌, option_map};
-ghost use Rattle.regress_lexical.specs.Quantifiers.{most_at, times_by, quantifier_at, is_ordered};
+ghost use Rattle.regress_lexical.specs.Quantifiers.{most_at, times_by, may_begin, quantifier_at, is_ordered};
 
 use crate::digits::{Read, after, read_count};
 use regress_tree::ir::Quantifier;
@@ -37,6 +37,21 @@ fn read_times<'a>(c: u32, source: &'a [u32]) -> Read<'a, Times>
         read_most(least, rest)
     } else {
         None
+    }
+}
+
+/// Whether one may begin here, by the first code point alone.
+pub fn may_begin(source: &[u32]) -> bool
+    ensures { result ≡ may_begin source.now }
+{
+    match source {
+        [c, ..] => {
+            *c == u32::from('*')
+                || *c == u32::from('+')
+                || *c == u32::from('?')
+                || *c == u32::from('{')
+        }
+        [] => false,
     }
 }
 

@@ -1,13 +1,15 @@
 -- An item, its quantifier, and the group that an item may be, from what is read of them.
-use Rattle.std.proofs.Common.{◌≡◌, ℕ, ◌+◌, ◌<◌, ◌≤◌, Bool, drop, Option, Some, None, sym, ap, ◌∙◌, subst, arith, List}
+use Rattle.std.proofs.Common.{◌≡◌, ℕ, ◌+◌, ◌<◌, ◌≤◌, Bool, true, false, ◌∷◌, drop, Option, Some, None, refl, sym, ap, ◌∙◌, subst, arith, List}
 use Rattle.std.specs.Option.{IfSome}
 use Rattle.std.proofs.lemmas.Option.{same_Some, cond_some}
 use Rattle.regress_unicode.specs.Table.{Table}
 use Rattle.regress_tree.specs.declared.ir.node.Quantifier.{Quantifier}
-use Rattle.regress_lexical.specs.Source.{Source, Found, ◌>>=◌, found_map, closing, is_at}
-use Rattle.regress_syntax.specs.Syntax.{Name, Group, Pattern, Item, one, either, atom, group, Counts, counts_of_item, opened_by, levels}
+use Rattle.regress_lexical.specs.Source.{Source, Found, ◌>>=◌, found_map, closing, is_at, is_plain}
+use Rattle.regress_lexical.specs.Quantifiers.{may_begin}
+use Rattle.regress_syntax.specs.Syntax.{Name, Group, Pattern, Item, one, either, literal, atom, group, Counts, counts_of_item, opened_by, levels}
 use Rattle.regress_syntax.specs.Rows.{Context, context_inside, Head, single, opens, head_of_item, allows, head_at, times_at}
 use Rattle.regress_lexical.proofs.laws.Sources.{found_then, from_each, to_each}
+use Rattle.regress_syntax.proofs.laws.Plain.{plain_head, no_times}
 use Rattle.regress_parse.specs.Reader.{Term, closed, item_behind, quantified, pattern_at, item_at, term_at}
 use Rattle.regress_base.specs.Limits.{max_capture_groups, max_loops, max_nesting_depth}
 use Rattle.regress_parse.specs.Parsing.{Fits, pattern_part, term_part, item_part}
@@ -51,6 +53,13 @@ module _ (table : Table) (names : List (Option Name)) (ctx : Context) where
       ∙ ap (λ found. found >>= quantified ctx) (item_from_head t head front ∙ item)
       ∙ ap (λ b. found_map (λ (q : Option Quantifier). (x.0, q)) (times_at ctx b x.1)) same
       ∙ ap (found_map (λ (q : Option Quantifier). (x.0, q))) found
+
+  -- a character that stands for itself, which no quantifier follows
+  pub plain_term : (c : ℕ) (t : Source) → is_plain c ≡ true → may_begin t ≡ false →
+      term_at ctx (c ∷ t) ≡ Some ((atom (literal ctx.setting.flags c), None), t)
+  plain_term c t plain alone =
+      term_read (c ∷ t) (single (literal ctx.setting.flags c), t) (atom (literal ctx.setting.flags c), t) true (Some (None, t))
+      (plain_head ctx c t plain) refl refl (no_times ctx true t alone)
 
   -- no head, no term
   pub no_term : (t : Source) → head_at ctx t ≡ None → term_at ctx t ≡ None

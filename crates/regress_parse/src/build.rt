@@ -1,5 +1,5 @@
 //! Trees from parts.
-ghost use Rattle.std.specs.Prelude.{◌≡◌, ℕ, Bool, false, List, ◌++◌, Some, IfOk, OnOk, map, option_map, string_bytes, encode_utf8_all};
+ghost use Rattle.std.specs.Prelude.{◌≡◌, ℕ, Bool, false, List, ◌∷◌, ◌++◌, Some, IfOk, OnOk, map, option_map, string_bytes, encode_utf8_all};
 ghost use Rattle.regress_tree.specs.Assertions.{differ};
 ghost use Rattle.regress_base.specs.Intervals.{Bounds, intervals_of};
 ghost use Rattle.regress_tree.specs.Tree.{tree, trees, leaf, bracket, string_set};
@@ -49,16 +49,31 @@ pub(crate) fn make_atom(alloc: Global, atom: Atom, scope: &Scope) -> Result<Node
         }),
         Atom::ClassSet { negated, value } => make_class_set(alloc, negated, value, scope)?,
         Atom::Strings(strings) => make_strings(alloc, strings, scope.flags.icase)?,
-        Atom::BackReferences(numbers) => make_references(alloc, numbers, scope.flags.icase)?,
+        Atom::BackReferences { first, others } => {
+            make_references(alloc, first, others, scope.flags.icase)?
+        }
     })
 }
 
 /// The node of references to these groups, which are tried one after the other.
-fn make_references(alloc: Global, numbers: Vec<u32>, icase: bool) -> Result<Node, AllocError>
-    ensures { IfOk result (λ node. tree node ≡ alternation (references icase numbers.items)) }
+fn make_references(
+    alloc: Global,
+    first: u32,
+    others: Vec<u32>,
+    icase: bool,
+) -> Result<Node, AllocError>
+    ensures { IfOk result (λ node. tree node ≡ alternation (references icase (first ∷ others.items))) }
 {
-    let mut references = Vec::with_capacity(alloc, numbers.len())?;
-    for group in numbers {
+    let reference = Node::BackRef {
+        group: first,
+        icase,
+    };
+    if others.is_empty() {
+        return Ok(reference);
+    }
+    let mut references = Vec::new(alloc);
+    references.push(reference)?;
+    for group in others {
         references.push(Node::BackRef { group, icase })?;
     }
     make_alternation(alloc, references)
@@ -75,7 +90,7 @@ fn make_alternation(alloc: Global, mut parts: NodeList) -> Result<Node, AllocErr
 }
 
 /// The node of a literal: with the flag i all that it stands for.
-fn make_literal(alloc: Global, c: u32, scope: &Scope) -> Result<Node, AllocError>
+pub(crate) fn make_literal(alloc: Global, c: u32, scope: &Scope) -> Result<Node, AllocError>
     requires { IsCodePoint c }
     ensures { IfOk result (λ node. tree node ≡ leaf (leaf_of_literal (table_of scope.now.tables.now) scope.now.flags c)) }
 {
@@ -273,7 +288,7 @@ fn name_text(alloc: Global, name: Option<Name>) -> Result<Option<String>, AllocE
 fn text_of(alloc: Global, characters: &[char]) -> Result<String, AllocError>
     ensures { IfOk result (λ text. string_bytes text ≡ encode_utf8_all characters.now) }
 {
-    let mut text = String::new(alloc);
+    let mut text = String::with_capacity(alloc, characters.len())?;
     for c in characters {
         text.push(*c)?;
     }

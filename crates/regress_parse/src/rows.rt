@@ -7,7 +7,7 @@ ghost use Rattle.regress_base.specs.Limits.{max_nesting_depth};
 ghost use Rattle.regress_parse.specs.Reader.{pattern_at, terms_at, term_at, item_behind};
 ghost use Rattle.regress_parse.specs.Parsing.{text, counted, direction_of, context_in, table_in, names_around, pattern_part, terms_part, term_part, item_part, Yields};
 
-use crate::build::{make_alt, make_atom, make_cat, make_group, make_loop};
+use crate::build::{make_alt, make_atom, make_cat, make_group, make_literal, make_loop};
 use crate::parser::{Around, Parser};
 use regress_base::types::MAX_NESTING_DEPTH;
 use regress_syntax::fault::{TOO_DEEP, syntax};
@@ -37,7 +37,8 @@ impl Parser<'_> {
         Ok(make_alt(self.cursor.alloc, before, last)?)
     }
 
-    /// Reads terms up to the end of the alternative (ECMA-262, Alternative).
+    /// Reads terms up to the end of the alternative (ECMA-262, Alternative). Most are characters that stand for themselves,
+    /// which need no look at the other rows.
     #[cycle(parser)]
     fn consume_alternative(&mut self, around: &Around) -> Result<Node, ParseFault>
         requires { around.now.depth ≤ max_nesting_depth }
@@ -46,7 +47,11 @@ impl Parser<'_> {
     {
         let mut parts = Vec::new(self.cursor.alloc);
         while !self.cursor.ends_alternative() {
-            parts.push(self.consume_term(around)?)?;
+            if let Some(c) = self.cursor.next_plain() {
+                parts.push(make_literal(self.cursor.alloc, c, &around.scope)?)?;
+            } else {
+                parts.push(self.consume_term(around)?)?;
+            }
         }
         Ok(make_cat(parts, around.backwards))
     }

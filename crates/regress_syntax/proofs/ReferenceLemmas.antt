@@ -69,6 +69,10 @@ abbrev is_empty : List ℕ → Bool
 is_empty [] = true
 is_empty (x ∷ xs) = false
 
+pub none_there : (ks : List ℕ) → length ks ≡ 0 → ks ≡ []
+none_there [] e = refl
+none_there (k ∷ ks) e = absurd (omega (arith, e))
+
 -- some group has the name exactly where groups are found by it
 pub has_name-groups : (name : Name) (n : ℕ) (names : List (Option Name)) →
     (has_name name names ≡ true → groups_named name n names ≢ []) × (has_name name names ≡ false → groups_named name n names ≡ [])

@@ -1,7 +1,7 @@
 -- What the values of the code stand for: items, and what lies around them.
 use Rattle.regress_lexical.specs.Views.{change_of}
 use Rattle.regress_classes.specs.ClassViews.{HasMembers, IsValue, strings_of}
-use Rattle.std.specs.Prelude.{◌≡◌, ◌≢◌, ℕ, Bool, List, [], map, Option, option_map, if◌then◌else◌}
+use Rattle.std.specs.Prelude.{◌≡◌, ℕ, Bool, List, ◌∷◌, map, Option, option_map, if◌then◌else◌}
 use Rattle.regress_base.specs.Intervals.{Bounds}
 use Rattle.regress_base.specs.declared.types.Flags.{Flags}
 use Rattle.regress_tree.specs.Reading.{Direction, forwards, backwards}
@@ -42,7 +42,7 @@ IsClassSet flags negated held a = (value : Value) × (a ≡ class_set flags nega
 -- references to these groups, and what they are there
 abbrev pub AreReferences : Context → List ℕ → Atom → Type 0
 AreReferences ctx numbers a =
-    (to : Target) × (a ≡ back_reference ctx.setting.flags to) × (numbers ≡ referred ctx.names to) × (numbers ≢ [])
+    (to : Target) × (a ≡ back_reference ctx.setting.flags to) × (numbers ≡ referred ctx.names to)
 
 -- the atom of the code is this one there
 abbrev pub IsAtom : Context → CodeAtom → Atom → Type 0
@@ -54,7 +54,7 @@ IsAtom ctx (atoms.ClassEscape kind negated) a = a ≡ class_escape ctx.setting.f
 IsAtom ctx (atoms.Class inverted set) a = IsClass ctx.setting.flags inverted set a
 IsAtom ctx (atoms.ClassSet negated value) a = IsClassSet ctx.setting.flags negated value a
 IsAtom ctx (atoms.Strings written) a = a ≡ string_property ctx.setting.flags (strings_of written.items)
-IsAtom ctx (atoms.BackReferences numbers) a = AreReferences ctx numbers.items a
+IsAtom ctx (atoms.BackReferences first others) a = AreReferences ctx (first ∷ others.items) a
 
 abbrev pub direction_if : (backwards : Bool) → Direction
 direction_if backwards' = if backwards' then backwards else forwards

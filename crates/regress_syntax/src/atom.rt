@@ -1,9 +1,8 @@
 //! Items that hold no pattern.
-ghost use Rattle.std.specs.Prelude.{◌≡◌, ◌∷◌, true, drop, is_some, option_map, IfOk, ◌++◌, string_bytes, encode_utf8_all};
+ghost use Rattle.std.specs.Prelude.{◌≡◌, ◌∷◌, true, drop, option_map, IfOk, ◌++◌, string_bytes, encode_utf8_all};
 ghost use Rattle.regress_lexical.specs.Fault.{Tells};
 ghost use Rattle.regress_lexical.specs.Digits.{is_between};
 ghost use Rattle.regress_lexical.specs.Escapes.{begins_with_letter, begins_with_digit};
-ghost use Rattle.regress_lexical.specs.Quantifiers.{quantifier_at};
 ghost use Rattle.regress_lexical.specs.Reads.{ReadsAs};
 ghost use Rattle.regress_syntax.specs.Rows.{atom_by, brace_by, is_lone_backslash, begins_number, escaped_at, group_number_at, numbered_at, named_at, character_at, brackets_at, point_property, property_atom_at};
 ghost use Rattle.regress_lexical.specs.Source.{IsCodePoint};
@@ -26,6 +25,7 @@ use regress_lexical::fault::{
     Error, INCOMPLETE_ESCAPE, INVALID_ATOM, INVALID_BRACED_QUANTIFIER, INVALID_ESCAPE,
     INVALID_REFERENCE, ParseFault, UNKNOWN_NAME, syntax,
 };
+use regress_lexical::quantifier::read_quantifier;
 use regress_tree::ir::AnchorType;
 use std::alloc::{AllocError, Global};
 
@@ -59,19 +59,24 @@ pub enum Atom {
     },
     /// A property of strings, in the table's order.
     Strings(Vec<Vec<u32>>),
-    /// References to these groups, at least one, by their numbers from 1: tried one after the other.
-    BackReferences(Vec<u32>),
+    /// References to these groups by their numbers from 1, tried one after the other. Most have one alone, which takes no
+    /// memory.
+    BackReferences {
+        first: u32,
+        others: Vec<u32>,
+    },
 }
 
-/// Reads an item that holds no pattern, behind its first code point `c`. The fault comes where there is none.
+/// Reads an item that holds no pattern, behind its first code point `c`, which is at `front`. The fault comes where there
+/// is none.
 pub(crate) fn read_atom(
     cursor: &mut Cursor,
     scope: &Scope,
     c: u32,
-    begins_quantifier: bool,
+    front: &[u32],
 ) -> Result<Atom, ParseFault>
     requires code_point { IsCodePoint c }
-    requires quantifier { begins_quantifier ≡ is_some (quantifier_at (c ∷ source cursor.now)) }
+    requires front { front.now ≡ c ∷ source cursor.now }
     ensures { ReadsAs (IsAtom (context_of scope.now)) (source cursor.new) result (atom_by (context_of scope.now) c (source cursor.old)) }
 {
     if c == u32::from('.') {
@@ -85,7 +90,7 @@ pub(crate) fn read_atom(
     } else if c == u32::from('[') {
         read_brackets(cursor, scope)
     } else if c == u32::from('{') || c == u32::from(']') || c == u32::from('}') {
-        read_brace(cursor, scope, c, begins_quantifier)
+        read_brace(cursor, scope, c, front)
     } else if is_plain(c) {
         Ok(Atom::Literal(c))
     } else {
@@ -111,20 +116,16 @@ fn read_brackets(cursor: &mut Cursor, scope: &Scope) -> Result<Atom, ParseFault>
     })
 }
 
-/// A brace or `]` that stands for itself.
-fn read_brace(
-    cursor: &mut Cursor,
-    scope: &Scope,
-    c: u32,
-    begins_quantifier: bool,
-) -> Result<Atom, ParseFault>
+/// A brace or `]` that stands for itself. A `{` does only where it begins no quantifier, which wants a look at all of
+/// it.
+fn read_brace(cursor: &mut Cursor, scope: &Scope, c: u32, front: &[u32]) -> Result<Atom, ParseFault>
     requires code_point { IsCodePoint c }
-    requires quantifier { begins_quantifier ≡ is_some (quantifier_at (c ∷ source cursor.now)) }
+    requires front { front.now ≡ c ∷ source cursor.now }
     ensures { ReadsAs (IsAtom (context_of scope.now)) (source cursor.new) result (brace_by (context_of scope.now) c (source cursor.old)) }
 {
     if scope.flags.unicode {
         Err(syntax(cursor.alloc, INVALID_ATOM))
-    } else if begins_quantifier {
+    } else if read_quantifier(front).is_some() {
         Err(syntax(cursor.alloc, INVALID_BRACED_QUANTIFIER))
     } else {
         Ok(Atom::Literal(c))
@@ -180,7 +181,10 @@ fn read_numbered(cursor: &mut Cursor, scope: &Scope, c: u32) -> Result<Atom, Par
 {
     if let Some((number, rest)) = read_group_number(cursor.rest, scope.groups.count()) {
         cursor.rest = rest;
-        return Ok(Atom::BackReferences(vec![in cursor.alloc; number]?));
+        return Ok(Atom::BackReferences {
+            first: number,
+            others: Vec::new(cursor.alloc),
+        });
     }
     if scope.flags.unicode {
         return Err(syntax(cursor.alloc, INVALID_ESCAPE));
@@ -207,13 +211,15 @@ fn read_reference(cursor: &mut Cursor, scope: &Scope) -> Result<Atom, ParseFault
     let Some((name, rest)) = read_group_name(cursor.alloc, cursor.rest, scope.tables)? else {
         return Err(syntax(cursor.alloc, INVALID_REFERENCE));
     };
-    let numbers = scope.groups.numbers_of(&name);
-    if numbers.is_empty() {
+    let Some((first, others)) = scope.groups.numbers_of(&name).split_first() else {
         return Err(unknown_name(cursor.alloc, &name));
-    }
-    let numbers = Vec::from_slice(cursor.alloc, numbers)?;
+    };
+    let others = Vec::from_slice(cursor.alloc, others)?;
     cursor.rest = rest;
-    Ok(Atom::BackReferences(numbers))
+    Ok(Atom::BackReferences {
+        first: *first,
+        others,
+    })
 }
 
 /// No group has this name.

@@ -10,7 +10,7 @@ use crate::group::{Group, read_group};
 use crate::scope::Scope;
 use regress_lexical::cursor::Cursor;
 use regress_lexical::fault::{INVALID_ATOM, INVALID_QUANTIFIER, NO_QUANTIFIER, ParseFault, syntax};
-use regress_lexical::quantifier::{is_ordered, read_quantifier};
+use regress_lexical::quantifier::{is_ordered, may_begin, read_quantifier};
 use regress_tree::ir::Quantifier;
 
 /// What an item begins with: all of it, or what its parenthesis opens.
@@ -42,15 +42,14 @@ impl Head {
 pub fn read_head(cursor: &mut Cursor, scope: &Scope) -> Result<Head, ParseFault>
     ensures { ReadsAs (IsHead (context_of scope.now)) (source cursor.new) result (head_at (context_of scope.now) (source cursor.old)) }
 {
-    // A `{` stands for itself only where it begins no quantifier, which wants a look at all of it.
-    let begins_quantifier = read_quantifier(cursor.rest).is_some();
+    let front = cursor.rest;
     let Some(c) = cursor.next() else {
         return Err(syntax(cursor.alloc, INVALID_ATOM));
     };
     if c == u32::from('(') {
         Ok(Head::Opens(read_group(cursor, scope.tables)?))
     } else {
-        Ok(Head::Atom(read_atom(cursor, scope, c, begins_quantifier)?))
+        Ok(Head::Atom(read_atom(cursor, scope, c, front)?))
     }
 }
 
@@ -64,6 +63,9 @@ pub fn read_times(
 ) -> Result<Option<Quantifier>, ParseFault>
     ensures { AlwaysReads (λ q. q) (source cursor.new) result (times_at (context_of scope.now) allowed (source cursor.old)) }
 {
+    if !may_begin(cursor.rest) {
+        return Ok(None);
+    }
     let Some((quantifier, rest)) = read_quantifier(cursor.rest) else {
         if scope.flags.unicode && cursor.is_at('{') {
             return Err(syntax(cursor.alloc, INVALID_QUANTIFIER));

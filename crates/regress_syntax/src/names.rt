@@ -12,6 +12,9 @@ use std::alloc::{AllocError, Global};
 /// A name of a group, by its characters.
 pub type Name = Vec<char>;
 
+/// Most names are no longer: for so many characters memory is asked once.
+const USUAL_LENGTH: usize = 8;
+
 /// `$` and `_`.
 fn is_sign(c: u32) -> bool
     ensures { result ≡ is_sign c }
@@ -106,5 +109,7 @@ pub(crate) fn read_group_name<'a>(
     let Some((c, rest)) = read_first(source, tables) else {
         return Ok(None);
     };
-    read_rest(rest, tables, vec![in alloc; c]?)
+    let mut name = Vec::with_capacity(alloc, USUAL_LENGTH)?;
+    name.push(c)?;
+    read_rest(rest, tables, name)
 }

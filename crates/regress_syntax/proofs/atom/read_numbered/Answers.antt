@@ -1,4 +1,4 @@
-use Rattle.std.proofs.Common.{◌≡◌, Some, length, refl, sym, ap, subst, arith}
+use Rattle.std.proofs.Common.{◌≡◌, ℕ, List, ◌∷◌, Some, refl, sym, ap, subst}
 use Rattle.regress_syntax.specs.Rows.{group_number_at}
 use Rattle.regress_lexical.specs.Source.{Source}
 use Rattle.regress_syntax.specs.Syntax.{by_number, back_reference}
@@ -24,5 +24,5 @@ returns-in-Some c =
       back_reference ctx.setting.flags (by_number c.in-Some.number),
       numbered-some ctx c.args.c _ c.in-Some.number c.in-Some.rest.now
           (subst (λ (u : Source). group_number_at ctx.groups u ≡ Some (c.in-Some.number, c.in-Some.rest.now)) c.requires.front found),
-      (by_number c.in-Some.number, refl, c.in_ok-vec.ensures.items, λ none. omega (arith, ap length none, ap length c.in_ok-vec.ensures.items)),
+      (by_number c.in-Some.number, refl, ap (λ (ks : List ℕ). c.in-Some.number ∷ ks) c.new.ensures.items),
     )

@@ -1,24 +1,25 @@
-use Rattle.std.proofs.Common.{◌≡◌, List, Some, option_map, refl, sym, ap, ◌∙◌, ℕ}
+use Rattle.std.proofs.Common.{◌≡◌, List, ◌∷◌, length, Some, option_map, refl, sym, ap, ◌∙◌, arith, ℕ}
 use Rattle.regress_syntax.specs.Names.{group_name_at}
 use Rattle.regress_syntax.specs.Meaning.{groups_named}
 use Rattle.regress_syntax.specs.Syntax.{by_name, back_reference}
 use Rattle.regress_syntax.specs.Views.{context_of}
 use Rattle.regress_lexical.specs.Views.{source}
-use Rattle.regress_syntax.proofs.ReferenceLemmas.{named-some, named-unknown}
-use Rattle.regress_lexical.proofs.laws.Sources.{length-none, length-some, on_syntax}
+use Rattle.regress_syntax.proofs.ReferenceLemmas.{named-some, named-unknown, none_there}
+use Rattle.regress_lexical.proofs.laws.Sources.{on_syntax}
 use Rattle.regress_lexical.proofs.laws.Behind.{behind_all}
 use Rattle.regress_syntax.proofs.laws.NameEnds.{group_name_at-ends}
 use Rattle.regress_syntax.proofs.atom.read_reference.Goals as goal
 
-pub returns-then-is_empty : goal.returns-then-is_empty
-returns-then-is_empty c =
+pub returns-in_default-split_first : goal.returns-in_default-split_first
+returns-in_default-split_first c =
     let ctx = context_of c.args.scope.now in
     let name = c.in-Some.name.items in
     let found : group_name_at ctx.setting.table (source c.args.cursor.now) ≡ Some (name, c.in-Some.rest.now) =
     sym c.in_ok-name.ensures ∙ ap (option_map (λ found. (found.0.items, found.1.now))) c.in-Some.is in
-    let numbers = c.numbers_of-numbers.ensures ∙ ap (λ (name : List ℕ). groups_named name 1 ctx.names) c.deref.ensures.value in
+    let numbers = c.numbers_of.ensures ∙ ap (λ (name : List ℕ). groups_named name 1 ctx.names) c.deref.ensures.value in
     on_syntax c.unknown_name.result
-    (named-unknown ctx (source c.args.cursor.now) name c.in-Some.rest.now found (sym numbers ∙ length-none _ (sym c.if-is_empty.ensures)))
+    (named-unknown ctx (source c.args.cursor.now) name c.in-Some.rest.now found
+    (sym numbers ∙ none_there _ c.in_default-split_first.ensures.cases))
 
 pub invariant_of-cursor : goal.invariant_of-cursor
 invariant_of-cursor c =
@@ -37,9 +38,11 @@ returns c =
     let name = c.in-Some.name.items in
     let found : group_name_at ctx.setting.table (source c.args.cursor.now) ≡ Some (name, c.in-Some.rest.now) =
     sym c.in_ok-name.ensures ∙ ap (option_map (λ found. (found.0.items, found.1.now))) c.in-Some.is in
-    let numbers = c.numbers_of-numbers.ensures ∙ ap (λ (name : List ℕ). groups_named name 1 ctx.names) c.deref.ensures.value in
-    let some = length-some c.numbers_of-numbers.result.now (sym c.if-is_empty.ensures) in (
+    let numbers = c.numbers_of.ensures ∙ ap (λ (name : List ℕ). groups_named name 1 ctx.names) c.deref.ensures.value in
+    let first = c.in-Some-split_first.first.now in
+    let parts : first ∷ c.in-Some-split_first.others.now ≡ groups_named name 1 ctx.names =
+    sym c.in-Some-split_first.ensures.cases.0 ∙ numbers in (
       back_reference ctx.setting.flags (by_name name),
-      named-some ctx (source c.args.cursor.now) name c.in-Some.rest.now found (λ none. some (numbers ∙ none)),
-      (by_name name, refl, c.in_ok-numbers.ensures.items ∙ numbers, λ none. some (sym c.in_ok-numbers.ensures.items ∙ none)),
+      named-some ctx (source c.args.cursor.now) name c.in-Some.rest.now found (λ none. omega (arith, ap length (parts ∙ none))),
+      (by_name name, refl, ap (λ (ks : List ℕ). first ∷ ks) c.in_ok-others.ensures.items ∙ parts),
     )

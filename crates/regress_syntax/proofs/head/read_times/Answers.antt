@@ -1,4 +1,7 @@
-use Rattle.std.proofs.Common.{sym}
+use Rattle.std.proofs.Common.{sym, ◌∙◌}
+use Rattle.regress_syntax.proofs.laws.Plain.{no_times}
+use Rattle.regress_syntax.specs.Views.{context_of}
+use Rattle.regress_lexical.specs.Views.{source}
 use Rattle.regress_lexical.proofs.laws.Behind.{behind_all, quantifier_at-ends}
 use Rattle.regress_syntax.proofs.head.read_times.Goals as goal
 
@@ -8,3 +11,8 @@ invariant_of-cursor c = record {
       ((quantifier_at-ends c.args.cursor.now.rest.now).each (c.in-Some.quantifier, c.in-Some.rest.now) (sym c.in-Some.ensures))
       c.args.cursor.now.in_range;
 }
+
+pub returns-then-not-may_begin : goal.returns-then-not-may_begin
+returns-then-not-may_begin c =
+    no_times (context_of c.args.scope.now) c.args.allowed (source c.args.cursor.now)
+    (sym c.may_begin.ensures ∙ c.if-not-may_begin.true)

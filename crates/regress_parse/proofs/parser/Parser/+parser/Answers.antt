@@ -3,7 +3,7 @@ use Rattle.std.proofs.Common.{◌≡◌, ◌+◌, false, Some, None, length, ref
 use Rattle.std.specs.Option.{IsSomeAnd}
 use Rattle.std.proofs.lemmas.Result.{err_from_is_err_and}
 use Rattle.regress_lexical.specs.Source.{Source, ends_alternative, bar as the_bar}
-use Rattle.regress_syntax.specs.Syntax.{Counts, added, one_loop, counts_of_item}
+use Rattle.regress_syntax.specs.Syntax.{literal, atom, Counts, added, one_loop, counts_of_item}
 use Rattle.regress_syntax.specs.Rows.{Head}
 use Rattle.regress_lexical.specs.Views.{source}
 use Rattle.regress_lexical.proofs.laws.Sources.{at_front, on_syntax, on_syntax_then}
@@ -13,55 +13,81 @@ use Rattle.regress_parse.specs.Reader.{item_behind, pattern_at, terms_at, term_a
 use Rattle.regress_parse.specs.Parsing.{Builds, text, counted, context_in, table_in, names_around, direction_of, terms_part, term_part, item_part}
 use Rattle.regress_parse.proofs.CountLemmas.{added-assoc, added-nothing, Fits-inside}
 use Rattle.regress_parse.proofs.ReaderLemmas.{terms_at-shortens, term_at-shortens}
-use Rattle.regress_parse.proofs.SoFarLemmas.{terms-start, terms-step, terms-end, terms-fail}
+use Rattle.regress_parse.proofs.SoFarLemmas.{TermsSoFar, terms-start, terms-step, terms-end, terms-fail}
 use Rattle.regress_parse.proofs.AlternativesLemmas.{alternatives-start, alternatives-step, first-fail, alternatives-fail}
-use Rattle.regress_parse.proofs.TermLemmas.{too_deep, term_read, no_term, term-fail, term-too_many}
+use Rattle.regress_parse.proofs.TermLemmas.{too_deep, term_read, plain_term, no_term, term-fail, term-too_many}
 use Rattle.regress_parse.proofs.ParserLemmas.{built}
 use Rattle.regress_parse.proofs.parser.Parser.+parser.Goals as goal
 
-pub consume_alternative-loop-parts-init : goal.consume_alternative-loop-parts-init
-consume_alternative-loop-parts-init t c =
+pub consume_alternative-loop-self-init : goal.consume_alternative-loop-self-init
+consume_alternative-loop-self-init t c =
     let old = c.args.self.now in
     rw c.new-parts.ensures.items (terms-start _ _ _ _ _ (text old) (counted old)
     (record { groups = omega (arith, old.groups_within); loops = omega (arith, old.loops_within); levels = omega arith }))
 
+pub consume_alternative-loop-self-preserved-in_ok-push : goal.consume_alternative-loop-self-preserved-in_ok-push
+consume_alternative-loop-self-preserved-in_ok-push t c =
+    let l = c.loop-self in
+    let around = c.args.around.now in
+    let ctx = context_in around in
+    let letter = c.in-Some.c in
+    let rest = source c.next_plain.new.self in
+    let goes_on : ends_alternative (text l.self) ≡ false = sym c.ends_alternative.ensures ∙ c.loop-self-test.true in
+    let found : term_at ctx (text l.self) ≡ Some ((atom (literal ctx.setting.flags letter), None), rest) =
+    ap (term_at ctx) c.in-Some.ensures.some
+    ∙ plain_term (table_in around) (names_around around) ctx letter rest c.in-Some.ensures.plain c.in-Some.ensures.alone in
+    rw c.in_ok-push.ensures.items
+    (terms-step _ _ _ _ _ _ _ (text l.self) (counted l.self) l.parts.items c.in_ok-make_literal.field-0
+    (atom (literal ctx.setting.flags letter), None) rest (counted l.self) l.invariant goes_on found c.in_ok-make_literal.ensures
+    (sym (added-nothing (counted l.self)))
+    (record { groups = omega (arith, l.self.groups_within); loops = omega (arith, l.self.loops_within); levels = omega (arith, c.requires) }))
+
 pub consume_alternative-returns-in_err-consume_term : goal.consume_alternative-returns-in_err-consume_term
 consume_alternative-returns-in_err-consume_term t c =
-    let p = err_from_is_err_and c.from_residual.result c.from_residual.ensures.1 in
-    let l = c.loop-parts in
-    let goes_on : ends_alternative (text l.self) ≡ false = sym c.ends_alternative.ensures ∙ c.loop-parts-test.true in
+    let from = c.from_residual-in_err-consume_term in
+    let p = err_from_is_err_and from.result from.ensures.1 in
+    let l = c.loop-self in
+    let around = c.args.around.now in
+    let here : source c.next_plain.new.self ≡ text l.self = c.in_default.ensures.none in
+    let h = subst (λ (u : Source). TermsSoFar (table_in around) (names_around around) (direction_of around) (context_in around) around.depth
+    (text c.args.self.now) (counted c.args.self.now) u (counted l.self) l.parts.items) (sym here) l.invariant in
+    let goes_on = ap ends_alternative here ∙ sym c.ends_alternative.ensures ∙ c.loop-self-test.true in
     record {
       value = rw (p.1, p.2) (on_syntax_then c.in_err-consume_term.field-0.0
-          (terms-fail _ _ _ _ _ _ _ (text l.self) (counted l.self) l.parts.items l.invariant goes_on)
+          (terms-fail _ _ _ _ _ _ _ (source c.next_plain.new.self) (counted l.self) l.parts.items h goes_on)
           c.in_err-consume_term.ensures.value);
     }
 
-pub consume_alternative-loop-parts-smaller : goal.consume_alternative-loop-parts-smaller
-consume_alternative-loop-parts-smaller t c =
+pub consume_alternative-loop-self-smaller : goal.consume_alternative-loop-self-smaller
+consume_alternative-loop-self-smaller t c =
     let around = c.args.around.now in
-    let here = text c.loop-parts.self in
-    let found = built (term_part (table_in around) (names_around around)) (direction_of around) around.depth (counted c.loop-parts.self) c.consume_term.new.self
+    let here = source c.next_plain.new.self in
+    let found = built (term_part (table_in around) (names_around around)) (direction_of around) around.depth (counted c.loop-self.self) c.consume_term.new.self
     (term_at (context_in around) here) c.in_ok-consume_term.field-0 c.in_ok-consume_term.ensures.value in
-    omega (arith, term_at-shortens (context_in around) here found.0 found.1, ap length found.2.rest)
+    omega (arith, term_at-shortens (context_in around) here found.0 found.1, ap length found.2.rest, ap length c.in_default.ensures.none)
 
-pub consume_alternative-loop-parts-preserved : goal.consume_alternative-loop-parts-preserved
-consume_alternative-loop-parts-preserved t c =
-    let l = c.loop-parts in
-    let goes_on : ends_alternative (text l.self) ≡ false = sym c.ends_alternative.ensures ∙ c.loop-parts-test.true in
+pub consume_alternative-loop-self-preserved : goal.consume_alternative-loop-self-preserved
+consume_alternative-loop-self-preserved t c =
+    let l = c.loop-self in
     let around = c.args.around.now in
+    let there = source c.next_plain.new.self in
+    let here : there ≡ text l.self = c.in_default.ensures.none in
+    let h = subst (λ (u : Source). TermsSoFar (table_in around) (names_around around) (direction_of around) (context_in around) around.depth
+    (text c.args.self.now) (counted c.args.self.now) u (counted l.self) l.parts.items) (sym here) l.invariant in
+    let goes_on = ap ends_alternative here ∙ sym c.ends_alternative.ensures ∙ c.loop-self-test.true in
     let found = built (term_part (table_in around) (names_around around)) (direction_of around) around.depth (counted l.self) c.consume_term.new.self
-    (term_at (context_in around) (text l.self)) c.in_ok-consume_term.field-0 c.in_ok-consume_term.ensures.value in
+    (term_at (context_in around) there) c.in_ok-consume_term.field-0 c.in_ok-consume_term.ensures.value in
     let b = found.2 in
-    rw (b.rest, c.in_ok-push.ensures.items)
-    (terms-step _ _ _ _ _ _ _ (text l.self) (counted l.self) l.parts.items c.in_ok-consume_term.field-0 found.0.0 found.0.1
-    (counted c.consume_term.new.self) l.invariant goes_on found.1 b.node b.counts b.fits)
+    rw (b.rest, c.in_ok-push-2.ensures.items)
+    (terms-step _ _ _ _ _ _ _ there (counted l.self) l.parts.items c.in_ok-consume_term.field-0 found.0.0 found.0.1
+    (counted c.consume_term.new.self) h goes_on found.1 b.node b.counts b.fits)
 
 pub consume_alternative-returns : goal.consume_alternative-returns
 consume_alternative-returns t c =
-    let l = c.loop-parts in
+    let l = c.loop-self in
     let h = l.invariant in
     let end = terms-end _ _ _ _ _ _ _ (text l.self) (counted l.self) l.parts.items h
-    (sym c.ends_alternative.ensures ∙ c.loop-parts-test.false) in
+    (sym c.ends_alternative.ensures ∙ c.loop-self-test.false) in
     record {
       value = rw end (record {
         node = c.make_cat.ensures ∙ ap (joined (direction_of c.args.around.now)) h.nodes;

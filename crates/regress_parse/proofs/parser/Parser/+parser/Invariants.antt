@@ -20,13 +20,13 @@ decreases-consume_term l = 8 * length (text l.self.now) + 2
 abbrev pub decreases-consume_item : goal.decreases-consume_item
 decreases-consume_item l = 8 * length (text l.self.now) + 6
 
-abbrev pub invariant-consume_alternative-loop-parts : goal.invariant-consume_alternative-loop-parts
-invariant-consume_alternative-loop-parts l =
+abbrev pub invariant-consume_alternative-loop-self : goal.invariant-consume_alternative-loop-self
+invariant-consume_alternative-loop-self l =
     TermsSoFar (table_in l.around) (names_around l.around) (direction_of l.around) (context_in l.around) l.around.depth (text l.fn.self) (counted l.fn.self)
     (text l.self) (counted l.self) l.parts.items
 
-abbrev pub decreases-consume_alternative-loop-parts : goal.decreases-consume_alternative-loop-parts
-decreases-consume_alternative-loop-parts l = length (text l.self)
+abbrev pub decreases-consume_alternative-loop-self : goal.decreases-consume_alternative-loop-self
+decreases-consume_alternative-loop-self l = length (text l.self)
 
 abbrev pub invariant-consume_disjunction-loop-inside : goal.invariant-consume_disjunction-loop-inside
 invariant-consume_disjunction-loop-inside l =
