@@ -152,11 +152,7 @@ fn add_atom(set: &mut Gathered, alloc: Global, atom: ClassAtom) -> Result<(), Al
 }
 
 /// Adds the members, or those of the complement.
-fn add_members(
-    set: &mut Gathered,
-    members: &CodePointSet,
-    negated: bool,
-) -> Result<(), AllocError>
+fn add_members(set: &mut Gathered, members: &CodePointSet, negated: bool) -> Result<(), AllocError>
     ensures { OnOk result (Adds (complement_if negated members.now) set.old set.new) }
 {
     if negated {
