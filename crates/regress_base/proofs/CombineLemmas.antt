@@ -1,5 +1,5 @@
 -- Membership along two lists that are walked at once.
-use Rattle.std.proofs.Common.{◌≡◌, ℕ, ◌+◌, ◌<◌, ◌≤◌, Bool, true, false, ◌||◌, ◌&&◌, inl, inr, IsTrue, nat_le, leb-true, List, [], ◌∷◌, ◌++◌, length, take, drop, get_or, max, min, Result, Ok, Err, OnOk, refl, sym, ap, ap₂, ◌∙◌, subst, suc, add-one, ◌⊎◌, arith}
+use Rattle.std.proofs.Common.{◌≡◌, ℕ, ◌+◌, ◌<◌, ◌≤◌, Bool, true, false, ◌||◌, ◌&&◌, inl, inr, IsTrue, nat_le, leb-true, List, [], ◌∷◌, ◌++◌, length, take, drop, get_or, max, min, refl, sym, ap, ap₂, ◌∙◌, subst, suc, add-one, ◌⊎◌, arith}
 use Rattle.std.proofs.lemmas.Bool.{and_left, and_right, and_from, and_parts, true≢false, false_from_ne_true, cases_lt, cond-true, cond-false, le-leb}
 use Rattle.std.proofs.lemmas.List.{drop_all, append-nil, get_or_read}
 use Rattle.regress_base.specs.Intervals.{Bounds, IsInterval, is_within, is_member, is_canonical_from, IsCanonical}
@@ -8,17 +8,6 @@ use Rattle.regress_base.proofs.WithinLemmas.{pair, is_within_overlap, is_within-
 use Rattle.regress_base.proofs.MemberLemmas.{is_member-nil, is_member-one, is_member-append, is_member-take_more, is_member-drop_more, or_assoc}
 use Rattle.std.proofs.Math.Bool.{or-false}
 use Rattle.regress_base.proofs.CanonicalLemmas.{canonical_behind, canonical_at, canonical_apart, canonical_cons, canonical_append, next_low, next_low-nil, next_low-push, no_member_below}
-
--- what holds on success, by what it follows from
-pub on_ok : {A E : Type 0} (r : Result A E) {P Q : Type 0} → (P → Q) → OnOk r P → OnOk r Q
-on_ok (Ok a) f p = f p
-on_ok (Err e) f p = p
-
--- the overlap of two intervals, by its ends
-pub overlap_by_ends : (a b m : Bounds) (c : ℕ) → m.first ≡ max a.first b.first → m.last ≡ min a.last b.last
-    → is_within m c ≡ (is_within a c && is_within b c)
-overlap_by_ends a b m c first last =
-    ap₂ (λ x y. is_within (record { first = x; last = y }) c) first last ∙ is_within_overlap a b c
 
 move_left : (a b w : Bool) → ((a || b) || w) ≡ ((a || w) || b)
 move_left true b w = refl

@@ -1,14 +1,14 @@
 -- A range of a canonical list replaced by what is left of it.
-use Rattle.std.proofs.Common.{◌≡◌, ℕ, ◌+◌, ◌-◌, ◌<◌, ◌≤◌, Bool, true, false, not, ◌||◌, ◌&&◌, inl, inr, ◌⊎◌, IsTrue, List, [], ◌∷◌, ◌++◌, length, take, drop, get_or, slice_get, Some, None, refl, sym, ap, ap₂, ◌∙◌, subst, le_refl, arith}
-use Rattle.std.proofs.lemmas.Bool.{cases_lt, cases_Bool, or_left, or_right, or_cases, and_parts, and_left, and_right, false≢true, true≢false, false_from_ne_true}
-use Rattle.std.proofs.lemmas.List.{take-append-drop, take-take, drop-take, append_assoc, append-nil, get_or-take, get_or-drop, length-take-le, length-drop}
+use Rattle.std.proofs.Common.{◌≡◌, ℕ, ◌+◌, ◌-◌, ◌≤◌, Bool, true, false, not, ◌||◌, ◌&&◌, inl, inr, ◌⊎◌, IsTrue, List, [], ◌∷◌, ◌++◌, length, take, drop, get_or, slice_get, Some, refl, sym, ap, ap₂, ◌∙◌, subst, le_refl, arith}
+use Rattle.std.proofs.lemmas.Bool.{cases_lt, cases_Bool, or_left, or_right, or_cases, and_parts, and_left, false≢true, true≢false, false_from_ne_true}
+use Rattle.std.proofs.lemmas.List.{take-append-drop, take-take, drop-take, append_assoc, get_or-take, get_or-drop, length-take-le, length-drop}
 use Rattle.std.proofs.lemmas.Option.{none-some, same_Some}
-use Rattle.regress_base.specs.Intervals.{Bounds, IsInterval, is_within, is_member, is_canonical_from, IsCanonical, IsComplement, IsTouchingRange, code_point_max}
+use Rattle.regress_base.specs.Intervals.{Bounds, is_within, is_member, is_canonical_from, IsCanonical, IsComplement, IsTouchingRange, code_point_max}
 use Rattle.regress_base.proofs.WithinLemmas.{pair, le-is_within, lt-is_within, gt-is_within, is_within-true}
 use Rattle.regress_base.proofs.MemberLemmas.{is_member-nil, is_member-cons, is_member-append, is_member-nowhere}
-use Rattle.regress_base.proofs.CanonicalLemmas.{canonical_parts, canonical_cons, canonical_append, canonical_front, canonical_back, canonical_lower, canonical_at, canonical_apart, member_above, no_member_past_end, next_low}
+use Rattle.regress_base.proofs.CanonicalLemmas.{canonical_parts, canonical_cons, canonical_append, canonical_front, canonical_back, canonical_lower, member_above, no_member_past_end, next_low}
 use Rattle.regress_base.proofs.JoinLemmas.{between}
-use Rattle.regress_base.proofs.AddLemmas.{LastAt, last_at}
+use Rattle.regress_base.proofs.AddLemmas.{last_at}
 
 -- ---- fewer members in the same room
 

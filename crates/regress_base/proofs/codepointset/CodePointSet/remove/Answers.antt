@@ -1,9 +1,9 @@
 -- What the intervals lie over is replaced by what is left of it.
-use Rattle.std.proofs.Common.{◌≡◌, ℕ, ◌-◌, ◌&&◌, ◌∙◌, ◌++◌, IsTrue, not, take, drop, List, refl, ap, ap₂, sym, subst}
+use Rattle.std.proofs.Common.{◌≡◌, ℕ, ◌-◌, ◌&&◌, ◌∙◌, ◌++◌, not, take, drop, List, ap, ap₂, sym, subst}
 use Rattle.std.proofs.lemmas.Iterator.{items_from_drains}
 use Rattle.std.proofs.lemmas.Iterator.Adapters.{YieldsList-from_vec}
 use Rattle.std.proofs.lemmas.List.{map-id}
-use Rattle.regress_base.specs.Intervals.{Bounds, is_member, is_within, IsCanonical, IsTouchingRange}
+use Rattle.regress_base.specs.Intervals.{Bounds, is_member, IsCanonical, IsTouchingRange}
 use Rattle.regress_base.proofs.CutLemmas.{IsCut, slice_between, canonical_between, cut, cut_none, cut_empty}
 use Rattle.regress_base.proofs.codepointset.CodePointSet.remove.Goals as goal
 

@@ -1,5 +1,5 @@
 -- The overlap runs from the later first to the earlier last.
-use Rattle.std.proofs.Common.{◌∙◌, ◌++◌, ◌∷◌, [], min, max, ap, ap₂, refl}
+use Rattle.std.proofs.Common.{◌∙◌, min, max, ap, ap₂, refl}
 use Rattle.std.proofs.lemmas.Bool.{false≢true}
 use Rattle.regress_base.proofs.CombineLemmas.{pushed_some, pushed_none}
 use Rattle.regress_base.proofs.codepointset.combine.push_overlap.Goals as goal

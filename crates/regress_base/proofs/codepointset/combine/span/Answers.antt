@@ -1,5 +1,5 @@
 -- The members lie between the first and the last.
-use Rattle.std.proofs.Common.{◌≡◌, ◌∙◌, ◌≤◌, ℕ, ap, sym, subst, le_refl, arith}
+use Rattle.std.proofs.Common.{◌∙◌, sym, arith}
 use Rattle.regress_base.proofs.CutLemmas.{span_ordered, within_span}
 use Rattle.regress_base.proofs.WithinLemmas.{pair}
 use Rattle.std.proofs.Common.{ap₂}
