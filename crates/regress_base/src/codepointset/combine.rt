@@ -26,8 +26,7 @@ impl CodePointSet {
     }
 
     /// Keeps the members that lie in one of the intervals. After an error the set is as it was. One
-    /// pass over both lists, of which only those of the set that lie between the first and the last of
-    /// the intervals are looked at.
+    /// pass over both lists.
     pub fn intersect(&mut self, intervals: &[Interval]) -> Result<(), AllocError>
         requires { IsCanonical intervals.now }
         ensures members { OnOk result ((c : ℕ) →
