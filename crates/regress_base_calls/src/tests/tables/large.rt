@@ -9,15 +9,18 @@ use std::test::Fail;
 
 /// How many single rows there are, from `SINGLES` on: each fourth code point folds to the next one.
 const SINGLE_ROWS: u32 = 120;
+
 const SINGLES: u32 = 0x1000;
 
 /// How many runs there are, from `RUNS` on: each second code point of 32 folds to the next one.
 const RUN_ROWS: u32 = 40;
+
 const RUNS: u32 = 0x4000;
 
 /// How many images are shared, from `SHARED` on: of each eight code points the first three fold to the
 /// fourth.
 const SHARED_IMAGES: u32 = 16;
+
 const SHARED: u32 = 0x8000;
 
 fn push_rows(rows: &mut Vec<FoldRange>) -> Result<(), AllocError> {
