@@ -66,13 +66,13 @@ touching-from_equal_range ivs iv start end range = record {
 }
 
 -- where the last interval ends and begins, as seen from each one before it
-record LastAt (ivs : List Bounds) (last : Bounds) : Type 0 where
-  some : 0 < length ivs
-  here : (d : Bounds) → get_or ivs (length ivs - 1) d ≡ last
-  interval : IsInterval last
-  after : (k : ℕ) (d : Bounds) → k < length ivs - 1 → (get_or ivs k d).last + 1 < last.first
+pub record LastAt (ivs : List Bounds) (last : Bounds) : Type 0 where
+  pub some : 0 < length ivs
+  pub here : (d : Bounds) → get_or ivs (length ivs - 1) d ≡ last
+  pub interval : IsInterval last
+  pub after : (k : ℕ) (d : Bounds) → k < length ivs - 1 → (get_or ivs k d).last + 1 < last.first
 
-last_at : (ivs : List Bounds) (last : Bounds) → IsCanonical ivs → slice_get ivs (length ivs - 1) ≡ Some last → LastAt ivs last
+pub last_at : (ivs : List Bounds) (last : Bounds) → IsCanonical ivs → slice_get ivs (length ivs - 1) ≡ Some last → LastAt ivs last
 last_at ivs last can at =
     let inside = slice_get_within ivs (length ivs - 1) last at in
     let here = λ (d : Bounds). get_or_from_slice_get ivs (length ivs - 1) last d at in

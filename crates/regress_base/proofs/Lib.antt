@@ -14,4 +14,5 @@ pub mod Utf8Lemmas
 pub mod CombineLemmas
 pub mod UniqueLemmas
 pub mod GapsLemmas
+pub mod CutLemmas
 pub mod laws

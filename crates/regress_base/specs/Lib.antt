@@ -7,6 +7,7 @@ pub mod FirstBytes
 pub mod Needle
 pub mod Places
 pub mod Intervals
+pub mod Overlap
 pub mod Utf8
 pub mod Classes
 pub mod Ranges

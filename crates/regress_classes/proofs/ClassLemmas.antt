@@ -70,13 +70,13 @@ module _ (table : Table) (unicode : Bool) where
     held = λ c. adds c ∙ ap (λ b. b || is_member members c) (so_far.held c) ∙ sym (is_member-append so_far.members members c);
   }
 
-  pub all_read : (t rest : Source) (set : List Bounds) → ReadUpTo t rest set → is_at 93 rest ≡ true →
-      IsCanonical set → (members : List Bounds) × (class_parts_by table unicode (length t + 1) t ≡ Some (members, drop 1 rest)) × HasMembers members set
-  all_read t rest set so_far closes canonical = (
+  pub all_read : (t rest : Source) (gathered set : List Bounds) → ReadUpTo t rest gathered → is_at 93 rest ≡ true →
+      HasMembers gathered set → (members : List Bounds) × (class_parts_by table unicode (length t + 1) t ≡ Some (members, drop 1 rest)) × HasMembers members set
+  all_read t rest gathered set so_far closes has = (
     so_far.members,
     so_far.whole ∙ ap (more_parts so_far.members) (parts_closed table unicode rest closes)
         ∙ ap (λ (l : List Bounds). Some (l, drop 1 rest)) (append-nil so_far.members),
-    record { canonical = canonical; each = so_far.held },
+    record { canonical = has.canonical; each = λ c. has.each c ∙ so_far.held c },
   )
 
   pub none_behind : (t rest : Source) (set : List Bounds) → ReadUpTo t rest set → is_at 93 rest ≡ false →

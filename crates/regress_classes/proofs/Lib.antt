@@ -4,4 +4,5 @@ mod ClassLemmas
 mod ClassOperandLemmas
 mod ClassSetLemmas
 mod ClassStringLemmas
+mod GatheredLemmas
 mod PropertyLemmas

@@ -9,7 +9,8 @@ ghost use Rattle.regress_classes.specs.ClassViews.{class_atom_of, IsClassAtomInR
 ghost use Rattle.regress_lexical.specs.Views.{source};
 
 use crate::class_atom::{ClassAtom, read_class_atom};
-use crate::class_escape::{add_intervals, class_members, set_is_canonical};
+use crate::class_escape::class_members;
+use crate::gathered::Gathered;
 use regress_base::codepointset::{CodePointSet, Interval};
 use regress_lexical::cursor::Cursor;
 use regress_lexical::fault::{INVALID_RANGE, ParseFault, REVERSED_RANGE, syntax};
@@ -41,13 +42,12 @@ fn read_parts(
     ensures { let t = source cursor.old in
         ReadsAs (λ set members. HasMembers members set) (source cursor.new) result (class_parts_by (table_of tables.now) unicode (length t + 1) t) }
 {
-    let mut set = CodePointSet::new(cursor.alloc);
+    let mut gathered = Gathered::new(cursor.alloc);
     while !cursor.is_at(']') {
-        read_part(cursor, tables, unicode, &mut set)?;
+        read_part(cursor, tables, unicode, &mut gathered)?;
     }
     cursor.try_consume(']');
-    set_is_canonical(&set);
-    Ok(set)
+    Ok(gathered.into_set()?)
 }
 
 /// Reads an atom or a range, and adds what it holds.
@@ -55,7 +55,7 @@ fn read_part(
     cursor: &mut Cursor,
     tables: &Tables,
     unicode: bool,
-    set: &mut CodePointSet,
+    set: &mut Gathered,
 ) -> Result<(), ParseFault>
     ensures { ReadsAs (λ _ members. Adds members set.old set.new) (source cursor.new) result (class_part_at (table_of tables.now) unicode (source cursor.old)) }
 {
@@ -94,7 +94,7 @@ fn read_range(
     tables: &Tables,
     unicode: bool,
     first: ClassAtom,
-    set: &mut CodePointSet,
+    set: &mut Gathered,
 ) -> Result<(), ParseFault>
     requires { IsClassAtomInRange first }
     ensures { ReadsAs (λ _ members. Adds members set.old set.new) (source cursor.new) result (range_at (table_of tables.now) unicode (class_atom_of first.entry) (source cursor.old)) }
@@ -105,7 +105,7 @@ fn read_range(
 
 /// Adds what two atoms with a hyphen between them hold.
 fn add_range(
-    set: &mut CodePointSet,
+    set: &mut Gathered,
     alloc: Global,
     unicode: bool,
     first: ClassAtom,
@@ -134,7 +134,7 @@ fn add_range(
 }
 
 /// Adds what an atom holds.
-fn add_atom(set: &mut CodePointSet, alloc: Global, atom: ClassAtom) -> Result<(), AllocError>
+fn add_atom(set: &mut Gathered, alloc: Global, atom: ClassAtom) -> Result<(), AllocError>
     requires { IsClassAtomInRange atom }
     ensures { OnOk result (Adds (atom_members (class_atom_of atom.entry)) set.old set.new) }
 {
@@ -142,7 +142,7 @@ fn add_atom(set: &mut CodePointSet, alloc: Global, atom: ClassAtom) -> Result<()
         ClassAtom::Point(c) => set.add(Interval::new(c, c)),
         ClassAtom::Class { kind, negated } => {
             let members = class_members(alloc, kind, negated)?;
-            add_intervals(set, members.intervals())
+            set.add_all(members.intervals())
         }
         ClassAtom::Property {
             set: members,
@@ -152,16 +152,12 @@ fn add_atom(set: &mut CodePointSet, alloc: Global, atom: ClassAtom) -> Result<()
 }
 
 /// Adds the members, or those of the complement.
-fn add_members(
-    set: &mut CodePointSet,
-    members: &CodePointSet,
-    negated: bool,
-) -> Result<(), AllocError>
+fn add_members(set: &mut Gathered, members: &CodePointSet, negated: bool) -> Result<(), AllocError>
     ensures { OnOk result (Adds (complement_if negated members.now) set.old set.new) }
 {
     if negated {
-        add_intervals(set, members.inverted()?.intervals())
+        set.add_all(members.inverted()?.intervals())
     } else {
-        add_intervals(set, members.intervals())
+        set.add_all(members.intervals())
     }
 }

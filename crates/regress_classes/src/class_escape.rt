@@ -1,5 +1,6 @@
 //! Classes by an escape.
-ghost use Rattle.std.specs.Prelude.{◌≡◌, ◌||◌, ℕ, IfOk, OnOk};
+ghost use Rattle.std.specs.Prelude.{◌≡◌, ◌||◌, ◌++◌, ℕ, IfOk, OnOk};
+ghost use Rattle.regress_base.specs.Classes.{white_space, line_terminators};
 ghost use Rattle.regress_base.specs.Intervals.{is_member, IsCanonical};
 ghost use Rattle.regress_classes.specs.ClassRows.{class_letter, members_of, class_members};
 ghost use Rattle.regress_classes.specs.ClassViews.{HasMembers};
@@ -31,17 +32,30 @@ pub fn class_letter(c: u32) -> Option<(CharacterClassType, bool)>
 pub fn class_escape_set(alloc: Global, kind: CharacterClassType) -> Result<CodePointSet, AllocError>
     ensures { IfOk result (HasMembers (members_of kind)) }
 {
-    let mut set = CodePointSet::new(alloc);
     match kind {
-        CharacterClassType::Digits => add_intervals(&mut set, &digit_intervals())?,
-        CharacterClassType::Spaces => {
-            add_intervals(&mut set, &white_space_intervals())?;
-            add_intervals(&mut set, &line_terminator_intervals())?;
-        }
-        CharacterClassType::Words => add_intervals(&mut set, &word_intervals())?,
+        CharacterClassType::Digits => set_of(alloc, &digit_intervals()),
+        CharacterClassType::Spaces => spaces(alloc),
+        CharacterClassType::Words => set_of(alloc, &word_intervals()),
     }
+}
+
+/// The members of `\s`: white space and line terminators.
+fn spaces(alloc: Global) -> Result<CodePointSet, AllocError>
+    ensures { IfOk result (HasMembers (white_space ++ line_terminators)) }
+{
+    let mut set = set_of(alloc, &white_space_intervals())?;
+    add_intervals(&mut set, &line_terminator_intervals())?;
     set_is_canonical(&set);
     Ok(set)
+}
+
+/// The set of these intervals, copied at once.
+fn set_of(alloc: Global, intervals: &[Interval]) -> Result<CodePointSet, AllocError>
+    requires { IsCanonical intervals.now }
+    ensures { IfOk result (HasMembers intervals.now) }
+{
+    let list = Vec::from_slice(alloc, intervals)?;
+    Ok(CodePointSet::from_sorted_disjoint_intervals(list))
 }
 
 /// The members of a class by an escape, or of its complement.

@@ -5,6 +5,7 @@ pub mod class;
 mod class_atom;
 pub mod class_escape;
 pub mod class_sets;
+mod gathered;
 pub mod property;
 
 pub use class_escape::class_escape_set;

@@ -14,6 +14,9 @@ use regress_lexical::fault::{INVALID_PROPERTY, PROPERTY_WITHOUT_BRACE, ParseFaul
 use regress_unicode::Tables;
 use std::alloc::AllocError;
 
+/// Room for nearly all names of Unicode, so that a word seldom grows.
+const WORD_ROOM: usize = 32;
+
 /// What a name stands for.
 #[derive(Clone, Copy)]
 pub enum Property<'a> {
@@ -74,7 +77,7 @@ fn read_named<'a>(
 fn read_word(cursor: &mut Cursor) -> Result<Option<String>, AllocError>
     ensures { IfOk result (λ word. option_map (λ word. (string_bytes word, source cursor.new)) word ≡ property_word_at (source cursor.old)) }
 {
-    let mut word = String::new(cursor.alloc);
+    let mut word = String::with_capacity(cursor.alloc, WORD_ROOM)?;
     while let Some((c, rest)) = property_character(cursor.rest) {
         word.push(c)?;
         cursor.rest = rest;

@@ -1,14 +1,11 @@
 -- Which code points have an image: itself, and those that a row moves to it.
-use Rattle.std.proofs.Common.{◌≡◌, ℕ, ◌+◌, ◌-◌, ◌%◌, ◌<◌, ◌≤◌, Bool, true, false, ◌&&◌, ◌||◌, ◌==◌, IsTrue, List, [], ◌∷◌, length, take, get_or, cond, inl, inr, refl, sym, ap, subst, ◌∙◌, arith}
+use Rattle.std.proofs.Common.{◌≡◌, ℕ, ◌+◌, ◌-◌, ◌%◌, ◌<◌, Bool, true, false, ◌&&◌, ◌||◌, ◌==◌, IsTrue, List, [], ◌∷◌, length, take, get_or, cond, inl, inr, refl, sym, ap, subst, ◌∙◌, arith}
 use Rattle.std.proofs.lemmas.Bool.{cases_eq, eq-eqb}
 use Rattle.std.proofs.lemmas.Bool.Decides.{nat_tests}
-use Rattle.std.proofs.lemmas.List.{take_all}
 use Rattle.std.proofs.lemmas.List.Folds.{list_any_more}
 use Rattle.std.specs.List.{list_any}
-use Rattle.regress_base.specs.Intervals.{Bounds, is_member}
 use Rattle.std.proofs.Math.Bool.{or-false}
-use Rattle.regress_base.proofs.laws.Sets.{is_member-nil, or_assoc}
-use Rattle.regress_unicode.specs.FoldRows.{FoldRow, moved, is_in_row, image_in_row, is_source, image, is_in_order_from, is_in_order}
+use Rattle.regress_unicode.specs.FoldRows.{FoldRow, moved, is_in_row, image_in_row, is_source, image, is_in_order_from}
 use Rattle.regress_unicode.proofs.RowLemmas.{order_parts, below_image}
 
 -- whether a row moves the code point to the target
@@ -87,29 +84,8 @@ unfolding has_source
 has_source-more rows i target c row lt is =
     list_any_more (λ r. is_source r target c) rows i row lt ∙ ap (λ r. has_source (take i rows) target c || is_source r target c) (sym is)
 
--- ---- what is found, row by row
-
-pub found_target : (set : List Bounds) (target x : ℕ) (new : Bool) → set ≡ [] → new ≡ (is_member set x || (x == target)) →
-    new ≡ ((x == target) || has_source [] target x)
-found_target set target x new empty is =
-    is ∙ rw (empty, is_member-nil x, has_source-nil target x) (sym (or-false (x == target)))
-
-pub found_source : (rows : List FoldRow) (i target x source : ℕ) (row : FoldRow) (old new : Bool) → i < length rows →
-    row ≡ get_or rows i row →
-    old ≡ ((x == target) || has_source (take i rows) target x) → new ≡ (old || (x == source)) → is_source row target x ≡ (x == source) →
-    new ≡ ((x == target) || has_source (take (i + 1) rows) target x)
-found_source rows i target x source row old new lt is so_far more moves =
-    more ∙ rw (so_far, ← moves, has_source-more rows i target x row lt is)
-    (sym (or_assoc (x == target) (has_source (take i rows) target x) (is_source row target x)))
-
-pub found_no_source : (rows : List FoldRow) (i target x : ℕ) (row : FoldRow) (old : Bool) → i < length rows → row ≡ get_or rows i row →
-    old ≡ ((x == target) || has_source (take i rows) target x) → is_source row target x ≡ false →
-    old ≡ ((x == target) || has_source (take (i + 1) rows) target x)
-found_no_source rows i target x row old lt is so_far none =
-    so_far ∙ rw (has_source-more rows i target x row lt is, none, or-false (has_source (take i rows) target x))
-
-pub found_all : (rows : List FoldRow) (i target x : ℕ) (found : Bool) → IsTrue (is_in_order rows) → image rows target ≡ target →
-    length rows ≤ i →
-    found ≡ ((x == target) || has_source (take i rows) target x) → found ≡ (image rows x == target)
-found_all rows i target x found order own le is =
-    is ∙ rw (take_all i rows le) (sym (has_image 0 rows target x order own))
+-- ... that moves nothing to the target
+pub has_source-no_more : (rows : List FoldRow) (i target c : ℕ) (row : FoldRow) → i < length rows → row ≡ get_or rows i row →
+    is_source row target c ≡ false → has_source (take i rows) target c ≡ has_source (take (i + 1) rows) target c
+has_source-no_more rows i target c row lt is none =
+    sym (has_source-more rows i target c row lt is ∙ ap (λ b. has_source (take i rows) target c || b) none ∙ or-false _)

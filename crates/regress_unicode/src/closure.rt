@@ -10,12 +10,15 @@ use super::checks::set_is_canonical;
 use super::shift::Shift;
 use super::{FoldRange, Tables};
 use regress_base::codepointset::{CodePointSet, Interval};
+use regress_base::util::equal_range_by;
 use std::alloc::AllocError;
+use std::ops::Range;
 
 /// All code points whose fold is the fold of a member. What is closed stays as it is.
 ///
-/// Each row is held against each interval, and adds an interval where all of its code points move,
-/// else the code points one by one; no loop runs over the members of an interval.
+/// Each row is held against the intervals that its run overlaps, which a binary search finds. It adds
+/// an interval where all of its code points move, else the code points one by one; no loop runs over
+/// the members of an interval.
 pub fn add_icase_code_points(
     input: CodePointSet,
     tables: &Tables,
@@ -41,7 +44,8 @@ fn add_images(
     rows: &[FoldRange],
     intervals: &[Interval],
 ) -> Result<(), AllocError>
-    requires { IsTrue (are_targets_in_range rows.now) }
+    requires in_range { IsTrue (are_targets_in_range rows.now) }
+    requires canonical { IsCanonical intervals.now }
     ensures members { OnOk result ((c : ℕ) →
         is_member set.new c ≡ (is_member set.old c || lands_by forward rows.now (is_member intervals.now) c)) }
     ensures nonempty { OnOk result (All (λ row. 1 ≤ row.length) rows.now) }
@@ -58,7 +62,8 @@ fn add_sources(
     rows: &[FoldRange],
     intervals: &[Interval],
 ) -> Result<(), AllocError>
-    requires { IsTrue (are_targets_in_range rows.now) }
+    requires in_range { IsTrue (are_targets_in_range rows.now) }
+    requires canonical { IsCanonical intervals.now }
     ensures { OnOk result ((c : ℕ) →
         is_member set.new c ≡ (is_member set.old c || lands_by backward rows.now (is_member intervals.now) c)) }
 {
@@ -74,11 +79,13 @@ fn add_shifted(
     shift: &Shift,
     intervals: &[Interval],
 ) -> Result<(), AllocError>
-    requires { IsShift shift.now }
+    requires shift { IsShift shift.now }
+    requires canonical { IsCanonical intervals.now }
     ensures { OnOk result ((c : ℕ) →
         is_member set.new c ≡ (is_member set.old c || lands shift.now (is_member intervals.now) c)) }
 {
-    for interval in intervals {
+    let Range { start, end } = equal_range_by(intervals, |interval| shift.place_of(*interval));
+    for interval in &intervals[start..end] {
         add_overlap(set, shift, *interval)?;
     }
     Ok(())

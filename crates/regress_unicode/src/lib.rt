@@ -8,7 +8,6 @@ mod checks;
 mod closure;
 mod fold_range;
 mod images;
-mod listing;
 mod new;
 mod range;
 mod readers;

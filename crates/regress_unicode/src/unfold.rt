@@ -1,14 +1,13 @@
 //! All code points of an image.
-ghost use Rattle.std.specs.Prelude.{◌≡◌, ◌≤◌, ◌==◌, length, IsTrue, IfOk};
+ghost use Rattle.std.specs.Prelude.{◌≡◌, ◌<◌, ◌≤◌, ◌==◌, ◌||◌, ℕ, length, get_or, IsTrue, IfOk, OnOk};
+ghost use Rattle.std.specs.List.{AllWithin};
 ghost use Rattle.regress_base.specs.Intervals.{code_point_max};
 ghost use Rattle.regress_unicode.specs.FoldRows.{image, is_in_order, are_targets_in_range};
-ghost use Rattle.regress_unicode.specs.Listing.{IsListing};
+ghost use Rattle.regress_unicode.specs.Listing.{lists, is_ascending, IsListing};
 ghost use Rattle.regress_unicode.specs.Table.{stands_for};
 ghost use Rattle.regress_unicode.specs.TableOf.{table_of};
 
-use super::listing::members;
 use super::{FoldRange, Tables, fold, uppercase};
-use regress_base::codepointset::CodePointSet;
 use std::alloc::{AllocError, Global};
 
 /// The code points with the fold of `c`, ascending, each once: at most four, `c` among them. One
@@ -63,12 +62,40 @@ fn with_image(alloc: Global, rows: &[FoldRange], target: u32) -> Result<Vec<u32>
     requires own_image { image rows.now target ≡ target }
     ensures { IfOk result (λ list. IsListing (λ x. image rows.now x == target) list.items) }
 {
-    let mut found = CodePointSet::new(alloc);
-    found.add_one(target)?;
+    let mut list = Vec::new(alloc);
+    list.push(target)?;
     for row in rows {
         if let Some(source) = row.source(target) {
-            found.add_one(source)?;
+            add_in_place(&mut list, source)?;
         }
     }
-    members(alloc, &found)
+    Ok(list)
+}
+
+/// Adds the number in its place, if it isn't there.
+fn add_in_place(list: &mut Vec<u32>, c: u32) -> Result<(), AllocError>
+    requires { IsTrue (is_ascending list.old.items) }
+    ensures ascending { OnOk result (IsTrue (is_ascending list.new.items)) }
+    ensures members { OnOk result ((x : ℕ) →
+        lists list.new.items x ≡ (lists list.old.items x || (x == c))) }
+{
+    let place = first_from(list, c);
+    if place < list.len() && list[place] == c {
+        return Ok(());
+    }
+    list.insert(place, c)?;
+    Ok(())
+}
+
+/// The first place at which the number or a greater one stands, else the end. Linear.
+fn first_from(list: &[u32], c: u32) -> usize
+    ensures bound { result ≤ length list.now }
+    ensures below { AllWithin (λ x. x < c) list.now 0 result }
+    ensures from { result < length list.now → (d : ℕ) → c ≤ get_or list.now result d }
+{
+    let mut place = 0;
+    while place < list.len() && list[place] < c {
+        place += 1;
+    }
+    place
 }

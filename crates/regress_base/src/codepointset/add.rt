@@ -1,5 +1,6 @@
 //! Adding intervals to a set.
-ghost use Rattle.std.specs.Prelude.{◌≡◌, ◌==◌, ℕ, ◌+◌, ◌<◌, ◌≤◌, ◌↔◌, ◌||◌, IsOk, OnOk, OnErr};
+ghost use Rattle.std.specs.Prelude.{◌≡◌, ◌==◌, ℕ, ◌+◌, ◌<◌, ◌≤◌, ◌↔◌, ◌||◌, length, IsOk, OnOk, OnErr};
+ghost use Rattle.std.specs.List.{insert};
 ghost use Rattle.regress_base.specs.Intervals.{is_member, is_within, IsInterval, IsCanonical, TouchesAny, IsTouchingRange};
 ghost use Rattle.std.specs.declared.cmp.Ordering.TheVariants.{Less, Greater};
 
@@ -23,7 +24,7 @@ impl CodePointSet {
     {
         let Range { start, end } = touching(&self.ivs, new_iv);
         if start == end {
-            self.ivs.insert(start, new_iv)?;
+            put_in(&mut self.ivs, start, new_iv)?;
             return Ok(());
         }
         let first = self.ivs[start].first().min(new_iv.first());
@@ -47,9 +48,23 @@ impl CodePointSet {
     }
 }
 
+/// Puts the interval at the place. At the end nothing is to be moved.
+fn put_in(ivs: &mut Vec<Interval>, place: usize, iv: Interval) -> Result<(), AllocError>
+    requires { place ≤ length ivs.old.items }
+    ensures ok { OnOk result (ivs.new.items ≡ insert ivs.old.items place iv) }
+    ensures err { OnErr result (ivs.new.items ≡ ivs.old.items) }
+{
+    if place == ivs.len() {
+        ivs.push(iv)?;
+    } else {
+        ivs.insert(place, iv)?;
+    }
+    Ok(())
+}
+
 /// The places of the intervals that `new_iv` overlaps or touches, or the place where it would go.
 /// Constant where it belongs at the end, else a binary search.
-fn touching(ivs: &[Interval], new_iv: Interval) -> Range<usize>
+pub(super) fn touching(ivs: &[Interval], new_iv: Interval) -> Range<usize>
     requires { IsCanonical ivs.now }
     ensures range { IsTouchingRange ivs.now new_iv result.start result.end }
     ensures interval { IsInterval new_iv }

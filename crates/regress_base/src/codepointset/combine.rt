@@ -1,13 +1,16 @@
 //! Union, intersection and difference, and equality.
-ghost use Rattle.std.specs.Prelude.{◌≡◌, ℕ, ◌≤◌, ◌||◌, ◌&&◌, ◌↔◌, not, IsTrue, IfOk, OnOk, OnErr};
+ghost use Rattle.std.specs.Prelude.{◌≡◌, ℕ, ◌≤◌, ◌++◌, ◌||◌, ◌&&◌, ◌↔◌, not, [], IsTrue, IfOk, IfSome, IfNone, OnOk, OnErr};
 ghost use Rattle.regress_base.specs.Intervals.{is_within, is_member, bounds_eq, IsCanonical};
+ghost use Rattle.regress_base.specs.Overlap.{overlap};
 ghost use Rattle.std.proofs.Common.{rules};
 ghost use Rattle.std.specs.Cmp.Rules.{comparing};
 ghost use Rattle.std.specs.Cmp.Lexicographic.{pointwise};
 
+use super::add::touching;
 use super::{CodePointSet, invert};
 use crate::interval::{CODE_POINT_MAX, Interval};
 use std::alloc::{AllocError, Global};
+use std::ops::Range;
 
 impl CodePointSet {
     /// Adds the members of `rhs`. After an error the set is as it was. One pass over both lists.
@@ -31,13 +34,13 @@ impl CodePointSet {
         ensures canonical { IsCanonical self.new }
         ensures err { OnErr result (self.new ≡ self.old) }
     {
-        let common = intersection(*self.ivs.allocator(), &self.ivs, intervals)?;
-        self.ivs = common.ivs;
+        self.ivs = intersection(*self.ivs.allocator(), &self.ivs, intervals)?;
         Ok(())
     }
 
-    /// Drops the members that lie in one of the intervals. After an error the set is as it was. One
-    /// pass over the intervals, to have the gaps between them, and one over both lists.
+    /// Drops the members that lie in one of the intervals. After an error the set is as it was. A
+    /// binary search for what lies between the first and the last of the intervals, one pass over that
+    /// and over the intervals, and one move of what lies behind.
     pub fn remove(&mut self, intervals: &[Interval]) -> Result<(), AllocError>
         requires { IsCanonical intervals.now }
         ensures members { OnOk result ((c : ℕ) →
@@ -45,8 +48,31 @@ impl CodePointSet {
         ensures canonical { IsCanonical self.new }
         ensures err { OnErr result (self.new ≡ self.old) }
     {
-        let kept = invert::gaps(*self.ivs.allocator(), intervals)?;
-        self.intersect(&kept)
+        let alloc = *self.ivs.allocator();
+        let Some(span) = span(intervals) else {
+            return Ok(());
+        };
+        let Range { start, end } = touching(&self.ivs, span);
+        if start == end {
+            return Ok(());
+        }
+        let gaps = invert::gaps(alloc, intervals)?;
+        let kept = intersection(alloc, &self.ivs[start..end], &gaps)?;
+        self.ivs.splice(start..end, kept)?;
+        Ok(())
+    }
+}
+
+/// The interval from the first member to the last, if there is one.
+fn span(intervals: &[Interval]) -> Option<Interval>
+    requires { IsCanonical intervals.now }
+    ensures some { IfSome result (λ span. (c : ℕ) →
+        IsTrue (is_member intervals.now c) → IsTrue (is_within span c)) }
+    ensures none { IfNone result (intervals.now ≡ []) }
+{
+    match (intervals.first(), intervals.last()) {
+        (Some(first), Some(last)) => Some(Interval::new(first.first(), last.last())),
+        _ => None,
     }
 }
 
@@ -71,24 +97,26 @@ fn union(alloc: Global, left: &[Interval], right: &[Interval]) -> Result<CodePoi
     Ok(joined)
 }
 
-/// The members of both lists. Of two intervals the one that ends first overlaps no later one.
+/// The intervals that both lists have in common. Of two intervals the one that ends first overlaps no
+/// later one.
 fn intersection(
     alloc: Global,
     left: &[Interval],
     right: &[Interval],
-) -> Result<CodePointSet, AllocError>
+) -> Result<Vec<Interval>, AllocError>
     requires left_canonical { IsCanonical left.now }
     requires right_canonical { IsCanonical right.now }
-    ensures { IfOk result (λ set. (c : ℕ) →
-        is_member set c ≡ (is_member left.now c && is_member right.now c)) }
+    ensures members { IfOk result (λ common. (c : ℕ) →
+        is_member common.items c ≡ (is_member left.now c && is_member right.now c)) }
+    ensures canonical { IfOk result (λ common. IsCanonical common.items) }
 {
-    let mut common = CodePointSet::new(alloc);
+    let mut common = Vec::new(alloc);
     let mut i = 0;
     let mut j = 0;
     while i < left.len() && j < right.len() {
         let a = left[i];
         let b = right[j];
-        add_overlap(&mut common, a, b)?;
+        push_overlap(&mut common, a, b)?;
         if a.last() <= b.last() {
             i += 1;
         } else {
@@ -98,17 +126,14 @@ fn intersection(
     Ok(common)
 }
 
-/// Adds the code points that both intervals hold.
-fn add_overlap(set: &mut CodePointSet, a: Interval, b: Interval) -> Result<(), AllocError>
-    ensures { OnOk result ((c : ℕ) →
-        is_member set.new c ≡ (is_member set.old c || (is_within a c && is_within b c))) }
+/// Appends the code points that both intervals hold.
+fn push_overlap(list: &mut Vec<Interval>, a: Interval, b: Interval) -> Result<(), AllocError>
+    ensures { OnOk result (list.new.items ≡ list.old.items ++ overlap a b) }
 {
-    if !a.overlaps(b) {
-        return Ok(());
+    if a.overlaps(b) {
+        list.push(Interval::new(a.first().max(b.first()), a.last().min(b.last())))?;
     }
-    let first = a.first().max(b.first());
-    let last = a.last().min(b.last());
-    set.add(Interval::new(first, last))
+    Ok(())
 }
 
 /// Sets are equal where they have the same intervals, which is where they have the same members.

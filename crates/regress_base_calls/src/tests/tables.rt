@@ -8,6 +8,7 @@ use regress_unicode::{
 };
 use std::test::Fail;
 
+mod large;
 mod refusals;
 
 #[test]

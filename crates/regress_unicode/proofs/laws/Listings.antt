@@ -1,11 +1,11 @@
 -- Ascending lists of numbers.
-use Rattle.std.proofs.Common.{◌≡◌, ◌≢◌, ℕ, zero, suc, ◌+◌, ◌-◌, ◌<◌, ◌≤◌, Bool, true, false, not, ◌&&◌, ◌||◌, nat_le, ◌==◌, IsTrue, List, [], ◌∷◌, ◌++◌, length, cond, filter, nat_lt, All, inl, inr, refl, sym, ap, subst, ◌∙◌, arith}
+use Rattle.std.proofs.Common.{◌≡◌, ◌≢◌, ℕ, zero, suc, ◌+◌, ◌-◌, ◌<◌, ◌≤◌, Bool, true, false, not, ◌&&◌, ◌||◌, nat_le, ◌==◌, IsTrue, List, [], ◌∷◌, ◌++◌, length, get_or, insert, cond, filter, nat_lt, All, inl, inr, refl, sym, ap, subst, ◌∙◌, arith}
 use Rattle.std.proofs.lemmas.Bool.{cases_eq, eqb-true}
 use Rattle.std.proofs.lemmas.Bool.Decides.{nat_tests}
 use Rattle.std.proofs.lemmas.List.Elements.{All-nil, All-cons}
 use Rattle.std.specs.List.{range_with_len, flat_map}
-use Rattle.regress_base.specs.Intervals.{Bounds, code_point_max, is_within, is_member, is_canonical_from, IsCanonical}
-use Rattle.regress_base.proofs.laws.Sets.{is_member-nil, is_member-cons, canonical_parts, member_above}
+use Rattle.regress_base.specs.Intervals.{Bounds, code_point_max, is_within, is_member, is_canonical_from}
+use Rattle.regress_base.proofs.laws.Sets.{is_member-nil, is_member-cons, canonical_parts}
 use Rattle.regress_unicode.specs.Listing.{lists, is_ascending_from, IsListing}
 use Rattle.regress_unicode.specs.Table.{code_points, HasSmallClasses}
 
@@ -150,33 +150,6 @@ lists-members low (iv ∷ ivs) c h =
     lists-append (code_points iv) (flat_map code_points ivs) c
     ∙ rw (lists-interval iv c, lists-members (iv.last + 2) ivs c parts.rest) (sym (is_member-cons iv ivs c))
 
-pub ascending_members : (low : ℕ) (set : List Bounds) → IsTrue (is_canonical_from low set) →
-    IsTrue (is_ascending_from low (flat_map code_points set))
-ascending_members low [] h = h
-ascending_members low (iv ∷ ivs) h =
-    let parts = canonical_parts low iv ivs h in
-    let rest = ascending_members (iv.last + 2) ivs parts.rest in
-    ascending_append low iv.first (iv.last + 1 - iv.first) (flat_map code_points ivs) parts.above
-    (ascending_lower (iv.last + 2) (iv.first + (iv.last + 1 - iv.first)) (flat_map code_points ivs)
-    (omega (arith, parts.interval.ordered)) rest)
-
-pub listing_of_members : (set : List Bounds) → IsCanonical set → IsListing (is_member set) (flat_map code_points set)
-listing_of_members set h = record {
-  ascending = ascending_members 0 set h;
-  members = λ c. lists-members 0 set c h ∙ by_member c (is_member set c) refl;
-}
-  where
-    by_member : (c : ℕ) (b : Bool) → is_member set c ≡ b → b ≡ (nat_le c code_point_max && b)
-    by_member c true e = let in_range = (member_above 0 set c h e).1 in grind (arith, nat_tests, in_range)
-    by_member c false e = grind (arith, nat_tests)
-
--- tests that agree have one listing
-pub listing_of_same : (p q : ℕ → Bool) (xs : List ℕ) → ((c : ℕ) → p c ≡ q c) → IsListing p xs → IsListing q xs
-listing_of_same p q xs same listing = record {
-  ascending = listing.ascending;
-  members = λ c. listing.members c ∙ rw (same c);
-}
-
 -- what holds of each number that the list has
 pub All-from_lists : (P : ℕ → Type 0) (xs : List ℕ) → ((c : ℕ) → lists xs c ≡ true → P c) → All P xs
 All-from_lists P [] h = All-nil P
@@ -189,3 +162,66 @@ few_of_image f image xs small listing =
     (let both : (nat_le c code_point_max && (f c == image)) ≡ true = sym (listing.members c) ∙ e in
     let yes : (f c == image) ≡ true = grind (arith, nat_tests, both) in
     eqb-true (f c) image yes)))
+
+-- ---- a number put in its place
+
+ascending_raise : (low low' : ℕ) (xs : List ℕ) → IsTrue (is_ascending_from low xs) → (0 < length xs → (d : ℕ) → low' ≤ get_or xs 0 d)
+    → IsTrue (is_ascending_from low' xs)
+ascending_raise low low' [] h above = h
+ascending_raise low low' (x ∷ xs) h above =
+    let parts = ascending_parts low x xs h in
+    let first = above (omega arith) 0 in
+    grind (arith, nat_tests, parts.rest, first)
+
+pub put_ascending : (low : ℕ) (xs : List ℕ) (place c : ℕ) → IsTrue (is_ascending_from low xs) → low ≤ c → place ≤ length xs
+    → ((k d : ℕ) → k < place → get_or xs k d < c) → (place < length xs → (d : ℕ) → c < get_or xs place d)
+    → IsTrue (is_ascending_from low (insert xs place c))
+put_ascending low xs zero c h above within before behind =
+    let rest = ascending_raise low (c + 1) xs h (λ some d. (let first = behind some d in omega arith)) in
+    grind (arith, nat_tests, rest)
+put_ascending low [] (suc place) c h above within before behind = absurd (omega arith)
+put_ascending low (x ∷ xs) (suc place) c h above within before behind =
+    let parts = ascending_parts low x xs h in
+    let first : x < c = before 0 0 (omega arith) in
+    let rest = put_ascending (x + 1) xs place c parts.rest (omega (arith, first)) (omega arith)
+    (λ k d lt. before (suc k) d (omega arith)) (λ lt d. behind (omega arith) d) in
+    grind (arith, nat_tests, parts.above, rest)
+
+pub put_lists : (xs : List ℕ) (place c x : ℕ) → place ≤ length xs → lists (insert xs place c) x ≡ (lists xs x || (x == c))
+put_lists xs zero c x within = grind (arith, nat_tests)
+put_lists [] (suc place) c x within = absurd (omega arith)
+put_lists (y ∷ ys) (suc place) c x within =
+    let rest = put_lists ys place c x (omega arith) in
+    grind (arith, nat_tests, rest)
+
+-- a number that stands there
+pub lists-at : (xs : List ℕ) (place c : ℕ) → place < length xs → get_or xs place c ≡ c → lists xs c ≡ true
+lists-at [] place c within at = absurd (omega arith)
+lists-at (x ∷ xs) zero c within at = ap (λ y. lists (x ∷ xs) y) (sym at) ∙ lists-head x xs
+lists-at (x ∷ xs) (suc place) c within at = lists-tail x xs c (lists-at xs place c (omega arith) at)
+
+pub lists_again : (xs : List ℕ) (c x : ℕ) → lists xs c ≡ true → lists xs x ≡ (lists xs x || (x == c))
+lists_again xs c x there = elim (cases_eq x c) [
+  | inl same ↦ (let here : lists xs x ≡ true = subst (λ (n : ℕ). lists xs n ≡ true) (sym same) there in rw here refl)
+  | inr other ↦ (let no : (x == c) ≡ false = grind (arith, nat_tests, other) in grind (arith, nat_tests, no))
+]
+
+-- what was found of an image so far: the target, and then a source more
+pub listed_target : (list : List ℕ) (target x : ℕ) → target ≤ code_point_max → list ≡ target ∷ []
+    → lists list x ≡ (nat_le x code_point_max && ((x == target) || false))
+listed_target list target x le is = rw is (grind (arith, nat_tests))
+
+pub listed_source : (x source : ℕ) (old new target before here more : Bool) → source ≤ code_point_max
+    → old ≡ (nat_le x code_point_max && (target || before)) → new ≡ (old || (x == source)) → here ≡ (x == source) → more ≡ (before || here)
+    → new ≡ (nat_le x code_point_max && (target || more))
+listed_source x source old new target before here more le so_far is at is_more =
+    let within : (x == source) ≡ (nat_le x code_point_max && (x == source)) = grind (arith, nat_tests) in
+    is ∙ rw (so_far, is_more, at) (by_cases (nat_le x code_point_max) target before (x == source) within)
+  where
+    by_cases : (w t b s : Bool) → s ≡ (w && s) → ((w && (t || b)) || s) ≡ (w && (t || (b || s)))
+    by_cases true true b s h = refl
+    by_cases true false b s h = refl
+    by_cases false t b s h = h
+
+pub one_ascending : (list : List ℕ) (c : ℕ) → list ≡ c ∷ [] → IsTrue (is_ascending_from 0 list)
+one_ascending list c is = rw is (grind (arith, nat_tests))

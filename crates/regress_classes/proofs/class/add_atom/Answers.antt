@@ -12,4 +12,4 @@ returns-in-Point c =
     on_ok_weaker c.add.result
     (λ members. subst (λ atom. Adds (atom_members (class_atom_of atom)) c.args.set.now c.add.new.self) (sym c.in-Point.is)
     (adds_one _ c.args.set.now c.add.new.self (λ n. members n ∙ ap (λ iv. is_member c.args.set.now n || is_within iv n) c.new.ensures)))
-    c.add.ensures.members
+    c.add.ensures

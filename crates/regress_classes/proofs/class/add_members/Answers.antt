@@ -10,9 +10,9 @@ pub returns-in_ok-inverted : goal.returns-in_ok-inverted
 returns-in_ok-inverted c =
     let members = c.args.members.now in
     let old = c.args.set.now in
-    let new = c.add_intervals.new.set in
-    on_ok_weaker c.add_intervals.result
+    let new = c.add_all.new.self in
+    on_ok_weaker c.add_all.result
     (λ adds. subst (λ (negated : Bool). Adds (complement_if negated members) old new) (sym c.if-negated.true)
     (adds_complement members c.in_ok-inverted.field-0 old new c.in_ok-inverted.ensures.members c.in_ok-inverted.ensures.canonical
     (subst (λ others. Adds others old new) c.intervals-then-negated.ensures.value adds)))
-    c.add_intervals.ensures
+    c.add_all.ensures

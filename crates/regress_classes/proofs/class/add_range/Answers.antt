@@ -11,7 +11,7 @@ returns-in-Point-Point-clause-ok c = (
   record { first = c.in-Point-Point.a; last = c.in-Point-Point.b } ∷ [],
   search rules,
   adds_one _ c.args.set.now c.add.new.self
-      (λ n. c.in_ok-add.ensures.members n ∙ ap (λ iv. is_member c.args.set.now n || is_within iv n) c.new.ensures),
+      (λ n. c.in_ok-add.ensures n ∙ ap (λ iv. is_member c.args.set.now n || is_within iv n) c.new.ensures),
 )
 
 pub returns-clause-ok : goal.returns-clause-ok

@@ -18,21 +18,21 @@ loop-cursor-smaller c =
 pub loop-cursor-preserved : goal.loop-cursor-preserved
 loop-cursor-preserved c =
     let found = c.in_ok-read_part.ensures in
-    one_more_read (table_of c.args.tables.now) c.args.unicode _ (source c.loop-cursor.cursor) (source c.read_part.new.cursor) c.loop-cursor.set c.read_part.new.set found.0
+    one_more_read (table_of c.args.tables.now) c.args.unicode _ (source c.loop-cursor.cursor) (source c.read_part.new.cursor) c.loop-cursor.gathered c.read_part.new.set found.0
     c.loop-cursor.invariant (sym c.is_at.ensures ∙ c.loop-cursor-test.true) found.1 found.2
 
 pub returns-in_err-read_part : goal.returns-in_err-read_part
 returns-in_err-read_part c =
     let p = err_from_is_err_and c.from_residual.result c.from_residual.ensures.1 in
     rw (p.1, p.2) (on_syntax_then c.in_err-read_part.field-0.0
-    (none_behind (table_of c.args.tables.now) c.args.unicode _ (source c.loop-cursor.cursor) c.loop-cursor.set c.loop-cursor.invariant
+    (none_behind (table_of c.args.tables.now) c.args.unicode _ (source c.loop-cursor.cursor) c.loop-cursor.gathered c.loop-cursor.invariant
     (sym c.is_at.ensures ∙ c.loop-cursor-test.true))
     c.in_err-read_part.ensures)
 
 pub returns : goal.returns
 returns c =
     let closes : is_at 93 (source c.loop-cursor.cursor) ≡ true = sym c.is_at.ensures ∙ c.loop-cursor-test.false in
-    let all = all_read (table_of c.args.tables.now) c.args.unicode _ (source c.loop-cursor.cursor) c.loop-cursor.set c.loop-cursor.invariant closes c.set_is_canonical.ensures in (
+    let all = all_read (table_of c.args.tables.now) c.args.unicode _ (source c.loop-cursor.cursor) c.loop-cursor.gathered _ c.loop-cursor.invariant closes c.in_ok-into_set.ensures in (
       all.0,
       all.1 ∙ ap (λ (rest : Source). Some (all.0, rest)) (sym (c.try_consume.ensures.moves ∙ cond-true _ _ _ (c.try_consume.ensures.found ∙ closes))),
       all.2,

@@ -10,7 +10,7 @@ use Rattle.regress_unicode.proofs.closure.add_sources.Goals as goal
 pub backward-requires : goal.backward-requires
 backward-requires c =
     subst (λ (r : FoldRow). IsTrue (is_target_in_range r)) (sym c.row-item.is)
-    (target_at c.args.rows.now c.loop-row.row-index c.row-item.result c.requires c.loop-row-test.true)
+    (target_at c.args.rows.now c.loop-row.row-index c.row-item.result c.requires.in_range c.loop-row-test.true)
 
 pub loop-row-init : goal.loop-row-init
 loop-row-init c x = rows_none backward (is_member c.args.intervals.now) x _

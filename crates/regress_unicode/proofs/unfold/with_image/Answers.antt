@@ -1,17 +1,21 @@
 -- Each row adds the code point that it moves to the target.
-use Rattle.std.proofs.Common.{ℕ, ◌==◌, Vec, Global, IsTrue, sym, subst}
-use Rattle.std.proofs.lemmas.Result.{IfOk-weaker}
-use Rattle.regress_base.specs.Intervals.{is_member}
-use Rattle.regress_unicode.specs.FoldRows.{FoldRow, image, is_target_in_range}
-use Rattle.regress_unicode.specs.Listing.{IsListing}
-use Rattle.regress_unicode.proofs.laws.Listings.{listing_of_same}
+use Rattle.std.proofs.Common.{ℕ, ◌==◌, ◌&&◌, ◌||◌, ◌∙◌, nat_le, IsTrue, List, [], ◌∷◌, ◌++◌, sym, ap, subst}
+use Rattle.std.proofs.lemmas.List.{take_all}
+use Rattle.regress_base.specs.Intervals.{code_point_max}
+use Rattle.regress_unicode.specs.FoldRows.{FoldRow, is_target_in_range}
+use Rattle.regress_unicode.proofs.laws.Listings.{listed_target, listed_source, one_ascending}
 use Rattle.regress_unicode.proofs.RowLemmas.{target_at}
-use Rattle.regress_unicode.proofs.SourceLemmas.{found_target, found_source, found_no_source, found_all}
+use Rattle.regress_unicode.proofs.SourceLemmas.{has_source, has_source-nil, has_source-more, has_source-no_more, has_image}
 use Rattle.regress_unicode.proofs.unfold.with_image.Goals as goal
-use Rattle.regress_unicode.proofs.unfold.with_image.Goals.{in-Some+in_ok-add_one-2, in_default}
+use Rattle.regress_unicode.proofs.unfold.with_image.Goals.{in-Some+in_ok-add_in_place, in_default}
 
 pub loop-row-init : goal.loop-row-init
-loop-row-init c x = found_target _ c.args.target x _ c.new-found.ensures (c.in_ok-add_one.ensures.members x)
+loop-row-init c =
+    let one = c.in_ok-push.ensures.items ∙ ap (λ (l : List ℕ). l ++ c.args.target ∷ []) c.new-list.ensures.items in
+    record {
+      ascending = one_ascending _ c.args.target one;
+      members = λ x. rw (has_source-nil c.args.target x) (listed_target _ c.args.target x c.requires.code_point one);
+    }
 
 pub source-requires-clause-in_range : goal.source-requires-clause-in_range
 source-requires-clause-in_range c =
@@ -21,19 +25,26 @@ source-requires-clause-in_range c =
 pub loop-row-preserved : goal.loop-row-preserved
 loop-row-preserved c =
     elim c.match-source.branch [
-      | in-Some+in_ok-add_one-2 w ↦ λ x. rw w.found-is
-          (found_source c.args.rows.now c.loop-row.row-index c.args.target x w.in-Some.source c.row-item.result _ _ c.loop-row-test.true
-          c.row-item.is
-          (c.loop-row.invariant x) (w.in_ok-add_one-2.ensures.members x) (w.in-Some.ensures.some x))
-      | in_default w ↦ λ x. rw w.found-is
-          (found_no_source c.args.rows.now c.loop-row.row-index c.args.target x c.row-item.result _ c.loop-row-test.true c.row-item.is
-          (c.loop-row.invariant x) (w.in_default.ensures.none x))
+      | in-Some+in_ok-add_in_place w ↦ rw w.list-is (record {
+        ascending = w.in_ok-add_in_place.ensures.ascending;
+        members = λ x. listed_source x w.in-Some.source _ _ (x == c.args.target) _ _ _ w.in-Some.ensures.low (c.loop-row.invariant.members x)
+            (w.in_ok-add_in_place.ensures.members x) (w.in-Some.ensures.some x)
+            (has_source-more c.args.rows.now c.loop-row.row-index c.args.target x c.row-item.result c.loop-row-test.true c.row-item.is);
+      })
+      | in_default w ↦ rw w.list-is (record {
+        ascending = c.loop-row.invariant.ascending;
+        members = λ x. c.loop-row.invariant.members x
+            ∙ ap (λ b. nat_le x code_point_max && ((x == c.args.target) || b))
+            (has_source-no_more c.args.rows.now c.loop-row.row-index c.args.target x c.row-item.result c.loop-row-test.true c.row-item.is
+            (w.in_default.ensures.none x));
+      })
     ]
 
 pub returns : goal.returns
-returns c =
-    IfOk-weaker c.members.result (λ (list : Vec ℕ Global). IsListing (is_member c.loop-row.found) list.items)
-    (λ (list : Vec ℕ Global). IsListing (λ x. image c.args.rows.now x == c.args.target) list.items)
-    (λ list. listing_of_same _ _ list.items (λ x. found_all c.args.rows.now c.loop-row.row-index c.args.target x _ c.requires.in_order
-    c.requires.own_image c.loop-row-test.false (c.loop-row.invariant x)))
-    c.members.ensures
+returns c = record {
+  ascending = c.loop-row.invariant.ascending;
+  members = λ x. c.loop-row.invariant.members x
+      ∙ ap (λ b. nat_le x code_point_max && b) (ap (λ (rs : List FoldRow). (x == c.args.target) || has_source rs c.args.target x)
+      (take_all c.loop-row.row-index c.args.rows.now c.loop-row-test.false)
+      ∙ sym (has_image 0 c.args.rows.now c.args.target x c.requires.in_order c.requires.own_image));
+}

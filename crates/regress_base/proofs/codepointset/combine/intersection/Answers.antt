@@ -1,6 +1,6 @@
 -- Of two intervals the one that ends first overlaps nothing that is left on the other side.
 use Rattle.std.proofs.Common.{inl, inr, arith, rules}
-use Rattle.regress_base.proofs.CombineLemmas.{meet_left, meet_right, meet_done, meet_none}
+use Rattle.regress_base.proofs.CombineLemmas.{met_left, met_right, met_none, meet_done}
 use Rattle.regress_base.proofs.codepointset.combine.intersection.Goals as goal
 use Rattle.regress_base.proofs.codepointset.combine.intersection.Goals.{then-loop-i-test+else-j-right, else-loop-i-test}
 
@@ -8,28 +8,31 @@ pub loop-i-init : goal.loop-i-init
 loop-i-init c = record {
   left_in = omega arith;
   right_in = omega arith;
-  members = λ n. meet_none _ c.args.left.now c.args.right.now n c.new-common.ensures;
+  met = met_none c.args.left.now c.args.right.now _ c.new-common.ensures.items;
 }
 
 pub loop-i-preserved-then-last : goal.loop-i-preserved-then-last
 loop-i-preserved-then-last c = record {
   left_in = search rules;
   right_in = c.loop-i.invariant.right_in;
-  members = λ n. meet_left c.args.left.now c.args.right.now c.loop-i.i c.loop-i.j n c.index-left-i.result c.index-right-j.result _ _ _
+  met = met_left c.args.left.now c.args.right.now _ _ c.loop-i.i c.loop-i.j c.index-left-i.result c.index-right-j.result
       c.requires.left_canonical c.requires.right_canonical (search rules) (search rules) c.index-left-i.is c.index-right-j.is
-      (c.in_ok-add_overlap.ensures n) (c.loop-i.invariant.members n) (search rules);
+      c.in_ok-push_overlap.ensures c.loop-i.invariant.met (search rules);
 }
 
 pub loop-i-preserved : goal.loop-i-preserved
 loop-i-preserved c = record {
   left_in = c.loop-i.invariant.left_in;
   right_in = search rules;
-  members = λ n. meet_right c.args.left.now c.args.right.now c.loop-i.i c.loop-i.j n c.index-left-i.result c.index-right-j.result _ _ _
+  met = met_right c.args.left.now c.args.right.now _ _ c.loop-i.i c.loop-i.j c.index-left-i.result c.index-right-j.result
       c.requires.left_canonical c.requires.right_canonical (search rules) (search rules) c.index-left-i.is c.index-right-j.is
-      (c.in_ok-add_overlap.ensures n) (c.loop-i.invariant.members n) (search rules);
+      c.in_ok-push_overlap.ensures c.loop-i.invariant.met (search rules);
 }
 
-pub returns : goal.returns
-returns c = λ n. meet_done c.args.left.now c.args.right.now c.loop-i.i c.loop-i.j n _ _
+pub returns-clause-members : goal.returns-clause-members
+returns-clause-members c = λ n. meet_done c.args.left.now c.args.right.now c.loop-i.i c.loop-i.j n _ _
     (elim c.loop-i-test.branch [ then-loop-i-test+else-j-right w ↦ inr (omega arith) | else-loop-i-test w ↦ inl (omega arith) ])
-    (c.loop-i.invariant.members n)
+    (c.loop-i.invariant.met.members n)
+
+pub returns-clause-canonical : goal.returns-clause-canonical
+returns-clause-canonical c = c.loop-i.invariant.met.canonical
