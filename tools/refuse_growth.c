@@ -1,8 +1,8 @@
 /* Stands before the C library's memory: it counts the requests of a program, from the start of `main` on, and refuses
    one of them.
 
-   REFUSED_GROWTH is the number of the request that is refused, counted from 0. Without it none is refused, and when the
-   program ends the number of requests is written to file descriptor 9. */
+   REFUSED_GROWTH is the number of the request that is refused, counted from 0; without it none is. When the program
+   ends, the number of requests is written to the file descriptor REQUESTS_TO. */
 
 extern void *__libc_malloc(unsigned long size);
 extern void *__libc_realloc(void *block, unsigned long size);
@@ -27,7 +27,7 @@ void *realloc(void *block, unsigned long size) {
 }
 
 __attribute__((constructor)) static void start(void) {
-    char *number = getenv("REFUSED_GROWTH");
+    const char *number = getenv("REFUSED_GROWTH");
     if (number) {
         refused = atol(number);
     }
@@ -35,8 +35,9 @@ __attribute__((constructor)) static void start(void) {
 }
 
 __attribute__((destructor)) static void end(void) {
+    const char *file = getenv("REQUESTS_TO");
     counts = 0;
-    if (refused < 0) {
-        dprintf(9, "%ld\n", requests);
+    if (file) {
+        dprintf(atol(file), "%ld\n", requests);
     }
 }
