@@ -1,5 +1,5 @@
 //! Calls on sets of code points.
-ghost use Rattle.std.specs.Prelude.{◌≤◌, IfOk, IfSome};
+ghost use Rattle.std.specs.Prelude.{◌≤◌, IfSome};
 
 use crate::fault::{Fault, Promise};
 use regress_front::codepointset::{CODE_POINT_MAX, CodePointSet, Interval};
