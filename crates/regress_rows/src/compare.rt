@@ -3,9 +3,9 @@ ghost use Rattle.std.specs.Prelude.{◌≡◌, ◌↔◌};
 
 use crate::answer::answer_to;
 use crate::failure::Failure;
-use crate::notation::read_pattern;
-use crate::row::{Row, is_comment, read_flags, read_row};
+use crate::row::{Row, is_comment, read_row};
 use regress_front::unicode::Tables;
+use regress_notation::{read_flags, read_pattern};
 use std::alloc::{AllocError, Global};
 use std::io::{self, BufRead, ErrorKind, Write};
 

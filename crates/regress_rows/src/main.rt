@@ -21,7 +21,6 @@
 mod answer;
 mod compare;
 mod failure;
-mod notation;
 mod row;
 
 use compare::{Tally, run_rows};

@@ -1,7 +1,5 @@
 //! A line as a row.
 
-use regress_front::types::Flags;
-
 /// A line, cut into its fields.
 #[derive(Clone, Copy)]
 pub(crate) struct Row<'a> {
@@ -42,24 +40,4 @@ pub(crate) fn read_row(line: &str) -> Option<Row<'_>> {
         pattern,
         expected,
     })
-}
-
-/// The flags of these letters, or nothing where one is none of `imsuv` or comes twice.
-pub(crate) fn read_flags(letters: &str) -> Option<Flags> {
-    let mut flags = Flags::default();
-    for letter in letters.chars() {
-        let flag = match letter {
-            'i' => &mut flags.icase,
-            'm' => &mut flags.multiline,
-            's' => &mut flags.dot_all,
-            'u' => &mut flags.unicode,
-            'v' => &mut flags.unicode_sets,
-            _ => return None,
-        };
-        if *flag {
-            return None;
-        }
-        *flag = true;
-    }
-    Some(flags)
 }

@@ -1,12 +1,12 @@
-//! How a row writes a pattern.
+//! How a line writes a pattern.
 ghost use Rattle.std.specs.Prelude.{◌≤◌, All, IfOk, IfSome};
 
-use regress_front::codepointset::CODE_POINT_MAX;
+use regress_base::codepointset::CODE_POINT_MAX;
 use std::alloc::{AllocError, Global};
 
-/// The code points of a pattern as a row writes it. Nothing is answered where a `⟨` has no `⟩` behind it, or what
+/// The code points of a pattern as a line writes it. Nothing is answered where a `⟨` has no `⟩` behind it, or what
 /// stands between is neither a code point nor a text with its number.
-pub(crate) fn read_pattern(alloc: Global, text: &str) -> Result<Option<Vec<u32>>, AllocError>
+pub fn read_pattern(alloc: Global, text: &str) -> Result<Option<Vec<u32>>, AllocError>
     ensures { IfOk result (λ read. IfSome read (λ points. All (λ c. c ≤ CODE_POINT_MAX) points.items)) }
 {
     let mut points = Vec::new(alloc);
