@@ -1,2 +1,10 @@
 -- Laws of this crate's definitions, which the crates above may cite.
 pub mod Changes
+pub mod Keeps
+pub mod Spine
+pub mod Parts
+pub mod Flattening
+pub mod Joining
+pub mod Failing
+pub mod Promotion
+pub mod Unrolling

@@ -9,9 +9,9 @@ use Rattle.regress_tree.specs.Tree.{empty, goal, char, byte_sequence, byte_set, 
 use Rattle.regress_tree.specs.Units.{IsLess}
 use Rattle.regress_rewrite.specs.Law.{Keeps}
 use Rattle.regress_rewrite.specs.Formed.{joined, bytes_of, part_at, HaveBytes, joined_at, JoinsSome}
-use Rattle.regress_rewrite.proofs.KeepsLemmas.{Keeps-trans}
+use Rattle.regress_rewrite.proofs.laws.Keeps.{Keeps-trans}
 use Rattle.regress_tree.proofs.laws.Falling.{IsLess-trans}
-use Rattle.regress_rewrite.proofs.form.JoinLemmas.{written, with_run, joined_keeps, joined_less}
+use Rattle.regress_rewrite.proofs.laws.Joining.{written, with_run, joined_keeps, joined_less}
 
 -- A part with bytes.
 

@@ -9,7 +9,7 @@ use Rattle.regress_tree.proofs.laws.Nodes.{tree-Loop, tree-Cat}
 use Rattle.regress_tree.proofs.laws.Levels.{out-Loop}
 use Rattle.regress_rewrite.specs.Law.{IsPart}
 use Rattle.regress_rewrite.specs.Unroll.{further_turns, unrolled}
-use Rattle.regress_rewrite.proofs.UnrollLemmas.{MayUnroll-from, unroll_lawful, unrolled-without, unrolled-with, body_groupless, is_zero-told}
+use Rattle.regress_rewrite.proofs.laws.Unrolling.{MayUnroll-from, unroll_lawful, unrolled-without, unrolled-with, body_groupless, is_zero-told}
 use Rattle.regress_rewrite.proofs.unroll_loops.unroll.Goals as goal
 use Rattle.regress_rewrite.proofs.unroll_loops.unroll.Goals.{then-ne+in_ok-push, else-ne}
 

@@ -30,21 +30,21 @@ use Rattle.regress_tree.proofs.laws.Rows.{RowMayStand-more, MayStand-from_last}
 use Rattle.regress_rewrite.specs.Law.{IsPart, Keeps, IsLawful}
 use Rattle.regress_rewrite.specs.declared.rewrite.PassAction.TheVariants.{Replace}
 use Rattle.regress_rewrite.proofs.GroupLemmas.{captures-free}
-use Rattle.regress_rewrite.proofs.KeepsLemmas.{Keeps-part}
+use Rattle.regress_rewrite.proofs.laws.Keeps.{Keeps-part}
 use Rattle.regress_rewrite.proofs.LawfulLemmas.{replace_lawful}
 
 -- ---- what fails
 
 -- From no state is there an outcome; and it weighs at least so much.
-record Fails (least : ℕ) (t : Tree) : Type 0 where
-  none : (setting : Setting) (bytes : List ℕ) (d : Direction) (s : State) → steps setting bytes d t s ≡ []
-  heavy : least ≤ weight t
+pub record Fails (least : ℕ) (t : Tree) : Type 0 where
+  pub none : (setting : Setting) (bytes : List ℕ) (d : Direction) (s : State) → steps setting bytes d t s ≡ []
+  pub heavy : least ≤ weight t
 
 moved-none : (s : State) (read : Option Read) → moved (λ c. false) s read ≡ []
 moved-none s None = refl
 moved-none s (Some read) = refl
 
-one_character-none : (d : Direction) (bytes : List ℕ) (test : ℕ → Bool) → ((c : ℕ) → IsScalar c → test c ≡ false) → (s : State) →
+pub one_character-none : (d : Direction) (bytes : List ℕ) (test : ℕ → Bool) → ((c : ℕ) → IsScalar c → test c ≡ false) → (s : State) →
     one_character d (of_bytes bytes) test s ≡ []
 unfolding one_character
 one_character-none d bytes test none s =
@@ -77,7 +77,7 @@ leaf_fails (bracket invert intervals) is n p m = record {
 leaf_fails (back_ref group icase) is n p m = absurd (false≢true is)
 leaf_fails (string_set strings icase) is n p m = absurd (false≢true is)
 
-node_fails : (t : Tree) → match_always_fails t ≡ true → (n : ℕ) (p : Position) → MayStand n t p → Fails 2 t
+pub node_fails : (t : Tree) → match_always_fails t ≡ true → (n : ℕ) (p : Position) → MayStand n t p → Fails 2 t
 node_fails (leaf l) is n p m = leaf_fails l is n p m
 node_fails (cat parts) is n p m = absurd (false≢true is)
 node_fails (alt left right) is n p m = absurd (false≢true is)
@@ -109,7 +109,7 @@ row_tail : (n : ℕ) (t : Tree) (ts : Trees) (p : Position) → RowMayStand n (m
 row_tail n t no_trees p m = tt
 row_tail n t (more_trees u us) p m = m.1
 
-row_fails : (ts : Trees) → some_in_row match_always_fails ts ≡ true → (n : ℕ) (p : Position) → RowMayStand n ts p → Fails 4 (cat ts)
+pub row_fails : (ts : Trees) → some_in_row match_always_fails ts ≡ true → (n : ℕ) (p : Position) → RowMayStand n ts p → Fails 4 (cat ts)
 row_fails no_trees some n p m = absurd (false≢true some)
 row_fails (more_trees t ts) some n p m = elim (cases_Bool (match_always_fails t)) [
   | inl is ↦
@@ -133,7 +133,7 @@ repeat-none bound q start end f least none s =
     ap (flat_map (up_to q.greedy (more_turns bound q) (turn start end f)))
     (turns-none q.min least (turn start end f) (λ t. none (unset start end t)) s)
 
-wrapper_fails : (w : Wrapper) (body : Tree) → fails_by_part (wrapped w body) ≡ true → IsPart (wrapped w body) → Fails 4 (wrapped w body)
+pub wrapper_fails : (w : Wrapper) (body : Tree) → fails_by_part (wrapped w body) ≡ true → IsPart (wrapped w body) → Fails 4 (wrapped w body)
 wrapper_fails (capture_group id name) body is part = absurd (false≢true is)
 wrapper_fails (loop q start end) body is part =
     let both = and_parts (nat_le 1 q.min) (match_always_fails body) is in
@@ -146,7 +146,7 @@ wrapper_fails (loop q start end) body is part =
 wrapper_fails (loop_one q) body is part = absurd (false≢true is)
 wrapper_fails (lookaround negate backwards start end) body is part = absurd (false≢true is)
 
-tree_fails : (t : Tree) → is_alt t ≡ false → fails_by_part t ≡ true → IsPart t → Fails 4 t
+pub tree_fails : (t : Tree) → is_alt t ≡ false → fails_by_part t ≡ true → IsPart t → Fails 4 t
 tree_fails (leaf l) other is part = absurd (false≢true is)
 tree_fails (cat parts) other is part = row_fails parts is part.0 (last_of part.1) part.2.1
 tree_fails (alt left right) other is part = absurd (true≢false other)
@@ -154,7 +154,7 @@ tree_fails (wrapped w body) other is part = wrapper_fails w body is part
 
 -- ---- what stands for it
 
-parts_free : (t : Tree) → fails_by_part t ≡ true → (n : ℕ) (p : Position) → MayStand n t p → NotAsOneCharacter p
+pub parts_free : (t : Tree) → fails_by_part t ≡ true → (n : ℕ) (p : Position) → MayStand n t p → NotAsOneCharacter p
 parts_free (leaf l) is n p m = absurd (false≢true is)
 parts_free (cat parts) is n p m = m.0
 parts_free (alt left right) is n p m = m.0
@@ -166,7 +166,7 @@ not_as_one inside P free = tt
 not_as_one last P free = tt
 not_as_one root P free = tt
 
-no_character : (p : Position) → NotAsOneCharacter p → IsSmallSet [] code_point_max p
+pub no_character : (p : Position) → NotAsOneCharacter p → IsSmallSet [] code_point_max p
 no_character p free = record { bounded = All-nil _; small = omega arith; some = not_as_one p _ free }
 
 removed : (t : Tree) → fails_by_part t ≡ true → has_group t ≡ false → is_failed_away t ≡ true
@@ -201,14 +201,14 @@ inside_stands : (n : ℕ) (t : Tree) (p : Position) → NotAsOneCharacter p → 
 inside_stands n t p free m = MayStand-from_last n t p free (RowMayStand-more n t no_trees p m tt)
 
 module _ (d : Direction) (first second : Tree) where
-  right_keeps : Fails 2 first → captures first ≡ [] → Keeps d (alt first second) second
+  pub right_keeps : Fails 2 first → captures first ≡ [] → Keeps d (alt first second) second
   right_keeps fails none =
       Keeps-part (right_of first) d second
       (λ setting text is_text. Alike-from_same (λ s.
       ap (λ states. states ++ steps setting (encode_utf8_all text) d second s) (fails.none setting (encode_utf8_all text) d s)))
       (λ n p m. inside_stands n second p m.0 m.2) (sym (ap (λ cs. cs ++ captures second) none))
 
-  left_keeps : Fails 2 second → captures second ≡ [] → Keeps d (alt first second) first
+  pub left_keeps : Fails 2 second → captures second ≡ [] → Keeps d (alt first second) first
   left_keeps fails none =
       Keeps-part (left_of second) d first
       (λ setting text is_text. Alike-from_same (λ s.

@@ -14,7 +14,7 @@ use Rattle.regress_tree.proofs.laws.Measures.{total-append, RowLacksShape-append
 use Rattle.regress_tree.proofs.laws.Places.{Place, among, put, LacksShape-part}
 use Rattle.regress_rewrite.specs.Law.{IsPart, Keeps}
 use Rattle.regress_rewrite.specs.Sweep.{Swept, SweptOf}
-use Rattle.regress_rewrite.proofs.KeepsLemmas.{IsPart-kept, IsPart-part}
+use Rattle.regress_rewrite.proofs.laws.Keeps.{IsPart-kept, IsPart-part}
 use Rattle.regress_rewrite.proofs.laws.Changes.{joined}
 use Rattle.regress_rewrite.proofs.SweepLemmas.{Swept-put, Swept-then}
 

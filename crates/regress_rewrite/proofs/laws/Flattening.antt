@@ -23,19 +23,19 @@ use Rattle.regress_rewrite.specs.declared.rewrite.PassAction.{PassAction}
 use Rattle.regress_rewrite.specs.declared.rewrite.PassAction.TheVariants.{Keep, Modified, Remove, Replace}
 use Rattle.regress_rewrite.specs.Law.{Keeps, IsLawful}
 use Rattle.regress_rewrite.specs.Splice.{parts_of, spliced, Flattens}
-use Rattle.regress_rewrite.proofs.KeepsLemmas.{Keeps-no_part, Keeps-one_part}
+use Rattle.regress_rewrite.proofs.laws.Keeps.{Keeps-no_part, Keeps-one_part}
 use Rattle.regress_rewrite.proofs.LawfulLemmas.{keep_lawful, modified_lawful, remove_lawful, replace_lawful}
 use Rattle.regress_tree.proofs.laws.Places.{among, IsLess-part}
 
 -- Where the parts may stand.
 
-parts_of-stand : (n : ℕ) (t : Tree) (p : Position) → MayStand n t (last_of p) → RowMayStand n (parts_of t) (last_of p)
+pub parts_of-stand : (n : ℕ) (t : Tree) (p : Position) → MayStand n t (last_of p) → RowMayStand n (parts_of t) (last_of p)
 parts_of-stand n (leaf l) p m = m
 parts_of-stand n (cat parts) p m = RowMayStand-last_of n parts p m.1
 parts_of-stand n (alt left right) p m = m
 parts_of-stand n (wrapped w body) p m = m
 
-spliced-stand : (n : ℕ) (ts : Trees) (p : Position) → RowMayStand n ts (last_of p) → RowMayStand n (spliced ts) (last_of p)
+pub spliced-stand : (n : ℕ) (ts : Trees) (p : Position) → RowMayStand n ts (last_of p) → RowMayStand n (spliced ts) (last_of p)
 spliced-stand n no_trees p m = tt
 spliced-stand n (more_trees t no_trees) p m =
     subst (λ (us : Trees). RowMayStand n us (last_of p)) (sym (row_append-none (parts_of t))) (parts_of-stand n t p m)
@@ -46,13 +46,13 @@ spliced-stand n (more_trees t (more_trees u ts)) p m =
 -- Outcomes.
 
 module _ (setting : Setting) (bytes : List ℕ) (d : Direction) where
-  steps-parts_of : (t : Tree) (s : State) → steps_in_row setting bytes d (parts_of t) s ≡ steps setting bytes d t s
+  pub steps-parts_of : (t : Tree) (s : State) → steps_in_row setting bytes d (parts_of t) s ≡ steps setting bytes d t s
   steps-parts_of (leaf l) s = flat_map-stay _
   steps-parts_of (cat parts) s = refl
   steps-parts_of (alt left right) s = flat_map-stay _
   steps-parts_of (wrapped w body) s = flat_map-stay _
 
-  steps-spliced : (ts : Trees) (s : State) → steps_in_row setting bytes d (spliced ts) s ≡ steps_in_row setting bytes d ts s
+  pub steps-spliced : (ts : Trees) (s : State) → steps_in_row setting bytes d (spliced ts) s ≡ steps_in_row setting bytes d ts s
   steps-spliced no_trees s = refl
   steps-spliced (more_trees t ts) s =
       steps-append setting bytes d (parts_of t) (spliced ts) s
@@ -60,36 +60,36 @@ module _ (setting : Setting) (bytes : List ℕ) (d : Direction) where
 
 -- Captures and sizes.
 
-captures-parts_of : (t : Tree) → captures_in_row (parts_of t) ≡ captures t
+pub captures-parts_of : (t : Tree) → captures_in_row (parts_of t) ≡ captures t
 captures-parts_of (leaf l) = refl
 captures-parts_of (cat parts) = refl
 captures-parts_of (alt left right) = append-nil _
 captures-parts_of (wrapped w body) = append-nil _
 
-captures-spliced : (ts : Trees) → captures_in_row (spliced ts) ≡ captures_in_row ts
+pub captures-spliced : (ts : Trees) → captures_in_row (spliced ts) ≡ captures_in_row ts
 captures-spliced no_trees = refl
 captures-spliced (more_trees t ts) = captures-append (parts_of t) (spliced ts) ∙ ap₂ ◌++◌ (captures-parts_of t) (captures-spliced ts)
 
 module _ (m : Measure) where
-  total-parts_of : (t : Tree) → total_in_row m (parts_of t) ≤ total m t
+  pub total-parts_of : (t : Tree) → total_in_row m (parts_of t) ≤ total m t
   total-parts_of (leaf l) = omega arith
   total-parts_of (cat parts) = omega arith
   total-parts_of (alt left right) = omega arith
   total-parts_of (wrapped w body) = omega arith
 
-  total-spliced : (ts : Trees) → total_in_row m (spliced ts) ≤ total_in_row m ts
+  pub total-spliced : (ts : Trees) → total_in_row m (spliced ts) ≤ total_in_row m ts
   total-spliced no_trees = le_refl _
   total-spliced (more_trees t ts) = omega (arith, total-append m (parts_of t) (spliced ts), total-parts_of t, total-spliced ts)
 
 -- tests on leaves find what they found
 module _ (test : Leaf → Bool) where
-  some_node-parts_of : (t : Tree) → some_node_in_row (on_leaf test) (parts_of t) ≡ some_node (on_leaf test) t
+  pub some_node-parts_of : (t : Tree) → some_node_in_row (on_leaf test) (parts_of t) ≡ some_node (on_leaf test) t
   some_node-parts_of (leaf l) = or-false _
   some_node-parts_of (cat parts) = refl
   some_node-parts_of (alt left right) = or-false _
   some_node-parts_of (wrapped w body) = or-false _
 
-  some_node-spliced : (ts : Trees) → some_node_in_row (on_leaf test) (spliced ts) ≡ some_node_in_row (on_leaf test) ts
+  pub some_node-spliced : (ts : Trees) → some_node_in_row (on_leaf test) (spliced ts) ≡ some_node_in_row (on_leaf test) ts
   some_node-spliced no_trees = refl
   some_node-spliced (more_trees t ts) =
       some_node-append (on_leaf test) (parts_of t) (spliced ts) ∙ ap₂ ◌||◌ (some_node-parts_of t) (some_node-spliced ts)
@@ -102,7 +102,7 @@ weight-less (more_trees (leaf l) ts) some = omega (arith, weight-less ts some)
 weight-less (more_trees (alt left right) ts) some = omega (arith, weight-less ts some)
 weight-less (more_trees (wrapped w body) ts) some = omega (arith, weight-less ts some)
 
-spliced_keeps : (d : Direction) (ts : Trees) → Keeps d (cat ts) (cat (spliced ts))
+pub spliced_keeps : (d : Direction) (ts : Trees) → Keeps d (cat ts) (cat (spliced ts))
 spliced_keeps d ts = record {
   meaning = λ setting text is_text. Alike-from_same (λ s. sym (steps-spliced setting (encode_utf8_all text) d ts s));
   stands = λ n p m. (m.0, spliced-stand n ts p m.1);

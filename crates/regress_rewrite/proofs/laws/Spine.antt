@@ -10,7 +10,7 @@ use Rattle.regress_tree.proofs.laws.Places.{left_of, right_of}
 use Rattle.regress_rewrite.specs.Law.{IsPart, Keeps}
 use Rattle.regress_rewrite.specs.Sweep.{Swept, SweptOf}
 use Rattle.regress_tree.specs.Spine.{Shifted, reattach, spine_length, LeftsLackShape}
-use Rattle.regress_rewrite.proofs.KeepsLemmas.{IsPart-kept, IsPart-part}
+use Rattle.regress_rewrite.proofs.laws.Keeps.{IsPart-kept, IsPart-part}
 use Rattle.regress_rewrite.proofs.laws.Changes.{joined}
 use Rattle.regress_rewrite.proofs.SweepLemmas.{Swept-put, Swept-then, Swept-same}
 use Rattle.regress_tree.proofs.laws.Measures.{LacksShape-here, LacksShape-inside, LacksShape-from}
@@ -27,7 +27,7 @@ IsPart-reattach (wrapped w body) t part = part
 sides_lack : (shape : Tree → Bool) (left right : Tree) → LacksShape shape (alt left right) → LacksShape shape left × LacksShape shape right
 sides_lack shape left right lacks = or_parts _ _ (LacksShape-inside shape (alt left right) lacks)
 
-LacksShape-reattach : (shape : Tree → Bool) (above t : Tree) → LacksShape shape (reattach above t) → LacksShape shape t
+pub LacksShape-reattach : (shape : Tree → Bool) (above t : Tree) → LacksShape shape (reattach above t) → LacksShape shape t
 LacksShape-reattach shape (leaf l) t lacks = lacks
 LacksShape-reattach shape (cat parts) t lacks = lacks
 LacksShape-reattach shape (alt left above) t lacks = (sides_lack shape left t (LacksShape-reattach shape above (alt left t) lacks)).1
@@ -93,7 +93,7 @@ module _ (exact : Bool) (d : Direction) where
 
 -- a left side on the way down, which is smaller than the whole
 module _ (node above rest top left right : Tree) (shifted : Shifted node above rest top) (is : top ≡ alt left right) where
-  sides : node ≡ alt left rest
+  pub sides : node ≡ alt left rest
   sides =
       let same : alt shifted.left above ≡ alt left right = sym shifted.is ∙ is in
       let first : shifted.left ≡ left = cc in

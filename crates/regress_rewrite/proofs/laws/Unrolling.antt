@@ -49,12 +49,12 @@ pub is_zero-told : (max : Option ℕ) → is_zero max ≡ option_eq eqb max (Som
 is_zero-told None = refl
 is_zero-told (Some n) = refl
 
-IsQuantifier-further : (least : ℕ) (max : Option ℕ) (greedy : Bool) →
+pub IsQuantifier-further : (least : ℕ) (max : Option ℕ) (greedy : Bool) →
     IsQuantifier (further_turns (record { min = least; max = max; greedy = greedy }))
 IsQuantifier-further least None greedy = tt
 IsQuantifier-further least (Some max) greedy = omega arith
 
-inside-free : (p : Position) → NotAsOneCharacter (last_of p)
+pub inside-free : (p : Position) → NotAsOneCharacter (last_of p)
 inside-free one_character = tt
 inside-free inside = tt
 inside-free last = tt
@@ -91,7 +91,7 @@ MayUnroll-from q start end body may = by (has_loop body) refl (has_string_set bo
 
 module _ (q : Quantifier) (start end : ℕ) (body : Tree) where
   -- what holds of the row behind the copies, whether the loop is there or not
-  with_further : (P : Trees → Type 0) → (is_zero (further_turns q).max ≡ true → P no_trees) →
+  pub with_further : (P : Trees → Type 0) → (is_zero (further_turns q).max ≡ true → P no_trees) →
       P (more_trees (wrapped (loop (further_turns q) start end) body) no_trees) → P (further_loop q start end body)
   with_further P none some = elim (cases_Bool (is_zero (further_turns q).max)) [
     | inl is ↦ rw is (none is)

@@ -35,11 +35,11 @@ these_bytes_before-nil bytes s =
     let e : s.place - 0 ≡ s.place = omega arith in
     cond-true _ _ _ (and_from _ _ (le-leb 0 s.place (omega arith)) refl) ∙ ap (λ p. record s { place = p } ∷ []) e
 
-these_bytes-none : (d : Direction) (bytes : List ℕ) (s : State) → these_bytes d bytes [] s ≡ stay s
+pub these_bytes-none : (d : Direction) (bytes : List ℕ) (s : State) → these_bytes d bytes [] s ≡ stay s
 these_bytes-none forwards bytes s = these_bytes-nil bytes s
 these_bytes-none backwards bytes s = these_bytes_before-nil bytes s
 
-both_match : (d : Direction) (bytes a b : List ℕ) (s : State) →
+pub both_match : (d : Direction) (bytes a b : List ℕ) (s : State) →
     these_bytes d bytes (joined d a b) s ≡ (these_bytes d bytes a then_ these_bytes d bytes b) s
 both_match forwards bytes a b s = these_bytes-append bytes a b s
 both_match backwards bytes a b s = these_bytes_before-append bytes b a s
@@ -83,7 +83,7 @@ module _ (before behind : Trees) (k : ℕ) where
 
 -- Where it may stand.
 
-free : (p : Position) (P : Type 0) → AsOneCharacter (last_of p) P
+pub free : (p : Position) (P : Type 0) → AsOneCharacter (last_of p) P
 free one_character P = tt
 free inside P = tt
 free last P = tt
@@ -92,7 +92,7 @@ free root P = tt
 AreUtf8-none : (p : Position) → AreUtf8 [] (last_of p)
 AreUtf8-none p = record { characters = []; are_scalar = All-nil IsScalar; encoded = refl; one = free p _ }
 
-AreUtf8-append : {a b : List ℕ} {p q : Position} (r : Position) → AreUtf8 a p → AreUtf8 b q → AreUtf8 (a ++ b) (last_of r)
+pub AreUtf8-append : {a b : List ℕ} {p q : Position} (r : Position) → AreUtf8 a p → AreUtf8 b q → AreUtf8 (a ++ b) (last_of r)
 AreUtf8-append {a} {b} r first second = record {
   characters = first.characters ++ second.characters;
   are_scalar = All-append IsScalar first.characters second.characters first.are_scalar second.are_scalar;

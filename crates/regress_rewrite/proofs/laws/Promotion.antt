@@ -22,14 +22,14 @@ use Rattle.regress_rewrite.specs.Promote.{Promotes}
 use Rattle.regress_rewrite.proofs.LawfulLemmas.{keep_lawful, replace_lawful}
 
 -- turns without a group inside forget nothing
-repeat-none : (bound : ℕ) (q : Quantifier) (start end : ℕ) (f : Step) → end ≤ start → repeat bound q start end f ≡ repeat bound q 0 0 f
+pub repeat-none : (bound : ℕ) (q : Quantifier) (start end : ℕ) (f : Step) → end ≤ start → repeat bound q start end f ≡ repeat bound q 0 0 f
 unfolding repeat
 repeat-none bound q start end f ends =
     ap (λ (g : Step). turns q.min g then_ up_to q.greedy (more_turns bound q) g)
     (turn-none start end ends f ∙ sym (turn-none 0 0 (le_refl 0) f))
 
 -- what matches exactly one character may be the body of a loop over one
-one_character-leaf : (n : ℕ) (l : Leaf) → leaf_matches_exactly_one_char l ≡ true → LeafMayStand n l inside → LeafMayStand n l one_character
+pub one_character-leaf : (n : ℕ) (l : Leaf) → leaf_matches_exactly_one_char l ≡ true → LeafMayStand n l inside → LeafMayStand n l one_character
 one_character-leaf n empty one m = absurd (false≢true one)
 one_character-leaf n goal one m = absurd (false≢true one)
 one_character-leaf n (char c) one m = m
@@ -48,14 +48,14 @@ one_character-leaf n (bracket invert intervals) one m = record {
 one_character-leaf n (back_ref group icase) one m = absurd (false≢true one)
 one_character-leaf n (string_set strings icase) one m = absurd (false≢true one)
 
-one_character-stands : (n : ℕ) (t : Tree) → matches_exactly_one_char t ≡ true → MayStand n t inside → MayStand n t one_character
+pub one_character-stands : (n : ℕ) (t : Tree) → matches_exactly_one_char t ≡ true → MayStand n t inside → MayStand n t one_character
 one_character-stands n (leaf l) one m = one_character-leaf n l one m
 one_character-stands n (cat parts) one m = absurd (false≢true one)
 one_character-stands n (alt left right) one m = absurd (false≢true one)
 one_character-stands n (wrapped w body) one m = absurd (false≢true one)
 
 -- and it has no group
-one_character-captures : (t : Tree) → matches_exactly_one_char t ≡ true → captures t ≡ []
+pub one_character-captures : (t : Tree) → matches_exactly_one_char t ≡ true → captures t ≡ []
 one_character-captures (leaf l) one = refl
 one_character-captures (cat parts) one = absurd (false≢true one)
 one_character-captures (alt left right) one = absurd (false≢true one)
@@ -64,7 +64,7 @@ one_character-captures (wrapped w body) one = absurd (false≢true one)
 -- ---- the law
 
 module _ (d : Direction) (q : Quantifier) (start end : ℕ) (body : Tree) where
-  promoted_keeps : matches_exactly_one_char body ≡ true → HasGroups start end body →
+  pub promoted_keeps : matches_exactly_one_char body ≡ true → HasGroups start end body →
       Keeps d (wrapped (loop q start end) body) (wrapped (loop_one q) body)
   promoted_keeps one groups = record {
     meaning = λ setting text is_text. Alike-from_same (λ s.
