@@ -3,7 +3,9 @@ pub mod Changes
 pub mod Keeps
 pub mod Spine
 pub mod Parts
+pub mod Splicing
 pub mod Flattening
+pub mod Segments
 pub mod Joining
 pub mod Failing
 pub mod Promotion

@@ -126,7 +126,7 @@ fn have_bytes(parts: &[Node], earlier: usize, later: usize) -> bool
     has_bytes(&parts[earlier]) && has_bytes(&parts[later])
 }
 
-fn has_bytes(node: &Node) -> bool
+pub fn has_bytes(node: &Node) -> bool
     ensures { result ≡ has_bytes (tree node.now) }
 {
     matches!(node, Node::ByteSequence(bytes) if !bytes.is_empty())
@@ -157,7 +157,7 @@ fn join_before(parts: &mut [Node], earlier: usize, later: usize) -> Result<(), A
 }
 
 /// Moves the bytes of one part behind those of another. Where memory is refused both keep theirs.
-fn append(part: &mut Node, other: &mut Node) -> Result<(), AllocError>
+pub fn append(part: &mut Node, other: &mut Node) -> Result<(), AllocError>
     requires part { has_bytes (tree part.old) ≡ true }
     requires other { has_bytes (tree other.old) ≡ true }
     ensures ok { OnOk result (tree part.new ≡ leaf (byte_sequence (bytes_of (tree part.old) ++ bytes_of (tree other.old)))) }
