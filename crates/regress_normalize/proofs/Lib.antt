@@ -1,1 +1,3 @@
 pub mod FactsLemmas
+pub mod PackedLemmas
+pub mod CatLemmas
