@@ -1,15 +1,16 @@
 -- A segment of a row in the place of another, and parts that may be left out.
-use Rattle.std.proofs.Common.{◌≡◌, ℕ, ◌||◌, List, [], ◌++◌, refl, sym, ap, ap₂, ◌∙◌, subst, append-nil, arith}
-use Rattle.std.proofs.lemmas.Bool.{or_parts}
+use Rattle.std.proofs.Common.{◌≡◌, ℕ, true, ◌||◌, List, [], ◌++◌, refl, sym, ap, ap₂, ◌∙◌, subst, append-nil, arith}
+use Rattle.std.proofs.lemmas.Bool.{or_parts, false≢true}
 use Rattle.std.specs.Prelude.{encode_utf8_all}
 use Rattle.std.specs.List.{flat_map}
 use mathlib.Core.Path.{fun_ext}
 use Rattle.regress_tree.specs.Matching.{steps, steps_in_row}
+use Rattle.regress_tree.specs.NodeTests.{is_empty}
 use Rattle.regress_tree.specs.Reading.{Direction}
 use Rattle.regress_tree.specs.Setting.{Setting}
 use Rattle.regress_tree.specs.Shapes.{some_node_in_row, is_simplified_away, RowLacksShape}
 use Rattle.regress_tree.specs.Steps.{State, stay, ◌then_◌}
-use Rattle.regress_tree.specs.Tree.{Tree, Trees, leaf, empty, cat, no_trees, more_trees, row_append}
+use Rattle.regress_tree.specs.Tree.{empty, goal, char, byte_sequence, byte_set, char_set, match_any, match_any_except_line_terminator, anchor, word_boundary, bracket, back_ref, string_set, Tree, Trees, leaf, cat, alt, wrapped, no_trees, more_trees, row_append}
 use Rattle.regress_tree.specs.Units.{sizes, unrollables}
 use Rattle.regress_tree.specs.WellFormed.{Position, inside, last_of, NotAsOneCharacter, captures, captures_in_row, RowMayStand}
 use Rattle.regress_tree.proofs.laws.Alike.{Alike-refl, Alike-trans, Alike-then, Alike-from_same}
@@ -86,6 +87,24 @@ module _ (d : Direction) (u : Tree) (us vs : Trees) (keeps : Keeps d (cat (more_
           RowLacksShape-append is_simplified_away xs (row_append vs zs) first.0
           (RowLacksShape-append is_simplified_away vs zs (keeps.brackets rest.0) rest.1);
     }
+
+pub is_empty-leaf : (t : Tree) → is_empty t ≡ true → t ≡ leaf empty
+is_empty-leaf (leaf empty) is = refl
+is_empty-leaf (leaf goal) is = absurd (false≢true is)
+is_empty-leaf (leaf (char c)) is = absurd (false≢true is)
+is_empty-leaf (leaf (byte_sequence bytes)) is = absurd (false≢true is)
+is_empty-leaf (leaf (byte_set bytes)) is = absurd (false≢true is)
+is_empty-leaf (leaf (char_set characters)) is = absurd (false≢true is)
+is_empty-leaf (leaf match_any) is = absurd (false≢true is)
+is_empty-leaf (leaf match_any_except_line_terminator) is = absurd (false≢true is)
+is_empty-leaf (leaf (anchor kind multiline)) is = absurd (false≢true is)
+is_empty-leaf (leaf (word_boundary invert unicode_icase)) is = absurd (false≢true is)
+is_empty-leaf (leaf (bracket invert intervals)) is = absurd (false≢true is)
+is_empty-leaf (leaf (back_ref group icase)) is = absurd (false≢true is)
+is_empty-leaf (leaf (string_set strings icase)) is = absurd (false≢true is)
+is_empty-leaf (cat parts) is = absurd (false≢true is)
+is_empty-leaf (alt left right) is = absurd (false≢true is)
+is_empty-leaf (wrapped w body) is = absurd (false≢true is)
 
 -- a part that matches the empty text alone and captures nothing may be left out
 Keeps-none : (d : Direction) (t : Tree) →
