@@ -1,6 +1,7 @@
 -- What is known of a row, one part more.
-use Rattle.std.proofs.Common.{◌≡◌, ℕ, ◌+◌, Bool, true, false, ◌||◌, max, refl, sym, ap, ap₂, ◌∙◌, arith}
-use Rattle.std.specs.Prelude.{if◌then◌else◌}
+use Rattle.std.proofs.Common.{◌≡◌, ℕ, ◌+◌, ◌≤◌, Bool, true, false, ◌||◌, max, refl, sym, ap, ap₂, ◌∙◌, arith}
+use Rattle.std.specs.Prelude.{if◌then◌else◌, Option, Some, None, Ok, SomeIff, alloc_error}
+use Rattle.std.specs.Option.{ok_or}
 use Rattle.std.proofs.Math.Bool.{or-false}
 use Rattle.regress_tree.specs.Measures.{total_in_row, levels, levels_of_deepest}
 use Rattle.regress_tree.specs.Shapes.{some_node, some_node_in_row, some_in_row, is_cat}
@@ -54,3 +55,15 @@ module _ (ts : Trees) (t : Tree) where
 
   pub some_in_row-more : (test : Tree → Bool) → some_in_row test more ≡ (some_in_row test ts || test t)
   some_in_row-more test = some_in_row-append test ts (more_trees t no_trees) ∙ ap (λ b. some_in_row test ts || b) (or-false _)
+
+pub around-charge : (t : Tree) → around t ≤ charge t
+around-charge t = omega (arith, charge-parts_of t)
+
+pub around-levels : (t : Tree) → around t ≤ levels t
+around-levels t = omega (arith, levels-parts_of t)
+
+
+-- the sum that was checked
+pub sum_of : (P : Type 0) (n sum : ℕ) (r : Option ℕ) → SomeIff r P sum → Ok n ≡ ok_or r alloc_error → n ≡ sum
+sum_of P n sum None test is = cc
+sum_of P n sum (Some m) test is = let same = test.1 in cc

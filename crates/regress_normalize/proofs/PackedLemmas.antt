@@ -262,13 +262,13 @@ takes_packs d old t new rest takes =
 
 -- ---- nothing to pack
 
+pub and_false : (b : Bool) → (b && false) ≡ false
+and_false true = refl
+and_false false = refl
+
 has_neighbours-push : (test : Tree → Bool) (ts : Trees) (t : Tree) →
     has_neighbours test (row_append ts (more_trees t no_trees)) ≡ (has_neighbours test ts || (last_in_row test ts && test t))
-has_neighbours-push test no_trees t = or-false _ ∙ and-false (test t)
-  where
-    and-false : (b : Bool) → (b && false) ≡ false
-    and-false true = refl
-    and-false false = refl
+has_neighbours-push test no_trees t = or-false _ ∙ and_false (test t)
 has_neighbours-push test (more_trees x no_trees) t =
     or-false-inner (test x) (test t)
   where
@@ -313,7 +313,7 @@ IsPacked-takes old t new takes packed =
           ∙ sym (ap (has_neighbours has_bytes) takes.was) ∙ packed.no_neighbours;
     }
 
-last-push : (test : Tree → Bool) (ts : Trees) (t : Tree) → last_in_row test (row_append ts (more_trees t no_trees)) ≡ test t
+pub last-push : (test : Tree → Bool) (ts : Trees) (t : Tree) → last_in_row test (row_append ts (more_trees t no_trees)) ≡ test t
 last-push test no_trees t = refl
 last-push test (more_trees x no_trees) t = refl
 last-push test (more_trees x (more_trees y ts)) t = last-push test (more_trees y ts) t

@@ -7,6 +7,7 @@ ghost use Rattle.regress_tree.specs.Tree.{Leaf, Trees, leaf, empty, cat, no_tree
 ghost use Rattle.regress_tree.specs.Units.{charge_of_leaf};
 ghost use Rattle.regress_tree.specs.Walk.{direction_of};
 ghost use Rattle.regress_rewrite.specs.Law.{IsPart, Keeps};
+ghost use Rattle.regress_rewrite.specs.Splice.{spliced};
 ghost use Rattle.regress_normalize.specs.Normalized.{Normalized, IsCatOf};
 ghost use Rattle.regress_normalize.specs.Packed.{in_text_order, Packs, IsPacked, TakesBytes, last_in_row, IsRowPacked, IsFactsOf};
 ghost use Rattle.regress_normalize.specs.PartFacts.{HasFacts};
@@ -30,7 +31,7 @@ pub fn finish_cat(
     requires parts { IsCatOf row.now (tree node.old) }
     ensures { Normalized (direction_of walk.now) (tree node.old) (tree node.new) result }
 {
-    if row.some_fails && !row.has_group {
+    if row.always_fails() {
         *node = Node::ByteSet(Vec::new(alloc));
         return Ok(leaf_facts(true));
     }
@@ -101,14 +102,21 @@ fn pack(alloc: Global, parts: &mut NodeList, walk: &Walk) -> Result<usize, Alloc
     ensures packed { IfOk result (IsRowPacked (direction_of walk.now) (trees parts.old.items) (trees parts.new.items)) }
     ensures left { has_cat (trees parts.old.items) ≡ false → IsPacked (trees parts.old.items) → trees parts.new.items ≡ trees parts.old.items }
 {
-    if parts.iter().any(Node::is_cat) {
-        splice(alloc, parts)?;
-    }
+    splice_cats(alloc, parts)?;
     let len = parts.len();
-    if has_seams(parts) {
-        close_seams(alloc, parts, walk)?;
-    }
+    close_seams(alloc, parts, walk)?;
     Ok(len - parts.len())
+}
+
+/// Puts the parts of each `Cat` in its place.
+fn splice_cats(alloc: Global, parts: &mut NodeList) -> Result<(), AllocError>
+    ensures ok { OnOk result (trees parts.new.items ≡ spliced (trees parts.old.items)) }
+    ensures err { OnErr result (trees parts.new.items ≡ trees parts.old.items) }
+{
+    if !parts.iter().any(Node::is_cat) {
+        return Ok(());
+    }
+    splice(alloc, parts)
 }
 
 /// Whether there is an `Empty`, or two neighbours have bytes.
@@ -138,7 +146,11 @@ fn have_neighbours_bytes(parts: &[Node]) -> bool
 fn close_seams(alloc: Global, parts: &mut NodeList, walk: &Walk) -> Result<(), AllocError>
     ensures packs { Packs (direction_of walk.now) (trees parts.old.items) (trees parts.new.items) }
     ensures packed { OnOk result (IsPacked (trees parts.new.items)) }
+    ensures left { IsPacked (trees parts.old.items) → trees parts.new.items ≡ trees parts.old.items }
 {
+    if !has_seams(parts) {
+        return Ok(());
+    }
     if !walk.in_lookbehind {
         return close_in_text_order(alloc, parts);
     }

@@ -1,5 +1,5 @@
 //! What is known of parts in normal form.
-ghost use Rattle.std.specs.Prelude.{◌≡◌, OnOk};
+ghost use Rattle.std.specs.Prelude.{◌≡◌, not, ◌&&◌, OnOk};
 ghost use Rattle.regress_tree.specs.Tree.{Tree, Trees, no_trees, more_trees, row_append};
 ghost use Rattle.regress_tree.specs.Shapes.{is_cat};
 ghost use Rattle.regress_normalize.specs.PartFacts.{HasFacts, HasRowFacts};
@@ -74,5 +74,12 @@ impl RowFacts {
         self.has_string_set |= part.has_string_set;
         self.some_fails |= part.always_fails;
         Ok(())
+    }
+
+    /// Whether a `Cat` of them is to be a node that always fails: a part does, and no capture group would be lost.
+    pub fn always_fails(&self) -> bool
+        ensures { result ≡ (self.now.some_fails && not self.now.has_group) }
+    {
+        self.some_fails && !self.has_group
     }
 }
