@@ -16,9 +16,9 @@ use Rattle.regress_tree.specs.Setting.{Setting}
 use Rattle.regress_tree.specs.Matching.{steps, steps_in_row}
 use Rattle.regress_tree.specs.Tree.{Leaf, empty, goal, char, byte_sequence, byte_set, char_set, match_any, match_any_except_line_terminator, anchor, word_boundary, bracket, back_ref, string_set, Wrapper, capture_group, loop, loop_one, lookaround, Tree, Trees, leaf, cat, alt, wrapped, no_trees, more_trees, tree}
 use Rattle.regress_tree.specs.WellFormed.{captures, Position, one_character as at_one_character, inside, last, root, last_of, NotAsOneCharacter, AsOneCharacter, IsSmallSet, LeafMayStand, MayStand, RowMayStand}
-use Rattle.regress_tree.specs.Units.{weight, IsLess}
+use Rattle.regress_tree.specs.Units.{units_of_leaf, weight, IsLess}
 use Rattle.regress_tree.specs.NodeTests.{leaf_always_fails, match_always_fails}
-use Rattle.regress_tree.specs.Shapes.{some_in_row, has_group, fails_by_part, is_failed_away}
+use Rattle.regress_tree.specs.Shapes.{some_in_row, has_group, fails_by_part, is_failed_away, is_simplified_away}
 use Rattle.regress_tree.specs.Spine.{is_alt}
 use Rattle.regress_tree.proofs.laws.Accepting.{accepts_nothing}
 use Rattle.regress_tree.proofs.laws.Alike.{Alike-from_same}
@@ -166,8 +166,50 @@ not_as_one inside P free = tt
 not_as_one last P free = tt
 not_as_one root P free = tt
 
+no_member : (greatest : ℕ) (p : Position) → NotAsOneCharacter p → IsSmallSet [] greatest p
+no_member greatest p free = record { bounded = All-nil _; small = omega arith; some = not_as_one p _ free }
+
 pub no_character : (p : Position) → NotAsOneCharacter p → IsSmallSet [] code_point_max p
-no_character p free = record { bounded = All-nil _; small = omega arith; some = not_as_one p _ free }
+no_character = no_member code_point_max
+
+-- it matches nothing wherever it may not be the body of a loop over one character, and is no bracket
+record IsNothing (l : Leaf) : Type 0 where
+  none : (setting : Setting) (bytes : List ℕ) (d : Direction) (s : State) → steps setting bytes d (leaf l) s ≡ []
+  stands : (n : ℕ) (p : Position) → NotAsOneCharacter p → LeafMayStand n l p
+  small : units_of_leaf l ≤ 1
+  other : is_simplified_away (leaf l) ≡ false
+
+no_character_nothing : IsNothing (char_set [])
+no_character_nothing = record {
+  none = λ setting bytes d s. one_character-none d bytes (λ c. false) (λ c scalar. refl) s;
+  stands = λ n p free. no_member code_point_max p free;
+  small = omega arith;
+  other = refl;
+}
+
+no_byte_nothing : IsNothing (byte_set [])
+no_byte_nothing = record {
+  none = λ setting bytes d s. one_character-none d bytes (λ c. false) (λ c scalar. refl) s;
+  stands = λ n p free. no_member 127 p free;
+  small = omega arith;
+  other = refl;
+}
+
+nothing_keeps : (d : Direction) (t : Tree) (l : Leaf) → IsNothing l → fails_by_part t ≡ true → has_group t ≡ false → Fails 4 t →
+    Keeps d t (leaf l)
+nothing_keeps d t l nothing is free fails = record {
+  meaning = λ setting text is_text. Alike-from_same (λ s.
+      fails.none setting (encode_utf8_all text) d s ∙ sym (nothing.none setting (encode_utf8_all text) d s));
+  stands = λ n p m. nothing.stands n p (parts_free t is n p m);
+  captures = sym (captures-free t free);
+  account = omega (arith, units-positive t, nothing.small);
+  brackets = λ lacks. nothing.other;
+}
+
+-- an empty set of bytes stands for what fails by a part and has no capture group, if it is no `Alt`
+pub fails_keeps : (d : Direction) (t : Tree) → is_alt t ≡ false → fails_by_part t ≡ true → has_group t ≡ false → IsPart t →
+    Keeps d t (leaf (byte_set []))
+fails_keeps d t other is free part = nothing_keeps d t (byte_set []) no_byte_nothing is free (tree_fails t other is part)
 
 removed : (t : Tree) → fails_by_part t ≡ true → has_group t ≡ false → is_failed_away t ≡ true
 removed t is free = and_from (fails_by_part t) (not (has_group t)) is (ap not free)
@@ -181,15 +223,9 @@ module _ (d : Direction) (t left : Tree) (is : fails_by_part t ≡ true) (free :
 
   -- a set of nothing
   fail_lawful : (node : Node) → tree node ≡ leaf (char_set []) → Fails 4 t → IsLawful is_failed_away true d t left (Replace node)
-  fail_lawful node node_is fails = replaced (leaf (char_set [])) node node_is (record {
-    meaning = λ setting text is_text. Alike-from_same (λ s.
-        fails.none setting (encode_utf8_all text) d s
-        ∙ sym (one_character-none d (encode_utf8_all text) (λ c. false) (λ c scalar. refl) s));
-    stands = λ n p m. no_character p (parts_free t is n p m);
-    captures = sym (captures-free t free);
-    account = omega (arith, units-positive t);
-    brackets = λ lacks. refl;
-  }) (IsLess-lighter (leaf (char_set [])) t (omega arith) (omega (arith, fails.heavy)))
+  fail_lawful node node_is fails =
+      replaced (leaf (char_set [])) node node_is (nothing_keeps d t (char_set []) no_character_nothing is free fails)
+      (IsLess-lighter (leaf (char_set [])) t (omega arith) (omega (arith, fails.heavy)))
 
   pub whole_lawful : (node : Node) → is_alt t ≡ false → tree node ≡ leaf (char_set []) → IsPart t →
       IsLawful is_failed_away true d t left (Replace node)
