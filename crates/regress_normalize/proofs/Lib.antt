@@ -1,1 +1,3 @@
 pub mod FactsLemmas
+pub mod LastLemmas
+pub mod WrapperLemmas

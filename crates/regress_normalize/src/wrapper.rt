@@ -141,7 +141,7 @@ fn finish_last(
 /// Brings a loop that is not unrolled, around a body in normal form, into normal form.
 fn finish_loop(alloc: Global, node: &mut Node, body: &PartFacts) -> Result<PartFacts, AllocError>
     requires part { IsPart (tree node.old) }
-    requires loop { IsLoopOf body.now (tree node.old) }
+    requires inner { IsLoopOf body.now (tree node.old) }
     ensures finished { (d : Direction) → Finished (IsCleanAround body.now (tree node.old)) d (tree node.old) (tree node.new) result }
     ensures other { is_cat (tree node.new) ≡ false }
 {
