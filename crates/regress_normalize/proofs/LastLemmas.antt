@@ -1,5 +1,5 @@
 -- The last node of a row, and the row with another one there.
-use Rattle.std.proofs.Common.{◌≡◌, ℕ, ◌+◌, List, [], ◌∷◌, ◌++◌, length, get_or, set, refl, sym, ap, ap₂, ◌∙◌, arith}
+use Rattle.std.proofs.Common.{◌≡◌, ℕ, ◌+◌, ◌≤◌, List, [], ◌∷◌, ◌++◌, length, get_or, set, refl, sym, ap, ap₂, ◌∙◌, arith}
 use Rattle.std.proofs.lemmas.List.{length-append}
 use Rattle.std.proofs.Math.Seq.{get_or-append_seam, set-append_seam}
 use Rattle.regress_tree.specs.declared.ir.node.Node.{Node}
@@ -56,6 +56,9 @@ module _ (items : List Node) (before : Trees) (behind : Tree) (is : trees items 
 
   count : length items ≡ length ends.front + 1
   count = ap length ends.is ∙ length-append ends.front (ends.back ∷ [])
+
+  pub some_there : 1 ≤ length items
+  some_there = omega (arith, count)
 
   module _ (i : ℕ) (at_end : length items ≡ i + 1) where
     place_is : i ≡ length ends.front

@@ -1,15 +1,18 @@
 -- What a node around a body in normal form becomes, and why.
-use Rattle.std.proofs.Common.{◌≡◌, ℕ, zero, suc, ◌+◌, ◌⊎◌, inl, inr, Bool, true, false, not, ◌&&◌, ◌||◌, [], Result, Ok, Err, refl, sym, ap, ap₂, subst, ◌∙◌, arith}
-use Rattle.std.specs.Prelude.{nat_le}
+use Rattle.std.proofs.Common.{◌≡◌, ℕ, zero, suc, ◌+◌, ◌⊎◌, inl, inr, Bool, true, false, not, ◌&&◌, ◌||◌, [], Option, Some, None, ◌-◌, nat_le, nat_lt, nat_eq, Result, Ok, Err, refl, sym, ap, ap₂, subst, ◌∙◌, arith}
+use Rattle.std.specs.Prelude.{OnOk, IsErr}
 use Rattle.std.specs.declared.alloc.AllocError.{AllocError}
 use Rattle.std.proofs.Math.Nat.{suc-add}
-use Rattle.std.proofs.lemmas.Bool.{true≢false, and_from}
+use Rattle.std.proofs.lemmas.Bool.Decides.{nat_tests}
+use Rattle.std.proofs.lemmas.Bool.{true≢false, false≢true, and_from}
 use Rattle.regress_tree.specs.declared.ir.node.Quantifier.{Quantifier}
 use Rattle.regress_tree.specs.NodeTests.{matches_exactly_one_char, match_always_fails}
+use Rattle.regress_tree.specs.Measures.{levels}
 use Rattle.regress_tree.specs.NormalForm.{IsNormal}
 use Rattle.regress_tree.specs.Reading.{Direction}
-use Rattle.regress_tree.specs.Shapes.{is_simplified_away, is_flattened_away, is_unrolled_away, is_promoted_away, is_formed_away, is_emptied_away, is_failed_away, is_empty_wrapper, fails_by_part, has_group, is_cat, may_unroll, is_zero}
+use Rattle.regress_tree.specs.Shapes.{is_simplified_away, is_flattened_away, is_unrolled_away, is_promoted_away, is_formed_away, is_emptied_away, is_failed_away, is_empty_wrapper, fails_by_part, has_group, has_loop, has_string_set, is_cat, may_unroll, is_zero}
 use Rattle.regress_tree.specs.Tree.{Tree, Trees, leaf, empty, byte_set, cat, alt, wrapped, Wrapper, loop, loop_one, no_trees, more_trees, row_append, copies}
+use Rattle.regress_tree.specs.Units.{charge}
 use Rattle.regress_tree.specs.WellFormed.{MayStand, inside, one_character}
 use Rattle.regress_tree.proofs.laws.Measures.{LacksShape-here}
 use Rattle.regress_tree.proofs.laws.Places.{among, put}
@@ -219,3 +222,87 @@ module _ (facts : PartFacts) (q : Quantifier) (start end : ℕ) (body : Tree) (t
 
   pub loop_stays : may_unroll q start end body ≡ false
   loop_stays = ap is_unrolled_away told.is ∙ told.stays
+
+-- ---- the last part of a row
+
+module _ (d : Direction) (before : Trees) (behind new : Tree) (normal : RowIsNormal before) (keeps : Keeps d behind new) where
+  abbrev row_of : Tree → Tree
+  row_of t = cat (row_append before (more_trees t no_trees))
+
+  pub last_finished : (row : RowFacts) (answer : Result (Unit {0}) AllocError) → IsNormal new →
+      OnOk answer (HasRowFacts row (row_append before (more_trees new no_trees))) →
+      HasFinishedParts d (row_of behind) (row_of new) row answer
+  last_finished row (Ok done) new_normal has = record {
+    keeps = Keeps-put (among before no_trees) d keeps;
+    parts = record {
+      parts = row_append before (more_trees new no_trees);
+      is = refl;
+      normal = RowIsNormal-append before (more_trees new no_trees) normal (new_normal, tt);
+      facts = has;
+    };
+  }
+  last_finished row (Err e) new_normal has = record { keeps = Keeps-put (among before no_trees) d keeps; parts = tt }
+
+  pub last_error : (row : RowFacts) (answer : Result (Unit {0}) AllocError) → IsErr answer → HasFinishedParts d (row_of behind) (row_of new) row answer
+  last_error row (Ok done) is = absurd (false≢true is)
+  last_error row (Err e) is = record { keeps = Keeps-put (among before no_trees) d keeps; parts = tt }
+
+pub IsPart-last : (before : Trees) (behind : Tree) → IsPart (cat (row_append before (more_trees behind no_trees))) → IsPart behind
+IsPart-last before behind part = IsPart-part (among before no_trees) behind part
+
+-- ---- a loop that is unrolled
+
+-- a loop that must take no turn is not
+further-stays : (q : Quantifier) (start end : ℕ) (body : Tree) → may_unroll (further_turns q) start end body ≡ false
+further-stays q start end body = by (nat_le end start)
+  where
+    by : (b : Bool) → (b && (nat_le 1 0 && nat_le 0 5) && (not (has_loop body) && not (has_string_set body))
+        && (nat_le (charge body) 256 && nat_le (levels body) 101)) ≡ false
+    by true = refl
+    by false = refl
+
+module _ (facts : PartFacts) (q : Quantifier) (start end : ℕ) (body : Tree) (holds : HoldsBody facts body) (row : RowFacts) (has : HasRowFacts row (copies q.min body)) where
+  -- the copies, and the loop behind them
+  pub unrolled_ends : is_zero (further_turns q).max ≡ false → EndsInLoop row facts (unrolled q start end body)
+  unrolled_ends more = record {
+    before = copies q.min body;
+    behind = wrapped (loop (further_turns q) start end) body;
+    is = rw more refl;
+    normal = RowIsNormal-copies q.min body holds.normal;
+    has = has;
+    loop = record {
+      quantifier = further_turns q;
+      start = start;
+      end = end;
+      body = body;
+      is = refl;
+      stays = further-stays q start end body;
+      normal = holds.normal;
+      has = holds.has;
+    };
+  }
+
+  -- and the copies alone
+  pub unrolled_copies : is_zero (further_turns q).max ≡ true → IsCatOf row (unrolled q start end body)
+  unrolled_copies none = record {
+    parts = copies q.min body;
+    is = rw none (ap cat (row_append-none (copies q.min body)));
+    normal = RowIsNormal-copies q.min body holds.normal;
+    facts = has;
+  }
+
+-- whether turns may follow
+pub more-some : (q : Quantifier) (max : ℕ) → q.max ≡ Some max → is_zero (further_turns q).max ≡ not (nat_lt q.min max)
+more-some q max is = rw is (by (nat_lt q.min max) refl)
+  where
+    by : (b : Bool) → nat_lt q.min max ≡ b → nat_eq (max - q.min) 0 ≡ not b
+    by true lt = grind (arith, nat_tests)
+    by false lt = grind (arith, nat_tests)
+
+pub more-none : (q : Quantifier) → q.max ≡ None → is_zero (further_turns q).max ≡ false
+more-none q is = rw is refl
+
+module _ (facts : PartFacts) (d : Direction) (t : Tree) (is : is_unrolled_away t ≡ true) where
+  -- what is unrolled was not clean
+  pub unrolled_not_clean : (clean : Type 0) → (clean → IsNormal t) → clean → ⊥
+  unrolled_not_clean clean normal is_clean = true≢false (sym is ∙ LacksShape-here is_unrolled_away t (normal is_clean).unrolled)
