@@ -1,6 +1,6 @@
 -- What a node around a body in normal form becomes, and why.
 use Rattle.std.proofs.Common.{◌≡◌, ℕ, zero, suc, ◌+◌, ◌⊎◌, inl, inr, Bool, true, false, not, ◌&&◌, ◌||◌, [], Option, Some, None, ◌-◌, nat_le, nat_lt, nat_eq, Result, Ok, Err, refl, sym, ap, ap₂, subst, ◌∙◌, arith}
-use Rattle.std.specs.Prelude.{OnOk, IsErr}
+use Rattle.std.specs.Prelude.{IsErr}
 use Rattle.std.specs.declared.alloc.AllocError.{AllocError}
 use Rattle.std.proofs.Math.Nat.{suc-add}
 use Rattle.std.proofs.lemmas.Bool.Decides.{nat_tests}
@@ -21,8 +21,9 @@ use Rattle.regress_rewrite.specs.Law.{IsPart, Keeps}
 use Rattle.regress_rewrite.specs.Unroll.{further_turns, further_loop, unrolled}
 use Rattle.regress_rewrite.proofs.laws.Emptying.{empty_keeps}
 use Rattle.regress_rewrite.proofs.laws.Failing.{fails_keeps}
-use Rattle.regress_rewrite.proofs.laws.Keeps.{Keeps-refl, Keeps-trans, Keeps-put, IsPart-part}
+use Rattle.regress_rewrite.proofs.laws.Keeps.{Keeps-refl, Keeps-trans, Keeps-put, IsPart-part, IsPart-kept}
 use Rattle.regress_rewrite.proofs.laws.Promotion.{one_character-stands, promoted_keeps}
+use Rattle.regress_rewrite.proofs.laws.Unrolling.{MayUnroll-from, unrolled_keeps}
 use Rattle.regress_normalize.specs.Normalized.{Finished, Normalized, IsCleanAround, IsWrapperOf, IsCatOf, RowIsNormal}
 use Rattle.regress_normalize.specs.PartFacts.{HasFacts, HasRowFacts}
 use Rattle.regress_normalize.specs.Wrapped.{IsLoopOf, TakesForm, EndsInLoop, HasFinishedParts}
@@ -166,8 +167,8 @@ module _ (facts : PartFacts) (q : Quantifier) (start end : ℕ) (body : Tree) (n
     failed_finished form =
         finished-changed (IsCleanAround facts around) d around
         (λ clean. true≢false
-            (sym (and_from (fails_by_part around) (not (has_group around)) form.0 (ap not form.1))
-            ∙ LacksShape-here is_failed_away around clean.0.failed))
+        (sym (and_from (fails_by_part around) (not (has_group around)) form.0 (ap not form.1))
+        ∙ LacksShape-here is_failed_away around clean.0.failed))
         (leaf (byte_set [])) new (fails_keeps d around refl form.0 form.1 part) IsNormal-nothing
 
     pub stayed_finished : TakesForm Stays facts q start end body → may_unroll q start end body ≡ false → HasFacts new around →
@@ -191,7 +192,6 @@ RowIsNormal-copies (suc n) t normal = (normal, RowIsNormal-copies n t normal)
 RowIsNormal-append : (ts us : Trees) → RowIsNormal ts → RowIsNormal us → RowIsNormal (row_append ts us)
 RowIsNormal-append no_trees us first second = second
 RowIsNormal-append (more_trees t ts) us first second = (first.0, RowIsNormal-append ts us first.1 second)
-
 
 -- ---- what a node holds
 
@@ -229,10 +229,9 @@ module _ (d : Direction) (before : Trees) (behind new : Tree) (normal : RowIsNor
   abbrev row_of : Tree → Tree
   row_of t = cat (row_append before (more_trees t no_trees))
 
-  pub last_finished : (row : RowFacts) (answer : Result (Unit {0}) AllocError) → IsNormal new →
-      OnOk answer (HasRowFacts row (row_append before (more_trees new no_trees))) →
-      HasFinishedParts d (row_of behind) (row_of new) row answer
-  last_finished row (Ok done) new_normal has = record {
+  pub last_finished : (row : RowFacts) → IsNormal new → HasRowFacts row (row_append before (more_trees new no_trees)) →
+      HasFinishedParts d (row_of behind) (row_of new) (Ok row)
+  last_finished row new_normal has = record {
     keeps = Keeps-put (among before no_trees) d keeps;
     parts = record {
       parts = row_append before (more_trees new no_trees);
@@ -241,11 +240,10 @@ module _ (d : Direction) (before : Trees) (behind new : Tree) (normal : RowIsNor
       facts = has;
     };
   }
-  last_finished row (Err e) new_normal has = record { keeps = Keeps-put (among before no_trees) d keeps; parts = tt }
 
-  pub last_error : (row : RowFacts) (answer : Result (Unit {0}) AllocError) → IsErr answer → HasFinishedParts d (row_of behind) (row_of new) row answer
-  last_error row (Ok done) is = absurd (false≢true is)
-  last_error row (Err e) is = record { keeps = Keeps-put (among before no_trees) d keeps; parts = tt }
+  pub last_error : (answer : Result RowFacts AllocError) → IsErr answer → HasFinishedParts d (row_of behind) (row_of new) answer
+  last_error (Ok row) is = absurd (false≢true is)
+  last_error (Err e) is = record { keeps = Keeps-put (among before no_trees) d keeps; parts = tt }
 
 pub IsPart-last : (before : Trees) (behind : Tree) → IsPart (cat (row_append before (more_trees behind no_trees))) → IsPart behind
 IsPart-last before behind part = IsPart-part (among before no_trees) behind part
@@ -291,18 +289,34 @@ module _ (facts : PartFacts) (q : Quantifier) (start end : ℕ) (body : Tree) (h
     facts = has;
   }
 
--- whether turns may follow
-pub more-some : (q : Quantifier) (max : ℕ) → q.max ≡ Some max → is_zero (further_turns q).max ≡ not (nat_lt q.min max)
-more-some q max is = rw is (by (nat_lt q.min max) refl)
-  where
-    by : (b : Bool) → nat_lt q.min max ≡ b → nat_eq (max - q.min) 0 ≡ not b
-    by true lt = grind (arith, nat_tests)
-    by false lt = grind (arith, nat_tests)
+  module _ (d : Direction) (part : IsPart (wrapped (loop q start end) body)) (may : may_unroll q start end body ≡ true) where
+    keeps_unrolled : Keeps d (wrapped (loop q start end) body) (unrolled q start end body)
+    keeps_unrolled = unrolled_keeps q start end body (MayUnroll-from q start end body may) d part
 
-pub more-none : (q : Quantifier) → q.max ≡ None → is_zero (further_turns q).max ≡ false
-more-none q is = rw is refl
+    pub with_rest : (new : Tree) (answer : Result RowFacts AllocError) → HasFinishedParts d (unrolled q start end body) new answer →
+        HasFinishedParts d (wrapped (loop q start end) body) new answer
+    with_rest new answer finished = record { keeps = Keeps-trans d keeps_unrolled finished.keeps; parts = finished.parts }
 
-module _ (facts : PartFacts) (d : Direction) (t : Tree) (is : is_unrolled_away t ≡ true) where
+    pub without_rest : is_zero (further_turns q).max ≡ true →
+        HasFinishedParts d (wrapped (loop q start end) body) (unrolled q start end body) (Ok row)
+    without_rest none = record { keeps = keeps_unrolled; parts = unrolled_copies none }
+
+    pub IsPart-unrolled : IsPart (unrolled q start end body)
+    IsPart-unrolled = IsPart-kept d keeps_unrolled part
+
+pub nothing_done : (d : Direction) (t : Tree) (answer : Result RowFacts AllocError) → IsErr answer → HasFinishedParts d t t answer
+nothing_done d t (Ok row) is = absurd (false≢true is)
+nothing_done d t (Err e) is = record { keeps = Keeps-refl d t; parts = tt }
+
+module _ (clean : Type 0) (t mid : Tree) (is : is_unrolled_away t ≡ true) (normal : clean → IsNormal t) (d : Direction) (parts : Result RowFacts AllocError)
+    (finished : HasFinishedParts d t mid parts) where
   -- what is unrolled was not clean
-  pub unrolled_not_clean : (clean : Type 0) → (clean → IsNormal t) → clean → ⊥
-  unrolled_not_clean clean normal is_clean = true≢false (sym is ∙ LacksShape-here is_unrolled_away t (normal is_clean).unrolled)
+  was_not_clean : clean → ⊥
+  was_not_clean is_clean = true≢false (sym is ∙ LacksShape-here is_unrolled_away t (normal is_clean).unrolled)
+
+  pub row_finished : (new : Tree) (answer : Result PartFacts AllocError) → Normalized d mid new answer → Finished clean d t new answer
+  row_finished new answer = finished-then clean d t was_not_clean mid new answer finished.keeps
+
+  pub row_error : (answer : Result PartFacts AllocError) → IsErr answer → Finished clean d t mid answer
+  row_error (Ok facts) err = absurd (false≢true err)
+  row_error (Err e) err = finished-changed_error clean d t was_not_clean mid e finished.keeps

@@ -1,5 +1,5 @@
 -- Steps on the way of a loop into normal form.
-use Rattle.std.specs.Prelude.{◌≡◌, ◌⊎◌, ℕ, true, false, IsTrue, Result, OnOk}
+use Rattle.std.specs.Prelude.{◌≡◌, ◌⊎◌, ℕ, true, false, IsTrue, Result, IfOk}
 use Rattle.std.specs.declared.alloc.AllocError.{AllocError}
 use Rattle.regress_tree.specs.declared.ir.node.Quantifier.{Quantifier}
 use Rattle.regress_tree.specs.NodeTests.{matches_exactly_one_char}
@@ -54,7 +54,7 @@ pub record EndsInLoop (row : RowFacts) (facts : PartFacts) (t : Tree) : Type 0 w
   pub has : HasRowFacts row before
   pub loop : IsLoopOf facts behind
 
--- the `Cat` stands for the old one, and unless memory was wanting its parts are in normal form and have the facts
-pub record HasFinishedParts (d : Direction) (old new : Tree) (row : RowFacts) (answer : Result (Unit {0}) AllocError) : Type 0 where
+-- What is there stands for the old tree, and unless memory was wanting it is a `Cat` of parts in normal form with the facts.
+pub record HasFinishedParts (d : Direction) (old new : Tree) (answer : Result RowFacts AllocError) : Type 0 where
   pub keeps : Keeps d old new
-  pub parts : OnOk answer (IsCatOf row new)
+  pub parts : IfOk answer (λ row. IsCatOf row new)

@@ -1,17 +1,18 @@
 //! A node that holds one node, which is in normal form.
-ghost use Rattle.std.specs.Prelude.{◌≡◌, true, false, IfOk, OnOk, OnErr, []};
+ghost use Rattle.std.specs.Prelude.{◌≡◌, true, false, not, IfOk, OnOk, OnErr, []};
 ghost use Rattle.regress_tree.specs.Reading.{Direction};
-ghost use Rattle.regress_tree.specs.Shapes.{is_cat, is_group, is_loop, may_unroll, is_unrolled_away, on_loop};
+ghost use Rattle.regress_tree.specs.Shapes.{is_cat, is_group, is_loop, is_zero, may_unroll, is_unrolled_away, on_loop};
 ghost use Rattle.regress_tree.specs.Tree.{Wrapper, Tree, tree, wrapped, copies, leaf, empty, byte_set};
 ghost use Rattle.regress_tree.specs.Walk.{direction_of};
 ghost use Rattle.regress_rewrite.specs.Law.{IsPart};
+ghost use Rattle.regress_rewrite.specs.Unroll.{further_turns};
 ghost use Rattle.regress_normalize.specs.Normalized.{Finished, IsCleanAround, IsWrapperOf};
 ghost use Rattle.regress_normalize.specs.PartFacts.{HasFacts, HasRowFacts};
 ghost use Rattle.regress_normalize.specs.Wrapped.{IsLoopOf, promoted_loop, TakesForm, EndsInLoop, HasFinishedParts};
 
 use crate::cat::finish_cat;
 use crate::facts::{PartFacts, RowFacts};
-use regress_rewrite::unroll_loops::{unroll, MAX_CHARGE, MAX_LEVELS};
+use regress_rewrite::unroll_loops::{MAX_CHARGE, MAX_LEVELS, unroll};
 use regress_tree::ir::{Node, Quantifier, Walk};
 use std::alloc::{AllocError, Global};
 use std::mem;
@@ -54,7 +55,9 @@ pub fn finish_wrapper(
         }
         Node::Loop1CharBody { .. } => around(body, false, true),
         Node::LookaroundAssertion {
-            negate, contents, ..
+            negate,
+            contents,
+            ..
         } => {
             if !*negate && contents.is_empty() {
                 *node = Node::Empty;
@@ -79,7 +82,7 @@ fn may_unroll(quant: &Quantifier, groups: &Range<u16>, body: &PartFacts) -> bool
         && body.levels <= MAX_LEVELS
 }
 
-/// Unrolls a loop, finishes the loop of the turns that may follow, and then the row of both.
+/// Unrolls a loop, and brings the row of its copies into normal form.
 fn finish_unrolled(
     alloc: Global,
     node: &mut Node,
@@ -91,19 +94,38 @@ fn finish_unrolled(
     requires shape { is_unrolled_away (tree node.old) ≡ true }
     ensures { Finished (IsCleanAround body.now (tree node.old)) (direction_of walk.now) (tree node.old) (tree node.new) result }
 {
+    let row = unroll_parts(alloc, node, body)?;
+    finish_cat(alloc, node, &row, walk)
+}
+
+/// Unrolls a loop, finishes the loop of the turns that may follow, and tells what is known of the row.
+fn unroll_parts(alloc: Global, node: &mut Node, body: &PartFacts) -> Result<RowFacts, AllocError>
+    requires part { IsPart (tree node.old) }
+    requires body { IsWrapperOf body.now (tree node.old) }
+    requires shape { is_unrolled_away (tree node.old) ≡ true }
+    ensures { (d : Direction) → HasFinishedParts d (tree node.old) (tree node.new) result }
+{
     let Node::Loop { loopee, quant, .. } = node else {
         unreachable!()
     };
-    let more = match quant.max {
-        Some(max) => max > quant.min,
-        None => true,
-    };
-    let mut row = copies_facts(body, quant.min, loopee.is_cat())?;
+    let more = may_go_on(quant);
+    let row = copies_facts(body, quant.min, loopee.is_cat())?;
     unroll(alloc, node)?;
     if more {
-        finish_last(alloc, node, body, &mut row)?;
+        finish_last(alloc, node, body, row)
+    } else {
+        Ok(row)
     }
-    finish_cat(alloc, node, &row, walk)
+}
+
+/// Whether turns may follow those that must be taken.
+fn may_go_on(quant: &Quantifier) -> bool
+    ensures { result ≡ not (is_zero (further_turns quant.now).max) }
+{
+    match quant.max {
+        Some(max) => max > quant.min,
+        None => true,
+    }
 }
 
 /// What is known of so many copies of a part.
@@ -117,16 +139,16 @@ fn copies_facts(part: &PartFacts, times: usize, cat: bool) -> Result<RowFacts, A
     Ok(row)
 }
 
-/// Finishes the loop that is the last part of a `Cat`, and adds it to what is known of those before it.
+/// Finishes the loop that is the last part of a `Cat`, and adds it to what is known of the parts before it.
 fn finish_last(
     alloc: Global,
     node: &mut Node,
     body: &PartFacts,
-    row: &mut RowFacts,
-) -> Result<(), AllocError>
+    row: RowFacts,
+) -> Result<RowFacts, AllocError>
     requires part { IsPart (tree node.old) }
-    requires row { EndsInLoop row.old body.now (tree node.old) }
-    ensures { (d : Direction) → HasFinishedParts d (tree node.old) (tree node.new) row.new result }
+    requires row { EndsInLoop row body.now (tree node.old) }
+    ensures { (d : Direction) → HasFinishedParts d (tree node.old) (tree node.new) result }
 {
     let Node::Cat(parts) = node else {
         unreachable!()
@@ -135,7 +157,9 @@ fn finish_last(
         unreachable!()
     };
     let facts = finish_loop(alloc, last, body)?;
-    row.add(&facts, false)
+    let mut row = row;
+    row.add(&facts, false)?;
+    Ok(row)
 }
 
 /// Brings a loop that is not unrolled, around a body in normal form, into normal form.

@@ -9,4 +9,4 @@ pub loop-preserved : goal.loop-preserved
 loop-preserved c t has cat =
     let l = c.loop in
     subst (λ (ts : Trees). HasRowFacts c.add.new.self ts) (copies-more l.counter t)
-    (c.in_ok.ensures (copies l.counter t) t (l.invariant t has cat) has cat)
+    (c.in_ok-add.ensures (copies l.counter t) t (l.invariant t has cat) has cat)

@@ -61,8 +61,26 @@ returns-in_err-facts c d =
     let finished = rw last at (c.in_err-facts.ensures.finished d) in
     rw (c.in-Cat.is, out-Cat)
     (simp tree-Cat
-    (rw (is, row_is) (last_error d row.before row.behind (tree new) row.normal finished.keeps c.args.row.now c.from_residual.result
+    (rw (is, row_is) (last_error d row.before row.behind (tree new) row.normal finished.keeps c.from_residual.result
     c.from_residual.ensures.0)))
+
+pub returns-in_err-add : goal.returns-in_err-add
+returns-in_err-add c d =
+    let parts = c.in-Cat.parts in
+    let row = c.requires.row in
+    let node_is = ap tree c.in-Cat.is ∙ tree-Cat parts in
+    let is : trees parts.items ≡ row_append row.before (more_trees row.behind no_trees) = ap parts_of (sym node_is ∙ row.is) in
+    let some = some_there parts.items row.before row.behind is in
+    let at_end : length parts.items ≡ (vec_len parts - 1) + 1 = omega (arith, some, parts.ok.0) in
+    let value = rw (c.in-Cat.is, out-Cat) at c.in-Some.ensures.value in
+    let last = last_is parts.items row.before row.behind is (vec_len parts - 1) at_end c.in-Some.last.now value in
+    let new = c.finish_loop.new.node in
+    let row_is = row_with parts.items row.before row.behind is (vec_len parts - 1) at_end new in
+    let finished = rw last at (c.in_ok-facts.ensures.finished d) in
+    rw (c.in-Cat.is, out-Cat)
+    (simp tree-Cat
+    (rw (is, row_is) (last_error d row.before row.behind (tree new) row.normal finished.keeps c.from_residual-in_err-add.result
+    c.from_residual-in_err-add.ensures.0)))
 
 pub returns : goal.returns
 returns c d =
@@ -78,8 +96,8 @@ returns c d =
     let row_is = row_with parts.items row.before row.behind is (vec_len parts - 1) at_end new in
     let finished = rw last at (c.in_ok-facts.ensures.finished d) in
     let other = c.in_ok-facts.ensures.other in
-    let has = c.add.ensures row.before (tree new) row.has finished.facts (sym other) in
+    let has = c.in_ok-add.ensures row.before (tree new) row.has finished.facts (sym other) in
     rw (c.in-Cat.is, out-Cat)
     (simp tree-Cat
-    (rw (is, row_is) (last_finished d row.before row.behind (tree new) row.normal finished.keeps c.add.new.self c.add.result
+    (rw (is, row_is) (last_finished d row.before row.behind (tree new) row.normal finished.keeps c.add.new.self
     finished.normal has)))
