@@ -1,3 +1,5 @@
 pub mod FactsLemmas
 pub mod PackedLemmas
 pub mod CatLemmas
+pub mod LastLemmas
+pub mod WrapperLemmas

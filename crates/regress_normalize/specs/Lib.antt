@@ -1,3 +1,4 @@
 pub mod PartFacts
 pub mod Normalized
 pub mod Packed
+pub mod Wrapped

@@ -3,19 +3,31 @@ use Rattle.std.specs.Prelude.{◌≡◌, Result, IfOk, OnOk}
 use Rattle.std.specs.declared.alloc.AllocError.{AllocError}
 use Rattle.regress_tree.specs.NormalForm.{IsNormal}
 use Rattle.regress_tree.specs.Reading.{Direction}
-use Rattle.regress_tree.specs.Tree.{Wrapper, Tree, Trees, cat, alt, wrapped, no_trees, more_trees}
+use Rattle.regress_tree.specs.Tree.{Wrapper, Tree, Trees, leaf, cat, alt, wrapped, no_trees, more_trees}
 use Rattle.regress_rewrite.specs.Law.{Keeps}
-use Rattle.regress_normalize.specs.PartFacts.{HasFacts, HasRowFacts}
+use Rattle.regress_normalize.specs.PartFacts.{HasFacts, IsPlain, HasRowFacts}
 use Rattle.regress_normalize.specs.declared.facts.PartFacts.{PartFacts}
 use Rattle.regress_normalize.specs.declared.facts.RowFacts.{RowFacts}
 
 -- The new tree stands for the old one, whatever is answered. Unless memory was wanting it is in normal form and has the facts.
-pub record Normalized (d : Direction) (old new : Tree) (answer : Result PartFacts AllocError) : Type 0 where
+pub record Finished (clean : Type 0) (d : Direction) (old new : Tree) (answer : Result PartFacts AllocError) : Type 0 where
   pub keeps : Keeps d old new
   pub normal : OnOk answer (IsNormal new)
   pub facts : IfOk answer (λ facts. HasFacts facts new)
-  -- and what is in normal form is left as it is
-  pub left : IsNormal old → new ≡ old
+  -- and what is clean is left as it is
+  pub left : clean → new ≡ old
+  pub plain : clean → IfOk answer (λ facts. IsPlain facts new)
+
+-- clean is what is in normal form
+abbrev pub Normalized : Direction → (old new : Tree) → Result PartFacts AllocError → Type 0
+Normalized d old new answer = Finished (IsNormal old) d old new answer
+
+-- what holds a part with these facts is clean if it is in normal form, and they promote no loop that stands
+abbrev pub IsCleanAround : PartFacts → Tree → Type 0
+IsCleanAround facts (leaf l) = IsNormal (leaf l)
+IsCleanAround facts (cat parts) = IsNormal (cat parts)
+IsCleanAround facts (alt left right) = IsNormal (alt left right)
+IsCleanAround facts (wrapped w body) = IsNormal (wrapped w body) × IsPlain facts body
 
 -- each tree of the row is in normal form
 abbrev pub RowIsNormal : Trees → Type 0

@@ -1,7 +1,7 @@
 -- What is known of parts in normal form.
-use Rattle.std.specs.Prelude.{◌≡◌, ℕ, IsTrue, max}
+use Rattle.std.specs.Prelude.{◌≡◌, ℕ, true, IsTrue, max}
 use Rattle.regress_tree.specs.Measures.{total_in_row, levels, levels_of_deepest}
-use Rattle.regress_tree.specs.NodeTests.{match_always_fails}
+use Rattle.regress_tree.specs.NodeTests.{match_always_fails, matches_exactly_one_char}
 use Rattle.regress_tree.specs.Shapes.{on_leaf, on_wrapper, some_node_in_row, some_in_row, is_group, is_loop, is_string_set, has_group, has_loop, has_string_set}
 use Rattle.regress_tree.specs.Tree.{Tree, Trees}
 use Rattle.regress_tree.specs.Units.{charges, charge}
@@ -23,6 +23,10 @@ pub record HasFacts (facts : PartFacts) (t : Tree) : Type 0 where
   pub has_string_set : facts.has_string_set ≡ has_string_set t
   pub always_fails : facts.always_fails ≡ match_always_fails t
   pub one : IsTrue facts.was_one_character → StandsAsOne t
+
+-- what was one character is one as it stands
+abbrev pub IsPlain : PartFacts → Tree → Type 0
+IsPlain facts t = IsTrue facts.was_one_character → matches_exactly_one_char t ≡ true
 
 -- What is known of a row, where the parts of a `Cat` count in its place.
 pub record HasRowFacts (facts : RowFacts) (ts : Trees) : Type 0 where

@@ -54,42 +54,44 @@ one_character-stands n (cat parts) one m = absurd (false≢true one)
 one_character-stands n (alt left right) one m = absurd (false≢true one)
 one_character-stands n (wrapped w body) one m = absurd (false≢true one)
 
--- and it has no group
-pub one_character-captures : (t : Tree) → matches_exactly_one_char t ≡ true → captures t ≡ []
-one_character-captures (leaf l) one = refl
-one_character-captures (cat parts) one = absurd (false≢true one)
-one_character-captures (alt left right) one = absurd (false≢true one)
-one_character-captures (wrapped w body) one = absurd (false≢true one)
+-- and such a body has no group
+pub one_character-captures : (n : ℕ) (t : Tree) → MayStand n t one_character → captures t ≡ []
+one_character-captures n (leaf l) m = refl
+one_character-captures n (cat parts) m = absurd m.0
+one_character-captures n (alt left right) m = absurd m.0
+one_character-captures n (wrapped w body) m = absurd m.0
 
 -- ---- the law
 
 module _ (d : Direction) (q : Quantifier) (start end : ℕ) (body : Tree) where
-  pub promoted_keeps : matches_exactly_one_char body ≡ true → HasGroups start end body →
+  -- where the body may stand in a loop over one character
+  pub promoted_keeps : ((n : ℕ) → MayStand n body inside → MayStand n body one_character) → IsPart (wrapped (loop q start end) body) →
       Keeps d (wrapped (loop q start end) body) (wrapped (loop_one q) body)
-  promoted_keeps one groups = record {
-    meaning = λ setting text is_text. Alike-from_same (λ s.
-        ap (λ (f : Step). f s)
-        (repeat-none (length (encode_utf8_all text) + 1) q start end _
-        (HasGroups-none start end body groups (one_character-captures body one))));
-    stands = λ n p m. (m.0, m.1.0, one_character-stands n body one m.2);
-    captures = refl;
-    account = omega arith;
-    brackets = λ lacks. lacks;
-  }
+  promoted_keeps stands part =
+      let none = one_character-captures part.0 body (stands part.0 part.2.2) in
+      record {
+        meaning = λ setting text is_text. Alike-from_same (λ s.
+            ap (λ (f : Step). f s)
+            (repeat-none (length (encode_utf8_all text) + 1) q start end _ (HasGroups-none start end body part.2.1.1 none)));
+        stands = λ n p m. (m.0, m.1.0, stands n m.2);
+        captures = refl;
+        account = omega arith;
+        brackets = λ lacks. lacks;
+      }
 
-  promotes_lawful : (action : PassAction) (left : Tree) → HasGroups start end body → Promotes action q body left →
+  promotes_lawful : (action : PassAction) (left : Tree) → IsPart (wrapped (loop q start end) body) → Promotes action q body left →
       IsLawful is_promoted_away true d (wrapped (loop q start end) body) (wrapped (loop q start end) left) action
-  promotes_lawful Keep left groups promotes =
+  promotes_lawful Keep left part promotes =
       rw promotes.1 (keep_lawful is_promoted_away true d (wrapped (loop q start end) body) promotes.0)
-  promotes_lawful Modified left groups none = absurd none
-  promotes_lawful Remove left groups none = absurd none
-  promotes_lawful (Replace node) left groups promotes =
+  promotes_lawful Modified left part none = absurd none
+  promotes_lawful Remove left part none = absurd none
+  promotes_lawful (Replace node) left part promotes =
       replace_lawful is_promoted_away true d (wrapped (loop q start end) body) promotes.0 (wrapped (loop q start end) left) node
-      (rw promotes.1 (promoted_keeps promotes.0 groups))
+      (rw promotes.1 (promoted_keeps (λ n. one_character-stands n body promotes.0) part))
       (rw promotes.1 (IsLess-lighter (wrapped (loop_one q) body) (wrapped (loop q start end) body) (omega arith) (omega arith)))
 
   pub promote_lawful : (r : Result PassAction AllocError) (left : Tree) → IsPart (wrapped (loop q start end) body) →
       IfOk r (λ action. Promotes action q body left) →
       IfOk r (IsLawful is_promoted_away true d (wrapped (loop q start end) body) (wrapped (loop q start end) left))
-  promote_lawful (Ok action) left part promotes = promotes_lawful action left part.2.1.1 promotes
+  promote_lawful (Ok action) left part promotes = promotes_lawful action left part promotes
   promote_lawful (Err e) left part promotes = tt

@@ -8,7 +8,7 @@ use Rattle.regress_tree.specs.Tree.{Tree, tree, wrapped, loop, cat, trees, copie
 use Rattle.regress_tree.proofs.laws.Nodes.{tree-Loop, tree-Cat}
 use Rattle.regress_tree.proofs.laws.Levels.{out-Loop}
 use Rattle.regress_rewrite.specs.Law.{IsPart}
-use Rattle.regress_rewrite.specs.Unroll.{further_turns, unrolled}
+use Rattle.regress_rewrite.specs.Unroll.{further_turns, unrolled, unrolled_loop}
 use Rattle.regress_rewrite.proofs.laws.Unrolling.{MayUnroll-from, unroll_lawful, unrolled-without, unrolled-with, body_groupless, is_zero-told}
 use Rattle.regress_rewrite.proofs.unroll_loops.unroll.Goals as goal
 use Rattle.regress_rewrite.proofs.unroll_loops.unroll.Goals.{then-ne+in_ok-push, else-ne}
@@ -23,21 +23,20 @@ copy_times-requires-clause-groups c =
     let facts = MayUnroll-from at.quant at.enclosed_groups.start at.enclosed_groups.end body may in
     rw (c.deref.ensures, at.loopee-is) (body_groupless at.quant at.enclosed_groups.start at.enclosed_groups.end body facts part)
 
-pub returns-clause-lawful : goal.returns-clause-lawful
-returns-clause-lawful c d =
+-- the node is the loop, unrolled
+made : goal.returns-clause-unrolled
+made c =
     let at = c.in-Loop in
     let q = at.quant in
     let start = at.enclosed_groups.start in
     let end = at.enclosed_groups.end in
     let body = tree at.loopee.value in
     let is = ap tree at.is ∙ tree-Loop at.loopee at.quant at.enclosed_groups in
-    let part = subst (λ (t : Tree). IsPart t) is c.requires.part in
-    let may : may_unroll q start end body ≡ true = ap is_unrolled_away (sym is) ∙ c.requires.shape in
     let parts = c.in_ok-parts.parts.items in
     let copied : trees parts ≡ copies q.min body = rw (c.deref.ensures, at.is, out-Loop) at c.in_ok-parts.ensures.copies in
     let turns : c.further_turns.result ≡ further_turns q = rw (at.is, out-Loop) at c.further_turns.ensures in
     let zero = ap (λ (q' : Quantifier). is_zero q'.max) (sym turns) ∙ is_zero-told c.further_turns.result.max in
-    let made : tree (Cat c.if-ne.parts) ≡ unrolled q start end body =
+    let row_is : tree (Cat c.if-ne.parts) ≡ unrolled q start end body =
     tree-Cat c.if-ne.parts
     ∙ elim c.if-ne.branch [
       | then-ne+in_ok-push w ↦
@@ -50,4 +49,19 @@ returns-clause-lawful c d =
           ap (λ (ps : Vec Node Global). cat (trees ps.items)) w.parts-is
           ∙ unrolled-without q start end body parts copied (search (rules, tests))
     ] in
-    rw (is, made) (unroll_lawful q start end body d part may)
+    row_is ∙ ap unrolled_loop (sym is)
+
+pub returns-clause-unrolled : goal.returns-clause-unrolled
+returns-clause-unrolled c = made c
+
+pub returns-clause-lawful : goal.returns-clause-lawful
+returns-clause-lawful c d =
+    let at = c.in-Loop in
+    let q = at.quant in
+    let start = at.enclosed_groups.start in
+    let end = at.enclosed_groups.end in
+    let body = tree at.loopee.value in
+    let is = ap tree at.is ∙ tree-Loop at.loopee at.quant at.enclosed_groups in
+    let part = subst (λ (t : Tree). IsPart t) is c.requires.part in
+    let may : may_unroll q start end body ≡ true = ap is_unrolled_away (sym is) ∙ c.requires.shape in
+    rw (is, made c ∙ ap unrolled_loop is) (unroll_lawful q start end body d part may)
