@@ -51,7 +51,8 @@ pub fn finish_cat(
 
 /// What is known of a leaf that is charged as one.
 fn leaf_facts(always_fails: bool) -> PartFacts
-    ensures { (l : Leaf) → charge_of_leaf l ≡ 1 → is_string_set l ≡ false → leaf_always_fails l ≡ always_fails → HasFacts result (leaf l) }
+    ensures facts { (l : Leaf) → charge_of_leaf l ≡ 1 → is_string_set l ≡ false → leaf_always_fails l ≡ always_fails → HasFacts result (leaf l) }
+    ensures other { result.was_one_character ≡ false }
 {
     PartFacts {
         charge: 1,
