@@ -1,7 +1,5 @@
 -- A loop by what was found of it, and a lookaround for `Empty`.
-use Rattle.std.proofs.Common.{◌≡◌, true, false, rules, tests, refl, ap, subst, ◌∙◌}
-use Rattle.std.proofs.lemmas.Bool.{and_from}
-use Rattle.regress_tree.specs.NodeTests.{is_empty}
+use Rattle.std.proofs.Common.{◌≡◌, true, rules, refl, sym, ap, subst, ◌∙◌}
 use Rattle.regress_tree.specs.Shapes.{is_emptied_away}
 use Rattle.regress_tree.specs.Tree.{Tree, tree, wrapped, lookaround}
 use Rattle.regress_tree.specs.Walk.{direction_of}
@@ -18,15 +16,14 @@ returns-else-may_unroll c =
     let finished = rw (at.is, out-Loop) at (c.finish_loop.ensures.finished (direction_of c.args.walk.now)) in
     rw at.is finished
 
-pub returns-then-is_empty : goal.returns-then-is_empty
-returns-then-is_empty c =
+pub returns-then-always_holds : goal.returns-then-always_holds
+returns-then-always_holds c =
     let at = c.in-LookaroundAssertion in
+    let out = out-LookaroundAssertion at.negate at.backwards at.start_group at.end_group at.contents in
     let is = ap tree at.is ∙ tree-LookaroundAssertion at.negate at.backwards at.start_group at.end_group at.contents in
-    let body = tree at.contents.value in
-    let t = wrapped (lookaround at.negate at.backwards at.start_group at.end_group) body in
+    let t = wrapped (lookaround at.negate at.backwards at.start_group at.end_group) (tree at.contents.value) in
     let part = subst (λ (u : Tree). IsPart u) is c.requires.part in
-    let empty : is_empty body ≡ true = search (rules, tests, at.is, at.contents-is, c.deref.ensures, c.is_empty.ensures, c.if-is_empty.true) in
-    let emptied : is_emptied_away t ≡ true = and_from _ _ (search (rules, tests, at.negate-is, c.if-not-negate.true)) empty in
+    let emptied : is_emptied_away t ≡ true = sym (rw (c.deref.ensures, at.is, out) at c.always_holds.ensures) ∙ c.if-always_holds.true in
     rw (is, tree-Empty)
     (emptied_finished (IsCleanAround c.args.body.now t) (direction_of c.args.walk.now) t (λ clean. clean.0) refl emptied part
     c.leaf_facts.result (c.leaf_facts.ensures.empty refl))
