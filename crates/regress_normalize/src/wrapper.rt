@@ -212,7 +212,8 @@ fn form_of(loopee: &Node, quant: &Quantifier, groups: &Range<u16>, body: &PartFa
         LoopForm::OneCharacter
     } else if loopee.is_empty() || (quant.max == Some(0) && groups.is_empty()) {
         LoopForm::Empty
-    } else if quant.min > 0 && body.always_fails && !body.has_group {
+    } else if quant.min > 0 && body.always_fails {
+        // A set or a bracket, so no group is inside.
         LoopForm::AlwaysFails
     } else if loopee.matches_exactly_one_char() {
         LoopForm::OneCharacter
