@@ -320,3 +320,9 @@ module _ (clean : Type 0) (t mid : Tree) (is : is_unrolled_away t ≡ true) (nor
   pub row_error : (answer : Result PartFacts AllocError) → IsErr answer → Finished clean d t mid answer
   row_error (Ok facts) err = absurd (false≢true err)
   row_error (Err e) err = finished-changed_error clean d t was_not_clean mid e finished.keeps
+
+pub clean_normal : (facts : PartFacts) (t : Tree) → IsCleanAround facts t → IsNormal t
+clean_normal facts (leaf l) clean = clean
+clean_normal facts (cat parts) clean = clean
+clean_normal facts (alt left right) clean = clean
+clean_normal facts (wrapped w body) clean = clean.0

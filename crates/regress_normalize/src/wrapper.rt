@@ -1,5 +1,6 @@
 //! A node that holds one node, which is in normal form.
-ghost use Rattle.std.specs.Prelude.{◌≡◌, true, false, not, IfOk, OnOk, OnErr, []};
+ghost use Rattle.std.specs.Prelude.{◌≡◌, true, false, not, ◌&&◌, IfOk, OnOk, OnErr, []};
+ghost use Rattle.regress_tree.specs.NodeTests.{is_empty};
 ghost use Rattle.regress_tree.specs.Reading.{Direction};
 ghost use Rattle.regress_tree.specs.Shapes.{is_cat, is_group, is_loop, is_zero, may_unroll, is_unrolled_away, on_loop};
 ghost use Rattle.regress_tree.specs.Tree.{Wrapper, Tree, tree, wrapped, copies, leaf, empty, byte_set};
@@ -59,7 +60,7 @@ pub fn finish_wrapper(
             contents,
             ..
         } => {
-            if !*negate && contents.is_empty() {
+            if always_holds(*negate, contents) {
                 *node = Node::Empty;
                 Ok(leaf_facts(false))
             } else {
@@ -68,6 +69,13 @@ pub fn finish_wrapper(
         }
         _ => unreachable!(),
     }
+}
+
+/// Whether a lookaround finds the empty text everywhere, as far as is looked at.
+fn always_holds(negate: bool, contents: &Node) -> bool
+    ensures { result ≡ (not negate && is_empty (tree contents.now)) }
+{
+    !negate && contents.is_empty()
 }
 
 /// Whether a loop of these turns and groups around a body with these facts is unrolled.
@@ -204,7 +212,8 @@ fn form_of(loopee: &Node, quant: &Quantifier, groups: &Range<u16>, body: &PartFa
         LoopForm::OneCharacter
     } else if loopee.is_empty() || (quant.max == Some(0) && groups.is_empty()) {
         LoopForm::Empty
-    } else if quant.min > 0 && body.always_fails && !body.has_group {
+    } else if quant.min > 0 && body.always_fails {
+        // A set or a bracket, so no group is inside.
         LoopForm::AlwaysFails
     } else if loopee.matches_exactly_one_char() {
         LoopForm::OneCharacter

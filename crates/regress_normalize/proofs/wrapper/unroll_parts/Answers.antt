@@ -1,6 +1,7 @@
 -- The copies and the loop behind them stand for the loop.
 use Rattle.std.proofs.Common.{◌≡◌, true, false, rules, sym, subst, ap, ◌∙◌, refl}
 use Rattle.std.proofs.lemmas.Bool.{not-true, not-false}
+use Rattle.regress_tree.specs.declared.ir.node.Quantifier.{Quantifier}
 use Rattle.regress_tree.specs.Reading.{forwards}
 use Rattle.regress_tree.specs.Shapes.{may_unroll, is_unrolled_away, is_zero}
 use Rattle.regress_tree.specs.Tree.{Tree, tree, wrapped, loop, copies}
@@ -29,10 +30,11 @@ finish_last-requires-clause-part c =
     let holds = wrapper_holds facts (loop q start end) body told in
     let made : tree c.unroll.new.node ≡ unrolled q start end body =
     (rw (at.is, out-Loop) at c.in_ok-unroll.ensures.unrolled) ∙ ap unrolled_loop (tree-Loop at.loopee at.quant at.enclosed_groups) in
-    let asked = rw (at.is, out-Loop) at c.may_go_on.ensures in
+    let asked = rw (at.is, out-Loop) at c.may_go_on-more.ensures in
     let row = c.in_ok-row.row in
     let has : HasRowFacts row (copies q.min body) =
-    (rw (at.is, out-Loop) at c.in_ok-row.ensures) body holds.has (rw (c.deref.ensures, at.is, out-Loop) at c.is_cat.ensures) in
+    subst (λ (q' : Quantifier). HasRowFacts row (copies q'.min body)) at.quant-is
+    (c.in_ok-row.ensures body holds.has (rw (c.deref.ensures, at.is, out-Loop) at c.is_cat.ensures)) in
     rw made (IsPart-unrolled facts q start end body holds row has forwards part may)
 
 pub finish_last-requires-clause-row : goal.finish_last-requires-clause-row
@@ -50,10 +52,11 @@ finish_last-requires-clause-row c =
     let holds = wrapper_holds facts (loop q start end) body told in
     let made : tree c.unroll.new.node ≡ unrolled q start end body =
     (rw (at.is, out-Loop) at c.in_ok-unroll.ensures.unrolled) ∙ ap unrolled_loop (tree-Loop at.loopee at.quant at.enclosed_groups) in
-    let asked = rw (at.is, out-Loop) at c.may_go_on.ensures in
+    let asked = rw (at.is, out-Loop) at c.may_go_on-more.ensures in
     let row = c.in_ok-row.row in
     let has : HasRowFacts row (copies q.min body) =
-    (rw (at.is, out-Loop) at c.in_ok-row.ensures) body holds.has (rw (c.deref.ensures, at.is, out-Loop) at c.is_cat.ensures) in
+    subst (λ (q' : Quantifier). HasRowFacts row (copies q'.min body)) at.quant-is
+    (c.in_ok-row.ensures body holds.has (rw (c.deref.ensures, at.is, out-Loop) at c.is_cat.ensures)) in
     let more : is_zero (further_turns q).max ≡ false = not-true _ (sym asked ∙ c.if-more.true) in
     rw made (unrolled_ends facts q start end body holds row has more)
 
@@ -72,10 +75,11 @@ returns-then-more c d =
     let holds = wrapper_holds facts (loop q start end) body told in
     let made : tree c.unroll.new.node ≡ unrolled q start end body =
     (rw (at.is, out-Loop) at c.in_ok-unroll.ensures.unrolled) ∙ ap unrolled_loop (tree-Loop at.loopee at.quant at.enclosed_groups) in
-    let asked = rw (at.is, out-Loop) at c.may_go_on.ensures in
+    let asked = rw (at.is, out-Loop) at c.may_go_on-more.ensures in
     let row = c.in_ok-row.row in
     let has : HasRowFacts row (copies q.min body) =
-    (rw (at.is, out-Loop) at c.in_ok-row.ensures) body holds.has (rw (c.deref.ensures, at.is, out-Loop) at c.is_cat.ensures) in
+    subst (λ (q' : Quantifier). HasRowFacts row (copies q'.min body)) at.quant-is
+    (c.in_ok-row.ensures body holds.has (rw (c.deref.ensures, at.is, out-Loop) at c.is_cat.ensures)) in
     let finished = rw made at (c.finish_last.ensures d) in
     rw is (with_rest facts q start end body holds row has d part may (tree c.finish_last.new.node) c.finish_last.result finished)
 
@@ -94,9 +98,10 @@ returns-else-more c d =
     let holds = wrapper_holds facts (loop q start end) body told in
     let made : tree c.unroll.new.node ≡ unrolled q start end body =
     (rw (at.is, out-Loop) at c.in_ok-unroll.ensures.unrolled) ∙ ap unrolled_loop (tree-Loop at.loopee at.quant at.enclosed_groups) in
-    let asked = rw (at.is, out-Loop) at c.may_go_on.ensures in
+    let asked = rw (at.is, out-Loop) at c.may_go_on-more.ensures in
     let row = c.in_ok-row.row in
     let has : HasRowFacts row (copies q.min body) =
-    (rw (at.is, out-Loop) at c.in_ok-row.ensures) body holds.has (rw (c.deref.ensures, at.is, out-Loop) at c.is_cat.ensures) in
+    subst (λ (q' : Quantifier). HasRowFacts row (copies q'.min body)) at.quant-is
+    (c.in_ok-row.ensures body holds.has (rw (c.deref.ensures, at.is, out-Loop) at c.is_cat.ensures)) in
     let none : is_zero (further_turns q).max ≡ true = not-false _ (sym asked ∙ c.if-more.false) in
     rw (is, made) (without_rest facts q start end body holds row has d part may none)
