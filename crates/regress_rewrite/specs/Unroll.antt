@@ -4,7 +4,7 @@ use Rattle.regress_tree.specs.declared.ir.node.Quantifier.{Quantifier}
 use Rattle.regress_tree.specs.Measures.{total_in_row, levels, levels_of_deepest}
 use Rattle.regress_tree.specs.Shapes.{on_leaf, on_wrapper, some_node_in_row, is_loop, is_string_set, has_loop, has_string_set, is_zero}
 use Rattle.regress_tree.specs.Tree.{Tree, Trees, leaf, cat, alt, wrapped, capture_group, loop, loop_one, lookaround, no_trees, more_trees, row_append, copies}
-use Rattle.regress_tree.specs.Units.{charges, charge}
+use Rattle.regress_tree.specs.Units.{charges, charge, units}
 
 -- What a charge leaves of a budget: None where the budget is too small, there are more than `most` levels, or there are loops or
 -- sets of strings.
@@ -43,3 +43,10 @@ unrolled_loop (wrapped (capture_group id name) body) = wrapped (capture_group id
 unrolled_loop (wrapped (loop q start end) body) = unrolled q start end body
 unrolled_loop (wrapped (loop_one q) body) = wrapped (loop_one q) body
 unrolled_loop (wrapped (lookaround negate backwards start end) body) = wrapped (lookaround negate backwards start end) body
+
+-- The body of this loop may be copied as often as it must be matched: it is as `may_unroll` asks, but for its charge, and has at most
+-- the units that a charge of 256 allows, so that unrolling adds no more than the account holds for a loop.
+abbrev pub may_copy : Quantifier → (start end : ℕ) → Tree → Bool
+may_copy q start end body =
+    nat_le end start && (nat_le 1 q.min && nat_le q.min 5)
+    && (not (has_loop body) && not (has_string_set body)) && (nat_le (units body) 1280 && nat_le (levels body) 101)

@@ -3,11 +3,11 @@ ghost use Rattle.std.specs.Prelude.{◌≡◌, ◌<◌, ◌≤◌, true, false, 
 ghost use Rattle.regress_tree.specs.Copies.{HasNoGroup};
 ghost use Rattle.regress_tree.specs.Measures.{levels};
 ghost use Rattle.regress_tree.specs.Reading.{Direction};
-ghost use Rattle.regress_tree.specs.Shapes.{has_string_set, is_unrolled_away};
+ghost use Rattle.regress_tree.specs.Shapes.{has_string_set, is_unrolled_away, on_loop};
 ghost use Rattle.regress_tree.specs.Tree.{tree, trees, copies};
 ghost use Rattle.regress_tree.specs.WellFormed.{IsQuantifier};
 ghost use Rattle.regress_rewrite.specs.Law.{IsPart, IsLawful};
-ghost use Rattle.regress_rewrite.specs.Unroll.{after_charge, after_charge_row, further_turns, unrolled_loop};
+ghost use Rattle.regress_rewrite.specs.Unroll.{after_charge, after_charge_row, further_turns, may_copy, unrolled_loop};
 
 use crate::rewrite::PassAction;
 use regress_tree::ir::{Node, NodeList, Quantifier};
@@ -52,14 +52,24 @@ pub fn may_unroll(node: &Node) -> bool
     }
 }
 
-/// Makes a loop that `may_unroll` finds a `Cat`: a copy of the body for each turn that must be taken,
-/// and the loop of the turns that may follow, unless there are none. All memory is taken before the
-/// loop is changed.
+/// Makes a loop that `may_unroll` finds a `Cat`, as `write_out` does.
 pub fn unroll(alloc: Global, node: &mut Node) -> Result<PassAction, AllocError>
     requires part { IsPart (tree node.old) }
     requires shape { is_unrolled_away (tree node.old) ≡ true }
-    ensures unrolled { OnOk result (tree node.new ≡ unrolled_loop (tree node.old)) }
     ensures lawful { (d : Direction) → IfOk result (IsLawful is_unrolled_away true d (tree node.old) (tree node.new)) }
+    ensures err { OnErr result (tree node.new ≡ tree node.old) }
+{
+    write_out(alloc, node)?;
+    Ok(PassAction::Modified)
+}
+
+/// Makes a loop whose body may be copied a `Cat`: a copy of the body for each turn that must be taken,
+/// and the loop of the turns that may follow, unless there are none. All memory is taken before the
+/// loop is changed.
+pub fn write_out(alloc: Global, node: &mut Node) -> Result<(), AllocError>
+    requires part { IsPart (tree node.old) }
+    requires body { on_loop may_copy (tree node.old) ≡ true }
+    ensures unrolled { OnOk result (tree node.new ≡ unrolled_loop (tree node.old)) }
     ensures err { OnErr result (tree node.new ≡ tree node.old) }
 {
     let Node::Loop { loopee, quant, .. } = node else {
@@ -72,7 +82,7 @@ pub fn unroll(alloc: Global, node: &mut Node) -> Result<PassAction, AllocError>
         parts.push(mem::replace(node, Node::Empty))?;
     }
     *node = Node::Cat(parts);
-    Ok(PassAction::Modified)
+    Ok(())
 }
 
 /// So many copies of a body, with room for one node more.
