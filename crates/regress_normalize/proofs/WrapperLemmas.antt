@@ -1,6 +1,6 @@
 -- What a node around a body in normal form becomes, and why.
-use Rattle.std.proofs.Common.{◌≡◌, ℕ, zero, suc, ◌+◌, ◌⊎◌, inl, inr, Bool, true, false, not, ◌&&◌, ◌||◌, [], Option, Some, None, ◌-◌, nat_le, nat_lt, nat_eq, Result, Ok, Err, refl, sym, ap, ap₂, subst, ◌∙◌, arith}
-use Rattle.std.specs.Prelude.{IsErr}
+use Rattle.std.proofs.Common.{◌≡◌, ℕ, zero, suc, ◌≤◌, ◌*◌, ◌+◌, ◌⊎◌, inl, inr, Bool, true, false, not, ◌&&◌, ◌||◌, [], Option, Some, None, ◌-◌, nat_le, nat_lt, nat_eq, Result, Ok, Err, refl, sym, ap, ap₂, subst, ◌∙◌, arith}
+use Rattle.std.specs.Prelude.{IsErr, IsTrue}
 use Rattle.std.specs.declared.alloc.AllocError.{AllocError}
 use Rattle.std.proofs.Math.Nat.{suc-add}
 use Rattle.std.proofs.lemmas.Bool.Decides.{nat_tests}
@@ -12,21 +12,21 @@ use Rattle.regress_tree.specs.NormalForm.{IsNormal}
 use Rattle.regress_tree.specs.Reading.{Direction}
 use Rattle.regress_tree.specs.Shapes.{is_simplified_away, is_flattened_away, is_unrolled_away, is_promoted_away, is_formed_away, is_emptied_away, is_failed_away, is_empty_wrapper, fails_by_part, has_group, has_loop, has_string_set, is_cat, may_unroll, is_zero}
 use Rattle.regress_tree.specs.Tree.{Tree, Trees, leaf, empty, byte_set, cat, alt, wrapped, Wrapper, loop, loop_one, no_trees, more_trees, row_append, copies}
-use Rattle.regress_tree.specs.Units.{charge}
+use Rattle.regress_tree.specs.Units.{charge, units, account}
 use Rattle.regress_tree.specs.WellFormed.{MayStand, inside, one_character}
-use Rattle.regress_tree.proofs.laws.Measures.{LacksShape-here}
+use Rattle.regress_tree.proofs.laws.Measures.{LacksShape-here, units-le}
 use Rattle.regress_tree.proofs.laws.Places.{among, put}
 use Rattle.regress_tree.proofs.laws.Rows.{row_append-none}
 use Rattle.regress_rewrite.specs.Law.{IsPart, Keeps}
-use Rattle.regress_rewrite.specs.Unroll.{further_turns, further_loop, unrolled}
+use Rattle.regress_rewrite.specs.Unroll.{further_turns, further_loop, unrolled, may_copy, small_account}
 use Rattle.regress_rewrite.proofs.laws.Emptying.{empty_keeps}
 use Rattle.regress_rewrite.proofs.laws.Failing.{fails_keeps}
 use Rattle.regress_rewrite.proofs.laws.Keeps.{Keeps-refl, Keeps-trans, Keeps-put, IsPart-part, IsPart-kept}
 use Rattle.regress_rewrite.proofs.laws.Promotion.{one_character-stands, promoted_keeps}
-use Rattle.regress_rewrite.proofs.laws.Unrolling.{MayUnroll-from, unrolled_keeps}
+use Rattle.regress_rewrite.proofs.laws.Unrolling.{MayCopy-from, units-small, unrolled_keeps}
 use Rattle.regress_normalize.specs.Normalized.{Finished, Normalized, IsCleanAround, IsWrapperOf, IsCatOf, RowIsNormal}
 use Rattle.regress_normalize.specs.PartFacts.{HasFacts, HasRowFacts}
-use Rattle.regress_normalize.specs.Wrapped.{IsLoopOf, TakesForm, EndsInLoop, HasFinishedParts}
+use Rattle.regress_normalize.specs.Wrapped.{may_unroll_by, IsLoopOf, TakesForm, EndsInLoop, HasFinishedParts}
 use Rattle.regress_normalize.specs.declared.facts.PartFacts.{PartFacts}
 use Rattle.regress_normalize.specs.declared.facts.RowFacts.{RowFacts}
 use Rattle.regress_normalize.specs.declared.wrapper.LoopForm.TheVariants.{OneCharacter, Empty, AlwaysFails, Stays}
@@ -289,9 +289,9 @@ module _ (facts : PartFacts) (q : Quantifier) (start end : ℕ) (body : Tree) (h
     facts = has;
   }
 
-  module _ (d : Direction) (part : IsPart (wrapped (loop q start end) body)) (may : may_unroll q start end body ≡ true) where
+  module _ (d : Direction) (part : IsPart (wrapped (loop q start end) body)) (may : may_copy q start end body ≡ true) where
     keeps_unrolled : Keeps d (wrapped (loop q start end) body) (unrolled q start end body)
-    keeps_unrolled = unrolled_keeps q start end body (MayUnroll-from q start end body may) d part
+    keeps_unrolled = unrolled_keeps q start end body (MayCopy-from q start end body may) d part
 
     pub with_rest : (new : Tree) (answer : Result RowFacts AllocError) → HasFinishedParts d (unrolled q start end body) new answer →
         HasFinishedParts d (wrapped (loop q start end) body) new answer
@@ -308,18 +308,68 @@ pub nothing_done : (d : Direction) (t : Tree) (answer : Result RowFacts AllocErr
 nothing_done d t (Ok row) is = absurd (false≢true is)
 nothing_done d t (Err e) is = record { keeps = Keeps-refl d t; parts = tt }
 
-module _ (clean : Type 0) (t mid : Tree) (is : is_unrolled_away t ≡ true) (normal : clean → IsNormal t) (d : Direction) (parts : Result RowFacts AllocError)
-    (finished : HasFinishedParts d t mid parts) where
-  -- what is unrolled was not clean
-  was_not_clean : clean → ⊥
-  was_not_clean is_clean = true≢false (sym is ∙ LacksShape-here is_unrolled_away t (normal is_clean).unrolled)
+-- a loop that is unrolled, and the row that it becomes
+module _ (d : Direction) (t mid : Tree) (parts : Result RowFacts AllocError) (finished : HasFinishedParts d t mid parts) where
+  pub row_finished : (new : Tree) (answer : Result PartFacts AllocError) → Normalized d mid new answer → Finished ⊥ d t new answer
+  row_finished new answer = finished-then ⊥ d t (λ none. none) mid new answer finished.keeps
 
-  pub row_finished : (new : Tree) (answer : Result PartFacts AllocError) → Normalized d mid new answer → Finished clean d t new answer
-  row_finished new answer = finished-then clean d t was_not_clean mid new answer finished.keeps
-
-  pub row_error : (answer : Result PartFacts AllocError) → IsErr answer → Finished clean d t mid answer
+  pub row_error : (answer : Result PartFacts AllocError) → IsErr answer → Finished ⊥ d t mid answer
   row_error (Ok facts) err = absurd (false≢true err)
-  row_error (Err e) err = finished-changed_error clean d t was_not_clean mid e finished.keeps
+  row_error (Err e) err = finished-changed_error ⊥ d t (λ none. none) mid e finished.keeps
+
+-- what is clean in a narrower sense
+pub finished_narrower : (wide narrow : Type 0) (d : Direction) (t new : Tree) (answer : Result PartFacts AllocError) → (narrow → wide) →
+    Finished wide d t new answer → Finished narrow d t new answer
+finished_narrower wide narrow d t new answer narrower finished = record {
+  keeps = finished.keeps;
+  normal = finished.normal;
+  facts = finished.facts;
+  left = λ clean. finished.left (narrower clean);
+  plain = λ clean. finished.plain (narrower clean);
+}
+
+-- Whether a loop is unrolled, and what that tells.
+pub record TellsUnrolling (answer small : Bool) (q : Quantifier) (start end : ℕ) (body : Tree) : Type 0 where
+  -- its body may be copied,
+  pub copied : answer ≡ true → may_copy q start end body ≡ true
+  -- what may be unrolled is,
+  pub stays : answer ≡ false → may_unroll q start end body ≡ false
+  -- and nothing else, unless it was small
+  pub exact : small ≡ false → may_unroll q start end body ≡ answer
+
+pub tells_unrolling : (small : Bool) (q : Quantifier) (start end : ℕ) (body : Tree) (facts : PartFacts) → HasFacts facts body →
+    IsPart (wrapped (loop q start end) body) → (IsTrue small → account (wrapped (loop q start end) body) ≤ small_account) →
+    TellsUnrolling (may_unroll_by small q start end facts) small q start end body
+tells_unrolling small q start end body facts has part is_small = by (has_loop body) refl (has_string_set body) refl small refl
+  where
+    bound : units body ≤ 5 * charge body
+    bound = units-le part.0 body inside part.2.2
+
+    by : (loops : Bool) → has_loop body ≡ loops → (strings : Bool) → has_string_set body ≡ strings → (s : Bool) → small ≡ s →
+        TellsUnrolling (may_unroll_by s q start end facts) s q start end body
+    by true l strings t s e = record {
+      copied = λ answer. absurd (grind (arith, nat_tests, answer, has.has_loop, l));
+      stays = λ answer. grind (arith, nat_tests, l);
+      exact = λ not_small. grind (arith, nat_tests, has.has_loop, l);
+    }
+    by false l true t s e = record {
+      copied = λ answer. absurd (grind (arith, nat_tests, answer, has.has_string_set, t));
+      stays = λ answer. grind (arith, nat_tests, t);
+      exact = λ not_small. grind (arith, nat_tests, has.has_string_set, t);
+    }
+    by false l false t true e = record {
+      copied = λ answer.
+          let least : 1 ≤ q.min = grind (arith, nat_tests, answer, has.has_loop, has.has_string_set, l, t) in
+          let few = units-small q start end body least (is_small e) in
+          grind (arith, nat_tests, answer, has.has_loop, has.has_string_set, has.levels, l, t, few);
+      stays = λ answer. grind (arith, nat_tests, answer, has.has_loop, has.has_string_set, has.levels, l, t);
+      exact = λ not_small. absurd (true≢false not_small);
+    }
+    by false l false t false e = record {
+      copied = λ answer. grind (arith, nat_tests, answer, has.has_loop, has.has_string_set, has.levels, has.charge, l, t, bound);
+      stays = λ answer. grind (arith, nat_tests, answer, has.has_loop, has.has_string_set, has.levels, has.charge, l, t);
+      exact = λ not_small. grind (arith, nat_tests, has.has_loop, has.has_string_set, has.levels, has.charge, l, t);
+    }
 
 pub clean_normal : (facts : PartFacts) (t : Tree) → IsCleanAround facts t → IsNormal t
 clean_normal facts (leaf l) clean = clean

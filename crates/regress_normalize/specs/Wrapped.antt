@@ -1,5 +1,5 @@
 -- Steps on the way of a loop into normal form.
-use Rattle.std.specs.Prelude.{◌≡◌, ◌⊎◌, ℕ, true, false, IsTrue, Result, IfOk}
+use Rattle.std.specs.Prelude.{◌≡◌, ◌⊎◌, ℕ, Bool, true, false, not, ◌&&◌, ◌||◌, nat_le, IsTrue, Result, IfOk}
 use Rattle.std.specs.declared.alloc.AllocError.{AllocError}
 use Rattle.regress_tree.specs.declared.ir.node.Quantifier.{Quantifier}
 use Rattle.regress_tree.specs.NodeTests.{matches_exactly_one_char}
@@ -14,6 +14,13 @@ use Rattle.regress_normalize.specs.declared.facts.PartFacts.{PartFacts}
 use Rattle.regress_normalize.specs.declared.facts.RowFacts.{RowFacts}
 use Rattle.regress_normalize.specs.declared.wrapper.LoopForm.{LoopForm}
 use Rattle.regress_normalize.specs.declared.wrapper.LoopForm.TheVariants.{OneCharacter, Empty, AlwaysFails, Stays}
+
+-- Whether a loop is unrolled, by what is known of its body. One that is small was one that may be unrolled before its body was
+-- rewritten.
+abbrev pub may_unroll_by : (small : Bool) → Quantifier → (start end : ℕ) → PartFacts → Bool
+may_unroll_by small q start end facts =
+    nat_le end start && (nat_le 1 q.min && nat_le q.min 5)
+    && (not facts.has_loop && not facts.has_string_set) && ((nat_le facts.charge 256 || small) && nat_le facts.levels 101)
 
 -- a loop that is not unrolled, around a body in normal form
 pub record IsLoopOf (facts : PartFacts) (t : Tree) : Type 0 where

@@ -1,19 +1,20 @@
 //! A node that holds one node, which is in normal form.
-ghost use Rattle.std.specs.Prelude.{◌≡◌, true, false, not, ◌&&◌, IfOk, OnOk, OnErr, []};
+ghost use Rattle.std.specs.Prelude.{◌≡◌, ◌≤◌, true, false, not, ◌&&◌, IsTrue, IfOk, OnOk, OnErr, []};
 ghost use Rattle.regress_tree.specs.NodeTests.{is_empty};
 ghost use Rattle.regress_tree.specs.Reading.{Direction};
-ghost use Rattle.regress_tree.specs.Shapes.{is_cat, is_group, is_loop, is_zero, may_unroll, is_unrolled_away, on_loop};
+ghost use Rattle.regress_tree.specs.Shapes.{is_cat, is_group, is_loop, is_zero, on_loop};
 ghost use Rattle.regress_tree.specs.Tree.{Wrapper, Tree, tree, wrapped, copies, leaf, empty, byte_set};
+ghost use Rattle.regress_tree.specs.Units.{account};
 ghost use Rattle.regress_tree.specs.Walk.{direction_of};
 ghost use Rattle.regress_rewrite.specs.Law.{IsPart};
-ghost use Rattle.regress_rewrite.specs.Unroll.{further_turns};
+ghost use Rattle.regress_rewrite.specs.Unroll.{further_turns, may_copy, small_account};
 ghost use Rattle.regress_normalize.specs.Normalized.{Finished, IsCleanAround, IsWrapperOf};
 ghost use Rattle.regress_normalize.specs.PartFacts.{HasFacts, HasRowFacts};
-ghost use Rattle.regress_normalize.specs.Wrapped.{IsLoopOf, promoted_loop, TakesForm, EndsInLoop, HasFinishedParts};
+ghost use Rattle.regress_normalize.specs.Wrapped.{may_unroll_by, IsLoopOf, promoted_loop, TakesForm, EndsInLoop, HasFinishedParts};
 
 use crate::cat::finish_cat;
 use crate::facts::{PartFacts, RowFacts};
-use regress_rewrite::unroll_loops::{MAX_CHARGE, MAX_LEVELS, unroll};
+use regress_rewrite::unroll_loops::{MAX_CHARGE, MAX_LEVELS, write_out};
 use regress_tree::ir::{Node, Quantifier, Walk};
 use std::alloc::{AllocError, Global};
 use std::mem;
@@ -30,16 +31,21 @@ enum LoopForm {
     Stays,
 }
 
-/// Brings a node around a body in normal form, with these facts, into normal form.
+/// Brings a node around a body in normal form, with these facts, into normal form. It is `small` where it was a loop that
+/// may be unrolled before its body was rewritten: then it still is, though bytes may be charged more than the characters
+/// that they were.
 pub fn finish_wrapper(
     alloc: Global,
     node: &mut Node,
     body: &PartFacts,
+    small: bool,
     walk: &Walk,
 ) -> Result<PartFacts, AllocError>
     requires part { IsPart (tree node.old) }
     requires body { IsWrapperOf body.now (tree node.old) }
-    ensures { Finished (IsCleanAround body.now (tree node.old)) (direction_of walk.now) (tree node.old) (tree node.new) result }
+    requires small { IsTrue small → account (tree node.old) ≤ small_account }
+    ensures { Finished (IsCleanAround body.now (tree node.old) × (small ≡ false)) (direction_of walk.now)
+        (tree node.old) (tree node.new) result }
 {
     match node {
         Node::CaptureGroup { .. } => around(body, true, false),
@@ -48,7 +54,7 @@ pub fn finish_wrapper(
             enclosed_groups,
             ..
         } => {
-            if may_unroll(quant, enclosed_groups, body) {
+            if may_unroll(quant, enclosed_groups, body, small) {
                 finish_unrolled(alloc, node, body, walk)
             } else {
                 finish_loop(alloc, node, body)
@@ -79,14 +85,14 @@ fn always_holds(negate: bool, contents: &Node) -> bool
 }
 
 /// Whether a loop of these turns and groups around a body with these facts is unrolled.
-fn may_unroll(quant: &Quantifier, groups: &Range<u16>, body: &PartFacts) -> bool
-    ensures { (t : Tree) → HasFacts body.now t → result ≡ may_unroll quant.now groups.now.start groups.now.end t }
+fn may_unroll(quant: &Quantifier, groups: &Range<u16>, body: &PartFacts, small: bool) -> bool
+    ensures { result ≡ may_unroll_by small quant.now groups.now.start groups.now.end body.now }
 {
     groups.is_empty()
         && matches!(quant.min, 1..=5)
         && !body.has_loop
         && !body.has_string_set
-        && body.charge <= MAX_CHARGE
+        && (body.charge <= MAX_CHARGE || small)
         && body.levels <= MAX_LEVELS
 }
 
@@ -99,8 +105,8 @@ fn finish_unrolled(
 ) -> Result<PartFacts, AllocError>
     requires part { IsPart (tree node.old) }
     requires body { IsWrapperOf body.now (tree node.old) }
-    requires shape { is_unrolled_away (tree node.old) ≡ true }
-    ensures { Finished (IsCleanAround body.now (tree node.old)) (direction_of walk.now) (tree node.old) (tree node.new) result }
+    requires copied { on_loop may_copy (tree node.old) ≡ true }
+    ensures { Finished ⊥ (direction_of walk.now) (tree node.old) (tree node.new) result }
 {
     let row = unroll_parts(alloc, node, body)?;
     finish_cat(alloc, node, &row, walk)
@@ -110,7 +116,7 @@ fn finish_unrolled(
 fn unroll_parts(alloc: Global, node: &mut Node, body: &PartFacts) -> Result<RowFacts, AllocError>
     requires part { IsPart (tree node.old) }
     requires body { IsWrapperOf body.now (tree node.old) }
-    requires shape { is_unrolled_away (tree node.old) ≡ true }
+    requires copied { on_loop may_copy (tree node.old) ≡ true }
     ensures { (d : Direction) → HasFinishedParts d (tree node.old) (tree node.new) result }
 {
     let Node::Loop { loopee, quant, .. } = node else {
@@ -118,7 +124,7 @@ fn unroll_parts(alloc: Global, node: &mut Node, body: &PartFacts) -> Result<RowF
     };
     let more = may_go_on(quant);
     let row = copies_facts(body, quant.min, loopee.is_cat())?;
-    unroll(alloc, node)?;
+    write_out(alloc, node)?;
     if more {
         finish_last(alloc, node, body, row)
     } else {

@@ -50,3 +50,7 @@ abbrev pub may_copy : Quantifier → (start end : ℕ) → Tree → Bool
 may_copy q start end body =
     nat_le end start && (nat_le 1 q.min && nat_le q.min 5)
     && (not (has_loop body) && not (has_string_set body)) && (nat_le (units body) 1280 && nat_le (levels body) 101)
+
+-- What the account of a loop that may be unrolled is at most: a node, the units of its body, and what unrolling may add.
+abbrev pub small_account : ℕ
+small_account = 7682

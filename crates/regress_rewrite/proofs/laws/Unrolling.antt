@@ -26,7 +26,7 @@ use Rattle.regress_tree.proofs.laws.Outcomes.{flat_map-stay}
 use Rattle.regress_tree.proofs.laws.Rows.{row_append-none, steps-append, captures-append, trees-append, RowMayStand-append}
 use Rattle.regress_rewrite.specs.declared.rewrite.PassAction.TheVariants.{Modified}
 use Rattle.regress_rewrite.specs.Law.{IsPart, Keeps, IsLawful}
-use Rattle.regress_rewrite.specs.Unroll.{further_turns, further_loop, unrolled, unrolled_loop, may_copy}
+use Rattle.regress_rewrite.specs.Unroll.{further_turns, further_loop, unrolled, unrolled_loop, may_copy, small_account}
 use Rattle.regress_rewrite.proofs.CopiesLemmas.{HasNoGroup-from, loops-none, copies-stand, captures-copies}
 use Rattle.regress_rewrite.proofs.LawfulLemmas.{modified_lawful}
 
@@ -254,10 +254,7 @@ loop_lawful d (wrapped (loop q start end) body) new part is made = rw made (unro
 loop_lawful d (wrapped (loop_one q) body) new part is made = absurd (false≢true is)
 loop_lawful d (wrapped (lookaround negate backwards start end) body) new part is made = absurd (false≢true is)
 
--- what the account of a loop that may be unrolled is at most: a node, the units of its body, and what unrolling may add
-abbrev pub small_account : ℕ
-small_account = 7682
-
+-- the account of a loop that may be unrolled is small
 pub account-unrolled : (t : Tree) → IsPart t → is_unrolled_away t ≡ true → account t ≤ small_account
 account-unrolled (leaf l) part is = absurd (false≢true is)
 account-unrolled (cat parts) part is = absurd (false≢true is)

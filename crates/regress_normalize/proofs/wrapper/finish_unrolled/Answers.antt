@@ -9,10 +9,9 @@ use Rattle.regress_normalize.proofs.wrapper.finish_unrolled.Goals as goal
 
 pub returns-in_err-row : goal.returns-in_err-row
 returns-in_err-row c =
-    let facts = c.args.body.now in
     let t = tree c.args.node.now in
     let d = direction_of c.args.walk.now in
-    row_error (IsCleanAround facts t) t (tree c.unroll_parts.new.node) c.requires.shape (clean_normal facts t) d _ (c.in_err-row.ensures d)
+    row_error d t (tree c.unroll_parts.new.node) _ (c.in_err-row.ensures d)
     c.from_residual.result c.from_residual.ensures.0
 
 pub finish_cat-requires-clause-part : goal.finish_cat-requires-clause-part
@@ -25,8 +24,7 @@ finish_cat-requires-clause-parts c = (c.in_ok-row.ensures (direction_of c.args.w
 
 pub returns : goal.returns
 returns c =
-    let facts = c.args.body.now in
     let t = tree c.args.node.now in
     let d = direction_of c.args.walk.now in
-    row_finished (IsCleanAround facts t) t (tree c.unroll_parts.new.node) c.requires.shape (clean_normal facts t) d _ (c.in_ok-row.ensures d)
+    row_finished d t (tree c.unroll_parts.new.node) _ (c.in_ok-row.ensures d)
     (tree c.finish_cat.new.node) c.finish_cat.result c.finish_cat.ensures

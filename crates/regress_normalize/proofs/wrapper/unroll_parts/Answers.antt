@@ -3,12 +3,12 @@ use Rattle.std.proofs.Common.{◌≡◌, true, false, rules, sym, subst, ap, ◌
 use Rattle.std.proofs.lemmas.Bool.{not-true, not-false}
 use Rattle.regress_tree.specs.declared.ir.node.Quantifier.{Quantifier}
 use Rattle.regress_tree.specs.Reading.{forwards}
-use Rattle.regress_tree.specs.Shapes.{may_unroll, is_unrolled_away, is_zero}
+use Rattle.regress_tree.specs.Shapes.{on_loop, is_zero}
 use Rattle.regress_tree.specs.Tree.{Tree, tree, wrapped, loop, copies}
 use Rattle.regress_tree.proofs.laws.Levels.{out-Loop}
 use Rattle.regress_tree.proofs.laws.Nodes.{tree-Loop}
 use Rattle.regress_rewrite.specs.Law.{IsPart}
-use Rattle.regress_rewrite.specs.Unroll.{further_turns, unrolled, unrolled_loop}
+use Rattle.regress_rewrite.specs.Unroll.{further_turns, may_copy, unrolled, unrolled_loop}
 use Rattle.regress_normalize.specs.Normalized.{IsWrapperOf}
 use Rattle.regress_normalize.specs.PartFacts.{HasRowFacts}
 use Rattle.regress_normalize.specs.Wrapped.{EndsInLoop}
@@ -26,10 +26,10 @@ finish_last-requires-clause-part c =
     let facts = c.args.body.now in
     let told = subst (λ (t : Tree). IsWrapperOf facts t) is c.requires.body in
     let part = subst (λ (t : Tree). IsPart t) is c.requires.part in
-    let may : may_unroll q start end body ≡ true = ap is_unrolled_away (sym is) ∙ c.requires.shape in
+    let may : may_copy q start end body ≡ true = ap (on_loop may_copy) (sym is) ∙ c.requires.copied in
     let holds = wrapper_holds facts (loop q start end) body told in
-    let made : tree c.unroll.new.node ≡ unrolled q start end body =
-    (rw (at.is, out-Loop) at c.in_ok-unroll.ensures.unrolled) ∙ ap unrolled_loop (tree-Loop at.loopee at.quant at.enclosed_groups) in
+    let made : tree c.write_out.new.node ≡ unrolled q start end body =
+    (rw (at.is, out-Loop) at c.in_ok-write_out.ensures.unrolled) ∙ ap unrolled_loop (tree-Loop at.loopee at.quant at.enclosed_groups) in
     let asked = rw (at.is, out-Loop) at c.may_go_on-more.ensures in
     let row = c.in_ok-row.row in
     let has : HasRowFacts row (copies q.min body) =
@@ -48,10 +48,10 @@ finish_last-requires-clause-row c =
     let facts = c.args.body.now in
     let told = subst (λ (t : Tree). IsWrapperOf facts t) is c.requires.body in
     let part = subst (λ (t : Tree). IsPart t) is c.requires.part in
-    let may : may_unroll q start end body ≡ true = ap is_unrolled_away (sym is) ∙ c.requires.shape in
+    let may : may_copy q start end body ≡ true = ap (on_loop may_copy) (sym is) ∙ c.requires.copied in
     let holds = wrapper_holds facts (loop q start end) body told in
-    let made : tree c.unroll.new.node ≡ unrolled q start end body =
-    (rw (at.is, out-Loop) at c.in_ok-unroll.ensures.unrolled) ∙ ap unrolled_loop (tree-Loop at.loopee at.quant at.enclosed_groups) in
+    let made : tree c.write_out.new.node ≡ unrolled q start end body =
+    (rw (at.is, out-Loop) at c.in_ok-write_out.ensures.unrolled) ∙ ap unrolled_loop (tree-Loop at.loopee at.quant at.enclosed_groups) in
     let asked = rw (at.is, out-Loop) at c.may_go_on-more.ensures in
     let row = c.in_ok-row.row in
     let has : HasRowFacts row (copies q.min body) =
@@ -71,10 +71,10 @@ returns-then-more c d =
     let facts = c.args.body.now in
     let told = subst (λ (t : Tree). IsWrapperOf facts t) is c.requires.body in
     let part = subst (λ (t : Tree). IsPart t) is c.requires.part in
-    let may : may_unroll q start end body ≡ true = ap is_unrolled_away (sym is) ∙ c.requires.shape in
+    let may : may_copy q start end body ≡ true = ap (on_loop may_copy) (sym is) ∙ c.requires.copied in
     let holds = wrapper_holds facts (loop q start end) body told in
-    let made : tree c.unroll.new.node ≡ unrolled q start end body =
-    (rw (at.is, out-Loop) at c.in_ok-unroll.ensures.unrolled) ∙ ap unrolled_loop (tree-Loop at.loopee at.quant at.enclosed_groups) in
+    let made : tree c.write_out.new.node ≡ unrolled q start end body =
+    (rw (at.is, out-Loop) at c.in_ok-write_out.ensures.unrolled) ∙ ap unrolled_loop (tree-Loop at.loopee at.quant at.enclosed_groups) in
     let asked = rw (at.is, out-Loop) at c.may_go_on-more.ensures in
     let row = c.in_ok-row.row in
     let has : HasRowFacts row (copies q.min body) =
@@ -94,10 +94,10 @@ returns-else-more c d =
     let facts = c.args.body.now in
     let told = subst (λ (t : Tree). IsWrapperOf facts t) is c.requires.body in
     let part = subst (λ (t : Tree). IsPart t) is c.requires.part in
-    let may : may_unroll q start end body ≡ true = ap is_unrolled_away (sym is) ∙ c.requires.shape in
+    let may : may_copy q start end body ≡ true = ap (on_loop may_copy) (sym is) ∙ c.requires.copied in
     let holds = wrapper_holds facts (loop q start end) body told in
-    let made : tree c.unroll.new.node ≡ unrolled q start end body =
-    (rw (at.is, out-Loop) at c.in_ok-unroll.ensures.unrolled) ∙ ap unrolled_loop (tree-Loop at.loopee at.quant at.enclosed_groups) in
+    let made : tree c.write_out.new.node ≡ unrolled q start end body =
+    (rw (at.is, out-Loop) at c.in_ok-write_out.ensures.unrolled) ∙ ap unrolled_loop (tree-Loop at.loopee at.quant at.enclosed_groups) in
     let asked = rw (at.is, out-Loop) at c.may_go_on-more.ensures in
     let row = c.in_ok-row.row in
     let has : HasRowFacts row (copies q.min body) =
