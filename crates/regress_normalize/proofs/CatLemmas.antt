@@ -69,7 +69,7 @@ module _ (more kept : List Node) (part : Node) (old : Trees) (t : Tree) (is : mo
       Packs d (in_text_order d (row_append old (more_trees t rest))) (in_text_order d (row_append (trees more) rest))
   pushed_packs d rest =
       let now : row_append old (more_trees t rest) ≡ row_append (trees more) rest =
-          sym (ap (λ ts. row_append ts rest) pushed_row ∙ row_append-assoc old (more_trees t no_trees) rest) in
+      sym (ap (λ ts. row_append ts rest) pushed_row ∙ row_append-assoc old (more_trees t no_trees) rest) in
       subst (λ (ts : Trees). Packs d (in_text_order d (row_append old (more_trees t rest))) (in_text_order d ts)) now
       (Packs-refl d (in_text_order d (row_append old (more_trees t rest))))
 

@@ -70,7 +70,6 @@ around-charge t = omega (arith, charge-parts_of t)
 pub around-levels : (t : Tree) → around t ≤ levels t
 around-levels t = omega (arith, levels-parts_of t)
 
-
 -- the sum that was checked
 pub sum_of : (P : Type 0) (n sum : ℕ) (r : Option ℕ) → SomeIff r P sum → Ok n ≡ ok_or r alloc_error → n ≡ sum
 sum_of P n sum None test is = cc

@@ -250,10 +250,10 @@ takes_packs d old t new rest takes =
     let own = more_trees (written takes.own) no_trees in
     let both = more_trees (written (takes.own ++ takes.more)) no_trees in
     let was : row_append old (more_trees t rest) ≡ row_append takes.front (more_trees (written takes.own) (more_trees (written takes.more) rest)) =
-        ap₂ (λ (ts : Trees) (u : Tree). row_append ts (more_trees u rest)) takes.was takes.part_is
-        ∙ row_append-assoc takes.front own (more_trees (written takes.more) rest) in
+    ap₂ (λ (ts : Trees) (u : Tree). row_append ts (more_trees u rest)) takes.was takes.part_is
+    ∙ row_append-assoc takes.front own (more_trees (written takes.more) rest) in
     let is : row_append new rest ≡ row_append takes.front (more_trees (written (takes.own ++ takes.more)) rest) =
-        ap (λ ts. row_append ts rest) takes.is ∙ row_append-assoc takes.front both rest in
+    ap (λ ts. row_append ts rest) takes.is ∙ row_append-assoc takes.front both rest in
     subst (λ (ts : Trees). Packs d (in_text_order d ts) (in_text_order d (row_append new rest))) (sym was)
     (subst
     (λ (ts : Trees). Packs d
@@ -300,7 +300,7 @@ IsPacked-takes old t new takes packed =
     let own = more_trees (written takes.own) no_trees in
     let both = more_trees (written (takes.own ++ takes.more)) no_trees in
     let same : has_bytes (written (takes.own ++ takes.more)) ≡ has_bytes (written takes.own) =
-        longer_has takes.own takes.more takes.some ∙ sym takes.some in
+    longer_has takes.own takes.more takes.some ∙ sym takes.some in
     record {
       no_empty =
           ap (some_in_row is_empty) takes.is ∙ some_in_row-append is_empty takes.front both

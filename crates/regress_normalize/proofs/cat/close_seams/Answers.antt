@@ -18,10 +18,10 @@ returns-then-not-walk-clause-packs c =
 pub returns-clause-packs : goal.returns-clause-packs
 returns-clause-packs c =
     let was : row_reverse (trees c.reverse.new.self.items) ≡ trees c.args.parts.now.items =
-        ap (λ ns. row_reverse (trees ns)) c.reverse.ensures.items ∙ ap row_reverse (trees-reversed c.args.parts.now.items)
-        ∙ row_reverse-twice (trees c.args.parts.now.items) in
+    ap (λ ns. row_reverse (trees ns)) c.reverse.ensures.items ∙ ap row_reverse (trees-reversed c.args.parts.now.items)
+    ∙ row_reverse-twice (trees c.args.parts.now.items) in
     let is : row_reverse (trees c.close_in_text_order-closed.new.parts.items) ≡ trees c.reverse-2.new.self.items =
-        sym (ap trees c.reverse-2.ensures.items ∙ trees-reversed c.close_in_text_order-closed.new.parts.items) in
+    sym (ap trees c.reverse-2.ensures.items ∙ trees-reversed c.close_in_text_order-closed.new.parts.items) in
     subst (λ (d : Direction). Packs d (trees c.args.parts.now.items) (trees c.reverse-2.new.self.items))
     (sym (ap (λ b. if b then backwards else forwards) c.if-not-walk.false))
     (subst (λ (ts : Trees). Packs backwards ts (trees c.reverse-2.new.self.items)) was
@@ -32,7 +32,7 @@ pub returns-clause-packed : goal.returns-clause-packed
 returns-clause-packed c =
     let closed = c.close_in_text_order-closed in
     let is : row_reverse (trees closed.new.parts.items) ≡ trees c.reverse-2.new.self.items =
-        sym (ap trees c.reverse-2.ensures.items ∙ trees-reversed closed.new.parts.items) in
+    sym (ap trees c.reverse-2.ensures.items ∙ trees-reversed closed.new.parts.items) in
     on_ok_map _ _ closed.result
     (λ (packed : IsPacked (trees closed.new.parts.items)). subst IsPacked is (IsPacked-turned (trees closed.new.parts.items) packed))
     closed.ensures.packed

@@ -11,7 +11,7 @@ pub returns : goal.returns
 returns c ts t row part cat =
     let one : c.from-around.result ≡ around t = c.from-around.ensures ∙ ap bool_byte cat ∙ counted (is_cat t) in
     let less : c.saturating_sub-2.result + around t ≡ levels t =
-        omega (arith, c.saturating_sub-2.ensures, one, part.levels, around-levels t) in
+    omega (arith, c.saturating_sub-2.ensures, one, part.levels, around-levels t) in
     let sum = sum_of _ _ _ c.checked_add.result c.checked_add.ensures c.in_ok-self.ensures.value in
     record {
       charge = omega (arith, sum, c.saturating_sub.ensures, one, part.charge, row.charge, around-charge t, charge-more ts t);
