@@ -1,7 +1,11 @@
 -- What is known of a row, one part more.
-use Rattle.std.proofs.Common.{◌≡◌, ℕ, ◌+◌, ◌≤◌, Bool, true, false, ◌||◌, max, refl, sym, ap, ap₂, ◌∙◌, arith}
+use Rattle.std.proofs.Common.{◌≡◌, ℕ, ◌+◌, ◌≤◌, Bool, true, false, ◌||◌, max, inl, inr, Ordering, Less, Equal, Greater, refl, sym, ap, ap₂, ◌∙◌, arith}
 use Rattle.std.specs.Prelude.{if◌then◌else◌, Option, Some, None, Ok, SomeIff, alloc_error}
 use Rattle.std.specs.Option.{ok_or}
+use Rattle.std.specs.Ordering.{ord_max, nat_cmp}
+use Rattle.std.specs.Cmp.{nat_cmp_is}
+use Rattle.std.proofs.lemmas.Bool.{cases_lt}
+use mir.Val.{bool_byte}
 use Rattle.std.proofs.Math.Bool.{or-false}
 use Rattle.regress_tree.specs.Measures.{total_in_row, levels, levels_of_deepest}
 use Rattle.regress_tree.specs.Shapes.{some_node, some_node_in_row, some_in_row, is_cat}
@@ -16,6 +20,10 @@ use Rattle.regress_normalize.proofs.PackedLemmas.{some_in_row-append, levels-app
 -- a `Cat` counts one more than its parts
 abbrev pub around : Tree → ℕ
 around t = if is_cat t then 1 else 0
+
+pub counted : (b : Bool) → bool_byte b ≡ (if b then 1 else 0)
+counted true = refl
+counted false = refl
 
 charge-parts_of : (t : Tree) → total_in_row charges (parts_of t) + around t ≡ charge t
 charge-parts_of (leaf l) = omega arith
@@ -66,3 +74,19 @@ around-levels t = omega (arith, levels-parts_of t)
 pub sum_of : (P : Type 0) (n sum : ℕ) (r : Option ℕ) → SomeIff r P sum → Ok n ≡ ok_or r alloc_error → n ≡ sum
 sum_of P n sum None test is = cc
 sum_of P n sum (Some m) test is = let same = test.1 in cc
+
+-- the greater of two
+pub greater : (a b : ℕ) → ord_max nat_cmp a b ≡ max a b
+greater a b = elim (cases_lt b a) [
+  | inl less ↦
+      let most : a ≡ max a b = omega (arith, less) in
+      ap (λ (o : Ordering). ord_max (λ x y. o) a b) (sym (nat_cmp_is b a Less less)) ∙ most
+  | inr no_less ↦
+      let most : b ≡ max a b = omega (arith, no_less) in
+      elim (cases_lt a b) [
+        | inl more ↦ ap (λ (o : Ordering). ord_max (λ x y. o) a b) (sym (nat_cmp_is b a Greater more)) ∙ most
+        | inr no_more ↦
+            let same : b ≡ a = omega (arith, no_less, no_more) in
+            ap (λ (o : Ordering). ord_max (λ x y. o) a b) (sym (nat_cmp_is b a Equal same)) ∙ most
+      ]
+]
