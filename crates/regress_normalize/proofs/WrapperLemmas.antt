@@ -19,7 +19,7 @@ use Rattle.regress_tree.proofs.laws.Places.{among, put}
 use Rattle.regress_tree.proofs.laws.Rows.{row_append-none}
 use Rattle.regress_rewrite.specs.Law.{IsPart, Keeps}
 use Rattle.regress_rewrite.specs.Unroll.{further_turns, further_loop, unrolled}
-use Rattle.regress_rewrite.proofs.laws.Emptying.{empty_keeps}
+use Rattle.regress_rewrite.proofs.laws.Emptying.{emptied_keeps}
 use Rattle.regress_rewrite.proofs.laws.Failing.{fails_keeps}
 use Rattle.regress_rewrite.proofs.laws.Keeps.{Keeps-refl, Keeps-trans, Keeps-put, IsPart-part, IsPart-kept}
 use Rattle.regress_rewrite.proofs.laws.Promotion.{one_character-stands, promoted_keeps}
@@ -113,7 +113,7 @@ pub emptied_finished : (clean : Type 0) (d : Direction) (t : Tree) → (clean �
 emptied_finished clean d t normal other is part facts has =
     finished-changed clean d t
     (λ is_clean. true≢false (sym is ∙ LacksShape-here is_emptied_away t (normal is_clean).emptied))
-    (leaf empty) facts (empty_keeps d t other is part) IsNormal-empty has
+    (leaf empty) facts (emptied_keeps d t other is part) IsNormal-empty has
 
 module _ (facts : PartFacts) (q : Quantifier) (start end : ℕ) (body : Tree) (normal : IsNormal body) (has : HasFacts facts body) where
   abbrev around : Tree

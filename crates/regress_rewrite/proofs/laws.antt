@@ -6,6 +6,6 @@ pub mod Parts
 pub mod Flattening
 pub mod Joining
 pub mod Failing
-pub mod Emptying
 pub mod Promotion
 pub mod Unrolling
+pub mod Emptying
