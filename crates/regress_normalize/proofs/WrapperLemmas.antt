@@ -19,7 +19,7 @@ use Rattle.regress_tree.proofs.laws.Places.{among, put}
 use Rattle.regress_tree.proofs.laws.Rows.{row_append-none}
 use Rattle.regress_rewrite.specs.Law.{IsPart, Keeps}
 use Rattle.regress_rewrite.specs.Unroll.{further_turns, further_loop, unrolled, may_copy, small_account}
-use Rattle.regress_rewrite.proofs.laws.Emptying.{empty_keeps}
+use Rattle.regress_rewrite.proofs.laws.Emptying.{emptied_keeps}
 use Rattle.regress_rewrite.proofs.laws.Failing.{fails_keeps}
 use Rattle.regress_rewrite.proofs.laws.Keeps.{Keeps-refl, Keeps-trans, Keeps-put, IsPart-part, IsPart-kept}
 use Rattle.regress_rewrite.proofs.laws.Promotion.{one_character-stands, promoted_keeps}
@@ -31,7 +31,7 @@ use Rattle.regress_normalize.specs.declared.facts.PartFacts.{PartFacts}
 use Rattle.regress_normalize.specs.declared.facts.RowFacts.{RowFacts}
 use Rattle.regress_normalize.specs.declared.wrapper.LoopForm.TheVariants.{OneCharacter, Empty, AlwaysFails, Stays}
 
--- ---- a wrapper that stays
+-- ---- what is finished
 
 -- what asks something of a wrapper
 pub record LacksAtRoot (t : Tree) : Type 0 where
@@ -52,26 +52,6 @@ IsNormal-wrapped w body normal lacks = record {
 }
 
 module _ (clean : Type 0) (d : Direction) (t : Tree) where
-  -- nothing was done, and there was nothing to do
-  pub finished-stays : (facts : PartFacts) → IsNormal t → HasFacts facts t → facts.was_one_character ≡ false → Finished clean d t t (Ok facts)
-  finished-stays facts normal has many = record {
-    keeps = Keeps-refl d t;
-    normal = normal;
-    facts = has;
-    left = λ is_clean. refl;
-    plain = λ is_clean one. absurd (true≢false (sym one ∙ many));
-  }
-
-  -- nothing was done for want of memory
-  pub finished-error : (e : AllocError) → Finished clean d t t (Err e)
-  finished-error e = record {
-    keeps = Keeps-refl d t;
-    normal = tt;
-    facts = tt;
-    left = λ is_clean. refl;
-    plain = λ is_clean. tt;
-  }
-
   -- there was something to do
   pub finished-changed : (clean → ⊥) → (new : Tree) (facts : PartFacts) → Keeps d t new → IsNormal new → HasFacts facts new →
       Finished clean d t new (Ok facts)
@@ -133,7 +113,7 @@ pub emptied_finished : (clean : Type 0) (d : Direction) (t : Tree) → (clean �
 emptied_finished clean d t normal other is part facts has =
     finished-changed clean d t
     (λ is_clean. true≢false (sym is ∙ LacksShape-here is_emptied_away t (normal is_clean).emptied))
-    (leaf empty) facts (empty_keeps d t other is part) IsNormal-empty has
+    (leaf empty) facts (emptied_keeps d t other is part) IsNormal-empty has
 
 module _ (facts : PartFacts) (q : Quantifier) (start end : ℕ) (body : Tree) (normal : IsNormal body) (has : HasFacts facts body) where
   abbrev around : Tree
@@ -171,14 +151,7 @@ module _ (facts : PartFacts) (q : Quantifier) (start end : ℕ) (body : Tree) (n
         ∙ LacksShape-here is_failed_away around clean.0.failed))
         (leaf (byte_set [])) new (fails_keeps d around refl form.0 form.1 part) IsNormal-nothing
 
-    pub stayed_finished : TakesForm Stays facts q start end body → may_unroll q start end body ≡ false → HasFacts new around →
-        new.was_one_character ≡ false → Finished (IsCleanAround facts around) d around around (Ok new)
-    stayed_finished form stays =
-        finished-stays (IsCleanAround facts around) d around new
-        (IsNormal-wrapped (loop q start end) body normal
-        (record { unrolled = stays; promoted = form.0; emptied = form.1; failed = form.2 }))
-
--- ---- a loop that is unrolled
+-- ---- copies in a row
 
 -- one copy more
 pub copies-more : (n : ℕ) (t : Tree) → row_append (copies n t) (more_trees t no_trees) ≡ copies (n + 1) t
@@ -219,9 +192,6 @@ wrapper_holds facts w body told = same_body facts body told.body (ap body_of tol
 module _ (facts : PartFacts) (q : Quantifier) (start end : ℕ) (body : Tree) (told : IsLoopOf facts (wrapped (loop q start end) body)) where
   pub loop_holds : HoldsBody facts body
   loop_holds = same_body facts body told.body (ap body_of told.is) told.normal told.has
-
-  pub loop_stays : may_unroll q start end body ≡ false
-  loop_stays = ap is_unrolled_away told.is ∙ told.stays
 
 -- ---- the last part of a row
 

@@ -8,6 +8,6 @@ pub mod Flattening
 pub mod Segments
 pub mod Joining
 pub mod Failing
-pub mod Emptying
 pub mod Promotion
 pub mod Unrolling
+pub mod Emptying

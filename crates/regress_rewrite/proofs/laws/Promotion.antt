@@ -10,7 +10,7 @@ use Rattle.regress_tree.specs.Repetition.{more_turns, turns, up_to, repeat}
 use Rattle.regress_tree.specs.Shapes.{is_promoted_away}
 use Rattle.regress_tree.specs.Steps.{Step, ◌then_◌}
 use Rattle.regress_tree.specs.Tree.{Leaf, empty, goal, char, byte_sequence, byte_set, char_set, match_any, match_any_except_line_terminator, anchor, word_boundary, bracket, back_ref, string_set, loop, loop_one, Tree, leaf, cat, alt, wrapped}
-use Rattle.regress_tree.specs.WellFormed.{one_character, inside, captures, HasGroups, MayStand, LeafMayStand}
+use Rattle.regress_tree.specs.WellFormed.{one_character, inside, captures, MayStand, LeafMayStand}
 use Rattle.regress_tree.proofs.laws.Accepting.{accepts_some}
 use Rattle.regress_tree.proofs.laws.Alike.{Alike-from_same}
 use Rattle.regress_tree.proofs.laws.Groups.{HasGroups-none, turn-none}

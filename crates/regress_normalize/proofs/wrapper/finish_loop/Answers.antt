@@ -1,12 +1,12 @@
 -- Each form is a lemma on plain trees, at the values of the call.
-use Rattle.std.proofs.Common.{rules, ◌≡◌, refl, subst, ap, ◌∙◌, [], List, ℕ}
+use Rattle.std.proofs.Common.{◌≡◌, refl, subst, ap, ◌∙◌, List, ℕ}
 use Rattle.regress_tree.specs.Tree.{Tree, tree, leaf, byte_set, wrapped, loop_one}
 use Rattle.regress_tree.proofs.laws.Levels.{out-Loop}
 use Rattle.regress_tree.proofs.laws.Nodes.{tree-Loop, tree-Empty, tree-ByteSet}
 use Rattle.regress_rewrite.specs.Law.{IsPart}
 use Rattle.regress_normalize.specs.Wrapped.{IsLoopOf, TakesForm, promoted_loop}
-use Rattle.regress_normalize.specs.declared.wrapper.LoopForm.TheVariants.{OneCharacter, Empty, AlwaysFails, Stays}
-use Rattle.regress_normalize.proofs.WrapperLemmas.{loop_holds, loop_stays, promoted_finished, vanished_finished, failed_finished, stayed_finished}
+use Rattle.regress_normalize.specs.declared.wrapper.LoopForm.TheVariants.{OneCharacter, Empty, AlwaysFails}
+use Rattle.regress_normalize.proofs.WrapperLemmas.{loop_holds, promoted_finished, vanished_finished, failed_finished}
 use Rattle.regress_normalize.proofs.wrapper.finish_loop.Goals as goal
 
 pub returns-in_ok-promote-in-OneCharacter-clause-finished : goal.returns-in_ok-promote-in-OneCharacter-clause-finished

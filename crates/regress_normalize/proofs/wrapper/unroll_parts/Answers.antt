@@ -12,7 +12,7 @@ use Rattle.regress_rewrite.specs.Unroll.{further_turns, may_copy, unrolled, unro
 use Rattle.regress_normalize.specs.Normalized.{IsWrapperOf}
 use Rattle.regress_normalize.specs.PartFacts.{HasRowFacts}
 use Rattle.regress_normalize.specs.Wrapped.{EndsInLoop}
-use Rattle.regress_normalize.proofs.WrapperLemmas.{wrapper_holds, unrolled_ends, with_rest, without_rest, IsPart-unrolled, nothing_done}
+use Rattle.regress_normalize.proofs.WrapperLemmas.{wrapper_holds, unrolled_ends, with_rest, without_rest, IsPart-unrolled}
 use Rattle.regress_normalize.proofs.wrapper.unroll_parts.Goals as goal
 
 pub finish_last-requires-clause-part : goal.finish_last-requires-clause-part
