@@ -8,3 +8,4 @@ pub mod Joining
 pub mod Failing
 pub mod Promotion
 pub mod Unrolling
+pub mod Emptying
