@@ -1,1 +1,4 @@
 pub mod FactsLemmas
+pub mod LeafLemmas
+pub mod NormalLemmas
+pub mod AltLemmas

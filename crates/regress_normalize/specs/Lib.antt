@@ -1,2 +1,3 @@
 pub mod PartFacts
 pub mod Normalized
+pub mod Steps

@@ -28,6 +28,7 @@ pub struct PartFacts {
 }
 
 /// What is known of parts in a row, each in normal form. A part that is a `Cat` counts as its parts do.
+#[derive(Drop)]
 pub struct RowFacts {
     /// That of all parts together.
     pub charge: usize,
