@@ -1,7 +1,6 @@
 -- A node that holds no node: one kind of shape after the other is removed.
 use Rattle.std.proofs.Common.{◌≡◌, ◌≢◌, ℕ, ◌<◌, ◌≤◌, ◌⊎◌, Bool, true, false, IsTrue, inl, inr, List, [], ◌∷◌, Result, Ok, Err, refl, sym, ap, subst, ◌∙◌, arith}
-use Rattle.std.specs.Prelude.{if◌then◌else◌}
-use Rattle.std.specs.List.{list_all}
+use Rattle.std.specs.Prelude.{IfOk}
 use Rattle.std.specs.Result.{IsErr}
 use Rattle.std.proofs.lemmas.Bool.{cases_Bool, true≢false, false≢true, not-true}
 use Rattle.std.specs.declared.alloc.AllocError.{AllocError}
@@ -104,27 +103,16 @@ module _ (removes : Tree → Bool) (t left : Tree) (action : PassAction) (lawful
 
 -- ---- forming
 
-pub character_formed : (c : ℕ) → is_formed_away (leaf (formed_character c)) ≡ false
-character_formed c = elim (cases_Bool (scalar c)) [
-  | inl is ↦ rw is refl
-  | inr is_not ↦ rw is_not is_not
-]
-
--- a leaf becomes another, where the action says so
-pub Clears-formed : (t new : Tree) (l formed : Leaf) (action : PassAction) → t ≡ leaf l →
-    ((d : Direction) → IsLawful is_formed_away true d (leaf l) (leaf l) action) → after action (leaf l) ≡ leaf formed →
-    new ≡ after action t → Clears is_formed_away t new
-Clears-formed t new l formed action is lawful formed_is put =
-    let put' = put ∙ ap (after action) is in
-    subst (λ (u : Tree). Clears is_formed_away u new) (sym is)
-    (Clears-next is_formed_away (leaf l) (leaf l) action lawful (leaf l) new (Clears-refl is_formed_away (leaf l) refl) put'
-    (ap is_leaf (put' ∙ formed_is)))
-
-pub set_formed : (members : List ℕ) → is_formed_away (leaf (set_of members)) ≡ false
-set_formed members = elim (cases_Bool (is_ascii members)) [
-  | inl is ↦ rw is refl
-  | inr is_not ↦ rw is_not is_not
-]
+-- a leaf becomes another, where the answer says so
+module _ (t : Tree) (l formed : Leaf) (is : t ≡ leaf l) where
+  pub Clears-formed : (r : Result PassAction AllocError) →
+      ((d : Direction) → IfOk r (IsLawful is_formed_away true d (leaf l) (leaf l))) →
+      IfOk r (λ action. after action (leaf l) ≡ leaf formed) → IfOk r (λ action. Clears is_formed_away t (after action t))
+  Clears-formed (Ok action) lawful formed_is =
+      subst (λ (u : Tree). Clears is_formed_away u (after action u)) (sym is)
+      (Clears-next is_formed_away (leaf l) (leaf l) action lawful (leaf l) (after action (leaf l))
+      (Clears-refl is_formed_away (leaf l) refl) refl (ap is_leaf formed_is))
+  Clears-formed (Err e) lawful formed_is = tt
 
 -- ---- clearing
 

@@ -1,5 +1,5 @@
 //! A node that holds no node.
-ghost use Rattle.std.specs.Prelude.{◌≡◌, ◌≢◌, true, false, IsTrue, MatchBool, OnOk};
+ghost use Rattle.std.specs.Prelude.{◌≡◌, ◌≢◌, true, false, IsTrue, MatchBool, IfOk, OnOk};
 ghost use Rattle.regress_tree.specs.Copies.{is_leaf};
 ghost use Rattle.regress_tree.specs.Reading.{Direction};
 ghost use Rattle.regress_tree.specs.Shapes.{is_simplified_away, is_formed_away, is_emptied_away};
@@ -81,13 +81,22 @@ fn form(alloc: Global, node: &mut Node) -> Result<(), AllocError>
     ensures clears { Clears is_formed_away (tree node.old) (tree node.new) }
     ensures removed { OnOk result (is_formed_away (tree node.new) ≡ false) }
 {
-    let action = match node {
-        Node::Char { c } => form_character(alloc, *c)?,
-        Node::CharSet(characters) => form_set(alloc, characters)?,
-        _ => return Ok(()),
-    };
+    let action = formed(alloc, node)?;
     put(node, action);
     Ok(())
+}
+
+/// What is to be done with a character or a set of ASCII.
+fn formed(alloc: Global, node: &Node) -> Result<PassAction, AllocError>
+    requires leaf { is_leaf (tree node.now) ≡ true }
+    ensures clears { IfOk result (λ action. Clears is_formed_away (tree node.now) (after action (tree node.now))) }
+    ensures removed { IfOk result (λ action. is_formed_away (after action (tree node.now)) ≡ false) }
+{
+    match node {
+        Node::Char { c } => form_character(alloc, *c),
+        Node::CharSet(characters) => form_set(alloc, characters),
+        _ => Ok(PassAction::Keep),
+    }
 }
 
 /// Makes a `ByteSequence` without a byte `Empty`.
