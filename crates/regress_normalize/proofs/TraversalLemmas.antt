@@ -1,23 +1,26 @@
 -- What the traversal keeps, step by step.
 use Rattle.std.proofs.Common.{◌≡◌, ℕ, ◌+◌, ◌<◌, ◌≤◌, true, false, List, [], ◌∷◌, length, take, get_or, set, Result, Ok, Err, refl, sym, ap, subst, ◌∙◌, arith}
+use Rattle.std.specs.Prelude.{IfOk, OnOk}
 use Rattle.std.specs.Result.{IsErr}
 use Rattle.std.specs.declared.alloc.AllocError.{AllocError}
-use Rattle.std.proofs.lemmas.Bool.{false≢true}
+use Rattle.std.proofs.lemmas.Bool.{false≢true, true≢false}
 use Rattle.std.proofs.lemmas.List.{take_more_set}
 use Rattle.regress_tree.specs.declared.ir.node.Node.{Node}
 use Rattle.regress_tree.specs.NormalForm.{IsNormal}
 use Rattle.regress_tree.specs.Reading.{Direction}
+use Rattle.regress_tree.specs.Shapes.{is_flattened_away}
 use Rattle.regress_tree.specs.Spine.{Shifted, reattach}
-use Rattle.regress_tree.specs.Tree.{Tree, Trees, leaf, cat, alt, wrapped, no_trees, more_trees, row_append, tree, trees}
+use Rattle.regress_tree.specs.Tree.{Wrapper, Tree, Trees, leaf, cat, alt, wrapped, no_trees, more_trees, row_append, tree, trees}
 use Rattle.regress_tree.specs.Units.{units}
-use Rattle.regress_tree.proofs.laws.Places.{Place, put, direction_at, right_of}
+use Rattle.regress_tree.proofs.laws.Measures.{LacksShape-here}
+use Rattle.regress_tree.proofs.laws.Places.{Place, put, direction_at, right_of, inside_of, left_of}
 use Rattle.regress_tree.proofs.laws.Rows.{trees-append}
 use Rattle.regress_rewrite.specs.Law.{IsPart}
-use Rattle.regress_rewrite.proofs.laws.Keeps.{Keeps-refl, Keeps-trans, Keeps-put, IsPart-kept}
+use Rattle.regress_rewrite.proofs.laws.Keeps.{Keeps-refl, Keeps-trans, Keeps-put, Keeps-one_part, IsPart-kept, IsPart-part}
 use Rattle.regress_rewrite.proofs.laws.Parts.{place, row_set, row_at}
 use Rattle.regress_rewrite.proofs.laws.Spine.{IsPart-reattach}
 use Rattle.regress_normalize.specs.declared.facts.PartFacts.{PartFacts}
-use Rattle.regress_normalize.specs.Normalized.{Normalized, RowIsNormal}
+use Rattle.regress_normalize.specs.Normalized.{Normalized, RowIsNormal, IsWrapperOf, IsAltOf}
 use Rattle.regress_normalize.specs.PartFacts.{HasFacts}
 use Rattle.regress_normalize.specs.Steps.{StandsFor, IsAltOnto}
 use Rattle.regress_normalize.proofs.NormalLemmas.{IsNormal-part}
@@ -70,6 +73,27 @@ pub Normalized-done : (d : Direction) (t u : Tree) (facts : PartFacts) → Stand
     Normalized d t u (Ok facts)
 Normalized-done d t u facts stands normal has = record { keeps = stands.keeps; normal = normal; facts = has; left = stands.left }
 
+-- a part in the place of a `Cat` of one
+pub StandsFor-only_part : (d : Direction) (t part : Tree) → t ≡ cat (more_trees part no_trees) → StandsFor d t part
+StandsFor-only_part d t part is = subst (λ (u : Tree). StandsFor d u part) (sym is) (record {
+  keeps = Keeps-one_part d part;
+  left = λ normal. absurd (true≢false (LacksShape-here is_flattened_away (cat (more_trees part no_trees)) normal.flattened));
+})
+
+-- what a wrapper holds
+module _ (d : Direction) (w : Wrapper) (t u : Tree) (answer : Result PartFacts AllocError)
+    (here : Normalized (direction_at (inside_of w) d) t u answer) where
+  pub stands_inside : StandsFor d (wrapped w t) (wrapped w u)
+  stands_inside = StandsFor-put (inside_of w) d t u (StandsFor-normalized (direction_at (inside_of w) d) t u answer here)
+
+  pub wraps : IfOk answer (λ facts. IsWrapperOf facts (wrapped w u))
+  wraps = by answer here.normal here.facts
+    where
+      by : (a : Result PartFacts AllocError) → OnOk a (IsNormal u) → IfOk a (λ facts. HasFacts facts u) →
+          IfOk a (λ facts. IsWrapperOf facts (wrapped w u))
+      by (Ok facts) normal has = record { wrapper = w; body = u; is = refl; normal = normal; has = has }
+      by (Err e) normal has = tt
+
 -- ---- alternatives
 
 -- how large the left sides above are, and the `Alt`s
@@ -87,10 +111,10 @@ units_left (alt left right) = 1 + units left
 units_left (wrapped w body) = 0
 
 pub units-reattach : (above t : Tree) → units (reattach above t) ≡ units_above above + units t
-units-reattach (leaf l) t = refl
-units-reattach (cat parts) t = refl
+units-reattach (leaf l) t = omega arith
+units-reattach (cat parts) t = omega arith
 units-reattach (alt left above) t = omega (arith, units-reattach above (alt left t))
-units-reattach (wrapped w body) t = refl
+units-reattach (wrapped w body) t = omega arith
 
 -- down: the next alternative is above
 pub reattach_down : (from onto from' onto' : Tree) → Shifted from onto from' onto' → reattach onto' from' ≡ reattach onto from
@@ -117,6 +141,31 @@ module _ (above node rest here : Tree) (shifted : Shifted above node rest here) 
   pub IsPart_up : (d : Direction) (old : Tree) → StandsFor d old (reattach above node) → IsPart old → IsPart here
   IsPart_up d old so_far part =
       IsPart-reattach rest here (subst (λ (t : Tree). IsPart t) (sym reattach_up) (IsPart-stands d old (reattach above node) so_far part))
+
+-- the left side of an `Alt` whose right side is in normal form
+module _ (d : Direction) (t left made right : Tree) (is : t ≡ alt left right) (answer : Result PartFacts AllocError)
+    (here : Normalized d left made answer) where
+  pub stands_left : StandsFor d t (alt made right)
+  stands_left = subst (λ (u : Tree). StandsFor d u (alt made right)) (sym is)
+      (StandsFor-put (left_of right) d left made (StandsFor-normalized d left made answer here))
+
+pub IsPart_left : (t left right : Tree) → t ≡ alt left right → IsPart t → IsPart left
+IsPart_left t left right is part = IsPart-part (left_of right) left (subst (λ (u : Tree). IsPart u) is part)
+
+pub both_sides : (t left right : Tree) (facts left_facts : PartFacts) → t ≡ alt left right → IsAltOnto facts t → (made : Tree) →
+    IsNormal made → HasFacts left_facts made → IsAltOf left_facts facts (alt made right)
+both_sides t left right facts left_facts is onto made normal has =
+    let same : alt onto.left onto.right ≡ alt left right = sym onto.is ∙ is in
+    let right_is : onto.right ≡ right = cc in
+    record {
+      left = made;
+      right = right;
+      is = refl;
+      left_normal = normal;
+      left_has = has;
+      right_normal = subst (λ (u : Tree). IsNormal u) right_is onto.normal;
+      right_has = subst (λ (u : Tree). HasFacts facts u) right_is onto.has;
+    }
 
 -- ---- parts
 

@@ -3,7 +3,7 @@ use Rattle.std.specs.Prelude.{◌≡◌, Bool, true, false}
 use Rattle.regress_tree.specs.Copies.{is_leaf}
 use Rattle.regress_tree.specs.NormalForm.{IsNormal}
 use Rattle.regress_tree.specs.Reading.{Direction}
-use Rattle.regress_tree.specs.Tree.{Tree, cat, alt, no_trees, more_trees}
+use Rattle.regress_tree.specs.Tree.{Tree, alt}
 use Rattle.regress_rewrite.specs.Law.{Keeps}
 use Rattle.regress_normalize.specs.PartFacts.{HasFacts}
 use Rattle.regress_normalize.specs.declared.facts.PartFacts.{PartFacts}
@@ -28,8 +28,3 @@ pub record IsAltOnto (right_facts : PartFacts) (t : Tree) : Type 0 where
   pub is : t ≡ alt left right
   pub normal : IsNormal right
   pub has : HasFacts right_facts right
-
--- a `Cat` of one part
-pub record IsCatOfOne (t : Tree) : Type 0 where
-  pub part : Tree
-  pub is : t ≡ cat (more_trees part no_trees)

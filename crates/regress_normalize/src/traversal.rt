@@ -1,14 +1,14 @@
 //! One traversal of a tree, children before parents.
-ghost use Rattle.std.specs.Prelude.{◌≡◌, true, false, IfOk, OnOk};
+ghost use Rattle.std.specs.Prelude.{◌≡◌, true, false, IfOk, OnOk, MatchBool};
 ghost use Rattle.regress_tree.specs.Shapes.{on_wrapper};
 ghost use Rattle.regress_tree.specs.NormalForm.{IsNormal};
 ghost use Rattle.regress_tree.specs.Spine.{is_alt, reattach};
-ghost use Rattle.regress_tree.specs.Tree.{tree, trees, leaf, empty, cat};
+ghost use Rattle.regress_tree.specs.Tree.{tree, trees, leaf, empty, cat, no_trees, more_trees};
 ghost use Rattle.regress_tree.specs.Walk.{direction_of};
 ghost use Rattle.regress_rewrite.specs.Law.{IsPart};
 ghost use Rattle.regress_normalize.specs.Normalized.{Normalized, RowIsNormal, IsWrapperOf};
 ghost use Rattle.regress_normalize.specs.PartFacts.{HasFacts, HasRowFacts};
-ghost use Rattle.regress_normalize.specs.Steps.{StandsFor, IsAltOnto, IsCatOfOne};
+ghost use Rattle.regress_normalize.specs.Steps.{StandsFor, IsAltOnto};
 
 use crate::alternatives::finish_alt;
 use crate::cat::finish_cat;
@@ -101,11 +101,11 @@ fn normalize_last(alloc: Global, node: &mut Node, walk: &Walk) -> Result<PartFac
     requires other { is_alt (tree node.old) ≡ false }
     ensures { Normalized (direction_of walk.now) (tree node.old) (tree node.new) result }
 {
+    if take_only_part(node) {
+        return normalize(alloc, node, walk);
+    }
     match node {
         Node::Cat(parts) => {
-            if parts.len() == 1 {
-                return normalize_only_part(alloc, node, walk);
-            }
             let row = normalize_parts(alloc, parts, walk)?;
             finish_cat(alloc, node, &row, walk)
         }
@@ -120,25 +120,23 @@ fn normalize_last(alloc: Global, node: &mut Node, walk: &Walk) -> Result<PartFac
     }
 }
 
-/// Puts the one part of a `Cat`, in normal form, in its place.
-#[cycle(normalize)]
-fn normalize_only_part(
-    alloc: Global,
-    node: &mut Node,
-    walk: &Walk,
-) -> Result<PartFacts, AllocError>
-    requires part { IsPart (tree node.old) }
-    requires only { IsCatOfOne (tree node.old) }
-    ensures { Normalized (direction_of walk.now) (tree node.old) (tree node.new) result }
+/// Puts the part of a `Cat` of one in its place, and tells whether it did.
+fn take_only_part(node: &mut Node) -> bool
+    ensures { MatchBool result (tree node.old ≡ cat (more_trees (tree node.new) no_trees)) (tree node.new ≡ tree node.old) }
 {
     let Node::Cat(parts) = node else {
-        unreachable!()
+        return false;
     };
-    let facts = normalize(alloc, &mut parts[0], walk)?;
-    if let Some(part) = parts.pop() {
-        *node = part;
+    if parts.len() != 1 {
+        return false;
     }
-    Ok(facts)
+    match parts.pop() {
+        Some(part) => {
+            *node = part;
+            true
+        }
+        None => false,
+    }
 }
 
 /// Brings the parts of a `Cat` into normal form.

@@ -45,9 +45,6 @@ decreases-normalize l = 6 * units (tree l.node.now) + 4
 abbrev pub decreases-normalize_last : goal.decreases-normalize_last
 decreases-normalize_last l = 6 * units (tree l.node.now) + 3
 
-abbrev pub decreases-normalize_only_part : goal.decreases-normalize_only_part
-decreases-normalize_only_part l = 6 * units (tree l.node.now) + 2
-
 abbrev pub decreases-normalize_body : goal.decreases-normalize_body
 decreases-normalize_body l = 6 * units (tree l.node.now) + 2
 
