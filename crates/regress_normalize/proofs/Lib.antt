@@ -4,3 +4,7 @@ pub mod CatLemmas
 pub mod FinishLemmas
 pub mod LastLemmas
 pub mod WrapperLemmas
+pub mod LeafLemmas
+pub mod NormalLemmas
+pub mod AltLemmas
+pub mod TraversalLemmas

@@ -11,3 +11,4 @@ pub mod Failing
 pub mod Promotion
 pub mod Unrolling
 pub mod Emptying
+pub mod Alternatives

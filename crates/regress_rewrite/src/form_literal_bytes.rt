@@ -37,7 +37,7 @@ pub fn form_literal_bytes(
 }
 
 /// The UTF-8 of a code point, if it is a character.
-fn form_character(alloc: Global, c: u32) -> Result<PassAction, AllocError>
+pub fn form_character(alloc: Global, c: u32) -> Result<PassAction, AllocError>
     ensures lawful { (d : Direction) → IfOk result (IsLawful is_formed_away true d (leaf (char c)) (leaf (char c))) }
     ensures formed { IfOk result (λ action. after action (leaf (char c)) ≡ leaf (formed_character c)) }
 {
@@ -50,7 +50,7 @@ fn form_character(alloc: Global, c: u32) -> Result<PassAction, AllocError>
 }
 
 /// The set of the same members as bytes, if all are ASCII.
-fn form_set(alloc: Global, characters: &[u32]) -> Result<PassAction, AllocError>
+pub fn form_set(alloc: Global, characters: &[u32]) -> Result<PassAction, AllocError>
     ensures lawful { (d : Direction) → IfOk result (IsLawful is_formed_away true d (leaf (char_set characters.now)) (leaf (char_set characters.now))) }
     ensures formed { IfOk result (λ action. after action (leaf (char_set characters.now)) ≡ leaf (set_of characters.now)) }
 {

@@ -25,7 +25,7 @@ PartsSwept shape exact d initial now i =
 
 module _ (now : List Node) (i : ℕ) (in_row : i < length now) where
   -- where part `i` stands
-  abbrev place : Place
+  abbrev pub place : Place
   place = among (trees (take i now)) (trees (drop (suc i) now))
 
   abbrev in_place : Node → List Node
@@ -35,11 +35,11 @@ module _ (now : List Node) (i : ℕ) (in_row : i < length now) where
   put_there node = ap cat (trees-append (take i now) (node ∷ drop (suc i) now))
 
   -- the row with another node there
-  row_set : (new : Node) → cat (trees (set now i new)) ≡ put place (tree new)
+  pub row_set : (new : Node) → cat (trees (set now i new)) ≡ put place (tree new)
   row_set new = ap (λ nodes. cat (trees nodes)) (set_split now i new in_row) ∙ put_there new
 
   module _ (old : Node) (at : old ≡ get_or now i old) where
-    row_at : cat (trees now) ≡ put place (tree old)
+    pub row_at : cat (trees now) ≡ put place (tree old)
     row_at = ap (λ nodes. cat (trees nodes)) (split_at now i old in_row ∙ ap in_place (sym at)) ∙ put_there old
 
     pub IsPart-at : (d : Direction) (initial : Tree) → Keeps d initial (cat (trees now)) → IsPart initial → IsPart (tree old)
