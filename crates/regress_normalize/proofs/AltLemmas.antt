@@ -16,7 +16,7 @@ use Rattle.regress_rewrite.proofs.laws.Emptying.{emptied_keeps}
 use Rattle.regress_rewrite.proofs.laws.Alternatives.{left_alone, right_alone}
 use Rattle.regress_normalize.specs.declared.facts.PartFacts.{PartFacts}
 use Rattle.regress_normalize.specs.Normalized.{Normalized, IsAltOf}
-use Rattle.regress_normalize.specs.PartFacts.{HasFacts}
+use Rattle.regress_normalize.specs.PartFacts.{HasFacts, IsPlain}
 use Rattle.regress_normalize.proofs.NormalLemmas.{IsNormal-alt, empty_normal}
 
 module _ (left right : Tree) where
@@ -55,6 +55,7 @@ module _ (d : Direction) (t : Tree) (left_facts right_facts : PartFacts) (sides 
     normal = empty_normal;
     facts = has;
     left = λ normal. other is_emptied_away empties (λ n. LacksShape-here is_emptied_away t n.emptied) normal;
+    plain = λ normal. other is_emptied_away empties (λ n. LacksShape-here is_emptied_away t n.emptied) normal;
   }
 
   module _ (new : Tree) (facts : PartFacts) (no_left : left_facts.has_group ≡ false) (no_right : right_facts.has_group ≡ false) where
@@ -64,7 +65,7 @@ module _ (d : Direction) (t : Tree) (left_facts right_facts : PartFacts) (sides 
     right_free : has_group second ≡ false
     right_free = sym sides.right_has.has_group ∙ no_right
 
-    failed : (match_always_fails first || match_always_fails second) ≡ true → IsNormal t → new ≡ t
+    failed : {P : Type 0} → (match_always_fails first || match_always_fails second) ≡ true → IsNormal t → P
     failed fails normal =
         other is_failed_away (fails_away first second fails left_free right_free) (λ n. LacksShape-here is_failed_away t n.failed) normal
 
@@ -75,7 +76,8 @@ module _ (d : Direction) (t : Tree) (left_facts right_facts : PartFacts) (sides 
           keeps = rw (sides.is, is) (right_alone d first second whole_part left_fails left_free);
           normal = subst (λ (u : Tree). IsNormal u) (sym is) sides.right_normal;
           facts = subst (λ (u : Tree). HasFacts facts u) (sym is) has;
-          left = failed (or_left _ _ left_fails);
+          left = λ normal. failed (or_left _ _ left_fails) normal;
+          plain = λ normal. failed (or_left _ _ left_fails) normal;
         }
 
     pub left_side : right_facts.always_fails ≡ true → new ≡ first → HasFacts facts first → Normalized d t new (Ok facts)
@@ -85,20 +87,27 @@ module _ (d : Direction) (t : Tree) (left_facts right_facts : PartFacts) (sides 
           keeps = rw (sides.is, is) (left_alone d first second whole_part right_fails right_free);
           normal = subst (λ (u : Tree). IsNormal u) (sym is) sides.left_normal;
           facts = subst (λ (u : Tree). HasFacts facts u) (sym is) has;
-          left = failed (or_right _ _ right_fails);
+          left = λ normal. failed (or_right _ _ right_fails) normal;
+          plain = λ normal. failed (or_right _ _ right_fails) normal;
         }
 
   -- it stays
   pub alt_stays : (answer : Result PartFacts AllocError) → (is_empty first && is_empty second) ≡ false →
       ((left_facts.always_fails ≡ false) × (right_facts.always_fails ≡ false)) ⊎ ((left_facts.has_group || right_facts.has_group) ≡ true) →
-      IfOk answer (λ facts. HasFacts facts (alt first second)) → Normalized d t t answer
-  alt_stays answer no_empties may has = record {
+      IfOk answer (λ facts. HasFacts facts (alt first second)) → IfOk answer (λ facts. facts.was_one_character ≡ false) →
+      Normalized d t t answer
+  alt_stays answer no_empties may has many = record {
     keeps = Keeps-refl d t;
     normal = by answer;
     facts = subst (λ (u : Tree). IfOk answer (λ facts. HasFacts facts u)) (sym sides.is) has;
     left = λ normal. refl;
+    plain = λ normal. plain answer many;
   }
     where
+      plain : (a : Result PartFacts AllocError) → IfOk a (λ facts. facts.was_one_character ≡ false) → IfOk a (λ facts. IsPlain facts t)
+      plain (Ok facts) is = λ one. absurd (true≢false (sym one ∙ is))
+      plain (Err e) is = tt
+
       may' : (((left_facts.always_fails ≡ false) × (right_facts.always_fails ≡ false)) ⊎ ((left_facts.has_group || right_facts.has_group) ≡ true)) →
           ((match_always_fails first ≡ false) × (match_always_fails second ≡ false)) ⊎ ((has_group first || has_group second) ≡ true)
       may' (inl neither) = inl (sym sides.left_has.always_fails ∙ neither.0, sym sides.right_has.always_fails ∙ neither.1)

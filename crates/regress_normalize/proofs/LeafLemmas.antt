@@ -160,19 +160,27 @@ module _ (old simplified formed new : Tree) (part : IsPart old) (first : Clears 
       let at_first = one_stands simplified one (IsPart-kept forwards (first.keeps forwards) part) n in
       (third.keeps forwards).stands n one_character ((second.keeps forwards).stands n one_character at_first)
 
+  -- what is in normal form is left as it is
+  same : IsNormal old → new ≡ old
+  same normal =
+      let one = first.left (LacksShape-here is_simplified_away old normal.simplified) in
+      let two = second.left (ap is_formed_away one ∙ LacksShape-here is_formed_away old normal.formed) ∙ one in
+      third.left (ap is_emptied_away two ∙ LacksShape-here is_emptied_away old normal.emptied) ∙ two
+
   pub leaf_finished : (d : Direction) (facts : PartFacts) → is_simplified_away simplified ≡ false → is_formed_away new ≡ false →
-      is_emptied_away new ≡ false → HasFacts facts new → Normalized d old new (Ok facts)
-  leaf_finished d facts no_bracket no_literal no_empty has = record {
+      is_emptied_away new ≡ false → HasFacts facts new → facts.was_one_character ≡ matches_exactly_one_char simplified →
+      Normalized d old new (Ok facts)
+  leaf_finished d facts no_bracket no_literal no_empty has was = record {
     keeps = Keeps-trans d (first.keeps d) (Keeps-trans d (second.keeps d) (third.keeps d));
     normal = leaf_normal new third.leaf
         (LacksShape-here is_simplified_away new
         ((third.keeps d).brackets ((second.keeps d).brackets (leaf_lacks is_simplified_away simplified first.leaf no_bracket))))
         no_literal no_empty;
     facts = has;
-    left = λ normal.
-        let one = first.left (LacksShape-here is_simplified_away old normal.simplified) in
-        let two = second.left (ap is_formed_away one ∙ LacksShape-here is_formed_away old normal.formed) ∙ one in
-        third.left (ap is_emptied_away two ∙ LacksShape-here is_emptied_away old normal.emptied) ∙ two;
+    left = λ normal. same normal;
+    plain = λ normal one.
+        let at_first = first.left (LacksShape-here is_simplified_away old normal.simplified) in
+        ap matches_exactly_one_char (same normal ∙ sym at_first) ∙ (sym was ∙ one);
   }
 
 -- after an error
@@ -184,6 +192,7 @@ module _ (d : Direction) (old simplified : Tree) (first : Clears is_simplified_a
     normal = tt;
     facts = tt;
     left = λ normal. first.left (LacksShape-here is_simplified_away old normal.simplified);
+    plain = λ normal. tt;
   }
 
   pub formed_error : (formed : Tree) → Clears is_formed_away simplified formed → (answer : Result PartFacts AllocError) → IsErr answer →
@@ -196,4 +205,5 @@ module _ (d : Direction) (old simplified : Tree) (first : Clears is_simplified_a
     left = λ normal.
         let one = first.left (LacksShape-here is_simplified_away old normal.simplified) in
         second.left (ap is_formed_away one ∙ LacksShape-here is_formed_away old normal.formed) ∙ one;
+    plain = λ normal. tt;
   }

@@ -1,6 +1,6 @@
 -- What the traversal keeps, step by step.
-use Rattle.std.proofs.Common.{◌≡◌, ℕ, ◌+◌, ◌<◌, ◌≤◌, true, false, List, [], ◌∷◌, length, take, get_or, set, Result, Ok, Err, refl, sym, ap, subst, ◌∙◌, arith}
-use Rattle.std.specs.Prelude.{IfOk, OnOk}
+use Rattle.std.proofs.Common.{◌≡◌, ℕ, ◌+◌, ◌<◌, ◌≤◌, le_trans, Bool, true, false, List, [], ◌∷◌, length, take, get_or, set, Result, Ok, Err, refl, sym, ap, subst, ◌∙◌, arith}
+use Rattle.std.specs.Prelude.{IfOk, OnOk, IsTrue}
 use Rattle.std.specs.Result.{IsErr}
 use Rattle.std.specs.declared.alloc.AllocError.{AllocError}
 use Rattle.std.proofs.lemmas.Bool.{false≢true, true≢false}
@@ -8,22 +8,24 @@ use Rattle.std.proofs.lemmas.List.{take_more_set}
 use Rattle.regress_tree.specs.declared.ir.node.Node.{Node}
 use Rattle.regress_tree.specs.NormalForm.{IsNormal}
 use Rattle.regress_tree.specs.Reading.{Direction}
-use Rattle.regress_tree.specs.Shapes.{is_flattened_away}
+use Rattle.regress_tree.specs.Shapes.{is_flattened_away, is_unrolled_away}
 use Rattle.regress_tree.specs.Spine.{Shifted, reattach}
 use Rattle.regress_tree.specs.Tree.{Wrapper, Tree, Trees, leaf, cat, alt, wrapped, no_trees, more_trees, row_append, tree, trees}
-use Rattle.regress_tree.specs.Units.{units}
+use Rattle.regress_tree.specs.Units.{units, account}
 use Rattle.regress_tree.proofs.laws.Measures.{LacksShape-here}
 use Rattle.regress_tree.proofs.laws.Places.{Place, put, direction_at, right_of, inside_of, left_of}
 use Rattle.regress_tree.proofs.laws.Rows.{trees-append}
 use Rattle.regress_rewrite.specs.Law.{IsPart}
+use Rattle.regress_rewrite.specs.Unroll.{small_account}
+use Rattle.regress_rewrite.proofs.laws.Unrolling.{account-unrolled}
 use Rattle.regress_rewrite.proofs.laws.Keeps.{Keeps-refl, Keeps-trans, Keeps-put, Keeps-one_part, IsPart-kept, IsPart-part}
 use Rattle.regress_rewrite.proofs.laws.Parts.{place, row_set, row_at}
 use Rattle.regress_rewrite.proofs.laws.Spine.{IsPart-reattach}
 use Rattle.regress_normalize.specs.declared.facts.PartFacts.{PartFacts}
-use Rattle.regress_normalize.specs.Normalized.{Normalized, RowIsNormal, IsWrapperOf, IsAltOf}
-use Rattle.regress_normalize.specs.PartFacts.{HasFacts}
+use Rattle.regress_normalize.specs.Normalized.{Finished, Normalized, IsCleanAround, RowIsNormal, IsWrapperOf, IsAltOf}
+use Rattle.regress_normalize.specs.PartFacts.{HasFacts, IsPlain}
 use Rattle.regress_normalize.specs.Steps.{StandsFor, IsAltOnto}
-use Rattle.regress_normalize.proofs.NormalLemmas.{IsNormal-part}
+use Rattle.regress_normalize.proofs.NormalLemmas.{IsNormal-part, IsNormal-reattach}
 
 -- ---- one step after the other
 
@@ -61,17 +63,43 @@ pub Normalized-after : (d : Direction) (t u v : Tree) (answer : Result PartFacts
     Normalized d t v answer
 Normalized-after d t u v answer first second =
     let both = StandsFor-then d t u v first (StandsFor-normalized d u v answer second) in
-    record { keeps = both.keeps; normal = second.normal; facts = second.facts; left = both.left }
+    record {
+      keeps = both.keeps;
+      normal = second.normal;
+      facts = second.facts;
+      left = both.left;
+      plain = λ normal. second.plain (subst (λ (x : Tree). IsNormal x) (sym (first.left normal)) normal);
+    }
+
+-- the same where the second step needs more to leave what is there
+pub Normalized-finished : (clean : Type 0) (d : Direction) (t u v : Tree) (answer : Result PartFacts AllocError) → StandsFor d t u →
+    Finished clean d u v answer → (IsNormal t → clean) → Normalized d t v answer
+Normalized-finished clean d t u v answer first second is_clean = record {
+  keeps = Keeps-trans d first.keeps second.keeps;
+  normal = second.normal;
+  facts = second.facts;
+  left = λ normal. second.left (is_clean normal) ∙ first.left normal;
+  plain = λ normal. second.plain (is_clean normal);
+}
 
 -- after an error nothing else is said
 pub Normalized-error : (d : Direction) (t u : Tree) (answer : Result PartFacts AllocError) → IsErr answer → StandsFor d t u →
     Normalized d t u answer
 Normalized-error d t u (Ok facts) err stands = absurd (false≢true err)
-Normalized-error d t u (Err e) err stands = record { keeps = stands.keeps; normal = tt; facts = tt; left = stands.left }
+Normalized-error d t u (Err e) err stands =
+    record { keeps = stands.keeps; normal = tt; facts = tt; left = stands.left; plain = λ normal. tt }
 
-pub Normalized-done : (d : Direction) (t u : Tree) (facts : PartFacts) → StandsFor d t u → IsNormal u → HasFacts facts u →
-    Normalized d t u (Ok facts)
-Normalized-done d t u facts stands normal has = record { keeps = stands.keeps; normal = normal; facts = has; left = stands.left }
+-- the same beside something else that is known before
+pub Finished-error : (known : Type 0) (d : Direction) (t u : Tree) (answer : Result PartFacts AllocError) → IsErr answer → StandsFor d t u →
+    Finished (IsNormal t × known) d t u answer
+Finished-error known d t u (Ok facts) err stands = absurd (false≢true err)
+Finished-error known d t u (Err e) err stands =
+    record { keeps = stands.keeps; normal = tt; facts = tt; left = λ clean. stands.left clean.0; plain = λ clean. tt }
+
+pub Finished-done : (known : Type 0) (d : Direction) (t u : Tree) (facts : PartFacts) → StandsFor d t u → IsNormal u → HasFacts facts u →
+    (IsNormal t × known → IsPlain facts u) → Finished (IsNormal t × known) d t u (Ok facts)
+Finished-done known d t u facts stands normal has plain =
+    record { keeps = stands.keeps; normal = normal; facts = has; left = λ clean. stands.left clean.0; plain = plain }
 
 -- a part in the place of a `Cat` of one
 pub StandsFor-only_part : (d : Direction) (t part : Tree) → t ≡ cat (more_trees part no_trees) → StandsFor d t part
@@ -93,6 +121,25 @@ module _ (d : Direction) (w : Wrapper) (t u : Tree) (answer : Result PartFacts A
           IfOk a (λ facts. IsWrapperOf facts (wrapped w u))
       by (Ok facts) normal has = record { wrapper = w; body = u; is = refl; normal = normal; has = has }
       by (Err e) normal has = tt
+
+  pub wraps_clean : IsNormal (wrapped w t) → IfOk answer (λ facts. IsCleanAround facts (wrapped w u))
+  wraps_clean whole =
+      let inner = IsNormal-part (inside_of w) t whole in
+      by answer (subst (λ (x : Tree). IsNormal (wrapped w x)) (sym (here.left inner)) whole) (here.plain inner)
+    where
+      by : (a : Result PartFacts AllocError) → IsNormal (wrapped w u) → IfOk a (λ facts. IsPlain facts u) →
+          IfOk a (λ facts. IsCleanAround facts (wrapped w u))
+      by (Ok facts) normal plain = (normal, plain)
+      by (Err e) normal plain = tt
+
+-- a loop that is small was one that may be unrolled
+pub small_kept : (d : Direction) (t u : Tree) (small : Bool) → StandsFor d t u → IsPart t → small ≡ is_unrolled_away t → IsTrue small →
+    account u ≤ small_account
+small_kept d t u small stands part is one = le_trans stands.keeps.account (account-unrolled t part (sym is ∙ one))
+
+pub wrapper_clean : (d : Direction) (t u : Tree) (small : Bool) (facts : PartFacts) → StandsFor d t u → small ≡ is_unrolled_away t →
+    (IsNormal t → IsCleanAround facts u) → IsNormal t → IsCleanAround facts u × (small ≡ false)
+wrapper_clean d t u small facts stands is clean normal = (clean normal, is ∙ LacksShape-here is_unrolled_away t normal.unrolled)
 
 -- ---- alternatives
 
@@ -137,6 +184,12 @@ module _ (above node rest here : Tree) (shifted : Shifted above node rest here) 
   stands_up d old made answer so_far next =
       StandsFor-then d old (reattach rest here) (reattach rest made) (subst (λ (t : Tree). StandsFor d old t) (sym reattach_up) so_far)
       (StandsFor-reattach d rest here made (StandsFor-normalized d here made answer next))
+
+  pub plain_up : (d : Direction) (old made : Tree) (answer : PartFacts) → StandsFor d old (reattach above node) →
+      Normalized d here made (Ok answer) → IsNormal old → IsPlain answer made
+  plain_up d old made answer so_far next normal =
+      let whole = subst (λ (t : Tree). IsNormal t) (sym (reattach_up ∙ so_far.left normal)) normal in
+      next.plain (IsNormal-reattach rest here whole)
 
   pub IsPart_up : (d : Direction) (old : Tree) → StandsFor d old (reattach above node) → IsPart old → IsPart here
   IsPart_up d old so_far part =

@@ -346,3 +346,9 @@ clean_normal facts (leaf l) clean = clean
 clean_normal facts (cat parts) clean = clean
 clean_normal facts (alt left right) clean = clean
 clean_normal facts (wrapped w body) clean = clean.0
+
+-- what is clean is no loop that may be unrolled
+pub unrolled_not_clean : (facts : PartFacts) (t : Tree) (q : Quantifier) (start end : ℕ) (body : Tree) → t ≡ wrapped (loop q start end) body →
+    may_unroll q start end body ≡ true → IsCleanAround facts t → ⊥
+unrolled_not_clean facts t q start end body is may clean =
+    true≢false (sym (ap is_unrolled_away is ∙ may) ∙ LacksShape-here is_unrolled_away t (clean_normal facts t clean).unrolled)

@@ -1,5 +1,5 @@
 //! An `Alt` whose sides are in normal form.
-ghost use Rattle.std.specs.Prelude.{◌≡◌, ◌&&◌, IfOk};
+ghost use Rattle.std.specs.Prelude.{◌≡◌, false, ◌&&◌, IfOk};
 ghost use Rattle.regress_tree.specs.NodeTests.{is_empty};
 ghost use Rattle.regress_tree.specs.Reading.{Direction};
 ghost use Rattle.regress_tree.specs.Tree.{Tree, alt, tree};
@@ -11,8 +11,7 @@ use crate::facts::PartFacts;
 use crate::leaf::leaf_facts;
 use regress_tree::ir::Node;
 use std::alloc::AllocError;
-use std::cmp;
-use std::mem;
+use std::{cmp, mem};
 
 /// Brings an `Alt` of sides in normal form, with these facts, into normal form.
 pub fn finish_alt(
@@ -79,8 +78,9 @@ fn alone(side: &PartFacts) -> PartFacts
 /// What is known of an `Alt` by its sides. The error comes where the charge or the levels are more than
 /// `usize::MAX`: no memory holds such a tree.
 fn join(left: &PartFacts, right: &PartFacts) -> Result<PartFacts, AllocError>
-    ensures { (first second : Tree) → HasFacts left.now first → HasFacts right.now second →
+    ensures has { (first second : Tree) → HasFacts left.now first → HasFacts right.now second →
         IfOk result (λ facts. HasFacts facts (alt first second)) }
+    ensures many { IfOk result (λ facts. facts.was_one_character ≡ false) }
 {
     let sides = left.charge.checked_add(right.charge).ok_or(AllocError)?;
     Ok(PartFacts {

@@ -36,7 +36,8 @@ pub fn finish_leaf(alloc: Global, node: &mut Node) -> Result<PartFacts, AllocErr
 pub fn leaf_facts(node: &Node, was_one_character: bool) -> PartFacts
     requires leaf { is_leaf (tree node.now) ≡ true }
     requires one { IsTrue was_one_character → StandsAsOne (tree node.now) }
-    ensures { HasFacts result (tree node.now) }
+    ensures has { HasFacts result (tree node.now) }
+    ensures was { result.was_one_character ≡ was_one_character }
 {
     PartFacts {
         charge: charge(node),

@@ -6,8 +6,8 @@ ghost use Rattle.regress_tree.specs.Spine.{is_alt, reattach};
 ghost use Rattle.regress_tree.specs.Tree.{tree, trees, leaf, empty, cat, no_trees, more_trees};
 ghost use Rattle.regress_tree.specs.Walk.{direction_of};
 ghost use Rattle.regress_rewrite.specs.Law.{IsPart};
-ghost use Rattle.regress_normalize.specs.Normalized.{Normalized, RowIsNormal, IsWrapperOf};
-ghost use Rattle.regress_normalize.specs.PartFacts.{HasFacts, HasRowFacts};
+ghost use Rattle.regress_normalize.specs.Normalized.{Finished, Normalized, IsCleanAround, RowIsNormal, IsWrapperOf};
+ghost use Rattle.regress_normalize.specs.PartFacts.{HasFacts, IsPlain, HasRowFacts};
 ghost use Rattle.regress_normalize.specs.Steps.{StandsFor, IsAltOnto};
 
 use crate::alternatives::finish_alt;
@@ -15,6 +15,7 @@ use crate::cat::finish_cat;
 use crate::facts::{PartFacts, RowFacts};
 use crate::leaf::finish_leaf;
 use crate::wrapper::finish_wrapper;
+use regress_rewrite::unroll_loops::may_unroll;
 use regress_tree::ir::spine::{relink, shift};
 use regress_tree::ir::{Node, NodeList, Walk};
 use std::alloc::{AllocError, Global};
@@ -59,7 +60,8 @@ fn normalize_up(
     requires part { IsPart (reattach (tree above) (tree node.old)) }
     requires normal { IsNormal (tree node.old) }
     requires facts { HasFacts last (tree node.old) }
-    ensures { Normalized (direction_of walk.now) (reattach (tree above) (tree node.old)) (tree node.new) result }
+    ensures { Finished (IsNormal (reattach (tree above) (tree node.old)) × IsPlain last (tree node.old)) (direction_of walk.now)
+        (reattach (tree above) (tree node.old)) (tree node.new) result }
 {
     let mut above = above;
     let mut right = last;
@@ -113,8 +115,9 @@ fn normalize_last(alloc: Global, node: &mut Node, walk: &Walk) -> Result<PartFac
         | Node::Loop { .. }
         | Node::Loop1CharBody { .. }
         | Node::LookaroundAssertion { .. } => {
+            let small = may_unroll(node);
             let body = normalize_body(alloc, node, walk)?;
-            finish_wrapper(alloc, node, &body, walk)
+            finish_wrapper(alloc, node, &body, small, walk)
         }
         _ => finish_leaf(alloc, node),
     }
@@ -141,11 +144,7 @@ fn take_only_part(node: &mut Node) -> bool
 
 /// Brings the parts of a `Cat` into normal form.
 #[cycle(normalize)]
-fn normalize_parts(
-    alloc: Global,
-    parts: &mut NodeList,
-    walk: &Walk,
-) -> Result<RowFacts, AllocError>
+fn normalize_parts(alloc: Global, parts: &mut NodeList, walk: &Walk) -> Result<RowFacts, AllocError>
     requires { IsPart (cat (trees parts.old.items)) }
     ensures keeps { StandsFor (direction_of walk.now) (cat (trees parts.old.items)) (cat (trees parts.new.items)) }
     ensures normal { OnOk result (RowIsNormal (trees parts.new.items)) }
@@ -167,6 +166,7 @@ fn normalize_body(alloc: Global, node: &mut Node, walk: &Walk) -> Result<PartFac
     requires wrapper { on_wrapper (λ w. true) (tree node.old) ≡ true }
     ensures keeps { StandsFor (direction_of walk.now) (tree node.old) (tree node.new) }
     ensures body { IfOk result (λ body. IsWrapperOf body (tree node.new)) }
+    ensures plain { IsNormal (tree node.old) → IfOk result (λ body. IsCleanAround body (tree node.new)) }
 {
     match node {
         Node::CaptureGroup { contents, .. } => normalize(alloc, contents, walk),

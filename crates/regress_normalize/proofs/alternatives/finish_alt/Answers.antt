@@ -13,7 +13,7 @@ returns-then-has_empty_sides c d =
     let empties = sym (c.has_empty_sides.ensures sides.left sides.right sides.is) ∙ c.if-has_empty_sides.true in
     rw tree-Empty
     (sides_empty d (tree c.args.node.now) c.args.left.now c.args.right.now sides c.requires.part c.leaf_facts.result empties
-    (rw tree-Empty at c.leaf_facts.ensures))
+    (rw tree-Empty at c.leaf_facts.ensures.has))
 
 pub returns-then-left : goal.returns-then-left
 returns-then-left c d =
@@ -34,11 +34,12 @@ returns c d =
     let sides = c.requires.sides in
     let no_empties = sym (c.has_empty_sides.ensures sides.left sides.right sides.is) ∙ c.if-has_empty_sides.false in
     let stays = alt_stays d (tree c.args.node.now) c.args.left.now c.args.right.now sides c.requires.part c.join.result no_empties in
-    let has = c.join.ensures sides.left sides.right sides.left_has sides.right_has in
+    let has = c.join.ensures.has sides.left sides.right sides.left_has sides.right_has in
+    let many = c.join.ensures.many in
     elim c.if-not-left.branch [
-      | then-not-left+then-not-right+else-left+else-right w ↦ stays (inl (w.if-left.false, w.if-right.false)) has
+      | then-not-left+then-not-right+else-left+else-right w ↦ stays (inl (w.if-left.false, w.if-right.false)) has many
       | else-not-left w ↦ elim w.else-not-left.branch [
-        | else-not-left-via-then-not-left+else-not-right w' ↦ stays (inr (or_right _ _ w'.if-not-right.false)) has
-        | else-not-left-via-else-not-left w' ↦ stays (inr (or_left _ _ w'.if-not-left.false)) has
+        | else-not-left-via-then-not-left+else-not-right w' ↦ stays (inr (or_right _ _ w'.if-not-right.false)) has many
+        | else-not-left-via-else-not-left w' ↦ stays (inr (or_left _ _ w'.if-not-left.false)) has many
       ]
     ]

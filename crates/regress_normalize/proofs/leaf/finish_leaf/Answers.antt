@@ -26,4 +26,5 @@ pub returns : goal.returns
 returns c d =
     leaf_finished (tree c.args.node.now) (tree c.simplify.new.node) (tree c.form.new.node) (tree c.clear.new.node) c.requires.part
     c.simplify.ensures.clears c.form.ensures.clears c.clear.ensures.clears d c.leaf_facts.result
-    c.in_ok-simplify.ensures.removed (c.clear.ensures.formed c.in_ok-form.ensures.removed) c.clear.ensures.removed c.leaf_facts.ensures
+    c.in_ok-simplify.ensures.removed (c.clear.ensures.formed c.in_ok-form.ensures.removed) c.clear.ensures.removed c.leaf_facts.ensures.has
+    (c.leaf_facts.ensures.was ∙ c.matches_exactly_one_char-was_one_character.ensures)

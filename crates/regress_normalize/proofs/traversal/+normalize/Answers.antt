@@ -14,16 +14,19 @@ use Rattle.regress_rewrite.proofs.laws.Parts.{IsPart-at, units_at, unvisited-nex
 use Rattle.regress_rewrite.proofs.laws.Spine.{IsPart-reattach}
 use Rattle.regress_normalize.specs.PartFacts.{HasRowFacts}
 use Rattle.regress_normalize.specs.Steps.{StandsFor}
-use Rattle.regress_normalize.proofs.TraversalLemmas.{StandsFor-refl, StandsFor-then, StandsFor-put, StandsFor-reattach, StandsFor-normalized, StandsFor-only_part, IsPart-stands, Normalized-after, Normalized-error, Normalized-done, stands_inside, wraps, units-reattach, reattach_up, units_up, onto_up, stands_up, IsPart_up, stands_left, IsPart_left, both_sides, taken, more_normal, StandsFor-part}
+use Rattle.regress_normalize.proofs.NormalLemmas.{IsNormal-reattach}
+use Rattle.regress_tree.specs.NormalForm.{IsNormal}
+use Rattle.regress_normalize.proofs.TraversalLemmas.{StandsFor-refl, StandsFor-then, StandsFor-put, StandsFor-reattach, StandsFor-normalized, StandsFor-only_part, IsPart-stands, Normalized-after, Normalized-error, Normalized-done, stands_inside, wraps, wraps_clean, small_kept, wrapper_clean, Normalized-finished, Finished-error, Finished-done, plain_up, units-reattach, reattach_up, units_up, onto_up, stands_up, IsPart_up, stands_left, IsPart_left, both_sides, taken, more_normal, StandsFor-part}
 use Rattle.regress_normalize.proofs.traversal.+normalize.Goals as goal
 
 pub normalize-normalize_last-requires : goal.normalize-normalize_last-requires
 normalize-normalize_last-requires t c =
     let whole = c.go_down.ensures.whole in
     let node = tree c.go_down.new.node in
-    let above = tree c.go_down.new.above in
-    (omega (arith, ap units whole, units-reattach above node),
-    (IsPart-reattach above node (subst (λ (u : Tree). IsPart u) (sym whole) c.requires), c.go_down.ensures.last))
+    let above = tree c.go_down.new.above in (
+      omega (arith, ap units whole, units-reattach above node),
+      (IsPart-reattach above node (subst (λ (u : Tree). IsPart u) (sym whole) c.requires), c.go_down.ensures.last),
+    )
 
 pub normalize-normalize_up-requires : goal.normalize-normalize_up-requires
 normalize-normalize_up-requires t c =
@@ -31,10 +34,13 @@ normalize-normalize_up-requires t c =
     let node = tree c.go_down.new.node in
     let above = tree c.go_down.new.above in
     let d = direction_of c.args.walk.now in
-    let stands = StandsFor-reattach d above node _ (StandsFor-normalized d node _ _ c.normalize_last.ensures) in
-    (omega (arith, ap units whole, units-reattach above node, units-positive node),
-    (IsPart-stands d (reattach above node) _ stands (subst (λ (u : Tree). IsPart u) (sym whole) c.requires),
-    (c.in-Ok.ensures.normal, c.in-Ok.ensures.facts)))
+    let stands = StandsFor-reattach d above node _ (StandsFor-normalized d node _ _ c.normalize_last.ensures) in (
+      omega (arith, ap units whole, units-reattach above node, units-positive node),
+      (
+        IsPart-stands d (reattach above node) _ stands (subst (λ (u : Tree). IsPart u) (sym whole) c.requires),
+        (c.in-Ok.ensures.normal, c.in-Ok.ensures.facts),
+      ),
+    )
 
 pub normalize-returns-in-Ok : goal.normalize-returns-in-Ok
 normalize-returns-in-Ok t c =
@@ -44,7 +50,11 @@ normalize-returns-in-Ok t c =
     let d = direction_of c.args.walk.now in
     let stands = StandsFor-reattach d above node last (StandsFor-normalized d node last _ c.normalize_last.ensures) in
     let so_far = subst (λ (u : Tree). StandsFor d u (reattach above last)) c.go_down.ensures.whole stands in
-    Normalized-after d _ (reattach above last) _ _ so_far c.normalize_up.ensures
+    Normalized-finished _ d _ (reattach above last) _ _ so_far c.normalize_up.ensures
+    (λ normal.
+    let kept = subst (λ (u : Tree). IsNormal u) (sym (so_far.left normal)) normal in
+    let last_old = IsNormal-reattach above node (subst (λ (u : Tree). IsNormal u) (sym c.go_down.ensures.whole) normal) in
+    (kept, c.in-Ok.ensures.plain last_old))
 
 pub normalize-returns-in-Err : goal.normalize-returns-in-Err
 normalize-returns-in-Err t c =
@@ -109,6 +119,12 @@ normalize_body-returns-in-CaptureGroup-clause-body t c =
     let w = capture_group c.in-CaptureGroup.id (option_map string_bytes c.in-CaptureGroup.name) in
     rw (c.in-CaptureGroup.is, out-CaptureGroup) (simp tree-CaptureGroup (wraps _ w _ _ _ (rw contents_is at c.normalize.ensures)))
 
+pub normalize_body-returns-in-CaptureGroup-clause-plain : goal.normalize_body-returns-in-CaptureGroup-clause-plain
+normalize_body-returns-in-CaptureGroup-clause-plain t c normal =
+    let contents_is = rw (c.in-CaptureGroup.is, out-CaptureGroup) at c.deref_mut.ensures.value in
+    let w = capture_group c.in-CaptureGroup.id (option_map string_bytes c.in-CaptureGroup.name) in
+    rw (c.in-CaptureGroup.is, out-CaptureGroup) (simp tree-CaptureGroup (wraps_clean _ w _ _ _ (rw contents_is at c.normalize.ensures)))
+
 pub normalize_body-returns-in-Loop-clause-keeps : goal.normalize_body-returns-in-Loop-clause-keeps
 normalize_body-returns-in-Loop-clause-keeps t c =
     let loopee_is = rw (c.in-Loop.is, out-Loop) at c.deref_mut-in-Loop.ensures.value in
@@ -120,6 +136,12 @@ normalize_body-returns-in-Loop-clause-body t c =
     let loopee_is = rw (c.in-Loop.is, out-Loop) at c.deref_mut-in-Loop.ensures.value in
     let w = loop c.in-Loop.quant c.in-Loop.enclosed_groups.start c.in-Loop.enclosed_groups.end in
     rw (c.in-Loop.is, out-Loop) (simp tree-Loop (wraps _ w _ _ _ (rw loopee_is at c.normalize-in-Loop.ensures)))
+
+pub normalize_body-returns-in-Loop-clause-plain : goal.normalize_body-returns-in-Loop-clause-plain
+normalize_body-returns-in-Loop-clause-plain t c normal =
+    let loopee_is = rw (c.in-Loop.is, out-Loop) at c.deref_mut-in-Loop.ensures.value in
+    let w = loop c.in-Loop.quant c.in-Loop.enclosed_groups.start c.in-Loop.enclosed_groups.end in
+    rw (c.in-Loop.is, out-Loop) (simp tree-Loop (wraps_clean _ w _ _ _ (rw loopee_is at c.normalize-in-Loop.ensures)))
 
 pub normalize_body-returns-in-Loop1CharBody-clause-keeps : goal.normalize_body-returns-in-Loop1CharBody-clause-keeps
 normalize_body-returns-in-Loop1CharBody-clause-keeps t c =
@@ -133,6 +155,12 @@ normalize_body-returns-in-Loop1CharBody-clause-body t c =
     let loopee_is = rw (c.in-Loop1CharBody.is, out-Loop1CharBody) at c.deref_mut-in-Loop1CharBody.ensures.value in
     rw (c.in-Loop1CharBody.is, out-Loop1CharBody)
     (simp tree-Loop1CharBody (wraps _ (loop_one c.in-Loop1CharBody.quant) _ _ _ (rw loopee_is at c.normalize-in-Loop1CharBody.ensures)))
+
+pub normalize_body-returns-in-Loop1CharBody-clause-plain : goal.normalize_body-returns-in-Loop1CharBody-clause-plain
+normalize_body-returns-in-Loop1CharBody-clause-plain t c normal =
+    let loopee_is = rw (c.in-Loop1CharBody.is, out-Loop1CharBody) at c.deref_mut-in-Loop1CharBody.ensures.value in
+    rw (c.in-Loop1CharBody.is, out-Loop1CharBody)
+    (simp tree-Loop1CharBody (wraps_clean _ (loop_one c.in-Loop1CharBody.quant) _ _ _ (rw loopee_is at c.normalize-in-Loop1CharBody.ensures)))
 
 pub normalize_body-returns-in-LookaroundAssertion-clause-keeps : goal.normalize_body-returns-in-LookaroundAssertion-clause-keeps
 normalize_body-returns-in-LookaroundAssertion-clause-keeps t c =
@@ -157,6 +185,18 @@ normalize_body-returns-in-LookaroundAssertion-clause-body t c =
     let tree_with = λ (new : Node). tree-LookaroundAssertion at.negate at.backwards at.start_group at.end_group (record at.contents { value = new }) in
     rw (at.is, out) (rw (tree_with c.normalize-in-LookaroundAssertion.new.node)
     (wraps (direction_of c.args.walk.now) w _ _ _ here))
+
+pub normalize_body-returns-in-LookaroundAssertion-clause-plain : goal.normalize_body-returns-in-LookaroundAssertion-clause-plain
+normalize_body-returns-in-LookaroundAssertion-clause-plain t c normal =
+    let at = c.in-LookaroundAssertion in
+    let out = out-LookaroundAssertion at.negate at.backwards at.start_group at.end_group at.contents in
+    let contents_is = rw (at.is, out) at c.deref_mut-in-LookaroundAssertion.ensures.value in
+    let looks = rw (at.is, out) at c.looking.ensures.direction in
+    let w = lookaround at.negate at.backwards at.start_group at.end_group in
+    let here = rw looks at (rw contents_is at c.normalize-in-LookaroundAssertion.ensures) in
+    let tree_with = λ (new : Node). tree-LookaroundAssertion at.negate at.backwards at.start_group at.end_group (record at.contents { value = new }) in
+    rw (at.is, out) (rw (tree_with c.normalize-in-LookaroundAssertion.new.node)
+    (wraps_clean (direction_of c.args.walk.now) w _ _ _ here))
 
 pub normalize_last-normalize-requires : goal.normalize_last-normalize-requires
 normalize_last-normalize-requires t c =
@@ -222,10 +262,13 @@ normalize_parts-loop-i-preserved t c =
 pub normalize_up-normalize_alt-requires : goal.normalize_up-normalize_alt-requires
 normalize_up-normalize_alt-requires t c =
     let l = c.loop-alloc in
-    let shifted = c.loop-alloc-test.ensures in
-    (omega (arith, units_up (tree l.above) (tree l.node) _ _ shifted, l.invariant.smaller),
-    (IsPart_up (tree l.above) (tree l.node) _ _ shifted _ _ l.invariant.stands c.requires.part,
-    onto_up (tree l.above) (tree l.node) _ _ shifted l.right l.invariant.normal l.invariant.facts))
+    let shifted = c.loop-alloc-test.ensures in (
+      omega (arith, units_up (tree l.above) (tree l.node) _ _ shifted, l.invariant.smaller),
+      (
+        IsPart_up (tree l.above) (tree l.node) _ _ shifted _ _ l.invariant.stands c.requires.part,
+        onto_up (tree l.above) (tree l.node) _ _ shifted l.right l.invariant.normal l.invariant.facts,
+      ),
+    )
 
 pub normalize_up-loop-alloc-preserved : goal.normalize_up-loop-alloc-preserved
 normalize_up-loop-alloc-preserved t c =
@@ -236,6 +279,8 @@ normalize_up-loop-alloc-preserved t c =
       normal = c.in-Ok.ensures.normal;
       facts = c.in-Ok.ensures.facts;
       smaller = omega (arith, units_up (tree l.above) (tree l.node) _ _ shifted, l.invariant.smaller);
+      plain = λ clean.
+          plain_up (tree l.above) (tree l.node) _ _ shifted _ _ _ c.in-Ok.here l.invariant.stands c.in-Ok.ensures clean.0;
     }
 
 pub normalize_up-returns-in-Err : goal.normalize_up-returns-in-Err
@@ -243,4 +288,4 @@ normalize_up-returns-in-Err t c =
     let l = c.loop-alloc in
     let shifted = c.loop-alloc-test.ensures in
     rw c.relink.ensures
-    (Normalized-error _ _ _ _ refl (stands_up (tree l.above) (tree l.node) _ _ shifted _ _ _ _ l.invariant.stands c.in-Err.ensures))
+    (Finished-error _ _ _ _ _ refl (stands_up (tree l.above) (tree l.node) _ _ shifted _ _ _ _ l.invariant.stands c.in-Err.ensures))
