@@ -16,7 +16,7 @@ use Rattle.regress_normalize.specs.PartFacts.{HasRowFacts}
 use Rattle.regress_normalize.specs.Steps.{StandsFor}
 use Rattle.regress_normalize.proofs.NormalLemmas.{IsNormal-reattach}
 use Rattle.regress_tree.specs.NormalForm.{IsNormal}
-use Rattle.regress_normalize.proofs.TraversalLemmas.{StandsFor-refl, StandsFor-then, StandsFor-put, StandsFor-reattach, StandsFor-normalized, StandsFor-only_part, IsPart-stands, Normalized-after, Normalized-error, Normalized-done, stands_inside, wraps, wraps_clean, small_kept, wrapper_clean, Normalized-finished, Finished-error, Finished-done, plain_up, units-reattach, reattach_up, units_up, onto_up, stands_up, IsPart_up, stands_left, IsPart_left, both_sides, taken, more_normal, StandsFor-part}
+use Rattle.regress_normalize.proofs.TraversalLemmas.{StandsFor-refl, StandsFor-then, StandsFor-put, StandsFor-reattach, StandsFor-normalized, StandsFor-only_part, IsPart-stands, Normalized-after, Normalized-error, stands_inside, wraps, wraps_clean, small_kept, wrapper_clean, Normalized-finished, Finished-error, plain_up, units-reattach, reattach_up, units_up, onto_up, stands_up, IsPart_up, stands_left, IsPart_left, both_sides, taken, more_normal, StandsFor-part}
 use Rattle.regress_normalize.proofs.traversal.+normalize.Goals as goal
 
 pub normalize-normalize_last-requires : goal.normalize-normalize_last-requires
@@ -121,9 +121,10 @@ normalize_body-returns-in-CaptureGroup-clause-body t c =
 
 pub normalize_body-returns-in-CaptureGroup-clause-plain : goal.normalize_body-returns-in-CaptureGroup-clause-plain
 normalize_body-returns-in-CaptureGroup-clause-plain t c normal =
+    let normal' = rw (c.in-CaptureGroup.is, tree-CaptureGroup) at normal in
     let contents_is = rw (c.in-CaptureGroup.is, out-CaptureGroup) at c.deref_mut.ensures.value in
     let w = capture_group c.in-CaptureGroup.id (option_map string_bytes c.in-CaptureGroup.name) in
-    rw (c.in-CaptureGroup.is, out-CaptureGroup) (simp tree-CaptureGroup (wraps_clean _ w _ _ _ (rw contents_is at c.normalize.ensures)))
+    rw (c.in-CaptureGroup.is, out-CaptureGroup) (simp tree-CaptureGroup (wraps_clean _ w _ _ _ (rw contents_is at c.normalize.ensures) normal'))
 
 pub normalize_body-returns-in-Loop-clause-keeps : goal.normalize_body-returns-in-Loop-clause-keeps
 normalize_body-returns-in-Loop-clause-keeps t c =
@@ -139,9 +140,10 @@ normalize_body-returns-in-Loop-clause-body t c =
 
 pub normalize_body-returns-in-Loop-clause-plain : goal.normalize_body-returns-in-Loop-clause-plain
 normalize_body-returns-in-Loop-clause-plain t c normal =
+    let normal' = rw (c.in-Loop.is, tree-Loop) at normal in
     let loopee_is = rw (c.in-Loop.is, out-Loop) at c.deref_mut-in-Loop.ensures.value in
     let w = loop c.in-Loop.quant c.in-Loop.enclosed_groups.start c.in-Loop.enclosed_groups.end in
-    rw (c.in-Loop.is, out-Loop) (simp tree-Loop (wraps_clean _ w _ _ _ (rw loopee_is at c.normalize-in-Loop.ensures)))
+    rw (c.in-Loop.is, out-Loop) (simp tree-Loop (wraps_clean _ w _ _ _ (rw loopee_is at c.normalize-in-Loop.ensures) normal'))
 
 pub normalize_body-returns-in-Loop1CharBody-clause-keeps : goal.normalize_body-returns-in-Loop1CharBody-clause-keeps
 normalize_body-returns-in-Loop1CharBody-clause-keeps t c =
@@ -158,9 +160,10 @@ normalize_body-returns-in-Loop1CharBody-clause-body t c =
 
 pub normalize_body-returns-in-Loop1CharBody-clause-plain : goal.normalize_body-returns-in-Loop1CharBody-clause-plain
 normalize_body-returns-in-Loop1CharBody-clause-plain t c normal =
+    let normal' = rw (c.in-Loop1CharBody.is, tree-Loop1CharBody) at normal in
     let loopee_is = rw (c.in-Loop1CharBody.is, out-Loop1CharBody) at c.deref_mut-in-Loop1CharBody.ensures.value in
     rw (c.in-Loop1CharBody.is, out-Loop1CharBody)
-    (simp tree-Loop1CharBody (wraps_clean _ (loop_one c.in-Loop1CharBody.quant) _ _ _ (rw loopee_is at c.normalize-in-Loop1CharBody.ensures)))
+    (simp tree-Loop1CharBody (wraps_clean _ (loop_one c.in-Loop1CharBody.quant) _ _ _ (rw loopee_is at c.normalize-in-Loop1CharBody.ensures) normal'))
 
 pub normalize_body-returns-in-LookaroundAssertion-clause-keeps : goal.normalize_body-returns-in-LookaroundAssertion-clause-keeps
 normalize_body-returns-in-LookaroundAssertion-clause-keeps t c =
@@ -195,8 +198,9 @@ normalize_body-returns-in-LookaroundAssertion-clause-plain t c normal =
     let w = lookaround at.negate at.backwards at.start_group at.end_group in
     let here = rw looks at (rw contents_is at c.normalize-in-LookaroundAssertion.ensures) in
     let tree_with = λ (new : Node). tree-LookaroundAssertion at.negate at.backwards at.start_group at.end_group (record at.contents { value = new }) in
+    let normal' = rw (at.is, tree_with at.contents.value) at normal in
     rw (at.is, out) (rw (tree_with c.normalize-in-LookaroundAssertion.new.node)
-    (wraps_clean (direction_of c.args.walk.now) w _ _ _ here))
+    (wraps_clean (direction_of c.args.walk.now) w _ _ _ here normal'))
 
 pub normalize_last-normalize-requires : goal.normalize_last-normalize-requires
 normalize_last-normalize-requires t c =
@@ -289,3 +293,18 @@ normalize_up-returns-in-Err t c =
     let shifted = c.loop-alloc-test.ensures in
     rw c.relink.ensures
     (Finished-error _ _ _ _ _ refl (stands_up (tree l.above) (tree l.node) _ _ shifted _ _ _ _ l.invariant.stands c.in-Err.ensures))
+
+-- a node around a body
+
+pub normalize_last-finish_wrapper-requires-clause-small : goal.normalize_last-finish_wrapper-requires-clause-small
+normalize_last-finish_wrapper-requires-clause-small t c one =
+    let part = subst (λ (u : Tree). IsPart u) (sym c.if-take_only_part.ensures) c.requires.part in
+    small_kept (direction_of c.args.walk.now) _ _ c.may_unroll-small.result c.normalize_body.ensures.keeps part c.may_unroll-small.ensures one
+
+pub normalize_last-returns-in_ok-body-in-CaptureGroup : goal.normalize_last-returns-in_ok-body-in-CaptureGroup
+normalize_last-returns-in_ok-body-in-CaptureGroup t c =
+    let d = direction_of c.args.walk.now in
+    let keeps = c.normalize_body.ensures.keeps in
+    rw (sym c.if-take_only_part.ensures)
+    (Normalized-finished _ d _ _ _ _ keeps c.finish_wrapper.ensures
+    (wrapper_clean d _ _ c.may_unroll-small.result c.in_ok-body-in-CaptureGroup.body keeps c.may_unroll-small.ensures c.in_ok-body-in-CaptureGroup.ensures.plain))

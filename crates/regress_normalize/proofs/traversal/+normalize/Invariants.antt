@@ -19,7 +19,7 @@ invariant-normalize_up-loop-alloc l =
       stands : StandsFor (direction_of l.walk) old (reattach (tree l.above) (tree l.node));
       normal : IsNormal (tree l.node);
       facts : HasFacts l.right (tree l.node);
-      plain : IsNormal old × IsPlain l.last (tree l.initial.node) → IsPlain l.right (tree l.node);
+      plain : IsNormal old × IsPlain l.fn.last (tree l.initial.node) → IsPlain l.right (tree l.node);
       smaller : units_above (tree l.above) ≤ units_above (tree l.initial.above);
     }
 
