@@ -2,15 +2,14 @@
 use Rattle.std.proofs.Common.{◌≡◌, Bool, true, false, not, ◌&&◌, ◌||◌, ◌⊎◌, inl, inr, Result, Ok, Err, refl, sym, ap, ap₂, subst, ◌∙◌}
 use Rattle.std.specs.Prelude.{IfOk, OnOk}
 use Rattle.std.specs.declared.alloc.AllocError.{AllocError}
-use Rattle.std.proofs.lemmas.Bool.{cases_Bool, true≢false, false≢true, and_from, or_left, or_right}
+use Rattle.std.proofs.lemmas.Bool.{true≢false, false≢true, and_from, or_left, or_right}
 use Rattle.regress_tree.specs.NodeTests.{is_empty, match_always_fails}
 use Rattle.regress_tree.specs.NormalForm.{IsNormal}
 use Rattle.regress_tree.specs.Reading.{Direction}
 use Rattle.regress_tree.specs.Shapes.{is_cat, is_emptied_away, is_failed_away, has_group}
 use Rattle.regress_tree.specs.Tree.{Tree, leaf, empty, alt}
-use Rattle.regress_tree.specs.WellFormed.{inside}
 use Rattle.regress_tree.proofs.laws.Measures.{LacksShape-here}
-use Rattle.regress_rewrite.specs.Law.{IsPart, Keeps}
+use Rattle.regress_rewrite.specs.Law.{IsPart}
 use Rattle.regress_rewrite.proofs.laws.Keeps.{Keeps-refl}
 use Rattle.regress_rewrite.proofs.laws.Emptying.{emptied_keeps}
 use Rattle.regress_rewrite.proofs.laws.Alternatives.{left_alone, right_alone}

@@ -1,5 +1,5 @@
 -- Lists of nodes that the calls on a row handle.
-use Rattle.std.proofs.Common.{◌≡◌, ℕ, zero, suc, ◌+◌, ◌<◌, ◌≤◌, Bool, true, false, ◌&&◌, ◌||◌, List, [], ◌∷◌, ◌++◌, length, get_or, take, drop, refl, sym, ap, ap₂, ◌∙◌, subst, arith}
+use Rattle.std.proofs.Common.{◌≡◌, ℕ, zero, suc, ◌≤◌, Bool, true, false, ◌&&◌, ◌||◌, List, [], ◌∷◌, ◌++◌, length, get_or, take, refl, sym, ap, ap₂, ◌∙◌, subst, arith}
 use Rattle.std.specs.Prelude.{slice_set, OnOk, Result, Ok, Err}
 use Rattle.std.specs.List.{list_any}
 use Rattle.std.specs.Result.{result_and}
@@ -7,7 +7,7 @@ use Rattle.regress_tree.specs.declared.ir.node.Node.{Node}
 use Rattle.regress_tree.specs.Reading.{Direction}
 use Rattle.regress_tree.specs.Shapes.{first_in_row, some_in_row, has_bytes, has_neighbours, is_cat, has_cat, is_short}
 use Rattle.regress_tree.specs.Tree.{Tree, Trees, no_trees, more_trees, row_append, tree, trees}
-use Rattle.regress_tree.proofs.laws.Rows.{row_append-assoc, row_append-none, trees-append}
+use Rattle.regress_tree.proofs.laws.Rows.{row_append-assoc, trees-append}
 use Rattle.regress_rewrite.specs.Formed.{bytes_of}
 use Rattle.regress_rewrite.proofs.laws.Joining.{written, is_written}
 use Rattle.regress_normalize.specs.Packed.{in_text_order, Packs, TakesBytes, last_in_row}

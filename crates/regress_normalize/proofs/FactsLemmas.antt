@@ -1,5 +1,5 @@
 -- What is known of a row, one part more.
-use Rattle.std.proofs.Common.{◌≡◌, ℕ, ◌+◌, ◌≤◌, Bool, true, false, ◌||◌, max, inl, inr, Ordering, Less, Equal, Greater, refl, sym, ap, ap₂, ◌∙◌, arith}
+use Rattle.std.proofs.Common.{◌≡◌, ℕ, ◌+◌, ◌≤◌, Bool, true, false, ◌||◌, max, inl, inr, Ordering, Less, Equal, Greater, refl, sym, ap, ◌∙◌, arith}
 use Rattle.std.specs.Prelude.{if◌then◌else◌, Option, Some, None, Ok, SomeIff, alloc_error}
 use Rattle.std.specs.Option.{ok_or}
 use Rattle.std.specs.Ordering.{ord_max, nat_cmp}

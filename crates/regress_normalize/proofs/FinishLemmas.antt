@@ -1,16 +1,16 @@
 -- What stands for a packed row, in normal form and with its facts.
 use Rattle.std.proofs.Common.{◌≡◌, ℕ, ◌+◌, ◌≤◌, Bool, true, false, not, ◌&&◌, ◌||◌, ◌⊎◌, max, inl, inr, [], Result, Ok, Err, refl, sym, ap, ap₂, ◌∙◌, subst, arith}
-use Rattle.std.specs.Prelude.{IsTrue, IfOk, OnOk, IsErr}
+use Rattle.std.specs.Prelude.{IsTrue, IfOk, IsErr}
 use Rattle.std.specs.declared.alloc.AllocError.{AllocError}
 use Rattle.std.proofs.Math.Bool.{or-false}
 use Rattle.std.proofs.lemmas.Bool.{cases_Bool, or_parts, true≢false, false≢true}
 use Rattle.regress_tree.specs.Measures.{total_in_row, levels, levels_of_deepest}
-use Rattle.regress_tree.specs.NodeTests.{is_empty, leaf_always_fails, match_always_fails}
+use Rattle.regress_tree.specs.NodeTests.{is_empty, match_always_fails}
 use Rattle.regress_tree.specs.NormalForm.{IsNormal}
 use Rattle.regress_tree.specs.Reading.{Direction}
-use Rattle.regress_tree.specs.Shapes.{on_leaf, on_wrapper, some_node, some_node_in_row, some_in_row, has_group, is_group, is_loop, is_string_set, has_cat, is_short, LacksShape, RowLacksShape, is_simplified_away, is_flattened_away, is_unrolled_away, is_promoted_away, is_formed_away, is_emptied_away, is_failed_away}
-use Rattle.regress_tree.specs.Tree.{Leaf, Wrapper, Tree, Trees, leaf, empty, byte_set, cat, alt, wrapped, no_trees, more_trees, row_append}
-use Rattle.regress_tree.specs.Units.{charges, charge, charge_of_leaf}
+use Rattle.regress_tree.specs.Shapes.{on_leaf, on_wrapper, some_node, some_node_in_row, some_in_row, has_group, is_group, is_loop, is_string_set, has_cat, is_short, RowLacksShape, is_simplified_away, is_flattened_away, is_unrolled_away, is_promoted_away, is_formed_away, is_emptied_away, is_failed_away}
+use Rattle.regress_tree.specs.Tree.{Wrapper, Tree, Trees, leaf, empty, byte_set, cat, alt, wrapped, no_trees, more_trees}
+use Rattle.regress_tree.specs.Units.{charges}
 use Rattle.regress_tree.proofs.laws.Measures.{some_node-append, LacksShape-here, LacksShape-inside, LacksShape-from}
 use Rattle.regress_rewrite.specs.Law.{IsPart, Keeps}
 use Rattle.regress_rewrite.specs.Splice.{parts_of, spliced}
@@ -18,7 +18,7 @@ use Rattle.regress_rewrite.proofs.laws.Failing.{fails_keeps}
 use Rattle.regress_rewrite.proofs.laws.Flattening.{some_node-spliced}
 use Rattle.regress_rewrite.proofs.laws.Keeps.{Keeps-trans, Keeps-no_part, Keeps-one_part}
 use Rattle.regress_normalize.specs.Normalized.{Normalized, RowIsNormal, IsCatOf}
-use Rattle.regress_normalize.specs.Packed.{Packs, IsPacked, IsRowPacked, IsFactsOf}
+use Rattle.regress_normalize.specs.Packed.{IsPacked, IsRowPacked, IsFactsOf}
 use Rattle.regress_normalize.specs.PartFacts.{HasFacts, HasRowFacts}
 use Rattle.regress_normalize.specs.declared.facts.PartFacts.{PartFacts}
 use Rattle.regress_normalize.specs.declared.facts.RowFacts.{RowFacts}

@@ -1,9 +1,9 @@
 -- The last node of a row, and the row with another one there.
-use Rattle.std.proofs.Common.{◌≡◌, ℕ, ◌+◌, ◌≤◌, List, [], ◌∷◌, ◌++◌, length, get_or, set, refl, sym, ap, ap₂, ◌∙◌, arith}
+use Rattle.std.proofs.Common.{◌≡◌, ℕ, ◌+◌, ◌≤◌, List, [], ◌∷◌, ◌++◌, length, get_or, set, refl, ap, ap₂, ◌∙◌, arith}
 use Rattle.std.proofs.lemmas.List.{length-append}
 use Rattle.std.proofs.Math.Seq.{get_or-append_seam, set-append_seam}
 use Rattle.regress_tree.specs.declared.ir.node.Node.{Node}
-use Rattle.regress_tree.specs.Tree.{Tree, Trees, leaf, empty, no_trees, more_trees, row_append, tree, trees}
+use Rattle.regress_tree.specs.Tree.{Tree, Trees, no_trees, more_trees, row_append, tree, trees}
 use Rattle.regress_tree.proofs.laws.Rows.{trees-append}
 
 -- the nodes in front of the last one

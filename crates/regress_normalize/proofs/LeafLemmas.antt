@@ -1,24 +1,21 @@
 -- A node that holds no node: one kind of shape after the other is removed.
-use Rattle.std.proofs.Common.{◌≡◌, ◌≢◌, ℕ, ◌<◌, ◌≤◌, ◌⊎◌, Bool, true, false, IsTrue, inl, inr, List, [], ◌∷◌, Result, Ok, Err, refl, sym, ap, subst, ◌∙◌, arith}
+use Rattle.std.proofs.Common.{◌≡◌, ℕ, ◌<◌, ◌⊎◌, Bool, true, false, inl, inr, [], ◌∷◌, Result, Ok, Err, refl, sym, ap, subst, ◌∙◌, arith}
 use Rattle.std.specs.Prelude.{IfOk}
 use Rattle.std.specs.Result.{IsErr}
-use Rattle.std.proofs.lemmas.Bool.{cases_Bool, true≢false, false≢true, not-true}
+use Rattle.std.proofs.lemmas.Bool.{false≢true, not-true}
 use Rattle.std.specs.declared.alloc.AllocError.{AllocError}
-use lib.Utf8.{scalar}
 use Rattle.regress_tree.specs.Copies.{is_leaf}
-use Rattle.regress_tree.specs.Literal.{is_ascii, set_of}
 use Rattle.regress_tree.specs.NodeTests.{leaf_matches_exactly_one_char, matches_exactly_one_char}
 use Rattle.regress_tree.specs.NormalForm.{IsNormal}
 use Rattle.regress_tree.specs.Reading.{Direction, forwards}
-use Rattle.regress_tree.specs.Shapes.{LacksShape, is_cat, is_bytes_leaf, is_simplified_away, is_formed_away, is_emptied_away}
+use Rattle.regress_tree.specs.Shapes.{LacksShape, is_cat, is_simplified_away, is_formed_away, is_emptied_away}
 use Rattle.regress_tree.specs.Tree.{Leaf, empty, goal, char, byte_sequence, byte_set, char_set, match_any, match_any_except_line_terminator, anchor, word_boundary, bracket, back_ref, string_set, Tree, leaf, cat, alt, wrapped}
 use Rattle.regress_tree.specs.Units.{weight, loops, IsLess}
-use Rattle.regress_tree.specs.WellFormed.{Position, one_character, LeafMayStand, MayStand}
+use Rattle.regress_tree.specs.WellFormed.{Position, one_character, LeafMayStand}
 use Rattle.regress_tree.proofs.laws.Accepting.{accepts_some}
 use Rattle.regress_tree.proofs.laws.Measures.{LacksShape-here}
 use Rattle.regress_rewrite.specs.declared.rewrite.PassAction.{PassAction}
 use Rattle.regress_rewrite.specs.declared.rewrite.PassAction.TheVariants.{Keep}
-use Rattle.regress_rewrite.specs.Formed.{formed_character}
 use Rattle.regress_rewrite.specs.Law.{IsPart, Keeps, after, IsLawful}
 use Rattle.regress_rewrite.proofs.laws.Keeps.{Keeps-refl, Keeps-trans, IsPart-kept}
 use Rattle.regress_rewrite.proofs.laws.Emptying.{emptied_keeps}

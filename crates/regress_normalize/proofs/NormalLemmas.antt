@@ -1,11 +1,10 @@
 -- The normal form of a whole, by that of its parts.
-use Rattle.std.proofs.Common.{◌≡◌, Bool, true, false, ◌||◌, refl, ap₂, subst}
-use Rattle.std.proofs.lemmas.Bool.{or_parts}
+use Rattle.std.proofs.Common.{◌≡◌, Bool, false, ◌||◌, refl, ap₂}
 use Rattle.regress_tree.specs.NormalForm.{IsNormal}
 use Rattle.regress_tree.specs.Shapes.{LacksShape, is_simplified_away, is_flattened_away, is_unrolled_away, is_promoted_away, is_formed_away, is_emptied_away, is_failed_away}
 use Rattle.regress_tree.specs.Spine.{reattach}
 use Rattle.regress_tree.specs.Tree.{Tree, leaf, empty, alt}
-use Rattle.regress_tree.proofs.laws.Measures.{LacksShape-inside, LacksShape-from}
+use Rattle.regress_tree.proofs.laws.Measures.{LacksShape-from}
 use Rattle.regress_tree.proofs.laws.Places.{Place, put, LacksShape-whole}
 use Rattle.regress_rewrite.proofs.laws.Spine.{LacksShape-reattach}
 

@@ -1,5 +1,5 @@
 -- Rows packed: parts in the place of others, among parts that stay.
-use Rattle.std.proofs.Common.{◌≡◌, ℕ, ◌+◌, ◌≤◌, Bool, true, false, ◌&&◌, ◌||◌, max, List, [], ◌∷◌, ◌++◌, refl, sym, ap, ap₂, ◌∙◌, subst, arith, le_refl, le_trans, length-append}
+use Rattle.std.proofs.Common.{◌≡◌, ℕ, ◌+◌, Bool, true, false, ◌&&◌, ◌||◌, max, List, [], ◌∷◌, ◌++◌, refl, sym, ap, ap₂, ◌∙◌, subst, arith, le_refl, le_trans, length-append}
 use Rattle.std.proofs.Math.Bool.{or_assoc, or-false}
 use Rattle.std.proofs.lemmas.Bool.{or_parts, true≢false, false≢true}
 use Rattle.regress_tree.specs.Measures.{total_in_row, levels_of_deepest}
@@ -7,7 +7,7 @@ use Rattle.regress_tree.specs.NodeTests.{is_empty, match_always_fails}
 use Rattle.regress_tree.specs.NormalForm.{IsNormal}
 use Rattle.regress_tree.specs.Reading.{Direction, forwards, backwards}
 use Rattle.regress_tree.specs.Shapes.{on_leaf, on_wrapper, some_node_in_row, some_in_row, first_in_row, has_neighbours, has_bytes, is_cat, has_cat, is_string_set}
-use Rattle.regress_tree.specs.Tree.{Wrapper, Tree, Trees, leaf, empty, byte_sequence, cat, no_trees, more_trees, row_append, row_reverse}
+use Rattle.regress_tree.specs.Tree.{Tree, Trees, leaf, empty, byte_sequence, cat, no_trees, more_trees, row_append, row_reverse}
 use Rattle.regress_tree.specs.Units.{charges}
 use Rattle.regress_tree.proofs.laws.Measures.{some_node-append, total-append}
 use Rattle.regress_tree.proofs.laws.Rows.{row_append-none, row_append-assoc}

@@ -1,24 +1,23 @@
 -- What a node around a body in normal form becomes, and why.
-use Rattle.std.proofs.Common.{◌≡◌, ℕ, zero, suc, ◌≤◌, ◌*◌, ◌+◌, ◌⊎◌, inl, inr, Bool, true, false, not, ◌&&◌, ◌||◌, [], Option, Some, None, ◌-◌, nat_le, nat_lt, nat_eq, Result, Ok, Err, refl, sym, ap, ap₂, subst, ◌∙◌, arith}
+use Rattle.std.proofs.Common.{◌≡◌, ℕ, zero, suc, ◌≤◌, ◌*◌, ◌+◌, inl, inr, Bool, true, false, not, ◌&&◌, ◌||◌, [], nat_le, Result, Ok, Err, refl, sym, ap, ap₂, subst, ◌∙◌, arith}
 use Rattle.std.specs.Prelude.{IsErr, IsTrue}
 use Rattle.std.specs.declared.alloc.AllocError.{AllocError}
 use Rattle.std.proofs.Math.Nat.{suc-add}
 use Rattle.std.proofs.lemmas.Bool.Decides.{nat_tests}
 use Rattle.std.proofs.lemmas.Bool.{true≢false, false≢true, and_from}
 use Rattle.regress_tree.specs.declared.ir.node.Quantifier.{Quantifier}
-use Rattle.regress_tree.specs.NodeTests.{matches_exactly_one_char, match_always_fails}
 use Rattle.regress_tree.specs.Measures.{levels}
 use Rattle.regress_tree.specs.NormalForm.{IsNormal}
 use Rattle.regress_tree.specs.Reading.{Direction}
-use Rattle.regress_tree.specs.Shapes.{is_simplified_away, is_flattened_away, is_unrolled_away, is_promoted_away, is_formed_away, is_emptied_away, is_failed_away, is_empty_wrapper, fails_by_part, has_group, has_loop, has_string_set, is_cat, may_unroll, is_zero}
+use Rattle.regress_tree.specs.Shapes.{is_unrolled_away, is_promoted_away, is_emptied_away, is_failed_away, fails_by_part, has_group, has_loop, has_string_set, is_cat, may_unroll, is_zero}
 use Rattle.regress_tree.specs.Tree.{Tree, Trees, leaf, empty, byte_set, cat, alt, wrapped, Wrapper, loop, loop_one, no_trees, more_trees, row_append, copies}
 use Rattle.regress_tree.specs.Units.{charge, units, account}
 use Rattle.regress_tree.specs.WellFormed.{MayStand, inside, one_character}
 use Rattle.regress_tree.proofs.laws.Measures.{LacksShape-here, units-le}
-use Rattle.regress_tree.proofs.laws.Places.{among, put}
+use Rattle.regress_tree.proofs.laws.Places.{among}
 use Rattle.regress_tree.proofs.laws.Rows.{row_append-none}
 use Rattle.regress_rewrite.specs.Law.{IsPart, Keeps}
-use Rattle.regress_rewrite.specs.Unroll.{further_turns, further_loop, unrolled, may_copy, small_account}
+use Rattle.regress_rewrite.specs.Unroll.{further_turns, unrolled, may_copy, small_account}
 use Rattle.regress_rewrite.proofs.laws.Emptying.{emptied_keeps}
 use Rattle.regress_rewrite.proofs.laws.Failing.{fails_keeps}
 use Rattle.regress_rewrite.proofs.laws.Keeps.{Keeps-refl, Keeps-trans, Keeps-put, IsPart-part, IsPart-kept}
@@ -29,7 +28,7 @@ use Rattle.regress_normalize.specs.PartFacts.{HasFacts, HasRowFacts}
 use Rattle.regress_normalize.specs.Wrapped.{may_unroll_by, IsLoopOf, TakesForm, EndsInLoop, HasFinishedParts}
 use Rattle.regress_normalize.specs.declared.facts.PartFacts.{PartFacts}
 use Rattle.regress_normalize.specs.declared.facts.RowFacts.{RowFacts}
-use Rattle.regress_normalize.specs.declared.wrapper.LoopForm.TheVariants.{OneCharacter, Empty, AlwaysFails, Stays}
+use Rattle.regress_normalize.specs.declared.wrapper.LoopForm.TheVariants.{OneCharacter, Empty, AlwaysFails}
 
 -- ---- what is finished
 

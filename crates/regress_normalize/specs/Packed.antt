@@ -3,8 +3,8 @@ use Rattle.std.specs.Prelude.{◌≡◌, ℕ, ◌+◌, ◌≤◌, Bool, true, fa
 use Rattle.regress_tree.specs.Measures.{total_in_row, levels_of_deepest}
 use Rattle.regress_tree.specs.NodeTests.{is_empty, match_always_fails}
 use Rattle.regress_tree.specs.Reading.{Direction, forwards, backwards}
-use Rattle.regress_tree.specs.Shapes.{on_leaf, on_wrapper, some_node_in_row, some_in_row, has_neighbours, has_bytes, has_cat, is_short, is_string_set}
-use Rattle.regress_tree.specs.Tree.{Wrapper, Tree, Trees, leaf, empty, byte_sequence, cat, no_trees, more_trees, row_append, row_reverse}
+use Rattle.regress_tree.specs.Shapes.{on_leaf, on_wrapper, some_node_in_row, some_in_row, has_neighbours, has_bytes, has_cat, is_string_set}
+use Rattle.regress_tree.specs.Tree.{Wrapper, Tree, Trees, leaf, byte_sequence, cat, no_trees, more_trees, row_append, row_reverse}
 use Rattle.regress_tree.specs.Units.{charges}
 use Rattle.regress_rewrite.specs.Law.{Keeps}
 use Rattle.regress_rewrite.specs.Splice.{spliced, row_length}

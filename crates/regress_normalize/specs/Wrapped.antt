@@ -1,12 +1,12 @@
 -- Steps on the way of a loop into normal form.
-use Rattle.std.specs.Prelude.{◌≡◌, ◌⊎◌, ℕ, Bool, true, false, not, ◌&&◌, ◌||◌, nat_le, IsTrue, Result, IfOk}
+use Rattle.std.specs.Prelude.{◌≡◌, ◌⊎◌, ℕ, Bool, true, false, not, ◌&&◌, ◌||◌, nat_le, Result, IfOk}
 use Rattle.std.specs.declared.alloc.AllocError.{AllocError}
 use Rattle.regress_tree.specs.declared.ir.node.Quantifier.{Quantifier}
 use Rattle.regress_tree.specs.NodeTests.{matches_exactly_one_char}
 use Rattle.regress_tree.specs.NormalForm.{IsNormal}
 use Rattle.regress_tree.specs.Reading.{Direction}
-use Rattle.regress_tree.specs.Shapes.{has_group, may_unroll, is_empty_wrapper, fails_by_part, is_promoted_away, is_emptied_away, is_failed_away}
-use Rattle.regress_tree.specs.Tree.{Wrapper, capture_group, loop, loop_one, lookaround, Tree, Trees, leaf, cat, alt, wrapped, no_trees, more_trees, row_append}
+use Rattle.regress_tree.specs.Shapes.{has_group, may_unroll, is_empty_wrapper, fails_by_part, is_failed_away}
+use Rattle.regress_tree.specs.Tree.{capture_group, loop, loop_one, lookaround, Tree, Trees, leaf, cat, alt, wrapped, no_trees, more_trees, row_append}
 use Rattle.regress_rewrite.specs.Law.{Keeps}
 use Rattle.regress_normalize.specs.Normalized.{RowIsNormal, IsCatOf}
 use Rattle.regress_normalize.specs.PartFacts.{HasFacts, HasRowFacts}

@@ -1,13 +1,13 @@
 -- Rows of nodes, and what splicing makes of them.
-use Rattle.std.proofs.Common.{◌≡◌, ℕ, ◌+◌, ◌<◌, ◌≤◌, false, ◌||◌, List, [], ◌∷◌, ◌++◌, map, length, get_or, take, drop, true≢false, Vec, Global, vec_len, refl, sym, ap, ap₂, ◌∙◌, arith}
+use Rattle.std.proofs.Common.{◌≡◌, ℕ, ◌+◌, ◌<◌, ◌≤◌, false, ◌||◌, List, [], ◌∷◌, ◌++◌, length, get_or, take, drop, Vec, Global, vec_len, refl, sym, ap, ap₂, ◌∙◌, arith}
 use Rattle.std.specs.List.{list_any}
-use Rattle.std.proofs.lemmas.List.{length-map, take_more, length_push, take-append-drop}
+use Rattle.std.proofs.lemmas.List.{take_more, length_push, take-append-drop}
 use Rattle.regress_tree.specs.declared.ir.node.Node.{Node}
 use Rattle.regress_tree.specs.declared.ir.node.Node.TheVariants.{Cat}
-use Rattle.regress_tree.specs.Tree.{Tree, Trees, leaf, cat, alt, wrapped, no_trees, more_trees, row, row_append, tree, trees}
+use Rattle.regress_tree.specs.Tree.{row_append, tree, trees}
 use Rattle.regress_tree.specs.Shapes.{is_cat, has_cat, is_short}
 use Rattle.regress_tree.proofs.laws.Nodes.{tree-Cat}
-use Rattle.regress_tree.proofs.laws.Rows.{row_append-none, row_append-assoc, trees-append}
+use Rattle.regress_tree.proofs.laws.Rows.{row_append-none, trees-append}
 use Rattle.regress_rewrite.specs.Splice.{parts_of, spliced, row_length}
 use Rattle.regress_rewrite.proofs.laws.Splicing.{spliced-append, row_length-append, row_length-trees}
 

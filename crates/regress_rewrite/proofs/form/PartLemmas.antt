@@ -1,11 +1,10 @@
 -- Joining two parts of a list of trees, and all neighbours of one.
-use Rattle.std.proofs.Common.{◌≡◌, ◌≢◌, ℕ, zero, suc, ◌+◌, ◌-◌, true, List, [], ◌∷◌, ◌++◌, length, set, take, drop, replicate, refl, sym, ap, ap₂, ◌∙◌, subst, arith, length-append, append_assoc}
-use Rattle.std.proofs.lemmas.Bool.{false≢true}
+use Rattle.std.proofs.Common.{◌≡◌, ℕ, zero, suc, ◌+◌, ◌-◌, true, List, [], ◌∷◌, ◌++◌, length, set, take, drop, replicate, refl, sym, ap, ap₂, ◌∙◌, subst, arith, length-append, append_assoc}
 use Rattle.std.proofs.lemmas.List.{set_at, length-replicate, length-take-le, drop_at}
 use Rattle.std.proofs.Math.Seq.{split_at, drop-cons, set-append_seam, get_or-append_seam, drop-append_seam}
 use Rattle.regress_tree.specs.Reading.{Direction}
 use Rattle.regress_tree.specs.Shapes.{has_bytes, is_formed_away}
-use Rattle.regress_tree.specs.Tree.{empty, goal, char, byte_sequence, byte_set, char_set, match_any, match_any_except_line_terminator, anchor, word_boundary, bracket, back_ref, string_set, Tree, Trees, leaf, cat, alt, wrapped, more_trees, row, row_append, copies}
+use Rattle.regress_tree.specs.Tree.{empty, Tree, Trees, leaf, cat, more_trees, row, row_append, copies}
 use Rattle.regress_tree.specs.Units.{IsLess}
 use Rattle.regress_rewrite.specs.Law.{Keeps}
 use Rattle.regress_rewrite.specs.Formed.{joined, bytes_of, part_at, HaveBytes, joined_at, JoinsSome}

@@ -1,5 +1,5 @@
 -- A segment of a row in the place of another, and parts that may be left out.
-use Rattle.std.proofs.Common.{◌≡◌, ℕ, true, ◌||◌, List, [], ◌++◌, refl, sym, ap, ap₂, ◌∙◌, subst, append-nil, arith}
+use Rattle.std.proofs.Common.{◌≡◌, ℕ, true, List, [], ◌++◌, refl, sym, ap, ◌∙◌, subst, arith}
 use Rattle.std.proofs.lemmas.Bool.{or_parts, false≢true}
 use Rattle.std.specs.Prelude.{encode_utf8_all}
 use Rattle.std.specs.List.{flat_map}
@@ -8,7 +8,7 @@ use Rattle.regress_tree.specs.Matching.{steps, steps_in_row}
 use Rattle.regress_tree.specs.NodeTests.{is_empty}
 use Rattle.regress_tree.specs.Reading.{Direction}
 use Rattle.regress_tree.specs.Setting.{Setting}
-use Rattle.regress_tree.specs.Shapes.{some_node_in_row, is_simplified_away, RowLacksShape}
+use Rattle.regress_tree.specs.Shapes.{is_simplified_away}
 use Rattle.regress_tree.specs.Steps.{State, stay, ◌then_◌}
 use Rattle.regress_tree.specs.Tree.{empty, goal, char, byte_sequence, byte_set, char_set, match_any, match_any_except_line_terminator, anchor, word_boundary, bracket, back_ref, string_set, Tree, Trees, leaf, cat, alt, wrapped, no_trees, more_trees, row_append}
 use Rattle.regress_tree.specs.Units.{sizes, unrollables}
@@ -17,7 +17,7 @@ use Rattle.regress_tree.proofs.laws.Alike.{Alike-refl, Alike-trans, Alike-then, 
 use Rattle.regress_tree.proofs.laws.Measures.{some_node-append, total-append, RowLacksShape-append}
 use Rattle.regress_tree.proofs.laws.Rows.{row_append-none, steps-append, captures-append, RowMayStand-append}
 use Rattle.regress_rewrite.specs.Formed.{joined}
-use Rattle.regress_rewrite.specs.Law.{StandsWhere, Keeps}
+use Rattle.regress_rewrite.specs.Law.{Keeps}
 use Rattle.regress_rewrite.proofs.laws.Joining.{written, joined_keeps, these_bytes-none}
 use Rattle.regress_rewrite.proofs.laws.Keeps.{Keeps-trans}
 

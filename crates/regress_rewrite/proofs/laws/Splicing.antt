@@ -1,5 +1,5 @@
 -- Rows spliced, joined and counted.
-use Rattle.std.proofs.Common.{◌≡◌, ◌+◌, false, ◌||◌, List, [], ◌∷◌, map, length, refl, sym, ap, ap₂, true≢false, ◌∙◌, arith}
+use Rattle.std.proofs.Common.{◌≡◌, ◌+◌, false, List, [], ◌∷◌, map, length, refl, sym, ap, ap₂, true≢false, ◌∙◌, arith}
 use Rattle.std.proofs.lemmas.Bool.{or_parts}
 use Rattle.std.proofs.lemmas.List.{length-map}
 use Rattle.regress_tree.specs.declared.ir.node.Node.{Node}

@@ -1,5 +1,5 @@
 -- The parts moved so far are the first ones, so there is room for the next.
-use Rattle.std.proofs.Common.{◌≡◌, rules, arith, ◌++◌, ◌∷◌, [], map, length, sym, ap, ◌∙◌, subst, le_trans, length-append}
+use Rattle.std.proofs.Common.{rules, arith, ◌∷◌, [], sym, ap, ◌∙◌, subst, le_trans, length-append}
 use Rattle.std.proofs.lemmas.Iterator.Adapters.{YieldsList-from_vec}
 use Rattle.std.proofs.lemmas.Iterator.Consumers.{YieldsList-turn, YieldsList-end}
 use Rattle.std.proofs.lemmas.List.{map-id}

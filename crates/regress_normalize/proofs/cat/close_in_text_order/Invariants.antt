@@ -1,4 +1,4 @@
-use Rattle.std.proofs.Common.{◌≤◌, ◌+◌, length, vec_len}
+use Rattle.std.proofs.Common.{◌≤◌, length, vec_len}
 use Rattle.std.specs.Prelude.{OnOk, vec_capacity}
 use Rattle.regress_tree.specs.Reading.{Direction}
 use Rattle.regress_tree.specs.Tree.{Trees, row_append, trees}

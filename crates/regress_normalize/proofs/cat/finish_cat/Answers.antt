@@ -1,5 +1,5 @@
 -- The law, from what became of the parts.
-use Rattle.std.proofs.Common.{◌≡◌, true, false, [], rules, refl, sym, ap, ◌∙◌, subst, Ok}
+use Rattle.std.proofs.Common.{◌≡◌, false, [], rules, refl, sym, ap, ◌∙◌, subst, Ok}
 use Rattle.std.proofs.lemmas.Bool.{true≢false}
 use Rattle.regress_tree.specs.declared.ir.node.Node.{the_lemmas}
 use Rattle.regress_tree.specs.declared.ir.node.Node.TheVariants.{ByteSet}

@@ -1,5 +1,5 @@
 -- Spliced, and then packed.
-use Rattle.std.proofs.Common.{◌≡◌, ◌∙◌, sym, ap, subst, arith}
+use Rattle.std.proofs.Common.{◌∙◌, sym, ap, subst, arith}
 use Rattle.regress_tree.specs.Tree.{Trees, cat, trees}
 use Rattle.regress_tree.specs.Walk.{direction_of}
 use Rattle.regress_rewrite.specs.Law.{Keeps}

@@ -1,6 +1,6 @@
 -- The part is left out, joined to the last one, or stands behind it.
-use Rattle.std.proofs.Common.{◌≡◌, true, ap, sym, subst, ◌∙◌, Ok}
-use Rattle.regress_tree.specs.Tree.{Tree, Trees, more_trees, row_append, no_trees, tree, trees}
+use Rattle.std.proofs.Common.{ap, sym, subst, ◌∙◌, Ok}
+use Rattle.regress_tree.specs.Tree.{Tree, more_trees, row_append, tree, trees}
 use Rattle.regress_rewrite.proofs.laws.Segments.{is_empty-leaf}
 use Rattle.regress_normalize.specs.Packed.{in_text_order, Packs, IsPacked}
 use Rattle.regress_normalize.proofs.PackedLemmas.{leaves_out, takes_packs, IsPacked-takes, IsPacked-push}

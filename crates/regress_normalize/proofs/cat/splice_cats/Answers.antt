@@ -1,8 +1,8 @@
 -- Without a `Cat` splicing would leave the row as it is.
-use Rattle.std.proofs.Common.{◌≡◌, false, rules, tests, sym, ◌∙◌}
+use Rattle.std.proofs.Common.{rules, tests, sym, ◌∙◌}
 use Rattle.std.proofs.lemmas.Iterator.{YieldsList-from_slice}
 use Rattle.std.proofs.lemmas.Iterator.Search.{any_from_yields_List}
-use Rattle.regress_tree.specs.Shapes.{is_cat, has_cat}
+use Rattle.regress_tree.specs.Shapes.{is_cat}
 use Rattle.regress_tree.specs.Tree.{tree, trees}
 use Rattle.regress_rewrite.proofs.laws.Splicing.{spliced-same}
 use Rattle.regress_normalize.proofs.CatLemmas.{has_cat-any}

@@ -1,5 +1,5 @@
 -- One answer of the rewrite more.
-use Rattle.std.proofs.Common.{◌≡◌, true, ap, subst, sym, ◌∙◌}
+use Rattle.std.proofs.Common.{ap, subst, sym, ◌∙◌}
 use Rattle.regress_tree.specs.Copies.{is_leaf}
 use Rattle.regress_tree.specs.Reading.{forwards}
 use Rattle.regress_tree.specs.Shapes.{is_simplified_away}

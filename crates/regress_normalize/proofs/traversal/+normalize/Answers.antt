@@ -1,12 +1,12 @@
 -- Each answer is a lemma on plain trees, at the values of the call.
-use Rattle.std.proofs.Common.{rules, arith, ◌∙◌, ◌+◌, sym, ap, subst, refl, length-set, take, option_map}
+use Rattle.std.proofs.Common.{rules, arith, ◌∙◌, sym, ap, subst, refl, length-set, take, option_map}
 use Rattle.std.specs.Prelude.{string_bytes}
 use Rattle.regress_tree.specs.declared.ir.node.Node.{Node}
 use Rattle.regress_tree.specs.Spine.{reattach}
-use Rattle.regress_tree.specs.Tree.{Tree, Trees, cat, alt, tree, trees, capture_group, loop, loop_one, lookaround, no_trees, more_trees}
+use Rattle.regress_tree.specs.Tree.{Tree, Trees, alt, tree, trees, capture_group, loop, loop_one, lookaround}
 use Rattle.regress_tree.specs.Units.{units}
 use Rattle.regress_tree.specs.Walk.{direction_of}
-use Rattle.regress_tree.proofs.laws.Levels.{out-Alt, out-Cat, out-CaptureGroup, out-Loop, out-Loop1CharBody, out-LookaroundAssertion, alt_of}
+use Rattle.regress_tree.proofs.laws.Levels.{out-Alt, out-Cat, out-CaptureGroup, out-Loop, out-Loop1CharBody, out-LookaroundAssertion}
 use Rattle.regress_tree.proofs.laws.Measures.{units-positive}
 use Rattle.regress_tree.proofs.laws.Nodes.{tree-Alt, tree-Cat, tree-CaptureGroup, tree-Loop, tree-Loop1CharBody, tree-LookaroundAssertion}
 use Rattle.regress_rewrite.specs.Law.{IsPart}
@@ -16,7 +16,7 @@ use Rattle.regress_normalize.specs.PartFacts.{HasRowFacts}
 use Rattle.regress_normalize.specs.Steps.{StandsFor}
 use Rattle.regress_normalize.proofs.NormalLemmas.{IsNormal-reattach}
 use Rattle.regress_tree.specs.NormalForm.{IsNormal}
-use Rattle.regress_normalize.proofs.TraversalLemmas.{StandsFor-refl, StandsFor-then, StandsFor-put, StandsFor-reattach, StandsFor-normalized, StandsFor-only_part, IsPart-stands, Normalized-after, Normalized-error, stands_inside, wraps, wraps_clean, small_kept, wrapper_clean, Normalized-finished, Finished-error, plain_up, units-reattach, reattach_up, units_up, onto_up, stands_up, IsPart_up, stands_left, IsPart_left, both_sides, taken, more_normal, StandsFor-part}
+use Rattle.regress_normalize.proofs.TraversalLemmas.{StandsFor-reattach, StandsFor-normalized, StandsFor-only_part, IsPart-stands, Normalized-after, Normalized-error, stands_inside, wraps, wraps_clean, small_kept, wrapper_clean, Normalized-finished, Finished-error, plain_up, units-reattach, units_up, onto_up, stands_up, IsPart_up, stands_left, both_sides, taken, more_normal, StandsFor-part}
 use Rattle.regress_normalize.proofs.traversal.+normalize.Goals as goal
 
 pub normalize-normalize_last-requires : goal.normalize-normalize_last-requires

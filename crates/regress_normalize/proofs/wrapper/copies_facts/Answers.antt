@@ -1,7 +1,7 @@
 -- One copy more stands behind the others.
-use Rattle.std.proofs.Common.{◌≡◌, subst}
-use Rattle.regress_tree.specs.Tree.{Tree, Trees, copies}
-use Rattle.regress_normalize.specs.PartFacts.{HasFacts, HasRowFacts}
+use Rattle.std.proofs.Common.{subst}
+use Rattle.regress_tree.specs.Tree.{Trees, copies}
+use Rattle.regress_normalize.specs.PartFacts.{HasRowFacts}
 use Rattle.regress_normalize.proofs.WrapperLemmas.{copies-more}
 use Rattle.regress_normalize.proofs.wrapper.copies_facts.Goals as goal
 

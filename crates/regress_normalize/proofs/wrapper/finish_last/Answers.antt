@@ -1,8 +1,8 @@
 -- The last node is the loop, and what became of it stands in its place.
-use Rattle.std.proofs.Common.{◌≡◌, ◌+◌, ◌-◌, ◌≤◌, length, get_or, rules, arith, sym, subst, ap, ◌∙◌, refl}
+use Rattle.std.proofs.Common.{◌≡◌, ◌+◌, ◌-◌, length, arith, sym, subst, ap, ◌∙◌}
 use Rattle.std.specs.Prelude.{vec_len}
 use Rattle.std.proofs.lemmas.Bool.{false≢true}
-use Rattle.regress_tree.specs.Tree.{Tree, Trees, tree, trees, more_trees, no_trees, row_append}
+use Rattle.regress_tree.specs.Tree.{Tree, tree, trees, more_trees, no_trees, row_append}
 use Rattle.regress_tree.proofs.laws.Levels.{out-Cat}
 use Rattle.regress_tree.proofs.laws.Nodes.{tree-Cat}
 use Rattle.regress_rewrite.specs.Law.{IsPart}

@@ -1,10 +1,8 @@
 -- The row stands for the loop, and what became of it for the row.
-use Rattle.std.proofs.Common.{rules}
 use Rattle.regress_tree.specs.Tree.{tree}
 use Rattle.regress_tree.specs.Walk.{direction_of}
 use Rattle.regress_rewrite.proofs.laws.Keeps.{IsPart-kept}
-use Rattle.regress_normalize.specs.Normalized.{IsCleanAround}
-use Rattle.regress_normalize.proofs.WrapperLemmas.{clean_normal, row_finished, row_error}
+use Rattle.regress_normalize.proofs.WrapperLemmas.{row_finished, row_error}
 use Rattle.regress_normalize.proofs.wrapper.finish_unrolled.Goals as goal
 
 pub returns-in_err-row : goal.returns-in_err-row

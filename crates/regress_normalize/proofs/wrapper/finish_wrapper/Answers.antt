@@ -1,5 +1,5 @@
 -- A loop by what was found of it, and a lookaround for `Empty`.
-use Rattle.std.proofs.Common.{◌≡◌, ◌≤◌, true, rules, refl, sym, ap, subst, ◌∙◌}
+use Rattle.std.proofs.Common.{◌≡◌, ◌≤◌, true, refl, sym, ap, subst, ◌∙◌}
 use Rattle.regress_tree.specs.Shapes.{is_emptied_away, on_loop}
 use Rattle.regress_tree.specs.Tree.{Tree, tree, wrapped, loop, lookaround}
 use Rattle.regress_tree.specs.Units.{account}
@@ -8,7 +8,7 @@ use Rattle.regress_tree.proofs.laws.Levels.{out-Loop, out-LookaroundAssertion}
 use Rattle.regress_tree.proofs.laws.Nodes.{tree-Loop, tree-LookaroundAssertion, tree-Empty}
 use Rattle.regress_rewrite.specs.Law.{IsPart}
 use Rattle.regress_rewrite.specs.Unroll.{may_copy, small_account}
-use Rattle.regress_normalize.specs.Normalized.{IsCleanAround, IsWrapperOf}
+use Rattle.regress_normalize.specs.Normalized.{IsWrapperOf}
 use Rattle.regress_normalize.specs.Wrapped.{may_unroll_by}
 use Rattle.regress_normalize.proofs.WrapperLemmas.{emptied_finished, wrapper_holds, tells_unrolling, unrolled_not_clean, finished_narrower}
 use Rattle.regress_normalize.proofs.wrapper.finish_wrapper.Goals as goal

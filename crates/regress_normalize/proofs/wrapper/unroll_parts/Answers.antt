@@ -1,17 +1,16 @@
 -- The copies and the loop behind them stand for the loop.
-use Rattle.std.proofs.Common.{◌≡◌, true, false, rules, sym, subst, ap, ◌∙◌, refl}
+use Rattle.std.proofs.Common.{◌≡◌, true, false, sym, subst, ap, ◌∙◌}
 use Rattle.std.proofs.lemmas.Bool.{not-true, not-false}
 use Rattle.regress_tree.specs.declared.ir.node.Quantifier.{Quantifier}
 use Rattle.regress_tree.specs.Reading.{forwards}
 use Rattle.regress_tree.specs.Shapes.{on_loop, is_zero}
-use Rattle.regress_tree.specs.Tree.{Tree, tree, wrapped, loop, copies}
+use Rattle.regress_tree.specs.Tree.{Tree, tree, loop, copies}
 use Rattle.regress_tree.proofs.laws.Levels.{out-Loop}
 use Rattle.regress_tree.proofs.laws.Nodes.{tree-Loop}
 use Rattle.regress_rewrite.specs.Law.{IsPart}
 use Rattle.regress_rewrite.specs.Unroll.{further_turns, may_copy, unrolled, unrolled_loop}
 use Rattle.regress_normalize.specs.Normalized.{IsWrapperOf}
 use Rattle.regress_normalize.specs.PartFacts.{HasRowFacts}
-use Rattle.regress_normalize.specs.Wrapped.{EndsInLoop}
 use Rattle.regress_normalize.proofs.WrapperLemmas.{wrapper_holds, unrolled_ends, with_rest, without_rest, IsPart-unrolled}
 use Rattle.regress_normalize.proofs.wrapper.unroll_parts.Goals as goal
 

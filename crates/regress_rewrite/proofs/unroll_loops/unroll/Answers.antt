@@ -1,9 +1,5 @@
 -- The law, from what became of the loop.
-use Rattle.std.proofs.Common.{◌≡◌, true, rules, sym, ap, subst, ◌∙◌}
-use Rattle.regress_tree.specs.Shapes.{is_unrolled_away, on_loop}
-use Rattle.regress_tree.specs.Tree.{Tree, tree}
-use Rattle.regress_rewrite.specs.Law.{IsPart}
-use Rattle.regress_rewrite.specs.Unroll.{may_copy}
+use Rattle.regress_tree.specs.Tree.{tree}
 use Rattle.regress_rewrite.proofs.laws.Unrolling.{loop_may_copy, loop_lawful}
 use Rattle.regress_rewrite.proofs.unroll_loops.unroll.Goals as goal
 
