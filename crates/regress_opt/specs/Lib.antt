@@ -1,5 +1,4 @@
 pub mod Optimized
-pub mod Passes
 -- what the public contracts cite of the crates below, passed on, so that a caller names one library
 pub use Rattle.regress_base.specs.Intervals
 pub use Rattle.regress_unicode.specs.Table

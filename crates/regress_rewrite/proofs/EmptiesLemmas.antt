@@ -26,6 +26,7 @@ use Rattle.regress_rewrite.specs.declared.rewrite.PassAction.{PassAction}
 use Rattle.regress_rewrite.specs.declared.rewrite.PassAction.TheVariants.{Remove}
 use Rattle.regress_rewrite.proofs.LawfulLemmas.{remove_lawful, cat_lawful}
 use Rattle.regress_rewrite.proofs.TakenLemmas.{without_keeps, without-less}
+use Rattle.regress_rewrite.proofs.laws.Segments.{is_empty-leaf}
 
 -- Outcomes of what matches the empty text alone.
 
@@ -73,24 +74,6 @@ module _ (bound : ℕ) (q : Quantifier) (start end : ℕ) where
 is_zero-Some : (max : Option ℕ) → is_zero max ≡ true → max ≡ Some 0
 is_zero-Some None is = absurd (false≢true is)
 is_zero-Some (Some n) is = ap (λ (m : ℕ). Some m) (eqb-true n 0 is)
-
-is_empty-leaf : (t : Tree) → is_empty t ≡ true → t ≡ leaf empty
-is_empty-leaf (leaf empty) is = refl
-is_empty-leaf (leaf goal) is = absurd (false≢true is)
-is_empty-leaf (leaf (char c)) is = absurd (false≢true is)
-is_empty-leaf (leaf (byte_sequence bytes)) is = absurd (false≢true is)
-is_empty-leaf (leaf (byte_set bytes)) is = absurd (false≢true is)
-is_empty-leaf (leaf (char_set characters)) is = absurd (false≢true is)
-is_empty-leaf (leaf match_any) is = absurd (false≢true is)
-is_empty-leaf (leaf match_any_except_line_terminator) is = absurd (false≢true is)
-is_empty-leaf (leaf (anchor kind multiline)) is = absurd (false≢true is)
-is_empty-leaf (leaf (word_boundary invert unicode_icase)) is = absurd (false≢true is)
-is_empty-leaf (leaf (bracket invert intervals)) is = absurd (false≢true is)
-is_empty-leaf (leaf (back_ref group icase)) is = absurd (false≢true is)
-is_empty-leaf (leaf (string_set strings icase)) is = absurd (false≢true is)
-is_empty-leaf (cat parts) is = absurd (false≢true is)
-is_empty-leaf (alt left right) is = absurd (false≢true is)
-is_empty-leaf (wrapped w body) is = absurd (false≢true is)
 
 -- no byte is the UTF-8 of no character
 no_byte-free : (p : Position) → AreUtf8 [] p → NotAsOneCharacter p

@@ -11,7 +11,7 @@ use Rattle.regress_rewrite.specs.Law.{Keeps, after, IsLawful}
 use Rattle.regress_rewrite.specs.Taken.{StandsForCat}
 use Rattle.regress_tree.proofs.laws.Measures.{IsLess-lighter}
 use Rattle.regress_tree.proofs.laws.Places.{among, IsLess-part}
-use Rattle.regress_rewrite.proofs.KeepsLemmas.{Keeps-refl, Keeps-trans, Keeps-no_part, Keeps-one_part}
+use Rattle.regress_rewrite.proofs.laws.Keeps.{Keeps-refl, Keeps-trans, Keeps-no_part, Keeps-one_part}
 use Rattle.regress_tree.proofs.laws.Falling.{IsLess-trans}
 
 module _ (removes : Tree → Bool) (exact : Bool) (d : Direction) where

@@ -17,6 +17,7 @@ use Rattle.regress_unicode.specs.Listing.{lists}
 use Rattle.regress_unicode.specs.Table.{code_points}
 use Rattle.regress_unicode.proofs.laws.Listings.{lists-members, All-from_lists}
 use Rattle.regress_tree.specs.declared.ir.node.Node.{Node}
+use Rattle.regress_tree.specs.Copies.{is_leaf}
 use Rattle.regress_tree.specs.Reading.{Direction}
 use Rattle.regress_tree.specs.Shapes.{code_point_count, gap_count, is_small_bracket, is_long_bracket, is_simplified_away}
 use Rattle.regress_tree.specs.Tree.{Tree, leaf, char_set, bracket, tree}
@@ -28,7 +29,7 @@ use Rattle.regress_tree.proofs.laws.Literals.{scalar_in_range}
 use Rattle.regress_tree.proofs.laws.Measures.{IsLess-lighter}
 use Rattle.regress_rewrite.specs.declared.rewrite.PassAction.{PassAction}
 use Rattle.regress_rewrite.specs.declared.rewrite.PassAction.TheVariants.{Keep, Modified, Remove, Replace}
-use Rattle.regress_rewrite.specs.Law.{IsPart, Keeps, IsLawful}
+use Rattle.regress_rewrite.specs.Law.{IsPart, Keeps, after, IsLawful}
 use Rattle.regress_rewrite.specs.Simplify.{bracket_of, Simplifies}
 use Rattle.regress_rewrite.proofs.LawfulLemmas.{keep_lawful, modified_lawful, replace_lawful}
 
@@ -150,3 +151,16 @@ pub simplify_lawful : (d : Direction) (r : Result PassAction AllocError) (old ne
     IfOk r (IsLawful is_simplified_away true d (leaf (bracket_of old)) (leaf (bracket_of new)))
 simplify_lawful d (Ok action) old new part simplifies = simplifies_lawful d action old new part.2.canonical simplifies
 simplify_lawful d (Err e) old new part simplifies = tt
+
+-- what stands in the bracket's place holds no node
+simplifies_leaf : (action : PassAction) (old new : BracketContents) → Simplifies action old new →
+    is_leaf (after action (leaf (bracket_of new))) ≡ true
+simplifies_leaf Keep old new simplifies = refl
+simplifies_leaf Modified old new flipped = refl
+simplifies_leaf Remove old new none = absurd none
+simplifies_leaf (Replace node) old new listed = ap is_leaf listed.set
+
+pub simplify_leaf : (r : Result PassAction AllocError) (old new : BracketContents) → IfOk r (λ action. Simplifies action old new) →
+    IfOk r (λ action. is_leaf (after action (leaf (bracket_of new))) ≡ true)
+simplify_leaf (Ok action) old new simplifies = simplifies_leaf action old new simplifies
+simplify_leaf (Err e) old new simplifies = tt

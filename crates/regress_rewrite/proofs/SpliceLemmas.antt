@@ -1,30 +1,15 @@
 -- Rows of nodes, and what splicing makes of them.
-use Rattle.std.proofs.Common.{◌≡◌, ℕ, ◌+◌, ◌<◌, ◌≤◌, false, ◌||◌, List, [], ◌∷◌, ◌++◌, map, length, get_or, take, drop, true≢false, Vec, Global, vec_len, refl, sym, ap, ap₂, ◌∙◌, arith}
+use Rattle.std.proofs.Common.{◌≡◌, ℕ, ◌+◌, ◌<◌, ◌≤◌, false, ◌||◌, List, [], ◌∷◌, ◌++◌, length, get_or, take, drop, Vec, Global, vec_len, refl, sym, ap, ap₂, ◌∙◌, arith}
 use Rattle.std.specs.List.{list_any}
-use Rattle.std.proofs.lemmas.List.{length-map, take_more, length_push, take-append-drop}
+use Rattle.std.proofs.lemmas.List.{take_more, length_push, take-append-drop}
 use Rattle.regress_tree.specs.declared.ir.node.Node.{Node}
 use Rattle.regress_tree.specs.declared.ir.node.Node.TheVariants.{Cat}
-use Rattle.regress_tree.specs.Tree.{Tree, Trees, leaf, cat, alt, wrapped, no_trees, more_trees, row, row_append, tree, trees}
+use Rattle.regress_tree.specs.Tree.{row_append, tree, trees}
 use Rattle.regress_tree.specs.Shapes.{is_cat, has_cat, is_short}
 use Rattle.regress_tree.proofs.laws.Nodes.{tree-Cat}
-use Rattle.regress_tree.proofs.laws.Rows.{row_append-none, row_append-assoc, trees-append}
+use Rattle.regress_tree.proofs.laws.Rows.{row_append-none, trees-append}
 use Rattle.regress_rewrite.specs.Splice.{parts_of, spliced, row_length}
-
-spliced-append : (ts us : Trees) → spliced (row_append ts us) ≡ row_append (spliced ts) (spliced us)
-spliced-append no_trees us = refl
-spliced-append (more_trees t ts) us =
-    ap (row_append (parts_of t)) (spliced-append ts us) ∙ sym (row_append-assoc (parts_of t) (spliced ts) (spliced us))
-
-row_length-append : (ts us : Trees) → row_length (row_append ts us) ≡ row_length ts + row_length us
-row_length-append no_trees us = omega arith
-row_length-append (more_trees t ts) us = omega (arith, row_length-append ts us)
-
-row_length-row : (ts : List Tree) → row_length (row ts) ≡ length ts
-row_length-row [] = refl
-row_length-row (t ∷ ts) = omega (arith, row_length-row ts)
-
-row_length-trees : (nodes : List Node) → row_length (trees nodes) ≡ length nodes
-row_length-trees nodes = row_length-row (map tree nodes) ∙ length-map nodes tree
+use Rattle.regress_rewrite.proofs.laws.Splicing.{spliced-append, row_length-append, row_length-trees}
 
 -- How many parts stand for a node, and for the nodes of a row.
 
@@ -56,12 +41,6 @@ parts_of-Cat node inner is = ap (λ n. parts_of (tree n)) is ∙ ap parts_of (tr
 
 pub parts_len-Cat : (node : Node) (inner : Vec Node Global) → node ≡ Cat inner → part_len node ≡ vec_len inner
 parts_len-Cat node inner is = ap row_length (parts_of-Cat node inner is) ∙ row_length-trees inner.items ∙ sym inner.ok.0
-
-pub parts_of-other : (t : Tree) → is_cat t ≡ false → parts_of t ≡ more_trees t no_trees
-parts_of-other (leaf l) other = refl
-parts_of-other (cat parts) other = absurd (true≢false other)
-parts_of-other (alt left right) other = refl
-parts_of-other (wrapped w body) other = refl
 
 -- Moving the nodes of a row, with `moved` of them behind, and x the next.
 

@@ -11,7 +11,7 @@ use Rattle.regress_tree.proofs.laws.Places.{Place, put, direction_at, IsLess-put
 use Rattle.regress_rewrite.specs.Law.{Keeps}
 use Rattle.regress_rewrite.specs.Sweep.{TellsChange, Swept}
 use Rattle.regress_rewrite.proofs.laws.Changes.{joined, joined-false, TellsChange-then}
-use Rattle.regress_rewrite.proofs.KeepsLemmas.{Keeps-trans, Keeps-put}
+use Rattle.regress_rewrite.proofs.laws.Keeps.{Keeps-trans, Keeps-put}
 
 -- What is told of changes.
 

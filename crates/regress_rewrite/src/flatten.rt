@@ -48,7 +48,7 @@ fn is_cat(node: &Node) -> bool
 }
 
 /// Puts the parts of each `Cat` in its place. Each part is moved once.
-fn splice(alloc: Global, parts: &mut NodeList) -> Result<(), AllocError>
+pub fn splice(alloc: Global, parts: &mut NodeList) -> Result<(), AllocError>
     ensures ok { OnOk result (trees parts.new.items ≡ spliced (trees parts.old.items)) }
     ensures err { OnErr result (trees parts.new.items ≡ trees parts.old.items) }
 {

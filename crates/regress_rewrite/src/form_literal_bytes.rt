@@ -37,7 +37,7 @@ pub fn form_literal_bytes(
 }
 
 /// The UTF-8 of a code point, if it is a character.
-fn form_character(alloc: Global, c: u32) -> Result<PassAction, AllocError>
+pub fn form_character(alloc: Global, c: u32) -> Result<PassAction, AllocError>
     ensures lawful { (d : Direction) → IfOk result (IsLawful is_formed_away true d (leaf (char c)) (leaf (char c))) }
     ensures formed { IfOk result (λ action. after action (leaf (char c)) ≡ leaf (formed_character c)) }
 {
@@ -50,7 +50,7 @@ fn form_character(alloc: Global, c: u32) -> Result<PassAction, AllocError>
 }
 
 /// The set of the same members as bytes, if all are ASCII.
-fn form_set(alloc: Global, characters: &[u32]) -> Result<PassAction, AllocError>
+pub fn form_set(alloc: Global, characters: &[u32]) -> Result<PassAction, AllocError>
     ensures lawful { (d : Direction) → IfOk result (IsLawful is_formed_away true d (leaf (char_set characters.now)) (leaf (char_set characters.now))) }
     ensures formed { IfOk result (λ action. after action (leaf (char_set characters.now)) ≡ leaf (set_of characters.now)) }
 {
@@ -126,7 +126,7 @@ fn have_bytes(parts: &[Node], earlier: usize, later: usize) -> bool
     has_bytes(&parts[earlier]) && has_bytes(&parts[later])
 }
 
-fn has_bytes(node: &Node) -> bool
+pub fn has_bytes(node: &Node) -> bool
     ensures { result ≡ has_bytes (tree node.now) }
 {
     matches!(node, Node::ByteSequence(bytes) if !bytes.is_empty())
@@ -157,7 +157,7 @@ fn join_before(parts: &mut [Node], earlier: usize, later: usize) -> Result<(), A
 }
 
 /// Moves the bytes of one part behind those of another. Where memory is refused both keep theirs.
-fn append(part: &mut Node, other: &mut Node) -> Result<(), AllocError>
+pub fn append(part: &mut Node, other: &mut Node) -> Result<(), AllocError>
     requires part { has_bytes (tree part.old) ≡ true }
     requires other { has_bytes (tree other.old) ≡ true }
     ensures ok { OnOk result (tree part.new ≡ leaf (byte_sequence (bytes_of (tree part.old) ++ bytes_of (tree other.old)))) }

@@ -2,10 +2,11 @@
 ghost use Rattle.std.specs.Prelude.{◌≡◌, true, not, nat_le, nat_lt, length, flat_map, IfOk, OnErr};
 ghost use Rattle.regress_base.specs.Limits.{max_char_set_length};
 ghost use Rattle.regress_unicode.specs.Table.{code_points};
+ghost use Rattle.regress_tree.specs.Copies.{is_leaf};
 ghost use Rattle.regress_tree.specs.Reading.{Direction};
 ghost use Rattle.regress_tree.specs.Tree.{tree};
 ghost use Rattle.regress_tree.specs.Shapes.{code_point_count, gap_count, is_simplified_away};
-ghost use Rattle.regress_rewrite.specs.Law.{IsPart, IsLawful};
+ghost use Rattle.regress_rewrite.specs.Law.{IsPart, after, IsLawful};
 ghost use Rattle.regress_rewrite.specs.Simplify.{Simplifies};
 
 use crate::rewrite::PassAction;
@@ -21,6 +22,7 @@ use std::alloc::{AllocError, Global};
 pub fn simplify_brackets(alloc: Global, node: &mut Node) -> Result<PassAction, AllocError>
     requires { IsPart (tree node.old) }
     ensures lawful { (d : Direction) → IfOk result (IsLawful is_simplified_away true d (tree node.old) (tree node.new)) }
+    ensures leaf { IfOk result (λ action. is_leaf (after action (tree node.new)) ≡ is_leaf (tree node.old)) }
     ensures err { OnErr result (tree node.new ≡ tree node.old) }
 {
     match node {

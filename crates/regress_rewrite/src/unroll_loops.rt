@@ -1,13 +1,13 @@
 //! Unrolling of loops: the turns that must be taken are written out.
-ghost use Rattle.std.specs.Prelude.{◌≡◌, ◌<◌, ◌≤◌, true, false, IfOk, OnErr, vec_len, vec_capacity};
+ghost use Rattle.std.specs.Prelude.{◌≡◌, ◌<◌, ◌≤◌, true, false, IfOk, OnOk, OnErr, vec_len, vec_capacity};
 ghost use Rattle.regress_tree.specs.Copies.{HasNoGroup};
 ghost use Rattle.regress_tree.specs.Measures.{levels};
 ghost use Rattle.regress_tree.specs.Reading.{Direction};
-ghost use Rattle.regress_tree.specs.Shapes.{has_string_set, is_unrolled_away};
+ghost use Rattle.regress_tree.specs.Shapes.{has_string_set, is_unrolled_away, on_loop};
 ghost use Rattle.regress_tree.specs.Tree.{tree, trees, copies};
 ghost use Rattle.regress_tree.specs.WellFormed.{IsQuantifier};
 ghost use Rattle.regress_rewrite.specs.Law.{IsPart, IsLawful};
-ghost use Rattle.regress_rewrite.specs.Unroll.{after_charge, after_charge_row, further_turns};
+ghost use Rattle.regress_rewrite.specs.Unroll.{after_charge, after_charge_row, further_turns, may_copy, unrolled_loop};
 
 use crate::rewrite::PassAction;
 use regress_tree::ir::{Node, NodeList, Quantifier};
@@ -15,10 +15,10 @@ use std::alloc::{AllocError, Global};
 use std::mem;
 
 /// What a body that is copied is charged at most.
-const MAX_CHARGE: usize = 256;
+pub const MAX_CHARGE: usize = 256;
 
 /// How many levels a body that is copied has at most.
-const MAX_LEVELS: usize = 101;
+pub const MAX_LEVELS: usize = 101;
 
 /// Unrolls a loop that `may_unroll` finds, as `unroll` does, and keeps any other node.
 pub fn unroll_loops(alloc: Global, node: &mut Node) -> Result<PassAction, AllocError>
@@ -52,13 +52,24 @@ pub fn may_unroll(node: &Node) -> bool
     }
 }
 
-/// Makes a loop that `may_unroll` finds a `Cat`: a copy of the body for each turn that must be taken,
-/// and the loop of the turns that may follow, unless there are none. All memory is taken before the
-/// loop is changed.
+/// Makes a loop that `may_unroll` finds a `Cat`, as `write_out` does.
 pub fn unroll(alloc: Global, node: &mut Node) -> Result<PassAction, AllocError>
     requires part { IsPart (tree node.old) }
     requires shape { is_unrolled_away (tree node.old) ≡ true }
     ensures lawful { (d : Direction) → IfOk result (IsLawful is_unrolled_away true d (tree node.old) (tree node.new)) }
+    ensures err { OnErr result (tree node.new ≡ tree node.old) }
+{
+    write_out(alloc, node)?;
+    Ok(PassAction::Modified)
+}
+
+/// Makes a loop whose body may be copied a `Cat`: a copy of the body for each turn that must be taken,
+/// and the loop of the turns that may follow, unless there are none. All memory is taken before the
+/// loop is changed.
+pub fn write_out(alloc: Global, node: &mut Node) -> Result<(), AllocError>
+    requires part { IsPart (tree node.old) }
+    requires body { on_loop may_copy (tree node.old) ≡ true }
+    ensures unrolled { OnOk result (tree node.new ≡ unrolled_loop (tree node.old)) }
     ensures err { OnErr result (tree node.new ≡ tree node.old) }
 {
     let Node::Loop { loopee, quant, .. } = node else {
@@ -71,7 +82,7 @@ pub fn unroll(alloc: Global, node: &mut Node) -> Result<PassAction, AllocError>
         parts.push(mem::replace(node, Node::Empty))?;
     }
     *node = Node::Cat(parts);
-    Ok(PassAction::Modified)
+    Ok(())
 }
 
 /// So many copies of a body, with room for one node more.

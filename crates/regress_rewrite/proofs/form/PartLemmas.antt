@@ -1,42 +1,16 @@
 -- Joining two parts of a list of trees, and all neighbours of one.
-use Rattle.std.proofs.Common.{◌≡◌, ◌≢◌, ℕ, zero, suc, ◌+◌, ◌-◌, true, List, [], ◌∷◌, ◌++◌, length, set, take, drop, replicate, refl, sym, ap, ap₂, ◌∙◌, subst, arith, length-append, append_assoc}
-use Rattle.std.proofs.lemmas.Bool.{false≢true}
+use Rattle.std.proofs.Common.{◌≡◌, ℕ, zero, suc, ◌+◌, ◌-◌, true, List, [], ◌∷◌, ◌++◌, length, set, take, drop, replicate, refl, sym, ap, ap₂, ◌∙◌, subst, arith, length-append, append_assoc}
 use Rattle.std.proofs.lemmas.List.{set_at, length-replicate, length-take-le, drop_at}
 use Rattle.std.proofs.Math.Seq.{split_at, drop-cons, set-append_seam, get_or-append_seam, drop-append_seam}
 use Rattle.regress_tree.specs.Reading.{Direction}
 use Rattle.regress_tree.specs.Shapes.{has_bytes, is_formed_away}
-use Rattle.regress_tree.specs.Tree.{empty, goal, char, byte_sequence, byte_set, char_set, match_any, match_any_except_line_terminator, anchor, word_boundary, bracket, back_ref, string_set, Tree, Trees, leaf, cat, alt, wrapped, more_trees, row, row_append, copies}
+use Rattle.regress_tree.specs.Tree.{empty, Tree, Trees, leaf, cat, more_trees, row, row_append, copies}
 use Rattle.regress_tree.specs.Units.{IsLess}
 use Rattle.regress_rewrite.specs.Law.{Keeps}
 use Rattle.regress_rewrite.specs.Formed.{joined, bytes_of, part_at, HaveBytes, joined_at, JoinsSome}
-use Rattle.regress_rewrite.proofs.KeepsLemmas.{Keeps-trans}
+use Rattle.regress_rewrite.proofs.laws.Keeps.{Keeps-trans}
 use Rattle.regress_tree.proofs.laws.Falling.{IsLess-trans}
-use Rattle.regress_rewrite.proofs.form.JoinLemmas.{written, with_run, joined_keeps, joined_less}
-
--- A part with bytes.
-
-record IsWritten (t : Tree) : Type 0 where
-  pub is : t ≡ written (bytes_of t)
-  pub some : bytes_of t ≢ []
-
-is_written : (t : Tree) → has_bytes t ≡ true → IsWritten t
-is_written (leaf empty) has = absurd (false≢true has)
-is_written (leaf goal) has = absurd (false≢true has)
-is_written (leaf (char c)) has = absurd (false≢true has)
-is_written (leaf (byte_sequence [])) has = absurd (false≢true has)
-is_written (leaf (byte_sequence (b ∷ bytes))) has = record { is = refl; some = λ none. cc }
-is_written (leaf (byte_set bytes)) has = absurd (false≢true has)
-is_written (leaf (char_set characters)) has = absurd (false≢true has)
-is_written (leaf match_any) has = absurd (false≢true has)
-is_written (leaf match_any_except_line_terminator) has = absurd (false≢true has)
-is_written (leaf (anchor kind multiline)) has = absurd (false≢true has)
-is_written (leaf (word_boundary invert unicode_icase)) has = absurd (false≢true has)
-is_written (leaf (bracket invert intervals)) has = absurd (false≢true has)
-is_written (leaf (back_ref group icase)) has = absurd (false≢true has)
-is_written (leaf (string_set strings icase)) has = absurd (false≢true has)
-is_written (cat parts) has = absurd (false≢true has)
-is_written (alt left right) has = absurd (false≢true has)
-is_written (wrapped w body) has = absurd (false≢true has)
+use Rattle.regress_rewrite.proofs.laws.Joining.{written, is_written, with_run, joined_keeps, joined_less}
 
 -- A list as a row.
 

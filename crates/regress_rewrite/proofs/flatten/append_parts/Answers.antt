@@ -3,7 +3,8 @@ use Rattle.regress_tree.specs.declared.ir.node.Node.{the_lemmas}
 use Rattle.regress_tree.specs.Tree.{tree, trees, row_append}
 use Rattle.regress_tree.specs.Shapes.{is_cat}
 use Rattle.regress_tree.proofs.laws.Rows.{trees-append}
-use Rattle.regress_rewrite.proofs.SpliceLemmas.{parts_len-Cat, parts_of-Cat, parts_of-other}
+use Rattle.regress_rewrite.proofs.laws.Splicing.{parts_of-other}
+use Rattle.regress_rewrite.proofs.SpliceLemmas.{parts_len-Cat, parts_of-Cat}
 use Rattle.regress_rewrite.proofs.flatten.append_parts.Goals as goal
 
 pub returns-in_err-append-in-Cat-clause-room : goal.returns-in_err-append-in-Cat-clause-room

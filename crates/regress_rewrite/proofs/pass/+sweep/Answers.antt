@@ -11,10 +11,10 @@ use Rattle.regress_rewrite.specs.Law.{IsPart}
 use Rattle.regress_tree.specs.Spine.{is_alt, spine_length}
 use Rattle.regress_rewrite.proofs.CheckedLemmas.{sum_of}
 use Rattle.regress_tree.proofs.laws.Levels.{out-Alt, out-CaptureGroup, out-Loop, out-Loop1CharBody, out-LookaroundAssertion, alt_of}
-use Rattle.regress_rewrite.proofs.KeepsLemmas.{IsPart-kept}
+use Rattle.regress_rewrite.proofs.laws.Keeps.{IsPart-kept}
 use Rattle.regress_rewrite.proofs.SweepLemmas.{Swept-error, Swept-put, Swept-walk}
-use Rattle.regress_rewrite.proofs.SpineLemmas.{IsPart-reattach, IsPart-down, units_down, levels_down, down_next, down_last}
-use Rattle.regress_rewrite.proofs.PartsLemmas.{IsPart-at, units_at, parts_next, unvisited-next}
+use Rattle.regress_rewrite.proofs.laws.Spine.{IsPart-reattach, IsPart-down, units_down, levels_down, down_next, down_last}
+use Rattle.regress_rewrite.proofs.laws.Parts.{IsPart-at, units_at, parts_next, unvisited-next}
 use Rattle.regress_rewrite.proofs.pass.+sweep.Goals as goal
 
 pub sweep_down-sweep-requires : goal.sweep_down-sweep-requires

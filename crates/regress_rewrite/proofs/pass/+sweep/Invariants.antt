@@ -4,8 +4,8 @@ use Rattle.regress_tree.specs.Tree.{tree, trees}
 use Rattle.regress_tree.specs.Walk.{direction_of}
 use Rattle.regress_tree.specs.Units.{units, units_in_row}
 use Rattle.regress_tree.specs.Spine.{spine_length}
-use Rattle.regress_rewrite.proofs.SpineLemmas.{DownSwept}
-use Rattle.regress_rewrite.proofs.PartsLemmas.{PartsSwept}
+use Rattle.regress_rewrite.proofs.laws.Spine.{DownSwept}
+use Rattle.regress_rewrite.proofs.laws.Parts.{PartsSwept}
 use Rattle.regress_rewrite.proofs.pass.+sweep.Given as goal
 
 abbrev pub invariant-sweep_down-loop-changed : goal.invariant-sweep_down-loop-changed

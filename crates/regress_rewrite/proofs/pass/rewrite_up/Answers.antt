@@ -2,7 +2,7 @@
 use Rattle.std.proofs.Common.{refl}
 use Rattle.regress_tree.specs.Tree.{tree}
 use Rattle.regress_rewrite.proofs.SweepLemmas.{Swept-error, Swept-walk}
-use Rattle.regress_rewrite.proofs.SpineLemmas.{IsPart-up, levels_up, up_next}
+use Rattle.regress_rewrite.proofs.laws.Spine.{IsPart-up, levels_up, up_next}
 use Rattle.regress_rewrite.proofs.pass.rewrite_up.Goals as goal
 
 pub rewrite-requires : goal.rewrite-requires

@@ -4,7 +4,7 @@ use Rattle.regress_tree.specs.Tree.{tree}
 use Rattle.regress_tree.specs.Walk.{direction_of}
 use Rattle.regress_tree.specs.Shapes.{LacksShape}
 use Rattle.regress_tree.specs.Spine.{reattach, spine_length, LeftsLackShape}
-use Rattle.regress_rewrite.proofs.SpineLemmas.{UpSwept}
+use Rattle.regress_rewrite.proofs.laws.Spine.{UpSwept}
 use Rattle.regress_rewrite.proofs.pass.rewrite_up.Given as goal
 
 abbrev pub invariant-loop-levels : goal.invariant-loop-levels

@@ -2,7 +2,7 @@
 use Rattle.regress_tree.specs.Tree.{tree}
 use Rattle.regress_tree.proofs.laws.Levels.{out-Loop}
 use Rattle.regress_tree.proofs.laws.Nodes.{tree-Loop}
-use Rattle.regress_rewrite.proofs.PromoteLemmas.{promote_lawful}
+use Rattle.regress_rewrite.proofs.laws.Promotion.{promote_lawful}
 use Rattle.regress_rewrite.proofs.promote_1char_loops.promote_1char_loops.Goals as goal
 
 pub returns-in-Loop-clause-lawful : goal.returns-in-Loop-clause-lawful

@@ -1,0 +1,418 @@
+-- What stands for a packed row, in normal form and with its facts.
+use Rattle.std.proofs.Common.{◌≡◌, ℕ, ◌+◌, ◌≤◌, Bool, true, false, not, ◌&&◌, ◌||◌, ◌⊎◌, max, inl, inr, [], Result, Ok, Err, refl, sym, ap, ap₂, ◌∙◌, subst, arith}
+use Rattle.std.specs.Prelude.{IsTrue, IfOk, IsErr}
+use Rattle.std.specs.declared.alloc.AllocError.{AllocError}
+use Rattle.std.proofs.Math.Bool.{or-false}
+use Rattle.std.proofs.lemmas.Bool.{cases_Bool, or_parts, true≢false, false≢true}
+use Rattle.regress_tree.specs.Measures.{total_in_row, levels, levels_of_deepest}
+use Rattle.regress_tree.specs.NodeTests.{is_empty, match_always_fails}
+use Rattle.regress_tree.specs.NormalForm.{IsNormal}
+use Rattle.regress_tree.specs.Reading.{Direction}
+use Rattle.regress_tree.specs.Shapes.{on_leaf, on_wrapper, some_node, some_node_in_row, some_in_row, has_group, is_group, is_loop, is_string_set, has_cat, is_short, RowLacksShape, is_simplified_away, is_flattened_away, is_unrolled_away, is_promoted_away, is_formed_away, is_emptied_away, is_failed_away}
+use Rattle.regress_tree.specs.Tree.{Wrapper, Tree, Trees, leaf, empty, byte_set, cat, alt, wrapped, no_trees, more_trees}
+use Rattle.regress_tree.specs.Units.{charges}
+use Rattle.regress_tree.proofs.laws.Measures.{some_node-append, LacksShape-here, LacksShape-inside, LacksShape-from}
+use Rattle.regress_rewrite.specs.Law.{IsPart, Keeps}
+use Rattle.regress_rewrite.specs.Splice.{parts_of, spliced}
+use Rattle.regress_rewrite.proofs.laws.Failing.{fails_keeps}
+use Rattle.regress_rewrite.proofs.laws.Flattening.{some_node-spliced}
+use Rattle.regress_rewrite.proofs.laws.Keeps.{Keeps-trans, Keeps-no_part, Keeps-one_part}
+use Rattle.regress_normalize.specs.Normalized.{Normalized, RowIsNormal, IsCatOf}
+use Rattle.regress_normalize.specs.Packed.{IsPacked, IsRowPacked, IsFactsOf}
+use Rattle.regress_normalize.specs.PartFacts.{HasFacts, HasRowFacts}
+use Rattle.regress_normalize.specs.declared.facts.PartFacts.{PartFacts}
+use Rattle.regress_normalize.specs.declared.facts.RowFacts.{RowFacts}
+use Rattle.regress_normalize.proofs.PackedLemmas.{some_in_row-append, has_cat-append, RowIsNormal-append, and_false}
+
+-- ---- rows of parts in normal form
+
+-- no node of the row has a shape that a rewrite removes
+record IsNormalRow (ts : Trees) : Type 0 where
+  simplified : RowLacksShape is_simplified_away ts
+  flattened : RowLacksShape is_flattened_away ts
+  unrolled : RowLacksShape is_unrolled_away ts
+  promoted : RowLacksShape is_promoted_away ts
+  formed : RowLacksShape is_formed_away ts
+  emptied : RowLacksShape is_emptied_away ts
+  failed : RowLacksShape is_failed_away ts
+
+each_normal : (ts : Trees) → IsNormalRow ts → RowIsNormal ts
+each_normal no_trees all = tt
+each_normal (more_trees t ts) all =
+    let simplified = or_parts (some_node is_simplified_away t) (some_node_in_row is_simplified_away ts) all.simplified in
+    let flattened = or_parts (some_node is_flattened_away t) (some_node_in_row is_flattened_away ts) all.flattened in
+    let unrolled = or_parts (some_node is_unrolled_away t) (some_node_in_row is_unrolled_away ts) all.unrolled in
+    let promoted = or_parts (some_node is_promoted_away t) (some_node_in_row is_promoted_away ts) all.promoted in
+    let formed = or_parts (some_node is_formed_away t) (some_node_in_row is_formed_away ts) all.formed in
+    let emptied = or_parts (some_node is_emptied_away t) (some_node_in_row is_emptied_away ts) all.emptied in
+    let failed = or_parts (some_node is_failed_away t) (some_node_in_row is_failed_away ts) all.failed in (
+      record {
+        simplified = simplified.0;
+        flattened = flattened.0;
+        unrolled = unrolled.0;
+        promoted = promoted.0;
+        formed = formed.0;
+        emptied = emptied.0;
+        failed = failed.0;
+      },
+      each_normal ts (record {
+        simplified = simplified.1;
+        flattened = flattened.1;
+        unrolled = unrolled.1;
+        promoted = promoted.1;
+        formed = formed.1;
+        emptied = emptied.1;
+        failed = failed.1;
+      }),
+    )
+
+all_normal : (ts : Trees) → RowIsNormal ts → IsNormalRow ts
+all_normal no_trees each = record {
+  simplified = refl;
+  flattened = refl;
+  unrolled = refl;
+  promoted = refl;
+  formed = refl;
+  emptied = refl;
+  failed = refl;
+}
+all_normal (more_trees t ts) each =
+    let here = each.0 in
+    let rest = all_normal ts each.1 in
+    record {
+      simplified = ap₂ ◌||◌ here.simplified rest.simplified;
+      flattened = ap₂ ◌||◌ here.flattened rest.flattened;
+      unrolled = ap₂ ◌||◌ here.unrolled rest.unrolled;
+      promoted = ap₂ ◌||◌ here.promoted rest.promoted;
+      formed = ap₂ ◌||◌ here.formed rest.formed;
+      emptied = ap₂ ◌||◌ here.emptied rest.emptied;
+      failed = ap₂ ◌||◌ here.failed rest.failed;
+    }
+
+inside_normal : (ts : Trees) → IsNormal (cat ts) → IsNormalRow ts
+inside_normal ts normal = record {
+  simplified = LacksShape-inside is_simplified_away (cat ts) normal.simplified;
+  flattened = LacksShape-inside is_flattened_away (cat ts) normal.flattened;
+  unrolled = LacksShape-inside is_unrolled_away (cat ts) normal.unrolled;
+  promoted = LacksShape-inside is_promoted_away (cat ts) normal.promoted;
+  formed = LacksShape-inside is_formed_away (cat ts) normal.formed;
+  emptied = LacksShape-inside is_emptied_away (cat ts) normal.emptied;
+  failed = LacksShape-inside is_failed_away (cat ts) normal.failed;
+}
+
+cat_normal : (ts : Trees) → RowIsNormal ts → is_short ts ≡ false → has_cat ts ≡ false → IsPacked ts → is_failed_away (cat ts) ≡ false →
+    IsNormal (cat ts)
+cat_normal ts each long no_cat packed fails =
+    let all = all_normal ts each in
+    record {
+      simplified = LacksShape-from is_simplified_away (cat ts) all.simplified refl;
+      flattened = LacksShape-from is_flattened_away (cat ts) all.flattened (ap₂ ◌||◌ long no_cat);
+      unrolled = LacksShape-from is_unrolled_away (cat ts) all.unrolled refl;
+      promoted = LacksShape-from is_promoted_away (cat ts) all.promoted refl;
+      formed = LacksShape-from is_formed_away (cat ts) all.formed packed.no_neighbours;
+      emptied = LacksShape-from is_emptied_away (cat ts) all.emptied packed.no_empty;
+      failed = LacksShape-from is_failed_away (cat ts) all.failed fails;
+    }
+
+-- what a `Cat` in normal form has
+record IsCleanRow (ts : Trees) : Type 0 where
+  long : is_short ts ≡ false
+  no_cat : has_cat ts ≡ false
+  packed : IsPacked ts
+
+clean_row : (ts : Trees) → IsNormal (cat ts) → IsCleanRow ts
+clean_row ts normal =
+    let shape = or_parts (is_short ts) (has_cat ts) (LacksShape-here is_flattened_away (cat ts) normal.flattened) in
+    record {
+      long = shape.0;
+      no_cat = shape.1;
+      packed = record {
+        no_empty = LacksShape-here is_emptied_away (cat ts) normal.emptied;
+        no_neighbours = LacksShape-here is_formed_away (cat ts) normal.formed;
+      };
+    }
+
+-- ---- such rows, spliced
+
+parts_normal : (t : Tree) → IsNormal t → RowIsNormal (parts_of t)
+parts_normal (leaf l) normal = (normal, tt)
+parts_normal (cat parts) normal = each_normal parts (inside_normal parts normal)
+parts_normal (alt left right) normal = (normal, tt)
+parts_normal (wrapped w body) normal = (normal, tt)
+
+spliced_normal : (ts : Trees) → RowIsNormal ts → RowIsNormal (spliced ts)
+spliced_normal no_trees each = tt
+spliced_normal (more_trees t ts) each =
+    RowIsNormal-append (parts_of t) (spliced ts) (parts_normal t each.0) (spliced_normal ts each.1)
+
+parts_no_cat : (t : Tree) → IsNormal t → has_cat (parts_of t) ≡ false
+parts_no_cat (leaf l) normal = refl
+parts_no_cat (cat parts) normal = (clean_row parts normal).no_cat
+parts_no_cat (alt left right) normal = refl
+parts_no_cat (wrapped w body) normal = refl
+
+spliced_no_cat : (ts : Trees) → RowIsNormal ts → has_cat (spliced ts) ≡ false
+spliced_no_cat no_trees each = refl
+spliced_no_cat (more_trees t ts) each =
+    has_cat-append (parts_of t) (spliced ts) ∙ ap₂ ◌||◌ (parts_no_cat t each.0) (spliced_no_cat ts each.1)
+
+module _ (test : Wrapper → Bool) where
+  parts_wrappers : (t : Tree) → some_node_in_row (on_wrapper test) (parts_of t) ≡ some_node (on_wrapper test) t
+  parts_wrappers (leaf l) = or-false _
+  parts_wrappers (cat parts) = refl
+  parts_wrappers (alt left right) = or-false _
+  parts_wrappers (wrapped w body) = or-false _
+
+  spliced_wrappers : (ts : Trees) → some_node_in_row (on_wrapper test) (spliced ts) ≡ some_node_in_row (on_wrapper test) ts
+  spliced_wrappers no_trees = refl
+  spliced_wrappers (more_trees t ts) =
+      some_node-append (on_wrapper test) (parts_of t) (spliced ts) ∙ ap₂ ◌||◌ (parts_wrappers t) (spliced_wrappers ts)
+
+-- where there is no group
+alone : (a b : Bool) → (a && not b) ≡ false → b ≡ false → a ≡ false
+alone true true is none = absurd (true≢false none)
+alone true false is none = absurd (true≢false is)
+alone false b is none = refl
+
+parts_fail : (t : Tree) → IsNormal t → has_group t ≡ false → match_always_fails t ≡ false →
+    some_in_row match_always_fails (parts_of t) ≡ false
+parts_fail (leaf l) normal free fails = ap (λ b. b || false) fails
+parts_fail (cat parts) normal free fails =
+    alone (some_in_row match_always_fails parts) (has_group (cat parts)) (LacksShape-here is_failed_away (cat parts) normal.failed) free
+parts_fail (alt left right) normal free fails = refl
+parts_fail (wrapped w body) normal free fails = refl
+
+spliced_fail : (ts : Trees) → RowIsNormal ts → some_node_in_row (on_wrapper is_group) ts ≡ false →
+    some_in_row match_always_fails ts ≡ false → some_in_row match_always_fails (spliced ts) ≡ false
+spliced_fail no_trees each free fails = refl
+spliced_fail (more_trees t ts) each free fails =
+    let groups = or_parts (has_group t) (some_node_in_row (on_wrapper is_group) ts) free in
+    let failing = or_parts (match_always_fails t) (some_in_row match_always_fails ts) fails in
+    some_in_row-append match_always_fails (parts_of t) (spliced ts)
+    ∙ ap₂ ◌||◌ (parts_fail t each.0 groups.0 failing.0) (spliced_fail ts each.1 groups.1 failing.1)
+
+-- ---- levels
+
+levels-positive : (t : Tree) → 1 ≤ levels t
+levels-positive (leaf l) = omega arith
+levels-positive (cat parts) = omega arith
+levels-positive (alt left right) = omega arith
+levels-positive (wrapped w body) = omega arith
+
+deepest-positive : (ts : Trees) → is_short ts ≡ false → 1 ≤ levels_of_deepest ts
+deepest-positive no_trees long = absurd (true≢false long)
+deepest-positive (more_trees t no_trees) long = absurd (true≢false long)
+deepest-positive (more_trees t (more_trees u us)) long = omega (arith, levels-positive t)
+
+-- ---- a packed row
+
+failing_free : (t : Tree) → match_always_fails t ≡ true → has_group t ≡ false
+failing_free (leaf l) is = refl
+failing_free (cat parts) is = absurd (false≢true is)
+failing_free (alt left right) is = absurd (false≢true is)
+failing_free (wrapped w body) is = absurd (false≢true is)
+
+no_one : (b : Bool) → b ≡ false → (P : Type 0) → IsTrue b → P
+no_one b is P holds = absurd (false≢true (sym is ∙ holds))
+
+module _ (d : Direction) (row : RowFacts) (ts new : Trees) (taken : ℕ) (each : RowIsNormal ts) (facts : HasRowFacts row ts)
+    (done : IsRowPacked d ts new taken) (lasting : (row.some_fails && not row.has_group) ≡ false) where
+  charge_new : total_in_row charges new + taken ≡ row.charge
+  charge_new = omega (arith, done.packs.charge, done.count, facts.charge)
+
+  pub taken_fits : taken ≤ row.charge
+  taken_fits = omega (arith, charge_new)
+
+  levels_new : max 1 (levels_of_deepest new) ≡ row.levels
+  levels_new = done.packs.levels ∙ sym facts.levels
+
+  group_new : some_node_in_row (on_wrapper is_group) new ≡ row.has_group
+  group_new = done.packs.wrappers is_group ∙ spliced_wrappers is_group ts ∙ sym facts.has_group
+
+  loop_new : some_node_in_row (on_wrapper is_loop) new ≡ row.has_loop
+  loop_new = done.packs.wrappers is_loop ∙ spliced_wrappers is_loop ts ∙ sym facts.has_loop
+
+  string_set_new : some_node_in_row (on_leaf is_string_set) new ≡ row.has_string_set
+  string_set_new = done.packs.string_sets ∙ some_node-spliced is_string_set ts ∙ sym facts.has_string_set
+
+  lasting_new : (some_in_row match_always_fails new && not (some_node_in_row (on_wrapper is_group) new)) ≡ false
+  lasting_new = elim (cases_Bool row.has_group) [
+    | inl is ↦
+        ap (λ b. some_in_row match_always_fails new && not b) (group_new ∙ is) ∙ and_false (some_in_row match_always_fails new)
+    | inr is_not ↦
+        let none = alone row.some_fails row.has_group lasting is_not in
+        let fails = done.packs.fails ∙ spliced_fail ts each (sym facts.has_group ∙ is_not) (sym facts.some_fails ∙ none) in
+        ap (λ b. b && not (some_node_in_row (on_wrapper is_group) new)) fails
+  ]
+
+  new_normal : RowIsNormal new
+  new_normal = done.packs.normal (spliced_normal ts each)
+
+  new_cat_normal : is_short new ≡ false → IsNormal (cat new)
+  new_cat_normal long = cat_normal new new_normal long (done.packs.cats ∙ spliced_no_cat ts each) done.packed lasting_new
+
+  new_cat_facts : is_short new ≡ false → (f : PartFacts) → IsFactsOf row taken 1 f → HasFacts f (cat new)
+  new_cat_facts long f is = record {
+    charge = omega (arith, is.charge, charge_new);
+    levels = omega (arith, is.levels, levels_new, deepest-positive new long);
+    has_group = is.has_group ∙ sym group_new;
+    has_loop = is.has_loop ∙ sym loop_new;
+    has_string_set = is.has_string_set ∙ sym string_set_new;
+    always_fails = is.always_fails;
+    one = no_one f.was_one_character is.was_one_character _;
+  }
+
+  module _ (t : Tree) (one : new ≡ more_trees t no_trees) where
+    one_normal : IsNormal t
+    one_normal = (subst RowIsNormal one new_normal).0
+
+    one_lasting : match_always_fails t ≡ false
+    one_lasting = elim (cases_Bool (match_always_fails t)) [
+      | inl is ↦
+          let same = subst
+          (λ (us : Trees). (some_in_row match_always_fails us && not (some_node_in_row (on_wrapper is_group) us)) ≡ false) one lasting_new in
+          absurd (true≢false (sym (ap₂ (λ a b. (a || false) && not (b || false)) is (failing_free t is)) ∙ same))
+      | inr is_not ↦ is_not
+    ]
+
+    one_facts : (f : PartFacts) → IsFactsOf row taken 0 f → HasFacts f t
+    one_facts f is = record {
+      charge = omega (arith, is.charge, charge_new, ap (total_in_row charges) one);
+      levels = omega (arith, is.levels, levels_new, ap levels_of_deepest one, levels-positive t);
+      has_group = is.has_group ∙ sym group_new ∙ ap (some_node_in_row (on_wrapper is_group)) one ∙ or-false _;
+      has_loop = is.has_loop ∙ sym loop_new ∙ ap (some_node_in_row (on_wrapper is_loop)) one ∙ or-false _;
+      has_string_set = is.has_string_set ∙ sym string_set_new ∙ ap (some_node_in_row (on_leaf is_string_set)) one ∙ or-false _;
+      always_fails = is.always_fails ∙ sym one_lasting;
+      one = no_one f.was_one_character is.was_one_character _;
+    }
+
+    one_some : is_empty t ≡ false
+    one_some = (or_parts (is_empty t) false (sym (ap (some_in_row is_empty) one) ∙ done.packed.no_empty)).0
+
+-- ---- what the calls answer
+
+-- parts with what is known of them
+pub record AreParts (row : RowFacts) (ts : Trees) : Type 0 where
+  pub each : RowIsNormal ts
+  pub facts : HasRowFacts row ts
+
+pub parts_of_cat : (row : RowFacts) (t : Tree) (ts : Trees) → IsCatOf row t → t ≡ cat ts → AreParts row ts
+parts_of_cat row t ts given is =
+    let same : given.parts ≡ ts = ap parts_of (sym given.is ∙ is) in
+    record {
+      each = subst RowIsNormal same given.normal;
+      facts = subst (λ (us : Trees). HasRowFacts row us) same given.facts;
+    }
+
+both_and : (a b : Bool) → (a && not b) ≡ true → (a ≡ true) × (b ≡ false)
+both_and true true is = absurd (false≢true is)
+both_and true false is = (refl, refl)
+both_and false b is = absurd (false≢true is)
+
+module _ (d : Direction) (row : RowFacts) (ts : Trees) (given : AreParts row ts) where
+  pub fails_normalized : IsPart (cat ts) → (row.some_fails && not row.has_group) ≡ true → (f : PartFacts) →
+      HasFacts f (leaf (byte_set [])) → f.was_one_character ≡ false → Normalized d (cat ts) (leaf (byte_set [])) (Ok f)
+  fails_normalized part is f has plain =
+      let both = both_and row.some_fails row.has_group is in
+      let fails : some_in_row match_always_fails ts ≡ true = sym given.facts.some_fails ∙ both.0 in
+      let free : has_group (cat ts) ≡ false = sym given.facts.has_group ∙ both.1 in
+      record {
+        keeps = fails_keeps d (cat ts) refl fails free part;
+        normal = record {
+          simplified = refl;
+          flattened = refl;
+          unrolled = refl;
+          promoted = refl;
+          formed = refl;
+          emptied = refl;
+          failed = refl;
+        };
+        facts = has;
+        left = λ normal.
+            absurd (true≢false (sym (ap₂ (λ a b. a && not b) fails free) ∙ LacksShape-here is_failed_away (cat ts) normal.failed));
+        plain = λ normal. no_one f.was_one_character plain _;
+      }
+
+  module _ (new : Trees) (keeps : Keeps d (cat ts) (cat new)) (left : has_cat ts ≡ false → IsPacked ts → new ≡ ts) where
+    left_whole : IsNormal (cat ts) → new ≡ ts
+    left_whole normal =
+        let clean = clean_row ts normal in
+        left clean.no_cat clean.packed
+
+    -- what is shorter was not in normal form
+    not_left : is_short new ≡ true → IsNormal (cat ts) → ⊥
+    not_left short normal = true≢false (sym short ∙ ap is_short (left_whole normal) ∙ (clean_row ts normal).long)
+
+    pub err_normalized : (r : Result PartFacts AllocError) → IsErr r → Normalized d (cat ts) (cat new) r
+    err_normalized (Ok f) err = absurd (false≢true err)
+    err_normalized (Err e) err = record {
+      keeps = keeps;
+      normal = tt;
+      facts = tt;
+      left = λ normal. ap cat (left_whole normal);
+      plain = λ normal. tt;
+    }
+
+    module _ (taken : ℕ) (done : IsRowPacked d ts new taken) (lasting : (row.some_fails && not row.has_group) ≡ false) where
+      pub cat_normalized : is_short new ≡ false → (r : Result PartFacts AllocError) → IfOk r (IsFactsOf row taken 1) →
+          Normalized d (cat ts) (cat new) r
+      cat_normalized long (Ok f) is = record {
+        keeps = keeps;
+        normal = new_cat_normal d row ts new taken given.each given.facts done lasting long;
+        facts = new_cat_facts d row ts new taken given.each given.facts done lasting long f is;
+        left = λ normal. ap cat (left_whole normal);
+        plain = λ normal. no_one f.was_one_character is.was_one_character _;
+      }
+      cat_normalized long (Err e) is = record {
+        keeps = keeps;
+        normal = tt;
+        facts = tt;
+        left = λ normal. ap cat (left_whole normal);
+        plain = λ normal. tt;
+      }
+
+      module _ (t : Tree) where
+        abbrev Stands : Type 0
+        Stands = ((new ≡ no_trees) × (t ≡ leaf empty)) ⊎ (new ≡ more_trees t no_trees)
+
+        pub empty_normalized : Stands → is_empty t ≡ true → (f : PartFacts) → HasFacts f (leaf empty) → f.was_one_character ≡ false →
+            Normalized d (cat ts) t (Ok f)
+        empty_normalized (inl none) is f has plain =
+            subst (λ (u : Tree). Normalized d (cat ts) u (Ok f)) (sym none.1) (record {
+              keeps = Keeps-trans d (subst (λ (us : Trees). Keeps d (cat ts) (cat us)) none.0 keeps) (Keeps-no_part d);
+              normal = record {
+                simplified = refl;
+                flattened = refl;
+                unrolled = refl;
+                promoted = refl;
+                formed = refl;
+                emptied = refl;
+                failed = refl;
+              };
+              facts = has;
+              left = λ normal. absurd (not_left (ap is_short none.0) normal);
+              plain = λ normal. no_one f.was_one_character plain _;
+            })
+        empty_normalized (inr one) is f has plain =
+            absurd (true≢false (sym is ∙ one_some d row ts new taken given.each given.facts done lasting t one))
+
+        alone_keeps : new ≡ more_trees t no_trees → Keeps d (cat ts) t
+        alone_keeps one = Keeps-trans d (subst (λ (us : Trees). Keeps d (cat ts) (cat us)) one keeps) (Keeps-one_part d t)
+
+        pub alone_normalized : Stands → is_empty t ≡ false → (r : Result PartFacts AllocError) → IfOk r (IsFactsOf row taken 0) →
+            Normalized d (cat ts) t r
+        alone_normalized (inl none) some r is = absurd (true≢false (sym (ap is_empty none.1) ∙ some))
+        alone_normalized (inr one) some (Ok f) is = record {
+          keeps = alone_keeps one;
+          normal = one_normal d row ts new taken given.each given.facts done lasting t one;
+          facts = one_facts d row ts new taken given.each given.facts done lasting t one f is;
+          left = λ normal. absurd (not_left (ap is_short one) normal);
+          plain = λ normal. no_one f.was_one_character is.was_one_character _;
+        }
+        alone_normalized (inr one) some (Err e) is = record {
+          keeps = alone_keeps one;
+          normal = tt;
+          facts = tt;
+          left = λ normal. absurd (not_left (ap is_short one) normal);
+          plain = λ normal. tt;
+        }

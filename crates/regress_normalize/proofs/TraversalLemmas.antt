@@ -1,0 +1,242 @@
+-- What the traversal keeps, step by step.
+use Rattle.std.proofs.Common.{◌≡◌, ℕ, ◌+◌, ◌<◌, ◌≤◌, le_trans, Bool, false, List, [], ◌∷◌, length, take, get_or, set, Result, Ok, Err, refl, sym, ap, subst, ◌∙◌, arith}
+use Rattle.std.specs.Prelude.{IfOk, OnOk, IsTrue}
+use Rattle.std.specs.Result.{IsErr}
+use Rattle.std.specs.declared.alloc.AllocError.{AllocError}
+use Rattle.std.proofs.lemmas.Bool.{false≢true, true≢false}
+use Rattle.std.proofs.lemmas.List.{take_more_set}
+use Rattle.regress_tree.specs.declared.ir.node.Node.{Node}
+use Rattle.regress_tree.specs.NormalForm.{IsNormal}
+use Rattle.regress_tree.specs.Reading.{Direction}
+use Rattle.regress_tree.specs.Shapes.{is_flattened_away, is_unrolled_away}
+use Rattle.regress_tree.specs.Spine.{Shifted, reattach}
+use Rattle.regress_tree.specs.Tree.{Wrapper, Tree, Trees, leaf, cat, alt, wrapped, no_trees, more_trees, row_append, tree, trees}
+use Rattle.regress_tree.specs.Units.{units, account}
+use Rattle.regress_tree.proofs.laws.Measures.{LacksShape-here}
+use Rattle.regress_tree.proofs.laws.Places.{Place, put, direction_at, right_of, inside_of, left_of}
+use Rattle.regress_tree.proofs.laws.Rows.{trees-append}
+use Rattle.regress_rewrite.specs.Law.{IsPart}
+use Rattle.regress_rewrite.specs.Unroll.{small_account}
+use Rattle.regress_rewrite.proofs.laws.Unrolling.{account-unrolled}
+use Rattle.regress_rewrite.proofs.laws.Keeps.{Keeps-refl, Keeps-trans, Keeps-put, Keeps-one_part, IsPart-kept, IsPart-part}
+use Rattle.regress_rewrite.proofs.laws.Parts.{place, row_set, row_at}
+use Rattle.regress_rewrite.proofs.laws.Spine.{IsPart-reattach}
+use Rattle.regress_normalize.specs.declared.facts.PartFacts.{PartFacts}
+use Rattle.regress_normalize.specs.Normalized.{Finished, Normalized, IsCleanAround, RowIsNormal, IsWrapperOf, IsAltOf}
+use Rattle.regress_normalize.specs.PartFacts.{HasFacts, IsPlain}
+use Rattle.regress_normalize.specs.Steps.{StandsFor, IsAltOnto}
+use Rattle.regress_normalize.proofs.NormalLemmas.{IsNormal-part, IsNormal-reattach}
+
+-- ---- one step after the other
+
+pub StandsFor-refl : (d : Direction) (t : Tree) → StandsFor d t t
+StandsFor-refl d t = record { keeps = Keeps-refl d t; left = λ normal. refl }
+
+pub StandsFor-then : (d : Direction) (t u v : Tree) → StandsFor d t u → StandsFor d u v → StandsFor d t v
+StandsFor-then d t u v first second = record {
+  keeps = Keeps-trans d first.keeps second.keeps;
+  left = λ normal.
+      let same = first.left normal in
+      second.left (subst (λ (x : Tree). IsNormal x) (sym same) normal) ∙ same;
+}
+
+pub StandsFor-put : (p : Place) (d : Direction) (t u : Tree) → StandsFor (direction_at p d) t u → StandsFor d (put p t) (put p u)
+StandsFor-put p d t u stands = record {
+  keeps = Keeps-put p d stands.keeps;
+  left = λ normal. ap (put p) (stands.left (IsNormal-part p t normal));
+}
+
+pub StandsFor-reattach : (d : Direction) (above t u : Tree) → StandsFor d t u → StandsFor d (reattach above t) (reattach above u)
+StandsFor-reattach d (leaf l) t u stands = stands
+StandsFor-reattach d (cat parts) t u stands = stands
+StandsFor-reattach d (alt left above) t u stands =
+    StandsFor-reattach d above (alt left t) (alt left u) (StandsFor-put (right_of left) d t u stands)
+StandsFor-reattach d (wrapped w body) t u stands = stands
+
+pub StandsFor-normalized : (d : Direction) (t u : Tree) (answer : Result PartFacts AllocError) → Normalized d t u answer → StandsFor d t u
+StandsFor-normalized d t u answer normalized = record { keeps = normalized.keeps; left = normalized.left }
+
+pub IsPart-stands : (d : Direction) (t u : Tree) → StandsFor d t u → IsPart t → IsPart u
+IsPart-stands d t u stands part = IsPart-kept d stands.keeps part
+
+pub Normalized-after : (d : Direction) (t u v : Tree) (answer : Result PartFacts AllocError) → StandsFor d t u → Normalized d u v answer →
+    Normalized d t v answer
+Normalized-after d t u v answer first second =
+    let both = StandsFor-then d t u v first (StandsFor-normalized d u v answer second) in
+    record {
+      keeps = both.keeps;
+      normal = second.normal;
+      facts = second.facts;
+      left = both.left;
+      plain = λ normal. second.plain (subst (λ (x : Tree). IsNormal x) (sym (first.left normal)) normal);
+    }
+
+-- the same where the second step needs more to leave what is there
+pub Normalized-finished : (clean : Type 0) (d : Direction) (t u v : Tree) (answer : Result PartFacts AllocError) → StandsFor d t u →
+    Finished clean d u v answer → (IsNormal t → clean) → Normalized d t v answer
+Normalized-finished clean d t u v answer first second is_clean = record {
+  keeps = Keeps-trans d first.keeps second.keeps;
+  normal = second.normal;
+  facts = second.facts;
+  left = λ normal. second.left (is_clean normal) ∙ first.left normal;
+  plain = λ normal. second.plain (is_clean normal);
+}
+
+-- after an error nothing else is said
+pub Normalized-error : (d : Direction) (t u : Tree) (answer : Result PartFacts AllocError) → IsErr answer → StandsFor d t u →
+    Normalized d t u answer
+Normalized-error d t u (Ok facts) err stands = absurd (false≢true err)
+Normalized-error d t u (Err e) err stands =
+    record { keeps = stands.keeps; normal = tt; facts = tt; left = stands.left; plain = λ normal. tt }
+
+-- the same beside something else that is known before
+pub Finished-error : (known : Type 0) (d : Direction) (t u : Tree) (answer : Result PartFacts AllocError) → IsErr answer → StandsFor d t u →
+    Finished (IsNormal t × known) d t u answer
+Finished-error known d t u (Ok facts) err stands = absurd (false≢true err)
+Finished-error known d t u (Err e) err stands =
+    record { keeps = stands.keeps; normal = tt; facts = tt; left = λ clean. stands.left clean.0; plain = λ clean. tt }
+
+pub Finished-done : (known : Type 0) (d : Direction) (t u : Tree) (facts : PartFacts) → StandsFor d t u → IsNormal u → HasFacts facts u →
+    (IsNormal t × known → IsPlain facts u) → Finished (IsNormal t × known) d t u (Ok facts)
+Finished-done known d t u facts stands normal has plain =
+    record { keeps = stands.keeps; normal = normal; facts = has; left = λ clean. stands.left clean.0; plain = plain }
+
+-- a part in the place of a `Cat` of one
+pub StandsFor-only_part : (d : Direction) (t part : Tree) → t ≡ cat (more_trees part no_trees) → StandsFor d t part
+StandsFor-only_part d t part is = subst (λ (u : Tree). StandsFor d u part) (sym is) (record {
+  keeps = Keeps-one_part d part;
+  left = λ normal. absurd (true≢false (LacksShape-here is_flattened_away (cat (more_trees part no_trees)) normal.flattened));
+})
+
+-- what a wrapper holds
+module _ (d : Direction) (w : Wrapper) (t u : Tree) (answer : Result PartFacts AllocError)
+    (here : Normalized (direction_at (inside_of w) d) t u answer) where
+  pub stands_inside : StandsFor d (wrapped w t) (wrapped w u)
+  stands_inside = StandsFor-put (inside_of w) d t u (StandsFor-normalized (direction_at (inside_of w) d) t u answer here)
+
+  pub wraps : IfOk answer (λ facts. IsWrapperOf facts (wrapped w u))
+  wraps = by answer here.normal here.facts
+    where
+      by : (a : Result PartFacts AllocError) → OnOk a (IsNormal u) → IfOk a (λ facts. HasFacts facts u) →
+          IfOk a (λ facts. IsWrapperOf facts (wrapped w u))
+      by (Ok facts) normal has = record { wrapper = w; body = u; is = refl; normal = normal; has = has }
+      by (Err e) normal has = tt
+
+  pub wraps_clean : IsNormal (wrapped w t) → IfOk answer (λ facts. IsCleanAround facts (wrapped w u))
+  wraps_clean whole =
+      let inner = IsNormal-part (inside_of w) t whole in
+      by answer (subst (λ (x : Tree). IsNormal (wrapped w x)) (sym (here.left inner)) whole) (here.plain inner)
+    where
+      by : (a : Result PartFacts AllocError) → IsNormal (wrapped w u) → IfOk a (λ facts. IsPlain facts u) →
+          IfOk a (λ facts. IsCleanAround facts (wrapped w u))
+      by (Ok facts) normal plain = (normal, plain)
+      by (Err e) normal plain = tt
+
+-- a loop that is small was one that may be unrolled
+pub small_kept : (d : Direction) (t u : Tree) (small : Bool) → StandsFor d t u → IsPart t → small ≡ is_unrolled_away t → IsTrue small →
+    account u ≤ small_account
+small_kept d t u small stands part is one = le_trans stands.keeps.account (account-unrolled t part (sym is ∙ one))
+
+pub wrapper_clean : (d : Direction) (t u : Tree) (small : Bool) (facts : PartFacts) → StandsFor d t u → small ≡ is_unrolled_away t →
+    (IsNormal t → IsCleanAround facts u) → IsNormal t → IsCleanAround facts u × (small ≡ false)
+wrapper_clean d t u small facts stands is clean normal = (clean normal, is ∙ LacksShape-here is_unrolled_away t normal.unrolled)
+
+-- ---- alternatives
+
+-- how large the left sides above are, and the `Alt`s
+abbrev pub units_above : Tree → ℕ
+units_above (leaf l) = 0
+units_above (cat parts) = 0
+units_above (alt left above) = 1 + units left + units_above above
+units_above (wrapped w body) = 0
+
+-- how large an `Alt` is without its right side
+abbrev pub units_left : Tree → ℕ
+units_left (leaf l) = 0
+units_left (cat parts) = 0
+units_left (alt left right) = 1 + units left
+units_left (wrapped w body) = 0
+
+pub units-reattach : (above t : Tree) → units (reattach above t) ≡ units_above above + units t
+units-reattach (leaf l) t = omega arith
+units-reattach (cat parts) t = omega arith
+units-reattach (alt left above) t = omega (arith, units-reattach above (alt left t))
+units-reattach (wrapped w body) t = omega arith
+
+-- down: the next alternative is above
+pub reattach_down : (from onto from' onto' : Tree) → Shifted from onto from' onto' → reattach onto' from' ≡ reattach onto from
+reattach_down from onto from' onto' shifted =
+    ap (λ (t : Tree). reattach t from') shifted.is ∙ ap (reattach onto) (sym shifted.was)
+
+-- up: the `Alt` that stands there now
+module _ (above node rest here : Tree) (shifted : Shifted above node rest here) where
+  pub reattach_up : reattach rest here ≡ reattach above node
+  reattach_up = ap (reattach rest) shifted.is ∙ sym (ap (λ (t : Tree). reattach t node) shifted.was)
+
+  pub units_up : units_left here + units_above rest ≡ units_above above
+  units_up = omega (arith, ap units_left shifted.is, ap units_above shifted.was)
+
+  pub onto_up : (facts : PartFacts) → IsNormal node → HasFacts facts node → IsAltOnto facts here
+  onto_up facts normal has = record { left = shifted.left; right = node; is = shifted.is; normal = normal; has = has }
+
+  pub stands_up : (d : Direction) (old made : Tree) (answer : Result PartFacts AllocError) → StandsFor d old (reattach above node) →
+      Normalized d here made answer → StandsFor d old (reattach rest made)
+  stands_up d old made answer so_far next =
+      StandsFor-then d old (reattach rest here) (reattach rest made) (subst (λ (t : Tree). StandsFor d old t) (sym reattach_up) so_far)
+      (StandsFor-reattach d rest here made (StandsFor-normalized d here made answer next))
+
+  pub plain_up : (d : Direction) (old made : Tree) (answer : PartFacts) → StandsFor d old (reattach above node) →
+      Normalized d here made (Ok answer) → IsNormal old → IsPlain answer made
+  plain_up d old made answer so_far next normal =
+      let whole = subst (λ (t : Tree). IsNormal t) (sym (reattach_up ∙ so_far.left normal)) normal in
+      next.plain (IsNormal-reattach rest here whole)
+
+  pub IsPart_up : (d : Direction) (old : Tree) → StandsFor d old (reattach above node) → IsPart old → IsPart here
+  IsPart_up d old so_far part =
+      IsPart-reattach rest here (subst (λ (t : Tree). IsPart t) (sym reattach_up) (IsPart-stands d old (reattach above node) so_far part))
+
+-- the left side of an `Alt` whose right side is in normal form
+module _ (d : Direction) (t left made right : Tree) (is : t ≡ alt left right) (answer : Result PartFacts AllocError)
+    (here : Normalized d left made answer) where
+  pub stands_left : StandsFor d t (alt made right)
+  stands_left = subst (λ (u : Tree). StandsFor d u (alt made right)) (sym is)
+      (StandsFor-put (left_of right) d left made (StandsFor-normalized d left made answer here))
+
+pub IsPart_left : (t left right : Tree) → t ≡ alt left right → IsPart t → IsPart left
+IsPart_left t left right is part = IsPart-part (left_of right) left (subst (λ (u : Tree). IsPart u) is part)
+
+pub both_sides : (t left right : Tree) (facts left_facts : PartFacts) → t ≡ alt left right → IsAltOnto facts t → (made : Tree) →
+    IsNormal made → HasFacts left_facts made → IsAltOf left_facts facts (alt made right)
+both_sides t left right facts left_facts is onto made normal has =
+    let same : alt onto.left onto.right ≡ alt left right = sym onto.is ∙ is in
+    let right_is : onto.right ≡ right = cc in
+    record {
+      left = made;
+      right = right;
+      is = refl;
+      left_normal = normal;
+      left_has = has;
+      right_normal = subst (λ (u : Tree). IsNormal u) right_is onto.normal;
+      right_has = subst (λ (u : Tree). HasFacts facts u) right_is onto.has;
+    }
+
+-- ---- parts
+
+RowIsNormal-more : (ts : Trees) (t : Tree) → RowIsNormal ts → IsNormal t → RowIsNormal (row_append ts (more_trees t no_trees))
+RowIsNormal-more no_trees t normal here = (here, tt)
+RowIsNormal-more (more_trees u us) t normal here = (normal.0, RowIsNormal-more us t normal.1 here)
+
+module _ (now : List Node) (i : ℕ) (in_row : i < length now) (new : Node) where
+  -- the parts so far, and this one
+  pub taken : trees (take (i + 1) (set now i new)) ≡ row_append (trees (take i now)) (more_trees (tree new) no_trees)
+  taken = ap trees (take_more_set now i new in_row) ∙ trees-append (take i now) (new ∷ [])
+
+  pub more_normal : RowIsNormal (trees (take i now)) → IsNormal (tree new) → RowIsNormal (trees (take (i + 1) (set now i new)))
+  more_normal before here = subst (λ (ts : Trees). RowIsNormal ts) (sym taken) (RowIsNormal-more _ (tree new) before here)
+
+  pub StandsFor-part : (d : Direction) (initial : List Node) (old : Node) (at : old ≡ get_or now i old) (answer : Result PartFacts AllocError) →
+      StandsFor d (cat (trees initial)) (cat (trees now)) → Normalized d (tree old) (tree new) answer →
+      StandsFor d (cat (trees initial)) (cat (trees (set now i new)))
+  StandsFor-part d initial old at answer so_far here =
+      let there = StandsFor-put (place now i in_row) d (tree old) (tree new) (StandsFor-normalized d (tree old) (tree new) answer here) in
+      StandsFor-then d _ (cat (trees now)) _ so_far (rw (row_at now i in_row old at, row_set now i in_row new) there)

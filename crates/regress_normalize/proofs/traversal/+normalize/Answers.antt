@@ -1,0 +1,310 @@
+-- Each answer is a lemma on plain trees, at the values of the call.
+use Rattle.std.proofs.Common.{rules, arith, ◌∙◌, sym, ap, subst, refl, length-set, take, option_map}
+use Rattle.std.specs.Prelude.{string_bytes}
+use Rattle.regress_tree.specs.declared.ir.node.Node.{Node}
+use Rattle.regress_tree.specs.Spine.{reattach}
+use Rattle.regress_tree.specs.Tree.{Tree, Trees, alt, tree, trees, capture_group, loop, loop_one, lookaround}
+use Rattle.regress_tree.specs.Units.{units}
+use Rattle.regress_tree.specs.Walk.{direction_of}
+use Rattle.regress_tree.proofs.laws.Levels.{out-Alt, out-Cat, out-CaptureGroup, out-Loop, out-Loop1CharBody, out-LookaroundAssertion}
+use Rattle.regress_tree.proofs.laws.Measures.{units-positive}
+use Rattle.regress_tree.proofs.laws.Nodes.{tree-Alt, tree-Cat, tree-CaptureGroup, tree-Loop, tree-Loop1CharBody, tree-LookaroundAssertion}
+use Rattle.regress_rewrite.specs.Law.{IsPart}
+use Rattle.regress_rewrite.proofs.laws.Parts.{IsPart-at, units_at, unvisited-next}
+use Rattle.regress_rewrite.proofs.laws.Spine.{IsPart-reattach}
+use Rattle.regress_normalize.specs.PartFacts.{HasRowFacts}
+use Rattle.regress_normalize.specs.Steps.{StandsFor}
+use Rattle.regress_normalize.proofs.NormalLemmas.{IsNormal-reattach}
+use Rattle.regress_tree.specs.NormalForm.{IsNormal}
+use Rattle.regress_normalize.proofs.TraversalLemmas.{StandsFor-reattach, StandsFor-normalized, StandsFor-only_part, IsPart-stands, Normalized-after, Normalized-error, stands_inside, wraps, wraps_clean, small_kept, wrapper_clean, Normalized-finished, Finished-error, plain_up, units-reattach, units_up, onto_up, stands_up, IsPart_up, stands_left, both_sides, taken, more_normal, StandsFor-part}
+use Rattle.regress_normalize.proofs.traversal.+normalize.Goals as goal
+
+pub normalize-normalize_last-requires : goal.normalize-normalize_last-requires
+normalize-normalize_last-requires t c =
+    let whole = c.go_down.ensures.whole in
+    let node = tree c.go_down.new.node in
+    let above = tree c.go_down.new.above in (
+      omega (arith, ap units whole, units-reattach above node),
+      (IsPart-reattach above node (subst (λ (u : Tree). IsPart u) (sym whole) c.requires), c.go_down.ensures.last),
+    )
+
+pub normalize-normalize_up-requires : goal.normalize-normalize_up-requires
+normalize-normalize_up-requires t c =
+    let whole = c.go_down.ensures.whole in
+    let node = tree c.go_down.new.node in
+    let above = tree c.go_down.new.above in
+    let d = direction_of c.args.walk.now in
+    let stands = StandsFor-reattach d above node _ (StandsFor-normalized d node _ _ c.normalize_last.ensures) in (
+      omega (arith, ap units whole, units-reattach above node, units-positive node),
+      (
+        IsPart-stands d (reattach above node) _ stands (subst (λ (u : Tree). IsPart u) (sym whole) c.requires),
+        (c.in-Ok.ensures.normal, c.in-Ok.ensures.facts),
+      ),
+    )
+
+pub normalize-returns-in-Ok : goal.normalize-returns-in-Ok
+normalize-returns-in-Ok t c =
+    let node = tree c.go_down.new.node in
+    let above = tree c.go_down.new.above in
+    let last = tree c.normalize_last.new.node in
+    let d = direction_of c.args.walk.now in
+    let stands = StandsFor-reattach d above node last (StandsFor-normalized d node last _ c.normalize_last.ensures) in
+    let so_far = subst (λ (u : Tree). StandsFor d u (reattach above last)) c.go_down.ensures.whole stands in
+    Normalized-finished _ d _ (reattach above last) _ _ so_far c.normalize_up.ensures
+    (λ normal.
+    let kept = subst (λ (u : Tree). IsNormal u) (sym (so_far.left normal)) normal in
+    let last_old = IsNormal-reattach above node (subst (λ (u : Tree). IsNormal u) (sym c.go_down.ensures.whole) normal) in
+    (kept, c.in-Ok.ensures.plain last_old))
+
+pub normalize-returns-in-Err : goal.normalize-returns-in-Err
+normalize-returns-in-Err t c =
+    let node = tree c.go_down.new.node in
+    let above = tree c.go_down.new.above in
+    let last = tree c.normalize_last.new.node in
+    let d = direction_of c.args.walk.now in
+    let stands = StandsFor-reattach d above node last (StandsFor-normalized d node last _ c.normalize_last.ensures) in
+    let so_far = subst (λ (u : Tree). StandsFor d u (reattach above last)) c.go_down.ensures.whole stands in
+    rw c.relink.ensures (Normalized-error d _ (reattach above last) _ refl so_far)
+
+pub normalize_alt-returns-in_err-left : goal.normalize_alt-returns-in_err-left
+normalize_alt-returns-in_err-left t c =
+    let left_is = rw (c.in-Alt.is, out-Alt) at c.deref_mut.ensures.value in
+    let d = direction_of c.args.walk.now in
+    let left = tree c.in-Alt.left.value in
+    let right = tree c.in-Alt.field-1.value in
+    let made = tree c.normalize.new.node in
+    let stands = stands_left d (alt left right) left made right refl _ (rw left_is at c.normalize.ensures) in
+    rw (c.in-Alt.is, out-Alt) (simp tree-Alt (Normalized-error d (alt left right) (alt made right) _ c.from_residual.ensures.0 stands))
+
+pub normalize_alt-finish_alt-requires-clause-part : goal.normalize_alt-finish_alt-requires-clause-part
+normalize_alt-finish_alt-requires-clause-part t c =
+    let left_is = rw (c.in-Alt.is, out-Alt) at c.deref_mut.ensures.value in
+    let d = direction_of c.args.walk.now in
+    let left = tree c.in-Alt.left.value in
+    let right = tree c.in-Alt.field-1.value in
+    let made = tree c.normalize.new.node in
+    let stands = stands_left d (alt left right) left made right refl _ (rw left_is at c.normalize.ensures) in
+    let part = rw (c.in-Alt.is, tree-Alt) at c.requires.part in
+    rw (c.in-Alt.is, out-Alt, tree-Alt) (IsPart-stands d (alt left right) (alt made right) stands part)
+
+pub normalize_alt-finish_alt-requires-clause-sides : goal.normalize_alt-finish_alt-requires-clause-sides
+normalize_alt-finish_alt-requires-clause-sides t c =
+    let left = tree c.in-Alt.left.value in
+    let right = tree c.in-Alt.field-1.value in
+    let onto = rw (c.in-Alt.is, tree-Alt) at c.requires.onto in
+    rw (c.in-Alt.is, out-Alt, tree-Alt)
+    (both_sides (alt left right) left right c.args.right.now c.in_ok-left.left refl onto (tree c.normalize.new.node) c.in_ok-left.ensures.normal
+    c.in_ok-left.ensures.facts)
+
+pub normalize_alt-returns : goal.normalize_alt-returns
+normalize_alt-returns t c =
+    let left_is = rw (c.in-Alt.is, out-Alt) at c.deref_mut.ensures.value in
+    let d = direction_of c.args.walk.now in
+    let left = tree c.in-Alt.left.value in
+    let right = tree c.in-Alt.field-1.value in
+    let made = tree c.normalize.new.node in
+    let stands = stands_left d (alt left right) left made right refl _ (rw left_is at c.normalize.ensures) in
+    let finished = rw (c.in-Alt.is, out-Alt, tree-Alt) at (c.finish_alt.ensures d) in
+    rw (c.in-Alt.is, tree-Alt) (Normalized-after d (alt left right) (alt made right) _ _ stands finished)
+
+pub normalize_body-returns-in-CaptureGroup-clause-keeps : goal.normalize_body-returns-in-CaptureGroup-clause-keeps
+normalize_body-returns-in-CaptureGroup-clause-keeps t c =
+    let contents_is = rw (c.in-CaptureGroup.is, out-CaptureGroup) at c.deref_mut.ensures.value in
+    let w = capture_group c.in-CaptureGroup.id (option_map string_bytes c.in-CaptureGroup.name) in
+    rw (c.in-CaptureGroup.is, out-CaptureGroup) (simp tree-CaptureGroup (stands_inside _ w _ _ _ (rw contents_is at c.normalize.ensures)))
+
+pub normalize_body-returns-in-CaptureGroup-clause-body : goal.normalize_body-returns-in-CaptureGroup-clause-body
+normalize_body-returns-in-CaptureGroup-clause-body t c =
+    let contents_is = rw (c.in-CaptureGroup.is, out-CaptureGroup) at c.deref_mut.ensures.value in
+    let w = capture_group c.in-CaptureGroup.id (option_map string_bytes c.in-CaptureGroup.name) in
+    rw (c.in-CaptureGroup.is, out-CaptureGroup) (simp tree-CaptureGroup (wraps _ w _ _ _ (rw contents_is at c.normalize.ensures)))
+
+pub normalize_body-returns-in-CaptureGroup-clause-plain : goal.normalize_body-returns-in-CaptureGroup-clause-plain
+normalize_body-returns-in-CaptureGroup-clause-plain t c normal =
+    let normal' = rw (c.in-CaptureGroup.is, tree-CaptureGroup) at normal in
+    let contents_is = rw (c.in-CaptureGroup.is, out-CaptureGroup) at c.deref_mut.ensures.value in
+    let w = capture_group c.in-CaptureGroup.id (option_map string_bytes c.in-CaptureGroup.name) in
+    rw (c.in-CaptureGroup.is, out-CaptureGroup) (simp tree-CaptureGroup (wraps_clean _ w _ _ _ (rw contents_is at c.normalize.ensures) normal'))
+
+pub normalize_body-returns-in-Loop-clause-keeps : goal.normalize_body-returns-in-Loop-clause-keeps
+normalize_body-returns-in-Loop-clause-keeps t c =
+    let loopee_is = rw (c.in-Loop.is, out-Loop) at c.deref_mut-in-Loop.ensures.value in
+    let w = loop c.in-Loop.quant c.in-Loop.enclosed_groups.start c.in-Loop.enclosed_groups.end in
+    rw (c.in-Loop.is, out-Loop) (simp tree-Loop (stands_inside _ w _ _ _ (rw loopee_is at c.normalize-in-Loop.ensures)))
+
+pub normalize_body-returns-in-Loop-clause-body : goal.normalize_body-returns-in-Loop-clause-body
+normalize_body-returns-in-Loop-clause-body t c =
+    let loopee_is = rw (c.in-Loop.is, out-Loop) at c.deref_mut-in-Loop.ensures.value in
+    let w = loop c.in-Loop.quant c.in-Loop.enclosed_groups.start c.in-Loop.enclosed_groups.end in
+    rw (c.in-Loop.is, out-Loop) (simp tree-Loop (wraps _ w _ _ _ (rw loopee_is at c.normalize-in-Loop.ensures)))
+
+pub normalize_body-returns-in-Loop-clause-plain : goal.normalize_body-returns-in-Loop-clause-plain
+normalize_body-returns-in-Loop-clause-plain t c normal =
+    let normal' = rw (c.in-Loop.is, tree-Loop) at normal in
+    let loopee_is = rw (c.in-Loop.is, out-Loop) at c.deref_mut-in-Loop.ensures.value in
+    let w = loop c.in-Loop.quant c.in-Loop.enclosed_groups.start c.in-Loop.enclosed_groups.end in
+    rw (c.in-Loop.is, out-Loop) (simp tree-Loop (wraps_clean _ w _ _ _ (rw loopee_is at c.normalize-in-Loop.ensures) normal'))
+
+pub normalize_body-returns-in-Loop1CharBody-clause-keeps : goal.normalize_body-returns-in-Loop1CharBody-clause-keeps
+normalize_body-returns-in-Loop1CharBody-clause-keeps t c =
+    let loopee_is = rw (c.in-Loop1CharBody.is, out-Loop1CharBody) at c.deref_mut-in-Loop1CharBody.ensures.value in
+    rw (c.in-Loop1CharBody.is, out-Loop1CharBody)
+    (simp tree-Loop1CharBody
+    (stands_inside _ (loop_one c.in-Loop1CharBody.quant) _ _ _ (rw loopee_is at c.normalize-in-Loop1CharBody.ensures)))
+
+pub normalize_body-returns-in-Loop1CharBody-clause-body : goal.normalize_body-returns-in-Loop1CharBody-clause-body
+normalize_body-returns-in-Loop1CharBody-clause-body t c =
+    let loopee_is = rw (c.in-Loop1CharBody.is, out-Loop1CharBody) at c.deref_mut-in-Loop1CharBody.ensures.value in
+    rw (c.in-Loop1CharBody.is, out-Loop1CharBody)
+    (simp tree-Loop1CharBody (wraps _ (loop_one c.in-Loop1CharBody.quant) _ _ _ (rw loopee_is at c.normalize-in-Loop1CharBody.ensures)))
+
+pub normalize_body-returns-in-Loop1CharBody-clause-plain : goal.normalize_body-returns-in-Loop1CharBody-clause-plain
+normalize_body-returns-in-Loop1CharBody-clause-plain t c normal =
+    let normal' = rw (c.in-Loop1CharBody.is, tree-Loop1CharBody) at normal in
+    let loopee_is = rw (c.in-Loop1CharBody.is, out-Loop1CharBody) at c.deref_mut-in-Loop1CharBody.ensures.value in
+    rw (c.in-Loop1CharBody.is, out-Loop1CharBody)
+    (simp tree-Loop1CharBody (wraps_clean _ (loop_one c.in-Loop1CharBody.quant) _ _ _ (rw loopee_is at c.normalize-in-Loop1CharBody.ensures) normal'))
+
+pub normalize_body-returns-in-LookaroundAssertion-clause-keeps : goal.normalize_body-returns-in-LookaroundAssertion-clause-keeps
+normalize_body-returns-in-LookaroundAssertion-clause-keeps t c =
+    let at = c.in-LookaroundAssertion in
+    let out = out-LookaroundAssertion at.negate at.backwards at.start_group at.end_group at.contents in
+    let contents_is = rw (at.is, out) at c.deref_mut-in-LookaroundAssertion.ensures.value in
+    let looks = rw (at.is, out) at c.looking.ensures.direction in
+    let w = lookaround at.negate at.backwards at.start_group at.end_group in
+    let here = rw looks at (rw contents_is at c.normalize-in-LookaroundAssertion.ensures) in
+    let tree_with = λ (new : Node). tree-LookaroundAssertion at.negate at.backwards at.start_group at.end_group (record at.contents { value = new }) in
+    rw (at.is, out) (rw (tree_with at.contents.value, tree_with c.normalize-in-LookaroundAssertion.new.node)
+    (stands_inside (direction_of c.args.walk.now) w _ _ _ here))
+
+pub normalize_body-returns-in-LookaroundAssertion-clause-body : goal.normalize_body-returns-in-LookaroundAssertion-clause-body
+normalize_body-returns-in-LookaroundAssertion-clause-body t c =
+    let at = c.in-LookaroundAssertion in
+    let out = out-LookaroundAssertion at.negate at.backwards at.start_group at.end_group at.contents in
+    let contents_is = rw (at.is, out) at c.deref_mut-in-LookaroundAssertion.ensures.value in
+    let looks = rw (at.is, out) at c.looking.ensures.direction in
+    let w = lookaround at.negate at.backwards at.start_group at.end_group in
+    let here = rw looks at (rw contents_is at c.normalize-in-LookaroundAssertion.ensures) in
+    let tree_with = λ (new : Node). tree-LookaroundAssertion at.negate at.backwards at.start_group at.end_group (record at.contents { value = new }) in
+    rw (at.is, out) (rw (tree_with c.normalize-in-LookaroundAssertion.new.node)
+    (wraps (direction_of c.args.walk.now) w _ _ _ here))
+
+pub normalize_body-returns-in-LookaroundAssertion-clause-plain : goal.normalize_body-returns-in-LookaroundAssertion-clause-plain
+normalize_body-returns-in-LookaroundAssertion-clause-plain t c normal =
+    let at = c.in-LookaroundAssertion in
+    let out = out-LookaroundAssertion at.negate at.backwards at.start_group at.end_group at.contents in
+    let contents_is = rw (at.is, out) at c.deref_mut-in-LookaroundAssertion.ensures.value in
+    let looks = rw (at.is, out) at c.looking.ensures.direction in
+    let w = lookaround at.negate at.backwards at.start_group at.end_group in
+    let here = rw looks at (rw contents_is at c.normalize-in-LookaroundAssertion.ensures) in
+    let tree_with = λ (new : Node). tree-LookaroundAssertion at.negate at.backwards at.start_group at.end_group (record at.contents { value = new }) in
+    let normal' = rw (at.is, tree_with at.contents.value) at normal in
+    rw (at.is, out) (rw (tree_with c.normalize-in-LookaroundAssertion.new.node)
+    (wraps_clean (direction_of c.args.walk.now) w _ _ _ here normal'))
+
+pub normalize_last-normalize-requires : goal.normalize_last-normalize-requires
+normalize_last-normalize-requires t c =
+    let taken = c.if-take_only_part.ensures in
+    let d = direction_of c.args.walk.now in
+    (omega (arith, ap units taken), IsPart-stands d _ _ (StandsFor-only_part d _ _ taken) c.requires.part)
+
+pub normalize_last-returns-then-take_only_part : goal.normalize_last-returns-then-take_only_part
+normalize_last-returns-then-take_only_part t c =
+    let d = direction_of c.args.walk.now in
+    Normalized-after d _ _ _ _ (StandsFor-only_part d _ _ c.if-take_only_part.ensures) c.normalize.ensures
+
+pub normalize_last-returns-in_ok-row-in-Cat : goal.normalize_last-returns-in_ok-row-in-Cat
+normalize_last-returns-in_ok-row-in-Cat t c =
+    let d = direction_of c.args.walk.now in
+    let start = sym c.if-take_only_part.ensures ∙ ap tree c.in-Cat.is ∙ tree-Cat c.in-Cat.parts in
+    let keeps = rw c.in-Cat.parts-is at c.normalize_parts.ensures.keeps in
+    let finished = rw (c.in-Cat.is, out-Cat, tree-Cat) at c.finish_cat.ensures in
+    rw start (Normalized-after d _ _ _ _ keeps finished)
+
+pub normalize_last-returns-in_default : goal.normalize_last-returns-in_default
+normalize_last-returns-in_default t c =
+    rw (sym c.if-take_only_part.ensures) (c.finish_leaf.ensures (direction_of c.args.walk.now))
+
+pub normalize_parts-normalize-requires : goal.normalize_parts-normalize-requires
+normalize_parts-normalize-requires t c =
+    let l = c.loop-i in
+    let node = c.index_mut-part.result.now in
+    let part = IsPart-at l.parts.items l.i (search rules) node c.index_mut-part.ensures.value _ _ l.invariant.stands.keeps c.requires in
+    let smaller = units_at l.parts.items l.i (search rules) node c.index_mut-part.ensures.value c.args.parts.now.items l.invariant.unvisited in
+    (omega (arith, smaller), part)
+
+pub normalize_parts-returns-in_err-facts-clause-keeps : goal.normalize_parts-returns-in_err-facts-clause-keeps
+normalize_parts-returns-in_err-facts-clause-keeps t c =
+    let l = c.loop-i in
+    let node = c.index_mut-part.result.now in
+    StandsFor-part l.parts.items l.i (search rules) c.normalize.new.node _ c.args.parts.now.items node c.index_mut-part.ensures.value _
+    l.invariant.stands c.normalize.ensures
+
+pub normalize_parts-returns-in_err-add-clause-keeps : goal.normalize_parts-returns-in_err-add-clause-keeps
+normalize_parts-returns-in_err-add-clause-keeps t c =
+    let l = c.loop-i in
+    let node = c.index_mut-part.result.now in
+    StandsFor-part l.parts.items l.i (search rules) c.normalize.new.node _ c.args.parts.now.items node c.index_mut-part.ensures.value _
+    l.invariant.stands c.normalize.ensures
+
+pub normalize_parts-loop-i-preserved : goal.normalize_parts-loop-i-preserved
+normalize_parts-loop-i-preserved t c =
+    let l = c.loop-i in
+    let node = c.index_mut-part.result.now in
+    let old = c.args.parts.now.items in
+    let new = c.normalize.new.node in
+    let more = c.in_ok-add.ensures (trees (take l.i l.parts.items)) (tree new) l.invariant.facts c.in_ok-facts.ensures.facts c.is_cat.ensures in
+    record {
+      length = length-set l.parts.items l.i new ∙ l.invariant.length;
+      unvisited = unvisited-next l.parts.items old l.i new l.invariant.unvisited;
+      stands = StandsFor-part l.parts.items l.i (search rules) new _ old node c.index_mut-part.ensures.value _ l.invariant.stands
+          c.normalize.ensures;
+      normal = more_normal l.parts.items l.i (search rules) new l.invariant.normal c.in_ok-facts.ensures.normal;
+      facts = subst (λ (ts : Trees). HasRowFacts c.add.new.self ts) (sym (taken l.parts.items l.i (search rules) new)) more;
+    }
+
+pub normalize_up-normalize_alt-requires : goal.normalize_up-normalize_alt-requires
+normalize_up-normalize_alt-requires t c =
+    let l = c.loop-alloc in
+    let shifted = c.loop-alloc-test.ensures in (
+      omega (arith, units_up (tree l.above) (tree l.node) _ _ shifted, l.invariant.smaller),
+      (
+        IsPart_up (tree l.above) (tree l.node) _ _ shifted _ _ l.invariant.stands c.requires.part,
+        onto_up (tree l.above) (tree l.node) _ _ shifted l.right l.invariant.normal l.invariant.facts,
+      ),
+    )
+
+pub normalize_up-loop-alloc-preserved : goal.normalize_up-loop-alloc-preserved
+normalize_up-loop-alloc-preserved t c =
+    let l = c.loop-alloc in
+    let shifted = c.loop-alloc-test.ensures in
+    record {
+      stands = stands_up (tree l.above) (tree l.node) _ _ shifted _ _ _ _ l.invariant.stands c.in-Ok.ensures;
+      normal = c.in-Ok.ensures.normal;
+      facts = c.in-Ok.ensures.facts;
+      smaller = omega (arith, units_up (tree l.above) (tree l.node) _ _ shifted, l.invariant.smaller);
+      plain = λ clean.
+          plain_up (tree l.above) (tree l.node) _ _ shifted _ _ _ c.in-Ok.here l.invariant.stands c.in-Ok.ensures clean.0;
+    }
+
+pub normalize_up-returns-in-Err : goal.normalize_up-returns-in-Err
+normalize_up-returns-in-Err t c =
+    let l = c.loop-alloc in
+    let shifted = c.loop-alloc-test.ensures in
+    rw c.relink.ensures
+    (Finished-error _ _ _ _ _ refl (stands_up (tree l.above) (tree l.node) _ _ shifted _ _ _ _ l.invariant.stands c.in-Err.ensures))
+
+-- a node around a body
+
+pub normalize_last-finish_wrapper-requires-clause-small : goal.normalize_last-finish_wrapper-requires-clause-small
+normalize_last-finish_wrapper-requires-clause-small t c one =
+    let part = subst (λ (u : Tree). IsPart u) (sym c.if-take_only_part.ensures) c.requires.part in
+    small_kept (direction_of c.args.walk.now) _ _ c.may_unroll-small.result c.normalize_body.ensures.keeps part c.may_unroll-small.ensures one
+
+pub normalize_last-returns-in_ok-body-in-CaptureGroup : goal.normalize_last-returns-in_ok-body-in-CaptureGroup
+normalize_last-returns-in_ok-body-in-CaptureGroup t c =
+    let d = direction_of c.args.walk.now in
+    let keeps = c.normalize_body.ensures.keeps in
+    rw (sym c.if-take_only_part.ensures)
+    (Normalized-finished _ d _ _ _ _ keeps c.finish_wrapper.ensures
+    (wrapper_clean d _ _ c.may_unroll-small.result c.in_ok-body-in-CaptureGroup.body keeps c.may_unroll-small.ensures c.in_ok-body-in-CaptureGroup.ensures.plain))

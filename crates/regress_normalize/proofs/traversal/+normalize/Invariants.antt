@@ -1,0 +1,59 @@
+-- What the traversal so far has made of the whole.
+use Rattle.std.proofs.Common.{◌≡◌, ◌≤◌, ◌+◌, ◌*◌, length, drop, take}
+use Rattle.regress_tree.specs.NormalForm.{IsNormal}
+use Rattle.regress_tree.specs.Spine.{reattach}
+use Rattle.regress_tree.specs.Tree.{tree, trees, cat}
+use Rattle.regress_tree.specs.Units.{units, units_in_row}
+use Rattle.regress_tree.specs.Walk.{direction_of}
+use Rattle.regress_normalize.specs.Normalized.{RowIsNormal}
+use Rattle.regress_normalize.specs.PartFacts.{HasFacts, IsPlain, HasRowFacts}
+use Rattle.regress_normalize.specs.Steps.{StandsFor}
+use Rattle.regress_normalize.proofs.TraversalLemmas.{units_above, units_left}
+use Rattle.regress_normalize.proofs.traversal.+normalize.Given as goal
+
+-- the alternatives below are in normal form
+abbrev pub invariant-normalize_up-loop-alloc : goal.invariant-normalize_up-loop-alloc
+invariant-normalize_up-loop-alloc l =
+    let old = reattach (tree l.initial.above) (tree l.initial.node) in
+    record {
+      stands : StandsFor (direction_of l.walk) old (reattach (tree l.above) (tree l.node));
+      normal : IsNormal (tree l.node);
+      facts : HasFacts l.right (tree l.node);
+      plain : IsNormal old × IsPlain l.fn.last (tree l.initial.node) → IsPlain l.right (tree l.node);
+      smaller : units_above (tree l.above) ≤ units_above (tree l.initial.above);
+    }
+
+abbrev pub decreases-normalize_up-loop-alloc : goal.decreases-normalize_up-loop-alloc
+decreases-normalize_up-loop-alloc l = units_above (tree l.above)
+
+-- the parts so far are in normal form
+abbrev pub invariant-normalize_parts-loop-i : goal.invariant-normalize_parts-loop-i
+invariant-normalize_parts-loop-i l =
+    let old = l.initial.parts.items in
+    record {
+      length : length l.parts.items ≡ length old;
+      unvisited : drop l.i l.parts.items ≡ drop l.i old;
+      stands : StandsFor (direction_of l.walk) (cat (trees old)) (cat (trees l.parts.items));
+      normal : RowIsNormal (trees (take l.i l.parts.items));
+      facts : HasRowFacts l.row (trees (take l.i l.parts.items));
+    }
+
+-- Each call is on a part, or on what is further down in this list. Right sides above are finished, and count no more.
+
+abbrev pub decreases-normalize : goal.decreases-normalize
+decreases-normalize l = 6 * units (tree l.node.now) + 4
+
+abbrev pub decreases-normalize_last : goal.decreases-normalize_last
+decreases-normalize_last l = 6 * units (tree l.node.now) + 3
+
+abbrev pub decreases-normalize_body : goal.decreases-normalize_body
+decreases-normalize_body l = 6 * units (tree l.node.now) + 2
+
+abbrev pub decreases-normalize_parts : goal.decreases-normalize_parts
+decreases-normalize_parts l = 6 * units_in_row (trees l.parts.now.items) + 5
+
+abbrev pub decreases-normalize_up : goal.decreases-normalize_up
+decreases-normalize_up l = 6 * units_above (tree l.above) + 5
+
+abbrev pub decreases-normalize_alt : goal.decreases-normalize_alt
+decreases-normalize_alt l = 6 * units_left (tree l.node.now)

@@ -1,0 +1,12 @@
+use Rattle.std.proofs.Common.{◌≡◌}
+use Rattle.regress_tree.specs.Spine.{reattach}
+use Rattle.regress_tree.specs.Tree.{tree}
+use Rattle.regress_tree.specs.Units.{units}
+use Rattle.regress_normalize.proofs.traversal.go_down.Given as goal
+
+-- the whole is still the old one
+abbrev pub invariant-loop : goal.invariant-loop
+invariant-loop l = reattach (tree l.above) (tree l.node) ≡ tree l.initial.node
+
+abbrev pub decreases-loop : goal.decreases-loop
+decreases-loop l = units (tree l.node)

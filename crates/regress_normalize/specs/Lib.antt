@@ -1,0 +1,5 @@
+pub mod PartFacts
+pub mod Normalized
+pub mod Packed
+pub mod Wrapped
+pub mod Steps

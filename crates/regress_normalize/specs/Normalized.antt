@@ -1,0 +1,59 @@
+-- What normalizing makes of a part.
+use Rattle.std.specs.Prelude.{◌≡◌, Result, IfOk, OnOk}
+use Rattle.std.specs.declared.alloc.AllocError.{AllocError}
+use Rattle.regress_tree.specs.NormalForm.{IsNormal}
+use Rattle.regress_tree.specs.Reading.{Direction}
+use Rattle.regress_tree.specs.Tree.{Wrapper, Tree, Trees, leaf, cat, alt, wrapped, no_trees, more_trees}
+use Rattle.regress_rewrite.specs.Law.{Keeps}
+use Rattle.regress_normalize.specs.PartFacts.{HasFacts, IsPlain, HasRowFacts}
+use Rattle.regress_normalize.specs.declared.facts.PartFacts.{PartFacts}
+use Rattle.regress_normalize.specs.declared.facts.RowFacts.{RowFacts}
+
+-- The new tree stands for the old one, whatever is answered. Unless memory was wanting it is in normal form and has the facts.
+pub record Finished (clean : Type 0) (d : Direction) (old new : Tree) (answer : Result PartFacts AllocError) : Type 0 where
+  pub keeps : Keeps d old new
+  pub normal : OnOk answer (IsNormal new)
+  pub facts : IfOk answer (λ facts. HasFacts facts new)
+  -- and what is clean is left as it is
+  pub left : clean → new ≡ old
+  pub plain : clean → IfOk answer (λ facts. IsPlain facts new)
+
+-- clean is what is in normal form
+abbrev pub Normalized : Direction → (old new : Tree) → Result PartFacts AllocError → Type 0
+Normalized d old new answer = Finished (IsNormal old) d old new answer
+
+-- what holds a part with these facts is clean if it is in normal form, and they promote no loop that stands
+abbrev pub IsCleanAround : PartFacts → Tree → Type 0
+IsCleanAround facts (leaf l) = IsNormal (leaf l)
+IsCleanAround facts (cat parts) = IsNormal (cat parts)
+IsCleanAround facts (alt left right) = IsNormal (alt left right)
+IsCleanAround facts (wrapped w body) = IsNormal (wrapped w body) × IsPlain facts body
+
+-- each tree of the row is in normal form
+abbrev pub RowIsNormal : Trees → Type 0
+RowIsNormal no_trees = Unit {0}
+RowIsNormal (more_trees t ts) = IsNormal t × RowIsNormal ts
+
+-- ---- nodes whose children are in normal form, with what is known of these
+
+pub record IsCatOf (row : RowFacts) (t : Tree) : Type 0 where
+  pub parts : Trees
+  pub is : t ≡ cat parts
+  pub normal : RowIsNormal parts
+  pub facts : HasRowFacts row parts
+
+pub record IsAltOf (left_facts right_facts : PartFacts) (t : Tree) : Type 0 where
+  pub left : Tree
+  pub right : Tree
+  pub is : t ≡ alt left right
+  pub left_normal : IsNormal left
+  pub left_has : HasFacts left_facts left
+  pub right_normal : IsNormal right
+  pub right_has : HasFacts right_facts right
+
+pub record IsWrapperOf (facts : PartFacts) (t : Tree) : Type 0 where
+  pub wrapper : Wrapper
+  pub body : Tree
+  pub is : t ≡ wrapped wrapper body
+  pub normal : IsNormal body
+  pub has : HasFacts facts body

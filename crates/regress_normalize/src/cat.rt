@@ -1,0 +1,221 @@
+//! A `Cat` whose parts are in normal form.
+ghost use Rattle.std.specs.Prelude.{◌≡◌, ◌≢◌, ◌⊎◌, ◌<◌, ◌≤◌, ◌+◌, ◌&&◌, ◌||◌, true, false, IfOk, OnOk, OnErr, IfSome, None, Ok, vec_len, vec_capacity};
+ghost use Rattle.regress_tree.specs.NodeTests.{is_empty, leaf_always_fails};
+ghost use Rattle.regress_tree.specs.Reading.{Direction};
+ghost use Rattle.regress_tree.specs.Shapes.{has_bytes, has_cat, has_neighbours, some_in_row, is_short, is_string_set};
+ghost use Rattle.regress_tree.specs.Tree.{Leaf, Trees, leaf, empty, cat, no_trees, more_trees, row_append, tree, trees};
+ghost use Rattle.regress_tree.specs.Units.{charge_of_leaf};
+ghost use Rattle.regress_tree.specs.Walk.{direction_of};
+ghost use Rattle.regress_rewrite.specs.Law.{IsPart, Keeps};
+ghost use Rattle.regress_rewrite.specs.Splice.{spliced};
+ghost use Rattle.regress_normalize.specs.Normalized.{Normalized, IsCatOf};
+ghost use Rattle.regress_normalize.specs.Packed.{in_text_order, Packs, IsPacked, TakesBytes, last_in_row, IsRowPacked, IsFactsOf};
+ghost use Rattle.regress_normalize.specs.PartFacts.{HasFacts};
+
+use crate::facts::{PartFacts, RowFacts};
+use regress_rewrite::flatten::splice;
+use regress_rewrite::form_literal_bytes::{append, has_bytes};
+use regress_tree::ir::{Node, NodeList, Walk};
+use std::alloc::{AllocError, Global};
+use std::mem;
+
+/// Brings a `Cat` of parts in normal form, with these facts, into normal form. The time grows as the parts do, those of
+/// a part that is a `Cat` counted in its place, and as the bytes that are joined.
+pub fn finish_cat(
+    alloc: Global,
+    node: &mut Node,
+    row: &RowFacts,
+    walk: &Walk,
+) -> Result<PartFacts, AllocError>
+    requires part { IsPart (tree node.old) }
+    requires parts { IsCatOf row.now (tree node.old) }
+    ensures { Normalized (direction_of walk.now) (tree node.old) (tree node.new) result }
+{
+    if row.always_fails() {
+        *node = Node::ByteSet(Vec::new(alloc));
+        return Ok(leaf_facts(true));
+    }
+    let Node::Cat(parts) = node else {
+        unreachable!()
+    };
+    let taken = pack(alloc, parts, walk)?;
+    let Some(alone) = stand_in(parts) else {
+        return facts_of(row, taken, true);
+    };
+    *node = alone;
+    if node.is_empty() {
+        return Ok(leaf_facts(false));
+    }
+    facts_of(row, taken, false)
+}
+
+/// What is known of a leaf that is charged as one.
+fn leaf_facts(always_fails: bool) -> PartFacts
+    ensures facts { (l : Leaf) → charge_of_leaf l ≡ 1 → is_string_set l ≡ false → leaf_always_fails l ≡ always_fails → HasFacts result (leaf l) }
+    ensures other { result.was_one_character ≡ false }
+{
+    PartFacts {
+        charge: 1,
+        levels: 1,
+        has_group: false,
+        has_loop: false,
+        has_string_set: false,
+        always_fails,
+        was_one_character: false,
+    }
+}
+
+/// What is known of a `Cat` of these parts once so many were taken away, or of the one part that is left. Each is
+/// charged as one.
+fn facts_of(row: &RowFacts, taken: usize, cat: bool) -> Result<PartFacts, AllocError>
+    requires { taken ≤ row.now.charge }
+    ensures cat { cat ≡ true → IfOk result (IsFactsOf row.now taken 1) }
+    ensures alone { cat ≡ false → IfOk result (IsFactsOf row.now taken 0) }
+{
+    let around = usize::from(cat);
+    Ok(PartFacts {
+        charge: (row.charge - taken).checked_add(around).ok_or(AllocError)?,
+        levels: row.levels.checked_add(around).ok_or(AllocError)?,
+        has_group: row.has_group,
+        has_loop: row.has_loop,
+        has_string_set: row.has_string_set,
+        always_fails: false,
+        was_one_character: false,
+    })
+}
+
+/// Takes out what is to stand in the place of a `Cat` of fewer than two parts.
+fn stand_in(parts: &mut NodeList) -> Option<Node>
+    ensures some { IfSome result (λ node. ((trees parts.old.items ≡ no_trees) × (tree node ≡ leaf empty))
+        ⊎ (trees parts.old.items ≡ more_trees (tree node) no_trees)) }
+    ensures none { result ≡ None → ((trees parts.new.items ≡ trees parts.old.items) × (is_short (trees parts.old.items) ≡ false)) }
+{
+    if parts.len() > 1 {
+        return None;
+    }
+    Some(parts.pop().unwrap_or(Node::Empty))
+}
+
+/// Puts the parts of each `Cat` in its place, leaves out each `Empty`, and joins the bytes of neighbours. It answers
+/// how many parts were taken away. After an error the row means what it did.
+fn pack(alloc: Global, parts: &mut NodeList, walk: &Walk) -> Result<usize, AllocError>
+    ensures keeps { Keeps (direction_of walk.now) (cat (trees parts.old.items)) (cat (trees parts.new.items)) }
+    ensures packed { IfOk result (IsRowPacked (direction_of walk.now) (trees parts.old.items) (trees parts.new.items)) }
+    ensures left { has_cat (trees parts.old.items) ≡ false → IsPacked (trees parts.old.items) → trees parts.new.items ≡ trees parts.old.items }
+{
+    splice_cats(alloc, parts)?;
+    let len = parts.len();
+    close_seams(alloc, parts, walk)?;
+    Ok(len - parts.len())
+}
+
+/// Puts the parts of each `Cat` in its place.
+fn splice_cats(alloc: Global, parts: &mut NodeList) -> Result<(), AllocError>
+    ensures ok { OnOk result (trees parts.new.items ≡ spliced (trees parts.old.items)) }
+    ensures err { OnErr result (trees parts.new.items ≡ trees parts.old.items) }
+{
+    if !parts.iter().any(Node::is_cat) {
+        return Ok(());
+    }
+    splice(alloc, parts)
+}
+
+/// Whether there is an `Empty`, or two neighbours have bytes.
+fn has_seams(parts: &[Node]) -> bool
+    ensures { result ≡ (some_in_row is_empty (trees parts.now) || has_neighbours has_bytes (trees parts.now)) }
+{
+    parts.iter().any(Node::is_empty) || have_neighbours_bytes(parts)
+}
+
+/// Whether two neighbours have bytes.
+fn have_neighbours_bytes(parts: &[Node]) -> bool
+    ensures { result ≡ has_neighbours has_bytes (trees parts.now) }
+{
+    let mut before = false;
+    for part in parts {
+        let here = has_bytes(part);
+        if before && here {
+            return true;
+        }
+        before = here;
+    }
+    false
+}
+
+/// Leaves out each `Empty`, and joins the bytes of neighbours. Where the walk is in a lookbehind the parts stand turned:
+/// they are taken in the order of the text, so that bytes are always added at the end.
+fn close_seams(alloc: Global, parts: &mut NodeList, walk: &Walk) -> Result<(), AllocError>
+    ensures packs { Packs (direction_of walk.now) (trees parts.old.items) (trees parts.new.items) }
+    ensures packed { OnOk result (IsPacked (trees parts.new.items)) }
+    ensures left { IsPacked (trees parts.old.items) → trees parts.new.items ≡ trees parts.old.items }
+{
+    if !has_seams(parts) {
+        return Ok(());
+    }
+    if !walk.in_lookbehind {
+        return close_in_text_order(alloc, parts);
+    }
+    parts.reverse();
+    let closed = close_in_text_order(alloc, parts);
+    parts.reverse();
+    closed
+}
+
+/// Leaves out each `Empty`, and joins the bytes of neighbours, of which the first one's come first. Each part is moved
+/// once. Where memory is refused for bytes, two neighbours stay apart.
+fn close_in_text_order(alloc: Global, parts: &mut NodeList) -> Result<(), AllocError>
+    ensures packs { (d : Direction) → Packs d (in_text_order d (trees parts.old.items)) (in_text_order d (trees parts.new.items)) }
+    ensures packed { OnOk result (IsPacked (trees parts.new.items)) }
+{
+    let mut packed = Vec::with_capacity(alloc, parts.len())?;
+    let mut answer = Ok(());
+    // There is room for each part: nothing is lost.
+    for part in mem::replace(parts, Vec::new(alloc)) {
+        let pushed = push_part(&mut packed, part);
+        answer = answer.and(pushed);
+    }
+    *parts = packed;
+    answer
+}
+
+/// Puts a part behind the others, if it is no `Empty`, or its bytes behind those of the last one. Where memory is refused
+/// for the bytes the part stands by itself.
+fn push_part(packed: &mut NodeList, part: Node) -> Result<(), AllocError>
+    requires { vec_len packed.old < vec_capacity packed.old }
+    ensures packs { (d : Direction) (rest : Trees) → Packs d (in_text_order d (row_append (trees packed.old.items) (more_trees (tree part) rest)))
+        (in_text_order d (row_append (trees packed.new.items) rest)) }
+    ensures packed { OnOk result (IsPacked (trees packed.old.items) → IsPacked (trees packed.new.items)) }
+    ensures len { vec_len packed.new ≤ vec_len packed.old + 1 }
+    ensures capacity { vec_capacity packed.old ≤ vec_capacity packed.new }
+{
+    let mut part = part;
+    if part.is_empty() {
+        return Ok(());
+    }
+    match take_bytes(packed, &mut part) {
+        Ok(true) => Ok(()),
+        Ok(false) => Ok(packed.push(part)?),
+        Err(e) => {
+            packed.push(part)?;
+            Err(e)
+        }
+    }
+}
+
+/// Moves the bytes of a part behind those of the last one, if both have some, and answers whether they had.
+fn take_bytes(packed: &mut NodeList, part: &mut Node) -> Result<bool, AllocError>
+    ensures taken { result ≡ Ok true → TakesBytes (trees packed.old.items) (tree part.old) (trees packed.new.items) }
+    ensures apart { result ≡ Ok false → (last_in_row has_bytes (trees packed.old.items) && has_bytes (tree part.old)) ≡ false }
+    ensures kept { result ≢ Ok true → (trees packed.new.items ≡ trees packed.old.items) × (tree part.new ≡ tree part.old) }
+    ensures len { vec_len packed.new ≡ vec_len packed.old }
+    ensures capacity { vec_capacity packed.new ≡ vec_capacity packed.old }
+{
+    let Some(last) = packed.last_mut() else {
+        return Ok(false);
+    };
+    if !has_bytes(last) || !has_bytes(part) {
+        return Ok(false);
+    }
+    append(last, part)?;
+    Ok(true)
+}

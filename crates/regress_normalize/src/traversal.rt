@@ -1,0 +1,182 @@
+//! One traversal of a tree, children before parents.
+ghost use Rattle.std.specs.Prelude.{◌≡◌, true, false, IfOk, OnOk, MatchBool};
+ghost use Rattle.regress_tree.specs.Shapes.{on_wrapper};
+ghost use Rattle.regress_tree.specs.NormalForm.{IsNormal};
+ghost use Rattle.regress_tree.specs.Spine.{is_alt, reattach};
+ghost use Rattle.regress_tree.specs.Tree.{tree, trees, leaf, empty, cat, no_trees, more_trees};
+ghost use Rattle.regress_tree.specs.Walk.{direction_of};
+ghost use Rattle.regress_rewrite.specs.Law.{IsPart};
+ghost use Rattle.regress_normalize.specs.Normalized.{Finished, Normalized, IsCleanAround, RowIsNormal, IsWrapperOf};
+ghost use Rattle.regress_normalize.specs.PartFacts.{HasFacts, IsPlain, HasRowFacts};
+ghost use Rattle.regress_normalize.specs.Steps.{StandsFor, IsAltOnto};
+
+use crate::alternatives::finish_alt;
+use crate::cat::finish_cat;
+use crate::facts::{PartFacts, RowFacts};
+use crate::leaf::finish_leaf;
+use crate::wrapper::finish_wrapper;
+use regress_rewrite::unroll_loops::may_unroll;
+use regress_tree::ir::spine::{relink, shift};
+use regress_tree::ir::{Node, NodeList, Walk};
+use std::alloc::{AllocError, Global};
+
+/// Brings a part of a tree into normal form, and answers what is then known of it. Of the walk the direction alone is
+/// looked at. After an error some nodes are rewritten and others not; the part means what it did.
+#[cycle(normalize)]
+pub fn normalize(alloc: Global, node: &mut Node, walk: &Walk) -> Result<PartFacts, AllocError>
+    requires { IsPart (tree node.old) }
+    ensures { Normalized (direction_of walk.now) (tree node.old) (tree node.new) result }
+{
+    let mut above = Node::Empty;
+    go_down(node, &mut above);
+    match normalize_last(alloc, node, walk) {
+        Ok(last) => normalize_up(alloc, node, above, last, walk),
+        Err(e) => {
+            relink(node, above);
+            Err(e)
+        }
+    }
+}
+
+/// Goes down the right sides of alternatives to the last one. What it has gone down is `above`, the last one first.
+fn go_down(node: &mut Node, above: &mut Node)
+    requires { tree above.old ≡ leaf empty }
+    ensures whole { reattach (tree above.new) (tree node.new) ≡ tree node.old }
+    ensures last { is_alt (tree node.new) ≡ false }
+{
+    while shift(node, above) {}
+}
+
+/// Brings the alternatives above a node, the last one first, into normal form. The node is their last right side, in
+/// normal form, with these facts.
+#[cycle(normalize)]
+fn normalize_up(
+    alloc: Global,
+    node: &mut Node,
+    above: Node,
+    last: PartFacts,
+    walk: &Walk,
+) -> Result<PartFacts, AllocError>
+    requires part { IsPart (reattach (tree above) (tree node.old)) }
+    requires normal { IsNormal (tree node.old) }
+    requires facts { HasFacts last (tree node.old) }
+    ensures { Finished (IsNormal (reattach (tree above) (tree node.old)) × IsPlain last (tree node.old)) (direction_of walk.now)
+        (reattach (tree above) (tree node.old)) (tree node.new) result }
+{
+    let mut above = above;
+    let mut right = last;
+    while shift(&mut above, node) {
+        match normalize_alt(alloc, node, &right, walk) {
+            Ok(here) => right = here,
+            Err(e) => {
+                relink(node, above);
+                return Err(e);
+            }
+        }
+    }
+    Ok(right)
+}
+
+/// Brings an `Alt` into normal form whose right side is, with these facts.
+#[cycle(normalize)]
+fn normalize_alt(
+    alloc: Global,
+    node: &mut Node,
+    right: &PartFacts,
+    walk: &Walk,
+) -> Result<PartFacts, AllocError>
+    requires part { IsPart (tree node.old) }
+    requires onto { IsAltOnto right.now (tree node.old) }
+    ensures { Normalized (direction_of walk.now) (tree node.old) (tree node.new) result }
+{
+    let Node::Alt(left, _) = node else {
+        unreachable!()
+    };
+    let left = normalize(alloc, left, walk)?;
+    finish_alt(node, &left, right)
+}
+
+/// Brings a node that is no `Alt` into normal form.
+#[cycle(normalize)]
+fn normalize_last(alloc: Global, node: &mut Node, walk: &Walk) -> Result<PartFacts, AllocError>
+    requires part { IsPart (tree node.old) }
+    requires other { is_alt (tree node.old) ≡ false }
+    ensures { Normalized (direction_of walk.now) (tree node.old) (tree node.new) result }
+{
+    if take_only_part(node) {
+        return normalize(alloc, node, walk);
+    }
+    match node {
+        Node::Cat(parts) => {
+            let row = normalize_parts(alloc, parts, walk)?;
+            finish_cat(alloc, node, &row, walk)
+        }
+        Node::CaptureGroup { .. }
+        | Node::Loop { .. }
+        | Node::Loop1CharBody { .. }
+        | Node::LookaroundAssertion { .. } => {
+            let small = may_unroll(node);
+            let body = normalize_body(alloc, node, walk)?;
+            finish_wrapper(alloc, node, &body, small, walk)
+        }
+        _ => finish_leaf(alloc, node),
+    }
+}
+
+/// Puts the part of a `Cat` of one in its place, and tells whether it did.
+fn take_only_part(node: &mut Node) -> bool
+    ensures { MatchBool result (tree node.old ≡ cat (more_trees (tree node.new) no_trees)) (tree node.new ≡ tree node.old) }
+{
+    let Node::Cat(parts) = node else {
+        return false;
+    };
+    if parts.len() != 1 {
+        return false;
+    }
+    match parts.pop() {
+        Some(part) => {
+            *node = part;
+            true
+        }
+        None => false,
+    }
+}
+
+/// Brings the parts of a `Cat` into normal form.
+#[cycle(normalize)]
+fn normalize_parts(alloc: Global, parts: &mut NodeList, walk: &Walk) -> Result<RowFacts, AllocError>
+    requires { IsPart (cat (trees parts.old.items)) }
+    ensures keeps { StandsFor (direction_of walk.now) (cat (trees parts.old.items)) (cat (trees parts.new.items)) }
+    ensures normal { OnOk result (RowIsNormal (trees parts.new.items)) }
+    ensures facts { IfOk result (λ row. HasRowFacts row (trees parts.new.items)) }
+{
+    let mut row = RowFacts::none();
+    for i in 0..parts.len() {
+        let part = &mut parts[i];
+        let facts = normalize(alloc, part, walk)?;
+        row.add(&facts, part.is_cat())?;
+    }
+    Ok(row)
+}
+
+/// Brings the node that a node holds into normal form.
+#[cycle(normalize)]
+fn normalize_body(alloc: Global, node: &mut Node, walk: &Walk) -> Result<PartFacts, AllocError>
+    requires part { IsPart (tree node.old) }
+    requires wrapper { on_wrapper (λ w. true) (tree node.old) ≡ true }
+    ensures keeps { StandsFor (direction_of walk.now) (tree node.old) (tree node.new) }
+    ensures body { IfOk result (λ body. IsWrapperOf body (tree node.new)) }
+    ensures plain { IsNormal (tree node.old) → IfOk result (λ body. IsCleanAround body (tree node.new)) }
+{
+    match node {
+        Node::CaptureGroup { contents, .. } => normalize(alloc, contents, walk),
+        Node::Loop { loopee, .. } => normalize(alloc, loopee, walk),
+        Node::Loop1CharBody { loopee, .. } => normalize(alloc, loopee, walk),
+        Node::LookaroundAssertion {
+            backwards,
+            contents,
+            ..
+        } => normalize(alloc, contents, &walk.looking(*backwards)),
+        _ => unreachable!(),
+    }
+}

@@ -1,0 +1,295 @@
+-- What fails by a part matches nothing, and becomes a set of nothing or the side that may match.
+use Rattle.std.proofs.Common.{◌≡◌, ℕ, zero, suc, ◌+◌, ◌≤◌, Bool, true, false, not, ◌||◌, inl, inr, List, [], ◌∷◌, ◌++◌, length, nat_le, Option, Some, None, refl, sym, ap, ap₂, subst, ◌∙◌, append-nil, arith}
+use Rattle.std.specs.Char.{IsScalar}
+use Rattle.std.specs.Prelude.{encode_utf8_all}
+use Rattle.std.specs.List.{flat_map}
+use Rattle.std.proofs.lemmas.Bool.{cases_Bool, true≢false, false≢true, and_parts, and_from, or_parts, leb-true}
+use Rattle.std.proofs.lemmas.List.Elements.{All-nil}
+use Rattle.regress_base.specs.Brackets.{is_accepted}
+use Rattle.regress_base.specs.Intervals.{code_point_max}
+use Rattle.regress_tree.specs.declared.ir.node.Node.{Node}
+use Rattle.regress_tree.specs.declared.ir.node.Quantifier.{Quantifier}
+use Rattle.regress_tree.specs.Reading.{Direction, Read, next_character, of_bytes}
+use Rattle.regress_tree.specs.Steps.{State, Step, moved, one_character}
+use Rattle.regress_tree.specs.Repetition.{unset, turn, turns, up_to, more_turns, repeat}
+use Rattle.regress_tree.specs.Setting.{Setting}
+use Rattle.regress_tree.specs.Matching.{steps, steps_in_row}
+use Rattle.regress_tree.specs.Tree.{Leaf, empty, goal, char, byte_sequence, byte_set, char_set, match_any, match_any_except_line_terminator, anchor, word_boundary, bracket, back_ref, string_set, Wrapper, capture_group, loop, loop_one, lookaround, Tree, Trees, leaf, cat, alt, wrapped, no_trees, more_trees, tree}
+use Rattle.regress_tree.specs.WellFormed.{captures, Position, one_character as at_one_character, inside, last, root, last_of, NotAsOneCharacter, AsOneCharacter, IsSmallSet, LeafMayStand, MayStand, RowMayStand}
+use Rattle.regress_tree.specs.Units.{units_of_leaf, weight, IsLess}
+use Rattle.regress_tree.specs.NodeTests.{leaf_always_fails, match_always_fails}
+use Rattle.regress_tree.specs.Shapes.{some_in_row, has_group, fails_by_part, is_failed_away, is_simplified_away}
+use Rattle.regress_tree.specs.Spine.{is_alt}
+use Rattle.regress_tree.proofs.laws.Accepting.{accepts_nothing}
+use Rattle.regress_tree.proofs.laws.Alike.{Alike-from_same}
+use Rattle.regress_tree.proofs.laws.ByteSequences.{one_character-agree}
+use Rattle.regress_tree.proofs.laws.Literals.{scalar_in_range}
+use Rattle.regress_tree.proofs.laws.Measures.{units-positive, IsLess-lighter}
+use Rattle.regress_tree.proofs.laws.Places.{left_of, right_of, IsLess-part}
+use Rattle.regress_tree.proofs.laws.Rows.{RowMayStand-more, MayStand-from_last}
+use Rattle.regress_rewrite.specs.Law.{IsPart, Keeps, IsLawful}
+use Rattle.regress_rewrite.specs.declared.rewrite.PassAction.TheVariants.{Replace}
+use Rattle.regress_rewrite.proofs.GroupLemmas.{captures-free}
+use Rattle.regress_rewrite.proofs.laws.Keeps.{Keeps-part}
+use Rattle.regress_rewrite.proofs.LawfulLemmas.{replace_lawful}
+
+-- ---- what fails
+
+-- From no state is there an outcome; and it weighs at least so much.
+pub record Fails (least : ℕ) (t : Tree) : Type 0 where
+  pub none : (setting : Setting) (bytes : List ℕ) (d : Direction) (s : State) → steps setting bytes d t s ≡ []
+  pub heavy : least ≤ weight t
+
+moved-none : (s : State) (read : Option Read) → moved (λ c. false) s read ≡ []
+moved-none s None = refl
+moved-none s (Some read) = refl
+
+pub one_character-none : (d : Direction) (bytes : List ℕ) (test : ℕ → Bool) → ((c : ℕ) → IsScalar c → test c ≡ false) → (s : State) →
+    one_character d (of_bytes bytes) test s ≡ []
+unfolding one_character
+one_character-none d bytes test none s =
+    one_character-agree d bytes test (λ c. false) none s ∙ moved-none s (next_character d (of_bytes bytes) s.place)
+
+leaf_fails : (l : Leaf) → leaf_always_fails l ≡ true → (n : ℕ) (p : Position) → LeafMayStand n l p → Fails 2 (leaf l)
+leaf_fails empty is n p m = absurd (false≢true is)
+leaf_fails goal is n p m = absurd (false≢true is)
+leaf_fails (char c) is n p m = absurd (false≢true is)
+leaf_fails (byte_sequence bytes) is n p m = absurd (false≢true is)
+leaf_fails (byte_set []) is n p m = record {
+  none = λ setting bytes d s. one_character-none d bytes (λ c. false) (λ c scalar. refl) s;
+  heavy = omega arith;
+}
+leaf_fails (byte_set (b ∷ members)) is n p m = absurd (false≢true is)
+leaf_fails (char_set []) is n p m = record {
+  none = λ setting bytes d s. one_character-none d bytes (λ c. false) (λ c scalar. refl) s;
+  heavy = omega arith;
+}
+leaf_fails (char_set (c ∷ members)) is n p m = absurd (false≢true is)
+leaf_fails match_any is n p m = absurd (false≢true is)
+leaf_fails match_any_except_line_terminator is n p m = absurd (false≢true is)
+leaf_fails (anchor kind multiline) is n p m = absurd (false≢true is)
+leaf_fails (word_boundary invert unicode_icase) is n p m = absurd (false≢true is)
+leaf_fails (bracket invert intervals) is n p m = record {
+  none = λ setting bytes d s. one_character-none d bytes (is_accepted invert intervals)
+      (λ c scalar. accepts_nothing invert intervals m.canonical is c (scalar_in_range c scalar)) s;
+  heavy = omega arith;
+}
+leaf_fails (back_ref group icase) is n p m = absurd (false≢true is)
+leaf_fails (string_set strings icase) is n p m = absurd (false≢true is)
+
+pub node_fails : (t : Tree) → match_always_fails t ≡ true → (n : ℕ) (p : Position) → MayStand n t p → Fails 2 t
+node_fails (leaf l) is n p m = leaf_fails l is n p m
+node_fails (cat parts) is n p m = absurd (false≢true is)
+node_fails (alt left right) is n p m = absurd (false≢true is)
+node_fails (wrapped w body) is n p m = absurd (false≢true is)
+
+-- a row with a part that fails
+
+flat_map-none : (f : Step) (states : List State) → ((s : State) → f s ≡ []) → flat_map f states ≡ []
+flat_map-none f [] none = refl
+flat_map-none f (s ∷ states) none = ap₂ ◌++◌ (none s) (flat_map-none f states none)
+
+row_fails-first : (t : Tree) (ts : Trees) → Fails 2 t → Fails 4 (cat (more_trees t ts))
+row_fails-first t ts first = record {
+  none = λ setting bytes d s. ap (flat_map (steps_in_row setting bytes d ts)) (first.none setting bytes d s);
+  heavy = omega (arith, first.heavy);
+}
+
+row_fails-later : (t : Tree) (ts : Trees) → Fails 4 (cat ts) → Fails 4 (cat (more_trees t ts))
+row_fails-later t ts later = record {
+  none = λ setting bytes d s. flat_map-none (steps_in_row setting bytes d ts) (steps setting bytes d t s) (later.none setting bytes d);
+  heavy = omega (arith, later.heavy);
+}
+
+row_head : (n : ℕ) (t : Tree) (ts : Trees) (p : Position) → RowMayStand n (more_trees t ts) p → (q : Position) × MayStand n t q
+row_head n t no_trees p m = (p, m)
+row_head n t (more_trees u us) p m = (inside, m.0)
+
+row_tail : (n : ℕ) (t : Tree) (ts : Trees) (p : Position) → RowMayStand n (more_trees t ts) p → RowMayStand n ts p
+row_tail n t no_trees p m = tt
+row_tail n t (more_trees u us) p m = m.1
+
+pub row_fails : (ts : Trees) → some_in_row match_always_fails ts ≡ true → (n : ℕ) (p : Position) → RowMayStand n ts p → Fails 4 (cat ts)
+row_fails no_trees some n p m = absurd (false≢true some)
+row_fails (more_trees t ts) some n p m = elim (cases_Bool (match_always_fails t)) [
+  | inl is ↦
+      let here = row_head n t ts p m in
+      row_fails-first t ts (node_fails t is n here.0 here.1)
+  | inr is_not ↦
+      let others = sym (ap (λ b. b || some_in_row match_always_fails ts) is_not) ∙ some in
+      row_fails-later t ts (row_fails ts others n p (row_tail n t ts p m))
+]
+
+-- a loop of at least one turn
+
+turns-none : (n : ℕ) → 1 ≤ n → (f : Step) → ((s : State) → f s ≡ []) → (s : State) → turns n f s ≡ []
+turns-none zero least f none s = absurd (omega (arith, least))
+turns-none (suc n) least f none s = ap (flat_map (turns n f)) (none s)
+
+repeat-none : (bound : ℕ) (q : Quantifier) (start end : ℕ) (f : Step) → 1 ≤ q.min → ((s : State) → f s ≡ []) → (s : State) →
+    repeat bound q start end f s ≡ []
+unfolding repeat
+repeat-none bound q start end f least none s =
+    ap (flat_map (up_to q.greedy (more_turns bound q) (turn start end f)))
+    (turns-none q.min least (turn start end f) (λ t. none (unset start end t)) s)
+
+pub wrapper_fails : (w : Wrapper) (body : Tree) → fails_by_part (wrapped w body) ≡ true → IsPart (wrapped w body) → Fails 4 (wrapped w body)
+wrapper_fails (capture_group id name) body is part = absurd (false≢true is)
+wrapper_fails (loop q start end) body is part =
+    let both = and_parts (nat_le 1 q.min) (match_always_fails body) is in
+    let inner = node_fails body both.1 part.0 inside part.2.2 in
+    record {
+      none = λ setting bytes d s. repeat-none (length bytes + 1) q start end (steps setting bytes d body) (leb-true 1 q.min both.0)
+          (inner.none setting bytes d) s;
+      heavy = omega (arith, inner.heavy);
+    }
+wrapper_fails (loop_one q) body is part = absurd (false≢true is)
+wrapper_fails (lookaround negate backwards start end) body is part = absurd (false≢true is)
+
+pub tree_fails : (t : Tree) → is_alt t ≡ false → fails_by_part t ≡ true → IsPart t → Fails 4 t
+tree_fails (leaf l) other is part = absurd (false≢true is)
+tree_fails (cat parts) other is part = row_fails parts is part.0 (last_of part.1) part.2.1
+tree_fails (alt left right) other is part = absurd (true≢false other)
+tree_fails (wrapped w body) other is part = wrapper_fails w body is part
+
+-- ---- what stands for it
+
+pub parts_free : (t : Tree) → fails_by_part t ≡ true → (n : ℕ) (p : Position) → MayStand n t p → NotAsOneCharacter p
+parts_free (leaf l) is n p m = absurd (false≢true is)
+parts_free (cat parts) is n p m = m.0
+parts_free (alt left right) is n p m = m.0
+parts_free (wrapped w body) is n p m = m.0
+
+not_as_one : (p : Position) (P : Type 0) → NotAsOneCharacter p → AsOneCharacter p P
+not_as_one at_one_character P free = absurd free
+not_as_one inside P free = tt
+not_as_one last P free = tt
+not_as_one root P free = tt
+
+no_member : (greatest : ℕ) (p : Position) → NotAsOneCharacter p → IsSmallSet [] greatest p
+no_member greatest p free = record { bounded = All-nil _; small = omega arith; some = not_as_one p _ free }
+
+pub no_character : (p : Position) → NotAsOneCharacter p → IsSmallSet [] code_point_max p
+no_character = no_member code_point_max
+
+-- it matches nothing wherever it may not be the body of a loop over one character, and is no bracket
+record IsNothing (l : Leaf) : Type 0 where
+  none : (setting : Setting) (bytes : List ℕ) (d : Direction) (s : State) → steps setting bytes d (leaf l) s ≡ []
+  stands : (n : ℕ) (p : Position) → NotAsOneCharacter p → LeafMayStand n l p
+  small : units_of_leaf l ≤ 1
+  other : is_simplified_away (leaf l) ≡ false
+
+no_character_nothing : IsNothing (char_set [])
+no_character_nothing = record {
+  none = λ setting bytes d s. one_character-none d bytes (λ c. false) (λ c scalar. refl) s;
+  stands = λ n p free. no_member code_point_max p free;
+  small = omega arith;
+  other = refl;
+}
+
+no_byte_nothing : IsNothing (byte_set [])
+no_byte_nothing = record {
+  none = λ setting bytes d s. one_character-none d bytes (λ c. false) (λ c scalar. refl) s;
+  stands = λ n p free. no_member 127 p free;
+  small = omega arith;
+  other = refl;
+}
+
+nothing_keeps : (d : Direction) (t : Tree) (l : Leaf) → IsNothing l → fails_by_part t ≡ true → has_group t ≡ false → Fails 4 t →
+    Keeps d t (leaf l)
+nothing_keeps d t l nothing is free fails = record {
+  meaning = λ setting text is_text. Alike-from_same (λ s.
+      fails.none setting (encode_utf8_all text) d s ∙ sym (nothing.none setting (encode_utf8_all text) d s));
+  stands = λ n p m. nothing.stands n p (parts_free t is n p m);
+  captures = sym (captures-free t free);
+  account = omega (arith, units-positive t, nothing.small);
+  brackets = λ lacks. nothing.other;
+}
+
+-- an empty set of bytes stands for what fails by a part and has no capture group, if it is no `Alt`
+pub fails_keeps : (d : Direction) (t : Tree) → is_alt t ≡ false → fails_by_part t ≡ true → has_group t ≡ false → IsPart t →
+    Keeps d t (leaf (byte_set []))
+fails_keeps d t other is free part = nothing_keeps d t (byte_set []) no_byte_nothing is free (tree_fails t other is part)
+
+removed : (t : Tree) → fails_by_part t ≡ true → has_group t ≡ false → is_failed_away t ≡ true
+removed t is free = and_from (fails_by_part t) (not (has_group t)) is (ap not free)
+
+module _ (d : Direction) (t left : Tree) (is : fails_by_part t ≡ true) (free : has_group t ≡ false) where
+  replaced : (new : Tree) (node : Node) → tree node ≡ new → Keeps d t new → IsLess new t →
+      IsLawful is_failed_away true d t left (Replace node)
+  replaced new node node_is keeps is_less =
+      replace_lawful is_failed_away true d t (removed t is free) left node (subst (λ (u : Tree). Keeps d t u) (sym node_is) keeps)
+      (subst (λ (u : Tree). IsLess u t) (sym node_is) is_less)
+
+  -- a set of nothing
+  fail_lawful : (node : Node) → tree node ≡ leaf (char_set []) → Fails 4 t → IsLawful is_failed_away true d t left (Replace node)
+  fail_lawful node node_is fails =
+      replaced (leaf (char_set [])) node node_is (nothing_keeps d t (char_set []) no_character_nothing is free fails)
+      (IsLess-lighter (leaf (char_set [])) t (omega arith) (omega (arith, fails.heavy)))
+
+  pub whole_lawful : (node : Node) → is_alt t ≡ false → tree node ≡ leaf (char_set []) → IsPart t →
+      IsLawful is_failed_away true d t left (Replace node)
+  whole_lawful node other node_is part = fail_lawful node node_is (tree_fails t other is part)
+
+-- An `Alt`, by its sides.
+
+inside_stands : (n : ℕ) (t : Tree) (p : Position) → NotAsOneCharacter p → MayStand n t inside → MayStand n t p
+inside_stands n t p free m = MayStand-from_last n t p free (RowMayStand-more n t no_trees p m tt)
+
+module _ (d : Direction) (first second : Tree) where
+  pub right_keeps : Fails 2 first → captures first ≡ [] → Keeps d (alt first second) second
+  right_keeps fails none =
+      Keeps-part (right_of first) d second
+      (λ setting text is_text. Alike-from_same (λ s.
+      ap (λ states. states ++ steps setting (encode_utf8_all text) d second s) (fails.none setting (encode_utf8_all text) d s)))
+      (λ n p m. inside_stands n second p m.0 m.2) (sym (ap (λ cs. cs ++ captures second) none))
+
+  pub left_keeps : Fails 2 second → captures second ≡ [] → Keeps d (alt first second) first
+  left_keeps fails none =
+      Keeps-part (left_of second) d first
+      (λ setting text is_text. Alike-from_same (λ s.
+      ap (λ states. steps setting (encode_utf8_all text) d first s ++ states) (fails.none setting (encode_utf8_all text) d s)
+      ∙ append-nil _))
+      (λ n p m. inside_stands n first p m.0 m.1) (sym (ap (λ cs. captures first ++ cs) none ∙ append-nil _))
+
+  both_fail : Fails 2 first → Fails 2 second → Fails 4 (alt first second)
+  both_fail a b = record {
+    none = λ setting bytes d s. ap₂ ◌++◌ (a.none setting bytes d s) (b.none setting bytes d s);
+    heavy = omega (arith, a.heavy, b.heavy);
+  }
+
+  sides_lawful : (left : Tree) (node : Node) → fails_by_part (alt first second) ≡ true → has_group (alt first second) ≡ false →
+      IsPart (alt first second) →
+      (match_always_fails first ≡ false → tree node ≡ first) →
+      (match_always_fails first ≡ true → match_always_fails second ≡ false → tree node ≡ second) →
+      (match_always_fails first ≡ true → match_always_fails second ≡ true → tree node ≡ leaf (char_set [])) →
+      IsLawful is_failed_away true d (alt first second) left (Replace node)
+  sides_lawful left node is free part at_first at_second at_none =
+      let frees = or_parts (has_group first) (has_group second) free in
+      let fails_first : match_always_fails first ≡ true → Fails 2 first = λ e. node_fails first e part.0 inside part.2.1 in
+      let fails_second : match_always_fails second ≡ true → Fails 2 second = λ e. node_fails second e part.0 inside part.2.2 in
+      elim (cases_Bool (match_always_fails first)) [
+        | inl first_is ↦ elim (cases_Bool (match_always_fails second)) [
+          | inl second_is ↦
+              fail_lawful d (alt first second) left is free node (at_none first_is second_is)
+              (both_fail (fails_first first_is) (fails_second second_is))
+          | inr second_not ↦
+              replaced d (alt first second) left is free second node (at_second first_is second_not)
+              (right_keeps (fails_first first_is) (captures-free first frees.0)) (IsLess-part (right_of first) second)
+        ]
+        | inr first_not ↦
+            let second_is = sym (ap (λ b. b || match_always_fails second) first_not) ∙ is in
+            replaced d (alt first second) left is free first node (at_first first_not)
+            (left_keeps (fails_second second_is) (captures-free second frees.1)) (IsLess-part (left_of second) first)
+      ]
+
+-- the same of a tree that is one
+pub alt_lawful : (d : Direction) (t left first second : Tree) (node : Node) → t ≡ alt first second → fails_by_part t ≡ true →
+    has_group t ≡ false → IsPart t → (match_always_fails first ≡ false → tree node ≡ first) →
+    (match_always_fails first ≡ true → match_always_fails second ≡ false → tree node ≡ second) →
+    (match_always_fails first ≡ true → match_always_fails second ≡ true → tree node ≡ leaf (char_set [])) →
+    IsLawful is_failed_away true d t left (Replace node)
+alt_lawful d t left first second node t_is is free part at_first at_second at_none =
+    subst (λ (u : Tree). IsLawful is_failed_away true d u left (Replace node)) (sym t_is)
+    (sides_lawful d first second left node (sym (ap fails_by_part t_is) ∙ is) (sym (ap has_group t_is) ∙ free)
+    (subst (λ (u : Tree). IsPart u) t_is part) at_first at_second at_none)

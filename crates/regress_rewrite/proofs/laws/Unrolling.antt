@@ -1,0 +1,277 @@
+-- Unrolling keeps what a rewrite must keep, and makes the tree less.
+use Rattle.std.proofs.Common.{◌≡◌, ℕ, zero, suc, ◌+◌, ◌-◌, ◌*◌, ◌≤◌, Bool, true, false, not, ◌&&◌, ◌||◌, nat_le, inl, inr, List, [], ◌∷◌, ◌++◌, length, Option, Some, None, refl, sym, ap, ap₂, ◌∙◌, append-nil, flat_map, mul-le-mul, arith}
+use Rattle.std.specs.Prelude.{encode_utf8_all}
+use Rattle.std.specs.Option.{option_eq}
+use lib.Dec.{eqb}
+use Rattle.std.proofs.lemmas.Bool.{cases_Bool, false≢true, eqb-true}
+use Rattle.std.proofs.lemmas.Bool.Decides.{nat_tests}
+use mathlib.Core.Path.{fun_ext}
+use Rattle.regress_tree.specs.declared.ir.node.Node.{Node}
+use Rattle.regress_tree.specs.declared.ir.node.Quantifier.{Quantifier}
+use Rattle.regress_tree.specs.Copies.{HasNoGroup}
+use Rattle.regress_tree.specs.Matching.{steps, steps_in_row}
+use Rattle.regress_tree.specs.Measures.{total_in_row, levels}
+use Rattle.regress_tree.specs.Reading.{Direction}
+use Rattle.regress_tree.specs.Repetition.{turns, up_to, more_turns, repeat}
+use Rattle.regress_tree.specs.Setting.{Setting}
+use Rattle.regress_tree.specs.Shapes.{on_loop, has_loop, has_string_set, is_simplified_away, may_unroll, is_unrolled_away, is_zero, LacksShape, RowLacksShape}
+use Rattle.regress_tree.specs.Steps.{State, Step, ◌then_◌}
+use Rattle.regress_tree.specs.Tree.{Tree, Trees, leaf, cat, alt, wrapped, capture_group, loop, loop_one, lookaround, no_trees, more_trees, row_append, copies, tree, trees}
+use Rattle.regress_tree.specs.Units.{sizes, units, unrollables, unrollable, loops, account, charge, IsLess}
+use Rattle.regress_tree.specs.WellFormed.{captures, captures_in_row, Position, one_character, inside, last, root, last_of, NotAsOneCharacter, IsQuantifier, MayStand, RowMayStand}
+use Rattle.regress_tree.proofs.laws.Alike.{Alike-from_same}
+use Rattle.regress_tree.proofs.laws.Groups.{captures-none, turn-none}
+use Rattle.regress_tree.proofs.laws.Measures.{total-append, total-copies, units-le, some_node-copies, RowLacksShape-append}
+use Rattle.regress_tree.proofs.laws.Outcomes.{flat_map-stay}
+use Rattle.regress_tree.proofs.laws.Rows.{row_append-none, steps-append, captures-append, trees-append, RowMayStand-append}
+use Rattle.regress_rewrite.specs.declared.rewrite.PassAction.TheVariants.{Modified}
+use Rattle.regress_rewrite.specs.Law.{IsPart, Keeps, IsLawful}
+use Rattle.regress_rewrite.specs.Unroll.{further_turns, further_loop, unrolled, unrolled_loop, may_copy, small_account}
+use Rattle.regress_rewrite.proofs.CopiesLemmas.{HasNoGroup-from, loops-none, copies-stand, captures-copies}
+use Rattle.regress_rewrite.proofs.LawfulLemmas.{modified_lawful}
+
+-- The turns that may follow the least number.
+
+more_turns-further : (bound least : ℕ) (max : Option ℕ) (greedy : Bool) →
+    more_turns bound (further_turns (record { min = least; max = max; greedy = greedy }))
+    ≡ more_turns bound (record { min = least; max = max; greedy = greedy })
+more_turns-further bound least None greedy = refl
+more_turns-further bound least (Some max) greedy = omega arith
+
+more_turns-none : (bound least : ℕ) (max : Option ℕ) (greedy : Bool) →
+    is_zero (further_turns (record { min = least; max = max; greedy = greedy })).max ≡ true →
+    more_turns bound (record { min = least; max = max; greedy = greedy }) ≡ 0
+more_turns-none bound least None greedy none = absurd (false≢true none)
+more_turns-none bound least (Some max) greedy none = omega (arith, eqb-true (max - least) 0 none)
+
+-- what `==` tells of the greatest number
+pub is_zero-told : (max : Option ℕ) → is_zero max ≡ option_eq eqb max (Some 0)
+is_zero-told None = refl
+is_zero-told (Some n) = refl
+
+pub IsQuantifier-further : (least : ℕ) (max : Option ℕ) (greedy : Bool) →
+    IsQuantifier (further_turns (record { min = least; max = max; greedy = greedy }))
+IsQuantifier-further least None greedy = tt
+IsQuantifier-further least (Some max) greedy = omega arith
+
+pub inside-free : (p : Position) → NotAsOneCharacter (last_of p)
+inside-free one_character = tt
+inside-free inside = tt
+inside-free last = tt
+inside-free root = tt
+
+-- A loop that may be unrolled, whose body may be copied.
+
+pub record MayCopy (q : Quantifier) (start end : ℕ) (body : Tree) : Type 0 where
+  pub groupless : end ≤ start
+  pub least : 1 ≤ q.min
+  pub most : q.min ≤ 5
+  pub no_loop : has_loop body ≡ false
+  pub no_strings : has_string_set body ≡ false
+  pub units : units body ≤ 1280
+  pub levels : levels body ≤ 101
+
+pub MayCopy-from : (q : Quantifier) (start end : ℕ) (body : Tree) → may_copy q start end body ≡ true → MayCopy q start end body
+MayCopy-from q start end body may = by (has_loop body) refl (has_string_set body) refl may
+  where
+    by : (loops : Bool) → has_loop body ≡ loops → (strings : Bool) → has_string_set body ≡ strings →
+        (nat_le end start && (nat_le 1 q.min && nat_le q.min 5) && (not loops && not strings) && (nat_le (units body) 1280 && nat_le (levels body) 101)) ≡ true →
+        MayCopy q start end body
+    by true l strings s may = absurd (grind (arith, nat_tests))
+    by false l true s may = absurd (grind (arith, nat_tests))
+    by false l false s may = record {
+      groupless = grind (arith, nat_tests);
+      least = grind (arith, nat_tests);
+      most = grind (arith, nat_tests);
+      no_loop = l;
+      no_strings = s;
+      units = grind (arith, nat_tests);
+      levels = grind (arith, nat_tests);
+    }
+
+-- what may be unrolled has such a body
+pub may_copy-unrolled : (q : Quantifier) (start end : ℕ) (body : Tree) → (n : ℕ) → MayStand n body inside → may_unroll q start end body ≡ true →
+    may_copy q start end body ≡ true
+may_copy-unrolled q start end body n m may = by (has_loop body) (has_string_set body) may
+  where
+    small : units body ≤ 5 * charge body
+    small = units-le n body inside m
+
+    by : (loops strings : Bool) →
+        (nat_le end start && (nat_le 1 q.min && nat_le q.min 5) && (not loops && not strings) && (nat_le (charge body) 256 && nat_le (levels body) 101)) ≡ true →
+        (nat_le end start && (nat_le 1 q.min && nat_le q.min 5) && (not loops && not strings) && (nat_le (units body) 1280 && nat_le (levels body) 101)) ≡ true
+    by true strings may = absurd (grind (arith, nat_tests))
+    by false true may = absurd (grind (arith, nat_tests))
+    by false false may = grind (arith, nat_tests, small)
+
+module _ (q : Quantifier) (start end : ℕ) (body : Tree) where
+  -- what holds of the row behind the copies, whether the loop is there or not
+  pub with_further : (P : Trees → Type 0) → (is_zero (further_turns q).max ≡ true → P no_trees) →
+      P (more_trees (wrapped (loop (further_turns q) start end) body) no_trees) → P (further_loop q start end body)
+  with_further P none some = elim (cases_Bool (is_zero (further_turns q).max)) [
+    | inl is ↦ rw is (none is)
+    | inr is_not ↦ rw is_not some
+  ]
+
+  -- What it matches.
+
+  module _ (ends : end ≤ start) (setting : Setting) (bytes : List ℕ) (d : Direction) where
+    abbrev body_steps : Step
+    body_steps = steps setting bytes d body
+
+    abbrev bound : ℕ
+    bound = length bytes + 1
+
+    steps-copies : (n : ℕ) → steps_in_row setting bytes d (copies n body) ≡ turns n body_steps
+    steps-copies zero = refl
+    steps-copies (suc n) = ap (λ (g : Step). body_steps then_ g) (steps-copies n)
+
+    steps-loop : (s : State) → steps setting bytes d (wrapped (loop q start end) body) s
+        ≡ (turns q.min body_steps then_ up_to q.greedy (more_turns bound q) body_steps) s
+    unfolding repeat
+    steps-loop s =
+        ap (λ (f : Step). (turns q.min f then_ up_to q.greedy (more_turns bound q) f) s) (turn-none start end ends body_steps)
+
+    steps-further : (s : State) → steps setting bytes d (wrapped (loop (further_turns q) start end) body) s
+        ≡ up_to q.greedy (more_turns bound q) body_steps s
+    unfolding repeat
+    steps-further s =
+        append-nil _
+        ∙ ap₂ (λ (n : ℕ) (f : Step). up_to q.greedy n f s) (more_turns-further bound q.min q.max q.greedy) (turn-none start end ends body_steps)
+
+    steps-further_loop : (s : State) → steps_in_row setting bytes d (further_loop q start end body) s
+        ≡ up_to q.greedy (more_turns bound q) body_steps s
+    steps-further_loop s =
+        with_further (λ ts. steps_in_row setting bytes d ts s ≡ up_to q.greedy (more_turns bound q) body_steps s)
+        (λ none. ap (λ (n : ℕ). up_to q.greedy n body_steps s) (sym (more_turns-none bound q.min q.max q.greedy none)))
+        (flat_map-stay _ ∙ steps-further s)
+
+    steps-unrolled : (s : State) → steps setting bytes d (unrolled q start end body) s
+        ≡ steps setting bytes d (wrapped (loop q start end) body) s
+    steps-unrolled s =
+        steps-append setting bytes d (copies q.min body) (further_loop q start end body) s
+        ∙ ap₂ (λ (f g : Step). flat_map g (f s)) (steps-copies q.min) (fun_ext steps-further_loop)
+        ∙ sym (steps-loop s)
+
+  -- Where it may stand, its groups and its size.
+
+  unrolled-stand : (n : ℕ) (p : Position) → MayStand n (wrapped (loop q start end) body) p → MayStand n (unrolled q start end body) p
+  unrolled-stand n p m =
+      let behind = with_further (λ ts. RowMayStand n ts (last_of p)) (λ none. tt)
+      (inside-free p, (IsQuantifier-further q.min q.max q.greedy, m.1.1), m.2) in
+      (m.0, RowMayStand-append n (copies q.min body) (further_loop q start end body) p (copies-stand n q.min body m.2) behind)
+
+  captures-unrolled : captures body ≡ [] → captures (unrolled q start end body) ≡ captures body
+  captures-unrolled none =
+      let behind : captures_in_row (further_loop q start end body) ≡ [] =
+      with_further (λ ts. captures_in_row ts ≡ []) (λ zero. refl) (append-nil (captures body) ∙ none) in
+      captures-append (copies q.min body) (further_loop q start end body)
+      ∙ ap₂ ◌++◌ (captures-copies q.min body none) behind ∙ sym none
+
+  loops-unrolled : loops body ≡ 0 → loops (unrolled q start end body) ≡ 0
+  loops-unrolled none =
+      let behind : total_in_row unrollables (further_loop q start end body) ≡ 0 =
+      with_further (λ ts. total_in_row unrollables ts ≡ 0) (λ zero. refl) (omega (arith, none)) in
+      let first : total_in_row unrollables (copies q.min body) ≡ 0 = omega (arith, total-copies unrollables q.min body, ap (λ n. q.min * n) none) in
+      omega (arith, first, behind, total-append unrollables (copies q.min body) (further_loop q start end body))
+
+  units-unrolled : q.min ≤ 5 → units body ≤ 1280 → units (unrolled q start end body) ≤ units body + 6402
+  units-unrolled most small =
+      let behind : total_in_row sizes (further_loop q start end body) ≤ 1 + units body =
+      with_further (λ ts. total_in_row sizes ts ≤ 1 + units body) (λ zero. omega arith) (omega arith) in
+      let each : q.min * units body ≤ 5 * 1280 = mul-le-mul most small in
+      omega (arith, each, behind, total-copies sizes q.min body, total-append sizes (copies q.min body) (further_loop q start end body))
+
+  lacks-unrolled : LacksShape is_simplified_away body → LacksShape is_simplified_away (unrolled q start end body)
+  lacks-unrolled lacks =
+      RowLacksShape-append is_simplified_away (copies q.min body) (further_loop q start end body)
+      (some_node-copies is_simplified_away q.min body lacks)
+      (with_further (λ ts. RowLacksShape is_simplified_away ts) (λ zero. refl) (ap (λ b. b || false) lacks))
+
+  module _ (may : MayCopy q start end body) where
+    one_loop : 1 ≤ loops (wrapped (loop q start end) body)
+    one_loop = grind (arith, nat_tests)
+
+    -- the body may be copied
+    pub body_groupless : IsPart (wrapped (loop q start end) body) → HasNoGroup body
+    body_groupless part = HasNoGroup-from part.0 body inside part.2.2 (captures-none start end body part.2.1.1 may.groupless)
+
+    pub unrolled_keeps : (d : Direction) → IsPart (wrapped (loop q start end) body) → Keeps d (wrapped (loop q start end) body) (unrolled q start end body)
+    unrolled_keeps d part =
+        let n = part.0 in
+        let m = part.2 in
+        let none = captures-none start end body m.1.1 may.groupless in
+        record {
+          meaning = λ setting text is_text. Alike-from_same (λ s.
+              sym (steps-unrolled may.groupless setting (encode_utf8_all text) d s));
+          stands = unrolled-stand;
+          captures = captures-unrolled none;
+          account = omega (arith, units-unrolled may.most may.units, loops-unrolled (loops-none body may.no_loop), one_loop);
+          brackets = lacks-unrolled;
+        }
+
+    pub unrolled_less : IsLess (unrolled q start end body) (wrapped (loop q start end) body)
+    unrolled_less = record { less = inl (omega (arith, loops-unrolled (loops-none body may.no_loop), one_loop)) }
+
+  -- The law.
+
+  pub unroll_lawful : (d : Direction) → IsPart (wrapped (loop q start end) body) → may_unroll q start end body ≡ true →
+      IsLawful is_unrolled_away true d (wrapped (loop q start end) body) (unrolled q start end body) Modified
+  unroll_lawful d part may =
+      let facts = MayCopy-from q start end body (may_copy-unrolled q start end body part.0 part.2.2 may) in
+      modified_lawful is_unrolled_away true d (wrapped (loop q start end) body) may (unrolled q start end body)
+      (unrolled_keeps facts d part) (unrolled_less facts)
+
+  -- The node of the code: the copies, without the loop and with it.
+
+  module _ (parts : List Node) (copied : trees parts ≡ copies q.min body) where
+    pub unrolled-without : is_zero (further_turns q).max ≡ true → cat (trees parts) ≡ unrolled q start end body
+    unrolled-without none = rw none (ap cat copied ∙ ap cat (sym (row_append-none (copies q.min body))))
+
+    pub unrolled-with : (further : Node) → tree further ≡ wrapped (loop (further_turns q) start end) body →
+        is_zero (further_turns q).max ≡ false → cat (trees (parts ++ further ∷ [])) ≡ unrolled q start end body
+    unrolled-with further is some =
+        rw some (ap cat (trees-append parts (further ∷ []) ∙ ap₂ (λ (ts : Trees) (t : Tree). row_append ts (more_trees t no_trees)) copied is))
+
+-- The same of any node.
+
+pub loop_may_copy : (t : Tree) → IsPart t → is_unrolled_away t ≡ true → on_loop may_copy t ≡ true
+loop_may_copy (leaf l) part is = absurd (false≢true is)
+loop_may_copy (cat parts) part is = absurd (false≢true is)
+loop_may_copy (alt left right) part is = absurd (false≢true is)
+loop_may_copy (wrapped (capture_group id name) body) part is = absurd (false≢true is)
+loop_may_copy (wrapped (loop q start end) body) part is = may_copy-unrolled q start end body part.0 part.2.2 is
+loop_may_copy (wrapped (loop_one q) body) part is = absurd (false≢true is)
+loop_may_copy (wrapped (lookaround negate backwards start end) body) part is = absurd (false≢true is)
+
+pub loop_lawful : (d : Direction) (t new : Tree) → IsPart t → is_unrolled_away t ≡ true → new ≡ unrolled_loop t →
+    IsLawful is_unrolled_away true d t new Modified
+loop_lawful d (leaf l) new part is made = absurd (false≢true is)
+loop_lawful d (cat parts) new part is made = absurd (false≢true is)
+loop_lawful d (alt left right) new part is made = absurd (false≢true is)
+loop_lawful d (wrapped (capture_group id name) body) new part is made = absurd (false≢true is)
+loop_lawful d (wrapped (loop q start end) body) new part is made = rw made (unroll_lawful q start end body d part is)
+loop_lawful d (wrapped (loop_one q) body) new part is made = absurd (false≢true is)
+loop_lawful d (wrapped (lookaround negate backwards start end) body) new part is made = absurd (false≢true is)
+
+-- the account of a loop that may be unrolled is small
+pub account-unrolled : (t : Tree) → IsPart t → is_unrolled_away t ≡ true → account t ≤ small_account
+account-unrolled (leaf l) part is = absurd (false≢true is)
+account-unrolled (cat parts) part is = absurd (false≢true is)
+account-unrolled (alt left right) part is = absurd (false≢true is)
+account-unrolled (wrapped (capture_group id name) body) part is = absurd (false≢true is)
+account-unrolled (wrapped (loop q start end) body) part is =
+    let may = MayCopy-from q start end body (may_copy-unrolled q start end body part.0 part.2.2 is) in
+    omega (arith, may.units, loops-none body may.no_loop, one_loop q start end body may, at_most_one q)
+  where
+    at_most_one : (q : Quantifier) → unrollable (loop q start end) ≤ 1
+    at_most_one q = grind (arith, nat_tests)
+account-unrolled (wrapped (loop_one q) body) part is = absurd (false≢true is)
+account-unrolled (wrapped (lookaround negate backwards start end) body) part is = absurd (false≢true is)
+
+-- and a loop that must take a turn, of such an account, has a body of so few units
+pub units-small : (q : Quantifier) (start end : ℕ) (body : Tree) → 1 ≤ q.min → account (wrapped (loop q start end) body) ≤ small_account →
+    units body ≤ 1280
+units-small q start end body least small =
+    let one : unrollable (loop q start end) ≡ 1 = grind (arith, nat_tests) in
+    omega (arith, one, small)
