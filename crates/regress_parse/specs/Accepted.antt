@@ -1,5 +1,5 @@
 -- Which patterns are accepted, and what it is for a tree to mean what its pattern does.
-use Rattle.std.specs.Prelude.{◌≡◌, ℕ, ◌≤◌, IsTrue, List, [], map, encode_utf8_all}
+use Rattle.std.specs.Prelude.{◌≡◌, ℕ, ◌≤◌, List, [], map, encode_utf8_all}
 use Rattle.regress_base.specs.Limits.{max_capture_groups, max_loops, max_nesting_depth}
 use Rattle.regress_tree.specs.Reading.{IsText, forwards}
 use Rattle.regress_tree.specs.Steps.{State, IsStateOf, byte_state}

@@ -1,5 +1,5 @@
 -- Those put off are added in another order.
-use Rattle.std.proofs.Common.{◌≡◌, ℕ, ◌||◌, List, ap, sym, subst, ◌∙◌}
+use Rattle.std.proofs.Common.{◌||◌, List, ap, sym, subst, ◌∙◌}
 use Rattle.std.proofs.lemmas.Bool.{eqb-true}
 use Rattle.regress_base.specs.Intervals.{Bounds, is_member, IsCanonical}
 use Rattle.regress_classes.specs.ClassViews.{HasMembers}
