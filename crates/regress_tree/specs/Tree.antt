@@ -82,7 +82,7 @@ tree_of_level (Node-F.Anchor kind multiline) = leaf (anchor kind multiline)
 tree_of_level (Node-F.WordBoundary invert unicode_icase) = leaf (word_boundary invert unicode_icase)
 tree_of_level (Node-F.CaptureGroup id contents name) = wrapped (capture_group id (option_map string_bytes name)) contents.value
 tree_of_level (Node-F.Bracket contents) = leaf (bracket contents.invert contents.cps)
-tree_of_level (Node-F.Loop loopee quantifier groups) = wrapped (loop quantifier groups.start groups.end) loopee.value
+tree_of_level (Node-F.Loop groups loopee quantifier) = wrapped (loop quantifier groups.start groups.end) loopee.value
 tree_of_level (Node-F.Loop1CharBody loopee quantifier) = wrapped (loop_one quantifier) loopee.value
 tree_of_level (Node-F.LookaroundAssertion negate backwards start end contents) =
     wrapped (lookaround negate backwards start end) contents.value

@@ -17,7 +17,7 @@ pub out-CaptureGroup : (id : ℕ) (contents : Box Node Global) (name : Option (S
 out-CaptureGroup id contents name = search (rules, the_lemmas)
 
 pub out-Loop : (loopee : Box Node Global) (quantifier : Quantifier) (groups : Range ℕ) →
-    out-Node (Loop loopee quantifier groups) ≡ Node-F.Loop loopee quantifier groups
+    out-Node (Loop groups loopee quantifier) ≡ Node-F.Loop groups loopee quantifier
 out-Loop loopee quantifier groups = search (rules, the_lemmas)
 
 pub out-Loop1CharBody : (loopee : Box Node Global) (quantifier : Quantifier) →

@@ -59,9 +59,9 @@ pub tree-Bracket : (contents : BracketContents) → tree (Bracket contents) ≡ 
 tree-Bracket contents = ap tree (sym (rolls-Bracket contents)) ∙ fold-roll-Node Tree tree_of_level (Node-F.Bracket contents)
 
 pub tree-Loop : (loopee : Box Node Global) (quantifier : Quantifier) (groups : Range ℕ) →
-    tree (Loop loopee quantifier groups) ≡ wrapped (loop quantifier groups.start groups.end) (tree loopee.value)
+    tree (Loop groups loopee quantifier) ≡ wrapped (loop quantifier groups.start groups.end) (tree loopee.value)
 tree-Loop loopee quantifier groups =
-    ap tree (sym (rolls-Loop loopee quantifier groups)) ∙ fold-roll-Node Tree tree_of_level (Node-F.Loop loopee quantifier groups)
+    ap tree (sym (rolls-Loop groups loopee quantifier)) ∙ fold-roll-Node Tree tree_of_level (Node-F.Loop groups loopee quantifier)
 
 pub tree-Loop1CharBody : (loopee : Box Node Global) (quantifier : Quantifier) →
     tree (Loop1CharBody loopee quantifier) ≡ wrapped (loop_one quantifier) (tree loopee.value)

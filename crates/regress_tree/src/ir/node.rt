@@ -76,9 +76,10 @@ pub enum Node {
     /// As many turns of the body as the quantifier says. Each turn after the least number must move. A turn forgets what
     /// the groups of these ids, which are exactly those inside, have captured.
     Loop {
+        // The first field, since it fits beside the tag.
+        enclosed_groups: Range<u16>,
         loopee: Box<Node>,
         quant: Quantifier,
-        enclosed_groups: Range<u16>,
     },
     /// A loop whose body takes exactly one character or fails. A surrogate as a `Char` may be the body: it never matches.
     Loop1CharBody {
@@ -107,6 +108,9 @@ pub enum Node {
         icase: bool,
     },
 }
+
+// A pattern has a node for each character, so their size counts.
+const _: () = prove!(size_of::<Node>() == 48);
 
 impl Drop for Node {
     // A kind that holds one node gives it to the next round.
