@@ -1,18 +1,17 @@
 //! A `Cat` whose parts are in normal form.
 ghost use Rattle.std.specs.Prelude.{◌≡◌, ◌⊎◌, ◌≤◌, ◌||◌, true, false, MatchBool, IfOk, OnOk, OnErr, IfSome, None};
-ghost use Rattle.regress_tree.specs.NodeTests.{is_empty, leaf_always_fails};
+ghost use Rattle.regress_tree.specs.NodeTests.{is_empty};
 ghost use Rattle.regress_tree.specs.Reading.{Direction};
-ghost use Rattle.regress_tree.specs.Shapes.{has_bytes, has_cat, has_neighbours, some_in_row, is_short, is_string_set};
-ghost use Rattle.regress_tree.specs.Tree.{Leaf, leaf, empty, cat, no_trees, more_trees, tree, trees};
-ghost use Rattle.regress_tree.specs.Units.{charge_of_leaf};
+ghost use Rattle.regress_tree.specs.Shapes.{has_bytes, has_cat, has_neighbours, some_in_row, is_short};
+ghost use Rattle.regress_tree.specs.Tree.{leaf, empty, cat, no_trees, more_trees, tree, trees};
 ghost use Rattle.regress_tree.specs.Walk.{direction_of};
 ghost use Rattle.regress_rewrite.specs.Law.{IsPart, Keeps};
 ghost use Rattle.regress_rewrite.specs.Splice.{spliced};
 ghost use Rattle.regress_normalize.specs.Normalized.{Normalized, IsCatOf};
 ghost use Rattle.regress_normalize.specs.Packed.{in_text_order, Packs, IsPacked, TakesBytes, IsRowPacked, IsFactsOf};
-ghost use Rattle.regress_normalize.specs.PartFacts.{HasFacts};
 
 use crate::facts::{PartFacts, RowFacts};
+use crate::leaf::leaf_facts;
 use regress_rewrite::flatten::splice;
 use regress_rewrite::form_literal_bytes::{append, has_bytes};
 use regress_tree::ir::{Node, NodeList, Walk};
@@ -32,7 +31,7 @@ pub fn finish_cat(
 {
     if row.always_fails() {
         *node = Node::ByteSet(Vec::new(alloc));
-        return Ok(leaf_facts(true));
+        return Ok(leaf_facts(node, false));
     }
     let Node::Cat(parts) = node else {
         unreachable!()
@@ -43,25 +42,9 @@ pub fn finish_cat(
     };
     *node = alone;
     if node.is_empty() {
-        return Ok(leaf_facts(false));
+        return Ok(leaf_facts(node, false));
     }
     facts_of(row, taken, false)
-}
-
-/// What is known of a leaf that is charged as one.
-fn leaf_facts(always_fails: bool) -> PartFacts
-    ensures facts { (l : Leaf) → charge_of_leaf l ≡ 1 → is_string_set l ≡ false → leaf_always_fails l ≡ always_fails → HasFacts result (leaf l) }
-    ensures other { result.was_one_character ≡ false }
-{
-    PartFacts {
-        charge: 1,
-        levels: 1,
-        has_group: false,
-        has_loop: false,
-        has_string_set: false,
-        always_fails,
-        was_one_character: false,
-    }
 }
 
 /// What is known of a `Cat` of these parts once so many were taken away, or of the one part that is left. Each is
