@@ -1,83 +1,97 @@
 -- Lists of nodes that the calls on a row handle.
-use Rattle.std.proofs.Common.{◌≡◌, ℕ, zero, suc, ◌≤◌, Bool, true, false, ◌&&◌, ◌||◌, List, [], ◌∷◌, ◌++◌, length, get_or, take, refl, sym, ap, ap₂, ◌∙◌, subst, arith}
-use Rattle.std.specs.Prelude.{slice_set, OnOk, Result, Ok, Err}
-use Rattle.std.specs.List.{list_any}
-use Rattle.std.specs.Result.{result_and}
+use Rattle.std.proofs.Common.{◌≡◌, ◌≤◌, Bool, true, false, not, if◌then◌else◌, ◌&&◌, ◌||◌, List, [], ◌∷◌, length, refl, sym, ap, ap₂, ◌∙◌, subst, arith}
+use Rattle.std.specs.Prelude.{OnOk, MatchBool, Result, Ok, Err}
+use Rattle.std.specs.List.{filter, list_any}
+use Rattle.std.specs.List.Retain.{DedupsFrom, IsDeduped}
 use Rattle.regress_tree.specs.declared.ir.node.Node.{Node}
+use Rattle.regress_tree.specs.NodeTests.{is_empty}
 use Rattle.regress_tree.specs.Reading.{Direction}
 use Rattle.regress_tree.specs.Shapes.{first_in_row, some_in_row, has_bytes, has_neighbours, is_cat, has_cat, is_short}
 use Rattle.regress_tree.specs.Tree.{Tree, Trees, no_trees, more_trees, row_append, tree, trees}
-use Rattle.regress_tree.proofs.laws.Rows.{row_append-assoc, trees-append}
-use Rattle.regress_rewrite.specs.Formed.{bytes_of}
-use Rattle.regress_rewrite.proofs.laws.Joining.{written, is_written}
-use Rattle.regress_normalize.specs.Packed.{in_text_order, Packs, TakesBytes, last_in_row}
-use Rattle.regress_normalize.proofs.PackedLemmas.{Packs-refl, last-push}
+use Rattle.regress_tree.proofs.laws.Rows.{row_append-assoc}
+use Rattle.regress_rewrite.proofs.laws.Joining.{is_written}
+use Rattle.regress_rewrite.proofs.laws.Segments.{is_empty-leaf}
+use Rattle.regress_normalize.specs.Packed.{in_text_order, Packs, TakesBytes}
+use Rattle.regress_normalize.proofs.PackedLemmas.{Packs-refl, Packs-trans, leaves_out, takes_packs}
 
--- ---- the last node
+-- ---- parts left out
 
-last_cut : (nodes : List Node) (last : Node) (n : ℕ) → length nodes ≡ suc n → last ≡ get_or nodes n last →
-    nodes ≡ take n nodes ++ last ∷ []
-last_cut [] last n len is = absurd (omega (arith, len))
-last_cut (x ∷ []) last zero len is = ap (λ y. y ∷ []) (sym is)
-last_cut (x ∷ []) last (suc n) len is = absurd (omega (arith, len))
-last_cut (x ∷ y ∷ nodes) last zero len is = absurd (omega (arith, len))
-last_cut (x ∷ y ∷ nodes) last (suc n) len is = ap (λ zs. x ∷ zs) (last_cut (y ∷ nodes) last n (omega (arith, len)) is)
+-- Packs among parts that stay, whatever they are
+abbrev PacksBehind : (d : Direction) (before old new : Trees) → Type 0
+PacksBehind d before old new = Packs d (in_text_order d (row_append before old)) (in_text_order d (row_append before new))
 
-last_set : (nodes : List Node) (new : Node) (n : ℕ) → length nodes ≡ suc n → slice_set nodes n new ≡ take n nodes ++ new ∷ []
-last_set [] new n len = absurd (omega (arith, len))
-last_set (x ∷ []) new zero len = refl
-last_set (x ∷ []) new (suc n) len = absurd (omega (arith, len))
-last_set (x ∷ y ∷ nodes) new zero len = absurd (omega (arith, len))
-last_set (x ∷ y ∷ nodes) new (suc n) len = ap (λ zs. x ∷ zs) (last_set (y ∷ nodes) new n (omega (arith, len)))
+-- what is packed behind one part more
+behind_one : (d : Direction) (before : Trees) (t : Tree) (old new : Trees) →
+    PacksBehind d (row_append before (more_trees t no_trees)) old new → PacksBehind d before (more_trees t old) (more_trees t new)
+behind_one d before t old new packs =
+    subst (λ (ts : Trees). Packs d (in_text_order d ts) (in_text_order d (row_append before (more_trees t new))))
+    (row_append-assoc before (more_trees t no_trees) old)
+    (subst (λ (ts : Trees). Packs d (in_text_order d (row_append (row_append before (more_trees t no_trees)) old)) (in_text_order d ts))
+    (row_append-assoc before (more_trees t no_trees) new) packs)
 
-module _ (nodes : List Node) (last : Node) (n : ℕ) (len : length nodes ≡ suc n) (is : last ≡ get_or nodes n last) where
-  abbrev front : Trees
-  front = trees (take n nodes)
+abbrev pub stays : Node → Bool
+stays n = not (is_empty (tree n))
 
-  was : trees nodes ≡ row_append front (more_trees (tree last) no_trees)
-  was = ap trees (last_cut nodes last n len is) ∙ trees-append (take n nodes) (last ∷ [])
+pub filtered_packs : (d : Direction) (before : Trees) (nodes : List Node) → PacksBehind d before (trees nodes) (trees (filter stays nodes))
+filtered_packs d before [] = Packs-refl d _
+filtered_packs d before (x ∷ nodes) = one_more (is_empty (tree x)) refl (λ front. filtered_packs d front nodes)
+  where
+    one_more : (b : Bool) → is_empty (tree x) ≡ b → ((front : Trees) → PacksBehind d front (trees nodes) (trees (filter stays nodes))) →
+        PacksBehind d before (more_trees (tree x) (trees nodes)) (trees (if not (is_empty (tree x)) then x ∷ filter stays nodes else filter stays nodes))
+    one_more true is rest =
+        rw (is, is_empty-leaf (tree x) is) (Packs-trans d _ _ _ (leaves_out d before (trees nodes)) (rest before))
+    one_more false is rest =
+        rw is (behind_one d before (tree x) (trees nodes) (trees (filter stays nodes)) (rest (row_append before (more_trees (tree x) no_trees))))
 
-  now : (new : Node) → trees (slice_set nodes n new) ≡ row_append front (more_trees (tree new) no_trees)
-  now new = ap trees (last_set nodes new n len) ∙ trees-append (take n nodes) (new ∷ [])
+pub filtered_none : (nodes : List Node) → some_in_row is_empty (trees (filter stays nodes)) ≡ false
+filtered_none [] = refl
+filtered_none (x ∷ nodes) = one_more (is_empty (tree x)) refl (filtered_none nodes)
+  where
+    one_more : (b : Bool) → is_empty (tree x) ≡ b → some_in_row is_empty (trees (filter stays nodes)) ≡ false →
+        some_in_row is_empty (trees (if not (is_empty (tree x)) then x ∷ filter stays nodes else filter stays nodes)) ≡ false
+    one_more true is rest = rw is rest
+    one_more false is rest = rw is (ap₂ ◌||◌ is rest)
 
-  pub last_test : (test : Tree → Bool) → last_in_row test (trees nodes) ≡ test (tree last)
-  last_test test = ap (last_in_row test) was ∙ last-push test front (tree last)
+-- ---- neighbours joined
 
-  pub last_kept : (new : Node) → tree new ≡ tree last → trees (slice_set nodes n new) ≡ trees nodes
-  last_kept new same = now new ∙ ap (λ (t : Tree). row_append front (more_trees t no_trees)) same ∙ sym was
+module _ {S : Type 0} (R : S → Node → Node → Bool → S → Node → Node → Type 0)
+    (takes : (s : S) (x k : Node) (b : Bool) (t : S) (x' k' : Node) → R s x k b t x' k' →
+    MatchBool b (TakesBytes (tree k) (tree x) (tree k')) ((tree k' ≡ tree k) × (tree x' ≡ tree x))) where
+  behind_packs : (s : S) (k : Node) (xs ys : List Node) → DedupsFrom R s k xs ys → (d : Direction) (before : Trees) →
+      PacksBehind d before (more_trees (tree k) (trees xs)) (trees ys)
+  behind_packs s k [] ys is d before = subst (λ (ns : List Node). PacksBehind d before (more_trees (tree k) no_trees) (trees ns)) (sym is) (Packs-refl d _)
+  behind_packs s k (x ∷ xs) ys (true, t, x', k', r, rest) d before =
+      Packs-trans d _ _ _ (takes_packs d before (trees xs) (tree k) (tree x) (tree k') (takes s x k true t x' k' r))
+      (behind_packs t k' xs ys rest d before)
+  behind_packs s k (x ∷ xs) ys (false, t, x', k', r, (zs, rest, is)) d before =
+      let same = takes s x k false t x' k' r in
+      subst (λ (ns : List Node). PacksBehind d before (more_trees (tree k) (trees (x ∷ xs))) (trees ns)) (sym is)
+      (subst (λ (u : Tree). PacksBehind d before (more_trees (tree k) (trees (x ∷ xs))) (more_trees u (trees zs))) (sym same.0)
+      (behind_one d before (tree k) (trees (x ∷ xs)) (trees zs)
+      (subst (λ (u : Tree). PacksBehind d (row_append before (more_trees (tree k) no_trees)) (more_trees u (trees xs)) (trees zs)) same.1
+      (behind_packs t x' xs zs rest d (row_append before (more_trees (tree k) no_trees))))))
 
-  pub last_takes : (new : Node) (t : Tree) → has_bytes (tree last) ≡ true → has_bytes t ≡ true →
-      tree new ≡ written (bytes_of (tree last) ++ bytes_of t) → TakesBytes (trees nodes) t (trees (slice_set nodes n new))
-  last_takes new t some more both = record {
-    front = front;
-    own = bytes_of (tree last);
-    more = bytes_of t;
-    was = was ∙ ap (λ (u : Tree). row_append front (more_trees u no_trees)) (is_written (tree last) some).is;
-    part_is = (is_written t more).is;
-    is = now new ∙ ap (λ (u : Tree). row_append front (more_trees u no_trees)) both;
-    some = sym (ap has_bytes (is_written (tree last) some).is) ∙ some;
-  }
+  behind_empties : (s : S) (k : Node) (xs ys : List Node) → DedupsFrom R s k xs ys →
+      some_in_row is_empty (trees ys) ≡ some_in_row is_empty (more_trees (tree k) (trees xs))
+  behind_empties s k [] ys is = ap (λ ns. some_in_row is_empty (trees ns)) is
+  behind_empties s k (x ∷ xs) ys (true, t, x', k', r, rest) =
+      let taken = takes s x k true t x' k' r in
+      behind_empties t k' xs ys rest
+      ∙ ap (λ (u : Tree). is_empty u || some_in_row is_empty (trees xs)) taken.is
+      ∙ sym (ap₂ (λ (u v : Tree). is_empty u || (is_empty v || some_in_row is_empty (trees xs))) (is_written (tree k) taken.own).is (is_written (tree x) taken.more).is)
+  behind_empties s k (x ∷ xs) ys (false, t, x', k', r, (zs, rest, is)) =
+      let same = takes s x k false t x' k' r in
+      ap (λ ns. some_in_row is_empty (trees ns)) is
+      ∙ ap₂ (λ (u : Tree) (b : Bool). is_empty u || b) same.0
+      (behind_empties t x' xs zs rest ∙ ap (λ (u : Tree). is_empty u || some_in_row is_empty (trees xs)) same.1)
 
--- ---- a node pushed
+  pub deduped_packs : (s : S) (xs ys : List Node) → IsDeduped R s xs ys → (d : Direction) → Packs d (in_text_order d (trees xs)) (in_text_order d (trees ys))
+  deduped_packs s [] ys is d = subst (λ (ns : List Node). Packs d (in_text_order d no_trees) (in_text_order d (trees ns))) (sym is.told) (Packs-refl d _)
+  deduped_packs s (x ∷ xs) ys is d = behind_packs s x xs ys is.told d no_trees
 
-module _ (more kept : List Node) (part : Node) (old : Trees) (t : Tree) (is : more ≡ kept ++ part ∷ []) (same : trees kept ≡ old)
-    (same_part : tree part ≡ t) where
-  pub pushed_row : trees more ≡ row_append old (more_trees t no_trees)
-  pushed_row = ap trees is ∙ trees-append kept (part ∷ []) ∙ ap₂ (λ (ts : Trees) (u : Tree). row_append ts (more_trees u no_trees)) same same_part
-
-  pub pushed_packs : (d : Direction) (rest : Trees) →
-      Packs d (in_text_order d (row_append old (more_trees t rest))) (in_text_order d (row_append (trees more) rest))
-  pushed_packs d rest =
-      let now : row_append old (more_trees t rest) ≡ row_append (trees more) rest =
-      sym (ap (λ ts. row_append ts rest) pushed_row ∙ row_append-assoc old (more_trees t no_trees) rest) in
-      subst (λ (ts : Trees). Packs d (in_text_order d (row_append old (more_trees t rest))) (in_text_order d ts)) now
-      (Packs-refl d (in_text_order d (row_append old (more_trees t rest))))
-
--- one more node of those that are gone through
-pub further : (yielded : List Node) (part : Node) (rest : Trees) →
-    row_append (trees (yielded ++ part ∷ [])) rest ≡ row_append (trees yielded) (more_trees (tree part) rest)
-further yielded part rest =
-    ap (λ ts. row_append ts rest) (trees-append yielded (part ∷ [])) ∙ row_append-assoc (trees yielded) (more_trees (tree part) no_trees) rest
+  pub deduped_empties : (s : S) (xs ys : List Node) → IsDeduped R s xs ys → some_in_row is_empty (trees ys) ≡ some_in_row is_empty (trees xs)
+  deduped_empties s [] ys is = ap (λ ns. some_in_row is_empty (trees ns)) is.told
+  deduped_empties s (x ∷ xs) ys is = behind_empties s x xs ys is.told
 
 -- ---- neighbours looked for from one end to the other
 
@@ -111,11 +125,6 @@ some_in_row-any test (x ∷ nodes) = ap (λ b. test (tree x) || b) (some_in_row-
 pub has_cat-any : (nodes : List Node) → has_cat (trees nodes) ≡ list_any (λ n. is_cat (tree n)) nodes
 has_cat-any [] = refl
 has_cat-any (x ∷ nodes) = ap (λ b. is_cat (tree x) || b) (has_cat-any nodes)
-
-pub on_and : {X E : Type 0} (P Q : Type 0) (a b : Result X E) → OnOk a P → OnOk b (P → Q) → OnOk (result_and a b) Q
-on_and P Q (Ok x) (Ok y) p q = q p
-on_and P Q (Ok x) (Err e) p q = tt
-on_and P Q (Err e) b p q = tt
 
 pub on_ok_map : {X E : Type 0} (P Q : Type 0) (r : Result X E) → (P → Q) → OnOk r P → OnOk r Q
 on_ok_map P Q (Ok x) f p = f p

@@ -1,22 +1,24 @@
 -- Rows packed: parts in the place of others, among parts that stay.
 use Rattle.std.proofs.Common.{◌≡◌, ℕ, ◌+◌, Bool, true, false, ◌&&◌, ◌||◌, max, List, [], ◌∷◌, ◌++◌, refl, sym, ap, ap₂, ◌∙◌, subst, arith, le_refl, le_trans, length-append}
 use Rattle.std.proofs.Math.Bool.{or_assoc, or-false}
-use Rattle.std.proofs.lemmas.Bool.{or_parts, true≢false, false≢true}
+use Rattle.std.proofs.lemmas.Bool.{or_parts, true≢false}
 use Rattle.regress_tree.specs.Measures.{total_in_row, levels_of_deepest}
 use Rattle.regress_tree.specs.NodeTests.{is_empty, match_always_fails}
 use Rattle.regress_tree.specs.NormalForm.{IsNormal}
 use Rattle.regress_tree.specs.Reading.{Direction, forwards, backwards}
 use Rattle.regress_tree.specs.Shapes.{on_leaf, on_wrapper, some_node_in_row, some_in_row, first_in_row, has_neighbours, has_bytes, is_cat, has_cat, is_string_set}
-use Rattle.regress_tree.specs.Tree.{Tree, Trees, leaf, empty, byte_sequence, cat, no_trees, more_trees, row_append, row_reverse}
+use Rattle.regress_tree.specs.Tree.{Tree, Trees, leaf, empty, cat, no_trees, more_trees, row_append, row_reverse}
 use Rattle.regress_tree.specs.Units.{charges}
 use Rattle.regress_tree.proofs.laws.Measures.{some_node-append, total-append}
 use Rattle.regress_tree.proofs.laws.Rows.{row_append-none, row_append-assoc}
+use Rattle.regress_rewrite.specs.Formed.{bytes_of}
 use Rattle.regress_rewrite.specs.Splice.{row_length}
+use Rattle.regress_rewrite.proofs.laws.Joining.{written, is_written}
 use Rattle.regress_rewrite.proofs.laws.Keeps.{Keeps-refl, Keeps-trans}
 use Rattle.regress_rewrite.proofs.laws.Segments.{Keeps-segment, empty_keeps, pair_keeps}
 use Rattle.regress_rewrite.proofs.laws.Splicing.{row_length-append}
 use Rattle.regress_normalize.specs.Normalized.{RowIsNormal}
-use Rattle.regress_normalize.specs.Packed.{in_text_order, Packs, IsPacked, TakesBytes, last_in_row}
+use Rattle.regress_normalize.specs.Packed.{in_text_order, Packs, IsPacked, TakesBytes}
 
 -- ---- tests and sums over rows, one behind the other
 
@@ -154,9 +156,6 @@ empty_packs d = record {
   fails = refl;
 }
 
-abbrev written : List ℕ → Tree
-written bytes = leaf (byte_sequence bytes)
-
 longer_normal : (a b : List ℕ) → IsNormal (written a) → IsNormal (written (a ++ b))
 longer_normal [] b normal = absurd (true≢false normal.emptied)
 longer_normal (x ∷ a) b normal = record {
@@ -243,24 +242,24 @@ joins backwards before behind a b =
     (Packs-segment backwards (written b) (more_trees (written a) no_trees) (more_trees (written (a ++ b)) no_trees)
     (pair_packs backwards a b) (row_reverse behind) (row_reverse before)))
 
--- the last part takes the bytes of the next one
-pub takes_packs : (d : Direction) (old : Trees) (t : Tree) (new rest : Trees) → TakesBytes old t new →
-    Packs d (in_text_order d (row_append old (more_trees t rest))) (in_text_order d (row_append new rest))
-takes_packs d old t new rest takes =
-    let own = more_trees (written takes.own) no_trees in
-    let both = more_trees (written (takes.own ++ takes.more)) no_trees in
-    let was : row_append old (more_trees t rest) ≡ row_append takes.front (more_trees (written takes.own) (more_trees (written takes.more) rest)) =
-    ap₂ (λ (ts : Trees) (u : Tree). row_append ts (more_trees u rest)) takes.was takes.part_is
-    ∙ row_append-assoc takes.front own (more_trees (written takes.more) rest) in
-    let is : row_append new rest ≡ row_append takes.front (more_trees (written (takes.own ++ takes.more)) rest) =
-    ap (λ ts. row_append ts rest) takes.is ∙ row_append-assoc takes.front both rest in
-    subst (λ (ts : Trees). Packs d (in_text_order d ts) (in_text_order d (row_append new rest))) (sym was)
-    (subst
-    (λ (ts : Trees). Packs d
-    (in_text_order d (row_append takes.front (more_trees (written takes.own) (more_trees (written takes.more) rest)))) (in_text_order d ts))
-    (sym is) (joins d takes.front rest takes.own takes.more))
+-- a part takes the bytes of the next one
+pub takes_packs : (d : Direction) (before behind : Trees) (old part new : Tree) → TakesBytes old part new →
+    Packs d (in_text_order d (row_append before (more_trees old (more_trees part behind)))) (in_text_order d (row_append before (more_trees new behind)))
+takes_packs d before behind old part new takes =
+    subst (λ (t : Tree). Packs d (in_text_order d (row_append before (more_trees t (more_trees part behind)))) (in_text_order d (row_append before (more_trees new behind))))
+    (sym (is_written old takes.own).is)
+    (subst (λ (t : Tree). Packs d (in_text_order d (row_append before (more_trees (written (bytes_of old)) (more_trees t behind)))) (in_text_order d (row_append before (more_trees new behind))))
+    (sym (is_written part takes.more).is)
+    (subst (λ (t : Tree). Packs d (in_text_order d (row_append before (more_trees (written (bytes_of old)) (more_trees (written (bytes_of part)) behind)))) (in_text_order d (row_append before (more_trees t behind))))
+    (sym takes.is) (joins d before behind (bytes_of old) (bytes_of part))))
 
 -- ---- nothing to pack
+
+-- whether the last tree of the row passes the test
+abbrev last_in_row : (Tree → Bool) → Trees → Bool
+last_in_row test no_trees = false
+last_in_row test (more_trees t no_trees) = test t
+last_in_row test (more_trees t (more_trees u us)) = last_in_row test (more_trees u us)
 
 pub and_false : (b : Bool) → (b && false) ≡ false
 and_false true = refl
@@ -281,39 +280,14 @@ has_neighbours-push test (more_trees x (more_trees y ts)) t =
     ap (λ b. (test x && test y) || b) (has_neighbours-push test (more_trees y ts) t)
     ∙ sym (or_assoc (test x && test y) (has_neighbours test (more_trees y ts)) (last_in_row test (more_trees y ts) && test t))
 
-pub IsPacked-none : IsPacked no_trees
-IsPacked-none = record { no_empty = refl; no_neighbours = refl }
-
-pub IsPacked-push : (ts : Trees) (t : Tree) → is_empty t ≡ false → (last_in_row has_bytes ts && has_bytes t) ≡ false → IsPacked ts →
+IsPacked-push : (ts : Trees) (t : Tree) → is_empty t ≡ false → (last_in_row has_bytes ts && has_bytes t) ≡ false → IsPacked ts →
     IsPacked (row_append ts (more_trees t no_trees))
 IsPacked-push ts t some apart packed = record {
   no_empty = some_in_row-append is_empty ts (more_trees t no_trees) ∙ ap₂ ◌||◌ packed.no_empty (ap (λ b. b || false) some);
   no_neighbours = has_neighbours-push has_bytes ts t ∙ ap₂ ◌||◌ packed.no_neighbours apart;
 }
 
-longer_has : (a b : List ℕ) → has_bytes (written a) ≡ true → has_bytes (written (a ++ b)) ≡ true
-longer_has [] b some = absurd (false≢true some)
-longer_has (x ∷ a) b some = refl
-
-pub IsPacked-takes : (old : Trees) (t : Tree) (new : Trees) → TakesBytes old t new → IsPacked old → IsPacked new
-IsPacked-takes old t new takes packed =
-    let own = more_trees (written takes.own) no_trees in
-    let both = more_trees (written (takes.own ++ takes.more)) no_trees in
-    let same : has_bytes (written (takes.own ++ takes.more)) ≡ has_bytes (written takes.own) =
-    longer_has takes.own takes.more takes.some ∙ sym takes.some in
-    record {
-      no_empty =
-          ap (some_in_row is_empty) takes.is ∙ some_in_row-append is_empty takes.front both
-          ∙ sym (some_in_row-append is_empty takes.front own) ∙ sym (ap (some_in_row is_empty) takes.was) ∙ packed.no_empty;
-      no_neighbours =
-          ap (has_neighbours has_bytes) takes.is
-          ∙ has_neighbours-push has_bytes takes.front (written (takes.own ++ takes.more))
-          ∙ ap (λ b. has_neighbours has_bytes takes.front || (last_in_row has_bytes takes.front && b)) same
-          ∙ sym (has_neighbours-push has_bytes takes.front (written takes.own))
-          ∙ sym (ap (has_neighbours has_bytes) takes.was) ∙ packed.no_neighbours;
-    }
-
-pub last-push : (test : Tree → Bool) (ts : Trees) (t : Tree) → last_in_row test (row_append ts (more_trees t no_trees)) ≡ test t
+last-push : (test : Tree → Bool) (ts : Trees) (t : Tree) → last_in_row test (row_append ts (more_trees t no_trees)) ≡ test t
 last-push test no_trees t = refl
 last-push test (more_trees x no_trees) t = refl
 last-push test (more_trees x (more_trees y ts)) t = last-push test (more_trees y ts) t

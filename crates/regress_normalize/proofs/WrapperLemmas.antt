@@ -29,6 +29,7 @@ use Rattle.regress_normalize.specs.Wrapped.{may_unroll_by, IsLoopOf, TakesForm, 
 use Rattle.regress_normalize.specs.declared.facts.PartFacts.{PartFacts}
 use Rattle.regress_normalize.specs.declared.facts.RowFacts.{RowFacts}
 use Rattle.regress_normalize.specs.declared.wrapper.LoopForm.TheVariants.{OneCharacter, Empty, AlwaysFails}
+use Rattle.regress_normalize.proofs.PackedLemmas.{RowIsNormal-append}
 
 -- ---- what is finished
 
@@ -160,10 +161,6 @@ copies-more (suc n) t = ap (more_trees t) (copies-more n t) ∙ ap (λ (k : ℕ)
 RowIsNormal-copies : (n : ℕ) (t : Tree) → IsNormal t → RowIsNormal (copies n t)
 RowIsNormal-copies zero t normal = tt
 RowIsNormal-copies (suc n) t normal = (normal, RowIsNormal-copies n t normal)
-
-RowIsNormal-append : (ts us : Trees) → RowIsNormal ts → RowIsNormal us → RowIsNormal (row_append ts us)
-RowIsNormal-append no_trees us first second = second
-RowIsNormal-append (more_trees t ts) us first second = (first.0, RowIsNormal-append ts us first.1 second)
 
 -- ---- what a node holds
 

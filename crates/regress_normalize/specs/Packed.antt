@@ -1,11 +1,12 @@
 -- What packing makes of a row: an `Empty` is left out, and two neighbouring byte sequences become one.
-use Rattle.std.specs.Prelude.{◌≡◌, ℕ, ◌+◌, ◌≤◌, Bool, true, false, List, ◌++◌, max}
+use Rattle.std.specs.Prelude.{◌≡◌, ℕ, ◌+◌, ◌≤◌, Bool, true, false, ◌++◌, max}
 use Rattle.regress_tree.specs.Measures.{total_in_row, levels_of_deepest}
 use Rattle.regress_tree.specs.NodeTests.{is_empty, match_always_fails}
 use Rattle.regress_tree.specs.Reading.{Direction, forwards, backwards}
 use Rattle.regress_tree.specs.Shapes.{on_leaf, on_wrapper, some_node_in_row, some_in_row, has_neighbours, has_bytes, has_cat, is_string_set}
-use Rattle.regress_tree.specs.Tree.{Wrapper, Tree, Trees, leaf, byte_sequence, cat, no_trees, more_trees, row_append, row_reverse}
+use Rattle.regress_tree.specs.Tree.{Wrapper, Tree, Trees, leaf, byte_sequence, cat, row_reverse}
 use Rattle.regress_tree.specs.Units.{charges}
+use Rattle.regress_rewrite.specs.Formed.{bytes_of}
 use Rattle.regress_rewrite.specs.Law.{Keeps}
 use Rattle.regress_rewrite.specs.Splice.{spliced, row_length}
 use Rattle.regress_normalize.specs.Normalized.{RowIsNormal}
@@ -35,21 +36,11 @@ pub record IsPacked (ts : Trees) : Type 0 where
   pub no_empty : some_in_row is_empty ts ≡ false
   pub no_neighbours : has_neighbours has_bytes ts ≡ false
 
--- The last part of the row has taken the bytes of a part behind it.
-pub record TakesBytes (old : Trees) (part : Tree) (new : Trees) : Type 0 where
-  pub front : Trees
-  pub own : List ℕ
-  pub more : List ℕ
-  pub was : old ≡ row_append front (more_trees (leaf (byte_sequence own)) no_trees)
-  pub part_is : part ≡ leaf (byte_sequence more)
-  pub is : new ≡ row_append front (more_trees (leaf (byte_sequence (own ++ more))) no_trees)
-  pub some : has_bytes (leaf (byte_sequence own)) ≡ true
-
--- whether the last tree of the row passes the test
-abbrev pub last_in_row : (Tree → Bool) → Trees → Bool
-last_in_row test no_trees = false
-last_in_row test (more_trees t no_trees) = test t
-last_in_row test (more_trees t (more_trees u us)) = last_in_row test (more_trees u us)
+-- A tree has taken the bytes of the part behind it.
+pub record TakesBytes (old part new : Tree) : Type 0 where
+  pub own : has_bytes old ≡ true
+  pub more : has_bytes part ≡ true
+  pub is : new ≡ leaf (byte_sequence (bytes_of old ++ bytes_of part))
 
 -- The row is spliced and packed, and so many parts were taken away.
 pub record IsRowPacked (d : Direction) (old new : Trees) (taken : ℕ) : Type 0 where

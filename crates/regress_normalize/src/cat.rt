@@ -1,23 +1,21 @@
 //! A `Cat` whose parts are in normal form.
-ghost use Rattle.std.specs.Prelude.{◌≡◌, ◌≢◌, ◌⊎◌, ◌<◌, ◌≤◌, ◌+◌, ◌&&◌, ◌||◌, true, false, IfOk, OnOk, OnErr, IfSome, None, Ok, vec_len, vec_capacity};
-ghost use Rattle.regress_tree.specs.NodeTests.{is_empty, leaf_always_fails};
+ghost use Rattle.std.specs.Prelude.{◌≡◌, ◌⊎◌, ◌≤◌, ◌||◌, true, false, MatchBool, IfOk, OnOk, OnErr, IfSome, None};
+ghost use Rattle.regress_tree.specs.NodeTests.{is_empty};
 ghost use Rattle.regress_tree.specs.Reading.{Direction};
-ghost use Rattle.regress_tree.specs.Shapes.{has_bytes, has_cat, has_neighbours, some_in_row, is_short, is_string_set};
-ghost use Rattle.regress_tree.specs.Tree.{Leaf, Trees, leaf, empty, cat, no_trees, more_trees, row_append, tree, trees};
-ghost use Rattle.regress_tree.specs.Units.{charge_of_leaf};
+ghost use Rattle.regress_tree.specs.Shapes.{has_bytes, has_cat, has_neighbours, some_in_row, is_short};
+ghost use Rattle.regress_tree.specs.Tree.{leaf, empty, cat, no_trees, more_trees, tree, trees};
 ghost use Rattle.regress_tree.specs.Walk.{direction_of};
 ghost use Rattle.regress_rewrite.specs.Law.{IsPart, Keeps};
 ghost use Rattle.regress_rewrite.specs.Splice.{spliced};
 ghost use Rattle.regress_normalize.specs.Normalized.{Normalized, IsCatOf};
-ghost use Rattle.regress_normalize.specs.Packed.{in_text_order, Packs, IsPacked, TakesBytes, last_in_row, IsRowPacked, IsFactsOf};
-ghost use Rattle.regress_normalize.specs.PartFacts.{HasFacts};
+ghost use Rattle.regress_normalize.specs.Packed.{in_text_order, Packs, IsPacked, TakesBytes, IsRowPacked, IsFactsOf};
 
 use crate::facts::{PartFacts, RowFacts};
+use crate::leaf::leaf_facts;
 use regress_rewrite::flatten::splice;
 use regress_rewrite::form_literal_bytes::{append, has_bytes};
 use regress_tree::ir::{Node, NodeList, Walk};
 use std::alloc::{AllocError, Global};
-use std::mem;
 
 /// Brings a `Cat` of parts in normal form, with these facts, into normal form. The time grows as the parts do, those of
 /// a part that is a `Cat` counted in its place, and as the bytes that are joined.
@@ -33,7 +31,7 @@ pub fn finish_cat(
 {
     if row.always_fails() {
         *node = Node::ByteSet(Vec::new(alloc));
-        return Ok(leaf_facts(true));
+        return Ok(leaf_facts(node, false));
     }
     let Node::Cat(parts) = node else {
         unreachable!()
@@ -44,25 +42,9 @@ pub fn finish_cat(
     };
     *node = alone;
     if node.is_empty() {
-        return Ok(leaf_facts(false));
+        return Ok(leaf_facts(node, false));
     }
     facts_of(row, taken, false)
-}
-
-/// What is known of a leaf that is charged as one.
-fn leaf_facts(always_fails: bool) -> PartFacts
-    ensures facts { (l : Leaf) → charge_of_leaf l ≡ 1 → is_string_set l ≡ false → leaf_always_fails l ≡ always_fails → HasFacts result (leaf l) }
-    ensures other { result.was_one_character ≡ false }
-{
-    PartFacts {
-        charge: 1,
-        levels: 1,
-        has_group: false,
-        has_loop: false,
-        has_string_set: false,
-        always_fails,
-        was_one_character: false,
-    }
 }
 
 /// What is known of a `Cat` of these parts once so many were taken away, or of the one part that is left. Each is
@@ -105,7 +87,7 @@ fn pack(alloc: Global, parts: &mut NodeList, walk: &Walk) -> Result<usize, Alloc
 {
     splice_cats(alloc, parts)?;
     let len = parts.len();
-    close_seams(alloc, parts, walk)?;
+    close_seams(parts, walk)?;
     Ok(len - parts.len())
 }
 
@@ -144,7 +126,7 @@ fn have_neighbours_bytes(parts: &[Node]) -> bool
 
 /// Leaves out each `Empty`, and joins the bytes of neighbours. Where the walk is in a lookbehind the parts stand turned:
 /// they are taken in the order of the text, so that bytes are always added at the end.
-fn close_seams(alloc: Global, parts: &mut NodeList, walk: &Walk) -> Result<(), AllocError>
+fn close_seams(parts: &mut NodeList, walk: &Walk) -> Result<(), AllocError>
     ensures packs { Packs (direction_of walk.now) (trees parts.old.items) (trees parts.new.items) }
     ensures packed { OnOk result (IsPacked (trees parts.new.items)) }
     ensures left { IsPacked (trees parts.old.items) → trees parts.new.items ≡ trees parts.old.items }
@@ -153,69 +135,49 @@ fn close_seams(alloc: Global, parts: &mut NodeList, walk: &Walk) -> Result<(), A
         return Ok(());
     }
     if !walk.in_lookbehind {
-        return close_in_text_order(alloc, parts);
+        return close_in_text_order(parts);
     }
     parts.reverse();
-    let closed = close_in_text_order(alloc, parts);
+    let closed = close_in_text_order(parts);
     parts.reverse();
     closed
 }
 
-/// Leaves out each `Empty`, and joins the bytes of neighbours, of which the first one's come first. Each part is moved
-/// once. Where memory is refused for bytes, two neighbours stay apart.
-fn close_in_text_order(alloc: Global, parts: &mut NodeList) -> Result<(), AllocError>
+/// Leaves out each `Empty`, and joins the bytes of neighbours, of which the first one's come first. It moves the parts in
+/// place, and asks for no memory but for bytes. Where that is refused, two neighbours stay apart.
+fn close_in_text_order(parts: &mut NodeList) -> Result<(), AllocError>
     ensures packs { (d : Direction) → Packs d (in_text_order d (trees parts.old.items)) (in_text_order d (trees parts.new.items)) }
     ensures packed { OnOk result (IsPacked (trees parts.new.items)) }
 {
-    let mut packed = Vec::with_capacity(alloc, parts.len())?;
-    let mut answer = Ok(());
-    // There is room for each part: nothing is lost.
-    for part in mem::replace(parts, Vec::new(alloc)) {
-        let pushed = push_part(&mut packed, part);
-        answer = answer.and(pushed);
+    leave_out_empties(parts);
+    join_neighbours(parts);
+    if have_neighbours_bytes(parts) {
+        return Err(AllocError);
     }
-    *parts = packed;
-    answer
+    Ok(())
 }
 
-/// Puts a part behind the others, if it is no `Empty`, or its bytes behind those of the last one. Where memory is refused
-/// for the bytes the part stands by itself.
-fn push_part(packed: &mut NodeList, part: Node) -> Result<(), AllocError>
-    requires { vec_len packed.old < vec_capacity packed.old }
-    ensures packs { (d : Direction) (rest : Trees) → Packs d (in_text_order d (row_append (trees packed.old.items) (more_trees (tree part) rest)))
-        (in_text_order d (row_append (trees packed.new.items) rest)) }
-    ensures packed { OnOk result (IsPacked (trees packed.old.items) → IsPacked (trees packed.new.items)) }
-    ensures len { vec_len packed.new ≤ vec_len packed.old + 1 }
-    ensures capacity { vec_capacity packed.old ≤ vec_capacity packed.new }
+/// Leaves out each `Empty`.
+fn leave_out_empties(parts: &mut NodeList)
+    ensures packs { (d : Direction) → Packs d (in_text_order d (trees parts.old.items)) (in_text_order d (trees parts.new.items)) }
+    ensures none { some_in_row is_empty (trees parts.new.items) ≡ false }
 {
-    let mut part = part;
-    if part.is_empty() {
-        return Ok(());
-    }
-    match take_bytes(packed, &mut part) {
-        Ok(true) => Ok(()),
-        Ok(false) => Ok(packed.push(part)?),
-        Err(e) => {
-            packed.push(part)?;
-            Err(e)
-        }
-    }
+    parts.retain(|part| !part.is_empty());
 }
 
-/// Moves the bytes of a part behind those of the last one, if both have some, and answers whether they had.
-fn take_bytes(packed: &mut NodeList, part: &mut Node) -> Result<bool, AllocError>
-    ensures taken { result ≡ Ok true → TakesBytes (trees packed.old.items) (tree part.old) (trees packed.new.items) }
-    ensures apart { result ≡ Ok false → (last_in_row has_bytes (trees packed.old.items) && has_bytes (tree part.old)) ≡ false }
-    ensures kept { result ≢ Ok true → (trees packed.new.items ≡ trees packed.old.items) × (tree part.new ≡ tree part.old) }
-    ensures len { vec_len packed.new ≡ vec_len packed.old }
-    ensures capacity { vec_capacity packed.new ≡ vec_capacity packed.old }
+/// Joins the bytes of neighbours. Where memory is refused for them, two neighbours stay apart.
+fn join_neighbours(parts: &mut NodeList)
+    ensures packs { (d : Direction) → Packs d (in_text_order d (trees parts.old.items)) (in_text_order d (trees parts.new.items)) }
+    ensures empties { some_in_row is_empty (trees parts.new.items) ≡ some_in_row is_empty (trees parts.old.items) }
 {
-    let Some(last) = packed.last_mut() else {
-        return Ok(false);
-    };
-    if !has_bytes(last) || !has_bytes(part) {
-        return Ok(false);
-    }
-    append(last, part)?;
-    Ok(true)
+    parts.dedup_by(|part, last| take_bytes(last, part));
+}
+
+/// Moves the bytes of a part behind those of the last one, if both have some and memory is given, and answers whether it
+/// did.
+fn take_bytes(last: &mut Node, part: &mut Node) -> bool
+    ensures { MatchBool result (TakesBytes (tree last.old) (tree part.old) (tree last.new))
+        ((tree last.new ≡ tree last.old) × (tree part.new ≡ tree part.old)) }
+{
+    has_bytes(last) && has_bytes(part) && append(last, part).is_ok()
 }

@@ -1,9 +1,9 @@
 //! A node that holds one node, which is in normal form.
-ghost use Rattle.std.specs.Prelude.{◌≡◌, ◌≤◌, true, false, not, ◌&&◌, IsTrue, IfOk, OnOk, OnErr, []};
+ghost use Rattle.std.specs.Prelude.{◌≡◌, ◌≤◌, true, false, not, ◌&&◌, IsTrue, IfOk, OnOk, OnErr};
 ghost use Rattle.regress_tree.specs.NodeTests.{is_empty};
 ghost use Rattle.regress_tree.specs.Reading.{Direction};
 ghost use Rattle.regress_tree.specs.Shapes.{is_cat, is_group, is_loop, is_zero, on_loop};
-ghost use Rattle.regress_tree.specs.Tree.{Wrapper, Tree, tree, wrapped, copies, leaf, empty, byte_set};
+ghost use Rattle.regress_tree.specs.Tree.{Wrapper, Tree, tree, wrapped, copies};
 ghost use Rattle.regress_tree.specs.Units.{account};
 ghost use Rattle.regress_tree.specs.Walk.{direction_of};
 ghost use Rattle.regress_rewrite.specs.Law.{IsPart};
@@ -14,6 +14,7 @@ ghost use Rattle.regress_normalize.specs.Wrapped.{may_unroll_by, IsLoopOf, promo
 
 use crate::cat::finish_cat;
 use crate::facts::{PartFacts, RowFacts};
+use crate::leaf::leaf_facts;
 use regress_rewrite::unroll_loops::{MAX_CHARGE, MAX_LEVELS, write_out};
 use regress_tree::ir::{Node, Quantifier, Walk};
 use std::alloc::{AllocError, Global};
@@ -68,7 +69,7 @@ pub fn finish_wrapper(
         } => {
             if always_holds(*negate, contents) {
                 *node = Node::Empty;
-                Ok(leaf_facts(false))
+                Ok(leaf_facts(node, false))
             } else {
                 around(body, false, false)
             }
@@ -199,11 +200,11 @@ fn finish_loop(alloc: Global, node: &mut Node, body: &PartFacts) -> Result<PartF
         }
         LoopForm::Empty => {
             *node = Node::Empty;
-            Ok(leaf_facts(false))
+            Ok(leaf_facts(node, false))
         }
         LoopForm::AlwaysFails => {
             *node = Node::ByteSet(Vec::new(alloc));
-            Ok(leaf_facts(true))
+            Ok(leaf_facts(node, false))
         }
         LoopForm::Stays => around(body, false, true),
     }
@@ -262,21 +263,4 @@ fn around(body: &PartFacts, group: bool, repeats: bool) -> Result<PartFacts, All
         always_fails: false,
         was_one_character: false,
     })
-}
-
-/// What is known of an `Empty`, or of a `ByteSet` without members, which always fails.
-fn leaf_facts(always_fails: bool) -> PartFacts
-    ensures empty { always_fails ≡ false → HasFacts result (leaf empty) }
-    ensures fails { always_fails ≡ true → HasFacts result (leaf (byte_set [])) }
-    ensures many { result.was_one_character ≡ false }
-{
-    PartFacts {
-        charge: 1,
-        levels: 1,
-        has_group: false,
-        has_loop: false,
-        has_string_set: false,
-        always_fails,
-        was_one_character: false,
-    }
 }

@@ -1,14 +1,15 @@
 -- The law, from what became of the parts.
-use Rattle.std.proofs.Common.{◌≡◌, false, [], rules, refl, sym, ap, ◌∙◌, subst, Ok}
+use Rattle.std.proofs.Common.{◌≡◌, false, rules, refl, sym, ap, ◌∙◌, subst, Ok}
 use Rattle.std.proofs.lemmas.Bool.{true≢false}
 use Rattle.regress_tree.specs.declared.ir.node.Node.{the_lemmas}
 use Rattle.regress_tree.specs.declared.ir.node.Node.TheVariants.{ByteSet}
 use Rattle.regress_tree.specs.Shapes.{is_cat}
-use Rattle.regress_tree.specs.Tree.{Tree, Trees, leaf, empty, byte_set, cat, tree, trees}
+use Rattle.regress_tree.specs.Tree.{Tree, Trees, leaf, byte_set, cat, tree, trees}
 use Rattle.regress_tree.specs.Walk.{direction_of}
 use Rattle.regress_tree.proofs.laws.Nodes.{tree-Cat, tree-ByteSet}
 use Rattle.regress_tree.proofs.laws.Levels.{out-Cat}
 use Rattle.regress_rewrite.specs.Law.{IsPart}
+use Rattle.regress_rewrite.proofs.laws.Segments.{is_empty-leaf}
 use Rattle.regress_normalize.specs.Normalized.{Normalized}
 use Rattle.regress_normalize.proofs.FinishLemmas.{parts_of_cat, fails_normalized, err_normalized, cat_normalized, empty_normalized, alone_normalized}
 use Rattle.regress_normalize.proofs.cat.finish_cat.Goals as goal
@@ -22,8 +23,8 @@ returns-then-always_fails c =
     subst (λ (t : Tree). Normalized d t (tree (ByteSet c.new.result)) (Ok c.leaf_facts.result)) (sym given.is)
     (subst (λ (t : Tree). Normalized d (cat given.parts) t (Ok c.leaf_facts.result)) (sym new_is)
     (fails_normalized d c.args.row.now given.parts parts (subst (λ (t : Tree). IsPart t) given.is c.requires.part)
-    (sym c.always_fails.ensures ∙ c.if-always_fails.true) c.leaf_facts.result (c.leaf_facts.ensures.facts (byte_set []) refl refl refl)
-    c.leaf_facts.ensures.other))
+    (sym c.always_fails.ensures ∙ c.if-always_fails.true) c.leaf_facts.result (rw new_is at c.leaf_facts.ensures.has)
+    c.leaf_facts.ensures.was))
 
 pub unreachable-requires : goal.unreachable-requires
 unreachable-requires c =
@@ -70,8 +71,8 @@ returns-then-is_empty c =
     let known = c.leaf_facts-then-is_empty in
     subst (λ (t : Tree). Normalized d t (tree c.in-Some.alone) (Ok known.result)) (sym node_is)
     (empty_normalized d row ts parts (trees c.pack.new.parts.items) keeps left c.in_ok-taken.taken done lasting (tree c.in-Some.alone)
-    c.in-Some.ensures.some (sym c.is_empty.ensures ∙ c.if-is_empty.true) known.result (known.ensures.facts empty refl refl refl)
-    known.ensures.other)
+    c.in-Some.ensures.some (sym c.is_empty.ensures ∙ c.if-is_empty.true) known.result (rw (is_empty-leaf (tree c.in-Some.alone) (sym c.is_empty.ensures ∙ c.if-is_empty.true)) at known.ensures.has)
+    known.ensures.was)
 
 pub returns : goal.returns
 returns c =

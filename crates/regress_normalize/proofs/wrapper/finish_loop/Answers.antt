@@ -45,7 +45,7 @@ returns-in-Empty-clause-finished c d =
     let form : TakesForm Empty facts q start end body =
     rw (c.in-Empty.is, c.deref.ensures, at.is, out-Loop) at c.form_of.ensures in
     rw (is, tree-Empty)
-    (vanished_finished facts q start end body holds.normal holds.has d part c.leaf_facts.result form (c.leaf_facts.ensures.empty refl))
+    (vanished_finished facts q start end body holds.normal holds.has d part c.leaf_facts.result form (rw tree-Empty at c.leaf_facts.ensures.has))
 
 pub returns-in-AlwaysFails-clause-finished : goal.returns-in-AlwaysFails-clause-finished
 returns-in-AlwaysFails-clause-finished c d =
@@ -64,4 +64,4 @@ returns-in-AlwaysFails-clause-finished c d =
     let made = tree-ByteSet c.new.result ∙ ap (λ (bytes : List ℕ). leaf (byte_set bytes)) c.new.ensures.items in
     rw (is, made)
     (failed_finished facts q start end body holds.normal holds.has d part c.leaf_facts-in-AlwaysFails.result form
-    (c.leaf_facts-in-AlwaysFails.ensures.fails refl))
+    (rw made at c.leaf_facts-in-AlwaysFails.ensures.has))

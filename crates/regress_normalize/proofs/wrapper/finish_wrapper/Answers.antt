@@ -97,4 +97,4 @@ returns-then-always_holds c =
     let emptied : is_emptied_away t ≡ true = sym (rw (c.deref.ensures, at.is, out) at c.always_holds.ensures) ∙ c.if-always_holds.true in
     rw (is, tree-Empty)
     (emptied_finished _ (direction_of c.args.walk.now) t (λ clean. clean.0.0) refl emptied part
-    c.leaf_facts.result (c.leaf_facts.ensures.empty refl))
+    c.leaf_facts.result (rw tree-Empty at c.leaf_facts.ensures.has))
