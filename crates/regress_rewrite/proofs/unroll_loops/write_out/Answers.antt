@@ -34,7 +34,7 @@ returns-clause-unrolled c =
     let is = ap tree at.is ∙ tree-Loop at.loopee at.quant at.enclosed_groups in
     let parts = c.in_ok-parts.parts.items in
     let copied : trees parts ≡ copies q.min body = rw (c.deref.ensures, at.is, out-Loop) at c.in_ok-parts.ensures.copies in
-    let turns : c.further_turns.result ≡ further_turns q = rw (at.is, out-Loop) at c.further_turns.ensures in
+    let turns : c.further_turns.result ≡ further_turns q = rw at.quant-is at c.further_turns.ensures in
     let zero = ap (λ (q' : Quantifier). is_zero q'.max) (sym turns) ∙ is_zero-told c.further_turns.result.max in
     let row_is : tree (Cat c.if-ne.parts) ≡ unrolled q start end body =
     tree-Cat c.if-ne.parts
