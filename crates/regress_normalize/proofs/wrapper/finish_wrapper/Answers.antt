@@ -28,7 +28,7 @@ finish_unrolled-requires-clause-copied c =
     let holds = wrapper_holds facts (loop q start end) body told in
     let tells = tells_unrolling small q start end body facts holds.has part
     (λ one. subst (λ (t : Tree). account t ≤ small_account) is (c.requires.small one)) in
-    let asked : c.may_unroll.result ≡ may_unroll_by small q start end facts = rw (at.is, out-Loop) at c.may_unroll.ensures in
+    let asked : c.may_unroll.result ≡ may_unroll_by small q start end facts = rw (at.quant-is, at.enclosed_groups-is) at c.may_unroll.ensures in
     let loop_is = tree-Loop at.loopee at.quant at.enclosed_groups in
     rw (at.is, out-Loop) (ap (on_loop may_copy) loop_is ∙ tells.copied (sym asked ∙ c.if-may_unroll.true))
 
@@ -47,7 +47,7 @@ finish_loop-requires-clause-inner c =
     let holds = wrapper_holds facts (loop q start end) body told in
     let tells = tells_unrolling small q start end body facts holds.has part
     (λ one. subst (λ (t : Tree). account t ≤ small_account) is (c.requires.small one)) in
-    let asked : c.may_unroll.result ≡ may_unroll_by small q start end facts = rw (at.is, out-Loop) at c.may_unroll.ensures in
+    let asked : c.may_unroll.result ≡ may_unroll_by small q start end facts = rw (at.quant-is, at.enclosed_groups-is) at c.may_unroll.ensures in
     rw (at.is, out-Loop) (record {
       quantifier = q;
       start = start;
@@ -74,7 +74,7 @@ returns-then-may_unroll c =
     let holds = wrapper_holds facts (loop q start end) body told in
     let tells = tells_unrolling small q start end body facts holds.has part
     (λ one. subst (λ (t : Tree). account t ≤ small_account) is (c.requires.small one)) in
-    let asked : c.may_unroll.result ≡ may_unroll_by small q start end facts = rw (at.is, out-Loop) at c.may_unroll.ensures in
+    let asked : c.may_unroll.result ≡ may_unroll_by small q start end facts = rw (at.quant-is, at.enclosed_groups-is) at c.may_unroll.ensures in
     let finished = rw (at.is, out-Loop) at c.finish_unrolled.ensures in
     rw at.is (finished_narrower _ _ _ _ _ _
     (λ clean. unrolled_not_clean facts _ q start end body (tree-Loop at.loopee at.quant at.enclosed_groups)

@@ -29,7 +29,7 @@ finish_last-requires-clause-part c =
     let holds = wrapper_holds facts (loop q start end) body told in
     let made : tree c.write_out.new.node ≡ unrolled q start end body =
     (rw (at.is, out-Loop) at c.in_ok-write_out.ensures.unrolled) ∙ ap unrolled_loop (tree-Loop at.loopee at.quant at.enclosed_groups) in
-    let asked = rw (at.is, out-Loop) at c.may_go_on-more.ensures in
+    let asked = rw at.quant-is at c.may_go_on-more.ensures in
     let row = c.in_ok-row.row in
     let has : HasRowFacts row (copies q.min body) =
     subst (λ (q' : Quantifier). HasRowFacts row (copies q'.min body)) at.quant-is
@@ -51,7 +51,7 @@ finish_last-requires-clause-row c =
     let holds = wrapper_holds facts (loop q start end) body told in
     let made : tree c.write_out.new.node ≡ unrolled q start end body =
     (rw (at.is, out-Loop) at c.in_ok-write_out.ensures.unrolled) ∙ ap unrolled_loop (tree-Loop at.loopee at.quant at.enclosed_groups) in
-    let asked = rw (at.is, out-Loop) at c.may_go_on-more.ensures in
+    let asked = rw at.quant-is at c.may_go_on-more.ensures in
     let row = c.in_ok-row.row in
     let has : HasRowFacts row (copies q.min body) =
     subst (λ (q' : Quantifier). HasRowFacts row (copies q'.min body)) at.quant-is
@@ -74,7 +74,7 @@ returns-then-more c d =
     let holds = wrapper_holds facts (loop q start end) body told in
     let made : tree c.write_out.new.node ≡ unrolled q start end body =
     (rw (at.is, out-Loop) at c.in_ok-write_out.ensures.unrolled) ∙ ap unrolled_loop (tree-Loop at.loopee at.quant at.enclosed_groups) in
-    let asked = rw (at.is, out-Loop) at c.may_go_on-more.ensures in
+    let asked = rw at.quant-is at c.may_go_on-more.ensures in
     let row = c.in_ok-row.row in
     let has : HasRowFacts row (copies q.min body) =
     subst (λ (q' : Quantifier). HasRowFacts row (copies q'.min body)) at.quant-is
@@ -97,7 +97,7 @@ returns-else-more c d =
     let holds = wrapper_holds facts (loop q start end) body told in
     let made : tree c.write_out.new.node ≡ unrolled q start end body =
     (rw (at.is, out-Loop) at c.in_ok-write_out.ensures.unrolled) ∙ ap unrolled_loop (tree-Loop at.loopee at.quant at.enclosed_groups) in
-    let asked = rw (at.is, out-Loop) at c.may_go_on-more.ensures in
+    let asked = rw at.quant-is at c.may_go_on-more.ensures in
     let row = c.in_ok-row.row in
     let has : HasRowFacts row (copies q.min body) =
     subst (λ (q' : Quantifier). HasRowFacts row (copies q'.min body)) at.quant-is
