@@ -1,35 +1,43 @@
 //! A place in the source of a pattern.
 ghost use Rattle.std.specs.Prelude.{◌≡◌, All};
 ghost use Rattle.std.proofs.Props.{props};
-ghost use Rattle.regress_lexical.specs.Source.{IsCodePoint, is_plain};
+ghost use Rattle.regress_lexical.specs.Source.{IsCodePoint, is_special, is_plain};
 
+use crate::digits::is_letter;
 use crate::fault::{ParseFault, UNBALANCED, syntax};
 use crate::quantifier::may_begin;
 use std::alloc::Global;
 
-/// The code points that begin rows of their own, or none.
-const SPECIAL: [u32; 14] = [
-    '*' as u32,
-    '+' as u32,
-    '?' as u32,
-    '{' as u32,
-    ']' as u32,
-    '}' as u32,
-    '(' as u32,
-    ')' as u32,
-    '[' as u32,
-    '|' as u32,
-    '\\' as u32,
-    '^' as u32,
-    '$' as u32,
-    '.' as u32,
-];
+/// Whether the code point begins rows of its own, or none.
+fn is_special(c: u32) -> bool
+    ensures { result ≡ is_special c }
+{
+    // In two parts, of which each is tested by the bits of one word.
+    if c < u32::from('@') {
+        c == u32::from('*')
+            || c == u32::from('+')
+            || c == u32::from('?')
+            || c == u32::from('(')
+            || c == u32::from(')')
+            || c == u32::from('$')
+            || c == u32::from('.')
+    } else {
+        c == u32::from('{')
+            || c == u32::from(']')
+            || c == u32::from('}')
+            || c == u32::from('[')
+            || c == u32::from('|')
+            || c == u32::from('\\')
+            || c == u32::from('^')
+    }
+}
 
 /// Whether the code point stands for itself.
 pub fn is_plain(c: u32) -> bool
     ensures { result ≡ is_plain c }
 {
-    !SPECIAL.contains(&c)
+    // Most are letters.
+    is_letter(c) || !is_special(c)
 }
 
 /// A place in the source of a pattern: what is still to read.
@@ -61,7 +69,10 @@ impl Cursor<'_> {
     pub fn ends_alternative(&self) -> bool
         ensures { result ≡ ends_alternative (source self.now) }
     {
-        self.rest.is_empty() || self.is_at(')') || self.is_at('|')
+        match self.rest {
+            [next, ..] => *next == u32::from(')') || *next == u32::from('|'),
+            [] => true,
+        }
     }
 
     /// Moves past `c`, if it comes next.

@@ -1,8 +1,8 @@
 //! Digits at the front of a source, and letters.
-ghost use Rattle.std.specs.Prelude.{◌≡◌, ◌≤◌, ◌-◌, ◌^◌, min, length, drop, Some, None, option_map, if◌then◌else◌};
+ghost use Rattle.std.specs.Prelude.{◌≡◌, ◌≤◌, ◌-◌, ◌^◌, true, [], ◌∷◌, min, length, drop, Some, None, IfSome, IfNone, option_map, if◌then◌else◌};
 ghost use Rattle.std.specs.List.{prefix_len, list_all};
 ghost use Rattle.regress_lexical.specs.Source.{is_at};
-ghost use Rattle.regress_lexical.specs.Digits.{is_between, is_decimal, is_octal, is_letter, is_hex, digit, control, number_from, hex_at};
+ghost use Rattle.regress_lexical.specs.Digits.{is_between, is_decimal, is_octal, is_letter, is_hex, digit, control, number_from, front, behind, hex_at};
 ghost use Rattle.regress_lexical.specs.Quantifiers.{count_at};
 
 /// What stands at the front of a source, and the source behind it; None where it doesn't stand there.
@@ -87,14 +87,6 @@ pub fn number_from(base: usize, first: usize, digits: &[u32]) -> usize
     number
 }
 
-/// How many decimal digits are at the front.
-fn decimal_length(source: &[u32]) -> usize
-    ensures value { result ≡ prefix_len is_decimal source.now }
-    ensures within { result ≤ length source.now }
-{
-    source.iter().take_while(|c| is_decimal(**c)).count()
-}
-
 /// How many hexadecimal digits are at the front.
 pub fn hex_length(source: &[u32]) -> usize
     ensures value { result ≡ prefix_len is_hex source.now }
@@ -111,16 +103,41 @@ pub fn octal_length(source: &[u32]) -> usize
     source.iter().take_while(|c| is_octal(**c)).count()
 }
 
+/// The decimal digit at the front.
+#[tactic(auto, unfolding(crate::specs::Digits::front, crate::specs::Digits::behind))]
+fn read_decimal<'a>(source: &'a [u32]) -> Read<'a, u32>
+    ensures some { IfSome result (λ found. (source.now ≡ found.0 ∷ found.1.now) × (is_decimal found.0 ≡ true)) }
+    ensures no_digit { IfNone result (front is_decimal source.now ≡ []) }
+    ensures none { IfNone result (behind is_decimal source.now ≡ source.now) }
+{
+    let (c, rest) = source.split_first()?;
+    if !is_decimal(*c) {
+        return None;
+    }
+    Some((*c, rest))
+}
+
+/// The number that the digits at the front write, behind those that write `first`, and the source behind them. It
+/// saturates.
+fn read_on<'a>(first: usize, source: &'a [u32]) -> (usize, &'a [u32])
+    ensures number { result.0 ≡ min (number_from 10 first (front is_decimal source.now)) (2 ^ 64 - 1) }
+    ensures rest { result.1.now ≡ behind is_decimal source.now }
+{
+    let mut number = first;
+    let mut rest = source;
+    while let Some((c, behind)) = read_decimal(rest) {
+        number = number.saturating_mul(10).saturating_add(digit(c) as usize);
+        rest = behind;
+    }
+    (number, rest)
+}
+
 /// A decimal number, which saturates once all its digits are read.
-#[tactic(auto, using(crate::proofs::laws::Digits::front_taken, crate::proofs::laws::Digits::behind_dropped))]
 pub fn read_count<'a>(source: &'a [u32]) -> Read<'a, usize>
     ensures { option_map (λ found. (found.0, found.1.now)) result ≡ count_at source.now }
 {
-    let (digits, rest) = source.split_at(decimal_length(source));
-    if digits.is_empty() {
-        return None;
-    }
-    Some((number_from(10, 0, digits), rest))
+    let (c, rest) = read_decimal(source)?;
+    Some(read_on(digit(c) as usize, rest))
 }
 
 /// Whether all are hexadecimal digits.

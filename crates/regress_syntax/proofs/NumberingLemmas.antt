@@ -44,14 +44,14 @@ groups_named-push name k (first ∷ names) other = by_test (groups_named-push na
 
 -- ---- the map of numbers
 
-abbrev Numbers : Type 0
+abbrev pub Numbers : Type 0
 Numbers = BTreeMap (Vec ℕ Global) (Vec ℕ Global)
 
 abbrev by_items : Vec ℕ Global → Vec ℕ Global → Ordering
 by_items x y = slice_cmp nat_cmp x.items y.items
 
 -- what a name finds
-abbrev found_at : Numbers → Name → Option (Vec ℕ Global)
+abbrev pub found_at : Numbers → Name → Option (Vec ℕ Global)
 found_at numbers name = get_by (λ key. slice_cmp nat_cmp name key.items) numbers
 
 abbrev is_key : Name → Vec ℕ Global → Bool
@@ -77,24 +77,21 @@ found_changed a old new w h b =
     (λ (e : bytes_eq a b ≡ false). others_kept a b old.entries new.entries e h.3 ∙ sym (cond-false (bytes_eq a b) w (found_at old b) e))
     (cases_Bool (bytes_eq a b))
 
--- a number more for a name, whose numbers were taken out and put back
-pub number_added : (a : Name) (old between new : Numbers) (numbers : Vec ℕ Global) (k : ℕ) →
-    UpdatesBy by_items (λ key. slice_cmp nat_cmp a key.items) old between None →
-    UpdatesBy by_items (λ key. slice_cmp nat_cmp a key.items) between new (Some numbers) →
-    numbers.items ≡ numbers_in old a ++ k ∷ [] →
+-- a number more for a name
+pub number_added : (a : Name) (old new : Numbers) (numbers : Vec ℕ Global) (k : ℕ) →
+    UpdatesBy by_items (λ key. slice_cmp nat_cmp a key.items) old new (Some numbers) → numbers.items ≡ numbers_in old a ++ k ∷ [] →
     (b : Name) → numbers_in new b ≡ cond (bytes_eq a b) (numbers_in old b ++ k ∷ []) (numbers_in old b)
-number_added a old between new numbers k out back more b = by_test (bytes_eq a b) refl
+number_added a old new numbers k put more b = by_test (bytes_eq a b) refl
   where
     by_test : (t : Bool) → bytes_eq a b ≡ t → numbers_in new b ≡ cond t (numbers_in old b ++ k ∷ []) (numbers_in old b)
     by_test true e =
         let same : a ≡ b = (bytes_eq-Decides a b).0 e in
         ap (λ (found : Option (Vec ℕ Global)). option_map_or (λ numbers. numbers.items) found [])
-        (found_changed a between new (Some numbers) back b ∙ cond-true (bytes_eq a b) _ _ e)
+        (found_changed a old new (Some numbers) put b ∙ cond-true (bytes_eq a b) _ _ e)
         ∙ more ∙ ap (λ (name : Name). numbers_in old name ++ k ∷ []) same
     by_test false e =
         ap (λ (found : Option (Vec ℕ Global)). option_map_or (λ numbers. numbers.items) found [])
-        (found_changed a between new (Some numbers) back b ∙ cond-false (bytes_eq a b) _ _ e
-        ∙ found_changed a old between None out b ∙ cond-false (bytes_eq a b) _ _ e)
+        (found_changed a old new (Some numbers) put b ∙ cond-false (bytes_eq a b) _ _ e)
 
 pub items_of_found : (found : Option (Vec ℕ Global)) (none : Vec ℕ Global) → none.items ≡ [] →
     (unwrap_or found none).items ≡ option_map_or (λ numbers. numbers.items) found []

@@ -10,9 +10,9 @@ use Rattle.regress_lexical.specs.Digits.{is_decimal, is_letter, control, behind,
 use Rattle.regress_lexical.specs.Escapes.{escape_at}
 use Rattle.regress_classes.specs.Properties.{Property, points_of, is_property_character, closed_property, property_at, property_word_at}
 use Rattle.regress_classes.specs.ClassRows.{ClassAtom, point, set, complement_if, class_letter, class_members, class_control_at, class_property_at, class_escape_rows, class_escape_by, class_escape_at, class_atom_at, atom_members, begins_range, range_of, range_at, class_part_at, class_parts_by, class_at}
-use Rattle.regress_syntax.specs.Scan.{plain, class, class_escape, marks}
+use Rattle.regress_syntax.specs.Scan.{plain, class, class_escape, marks, is_quiet}
 use Rattle.regress_lexical.proofs.laws.Digits.{and_both}
-use Rattle.regress_syntax.proofs.ScanLemmas.{is_quiet, Passes, Leads, Home, in_class, home, passes_same, passes_then, leads_none, leads_some, leads_behind, leads_then, leads_map, leads_cond, pass_quiet, pass_at, pass_backslash, pass_escaped, pass_behind, lead_escape_at}
+use Rattle.regress_syntax.proofs.ScanLemmas.{Passes, Leads, Home, in_class, home, passes_same, passes_then, leads_none, leads_some, leads_behind, leads_then, leads_map, leads_cond, pass_quiet, pass_at, pass_backslash, pass_escaped, pass_behind, lead_escape_at}
 use Rattle.regress_lexical.proofs.laws.Sources.{EachRow, no_more, ◌also◌, first_row-has}
 
 -- a class may hold anything, or nothing

@@ -11,14 +11,10 @@ use Rattle.regress_lexical.specs.Digits.{is_between, is_decimal, is_letter, is_o
 use Rattle.regress_lexical.specs.Escapes.{braced_hex_at, unit_at, second_half_at, paired, with_second_half, unicode_at, or_itself, octal_digits, letter_escape, begins_with_digit, is_syntax_character, control_at, other_escape, escape_at}
 use Rattle.regress_lexical.specs.Quantifiers.{Times, count_at, closed_brace, most_at, times_by, greedy_or_lazy, quantifier_at}
 use Rattle.regress_syntax.specs.Marks.{Mark}
-use Rattle.regress_syntax.specs.Scan.{Mode, plain, escape, class, class_escape, marks}
+use Rattle.regress_syntax.specs.Scan.{Mode, plain, escape, class, class_escape, is_quiet, marks}
 use Rattle.regress_lexical.proofs.laws.Digits.{and_both}
 
 -- ---- code points that a scan takes no notice of
-
--- they end no class and open nothing
-abbrev pub is_quiet : ℕ → Bool
-is_quiet c = not (c == 92 || c == 91 || c == 93 || c == opening || c == closing || c == bar)
 
 pub quiet_hex : (c : ℕ) → is_hex c ≡ true → is_quiet c ≡ true
 quiet_hex c e = grind (arith, nat_tests)

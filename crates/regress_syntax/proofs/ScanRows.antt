@@ -20,11 +20,11 @@ use Rattle.regress_syntax.specs.Names.{is_sign, begins_name, continues_name, nam
 use Rattle.regress_syntax.specs.Syntax.{Name, Atom, literal, Group, modified, capture}
 use Rattle.regress_syntax.specs.Syntax as Syntax
 use Rattle.regress_syntax.specs.Rows.{Context, Head, single, opens, angle_at, modified_at, behind_mark_at, group_at, has_name, character_at, property_atom, property_atom_at, numbered_at, named_at, escape_rows, escaped_by, escaped_at, brace_by, brackets_at, atom_rows, atom_by, head_at, no_quantifier_at, this_quantifier, times_at}
-use Rattle.regress_syntax.specs.Scan.{Mode, plain, escape, class, opened_at, marks}
+use Rattle.regress_syntax.specs.Scan.{Mode, plain, escape, class, opened_at, marks, is_quiet}
 use Rattle.regress_syntax.specs.Marks.{Mark, captures, mark_of_group, marks_of_atom}
 use Rattle.regress_syntax.specs.Marks as Marks
 use Rattle.regress_lexical.proofs.laws.Digits.{and_both, drop_one_more}
-use Rattle.regress_syntax.proofs.ScanLemmas.{is_quiet, quiet_decimal, quiet_plain, Passes, Leads, Gives, in_text, gives_none, gives_some, gives_after, gives_then, gives_map, gives_cond, gives_leads, passes_same, passes_then, leads_none, leads_some, leads_behind, leads_then, leads_map, leads_cond, pass_quiet, pass_at, pass_backslash, pass_escaped, pass_behind, lead_unicode_at, lead_escape_at, lead_quantifier_at}
+use Rattle.regress_syntax.proofs.ScanLemmas.{quiet_decimal, quiet_plain, Passes, Leads, Gives, in_text, gives_none, gives_some, gives_after, gives_then, gives_map, gives_cond, gives_leads, passes_same, passes_then, leads_none, leads_some, leads_behind, leads_then, leads_map, leads_cond, pass_quiet, pass_at, pass_backslash, pass_escaped, pass_behind, lead_unicode_at, lead_escape_at, lead_quantifier_at}
 use Rattle.regress_syntax.proofs.ScanClasses.{lead_property_at, lead_class_at}
 use Rattle.regress_syntax.proofs.ScanSets.{gives_class_set_at}
 use Rattle.regress_lexical.proofs.laws.Sources.{EachRow, no_more, ◌also◌, first_row-has}

@@ -12,9 +12,9 @@ use Rattle.regress_classes.specs.ClassRows.{class_letter, class_members, one_poi
 use Rattle.regress_classes.specs.ClassSets.{Value, has_strings, only, joined, common, without, value_of_string, value_of_strings, nested, unless_of_strings, Operand, character, value_of, is_set_syntax, is_double, begins_double, is_reserved, escaped_character_at, set_character_at, strings_by, quoted_at, property_operand, operand_rows, escaped_operand_at, operand_at, range_of, part_behind, parts_by, are_at, operands_by, contents_behind, contents_at, class_set_by, class_set_at}
 use Rattle.regress_classes.specs.ClassSets as ClassSets
 use Rattle.regress_syntax.specs.Marks.{Mark, nests}
-use Rattle.regress_syntax.specs.Scan.{plain, class, marks}
+use Rattle.regress_syntax.specs.Scan.{plain, class, marks, is_quiet}
 use Rattle.regress_lexical.proofs.laws.Digits.{and_both, drop_one_more}
-use Rattle.regress_syntax.proofs.ScanLemmas.{is_quiet, Passes, Leads, Gives, Home, in_class, home, behind_backslash, leads_none, leads_some, leads_behind, leads_then, leads_map, leads_cond, gives_none, gives_some, gives_after, gives_then, gives_map, gives_cond, gives_leads, pass_quiet, pass_at, pass_backslash, pass_escaped, lead_escape_at}
+use Rattle.regress_syntax.proofs.ScanLemmas.{Passes, Leads, Gives, Home, in_class, home, behind_backslash, leads_none, leads_some, leads_behind, leads_then, leads_map, leads_cond, gives_none, gives_some, gives_after, gives_then, gives_map, gives_cond, gives_leads, pass_quiet, pass_at, pass_backslash, pass_escaped, lead_escape_at}
 use Rattle.regress_syntax.proofs.ScanClasses.{lead_property_at, pass_caret}
 use Rattle.regress_lexical.proofs.laws.Sources.{EachRow, no_more, ◌also◌, first_row-has}
 

@@ -1,5 +1,5 @@
 -- The parentheses and bars of a pattern, by a scan of its code points that knows no grammar.
-use Rattle.std.specs.Prelude.{◌≡◌, ◌⊎◌, ◌<◌, ℕ, ◌+◌, ◌-◌, max, Bool, false, ◌&&◌, List, [], ◌∷◌, ◌++◌, drop, Option, Some, None, if◌then◌else◌, ◌==◌}
+use Rattle.std.specs.Prelude.{◌≡◌, ◌⊎◌, ◌<◌, ℕ, ◌+◌, ◌-◌, max, Bool, false, not, ◌&&◌, ◌||◌, List, [], ◌∷◌, ◌++◌, drop, Option, Some, None, if◌then◌else◌, ◌==◌}
 use Rattle.std.specs.Option.{option_to_list}
 use Rattle.regress_base.specs.Limits.{max_nesting_depth}
 use Rattle.regress_unicode.specs.Table.{Table}
@@ -37,6 +37,10 @@ mode_behind sets (class depth deepest) c =
     else if c == 93 then class (depth - 1) deepest
     else class depth deepest
 mode_behind sets (class_escape depth deepest) c = class depth deepest
+
+-- a code point that is no mark, and leaves the mode as it is, in plain text and in a class
+abbrev pub is_quiet : ℕ → Bool
+is_quiet c = not (c == 92 || c == 91 || c == 93 || c == opening || c == closing || c == bar)
 
 -- the mark that a code point is, if any, with the source behind it
 abbrev pub mark_at : (sets : Bool) → Table → Mode → ℕ → Source → Option Mark

@@ -18,9 +18,7 @@ use Rattle.regress_syntax.specs.declared.scan.scanner.NamedGroup.{NamedGroup}
 
 abbrev pub mode_of : CodeMode → Mode
 mode_of modes.Plain = plain
-mode_of modes.Escape = escape
 mode_of (modes.Class depth deepest) = class depth deepest
-mode_of (modes.ClassEscape depth deepest) = class_escape depth deepest
 
 abbrev pub mark_of : CodeMark → Mark
 mark_of code_marks.Opens = opens

@@ -14,7 +14,7 @@ mod scanner;
 
 use crate::groups::Groups;
 use crate::names::Name;
-use mark::{Mode, read_mark};
+use mark::{Mode, read_mark, skip_quiet};
 use regress_lexical::fault::ParseFault;
 use regress_unicode::Tables;
 use scanner::Scanner;
@@ -55,7 +55,7 @@ fn find_names(
     let mut scanner = Scanner::new(alloc)?;
     let mut mode = Mode::Plain;
     let mut rest = pattern;
-    while let Some((c, behind)) = rest.split_first() {
+    while let Some((c, behind)) = skip_quiet(rest).split_first() {
         if let Some(mark) = read_mark(alloc, mode, *c, behind, sets, tables)? {
             scanner.pass(mark)?;
         }

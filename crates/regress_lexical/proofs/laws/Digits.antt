@@ -1,7 +1,7 @@
 -- Digits at the front of a source, and the numbers that they write.
-use Rattle.std.proofs.Common.{◌≡◌, ℕ, zero, suc, ◌+◌, ◌*◌, ◌^◌, ◌<◌, ◌≤◌, min, ⊎_elim, nat_le, Bool, true, false, ◌&&◌, cond, List, [], ◌∷◌, map, length, get_or, take, drop, refl, ap, subst, arith}
+use Rattle.std.proofs.Common.{◌≡◌, ℕ, zero, suc, ◌+◌, ◌*◌, ◌-◌, ◌^◌, ◌<◌, ◌≤◌, min, ⊎_elim, nat_le, ◌==◌, Bool, true, false, ◌&&◌, cond, List, [], ◌∷◌, map, length, get_or, take, drop, Some, refl, sym, ap, ◌∙◌, subst, arith}
 use Rattle.std.proofs.lemmas.Bool.Decides.{nat_tests}
-use Rattle.std.proofs.lemmas.Bool.{cases_lt, false≢true}
+use Rattle.std.proofs.lemmas.Bool.{cases_lt, cond-false, ne_eqb, false≢true}
 use Rattle.std.proofs.Math.Nat.{min_comm, mul-le-mul_left, pow-le-pow_right}
 use Rattle.std.proofs.lemmas.Int.Digits.{number_after_lt}
 use Rattle.std.specs.Int.Digits.{number_from_digits_after, AllBelowBase}
@@ -10,7 +10,8 @@ use Rattle.std.proofs.lemmas.List.Sums.{prefix_len-le-length}
 use Rattle.regress_lexical.specs.Escapes.{octal_digits}
 use Rattle.std.specs.List.{prefix_len, list_all}
 use Rattle.regress_lexical.specs.Source.{Source}
-use Rattle.regress_lexical.specs.Digits.{is_octal, is_hex, digit, number_from, number, front, behind}
+use Rattle.regress_lexical.specs.Quantifiers.{count_at}
+use Rattle.regress_lexical.specs.Digits.{is_decimal, is_octal, is_hex, digit, number_from, number, front, behind}
 
 -- a front that passes, by its length
 front_cons : (p : ℕ → Bool) (c : ℕ) (t : Source) (n : ℕ) (b : Bool) → front p t ≡ take n t →
@@ -55,6 +56,41 @@ saturates base n d limit h =
     rw e (omega arith))
     (λ (le : n ≤ limit). let e : min n limit ≡ n = omega arith in rw e (omega arith))
     (cases_lt limit n)
+
+-- so does one that was cut at the limit before further digits
+cut_before : (base n d limit : ℕ) → 2 ≤ base → min (min n limit * base + d) limit ≡ min (n * base + d) limit
+cut_before base n d limit h =
+    ⊎_elim
+    (λ (lt : limit < n).
+    let e : min n limit ≡ limit = omega arith in
+    let up : n * 1 ≤ n * base = mul-le-mul_left n (omega arith) in
+    let high : limit * 1 ≤ limit * base = mul-le-mul_left limit (omega arith) in
+    rw e (omega arith))
+    (λ (le : n ≤ limit). let e : min n limit ≡ n = omega arith in rw e refl)
+    (cases_lt limit n)
+
+pub cut_number : (base n limit : ℕ) (cs : List ℕ) → 2 ≤ base → min (number_from base (min n limit) cs) limit ≡ min (number_from base n cs) limit
+cut_number base n limit [] h = omega arith
+cut_number base n limit (c ∷ cs) h =
+    sym (cut_number base (min n limit * base + digit c) limit cs h)
+    ∙ ap (λ m. min (number_from base m cs) limit) (cut_before base n (digit c) limit h)
+    ∙ cut_number base (n * base + digit c) limit cs h
+
+-- one digit more, as the code counts it
+pub cut_digit : (n d limit : ℕ) (cs : List ℕ) →
+    min (number_from 10 (min (min (n * 10) limit + d) limit) cs) limit ≡ min (number_from 10 (n * 10 + d) cs) limit
+cut_digit n d limit cs =
+    let same : min (min (n * 10) limit + d) limit ≡ min (n * 10 + d) limit = omega arith in
+    ap (λ m. min (number_from 10 m cs) limit) same ∙ cut_number 10 (n * 10 + d) limit cs (omega arith)
+
+-- a decimal digit at the front, and what it writes
+pub front_digit : (c : ℕ) (t : Source) → is_decimal c ≡ true → front is_decimal (c ∷ t) ≡ c ∷ front is_decimal t
+unfolding front
+front_digit c t e = rw e refl
+
+pub behind_digit : (c : ℕ) (t : Source) → is_decimal c ≡ true → behind is_decimal (c ∷ t) ≡ behind is_decimal t
+unfolding behind
+behind_digit c t e = rw e refl
 
 pub and_both : (a b : Bool) → (a && b) ≡ true → (a ≡ true) × (b ≡ true)
 and_both true b e = (refl, e)
@@ -139,3 +175,11 @@ octal_number_fits c t = octal_fits (take (cond (nat_le c 51) 3 2) (c ∷ t)) (oc
 
 pub number_behind : (base c d : ℕ) (cs : List ℕ) → d ≡ digit c → number base (c ∷ cs) ≡ number_from base d cs
 number_behind base c d cs e = ap (λ n. number_from base n cs) (omega (arith, e))
+
+-- a decimal number whose first digit was read
+pub counted_digits : (c : ℕ) (t source : Source) (d n : ℕ) (rest : Source) → source ≡ c ∷ t → is_decimal c ≡ true → d ≡ digit c →
+    n ≡ min (number_from 10 d (front is_decimal t)) (2 ^ 64 - 1) → rest ≡ behind is_decimal t → Some (n, rest) ≡ count_at source
+counted_digits c t source d n rest split decimal first counted left =
+    rw (split, front_digit c t decimal, behind_digit c t decimal, counted, left)
+    (sym (cond-false (length (c ∷ front is_decimal t) == 0) _ _ (ne_eqb (length (c ∷ front is_decimal t)) 0 (λ z. omega (arith, z)))
+    ∙ ap (λ m. Some (min m (2 ^ 64 - 1), behind is_decimal t)) (number_behind 10 c d (front is_decimal t) first)))

@@ -76,8 +76,7 @@ fn add_number(
     ensures { OnOk result ((other : List ℕ) → numbers_in numbers.new other ≡
         (if bytes_eq name.now.items other then numbers_in numbers.old other ++ number ∷ [] else numbers_in numbers.old other)) }
 {
-    let mut found = numbers.remove(name.as_slice()).unwrap_or(Vec::new(alloc));
+    let found = numbers.entry(name.clone()?)?.or_insert(Vec::new(alloc));
     found.push(number)?;
-    numbers.insert(name.clone()?, found)?;
     Ok(())
 }

@@ -1,27 +1,25 @@
 //! What tells the capture groups of a pattern apart.
-ghost use Rattle.std.specs.Prelude.{◌≡◌, ◌<◌, ◌+◌, ◌^◌, option_map, IfOk};
+ghost use Rattle.std.specs.Prelude.{◌≡◌, ◌<◌, ◌≤◌, ◌+◌, ◌^◌, ◌==◌, Bool, false, drop, length, option_map, IfOk};
+ghost use Rattle.regress_unicode.specs.Table.{Table};
 ghost use Rattle.regress_unicode.specs.TableOf.{table_of};
-ghost use Rattle.regress_syntax.specs.Scan.{opened_at, mode_behind, mark_at};
+ghost use Rattle.regress_lexical.specs.Source.{is_at};
+ghost use Rattle.regress_syntax.specs.Scan.{opened_at, mode_behind, is_quiet, mark_at, marks};
 ghost use Rattle.regress_syntax.specs.Scanning.{mode_of, mark_of, depth_of};
+ghost use Rattle.regress_syntax.specs.declared.scan.mark.Mode.{Mode as CodeMode};
 
 use crate::names::{Name, read_group_name};
 use regress_lexical::digits::after;
 use regress_unicode::Tables;
 use std::alloc::{AllocError, Global};
 
-/// What the scan stands in: plain text, a class, or behind the backslash of an escape in one of these.
+/// What the scan stands in, outside of escapes: plain text or a class.
 #[derive(Clone, Copy)]
 pub(super) enum Mode {
     Plain,
-    Escape,
     Class {
         /// How many classes are open inside the outermost.
         depth: usize,
         /// How many there were at most.
-        deepest: usize,
-    },
-    ClassEscape {
-        depth: usize,
         deepest: usize,
     },
 }
@@ -41,15 +39,13 @@ pub(super) enum Mark {
 }
 
 impl Mode {
-    /// The mode behind a code point.
+    /// The mode behind a code point that begins no escape.
     pub(super) fn behind(self, c: u32, sets: bool) -> Mode
-        requires { depth_of (mode_of self) + 1 < 2 ^ 64 }
+        requires room { depth_of (mode_of self) + 1 < 2 ^ 64 }
+        requires unescaped { (c == 92) ≡ false }
         ensures { mode_of result ≡ mode_behind sets (mode_of self) c }
     {
         match (self, char::from_u32(c)) {
-            (Mode::Escape, _) => Mode::Plain,
-            (Mode::ClassEscape { depth, deepest }, _) => Mode::Class { depth, deepest },
-            (Mode::Class { depth, deepest }, Some('\\')) => Mode::ClassEscape { depth, deepest },
             (Mode::Class { depth, deepest }, Some('[')) if sets => Mode::Class {
                 depth: depth + 1,
                 deepest: deepest.max(depth + 1),
@@ -60,7 +56,6 @@ impl Mode {
                 deepest,
             },
             (Mode::Class { .. }, _) => self,
-            (Mode::Plain, Some('\\')) => Mode::Escape,
             (Mode::Plain, Some('[')) => Mode::Class {
                 depth: 0,
                 deepest: 0,
@@ -68,6 +63,49 @@ impl Mode {
             (Mode::Plain, _) => Mode::Plain,
         }
     }
+}
+
+/// Whether the code point is no mark, and leaves the mode as it is.
+fn is_quiet(c: u32) -> bool
+    ensures { result ≡ is_quiet c }
+{
+    let is_loud = c == u32::from('\\')
+        || c == u32::from('[')
+        || c == u32::from(']')
+        || c == u32::from('(')
+        || c == u32::from(')')
+        || c == u32::from('|');
+    !is_loud
+}
+
+/// What stands behind the code point that is escaped, if there is one.
+fn skip_escaped(source: &[u32]) -> &[u32]
+    ensures { result.now ≡ drop 1 source.now }
+{
+    match source {
+        [_, rest @ ..] => rest,
+        [] => source,
+    }
+}
+
+/// Goes past escapes, and past code points that are no marks and leave the mode as it is: nearly all of a pattern.
+pub(super) fn skip_quiet(source: &[u32]) -> &[u32]
+    ensures same { (sets : Bool) (table : Table) (mode : CodeMode) →
+        marks sets table (mode_of mode) source.now ≡ marks sets table (mode_of mode) result.now }
+    ensures unescaped { is_at 92 result.now ≡ false }
+    ensures within { length result.now ≤ length source.now }
+{
+    let mut rest = source;
+    while let Some((c, behind)) = rest.split_first() {
+        if is_quiet(*c) {
+            rest = behind;
+        } else if *c == u32::from('\\') {
+            rest = skip_escaped(behind);
+        } else {
+            return rest;
+        }
+    }
+    rest
 }
 
 /// The mark that the code point `c` is, if any, with the text behind it.

@@ -1,0 +1,14 @@
+-- What is left, behind the number so far, writes what the whole writes.
+use Rattle.std.proofs.Common.{◌≡◌, ◌≤◌, ◌-◌, ◌^◌, min, length}
+use Rattle.regress_lexical.specs.Digits.{is_decimal, number_from, front, behind}
+use Rattle.regress_lexical.proofs.digits.read_on.Given as goal
+
+abbrev pub invariant-loop-c : goal.invariant-loop-c
+invariant-loop-c l = record {
+  number : min (number_from 10 l.number (front is_decimal l.rest)) (2 ^ 64 - 1) ≡ min (number_from 10 l.first (front is_decimal l.source)) (2 ^ 64 - 1);
+  fits : l.number ≤ 2 ^ 64 - 1;
+  rest : behind is_decimal l.rest ≡ behind is_decimal l.source;
+}
+
+abbrev pub decreases-loop-c : goal.decreases-loop-c
+decreases-loop-c l = length l.rest

@@ -1,0 +1,48 @@
+use Rattle.std.proofs.Common.{◌≡◌, ℕ, Bool, true, [], ◌∷◌, drop, length, refl, sym, ap, ◌∙◌, arith}
+use Rattle.std.proofs.lemmas.List.{length-drop}
+use Rattle.regress_unicode.specs.Table.{Table}
+use Rattle.regress_lexical.specs.Source.{Source}
+use Rattle.regress_syntax.specs.Scan.{is_quiet, marks}
+use Rattle.regress_syntax.specs.Scanning.{mode_of}
+use Rattle.regress_syntax.specs.declared.scan.mark.Mode.{Mode}
+use Rattle.regress_syntax.specs.declared.scan.mark.Mode.TheVariants.{Plain, Class}
+use Rattle.regress_syntax.proofs.ScanLemmas.{Home, home, in_text, in_class, passes_then, pass_quiet, pass_backslash, pass_escaped}
+use Rattle.regress_syntax.proofs.scan.mark.skip_quiet.Goals as goal
+
+home_of : (mode : Mode) → (w : Home) × (mode_of mode ≡ home w)
+home_of Plain = (in_text, refl)
+home_of (Class depth deepest) = (in_class depth deepest, refl)
+
+quiet_skipped : (sets : Bool) (table : Table) (mode : Mode) (c : ℕ) (rest behind : Source) → rest ≡ c ∷ behind → is_quiet c ≡ true →
+    marks sets table (mode_of mode) rest ≡ marks sets table (mode_of mode) behind
+quiet_skipped sets table mode c rest behind split quiet =
+    let (w, is) = home_of mode in rw (split, is) (pass_quiet w c behind quiet).same
+
+-- a backslash at the end is no mark either
+behind_escape : (sets : Bool) (table : Table) (w : Home) (t : Source) → marks sets table (home w) (92 ∷ t) ≡ marks sets table (home w) (drop 1 t)
+unfolding marks
+behind_escape sets table in_text [] = refl
+behind_escape sets table (in_class depth deepest) [] = refl
+behind_escape sets table w (d ∷ t) = (passes_then (pass_backslash w (d ∷ t)) (pass_escaped w d t)).same
+
+escape_skipped : (sets : Bool) (table : Table) (mode : Mode) (c : ℕ) (rest behind : Source) → rest ≡ c ∷ behind → c ≡ 92 →
+    marks sets table (mode_of mode) rest ≡ marks sets table (mode_of mode) (drop 1 behind)
+escape_skipped sets table mode c rest behind split backslash =
+    let (w, is) = home_of mode in rw (split, backslash, is) (behind_escape sets table w behind)
+
+pub loop-c-preserved-then-is_quiet : goal.loop-c-preserved-then-is_quiet
+loop-c-preserved-then-is_quiet c = record {
+  same = λ sets table mode.
+      c.loop-c.invariant.same sets table mode
+      ∙ quiet_skipped sets table mode c.in-Some.c.now _ _ c.in-Some.ensures.cases.0 (sym c.is_quiet.ensures ∙ c.if-is_quiet.true);
+  within = omega (arith, c.loop-c.invariant.within, ap length c.in-Some.ensures.cases.0);
+}
+
+pub loop-c-preserved : goal.loop-c-preserved
+loop-c-preserved c = record {
+  same = λ sets table mode.
+      c.loop-c.invariant.same sets table mode
+      ∙ escape_skipped sets table mode c.in-Some.c.now _ _ c.in-Some.ensures.cases.0 (c.if-c-from.true ∙ c.from.ensures)
+      ∙ ap (marks sets table (mode_of mode)) (sym c.skip_escaped-rest.ensures);
+  within = omega (arith, c.loop-c.invariant.within, ap length c.in-Some.ensures.cases.0, ap length c.skip_escaped-rest.ensures, length-drop 1 c.in-Some.behind.now);
+}

@@ -1,0 +1,16 @@
+-- What is left has the same marks in each mode.
+use Rattle.std.proofs.Common.{◌≡◌, Bool, ◌≤◌, length}
+use Rattle.regress_unicode.specs.Table.{Table}
+use Rattle.regress_syntax.specs.Scan.{marks}
+use Rattle.regress_syntax.specs.Scanning.{mode_of}
+use Rattle.regress_syntax.specs.declared.scan.mark.Mode.{Mode}
+use Rattle.regress_syntax.proofs.scan.mark.skip_quiet.Given as goal
+
+abbrev pub invariant-loop-c : goal.invariant-loop-c
+invariant-loop-c l = record {
+  same : (sets : Bool) (table : Table) (mode : Mode) → marks sets table (mode_of mode) l.source ≡ marks sets table (mode_of mode) l.rest;
+  within : length l.rest ≤ length l.source;
+}
+
+abbrev pub decreases-loop-c : goal.decreases-loop-c
+decreases-loop-c l = length l.rest
