@@ -8,5 +8,6 @@ pub mod TableLemmas
 pub mod SourceLemmas
 pub mod RefusalLemmas
 pub mod ShiftLemmas
+pub mod ClosingLemmas
 pub mod ClosureLemmas
 pub mod TableExamples
