@@ -6,6 +6,7 @@ pub mod SmallTableLemmas
 pub mod NamedLemmas
 pub mod TableLemmas
 pub mod SourceLemmas
+pub mod UnfoldLemmas
 pub mod RefusalLemmas
 pub mod ShiftLemmas
 pub mod ClosingLemmas
