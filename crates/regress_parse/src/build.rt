@@ -19,7 +19,7 @@ use regress_base::codepointset::CodePointSet;
 use regress_base::types::{BracketContents, CaptureGroupID};
 use regress_syntax::{Atom, Group, Name, Scope, Value, class_escape_set};
 use regress_tree::ir::{Node, NodeList, Quantifier};
-use regress_unicode::{add_icase_code_points, expand_code_point, stands_alone};
+use regress_unicode::{add_icase_code_points, expand_code_point};
 use std::alloc::{AllocError, Global};
 use std::cmp::Reverse;
 use std::ops::Range;
@@ -94,12 +94,21 @@ pub(crate) fn make_literal(alloc: Global, c: u32, scope: &Scope) -> Result<Node,
     requires { IsCodePoint c }
     ensures { IfOk result (λ node. tree node ≡ leaf (leaf_of_literal (table_of scope.now.tables.now) scope.now.flags c)) }
 {
-    let flags = scope.flags;
-    if stands_alone(c, flags.icase, flags.unicode, scope.tables) {
+    if !scope.flags.icase {
         return Ok(Node::Char { c });
     }
-    let members = expand_code_point(alloc, c, flags.icase, flags.unicode, scope.tables)?;
-    Ok(Node::CharSet(members))
+    let members = expand_code_point(alloc, c, true, scope.flags.unicode, scope.tables)?;
+    Ok(make_members(members))
+}
+
+/// The node of one of these characters.
+fn make_members(members: Vec<u32>) -> Node
+    ensures { tree result ≡ leaf (leaf_of_members members.items) }
+{
+    match members.as_slice() {
+        [c] => Node::Char { c: *c },
+        _ => Node::CharSet(members),
+    }
 }
 
 /// The node of a class by an escape, whose complement is taken once it is closed.
