@@ -6,7 +6,9 @@ pub mod SmallTableLemmas
 pub mod NamedLemmas
 pub mod TableLemmas
 pub mod SourceLemmas
+pub mod UnfoldLemmas
 pub mod RefusalLemmas
 pub mod ShiftLemmas
+pub mod ClosingLemmas
 pub mod ClosureLemmas
 pub mod TableExamples

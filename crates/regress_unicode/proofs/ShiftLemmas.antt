@@ -1,22 +1,16 @@
 -- What a shift adds to a set.
-use Rattle.std.proofs.Common.{◌≡◌, ◌≢◌, ℕ, ◌+◌, ◌-◌, ◌%◌, ◌<◌, ◌≤◌, Bool, true, false, ◌&&◌, ◌||◌, nat_le, nat_lt, ◌==◌, IsTrue, List, [], ◌∷◌, ◌++◌, length, take, drop, get_or, suc, zero, subst, le_refl, min, max, ℤ, pos, negsuc, refl, sym, ap, ◌∙◌, inl, inr, arith}
+use Rattle.std.proofs.Common.{◌≡◌, ◌≢◌, ℕ, ◌+◌, ◌-◌, ◌%◌, ◌<◌, ◌≤◌, Bool, true, false, ◌&&◌, ◌||◌, nat_le, nat_lt, ◌==◌, IsTrue, List, [], ◌∷◌, length, take, get_or, suc, zero, min, max, ℤ, pos, negsuc, refl, sym, ap, ◌∙◌, inl, inr, arith}
 use Rattle.std.proofs.lemmas.Bool.{cases_eq, cases_Bool, eq-eqb}
 use Rattle.std.proofs.lemmas.Bool.Decides.{nat_tests}
-use Rattle.std.proofs.lemmas.List.{take_all, take-append-drop, drop-drop, get_or-take, get_or-drop, length-take-le, length-drop}
-use Rattle.std.specs.List.Sorted.{IsNonDecreasingBy}
-use Rattle.std.specs.Ordering.{ordering_index, MatchOrdering}
-use Rattle.std.specs.declared.cmp.Ordering.{Ordering}
-use Rattle.std.specs.declared.cmp.Ordering.TheVariants.{Less, Equal, Greater}
-use Rattle.regress_base.specs.Ranges.{IsEqualRange}
+use Rattle.std.proofs.lemmas.List.{take_all}
 use Rattle.std.proofs.lemmas.List.Folds.{list_any_more}
 use Rattle.std.specs.List.{list_any}
 use Rattle.std.proofs.Math.Bool.{or-false}
-use Rattle.regress_base.proofs.laws.Sets.{is_member-nil, is_member-append, is_member-take_more, or_assoc, canonical_parts}
-use Rattle.regress_base.proofs.laws.Members.{is_member-nowhere}
+use Rattle.regress_base.proofs.laws.Sets.{is_member-nil, is_member-take_more, or_assoc, canonical_parts}
 use Rattle.regress_base.specs.Intervals.{Bounds, is_within, is_member, is_canonical_from}
 use Rattle.regress_unicode.specs.declared.shift.Shift.{Shift}
 use Rattle.regress_unicode.specs.FoldRows.{FoldRow, moved, stays_in_range}
-use Rattle.regress_unicode.specs.Shifts.{IsShift, is_hit, origin, place_of, lands, lands_by}
+use Rattle.regress_unicode.specs.Shifts.{IsShift, is_hit, origin, lands, lands_by}
 
 -- a test that either of two tests passes
 pub lands-or : (s : Shift) (p q r : ℕ → Bool) (c : ℕ) → ((x : ℕ) → r x ≡ (p x || q x)) → lands s r c ≡ (lands s p c || lands s q c)
@@ -167,10 +161,10 @@ pub rows_all : (way : FoldRow → Shift) (p : ℕ → Bool) (rows : List FoldRow
     so_far ≡ (old || lands_by way (take i rows) p c) → so_far ≡ (old || lands_by way rows p c)
 rows_all way p rows i c old so_far le is = is ∙ ap (λ rs. old || lands_by way rs p c) (take_all i rows le)
 
--- ---- the intervals that the run overlaps
+-- ---- intervals off the run
 
 -- tests that agree on the run
-lands-same : (s : Shift) (p q : ℕ → Bool) (c : ℕ) → ((x : ℕ) → s.first ≤ x → x ≤ s.last → p x ≡ q x) → lands s p c ≡ lands s q c
+pub lands-same : (s : Shift) (p q : ℕ → Bool) (c : ℕ) → ((x : ℕ) → s.first ≤ x → x ≤ s.last → p x ≡ q x) → lands s p c ≡ lands s q c
 unfolding lands
 lands-same s p q c h = elim (cases_Bool (is_hit s (origin s.delta c))) [
   | inl hit ↦ (
@@ -180,36 +174,8 @@ lands-same s p q c h = elim (cases_Bool (is_hit s (origin s.delta c))) [
   | inr no_hit ↦ rw no_hit refl
 ]
 
-place_of_tells : (s : Shift) (iv : Bounds)
-    → MatchOrdering (place_of s iv) (iv.last < s.first) ((s.first ≤ iv.last) × (iv.first ≤ s.last)) ((s.first ≤ iv.last) × (s.last < iv.first))
-unfolding place_of
-place_of_tells s iv = grind (arith, nat_tests)
-
-placed : (s : Shift) (iv : Bounds) (o : Ordering) → place_of s iv ≡ o
-    → MatchOrdering o (iv.last < s.first) ((s.first ≤ iv.last) × (iv.first ≤ s.last)) ((s.first ≤ iv.last) × (s.last < iv.first))
-placed s iv o e =
-    subst (λ (p : Ordering). MatchOrdering p (iv.last < s.first) ((s.first ≤ iv.last) × (iv.first ≤ s.last))
-    ((s.first ≤ iv.last) × (s.last < iv.first))) e (place_of_tells s iv)
-
--- an interval does not come later than one behind it
-place-rises : (s : Shift) (a b : Bounds) → a.first ≤ a.last → a.last < b.first → b.first ≤ b.last
-    → ordering_index (place_of s a) ≤ ordering_index (place_of s b)
-place-rises s a b ordered_a apart ordered_b = by_places (place_of s a) (place_of s b) (place_of_tells s a) (place_of_tells s b)
-  where
-    by_places : (x y : Ordering)
-        → MatchOrdering x (a.last < s.first) ((s.first ≤ a.last) × (a.first ≤ s.last)) ((s.first ≤ a.last) × (s.last < a.first))
-        → MatchOrdering y (b.last < s.first) ((s.first ≤ b.last) × (b.first ≤ s.last)) ((s.first ≤ b.last) × (s.last < b.first))
-        → ordering_index x ≤ ordering_index y
-    by_places Less y t u = omega arith
-    by_places Equal Less t u = absurd (omega (arith, ordered_b, apart, t.0, u))
-    by_places Equal Equal t u = le_refl 1
-    by_places Equal Greater t u = omega arith
-    by_places Greater Less t u = absurd (omega (arith, ordered_b, apart, t.0, u))
-    by_places Greater Equal t u = absurd (omega (arith, ordered_a, apart, t.1, u.1))
-    by_places Greater Greater t u = le_refl 2
-
 -- two intervals of a canonical list
-apart_from : (low : ℕ) (ivs : List Bounds) (k : ℕ) (d : Bounds) → IsTrue (is_canonical_from low ivs) → k < length ivs
+pub apart_from : (low : ℕ) (ivs : List Bounds) (k : ℕ) (d : Bounds) → IsTrue (is_canonical_from low ivs) → k < length ivs
     → (low ≤ (get_or ivs k d).first) × ((get_or ivs k d).first ≤ (get_or ivs k d).last)
 apart_from low [] k d can h = absurd (omega arith)
 apart_from low (iv ∷ ivs) zero d can h = (let p = canonical_parts low iv ivs can in (p.above, p.interval.ordered))
@@ -218,47 +184,10 @@ apart_from low (iv ∷ ivs) (suc k) d can h =
     let rest = apart_from (iv.last + 2) ivs k d p.rest (omega arith) in
     (omega (arith, p.above, p.interval.ordered, rest.0), rest.1)
 
-pub places_rise : (s : Shift) (low : ℕ) (ivs : List Bounds) → IsTrue (is_canonical_from low ivs)
-    → IsNonDecreasingBy (λ iv. ordering_index (place_of s iv)) ivs
-places_rise s low [] can i j d le lt = absurd (omega arith)
-places_rise s low (iv ∷ ivs) can zero zero d le lt = le_refl _
-places_rise s low (iv ∷ ivs) can zero (suc j) d le lt =
-    let p = canonical_parts low iv ivs can in
-    let later = apart_from (iv.last + 2) ivs j d p.rest (omega arith) in
-    place-rises s iv (get_or ivs j d) p.interval.ordered (omega (arith, later.0)) later.1
-places_rise s low (iv ∷ ivs) can (suc i) zero d le lt = absurd (omega arith)
-places_rise s low (iv ∷ ivs) can (suc i) (suc j) d le lt =
-    places_rise s (iv.last + 2) ivs (canonical_parts low iv ivs can).rest i j d (omega arith) (omega arith)
-
-above_last : (iv : Bounds) (x : ℕ) → iv.last < x → is_within iv x ≡ false
+pub above_last : (iv : Bounds) (x : ℕ) → iv.last < x → is_within iv x ≡ false
 unfolding is_within
 above_last iv x lt = grind (arith, nat_tests)
 
-below_first : (iv : Bounds) (x : ℕ) → x < iv.first → is_within iv x ≡ false
+pub below_first : (iv : Bounds) (x : ℕ) → x < iv.first → is_within iv x ≡ false
 unfolding is_within
 below_first iv x lt = grind (arith, nat_tests)
-
--- the others hold no code point of the run
-pub lands_overlapping : (s : Shift) (ivs : List Bounds) (start end c : ℕ) → IsEqualRange (place_of s) ivs start end
-    → lands s (is_member (take (end - start) (drop start ivs))) c ≡ lands s (is_member ivs) c
-lands_overlapping s ivs start end c range = lands-same s _ _ c (λ x from to.
-    let d : Bounds = record { first = 0; last = 0 } in
-    let in_bounds = range.in_bounds in
-    let in_order = range.in_order in
-    let before : is_member (take start ivs) x ≡ false = is_member-nowhere (take start ivs) x d (λ k inside.
-    let len = length-take-le start ivs (omega arith) in
-    let below = placed s (get_or ivs k d) Less (range.less k d (omega arith) (omega (arith, inside, len))) in
-    ap (λ iv. is_within iv x) (get_or-take start ivs k d (omega (arith, inside, len))) ∙ above_last (get_or ivs k d) x (omega (arith, below, from))) in
-    let behind : is_member (drop end ivs) x ≡ false = is_member-nowhere (drop end ivs) x d (λ k inside.
-    let len = length-drop end ivs in
-    let above = placed s (get_or ivs (end + k) d) Greater (range.greater (end + k) d (omega arith) (omega (arith, inside, len))) in
-    ap (λ iv. is_within iv x) (get_or-drop end ivs k d) ∙ below_first (get_or ivs (end + k) d) x (omega (arith, above.1, to))) in
-    let more : start + (end - start) ≡ end = omega arith in
-    let split : drop start ivs ≡ take (end - start) (drop start ivs) ++ drop end ivs =
-    sym (take-append-drop (end - start) (drop start ivs)) ∙ ap (λ l. take (end - start) (drop start ivs) ++ l)
-    (drop-drop (end - start) start ivs ∙ ap (λ n. drop n ivs) more) in
-    let sub = is_member (take (end - start) (drop start ivs)) x in
-    sym (ap (λ l. is_member l x) (sym (take-append-drop start ivs)) ∙ is_member-append (take start ivs) (drop start ivs) x
-    ∙ ap (λ b. b || is_member (drop start ivs) x) before
-    ∙ ap (λ l. is_member l x) split ∙ is_member-append (take (end - start) (drop start ivs)) (drop end ivs) x
-    ∙ ap (λ b. sub || b) behind ∙ or-false sub))

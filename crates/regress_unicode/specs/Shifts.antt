@@ -1,9 +1,7 @@
 -- Runs of code points that move together.
-use Rattle.std.specs.Prelude.{ℕ, ◌+◌, ◌-◌, ◌%◌, ◌^◌, ◌≤◌, Bool, ◌&&◌, nat_le, nat_lt, ◌==◌, if◌then◌else◌, IsTrue, List, ℤ, pos, negsuc, neg_ℤ, ◌≤ℤ◌}
+use Rattle.std.specs.Prelude.{ℕ, ◌+◌, ◌-◌, ◌%◌, ◌^◌, ◌≤◌, Bool, ◌&&◌, nat_le, ◌==◌, IsTrue, List, ℤ, pos, negsuc, neg_ℤ, ◌≤ℤ◌}
 use Rattle.std.specs.List.{list_any}
-use Rattle.regress_base.specs.Intervals.{Bounds, code_point_max}
-use Rattle.std.specs.declared.cmp.Ordering.{Ordering}
-use Rattle.std.specs.declared.cmp.Ordering.TheVariants.{Less, Equal, Greater}
+use Rattle.regress_base.specs.Intervals.{code_point_max}
 use Rattle.regress_unicode.specs.declared.shift.Shift.{Shift}
 use Rattle.regress_unicode.specs.FoldRows.{FoldRow, moved, stays_in_range}
 
@@ -16,10 +14,6 @@ pub record IsShift (s : Shift) : Type 0 where
   pub delta_high : s.delta ≤ℤ pos (2 ^ 27)
   pub first_lands : IsTrue (stays_in_range s.delta s.first)
   pub last_lands : IsTrue (stays_in_range s.delta s.last)
-
--- where an interval lies as seen from the run of a shift
-unfoldable pub place_of : Shift → Bounds → Ordering
-place_of s iv = if nat_lt iv.last s.first then Less else if nat_lt s.last iv.first then Greater else Equal
 
 -- whether the shift moves the code point
 abbrev pub is_hit : Shift → ℕ → Bool

@@ -1,7 +1,7 @@
 //! Closing a set under its folds.
 ghost use Rattle.std.specs.Prelude.{◌≡◌, ℕ, ◌≤◌, ◌||◌, List, All, IsTrue, IfOk, OnOk};
 ghost use Rattle.regress_base.specs.Intervals.{Bounds, is_within, is_member, IsCanonical};
-ghost use Rattle.regress_unicode.specs.FoldRows.{are_targets_in_range};
+ghost use Rattle.regress_unicode.specs.FoldRows.{is_in_order, are_targets_in_range};
 ghost use Rattle.regress_unicode.specs.Shifts.{IsShift, lands, lands_by, forward, backward};
 ghost use Rattle.regress_unicode.specs.Table.{is_in_closure};
 ghost use Rattle.regress_unicode.specs.TableOf.{table_of};
@@ -10,15 +10,13 @@ use super::checks::set_is_canonical;
 use super::shift::Shift;
 use super::{FoldRange, Tables};
 use regress_base::codepointset::{CodePointSet, Interval};
-use regress_base::util::equal_range_by;
-use std::alloc::AllocError;
-use std::ops::Range;
+use std::alloc::{AllocError, Global};
 
 /// All code points whose fold is the fold of a member. What is closed stays as it is.
 ///
-/// Each row is held against the intervals that its run overlaps, which a binary search finds. It adds
-/// an interval where all of its code points move, else the code points one by one; no loop runs over
-/// the members of an interval.
+/// The set is added to in place, and no memory is taken where it is closed. Each row is held against
+/// the intervals that its run overlaps. It adds an interval where all of its code points move, else
+/// the code points one by one; no loop runs over the members of an interval.
 pub fn add_icase_code_points(
     input: CodePointSet,
     tables: &Tables,
@@ -30,72 +28,160 @@ pub fn add_icase_code_points(
         ((c : ℕ) → is_member again c ≡ is_in_closure (table_of tables.now) set c) → again ≡ set) }
 {
     let alloc = *tables.folds.allocator();
-    let mut folded = input.try_clone(alloc)?;
-    add_images(&mut folded, &tables.folds, input.intervals())?;
-    let mut closure = folded.try_clone(alloc)?;
-    add_sources(&mut closure, &tables.folds, folded.intervals())?;
+    let mut closure = input;
+    add_images(alloc, &mut closure, &tables.folds)?;
+    add_sources(alloc, &mut closure, &tables.folds)?;
     set_is_canonical(&closure);
     Ok(closure)
 }
 
-/// Adds the images of what moves in the intervals.
-fn add_images(
-    set: &mut CodePointSet,
-    rows: &[FoldRange],
-    intervals: &[Interval],
-) -> Result<(), AllocError>
+/// Adds the images of the members.
+fn add_images(alloc: Global, set: &mut CodePointSet, rows: &[FoldRange]) -> Result<(), AllocError>
+    requires in_order { IsTrue (is_in_order rows.now) }
     requires in_range { IsTrue (are_targets_in_range rows.now) }
-    requires canonical { IsCanonical intervals.now }
+    ensures { OnOk result ((c : ℕ) →
+        is_member set.new c ≡ (is_member set.old c || lands_by forward rows.now (is_member set.old) c)) }
+{
+    let images = images(alloc, rows, set.intervals())?;
+    add_all(set, &images)
+}
+
+/// Adds what moves to the members.
+fn add_sources(alloc: Global, set: &mut CodePointSet, rows: &[FoldRange]) -> Result<(), AllocError>
+    requires { IsTrue (are_targets_in_range rows.now) }
     ensures members { OnOk result ((c : ℕ) →
-        is_member set.new c ≡ (is_member set.old c || lands_by forward rows.now (is_member intervals.now) c)) }
+        is_member set.new c ≡ (is_member set.old c || lands_by backward rows.now (is_member set.old) c)) }
     ensures nonempty { OnOk result (All (λ row. 1 ≤ row.length) rows.now) }
 {
-    for row in rows {
-        add_shifted(set, &Shift::forward(row), intervals)?;
+    let sources = sources(alloc, rows, set.intervals())?;
+    add_all(set, &sources)
+}
+
+/// Adds all of the intervals.
+fn add_all(set: &mut CodePointSet, intervals: &[Interval]) -> Result<(), AllocError>
+    ensures { OnOk result ((c : ℕ) →
+        is_member set.new c ≡ (is_member set.old c || is_member intervals.now c)) }
+{
+    for interval in intervals {
+        set.add(*interval)?;
     }
     Ok(())
 }
 
-/// Adds what moves into the intervals.
-fn add_sources(
-    set: &mut CodePointSet,
+/// The images of what moves in the intervals. One walk over the rows and the intervals, which both
+/// ascend, up to the end of either.
+fn images(
+    alloc: Global,
     rows: &[FoldRange],
     intervals: &[Interval],
-) -> Result<(), AllocError>
+) -> Result<Vec<Interval>, AllocError>
+    requires in_order { IsTrue (is_in_order rows.now) }
     requires in_range { IsTrue (are_targets_in_range rows.now) }
     requires canonical { IsCanonical intervals.now }
-    ensures { OnOk result ((c : ℕ) →
-        is_member set.new c ≡ (is_member set.old c || lands_by backward rows.now (is_member intervals.now) c)) }
+    ensures { IfOk result (λ found. (c : ℕ) →
+        is_member found.items c ≡ lands_by forward rows.now (is_member intervals.now) c) }
 {
+    let mut found = Vec::new(alloc);
+    let mut rest = intervals;
     for row in rows {
-        add_shifted(set, &Shift::backward(row), intervals)?;
+        rest = pass_over(rest, row.first());
+        if rest.is_empty() {
+            return Ok(found);
+        }
+        if rest[0].first() <= row.last() {
+            push_moved(&mut found, &Shift::forward(row), rest)?;
+        }
     }
-    Ok(())
+    Ok(found)
 }
 
-/// Adds what the shift makes of the code points of the intervals.
-fn add_shifted(
-    set: &mut CodePointSet,
+/// What moves into the intervals. One pass over the rows, whose images are in no order, and a binary
+/// search for each whose images lie between the ends of the intervals.
+fn sources(
+    alloc: Global,
+    rows: &[FoldRange],
+    intervals: &[Interval],
+) -> Result<Vec<Interval>, AllocError>
+    requires in_range { IsTrue (are_targets_in_range rows.now) }
+    requires canonical { IsCanonical intervals.now }
+    ensures members { IfOk result (λ found. (c : ℕ) →
+        is_member found.items c ≡ lands_by backward rows.now (is_member intervals.now) c) }
+    ensures nonempty { IfOk result (λ _. All (λ row. 1 ≤ row.length) rows.now) }
+{
+    let mut found = Vec::new(alloc);
+    let (low, high) = ends(intervals);
+    for row in rows {
+        let first = row.shifted(row.first());
+        if first <= high && low <= row.shifted(row.last()) {
+            push_moved(&mut found, &Shift::backward(row), search(intervals, first))?;
+        }
+    }
+    Ok(found)
+}
+
+/// The first and the last member.
+fn ends(intervals: &[Interval]) -> (u32, u32)
+    requires { IsCanonical intervals.now }
+    ensures { (c : ℕ) → IsTrue (is_member intervals.now c) → (result.0 ≤ c) × (c ≤ result.1) }
+{
+    if intervals.is_empty() {
+        return (0, 0);
+    }
+    (intervals[0].first(), intervals[intervals.len() - 1].last())
+}
+
+/// The intervals without those that end below `low`. Linear in what is passed over.
+fn pass_over(intervals: &[Interval], low: u32) -> &[Interval]
+    requires { IsCanonical intervals.now }
+    ensures canonical { IsCanonical result.now }
+    ensures members { (c : ℕ) → low ≤ c → is_member result.now c ≡ is_member intervals.now c }
+{
+    let mut place = 0;
+    while place < intervals.len() && intervals[place].last() < low {
+        place += 1;
+    }
+    &intervals[place..]
+}
+
+/// The intervals without those that end below `low`. A binary search.
+fn search(intervals: &[Interval], low: u32) -> &[Interval]
+    requires { IsCanonical intervals.now }
+    ensures canonical { IsCanonical result.now }
+    ensures members { (c : ℕ) → low ≤ c → is_member result.now c ≡ is_member intervals.now c }
+{
+    &intervals[intervals.partition_point(|interval| interval.last() < low)..]
+}
+
+/// Puts what the shift makes of the code points of the intervals at the end of the list. It looks at
+/// no interval behind the run.
+fn push_moved(
+    found: &mut Vec<Interval>,
     shift: &Shift,
     intervals: &[Interval],
 ) -> Result<(), AllocError>
     requires shift { IsShift shift.now }
     requires canonical { IsCanonical intervals.now }
-    ensures { OnOk result ((c : ℕ) →
-        is_member set.new c ≡ (is_member set.old c || lands shift.now (is_member intervals.now) c)) }
+    ensures { OnOk result ((c : ℕ) → is_member found.new.items c ≡
+        (is_member found.old.items c || lands shift.now (is_member intervals.now) c)) }
 {
-    let Range { start, end } = equal_range_by(intervals, |interval| shift.place_of(*interval));
-    for interval in &intervals[start..end] {
-        add_overlap(set, shift, *interval)?;
+    for interval in intervals {
+        if shift.last < interval.first() {
+            return Ok(());
+        }
+        push_overlap(found, shift, *interval)?;
     }
     Ok(())
 }
 
-/// Adds what the shift makes of the code points of one interval.
-fn add_overlap(set: &mut CodePointSet, shift: &Shift, interval: Interval) -> Result<(), AllocError>
+/// Puts what the shift makes of the code points of one interval at the end of the list.
+fn push_overlap(
+    found: &mut Vec<Interval>,
+    shift: &Shift,
+    interval: Interval,
+) -> Result<(), AllocError>
     requires { IsShift shift.now }
-    ensures { OnOk result ((c : ℕ) →
-        is_member set.new c ≡ (is_member set.old c || lands shift.now (is_within interval) c)) }
+    ensures { OnOk result ((c : ℕ) → is_member found.new.items c ≡
+        (is_member found.old.items c || lands shift.now (is_within interval) c)) }
 {
     let first = shift.first.max(interval.first());
     let last = shift.last.min(interval.last());
@@ -103,11 +189,13 @@ fn add_overlap(set: &mut CodePointSet, shift: &Shift, interval: Interval) -> Res
         return Ok(());
     }
     if shift.modulo == 1 {
-        return set.add(Interval::new(shift.apply(first), shift.apply(last)));
+        found.push(Interval::new(shift.apply(first), shift.apply(last)))?;
+        return Ok(());
     }
     for c in first..last + 1 {
         if shift.moves(c) {
-            set.add_one(shift.apply(c))?;
+            let image = shift.apply(c);
+            found.push(Interval::new(image, image))?;
         }
     }
     Ok(())

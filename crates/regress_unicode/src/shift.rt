@@ -1,8 +1,6 @@
 //! Runs of code points that move together.
 
 use super::fold_range::FoldRange;
-use regress_base::codepointset::Interval;
-use std::cmp::Ordering;
 
 /// Code points from `first` to `last`, of which those whose distance from the first is a multiple
 /// of `modulo` move by `delta`.
@@ -18,14 +16,13 @@ impl Shift {
     ghost use Rattle.std.specs.Prelude.{◌≡◌, ◌≤◌, IsTrue};
     ghost use Rattle.regress_base.specs.Intervals.{code_point_max};
     ghost use Rattle.regress_unicode.specs.FoldRows.{is_target_in_range, moved};
-    ghost use Rattle.regress_unicode.specs.Shifts.{IsShift, is_hit, place_of, forward, backward};
+    ghost use Rattle.regress_unicode.specs.Shifts.{IsShift, is_hit, forward, backward};
 
     /// From the code points of the row to their images.
     pub(super) fn forward(row: &FoldRange) -> Shift
         requires { IsTrue (is_target_in_range row.now) }
         ensures value { result ≡ forward row.now }
         ensures shift { IsShift result }
-        ensures nonempty { 1 ≤ row.now.length }
     {
         Shift {
             first: row.first(),
@@ -46,21 +43,6 @@ impl Shift {
             last: row.shifted(row.last()),
             delta: -row.delta(),
             modulo: row.modulo(),
-        }
-    }
-
-    /// Where the interval lies as seen from the run: `Less` where all of it is below, `Greater` where
-    /// all of it is above, else `Equal`.
-    #[tactic(auto, unfolding(crate::specs::Shifts::place_of))]
-    pub(super) fn place_of(&self, interval: Interval) -> Ordering
-        ensures { result ≡ place_of self.now interval }
-    {
-        if interval.last() < self.first {
-            Ordering::Less
-        } else if self.last < interval.first() {
-            Ordering::Greater
-        } else {
-            Ordering::Equal
         }
     }
 

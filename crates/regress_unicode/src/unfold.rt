@@ -1,14 +1,17 @@
 //! All code points of an image.
-ghost use Rattle.std.specs.Prelude.{◌≡◌, ◌<◌, ◌≤◌, ◌==◌, ◌||◌, ℕ, length, get_or, IsTrue, IfOk, OnOk};
-ghost use Rattle.std.specs.List.{AllWithin};
+ghost use Rattle.std.specs.Prelude.{◌≡◌, ◌<◌, ◌≤◌, ◌↔◌, ◌==◌, ◌||◌, ℕ, [], ◌∷◌, length, get_or, IsTrue, IfOk, OnOk};
+ghost use Rattle.std.specs.List.{AllWithin, insert};
 ghost use Rattle.regress_base.specs.Intervals.{code_point_max};
 ghost use Rattle.regress_unicode.specs.FoldRows.{image, is_in_order, are_targets_in_range};
 ghost use Rattle.regress_unicode.specs.Listing.{lists, is_ascending, IsListing};
-ghost use Rattle.regress_unicode.specs.Table.{stands_for};
+ghost use Rattle.regress_unicode.specs.Table.{stands_for, IsIdempotent};
 ghost use Rattle.regress_unicode.specs.TableOf.{table_of};
 
 use super::{FoldRange, Tables, fold, uppercase};
 use std::alloc::{AllocError, Global};
+
+/// How many code points share an image at most.
+const MOST: usize = 4;
 
 /// The code points with the fold of `c`, ascending, each once: at most four, `c` among them. One
 /// pass over the rows, none over code points.
@@ -54,7 +57,38 @@ pub fn expand_code_point(
     }
 }
 
-/// The code points that `target`, an image, is the image of.
+/// Whether a literal `c` stands for itself alone, so that [`expand_code_point`] lists nothing else. It
+/// takes no memory. One pass over the rows at most.
+pub fn stands_alone(c: u32, icase: bool, unicode: bool, tables: &Tables) -> bool
+    requires { c ≤ code_point_max }
+    ensures { IsTrue result ↔ IsListing (stands_for (table_of tables.now) icase unicode c) (c ∷ []) }
+{
+    if !icase {
+        true
+    } else if unicode {
+        has_image_alone(&tables.folds, c)
+    } else {
+        has_image_alone(&tables.uppers, c)
+    }
+}
+
+/// Whether no other code point has the image of `c`.
+fn has_image_alone(rows: &[FoldRange], c: u32) -> bool
+    requires code_point { c ≤ code_point_max }
+    requires in_order { IsTrue (is_in_order rows.now) }
+    requires in_range { IsTrue (are_targets_in_range rows.now) }
+    requires idempotent { IsIdempotent (image rows.now) }
+    ensures { IsTrue result ↔ IsListing (λ x. image rows.now x == image rows.now c) (c ∷ []) }
+{
+    for row in rows {
+        if row.joins(c) {
+            return false;
+        }
+    }
+    true
+}
+
+/// The code points that `target`, an image, is the image of. The rows ascend, and so does what moves.
 fn with_image(alloc: Global, rows: &[FoldRange], target: u32) -> Result<Vec<u32>, AllocError>
     requires code_point { target ≤ code_point_max }
     requires in_order { IsTrue (is_in_order rows.now) }
@@ -62,13 +96,13 @@ fn with_image(alloc: Global, rows: &[FoldRange], target: u32) -> Result<Vec<u32>
     requires own_image { image rows.now target ≡ target }
     ensures { IfOk result (λ list. IsListing (λ x. image rows.now x == target) list.items) }
 {
-    let mut list = Vec::new(alloc);
-    list.push(target)?;
+    let mut list = Vec::with_capacity(alloc, MOST)?;
     for row in rows {
         if let Some(source) = row.source(target) {
-            add_in_place(&mut list, source)?;
+            list.push(source)?;
         }
     }
+    add_in_place(&mut list, target)?;
     Ok(list)
 }
 
@@ -83,7 +117,19 @@ fn add_in_place(list: &mut Vec<u32>, c: u32) -> Result<(), AllocError>
     if place < list.len() && list[place] == c {
         return Ok(());
     }
-    list.insert(place, c)?;
+    put(list, place, c)
+}
+
+/// Puts the number at the place. At the end nothing is to be moved.
+fn put(list: &mut Vec<u32>, place: usize, c: u32) -> Result<(), AllocError>
+    requires { place ≤ length list.old.items }
+    ensures { OnOk result (list.new.items ≡ insert list.old.items place c) }
+{
+    if place == list.len() {
+        list.push(c)?;
+    } else {
+        list.insert(place, c)?;
+    }
     Ok(())
 }
 

@@ -207,10 +207,6 @@ lists_again xs c x there = elim (cases_eq x c) [
 ]
 
 -- what was found of an image so far: the target, and then a source more
-pub listed_target : (list : List ℕ) (target x : ℕ) → target ≤ code_point_max → list ≡ target ∷ []
-    → lists list x ≡ (nat_le x code_point_max && ((x == target) || false))
-listed_target list target x le is = rw is (grind (arith, nat_tests))
-
 pub listed_source : (x source : ℕ) (old new target before here more : Bool) → source ≤ code_point_max
     → old ≡ (nat_le x code_point_max && (target || before)) → new ≡ (old || (x == source)) → here ≡ (x == source) → more ≡ (before || here)
     → new ≡ (nat_le x code_point_max && (target || more))
@@ -222,6 +218,3 @@ listed_source x source old new target before here more le so_far is at is_more =
     by_cases true true b s h = refl
     by_cases true false b s h = refl
     by_cases false t b s h = h
-
-pub one_ascending : (list : List ℕ) (c : ℕ) → list ≡ c ∷ [] → IsTrue (is_ascending_from 0 list)
-one_ascending list c is = rw is (grind (arith, nat_tests))

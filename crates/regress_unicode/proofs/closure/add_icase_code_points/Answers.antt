@@ -1,8 +1,7 @@
 -- The images of the members, and then what goes to them, are the closure.
 use Rattle.std.proofs.Common.{◌≤◌, ◌||◌, List, All, refl, subst, ap, ◌∙◌}
-use Rattle.regress_base.specs.Intervals.{Bounds, is_member}
-use Rattle.regress_base.proofs.laws.Sets.{member_above}
-use Rattle.regress_base.proofs.laws.Sets.{canonical_unique}
+use Rattle.regress_base.specs.Intervals.{is_member}
+use Rattle.regress_base.proofs.laws.Sets.{member_above, canonical_unique}
 use Rattle.regress_unicode.specs.FoldRows.{FoldRow}
 use Rattle.regress_unicode.specs.Shifts.{lands_by, forward, backward}
 use Rattle.regress_unicode.specs.TableOf.{table_of}
@@ -13,25 +12,17 @@ pub returns-clause-members : goal.returns-clause-members
 returns-clause-members c =
     let rows : List FoldRow = c.args.tables.now.folds.items in
     let sound = c.args.tables.now.sound.folds in
-    let nonempty = subst (λ (rows : List FoldRow). All (λ row. 1 ≤ row.length) rows) c.deref.ensures.value
-    c.in_ok-add_images.ensures.nonempty in
+    let nonempty = subst (λ (rows : List FoldRow). All (λ row. 1 ≤ row.length) rows) c.deref-2.ensures.value
+    c.in_ok-add_sources.ensures.nonempty in
     let over : ClosesOver rows c.args.input (is_member c.add_images.new.set) (is_member c.add_sources.new.set) = record {
       in_order = sound.in_order;
       good = good_rows rows sound.in_range nonempty;
       idempotent = sound.idempotent;
-      images = λ x. c.in_ok-add_images.ensures.members x
-          ∙ ap (λ (set : List Bounds). is_member set x || lands_by forward c.deref.result.now (is_member c.intervals.result.now) x)
-          c.in_ok-folded.ensures
-          ∙ ap (λ (rs : List FoldRow). is_member c.args.input x || lands_by forward rs (is_member c.intervals.result.now) x)
-          c.deref.ensures.value
-          ∙ ap (λ (ivs : List Bounds). is_member c.args.input x || lands_by forward rows (is_member ivs) x) c.intervals.ensures.value;
-      sources = λ x. c.in_ok-add_sources.ensures x
-          ∙ ap (λ (set : List Bounds). is_member set x || lands_by backward c.deref-2.result.now (is_member c.intervals-2.result.now) x)
-          c.in_ok-closure.ensures
-          ∙ ap (λ (rs : List FoldRow). is_member c.add_images.new.set x || lands_by backward rs (is_member c.intervals-2.result.now) x)
-          c.deref-2.ensures.value
-          ∙ ap (λ (ivs : List Bounds). is_member c.add_images.new.set x || lands_by backward rows (is_member ivs) x)
-          c.intervals-2.ensures.value;
+      images = λ x. c.in_ok-add_images.ensures x
+          ∙ ap (λ (rs : List FoldRow). is_member c.args.input x || lands_by forward rs (is_member c.args.input) x) c.deref.ensures.value;
+      sources = λ x. c.in_ok-add_sources.ensures.members x
+          ∙ ap (λ (rs : List FoldRow). is_member c.add_images.new.set x || lands_by backward rs (is_member c.add_images.new.set) x)
+          c.deref-2.ensures.value;
     } in
     closure_is (table_of c.args.tables.now) rows c.args.input (is_member c.add_images.new.set) (is_member c.add_sources.new.set)
     (λ x. refl) over

@@ -1,13 +1,14 @@
 -- The number stands behind the smaller ones and before the greater ones.
 use Rattle.std.proofs.Common.{◌≡◌, ℕ, ◌<◌, ◌≤◌, IsTrue, List, insert, length, get_or, subst, sym, ap, ◌∙◌, arith}
 use Rattle.std.proofs.lemmas.List.{get_or_read}
+use Rattle.std.proofs.lemmas.Result.{on_ok_weaker}
 use Rattle.regress_unicode.specs.Listing.{lists, is_ascending}
 use Rattle.regress_unicode.proofs.laws.Listings.{put_ascending, put_lists}
 use Rattle.regress_unicode.proofs.unfold.add_in_place.Goals as goal
 use Rattle.regress_unicode.proofs.unfold.add_in_place.Goals.{else-place-len-via-then-place-len+else-index-c, else-place-len-via-else-place-len}
 
 -- what stands at the place is greater
-greater : (c : goal.In_ok-insert) → c.first_from-place.result < length c.deref.result.now → (d : ℕ) →
+greater : (c : goal.After-put) → c.first_from-place.result < length c.deref.result.now → (d : ℕ) →
     c.args.c < get_or c.deref.result.now c.first_from-place.result d
 greater c inside d =
     let least = c.first_from-place.ensures.from inside d in
@@ -29,14 +30,18 @@ greater c inside d =
 
 pub returns-clause-ascending : goal.returns-clause-ascending
 returns-clause-ascending c =
-    subst (λ (l : List ℕ). IsTrue (is_ascending l)) (sym c.in_ok-insert.ensures.items)
+    on_ok_weaker c.put.result
+    (λ is. subst (λ (l : List ℕ). IsTrue (is_ascending l)) (sym is)
     (subst (λ (l : List ℕ). IsTrue (is_ascending (insert l c.first_from-place.result c.args.c))) c.deref.ensures.value
     (put_ascending 0 c.deref.result.now c.first_from-place.result c.args.c
     (subst (λ (l : List ℕ). IsTrue (is_ascending l)) (sym c.deref.ensures.value) c.requires) (omega arith) c.first_from-place.ensures.bound
-    (λ k d lt. c.first_from-place.ensures.below k d (omega arith) lt) (greater c)))
+    (λ k d lt. c.first_from-place.ensures.below k d (omega arith) lt) (greater c))))
+    c.put.ensures
 
 pub returns-clause-members : goal.returns-clause-members
-returns-clause-members c x =
-    ap (λ (l : List ℕ). lists l x) c.in_ok-insert.ensures.items
+returns-clause-members c =
+    on_ok_weaker c.put.result
+    (λ is x. ap (λ (l : List ℕ). lists l x) is
     ∙ put_lists c.args.list.now.items c.first_from-place.result c.args.c x
-    (subst (λ (l : List ℕ). c.first_from-place.result ≤ length l) c.deref.ensures.value c.first_from-place.ensures.bound)
+    (subst (λ (l : List ℕ). c.first_from-place.result ≤ length l) c.deref.ensures.value c.first_from-place.ensures.bound))
+    c.put.ensures

@@ -1,0 +1,227 @@
+-- Steps of closing a set: intervals passed over, put into a list, and looked at no more.
+use Rattle.std.proofs.Common.{◌≡◌, ℕ, ◌+◌, ◌-◌, ◌<◌, ◌≤◌, ◌==◌, Bool, true, false, ◌||◌, IsTrue, List, [], ◌∷◌, ◌++◌, length, take, drop, get_or, suc, zero, le_refl, inl, inr, refl, sym, ap, subst, ◌∙◌, ◌⊎◌, arith}
+use Rattle.std.proofs.lemmas.Bool.{cases_lt}
+use Rattle.std.proofs.lemmas.Bool.Decides.{nat_tests}
+use Rattle.std.proofs.lemmas.List.{take_all, length-drop, get_or_read}
+use Rattle.std.proofs.Math.Seq.{take-nil}
+use Rattle.std.proofs.Math.Bool.{or-false}
+use Rattle.std.specs.List.{list_any}
+use Rattle.std.specs.List.Sorted.{IsNonDecreasingBy}
+use Rattle.regress_base.proofs.laws.Sets.{or_assoc, is_member-nil, is_member-cons, is_member-one, is_member-append, is_member-take_more, canonical_parts, member_above}
+use Rattle.regress_base.specs.Intervals.{Bounds, is_within, is_member, is_canonical_from, IsCanonical}
+use Rattle.regress_unicode.specs.declared.shift.Shift.{Shift}
+use Rattle.regress_unicode.specs.FoldRows.{FoldRow, is_in_order}
+use Rattle.regress_unicode.proofs.RowLemmas.{order_apart}
+use Rattle.regress_unicode.specs.Shifts.{lands, lands_by}
+use Rattle.regress_unicode.proofs.ShiftLemmas.{lands-same, lands-none, rows_more, apart_from, above_last, below_first}
+
+-- ---- one interval more
+
+pub pushed : (xs ys : List Bounds) (iv : Bounds) (c : ℕ) → ys ≡ xs ++ iv ∷ [] → is_member ys c ≡ (is_member xs c || is_within iv c)
+pushed xs ys iv c is =
+    ap (λ l. is_member l c) is ∙ is_member-append xs (iv ∷ []) c ∙ ap (λ b. is_member xs c || b) (is_member-one iv c)
+
+one_within : (k c : ℕ) → is_within (record { first = k; last = k }) c ≡ (c == k)
+unfolding is_within
+one_within k c = grind (arith, nat_tests)
+
+pub pushed_one : (xs ys : List Bounds) (iv : Bounds) (k m c : ℕ) → ys ≡ xs ++ iv ∷ [] → iv ≡ record { first = k; last = k } → k ≡ m →
+    is_member ys c ≡ (is_member xs c || (c == m))
+pushed_one xs ys iv k m c is one same =
+    pushed xs ys iv c is
+    ∙ ap (λ b. is_member xs c || b) (ap (λ v. is_within v c) one ∙ one_within k c ∙ ap (λ n. c == n) same)
+
+-- ---- what is left out
+
+canonical_lower : (low low' : ℕ) (ivs : List Bounds) → low' ≤ low → IsTrue (is_canonical_from low ivs) → IsTrue (is_canonical_from low' ivs)
+canonical_lower low low' [] le can = can
+canonical_lower low low' (iv ∷ ivs) le can = grind (arith, nat_tests)
+
+-- the intervals from a place on
+pub canonical_drop : (low : ℕ) (ivs : List Bounds) (k : ℕ) → IsTrue (is_canonical_from low ivs) → IsCanonical (drop k ivs)
+canonical_drop low ivs zero can = canonical_lower low 0 ivs (omega arith) can
+canonical_drop low [] (suc k) can = refl
+canonical_drop low (iv ∷ ivs) (suc k) can = canonical_drop (iv.last + 2) ivs k (canonical_parts low iv ivs can).rest
+
+-- ... have the members from a number on, if the others end below it
+pub members_behind : (ivs : List Bounds) (k low x : ℕ) → ((j : ℕ) (d : Bounds) → j < k → j < length ivs → (get_or ivs j d).last < low) →
+    low ≤ x → is_member (drop k ivs) x ≡ is_member ivs x
+members_behind ivs zero low x below le = refl
+members_behind [] (suc k) low x below le = refl
+members_behind (iv ∷ ivs) (suc k) low x below le =
+    let here = below zero iv (omega arith) (omega arith) in
+    members_behind ivs k low x (λ j d lt inside. below (suc j) d (omega arith) (omega arith)) le
+    ∙ sym (is_member-cons iv ivs x ∙ ap (λ b. b || is_member ivs x) (above_last iv x (omega (arith, here))))
+
+-- the slice from a place to the end
+to_end : (ivs : List Bounds) (k : ℕ) → take (length ivs - k) (drop k ivs) ≡ drop k ivs
+to_end ivs k = let len = length-drop k ivs in take_all (length ivs - k) (drop k ivs) (omega arith)
+
+pub slice_canonical : (ivs : List Bounds) (k : ℕ) → IsCanonical ivs → IsCanonical (take (length ivs - k) (drop k ivs))
+slice_canonical ivs k can = rw (to_end ivs k) (canonical_drop 0 ivs k can)
+
+pub slice_members : (ivs : List Bounds) (k low x : ℕ) → ((j : ℕ) (d : Bounds) → j < k → (get_or ivs j d).last < low) →
+    low ≤ x → is_member (take (length ivs - k) (drop k ivs)) x ≡ is_member ivs x
+slice_members ivs k low x below le = rw (to_end ivs k) (members_behind ivs k low x (λ j d lt inside. below j d lt) le)
+
+-- no member lies below the first interval
+no_member_before : (low : ℕ) (ivs : List Bounds) (x : ℕ) → IsTrue (is_canonical_from low ivs) → x < low → is_member ivs x ≡ false
+no_member_before low [] x can lt = is_member-nil x
+no_member_before low (iv ∷ ivs) x can lt =
+    let p = canonical_parts low iv ivs can in
+    is_member-cons iv ivs x ∙ rw (below_first iv x (omega (arith, p.above))) (no_member_before (iv.last + 2) ivs x p.rest (omega (arith, p.above, p.interval.ordered)))
+
+from_first : (low : ℕ) (iv : Bounds) (ivs : List Bounds) → IsTrue (is_canonical_from low (iv ∷ ivs)) →
+    IsTrue (is_canonical_from iv.first (iv ∷ ivs))
+from_first low iv ivs can = grind (arith, nat_tests)
+
+-- the intervals before a place have the members below the interval there
+members_before : (low : ℕ) (ivs : List Bounds) (i x : ℕ) (d : Bounds) → IsTrue (is_canonical_from low ivs) → i < length ivs →
+    x < (get_or ivs i d).first → is_member (take i ivs) x ≡ is_member ivs x
+members_before low [] i x d can inside lt = absurd (omega arith)
+members_before low (iv ∷ ivs) zero x d can inside lt =
+    is_member-nil x ∙ sym (no_member_before iv.first (iv ∷ ivs) x (from_first low iv ivs can) lt)
+members_before low (iv ∷ ivs) (suc i) x d can inside lt =
+    let p = canonical_parts low iv ivs can in
+    is_member-cons iv (take i ivs) x
+    ∙ ap (λ b. is_within iv x || b) (members_before (iv.last + 2) ivs i x d p.rest (omega arith) lt)
+    ∙ sym (is_member-cons iv ivs x)
+
+-- a run that ends before an interval moves nothing of it, nor of those behind it
+pub lands_before : (s : Shift) (ivs : List Bounds) (i c : ℕ) (iv : Bounds) → IsCanonical ivs → i < length ivs → iv ≡ get_or ivs i iv →
+    s.last < iv.first → lands s (is_member (take i ivs)) c ≡ lands s (is_member ivs) c
+lands_before s ivs i c iv can inside is past =
+    lands-same s _ _ c (λ x from to. members_before 0 ivs i x iv can inside
+    (subst (λ (v : Bounds). x < v.first) is (omega arith)))
+
+-- ---- the ends
+
+pub lasts_rise : (low : ℕ) (ivs : List Bounds) → IsTrue (is_canonical_from low ivs) → IsNonDecreasingBy (λ iv. iv.last) ivs
+lasts_rise low [] can i j d le lt = absurd (omega arith)
+lasts_rise low (iv ∷ ivs) can zero zero d le lt = le_refl _
+lasts_rise low (iv ∷ ivs) can zero (suc j) d le lt =
+    let later = apart_from (iv.last + 2) ivs j d (canonical_parts low iv ivs can).rest (omega arith) in
+    omega (arith, later.0, later.1)
+lasts_rise low (iv ∷ ivs) can (suc i) zero d le lt = absurd (omega arith)
+lasts_rise low (iv ∷ ivs) can (suc i) (suc j) d le lt =
+    lasts_rise (iv.last + 2) ivs (canonical_parts low iv ivs can).rest i j d (omega arith) (omega arith)
+
+pub first_least : (ivs : List Bounds) (x : ℕ) (d : Bounds) → IsCanonical ivs → is_member ivs x ≡ true → 0 < length ivs → (get_or ivs 0 d).first ≤ x
+first_least [] x d can member some = absurd (omega arith)
+first_least (iv ∷ ivs) x d can member some = (member_above iv.first (iv ∷ ivs) x (from_first 0 iv ivs can) member).0
+
+within_last : (iv : Bounds) (x : ℕ) → is_within iv x ≡ true → x ≤ iv.last
+unfolding is_within
+within_last iv x h = grind (arith, nat_tests)
+
+pub last_greatest : (low : ℕ) (ivs : List Bounds) (k x : ℕ) (d : Bounds) → IsTrue (is_canonical_from low ivs) → k + 1 ≡ length ivs →
+    is_member ivs x ≡ true → x ≤ (get_or ivs k d).last
+last_greatest low [] k x d can is member = absurd (omega arith)
+last_greatest low (iv ∷ []) zero x d can is member = within_last iv x (sym (is_member-one iv x) ∙ member)
+last_greatest low (iv ∷ next ∷ ivs) zero x d can is member = absurd (omega arith)
+last_greatest low (iv ∷ ivs) (suc k) x d can is member =
+    let p = canonical_parts low iv ivs can in
+    let apart = apart_from (iv.last + 2) ivs k d p.rest (omega arith) in
+    by_first (is_within iv x) refl (sym (is_member-cons iv ivs x) ∙ member)
+    (omega (arith, apart.0, apart.1)) (last_greatest (iv.last + 2) ivs k x d p.rest (omega arith))
+  where
+    by_first : (b : Bool) → is_within iv x ≡ b → (b || is_member ivs x) ≡ true → iv.last ≤ (get_or ivs k d).last →
+        (is_member ivs x ≡ true → x ≤ (get_or ivs k d).last) → x ≤ (get_or ivs k d).last
+    by_first true e h le later = let here = within_last iv x e in omega (arith, here, le)
+    by_first false e h le later = later h
+
+-- one interval more of those that are added
+pub added_more : (ivs : List Bounds) (i c : ℕ) (iv : Bounds) (old so_far new : Bool) → i < length ivs → iv ≡ get_or ivs i iv →
+    so_far ≡ (old || is_member (take i ivs) c) → new ≡ (so_far || is_within iv c) → new ≡ (old || is_member (take (i + 1) ivs) c)
+added_more ivs i c iv old so_far new lt is is_so_far is_new =
+    let more = is_member-take_more ivs i c iv lt ∙ ap (λ v. is_member (take i ivs) c || is_within v c) (sym is) in
+    is_new ∙ rw (is_so_far, more) (sym (or_assoc old (is_member (take i ivs) c) (is_within iv c)))
+
+pub below_first_none : (ivs : List Bounds) (x : ℕ) (d : Bounds) → IsCanonical ivs → 0 < length ivs → x < (get_or ivs 0 d).first → is_member ivs x ≡ false
+below_first_none [] x d can some lt = absurd (omega arith)
+below_first_none (iv ∷ ivs) x d can some lt = no_member_before iv.first (iv ∷ ivs) x (from_first 0 iv ivs can) lt
+
+-- ---- one row more
+
+-- a run without a member moves nothing
+lands_outside : (s : Shift) (p : ℕ → Bool) (c : ℕ) → ((x : ℕ) → s.first ≤ x → x ≤ s.last → p x ≡ false) → lands s p c ≡ false
+lands_outside s p c h = lands-same s p (λ x. false) c h ∙ lands-none s (λ x. false) c (λ x. refl)
+
+-- tests that agree on the run add the same
+pub row_more : (way : FoldRow → Shift) (p q : ℕ → Bool) (rows : List FoldRow) (i c : ℕ) (row : FoldRow) (shift : Shift)
+    (so_far new : Bool) → i < length rows → row ≡ get_or rows i row → shift ≡ way row →
+    ((x : ℕ) → shift.first ≤ x → x ≤ shift.last → q x ≡ p x) →
+    so_far ≡ lands_by way (take i rows) p c → new ≡ (so_far || lands shift q c) → new ≡ lands_by way (take (i + 1) rows) p c
+row_more way p q rows i c row shift so_far new lt is is_shift agree is_so_far is_new =
+    rows_more way p rows i c row shift false so_far new lt is is_shift is_so_far
+    (is_new ∙ ap (λ b. so_far || b) (lands-same shift q p c agree))
+
+pub row_no_more : (way : FoldRow → Shift) (p : ℕ → Bool) (rows : List FoldRow) (i c : ℕ) (row : FoldRow) (so_far : Bool) →
+    i < length rows → row ≡ get_or rows i row → ((x : ℕ) → (way row).first ≤ x → x ≤ (way row).last → p x ≡ false) →
+    so_far ≡ lands_by way (take i rows) p c → so_far ≡ lands_by way (take (i + 1) rows) p c
+row_no_more way p rows i c row so_far lt is none is_so_far =
+    rows_more way p rows i c row (way row) false so_far so_far lt is refl is_so_far
+    (sym (or-false so_far) ∙ ap (λ b. so_far || b) (sym (lands_outside (way row) p c none)))
+
+-- rows that move nothing add nothing
+pub rows_done : (way : FoldRow → Shift) (p : ℕ → Bool) (rows : List FoldRow) (i c : ℕ) (d : FoldRow) →
+    ((k : ℕ) → i ≤ k → k < length rows → (x : ℕ) → (way (get_or rows k d)).first ≤ x → p x ≡ false) →
+    lands_by way (take i rows) p c ≡ lands_by way rows p c
+unfolding lands_by
+rows_done way p [] i c d none = ap (λ rs. list_any (λ r. lands (way r) p c) rs) (take-nil i)
+rows_done way p (row ∷ rows) zero c d none =
+    rw (lands_outside (way row) p c (λ x from to. none zero (omega arith) (omega arith) x from))
+    (rows_done way p rows zero c d (λ k le lt. none (suc k) (omega arith) (omega arith)))
+rows_done way p (row ∷ rows) (suc i) c d none =
+    ap (λ b. lands (way row) p c || b) (rows_done way p rows i c d (λ k le lt. none (suc k) (omega arith) (omega arith)))
+
+-- a row does not begin above one behind it
+starts_rise : (rows : List FoldRow) (i k : ℕ) (row d : FoldRow) → IsTrue (is_in_order rows) → i ≤ k → k < length rows →
+    row ≡ get_or rows i row → row.start ≤ (get_or rows k d).start
+starts_rise rows i k row d order le lt is =
+    let here : row.start ≡ (get_or rows i d).start = ap (λ (r : FoldRow). r.start) (get_or_read rows i row (omega arith) is d) in
+    elim (cases_lt i k) [
+      | inl before ↦ (let apart = order_apart 0 rows i k d order before lt in omega (arith, apart, here))
+      | inr not_before ↦ (let same : i ≡ k = omega arith in
+          let there : (get_or rows i d).start ≡ (get_or rows k d).start = ap (λ n. (get_or rows n d).start) same in
+          omega (arith, here, there))
+    ]
+
+-- what is left at a row has all that this row and those behind it may move
+pub left : (rows : List FoldRow) (i first : ℕ) (row : FoldRow) (ivs before after : List Bounds) → IsTrue (is_in_order rows) →
+    row ≡ get_or rows i row → first ≡ row.start →
+    ((k : ℕ) (d : FoldRow) → i ≤ k → k < length rows → (x : ℕ) → (get_or rows k d).start ≤ x → is_member before x ≡ is_member ivs x) →
+    ((x : ℕ) → first ≤ x → is_member after x ≡ is_member before x) →
+    (k : ℕ) (d : FoldRow) → i ≤ k → k < length rows → (x : ℕ) → (get_or rows k d).start ≤ x → is_member after x ≡ is_member ivs x
+left rows i first row ivs before after order is is_first same passed k d le lt x from =
+    let rises = starts_rise rows i k row d order le lt is in
+    passed x (omega (arith, rises, from)) ∙ same k d le lt x from
+
+pub positive : (n : ℕ) → (n == 0) ≡ false → 0 < n
+positive zero e = let no : true ≡ false = e in cc
+positive (suc n) e = omega arith
+
+pub no_member : (ivs : List Bounds) (x : ℕ) → length ivs ≡ 0 → IsTrue (is_member ivs x) → ⊥
+no_member [] x none member = let no : false ≡ true = sym (is_member-nil x) ∙ member in cc
+no_member (iv ∷ ivs) x none member = omega arith
+
+pub no_members : (ivs : List Bounds) (x : ℕ) → length ivs ≡ 0 → is_member ivs x ≡ false
+no_members [] x none = is_member-nil x
+no_members (iv ∷ ivs) x none = absurd (omega arith)
+
+pub found_none : (way : FoldRow → Shift) (p : ℕ → Bool) (c : ℕ) (found : List Bounds) → found ≡ [] → is_member found c ≡ lands_by way [] p c
+unfolding lands_by
+found_none way p c found none = ap (λ l. is_member l c) none ∙ is_member-nil c
+
+-- beyond the ends there is no member
+pub beyond : (ivs : List Bounds) (low high x : ℕ) → ((y : ℕ) → IsTrue (is_member ivs y) → (low ≤ y) × (y ≤ high)) →
+    (x < low) ⊎ (high < x) → is_member ivs x ≡ false
+beyond ivs low high x ends out = by_test (is_member ivs x) refl
+  where
+    outside : (low ≤ x) × (x ≤ high) → (x < low) ⊎ (high < x) → ⊥
+    outside within (inl below) = omega (arith, within.0, below)
+    outside within (inr above) = omega (arith, within.1, above)
+
+    by_test : (b : Bool) → is_member ivs x ≡ b → b ≡ false
+    by_test false e = refl
+    by_test true e = absurd (outside (ends x e) out)

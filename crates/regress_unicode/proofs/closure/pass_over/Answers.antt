@@ -1,0 +1,11 @@
+-- What is passed over holds no code point from `low` on.
+use Rattle.std.proofs.Common.{arith}
+use Rattle.regress_unicode.proofs.ClosingLemmas.{slice_canonical, slice_members}
+use Rattle.regress_unicode.proofs.closure.pass_over.Goals as goal
+
+pub returns-clause-canonical : goal.returns-clause-canonical
+returns-clause-canonical c = slice_canonical c.args.intervals.now c.loop-place.place c.requires
+
+pub returns-clause-members : goal.returns-clause-members
+returns-clause-members c x le =
+    slice_members c.args.intervals.now c.loop-place.place c.args.low x (λ j d lt. c.loop-place.invariant.below j d (omega arith) lt) le
