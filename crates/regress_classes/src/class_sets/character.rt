@@ -6,6 +6,7 @@ ghost use Rattle.regress_lexical.specs.Source.{IsCodePoint};
 ghost use Rattle.regress_lexical.specs.Views.{source};
 
 use regress_lexical::cursor::Cursor;
+use regress_lexical::digits::is_letter;
 use regress_lexical::escape::{escape_fault, read_escape};
 use regress_lexical::fault::{INCOMPLETE_SET_ESCAPE, INVALID_SET_CHARACTER, ParseFault, syntax};
 
@@ -56,39 +57,41 @@ pub(super) fn read_escaped_character(cursor: &mut Cursor, unicode: bool) -> Resu
 fn is_set_syntax(c: u32) -> bool
     ensures { result ≡ is_set_syntax c }
 {
-    matches!(
-        char::from_u32(c),
-        Some('(' | ')' | '[' | ']' | '{' | '}' | '/' | '-' | '|' | '\\')
-    )
+    !is_letter(c)
+        && matches!(
+            char::from_u32(c),
+            Some('(' | ')' | '[' | ']' | '{' | '}' | '/' | '-' | '|' | '\\')
+        )
 }
 
 /// Whether the code point stands for itself, but not before another of these.
 fn is_double(c: u32) -> bool
     ensures { result ≡ is_double c }
 {
-    matches!(
-        char::from_u32(c),
-        Some(
-            '&' | '!'
-                | '#'
-                | '$'
-                | '%'
-                | '*'
-                | '+'
-                | ','
-                | '.'
-                | ':'
-                | ';'
-                | '<'
-                | '='
-                | '>'
-                | '?'
-                | '@'
-                | '^'
-                | '`'
-                | '~'
+    !is_letter(c)
+        && matches!(
+            char::from_u32(c),
+            Some(
+                '&' | '!'
+                    | '#'
+                    | '$'
+                    | '%'
+                    | '*'
+                    | '+'
+                    | ','
+                    | '.'
+                    | ':'
+                    | ';'
+                    | '<'
+                    | '='
+                    | '>'
+                    | '?'
+                    | '@'
+                    | '^'
+                    | '`'
+                    | '~'
+            )
         )
-    )
 }
 
 fn begins_double(source: &[u32]) -> bool
