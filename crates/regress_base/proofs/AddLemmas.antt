@@ -2,6 +2,7 @@
 use Rattle.std.proofs.Common.{◌≡◌, ℕ, ◌+◌, ◌-◌, ◌<◌, ◌≤◌, inl, inr, List, length, get_or, ap, ◌∙◌, sym, subst, nat_lt, cond, le_refl, le_of_eq, Some, slice_get, arith}
 use Rattle.std.proofs.lemmas.Option.{slice_get_within, get_or_from_slice_get}
 use Rattle.std.proofs.lemmas.Bool.{cases_lt}
+use Rattle.std.proofs.lemmas.List.{get_or_default}
 use Rattle.std.proofs.lemmas.Bool.Decides.{nat_tests}
 use Rattle.std.specs.List.Sorted.{IsNonDecreasingBy}
 use Rattle.std.specs.Ordering.{ordering_index, MatchOrdering}
@@ -102,6 +103,46 @@ touching-behind_all ivs iv last can at behind =
       touching = λ k d from to. absurd (omega arith);
       behind = λ k d from to. absurd (omega arith);
     }
+
+-- an interval that ends before the first one
+pub touching-before_all : (ivs : List Bounds) (iv head : Bounds) → IsCanonical ivs → 0 < length ivs → head ≡ get_or ivs 0 head
+    → iv.last + 1 < head.first → IsTouchingRange ivs iv 0 0
+touching-before_all ivs iv head can some here behind = record {
+  in_order = le_refl 0;
+  in_bounds = omega arith;
+  before = λ k d from to. absurd (omega arith);
+  touching = λ k d from to. absurd (omega arith);
+  behind = λ k d from to. (let here_too = here ∙ get_or_default ivs 0 head d some in
+      let ordered = (canonical_at 0 ivs 0 d can some).interval.ordered in
+      let at : head.first ≡ (get_or ivs 0 d).first = ap (λ (b : Bounds). b.first) here_too in
+      elim (cases_lt 0 k) [
+        | inl later ↦ (let after = canonical_apart 0 ivs 0 k d can later to in omega arith)
+        | inr not_later ↦ (let same : k ≡ 0 = omega arith in
+            subst (λ n. iv.last + 1 < (get_or ivs n d).first) (sym same) (omega arith))
+      ]);
+}
+
+-- an interval between the last one and the one before it
+pub touching-before_last : (ivs : List Bounds) (iv before last : Bounds) → IsCanonical ivs → 1 < length ivs
+    → before ≡ get_or ivs (length ivs - 2) before → last ≡ get_or ivs (length ivs - 1) last
+    → before.last + 1 < iv.first → iv.last + 1 < last.first → IsTouchingRange ivs iv (length ivs - 1) (length ivs - 1)
+touching-before_last ivs iv before last can two before_at last_at behind ahead = record {
+  in_order = le_refl (length ivs - 1);
+  in_bounds = omega arith;
+  before = λ k d from to. (let at : before.last ≡ (get_or ivs (length ivs - 2) d).last =
+      ap (λ (b : Bounds). b.last) (before_at ∙ get_or_default ivs (length ivs - 2) before d (omega arith)) in
+      elim (cases_lt k (length ivs - 2)) [
+        | inl earlier ↦ (let apart = canonical_apart 0 ivs k (length ivs - 2) d can earlier (omega arith) in
+            let ordered = (canonical_at 0 ivs (length ivs - 2) d can (omega arith)).interval.ordered in omega arith)
+        | inr not_earlier ↦ (let same : k ≡ length ivs - 2 = omega arith in
+            subst (λ n. (get_or ivs n d).last + 1 < iv.first) (sym same) (omega arith))
+      ]);
+  touching = λ k d from to. absurd (omega arith);
+  behind = λ k d from to. (let same : k ≡ length ivs - 1 = omega arith in
+      let at : last.first ≡ (get_or ivs (length ivs - 1) d).first =
+      ap (λ (b : Bounds). b.first) (last_at ∙ get_or_default ivs (length ivs - 1) last d (omega arith)) in
+      subst (λ n. iv.last + 1 < (get_or ivs n d).first) (sym same) (omega arith));
+}
 
 -- an interval that begins in the last one
 pub touching-in_last : (ivs : List Bounds) (iv last : Bounds) → IsCanonical ivs → iv.first ≤ iv.last

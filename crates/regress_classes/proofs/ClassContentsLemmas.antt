@@ -3,11 +3,9 @@ use Rattle.std.proofs.Common.{◌≡◌, ℕ, zero, suc, ◌+◌, ◌<◌, ◌�
 use Rattle.std.proofs.lemmas.Bool.{cond-true, cond-false}
 use Rattle.std.proofs.lemmas.Option.{none-some}
 use Rattle.regress_unicode.specs.Table.{Table}
-use Rattle.regress_classes.specs.declared.class_sets.value.Value.{Value as CodeValue}
 use Rattle.regress_lexical.specs.Source.{Source, Found, ◌>>=◌, is_at}
 use Rattle.regress_classes.specs.ClassRows.{one_point}
 use Rattle.regress_classes.specs.ClassSets.{Value, only, joined, unless_of_strings, Operand, value_of, set_character_at, operand_at, part_behind, parts_by, parts_at, are_at, operands_by, operands_at, contents_behind, contents_at, class_set_by}
-use Rattle.regress_classes.specs.ClassViews.{IsValue}
 use Rattle.regress_lexical.proofs.laws.Sources.{found_then, then_same, cond_same}
 use Rattle.regress_lexical.proofs.laws.Behind.{behind_shorter, Ends}
 use Rattle.regress_classes.proofs.laws.ClassSets.{operand_at-shortens, part_behind-ends}
@@ -113,6 +111,15 @@ module _ (table : Table) (unicode : Bool) (inner : Source → Found (Bool × Val
       cond-false _ _ _ no_intersection ∙ cond-false _ _ _ no_subtraction ∙ cond-true _ _ _ single
       ∙ ap (parts_at table unicode inner in_negated (joined (value_of first) (only (one_point 38)))) (sym moved)
 
+  -- a first part, and those behind it
+  pub first_part_read : (first : Operand) (t mid : Source) (part : Value × Source) → are_at 38 t ≡ false → are_at 45 t ≡ false → is_at 38 t ≡ false →
+      mid ≡ t → part_behind table unicode inner in_negated (first, mid) ≡ Some part →
+      contents_behind table unicode inner in_negated (first, t) ≡ parts_at table unicode inner in_negated part.0 part.1
+  first_part_read first t mid part no_intersection no_subtraction no_ampersand same found =
+      cond-false _ _ _ no_intersection ∙ cond-false _ _ _ no_subtraction ∙ cond-false _ _ _ no_ampersand
+      ∙ ap (λ (x : Found Value). x >>= λ (y : Value × Source). parts_at table unicode inner in_negated y.0 y.1)
+      (ap (λ (u : Source). part_behind table unicode inner in_negated (first, u)) (sym same) ∙ found)
+
   pub no_first : (value : Value) (t : Source) → is_at 93 t ≡ false → operand_at table unicode inner in_negated t ≡ None →
       parts_at table unicode inner in_negated value t ≡ None
   no_first value t goes_on none =
@@ -202,16 +209,14 @@ class_read table unicode n m t mid negated found one_more caret moved e =
 
 -- ---- what was read so far
 
--- From t on, where `held` is held, was read up to rest, and the code holds what is held there.
-pub record ReadFrom (read : Value → Source → Found Value) (held : Value) (t rest : Source) (code : CodeValue) : Type 0 where
+-- From t on, where `held` is held, was read up to rest, and the code has what is held there.
+pub record ReadFrom {Code : Type 0} (Is : Code → Value → Type 0) (read : Value → Source → Found Value) (held : Value) (t rest : Source)
+    (code : Code) : Type 0 where
   pub value : Value
   pub whole : read held t ≡ read value rest
-  pub is : IsValue code value
+  pub is : Is code value
 
-pub read_from_start : (read : Value → Source → Found Value) (held : Value) (t : Source) (code : CodeValue) → IsValue code held →
-    ReadFrom read held t t code
-read_from_start read held t code is = record { value = held; whole = refl; is = is }
-
-pub read_on : (read : Value → Source → Found Value) (held now : Value) (t mid rest : Source) (code new : CodeValue) →
-    (so_far : ReadFrom read held t mid code) → read so_far.value mid ≡ read now rest → IsValue new now → ReadFrom read held t rest new
-read_on read held now t mid rest code new so_far e is = record { value = now; whole = so_far.whole ∙ e; is = is }
+pub read_on : {Code : Type 0} (Is : Code → Value → Type 0) (read : Value → Source → Found Value) (held now : Value) (t mid rest : Source)
+    (code new : Code) → (so_far : ReadFrom Is read held t mid code) → read so_far.value mid ≡ read now rest → Is new now →
+    ReadFrom Is read held t rest new
+read_on Is read held now t mid rest code new so_far e is = record { value = now; whole = so_far.whole ∙ e; is = is }

@@ -12,9 +12,10 @@ use Rattle.std.specs.declared.alloc.Global.{Global}
 use Rattle.regress_base.specs.Intervals.{Bounds, is_within, is_member, IsCanonical, IsComplement, intervals_of}
 use Rattle.regress_base.proofs.laws.Sets.{is_member-one, is_member-append, canonical_is, intervals_of-agree}
 use Rattle.regress_classes.specs.declared.class_sets.value.Value.{Value as CodeValue}
+use Rattle.regress_classes.specs.declared.class_sets.union.Union.{Union as CodeUnion}
 use Rattle.regress_classes.specs.ClassRows.{complement, complement_if, one_point}
 use Rattle.regress_classes.specs.ClassSets.{Value, nothing, only, joined, nested, is_among, value_of_string}
-use Rattle.regress_classes.specs.ClassViews.{HasMembers, IsValue, strings_of}
+use Rattle.regress_classes.specs.ClassViews.{HasMembers, IsValue, IsUnion, strings_of}
 
 -- ---- members of a set
 
@@ -99,6 +100,17 @@ with_point a c old set h canonical e = record {
     canonical = canonical;
     each = λ n. e n ∙ ap₂ (λ x y. x || y) (h.members.each n) (is_one_point c n) ∙ sym (is_member-append a.members (one_point c) n);
   };
+  strings = h.strings ∙ sym (append-nil a.strings);
+  has_empty = h.has_empty ∙ sym (or_false a.has_empty);
+  levels = omega (arith, h.levels);
+}
+
+-- the same for parts
+pub union_points : (a : Value) (members : List Bounds) (old : CodeUnion) (points : List Bounds) → IsUnion old a →
+    ((n : ℕ) → is_member points n ≡ (is_member old.points n || is_member members n)) →
+    IsUnion (record old { points = points }) (joined a (only members))
+union_points a members old points h e = record {
+  members = λ n. e n ∙ ap (λ b. b || is_member members n) (h.members n) ∙ sym (is_member-append a.members members n);
   strings = h.strings ∙ sym (append-nil a.strings);
   has_empty = h.has_empty ∙ sym (or_false a.has_empty);
   levels = omega (arith, h.levels);

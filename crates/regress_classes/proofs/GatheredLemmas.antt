@@ -29,6 +29,19 @@ put_off set later new iv c e =
     ∙ or_assoc (is_member set c) (is_member later c) (is_within iv c)
     ∙ ap (λ b. b || is_within iv c) (sym (is_member-append set later c))
 
+-- all of a set, where there is none yet
+pub set_taken : (set later new : List Bounds) (c : ℕ) → set ≡ [] →
+    is_member (new ++ later) c ≡ (is_member (set ++ later) c || is_member new c)
+set_taken set later new c none =
+    is_member-append new later c ∙ or_swap (is_member new c) (is_member later c)
+    ∙ ap (λ (l : List Bounds). is_member (l ++ later) c || is_member new c) (sym none)
+  where
+    or_swap : (x y : Bool) → (x || y) ≡ (y || x)
+    or_swap true true = refl
+    or_swap true false = refl
+    or_swap false true = refl
+    or_swap false false = refl
+
 any_member : (ivs : List Bounds) (c : ℕ) → is_member ivs c ≡ list_any (λ iv. is_within iv c) ivs
 unfolding is_member
 any_member [] c = refl

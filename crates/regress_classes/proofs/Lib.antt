@@ -1,4 +1,5 @@
 pub mod laws
+mod ChainLemmas
 mod ClassContentsLemmas
 mod ClassLemmas
 mod ClassOperandLemmas

@@ -1,5 +1,5 @@
 -- What the values of the code stand for: classes of both kinds, and properties.
-use Rattle.std.specs.Prelude.{◌≡◌, ℕ, Vec, Bool, ◌||◌, List, map}
+use Rattle.std.specs.Prelude.{◌≡◌, ℕ, Vec, Bool, not, ◌&&◌, ◌||◌, max, List, map, filter, Some, None}
 use Rattle.std.specs.declared.alloc.Global.{Global}
 use Rattle.regress_base.specs.Intervals.{Bounds, is_member, IsCanonical}
 use Rattle.regress_unicode.specs.TableOf.{table_of}
@@ -9,6 +9,9 @@ use Rattle.regress_classes.specs.declared.class_atom.ClassAtom.TheVariants as cl
 use Rattle.regress_classes.specs.declared.property.Property.{Property as CodeProperty}
 use Rattle.regress_classes.specs.declared.property.Property.TheVariants as properties
 use Rattle.regress_classes.specs.declared.class_sets.value.Value.{Value as CodeValue}
+use Rattle.regress_classes.specs.declared.class_sets.union.Union.{Union as CodeUnion}
+use Rattle.regress_classes.specs.declared.class_sets.chain.Chain.{Chain}
+use Rattle.regress_classes.specs.declared.class_sets.chain.Taken.{Taken}
 use Rattle.regress_classes.specs.declared.class_sets.operand.Operand.{Operand as CodeOperand}
 use Rattle.regress_classes.specs.declared.class_sets.operand.Operand.TheVariants as operands
 use Rattle.regress_classes.specs.declared.class_sets.ClassSet.{ClassSet as CodeClassSet}
@@ -17,7 +20,7 @@ use Rattle.regress_classes.specs.declared.class_sets.Operator.{Operator}
 use Rattle.regress_classes.specs.declared.class_sets.Operator.TheVariants as operators
 use Rattle.regress_classes.specs.ClassRows.{ClassAtom, point, set, class_members, complement_if}
 use Rattle.regress_classes.specs.Properties.{Property, of_points, of_strings}
-use Rattle.regress_classes.specs.ClassSets.{Value, common, without, Operand, character, class, class_set_by}
+use Rattle.regress_classes.specs.ClassSets.{Value, joined, is_among, common, without, Operand, character, class, class_set_by}
 use Rattle.regress_lexical.specs.Source.{Source, Found, IsCodePoint, char}
 
 -- an atom of a class
@@ -60,6 +63,17 @@ pub record IsValue (held : CodeValue) (value : Value) : Type 0 where
   pub has_empty : held.has_empty ≡ value.has_empty
   pub levels : held.levels ≡ value.levels
 
+-- the same of parts, of which the code points are still gathered
+pub record IsUnion (held : CodeUnion) (value : Value) : Type 0 where
+  pub members : (c : ℕ) → is_member held.points c ≡ is_member value.members c
+  pub strings : strings_of held.strings.items ≡ value.strings
+  pub has_empty : held.has_empty ≡ value.has_empty
+  pub levels : held.levels ≡ value.levels
+
+-- The new union has what the part holds too.
+abbrev pub Joins : Value → (old new : CodeUnion) → Type 0
+Joins part old new = (a : Value) → IsUnion old a → IsUnion new (joined a part)
+
 -- an operand of such a class; a character is a code point
 abbrev pub IsOperand : CodeOperand → Operand → Type 0
 IsOperand (operands.Character c) operand = (operand ≡ character c) × IsCodePoint c
@@ -77,6 +91,24 @@ sign_of operators.Subtraction = char "-"
 abbrev pub applied : Operator → Value → Value → Value
 applied operators.Intersection = common
 applied operators.Subtraction = without
+
+-- whether something is left, where an operand behind the operator has it or not
+abbrev pub kept : Operator → Bool → Bool
+kept operators.Intersection has = has
+kept operators.Subtraction has = not has
+
+-- The value is what is left of the first operand where these are taken away.
+pub record IsLeft (operator : Operator) (first : CodeValue) (taken : Taken) (value : Value) : Type 0 where
+  pub canonical : IsCanonical first.set
+  pub members : (c : ℕ) → is_member value.members c ≡ (is_member first.set c && not (is_member taken.points c))
+  pub strings : value.strings ≡ filter (λ s. kept operator (is_among (strings_of taken.strings.items) s)) (strings_of first.strings.items)
+  pub has_empty : value.has_empty ≡ (first.has_empty && kept operator taken.has_empty)
+  pub levels : value.levels ≡ max first.levels taken.levels
+
+-- what a chain of operators comes to so far
+abbrev pub IsChain : Chain → Value → Type 0
+IsChain chain value =
+    elim chain.taken [ None ↦ IsValue chain.first value | Some taken ↦ IsLeft chain.operator chain.first taken value ]
 
 -- what is read behind a bracket
 abbrev pub IsClassSetRead : CodeClassSet → Bool × Value → Type 0

@@ -1,8 +1,10 @@
 //! What stands between brackets, without the flag v.
-ghost use Rattle.std.specs.Prelude.{◌≡◌, ◌+◌, drop, if◌then◌else◌, Some, None, List, length, OnOk};
+ghost use Rattle.std.specs.Prelude.{◌≡◌, ◌+◌, ◌==◌, ◌&&◌, not, Bool, drop, if◌then◌else◌, Some, None, List, [], ◌∷◌, length, OnOk, IfSome, IfNone};
 ghost use Rattle.regress_base.specs.Intervals.{Bounds};
 ghost use Rattle.regress_classes.specs.ClassRows.{complement_if, atom_members, begins_range, range_of, range_at, class_part_at, class_parts_by, class_at};
+ghost use Rattle.regress_unicode.specs.Table.{Table};
 ghost use Rattle.regress_unicode.specs.TableOf.{table_of};
+ghost use Rattle.regress_lexical.specs.Source.{char};
 ghost use Rattle.regress_lexical.specs.Fault.{RefusedOnlyIf};
 ghost use Rattle.regress_lexical.specs.Reads.{ReadsAs};
 ghost use Rattle.regress_classes.specs.ClassViews.{class_atom_of, IsClassAtomInRange, HasMembers, Adds, IsClassRead};
@@ -52,6 +54,49 @@ fn read_parts(
 
 /// Reads an atom or a range, and adds what it holds.
 fn read_part(
+    cursor: &mut Cursor,
+    tables: &Tables,
+    unicode: bool,
+    set: &mut Gathered,
+) -> Result<(), ParseFault>
+    ensures { ReadsAs (λ _ members. Adds members set.old set.new) (source cursor.new) result (class_part_at (table_of tables.now) unicode (source cursor.old)) }
+{
+    if let Some(interval) = take_plain_part(cursor) {
+        set.add(interval)?;
+        return Ok(());
+    }
+    read_any_part(cursor, tables, unicode, set)
+}
+
+/// Takes a code point that stands for itself, or a range from one to another, if such a part comes next, as mostly.
+fn take_plain_part(cursor: &mut Cursor) -> Option<Interval>
+    ensures some { IfSome result (λ part. (table : Table) (unicode : Bool) →
+        class_part_at table unicode (source cursor.old) ≡ Some (part ∷ [], source cursor.new)) }
+    ensures none { IfNone result (source cursor.new ≡ source cursor.old) }
+{
+    match cursor.rest {
+        [a, hyphen, b, rest @ ..]
+            if *hyphen == u32::from('-') && is_itself(*a) && is_itself(*b) && a <= b => {
+            cursor.rest = rest;
+            Some(Interval::new(*a, *b))
+        }
+        [a, rest @ ..] if is_itself(*a) && rest.first() != Some(&u32::from('-')) => {
+            cursor.rest = rest;
+            Some(Interval::new(*a, *a))
+        }
+        _ => None,
+    }
+}
+
+/// Whether the code point stands for itself between brackets.
+fn is_itself(c: u32) -> bool
+    ensures { result ≡ (not (c == char "]") && not (c == char "\\")) }
+{
+    c != u32::from(']') && c != u32::from('\\')
+}
+
+/// Reads an atom or a range of any kind, and adds what it holds.
+fn read_any_part(
     cursor: &mut Cursor,
     tables: &Tables,
     unicode: bool,

@@ -1,27 +1,30 @@
 //! Classes with the flag v.
 ghost use Rattle.std.specs.Prelude.{◌≡◌, ◌<◌, ◌+◌, ◌-◌, ◌^◌, Bool, true, false, drop, [], ◌∷◌, if◌then◌else◌, IfOk, OnOk, OnErr};
-ghost use Rattle.regress_classes.specs.ClassSets.{Value as Written, only, Operand as WrittenOperand, nested, are_at, operand_at, part_behind, parts_at, operands_at, contents_behind, contents_at, class_set_by};
+ghost use Rattle.regress_classes.specs.ClassSets.{Value as Written, Operand as WrittenOperand, nested, are_at, operand_at, part_behind, parts_at, operands_at, contents_behind, contents_at, class_set_by};
 ghost use Rattle.regress_lexical.specs.Reads.{ReadsAs};
-ghost use Rattle.regress_classes.specs.ClassViews.{IsValue, IsOperand, IsClassSetRead, inner_of, sign_of, applied};
+ghost use Rattle.regress_classes.specs.ClassViews.{IsValue, IsUnion, Joins, IsOperand, IsClassSetRead, inner_of, sign_of, applied};
 ghost use Rattle.regress_lexical.specs.Views.{source};
 ghost use Rattle.regress_unicode.specs.TableOf.{table_of};
 
+mod chain;
 mod character;
 mod operand;
 mod strings;
+mod union;
 mod value;
 
-use crate::class_escape::set_is_canonical;
+use chain::Chain;
 use character::read_set_character;
 use operand::{Operand, read_escaped};
-use regress_base::codepointset::{CodePointSet, Interval};
+use regress_base::codepointset::Interval;
 use regress_lexical::cursor::Cursor;
 use regress_lexical::fault::{
     EMPTY_OPERAND, INVALID_NEGATED_CLASS, INVALID_SET_RANGE, ParseFault, TOO_DEEP, UNBALANCED_SET,
     UNEXPECTED_IN_INTERSECTION, UNEXPECTED_IN_SUBTRACTION, syntax,
 };
 use regress_unicode::Tables;
-use std::alloc::{AllocError, Global};
+use std::alloc::AllocError;
+use union::Union;
 pub use value::Value;
 
 /// A class: what stands between its brackets, and whether it is negated.
@@ -148,12 +151,14 @@ fn read_behind(
         let value = first.into_value(cursor.alloc)?;
         read_operands(cursor, around, value, Operator::Subtraction)
     } else if cursor.try_consume('&') {
-        let mut value = first.into_value(cursor.alloc)?;
-        value.join(Value::of_point(cursor.alloc, u32::from('&'))?)?;
-        read_parts(cursor, around, value)
+        let mut union = Union::new(cursor.alloc);
+        union.add_operand(first)?;
+        union.add_point(u32::from('&'))?;
+        read_parts(cursor, around, union)
     } else {
-        let value = read_part_behind(cursor, around, first)?;
-        read_parts(cursor, around, value)
+        let mut union = Union::new(cursor.alloc);
+        read_part_behind(cursor, around, first, &mut union)?;
+        read_parts(cursor, around, union)
     }
 }
 
@@ -184,9 +189,9 @@ fn are_at(source: &[u32], c: char) -> bool
 fn read_parts(
     cursor: &mut Cursor,
     around: &Surroundings,
-    mut value: Value,
+    mut union: Union,
 ) -> Result<Value, ParseFault>
-    ensures { (held : Written) → IsValue value held → ReadsAs IsValue (source cursor.new) result
+    ensures { (held : Written) → IsUnion union held → ReadsAs IsValue (source cursor.new) result
         (parts_at (table_of around.now.tables.now) around.now.unicode (inner_of around.now) around.now.negated held (source cursor.old)) }
 {
     while !cursor.is_at(']') {
@@ -194,44 +199,35 @@ fn read_parts(
             return Err(syntax(cursor.alloc, UNBALANCED_SET));
         }
         let first = read_operand(cursor, around)?;
-        let part = read_part_behind(cursor, around, first)?;
-        value.join(part)?;
+        read_part_behind(cursor, around, first, &mut union)?;
     }
     cursor.try_consume(']');
-    Ok(value)
+    Ok(union.into_value()?)
 }
 
-/// Reads on behind the first operand of a part. A hyphen there makes a range.
+/// Reads on behind the first operand of a part, and adds what the part holds. A hyphen there makes a range.
 #[cycle(class_set)]
 fn read_part_behind(
     cursor: &mut Cursor,
     around: &Surroundings,
     first: Operand,
-) -> Result<Value, ParseFault>
+    union: &mut Union,
+) -> Result<(), ParseFault>
     requires { (operand : WrittenOperand) × IsOperand first operand }
-    ensures { (operand : WrittenOperand) → IsOperand first operand → ReadsAs IsValue (source cursor.new) result
+    ensures { (operand : WrittenOperand) → IsOperand first operand → ReadsAs (λ _ part. Joins part union.old union.new) (source cursor.new) result
         (part_behind (table_of around.now.tables.now) around.now.unicode (inner_of around.now) around.now.negated (operand, source cursor.old)) }
 {
     if !cursor.try_consume('-') {
-        return Ok(first.into_value(cursor.alloc)?);
+        union.add_operand(first)?;
+        return Ok(());
     }
     let Operand::Character(a) = first else {
         return Err(syntax(cursor.alloc, INVALID_SET_RANGE));
     };
     match read_operand(cursor, around)? {
-        Operand::Character(b) if a <= b => Ok(range_value(cursor.alloc, Interval::new(a, b))?),
+        Operand::Character(b) if a <= b => Ok(union.add(Interval::new(a, b))?),
         _ => Err(syntax(cursor.alloc, INVALID_SET_RANGE)),
     }
-}
-
-/// The code points of a range.
-fn range_value(alloc: Global, range: Interval) -> Result<Value, AllocError>
-    ensures { IfOk result (λ held. IsValue held (only (range ∷ []))) }
-{
-    let mut set = CodePointSet::new(alloc);
-    set.add(range)?;
-    set_is_canonical(&set);
-    Ok(Value::of_set(alloc, set))
 }
 
 /// Reads the operands behind an operator, up to `]`.
@@ -239,20 +235,21 @@ fn range_value(alloc: Global, range: Interval) -> Result<Value, AllocError>
 fn read_operands(
     cursor: &mut Cursor,
     around: &Surroundings,
-    mut value: Value,
+    value: Value,
     operator: Operator,
 ) -> Result<Value, ParseFault>
     ensures { (held : Written) → IsValue value held → ReadsAs IsValue (source cursor.new) result
         (operands_at (table_of around.now.tables.now) around.now.unicode (inner_of around.now) around.now.negated
         (sign_of operator) (applied operator) held (source cursor.old)) }
 {
+    let mut chain = Chain::new(value, operator);
     loop {
-        let operand = read_operand(cursor, around)?;
-        value.apply(operator, operand.into_value(cursor.alloc)?)?;
+        let operand = read_operand(cursor, around)?.into_value(cursor.alloc)?;
         if cursor.try_consume(']') {
-            return Ok(value);
+            return Ok(chain.close(operand)?);
         }
         consume_operator(cursor, operator)?;
+        chain = chain.push(operand)?;
     }
 }
 

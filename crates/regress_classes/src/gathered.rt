@@ -64,6 +64,18 @@ impl Gathered {
         Ok(())
     }
 
+    /// Adds the members of a set, which is taken as it is where nothing is there yet.
+    pub(crate) fn add_set(&mut self, set: CodePointSet) -> Result<(), AllocError>
+        ensures { OnOk result ((c : ℕ) →
+            is_member self.new c ≡ (is_member self.old c || is_member set c)) }
+    {
+        if self.set.is_empty() {
+            self.set = set;
+            return Ok(());
+        }
+        self.add_all(set.intervals())
+    }
+
     /// The set of all of them. One pass over those in their place; n log n for the others.
     pub(crate) fn into_set(self) -> Result<CodePointSet, AllocError>
         ensures { IfOk result (HasMembers self) }

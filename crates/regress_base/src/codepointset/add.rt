@@ -75,8 +75,25 @@ pub(super) fn touching(ivs: &[Interval], new_iv: Interval) -> Range<usize>
         None => 0..0,
         Some(last) if last.last() + 1 < first => len..len,
         Some(last) if last.first() <= first => len - 1..len,
-        Some(_) => equal_range_by(ivs, |iv| merge_order(*iv, new_iv)),
+        Some(_) => touching_inside(ivs, new_iv),
     }
+}
+
+/// The same of any interval. Constant where it goes before the first or the last one, else a binary search.
+fn touching_inside(ivs: &[Interval], new_iv: Interval) -> Range<usize>
+    requires { IsCanonical ivs.now }
+    ensures { IsTouchingRange ivs.now new_iv result.start result.end }
+{
+    let len = ivs.len();
+    let first = new_iv.first();
+    let behind = new_iv.last() + 1;
+    if len > 0 && behind < ivs[0].first() {
+        return 0..0;
+    }
+    if len > 1 && ivs[len - 2].last() + 1 < first && behind < ivs[len - 1].first() {
+        return len - 1..len - 1;
+    }
+    equal_range_by(ivs, |iv| merge_order(*iv, new_iv))
 }
 
 /// `Less` or `Greater` where `iv` lies before or after `other` with a code point between them, else

@@ -97,6 +97,9 @@ fn union(alloc: Global, left: &[Interval], right: &[Interval]) -> Result<CodePoi
     Ok(joined)
 }
 
+/// For how many common intervals there is room from the start: as many as two usual lists have.
+const USUAL: usize = 8;
+
 /// The intervals that both lists have in common. Of two intervals the one that ends first overlaps no
 /// later one.
 fn intersection(
@@ -110,7 +113,7 @@ fn intersection(
         is_member common.items c ≡ (is_member left.now c && is_member right.now c)) }
     ensures canonical { IfOk result (λ common. IsCanonical common.items) }
 {
-    let mut common = Vec::new(alloc);
+    let mut common = Vec::with_capacity(alloc, left.len().max(right.len()).min(USUAL))?;
     let mut i = 0;
     let mut j = 0;
     while i < left.len() && j < right.len() {

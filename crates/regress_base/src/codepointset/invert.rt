@@ -43,7 +43,7 @@ pub(super) fn gaps(alloc: Global, ivs: &[Interval]) -> Result<Vec<Interval>, All
     ensures members { IfOk result (λ gaps. IsComplement ivs.now gaps.items) }
     ensures canonical { IfOk result (λ gaps. IsCanonical gaps.items) }
 {
-    let mut gaps = Vec::new(alloc);
+    let mut gaps = Vec::with_capacity(alloc, ivs.len() + 1)?;
     let mut start = 0;
     for iv in ivs {
         if start < iv.first() {

@@ -6,35 +6,9 @@ ghost use Rattle.regress_lexical.specs.Source.{IsCodePoint};
 ghost use Rattle.regress_lexical.specs.Views.{source};
 
 use regress_lexical::cursor::Cursor;
+use regress_lexical::digits::is_letter;
 use regress_lexical::escape::{escape_fault, read_escape};
 use regress_lexical::fault::{INCOMPLETE_SET_ESCAPE, INVALID_SET_CHARACTER, ParseFault, syntax};
-
-/// The code points that stand for themselves only behind a backslash, or never.
-const SET_SYNTAX: [u32; 10] = [
-    '(' as u32,
-    ')' as u32,
-    '[' as u32,
-    ']' as u32,
-    '{' as u32,
-    '}' as u32,
-    '/' as u32,
-    '-' as u32,
-    '|' as u32,
-    '\\' as u32,
-];
-
-/// Those that stand for themselves, but not before another of these.
-const DOUBLES: [u32; 19] = [
-    '&' as u32, '!' as u32, '#' as u32, '$' as u32, '%' as u32, '*' as u32, '+' as u32, ',' as u32,
-    '.' as u32, ':' as u32, ';' as u32, '<' as u32, '=' as u32, '>' as u32, '?' as u32, '@' as u32,
-    '^' as u32, '`' as u32, '~' as u32,
-];
-
-/// Those that stand for themselves behind a backslash, beside those of any escape.
-const RESERVED: [u32; 14] = [
-    '&' as u32, '-' as u32, '!' as u32, '#' as u32, '%' as u32, ',' as u32, ':' as u32, ';' as u32,
-    '<' as u32, '=' as u32, '>' as u32, '@' as u32, '`' as u32, '~' as u32,
-];
 
 /// Reads a character (this project's profile of ECMA-262, ClassSetCharacter). The fault comes where a code point doesn't
 /// stand for itself, or where a backslash begins no escape of a character.
@@ -79,16 +53,45 @@ pub(super) fn read_escaped_character(cursor: &mut Cursor, unicode: bool) -> Resu
     Ok(point)
 }
 
+/// Whether the code point stands for itself only behind a backslash, or never.
 fn is_set_syntax(c: u32) -> bool
     ensures { result ≡ is_set_syntax c }
 {
-    SET_SYNTAX.contains(&c)
+    !is_letter(c)
+        && matches!(
+            char::from_u32(c),
+            Some('(' | ')' | '[' | ']' | '{' | '}' | '/' | '-' | '|' | '\\')
+        )
 }
 
+/// Whether the code point stands for itself, but not before another of these.
 fn is_double(c: u32) -> bool
     ensures { result ≡ is_double c }
 {
-    DOUBLES.contains(&c)
+    !is_letter(c)
+        && matches!(
+            char::from_u32(c),
+            Some(
+                '&' | '!'
+                    | '#'
+                    | '$'
+                    | '%'
+                    | '*'
+                    | '+'
+                    | ','
+                    | '.'
+                    | ':'
+                    | ';'
+                    | '<'
+                    | '='
+                    | '>'
+                    | '?'
+                    | '@'
+                    | '^'
+                    | '`'
+                    | '~'
+            )
+        )
 }
 
 fn begins_double(source: &[u32]) -> bool
@@ -100,8 +103,12 @@ fn begins_double(source: &[u32]) -> bool
     }
 }
 
+/// Whether the code point stands for itself behind a backslash, beside those of any escape.
 fn is_reserved(c: u32) -> bool
     ensures { result ≡ is_reserved c }
 {
-    RESERVED.contains(&c)
+    matches!(
+        char::from_u32(c),
+        Some('&' | '-' | '!' | '#' | '%' | ',' | ':' | ';' | '<' | '=' | '>' | '@' | '`' | '~')
+    )
 }

@@ -1,16 +1,15 @@
 //! What a class with the flag v holds.
-ghost use Rattle.std.specs.Prelude.{◌≡◌, ℕ, not, All, List, filter, IfOk, OnOk};
+ghost use Rattle.std.specs.Prelude.{◌≡◌, ◌&&◌, ℕ, not, max, All, List, filter, IfOk, OnOk};
 ghost use Rattle.std.specs.BTreeSet.{contains_by};
 ghost use Rattle.std.specs.Cmp.Lexicographic.{slice_cmp};
 ghost use Rattle.std.specs.Ordering.{nat_cmp};
-ghost use Rattle.regress_base.specs.Intervals.{Bounds};
+ghost use Rattle.regress_base.specs.Intervals.{Bounds, is_member, IsCanonical};
 ghost use Rattle.regress_classes.specs.ClassRows.{one_point};
 ghost use Rattle.regress_classes.specs.ClassSets.{Value as Written, nothing, has_strings, only, joined, is_among, value_of_string};
 ghost use Rattle.regress_lexical.specs.Source.{IsCodePoint};
-ghost use Rattle.regress_classes.specs.ClassViews.{HasMembers, IsValue, strings_of, applied};
+ghost use Rattle.regress_classes.specs.ClassViews.{HasMembers, IsValue, strings_of, applied, kept};
 
 use super::Operator;
-use crate::class_escape::{add_intervals, set_is_canonical};
 use regress_base::codepointset::CodePointSet;
 use std::alloc::{AllocError, Global};
 use std::collections::BTreeSet;
@@ -63,18 +62,6 @@ impl Value {
         Ok(Value::of_set(alloc, set))
     }
 
-    /// Adds what the other one holds.
-    pub(super) fn join(&mut self, mut other: Value) -> Result<(), AllocError>
-        ensures { OnOk result ((a b : Written) → IsValue self.old a → IsValue other b → IsValue self.new (joined a b)) }
-    {
-        add_intervals(&mut self.set, other.set.intervals())?;
-        self.strings.append(&mut other.strings)?;
-        self.has_empty |= other.has_empty;
-        self.levels = self.levels.max(other.levels);
-        set_is_canonical(&self.set);
-        Ok(())
-    }
-
     /// Adds a string. One of one character is a code point.
     pub(super) fn add_string(&mut self, string: Vec<u32>) -> Result<(), AllocError>
         requires { All IsCodePoint string.items }
@@ -92,21 +79,53 @@ impl Value {
     pub(super) fn apply(&mut self, operator: Operator, other: Value) -> Result<(), AllocError>
         ensures { OnOk result ((a b : Written) → IsValue self.old a → IsValue other b → IsValue self.new (applied operator a b)) }
     {
-        let others = string_set(*self.strings.allocator(), &other.strings)?;
+        apply_points(&mut self.set, operator, &other.set)?;
+        self.apply_rest(operator, &other.strings, other.has_empty, other.levels)?;
+        Ok(())
+    }
+
+    /// Keeps of the strings what is in both, or what the others lack, and counts the levels.
+    pub(super) fn apply_rest(
+        &mut self,
+        operator: Operator,
+        others: &[Vec<u32>],
+        has_empty: bool,
+        levels: u32,
+    ) -> Result<(), AllocError>
+        ensures set { OnOk result (self.new.set ≡ self.old.set) }
+        ensures strings { OnOk result (self.new.strings.items
+            ≡ filter (λ string. kept operator (is_among (strings_of others.now) string.items)) self.old.strings.items) }
+        ensures has_empty { OnOk result (self.new.has_empty ≡ (self.old.has_empty && kept operator has_empty)) }
+        ensures levels { OnOk result (self.new.levels ≡ max self.old.levels levels) }
+    {
         match operator {
             Operator::Intersection => {
-                self.set.intersect(other.set.intervals())?;
-                keep_strings(&mut self.strings, &others);
-                self.has_empty &= other.has_empty;
+                keep_strings(&mut self.strings, others)?;
+                self.has_empty &= has_empty;
             }
             Operator::Subtraction => {
-                self.set.remove(other.set.intervals())?;
-                remove_strings(&mut self.strings, &others);
-                self.has_empty &= !other.has_empty;
+                remove_strings(&mut self.strings, others)?;
+                self.has_empty &= !has_empty;
             }
         }
-        self.levels = self.levels.max(other.levels);
+        self.levels = self.levels.max(levels);
         Ok(())
+    }
+}
+
+/// Keeps the code points that are in both sets, or that the other one lacks.
+fn apply_points(
+    set: &mut CodePointSet,
+    operator: Operator,
+    other: &CodePointSet,
+) -> Result<(), AllocError>
+    ensures members { OnOk result ((c : ℕ) →
+        is_member set.new c ≡ (is_member set.old c && kept operator (is_member other.now c))) }
+    ensures canonical { IsCanonical set.new }
+{
+    match operator {
+        Operator::Intersection => set.intersect(other.intervals()),
+        Operator::Subtraction => set.remove(other.intervals()),
     }
 }
 
@@ -123,15 +142,26 @@ fn string_set(alloc: Global, strings: &[Vec<u32>]) -> Result<BTreeSet<&[u32]>, A
 }
 
 /// Keeps the strings that are among the others.
-fn keep_strings(strings: &mut Vec<Vec<u32>>, others: &BTreeSet<&[u32]>)
-    ensures { strings.new.items ≡ filter (λ string. contains_by (λ other. slice_cmp nat_cmp string.items other.now) others.now) strings.old.items }
+pub(super) fn keep_strings(
+    strings: &mut Vec<Vec<u32>>,
+    others: &[Vec<u32>],
+) -> Result<(), AllocError>
+    ensures { OnOk result (strings.new.items ≡ filter (λ string. is_among (strings_of others.now) string.items) strings.old.items) }
 {
-    strings.retain(|string| others.contains(string.as_slice()));
+    if !strings.is_empty() {
+        let others = string_set(*strings.allocator(), others)?;
+        strings.retain(|string| others.contains(string.as_slice()));
+    }
+    Ok(())
 }
 
 /// Drops the strings that are among the others.
-fn remove_strings(strings: &mut Vec<Vec<u32>>, others: &BTreeSet<&[u32]>)
-    ensures { strings.new.items ≡ filter (λ string. not (contains_by (λ other. slice_cmp nat_cmp string.items other.now) others.now)) strings.old.items }
+fn remove_strings(strings: &mut Vec<Vec<u32>>, others: &[Vec<u32>]) -> Result<(), AllocError>
+    ensures { OnOk result (strings.new.items ≡ filter (λ string. not (is_among (strings_of others.now) string.items)) strings.old.items) }
 {
-    strings.retain(|string| !others.contains(string.as_slice()));
+    if !strings.is_empty() {
+        let others = string_set(*strings.allocator(), others)?;
+        strings.retain(|string| !others.contains(string.as_slice()));
+    }
+    Ok(())
 }

@@ -1,18 +1,22 @@
--- An atom that begins no range.
-use Rattle.std.proofs.Common.{Some, sym, ap, ◌∙◌}
+-- A plain part, or any other one.
+use Rattle.std.proofs.Common.{◌||◌, [], ◌∷◌, sym, ap, subst, ◌∙◌}
 use Rattle.regress_unicode.specs.TableOf.{table_of}
+use Rattle.regress_lexical.specs.Reads.{ReadsAs}
 use Rattle.regress_lexical.specs.Source.{Source}
-use Rattle.regress_classes.specs.ClassRows.{atom_members}
-use Rattle.regress_classes.specs.ClassViews.{class_atom_of}
 use Rattle.regress_lexical.specs.Views.{source}
-use Rattle.regress_classes.proofs.ClassLemmas.{alone_read}
+use Rattle.regress_classes.specs.ClassRows.{class_part_at}
+use Rattle.regress_classes.specs.ClassViews.{Adds}
+use Rattle.regress_classes.proofs.ClassLemmas.{adds_one}
 use Rattle.regress_classes.proofs.class.read_part.Goals as goal
 
-pub returns-in_ok-add_atom : goal.returns-in_ok-add_atom
-returns-in_ok-add_atom c = (
-  atom_members (class_atom_of c.in_ok-first.first),
-  alone_read (table_of c.args.tables.now) c.args.unicode (source c.args.cursor.now) (source c.read_class_atom.new.cursor) (class_atom_of c.in_ok-first.first)
-      c.in_ok-first.ensures.value (sym c.if-try_consume_hyphen.ensures.found)
-      ∙ ap (λ (rest : Source). Some (atom_members (class_atom_of c.in_ok-first.first), rest)) (sym c.if-try_consume_hyphen.ensures.moves),
-  c.in_ok-add_atom.ensures,
+pub returns-in-Some : goal.returns-in-Some
+returns-in-Some c = (
+  c.in-Some.interval ∷ [],
+  c.in-Some.ensures.some (table_of c.args.tables.now) c.args.unicode,
+  adds_one c.in-Some.interval c.args.set.now c.add.new.self c.in_ok-add.ensures,
 )
+
+pub returns : goal.returns
+returns c =
+    subst (λ (t : Source). ReadsAs (λ _ members. Adds members c.args.set.now c.read_any_part.new.set) (source c.read_any_part.new.cursor) c.read_any_part.result (class_part_at (table_of c.args.tables.now) c.args.unicode t))
+    c.in_default.ensures.none c.read_any_part.ensures

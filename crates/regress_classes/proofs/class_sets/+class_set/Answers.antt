@@ -5,10 +5,10 @@ use Rattle.std.proofs.lemmas.Result.{err_from_is_err_and}
 use Rattle.regress_unicode.specs.TableOf.{table_of}
 use Rattle.regress_classes.specs.declared.class_sets.Surroundings.{Surroundings}
 use Rattle.regress_classes.specs.ClassRows.{one_point}
-use Rattle.regress_classes.specs.ClassSets.{Value, has_strings, only, joined, nested, unless_of_strings, set_character_at, character, class, value_of, are_at}
+use Rattle.regress_classes.specs.ClassSets.{Value, nothing, has_strings, only, joined, nested, unless_of_strings, set_character_at, character, class, value_of, are_at}
 use Rattle.regress_lexical.specs.Reads.{ReadsAs}
 use Rattle.regress_lexical.specs.Source.{Source, is_at}
-use Rattle.regress_classes.specs.ClassViews.{IsValue, IsOperand, inner_of, sign_of, applied}
+use Rattle.regress_classes.specs.ClassViews.{IsValue, IsUnion, IsChain, IsOperand, inner_of, sign_of, applied}
 use Rattle.regress_lexical.specs.Views.{source}
 use Rattle.regress_lexical.proofs.laws.Sources.{on_syntax, on_syntax_then}
 use Rattle.regress_lexical.proofs.laws.Behind.{Ends}
@@ -16,7 +16,8 @@ use Rattle.regress_classes.proofs.laws.ClassSets.{class_set_by-ends}
 use Rattle.regress_classes.proofs.laws.ClassStrings.{class_set_by-levels}
 use Rattle.regress_lexical.proofs.laws.Sources.{length-none}
 use Rattle.regress_classes.proofs.ClassOperandLemmas.{nested_read, escape_read, character_read}
-use Rattle.regress_classes.proofs.ClassContentsLemmas.{no_operand, operand_shortens, parts_closed, no_contents, ampersand_read, no_first, no_part, one_part, parts_end, no_last, last_read, more_read, none_read, no_levels, class_read, read_on}
+use Rattle.regress_classes.proofs.ClassContentsLemmas.{no_operand, operand_shortens, parts_closed, no_contents, ampersand_read, first_part_read, no_first, no_part, one_part, parts_end, no_last, last_read, more_read, none_read, no_levels, class_read, read_on}
+use Rattle.regress_classes.proofs.ClassSetLemmas.{nothing-joined}
 use Rattle.regress_classes.proofs.class_sets.+class_set.Goals as goal
 use Rattle.regress_classes.proofs.class_sets.+class_set.Goals.{read_class_set-else-negated-via-then-negated+else-has_strings, read_class_set-else-negated-via-else-negated}
 
@@ -103,8 +104,8 @@ read_contents-returns-then-is_empty t c =
     (no_contents (table_of around.tables.now) around.unicode (inner_of around) (ends around) around.negated (source c.args.cursor.now)
     (sym same ∙ length-none (source c.try_consume.new.self) (sym c.if-is_empty.ensures)))
 
-pub read_behind-returns-in_ok-join : goal.read_behind-returns-in_ok-join
-read_behind-returns-in_ok-join t c = λ operand is.
+pub read_behind-returns-in_ok-add_point : goal.read_behind-returns-in_ok-add_point
+read_behind-returns-in_ok-add_point t c = λ operand is.
     let around = c.args.around.now in
     let here = source c.args.cursor.now in
     let same : source c.try_consume_both.new.cursor ≡ here = c.try_consume_both.ensures.moves ∙ cond-false _ _ _ c.if-try_consume_both.false in
@@ -118,20 +119,48 @@ read_behind-returns-in_ok-join t c = λ operand is.
     (ap (is_at 38) (sym still) ∙ sym c.try_consume.ensures.found ∙ c.if-try_consume.true)
     (c.try_consume.ensures.moves ∙ cond-true _ _ _ c.if-try_consume.true ∙ ap (λ (u : Source). drop 1 u) still)))
     (c.read_parts.ensures (joined (value_of operand) (only (one_point 38)))
-    (c.in_ok-join.ensures (value_of operand) (only (one_point 38)) (c.in_ok-value-3.ensures operand is)
-    (subst (λ n. IsValue c.in_ok-of_point.field-0 (only (one_point n))) c.from.ensures c.in_ok-of_point.ensures)))
+    (subst (λ n. IsUnion c.add_point.new.self (joined (value_of operand) (only (one_point n)))) c.from.ensures
+    (c.in_ok-add_point.ensures (value_of operand)
+    (subst (IsUnion c.add_operand.new.self) (nothing-joined (value_of operand))
+    (c.in_ok-add_operand.ensures nothing operand c.new-union.ensures is)))))
+
+pub read_behind-returns-in_ok-read_part_behind : goal.read_behind-returns-in_ok-read_part_behind
+read_behind-returns-in_ok-read_part_behind t c = λ operand is.
+    let around = c.args.around.now in
+    let here = source c.args.cursor.now in
+    let same : source c.try_consume_both.new.cursor ≡ here = c.try_consume_both.ensures.moves ∙ cond-false _ _ _ c.if-try_consume_both.false in
+    let still : source c.try_consume_both-else-try_consume_both.new.cursor ≡ here =
+    c.try_consume_both-else-try_consume_both.ensures.moves ∙ cond-false _ _ _ c.if-try_consume_both-2.false ∙ same in
+    let stays : source c.try_consume.new.self ≡ here = c.try_consume.ensures.moves ∙ cond-false _ _ _ c.if-try_consume.false ∙ still in
+    let part = c.in_ok-read_part_behind.ensures operand is in
+    subst (ReadsAs IsValue (source c.read_parts-else-try_consume.new.cursor) c.read_parts-else-try_consume.result)
+    (sym (first_part_read (table_of around.tables.now) around.unicode (inner_of around) (ends around) around.negated operand here
+    (source c.try_consume.new.self) (part.0, source c.read_part_behind.new.cursor)
+    (sym c.try_consume_both.ensures.found ∙ c.if-try_consume_both.false)
+    (ap (are_at 45) (sym same) ∙ sym c.try_consume_both-else-try_consume_both.ensures.found ∙ c.if-try_consume_both-2.false)
+    (ap (is_at 38) (sym still) ∙ sym c.try_consume.ensures.found ∙ c.if-try_consume.false) stays part.1))
+    (c.read_parts-else-try_consume.ensures part.0
+    (subst (IsUnion c.read_part_behind.new.union) (nothing-joined part.0) (part.2 nothing c.new-union-else-try_consume.ensures)))
+
+pub read_part_behind-returns-then-not-try_consume : goal.read_part_behind-returns-then-not-try_consume
+read_part_behind-returns-then-not-try_consume t c = λ operand is. (
+  value_of operand,
+  cond-false _ _ _ (sym c.try_consume.ensures.found ∙ c.if-not-try_consume.true)
+      ∙ ap (λ (u : Source). Some (value_of operand, u)) (sym (c.try_consume.ensures.moves ∙ cond-false _ _ _ c.if-not-try_consume.true)),
+  λ a h. c.in_ok-add_operand.ensures a operand h is,
+)
 
 -- ---- parts
 
 pub read_parts-returns-then-is_empty : goal.read_parts-returns-then-is_empty
 read_parts-returns-then-is_empty t c = λ held is.
     let around = c.args.around.now in
-    let l = c.loop-value in
+    let l = c.loop-union in
     let so_far = l.invariant held is in
     on_syntax c.syntax.result
     (so_far.whole
     ∙ no_first (table_of around.tables.now) around.unicode (inner_of around) (ends around) around.negated so_far.value (source l.cursor)
-    (sym c.is_at.ensures ∙ c.loop-value-test.true)
+    (sym c.is_at.ensures ∙ c.loop-union-test.true)
     (no_operand (table_of around.tables.now) around.unicode (inner_of around) (ends around) around.negated (source l.cursor)
     (length-none (source l.cursor) (sym c.if-is_empty.ensures))))
 
@@ -139,101 +168,108 @@ pub read_parts-returns-in_err-first : goal.read_parts-returns-in_err-first
 read_parts-returns-in_err-first t c = λ held is.
     let p = err_from_is_err_and c.from_residual.result c.from_residual.ensures.1 in
     let around = c.args.around.now in
-    let l = c.loop-value in
+    let l = c.loop-union in
     let so_far = l.invariant held is in
     rw (p.1, p.2) (on_syntax_then c.in_err-first.field-0.0
     (λ none. so_far.whole
     ∙ no_first (table_of around.tables.now) around.unicode (inner_of around) (ends around) around.negated so_far.value (source l.cursor)
-    (sym c.is_at.ensures ∙ c.loop-value-test.true) none)
+    (sym c.is_at.ensures ∙ c.loop-union-test.true) none)
     c.in_err-first.ensures)
 
-pub read_parts-returns-in_err-part : goal.read_parts-returns-in_err-part
-read_parts-returns-in_err-part t c = λ held is.
-    let p = err_from_is_err_and c.from_residual-in_err-part.result c.from_residual-in_err-part.ensures.1 in
+pub read_parts-returns-in_err-read_part_behind : goal.read_parts-returns-in_err-read_part_behind
+read_parts-returns-in_err-read_part_behind t c = λ held is.
+    let p = err_from_is_err_and c.from_residual-in_err-read_part_behind.result c.from_residual-in_err-read_part_behind.ensures.1 in
     let around = c.args.around.now in
-    let l = c.loop-value in
+    let l = c.loop-union in
     let so_far = l.invariant held is in
     let first = c.in_ok-first.ensures in
-    rw (p.1, p.2) (on_syntax_then c.in_err-part.field-0.0
+    rw (p.1, p.2) (on_syntax_then c.in_err-read_part_behind.field-0.0
     (λ none. so_far.whole
     ∙ no_part (table_of around.tables.now) around.unicode (inner_of around) (ends around) around.negated so_far.value (source l.cursor)
-    (first.0, source c.read_operand.new.cursor) (sym c.is_at.ensures ∙ c.loop-value-test.true) first.1 none)
-    (c.in_err-part.ensures first.0 first.2))
+    (first.0, source c.read_operand.new.cursor) (sym c.is_at.ensures ∙ c.loop-union-test.true) first.1 none)
+    (c.in_err-read_part_behind.ensures first.0 first.2))
 
-pub read_parts-loop-value-smaller : goal.read_parts-loop-value-smaller
-read_parts-loop-value-smaller t c =
+pub read_parts-loop-union-smaller : goal.read_parts-loop-union-smaller
+read_parts-loop-union-smaller t c =
     let around = c.args.around.now in
-    let l = c.loop-value in
+    let l = c.loop-union in
     let first = c.in_ok-first.ensures in
-    let part = c.in_ok-part.ensures first.0 first.2 in
+    let part = c.in_ok-read_part_behind.ensures first.0 first.2 in
     parts_end (table_of around.tables.now) around.unicode (inner_of around) (ends around) around.negated (source l.cursor)
     (first.0, source c.read_operand.new.cursor) (part.0, source c.read_part_behind.new.cursor) first.1 part.1
 
-pub read_parts-loop-value-preserved : goal.read_parts-loop-value-preserved
-read_parts-loop-value-preserved t c = λ held is.
+pub read_parts-loop-union-preserved : goal.read_parts-loop-union-preserved
+read_parts-loop-union-preserved t c = λ held is.
     let around = c.args.around.now in
-    let l = c.loop-value in
+    let l = c.loop-union in
     let so_far = l.invariant held is in
     let first = c.in_ok-first.ensures in
-    let part = c.in_ok-part.ensures first.0 first.2 in
-    read_on _ held (joined so_far.value part.0) (source c.args.cursor.now) (source l.cursor) (source c.read_part_behind.new.cursor) l.value
-    c.join.new.self so_far
+    let part = c.in_ok-read_part_behind.ensures first.0 first.2 in
+    read_on IsUnion _ held (joined so_far.value part.0) (source c.args.cursor.now) (source l.cursor) (source c.read_part_behind.new.cursor) l.union
+    c.read_part_behind.new.union so_far
     (one_part (table_of around.tables.now) around.unicode (inner_of around) (ends around) around.negated so_far.value (source l.cursor)
-    (first.0, source c.read_operand.new.cursor) (part.0, source c.read_part_behind.new.cursor) (sym c.is_at.ensures ∙ c.loop-value-test.true)
+    (first.0, source c.read_operand.new.cursor) (part.0, source c.read_part_behind.new.cursor) (sym c.is_at.ensures ∙ c.loop-union-test.true)
     first.1 part.1)
-    (c.in_ok-join.ensures so_far.value part.0 so_far.is part.2)
+    (part.2 so_far.value so_far.is)
 
 pub read_parts-returns : goal.read_parts-returns
 read_parts-returns t c = λ held is.
     let around = c.args.around.now in
-    let l = c.loop-value in
+    let l = c.loop-union in
     let so_far = l.invariant held is in
-    let closes = sym c.is_at.ensures ∙ c.loop-value-test.false in (
+    let closes = sym c.is_at.ensures ∙ c.loop-union-test.false in (
       so_far.value,
       so_far.whole
           ∙ parts_closed (table_of around.tables.now) around.unicode (inner_of around) (ends around) around.negated so_far.value (source l.cursor)
           closes
           ∙ ap (λ (u : Source). Some (so_far.value, u))
           (sym (c.try_consume.ensures.moves ∙ cond-true _ _ _ (c.try_consume.ensures.found ∙ closes))),
-      so_far.is,
+      c.in_ok-into_value.ensures so_far.value so_far.is,
     )
 
 -- ---- operators
 
-pub read_operands-returns-in_err-operand : goal.read_operands-returns-in_err-operand
-read_operands-returns-in_err-operand t c = λ held is.
+pub read_operands-loop-chain-init : goal.read_operands-loop-chain-init
+read_operands-loop-chain-init t c = λ held is. (
+  c.new-chain.ensures.operator,
+  record { value = held; whole = refl; is = c.new-chain.ensures.value held is },
+)
+
+pub read_operands-returns-in_err-read_operand : goal.read_operands-returns-in_err-read_operand
+read_operands-returns-in_err-read_operand t c = λ held is.
     let p = err_from_is_err_and c.from_residual.result c.from_residual.ensures.1 in
     let around = c.args.around.now in
-    let l = c.loop-value in
-    let so_far = l.invariant held is in
-    rw (p.1, p.2) (on_syntax_then c.in_err-operand.field-0.0
+    let l = c.loop-chain in
+    let so_far = (l.invariant held is).1 in
+    rw (p.1, p.2) (on_syntax_then c.in_err-read_operand.field-0.0
     (λ none. so_far.whole
     ∙ no_last (table_of around.tables.now) around.unicode (inner_of around) (ends around) around.negated (sign_of c.args.operator)
     (applied c.args.operator) so_far.value (source l.cursor) none)
-    c.in_err-operand.ensures)
+    c.in_err-read_operand.ensures)
 
 pub read_operands-returns-then-try_consume : goal.read_operands-returns-then-try_consume
 read_operands-returns-then-try_consume t c = λ held is.
     let around = c.args.around.now in
-    let l = c.loop-value in
-    let so_far = l.invariant held is in
-    let operand = c.in_ok-operand.ensures in (
+    let l = c.loop-chain in
+    let so_far = (l.invariant held is).1 in
+    let operand = c.in_ok-read_operand.ensures in (
       applied c.args.operator so_far.value (value_of operand.0),
       so_far.whole
           ∙ last_read (table_of around.tables.now) around.unicode (inner_of around) (ends around) around.negated (sign_of c.args.operator)
           (applied c.args.operator) so_far.value (source l.cursor) (operand.0, source c.read_operand.new.cursor) (source c.try_consume.new.self)
           operand.1 (sym c.try_consume.ensures.found ∙ c.if-try_consume.true)
           (c.try_consume.ensures.moves ∙ cond-true _ _ _ c.if-try_consume.true),
-      c.in_ok-apply.ensures so_far.value (value_of operand.0) so_far.is (c.in_ok-into_value.ensures operand.0 operand.2),
+      subst (λ operator. IsValue c.in_ok-close.field-0 (applied operator so_far.value (value_of operand.0))) (l.invariant held is).0
+          (c.in_ok-close.ensures so_far.value (value_of operand.0) so_far.is (c.in_ok-operand.ensures operand.0 operand.2)),
     )
 
 pub read_operands-returns-in_err-consume_operator : goal.read_operands-returns-in_err-consume_operator
 read_operands-returns-in_err-consume_operator t c = λ held is.
     let p = err_from_is_err_and c.from_residual-in_err-consume_operator.result c.from_residual-in_err-consume_operator.ensures.1 in
     let around = c.args.around.now in
-    let l = c.loop-value in
-    let so_far = l.invariant held is in
-    let operand = c.in_ok-operand.ensures in
+    let l = c.loop-chain in
+    let so_far = (l.invariant held is).1 in
+    let operand = c.in_ok-read_operand.ensures in
     let same : source c.try_consume.new.self ≡ source c.read_operand.new.cursor = c.try_consume.ensures.moves ∙ cond-false _ _ _ c.if-try_consume.false in
     rw (p.1, p.2) (on_syntax c.in_err-consume_operator.field-0.0
     (so_far.whole
@@ -242,11 +278,11 @@ read_operands-returns-in_err-consume_operator t c = λ held is.
     (sym c.try_consume.ensures.found ∙ c.if-try_consume.false)
     (ap (are_at (sign_of c.args.operator)) (sym same) ∙ c.in_err-consume_operator.ensures.err)))
 
-pub read_operands-loop-value-smaller : goal.read_operands-loop-value-smaller
-read_operands-loop-value-smaller t c =
+pub read_operands-loop-chain-smaller : goal.read_operands-loop-chain-smaller
+read_operands-loop-chain-smaller t c =
     let around = c.args.around.now in
-    let l = c.loop-value in
-    let operand = c.in_ok-operand.ensures in
+    let l = c.loop-chain in
+    let operand = c.in_ok-read_operand.ensures in
     let same : source c.try_consume.new.self ≡ source c.read_operand.new.cursor = c.try_consume.ensures.moves ∙ cond-false _ _ _ c.if-try_consume.false in
     omega (
       arith,
@@ -257,21 +293,26 @@ read_operands-loop-value-smaller t c =
       length-drop 2 (source c.try_consume.new.self),
     )
 
-pub read_operands-loop-value-preserved : goal.read_operands-loop-value-preserved
-read_operands-loop-value-preserved t c = λ held is.
+pub read_operands-loop-chain-preserved : goal.read_operands-loop-chain-preserved
+read_operands-loop-chain-preserved t c = λ held is.
     let around = c.args.around.now in
-    let l = c.loop-value in
-    let so_far = l.invariant held is in
-    let operand = c.in_ok-operand.ensures in
+    let l = c.loop-chain in
+    let so_far = (l.invariant held is).1 in
+    let operand = c.in_ok-read_operand.ensures in
     let same : source c.try_consume.new.self ≡ source c.read_operand.new.cursor = c.try_consume.ensures.moves ∙ cond-false _ _ _ c.if-try_consume.false in
-    read_on _ held (applied c.args.operator so_far.value (value_of operand.0)) (source c.args.cursor.now) (source l.cursor)
-    (source c.consume_operator.new.cursor) l.value c.apply.new.self so_far
-    (more_read (table_of around.tables.now) around.unicode (inner_of around) (ends around) around.negated (sign_of c.args.operator)
-    (applied c.args.operator) so_far.value (source l.cursor) (operand.0, source c.read_operand.new.cursor) (source c.consume_operator.new.cursor)
-    operand.1 (sym c.try_consume.ensures.found ∙ c.if-try_consume.false)
-    (ap (are_at (sign_of c.args.operator)) (sym same) ∙ c.in_ok-consume_operator.ensures.ok.0)
-    (c.in_ok-consume_operator.ensures.ok.1 ∙ ap (λ (u : Source). drop 2 u) same))
-    (c.in_ok-apply.ensures so_far.value (value_of operand.0) so_far.is (c.in_ok-into_value.ensures operand.0 operand.2))
+    let operator_is = (l.invariant held is).0 in
+    let pushed = c.in_ok-chain.ensures in (
+      pushed.0 ∙ operator_is,
+      read_on IsChain _ held (applied c.args.operator so_far.value (value_of operand.0)) (source c.args.cursor.now) (source l.cursor)
+          (source c.consume_operator.new.cursor) l.chain c.in_ok-chain.chain so_far
+          (more_read (table_of around.tables.now) around.unicode (inner_of around) (ends around) around.negated (sign_of c.args.operator)
+          (applied c.args.operator) so_far.value (source l.cursor) (operand.0, source c.read_operand.new.cursor)
+          (source c.consume_operator.new.cursor) operand.1 (sym c.try_consume.ensures.found ∙ c.if-try_consume.false)
+          (ap (are_at (sign_of c.args.operator)) (sym same) ∙ c.in_ok-consume_operator.ensures.ok.0)
+          (c.in_ok-consume_operator.ensures.ok.1 ∙ ap (λ (u : Source). drop 2 u) same))
+          (subst (λ operator. IsChain c.in_ok-chain.chain (applied operator so_far.value (value_of operand.0))) operator_is
+          (pushed.1 so_far.value (value_of operand.0) so_far.is (c.in_ok-operand.ensures operand.0 operand.2))),
+    )
 
 -- ---- classes
 

@@ -1,7 +1,7 @@
-use Rattle.std.proofs.Common.{◌+◌, ◌*◌, length}
+use Rattle.std.proofs.Common.{◌≡◌, ◌+◌, ◌*◌, length}
 use Rattle.regress_unicode.specs.TableOf.{table_of}
 use Rattle.regress_classes.specs.ClassSets.{Value, parts_at, operands_at}
-use Rattle.regress_classes.specs.ClassViews.{IsValue, inner_of, sign_of, applied}
+use Rattle.regress_classes.specs.ClassViews.{IsValue, IsUnion, IsChain, inner_of, sign_of, applied}
 use Rattle.regress_lexical.specs.Views.{source}
 use Rattle.regress_classes.proofs.ClassContentsLemmas.{ReadFrom}
 use Rattle.regress_classes.proofs.class_sets.+class_set.Given as goal
@@ -28,21 +28,22 @@ decreases-read_behind l = 8 * l.around.now.levels + 4
 abbrev pub decreases-read_contents : goal.decreases-read_contents
 decreases-read_contents l = 8 * l.around.now.levels + 5
 
-abbrev pub invariant-read_parts-loop-value : goal.invariant-read_parts-loop-value
-invariant-read_parts-loop-value l =
-    (held : Value) → IsValue l.fn.value held →
-    ReadFrom (parts_at (table_of l.around.tables.now) l.around.unicode (inner_of l.around) l.around.negated) held (source l.fn.cursor)
-    (source l.cursor) l.value
+abbrev pub invariant-read_parts-loop-union : goal.invariant-read_parts-loop-union
+invariant-read_parts-loop-union l =
+    (held : Value) → IsUnion l.fn.union held →
+    ReadFrom IsUnion (parts_at (table_of l.around.tables.now) l.around.unicode (inner_of l.around) l.around.negated) held (source l.fn.cursor)
+    (source l.cursor) l.union
 
-abbrev pub decreases-read_parts-loop-value : goal.decreases-read_parts-loop-value
-decreases-read_parts-loop-value l = length (source l.cursor)
+abbrev pub decreases-read_parts-loop-union : goal.decreases-read_parts-loop-union
+decreases-read_parts-loop-union l = length (source l.cursor)
 
-abbrev pub invariant-read_operands-loop-value : goal.invariant-read_operands-loop-value
-invariant-read_operands-loop-value l =
+abbrev pub invariant-read_operands-loop-chain : goal.invariant-read_operands-loop-chain
+invariant-read_operands-loop-chain l =
     (held : Value) → IsValue l.fn.value held →
-    ReadFrom
+    (l.chain.operator ≡ l.operator)
+    × ReadFrom IsChain
     (operands_at (table_of l.around.tables.now) l.around.unicode (inner_of l.around) l.around.negated (sign_of l.operator) (applied l.operator))
-    held (source l.fn.cursor) (source l.cursor) l.value
+    held (source l.fn.cursor) (source l.cursor) l.chain
 
-abbrev pub decreases-read_operands-loop-value : goal.decreases-read_operands-loop-value
-decreases-read_operands-loop-value l = length (source l.cursor)
+abbrev pub decreases-read_operands-loop-chain : goal.decreases-read_operands-loop-chain
+decreases-read_operands-loop-chain l = length (source l.cursor)

@@ -8,7 +8,7 @@ pub loop-i-init : goal.loop-i-init
 loop-i-init c = record {
   left_in = omega arith;
   right_in = omega arith;
-  met = met_none c.args.left.now c.args.right.now _ c.new-common.ensures.items;
+  met = met_none c.args.left.now c.args.right.now _ c.in_ok-common.ensures.items;
 }
 
 pub loop-i-preserved-then-last : goal.loop-i-preserved-then-last

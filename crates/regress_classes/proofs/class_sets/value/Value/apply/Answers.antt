@@ -1,30 +1,20 @@
-use Rattle.std.proofs.Common.{◌&&◌, not, max, List, refl, ap, ◌∙◌}
-use Rattle.regress_base.specs.Intervals.{Bounds, is_member}
+-- The points, and the rest.
+use Rattle.std.proofs.Common.{sym, ap, refl, filter, subst, ◌∙◌}
 use Rattle.regress_classes.specs.ClassSets.{is_among}
-use Rattle.regress_classes.specs.ClassViews.{strings_of}
+use Rattle.regress_classes.specs.ClassViews.{IsValue, strings_of, kept}
+use Rattle.regress_classes.proofs.ChainLemmas.{left_of, applied_is}
 use Rattle.regress_classes.proofs.ClassSetLemmas.{held_where}
 use Rattle.regress_classes.proofs.class_sets.value.Value.apply.Goals as goal
-use Rattle.regress_classes.proofs.class_sets.value.Value.apply.Goals.{in-Intersection+in_ok-intersect-in-Intersection, in-Subtraction+in_ok-remove-in-Subtraction}
 
 pub returns : goal.returns
 returns c = λ a b h k.
-    let old = c.args.self.now in
-    let other = c.args.other in
-    elim c.match-operator.branch [
-      | in-Intersection+in_ok-intersect-in-Intersection w ↦
-          rw (w.self-is, w.in-Intersection.is)
-          (held_where (λ x. x) a b old other w.intersect.new.self w.keep_strings.new.strings (old.has_empty && other.has_empty) c.max-self.result _ h k
-          w.in_ok-intersect-in-Intersection.ensures.canonical
-          (λ n. w.in_ok-intersect-in-Intersection.ensures.members n
-          ∙ ap (λ (l : List Bounds). is_member old.set n && is_member l n) w.intervals.ensures.value)
-          (λ string. c.in_ok-others.ensures string.items ∙ ap (λ l. is_among (strings_of l) string.items) c.deref.ensures.value)
-          w.keep_strings.ensures refl (c.max-self.ensures ∙ ap (λ self. max self.levels other.levels) w.self-is))
-      | in-Subtraction+in_ok-remove-in-Subtraction w ↦
-          rw (w.self-is, w.in-Subtraction.is)
-          (held_where not a b old other w.remove.new.self w.remove_strings.new.strings (old.has_empty && not other.has_empty) c.max-self.result _ h k
-          w.in_ok-remove-in-Subtraction.ensures.canonical
-          (λ n. w.in_ok-remove-in-Subtraction.ensures.members n
-          ∙ ap (λ (l : List Bounds). is_member old.set n && not (is_member l n)) w.intervals-in-Subtraction.ensures.value)
-          (λ string. ap not (c.in_ok-others.ensures string.items ∙ ap (λ l. is_among (strings_of l) string.items) c.deref.ensures.value))
-          w.remove_strings.ensures refl (c.max-self.ensures ∙ ap (λ self. max self.levels other.levels) w.self-is))
-    ]
+    let operator = c.args.operator in
+    let new = c.apply_rest.new.self in
+    let rest = c.in_ok-apply_rest.ensures in
+    subst (IsValue new) (sym (applied_is operator a b))
+    (subst (λ set. IsValue (record new { set = set }) (left_of operator a b)) (sym rest.set)
+    (held_where (kept operator) a b c.args.self.now c.args.other c.apply_points.new.set new.strings new.has_empty new.levels
+    (λ string. kept operator (is_among (strings_of c.args.other.strings.items) string.items)) h k c.in_ok-apply_points.ensures.canonical
+    c.in_ok-apply_points.ensures.members (λ string. refl)
+    (rest.strings
+    ∙ ap (λ l. filter (λ string. kept operator (is_among (strings_of l) string.items)) c.args.self.now.strings.items) c.deref.ensures.value) rest.has_empty rest.levels))

@@ -1,0 +1,18 @@
+-- An atom that begins no range.
+use Rattle.std.proofs.Common.{Some, sym, ap, ◌∙◌}
+use Rattle.regress_unicode.specs.TableOf.{table_of}
+use Rattle.regress_lexical.specs.Source.{Source}
+use Rattle.regress_classes.specs.ClassRows.{atom_members}
+use Rattle.regress_classes.specs.ClassViews.{class_atom_of}
+use Rattle.regress_lexical.specs.Views.{source}
+use Rattle.regress_classes.proofs.ClassLemmas.{alone_read}
+use Rattle.regress_classes.proofs.class.read_any_part.Goals as goal
+
+pub returns-in_ok-add_atom : goal.returns-in_ok-add_atom
+returns-in_ok-add_atom c = (
+  atom_members (class_atom_of c.in_ok-first.first),
+  alone_read (table_of c.args.tables.now) c.args.unicode (source c.args.cursor.now) (source c.read_class_atom.new.cursor) (class_atom_of c.in_ok-first.first)
+      c.in_ok-first.ensures.value (sym c.if-try_consume_hyphen.ensures.found)
+      ∙ ap (λ (rest : Source). Some (atom_members (class_atom_of c.in_ok-first.first), rest)) (sym c.if-try_consume_hyphen.ensures.moves),
+  c.in_ok-add_atom.ensures,
+)

@@ -1,0 +1,85 @@
+//! What the parts of a class with the flag v hold.
+ghost use Rattle.std.specs.Prelude.{◌≡◌, ℕ, [], ◌∷◌, IfOk, OnOk};
+ghost use Rattle.regress_classes.specs.ClassRows.{one_point};
+ghost use Rattle.regress_classes.specs.ClassSets.{Value as Written, Operand as WrittenOperand, nothing, only, joined, value_of};
+ghost use Rattle.regress_lexical.specs.Source.{IsCodePoint};
+ghost use Rattle.regress_classes.specs.ClassViews.{IsValue, IsUnion, IsOperand};
+
+use super::operand::Operand;
+use super::value::Value;
+use crate::gathered::Gathered;
+use regress_base::codepointset::Interval;
+use std::alloc::{AllocError, Global};
+
+/// What is in one or another of several parts, while they are read: a value whose code points are still gathered.
+#[derive(Drop)]
+pub struct Union {
+    points: Gathered,
+    strings: Vec<Vec<u32>>,
+    has_empty: bool,
+    levels: u32,
+}
+
+impl Union {
+    /// Nothing.
+    pub(super) fn new(alloc: Global) -> Union
+        ensures { IsUnion result nothing }
+    {
+        Union {
+            points: Gathered::new(alloc),
+            strings: Vec::new(alloc),
+            has_empty: false,
+            levels: 0,
+        }
+    }
+
+    /// Adds the code points of an interval.
+    pub(super) fn add(&mut self, interval: Interval) -> Result<(), AllocError>
+        ensures { OnOk result ((a : Written) → IsUnion self.old a → IsUnion self.new (joined a (only (interval ∷ [])))) }
+    {
+        self.points.add(interval)
+    }
+
+    /// Adds a code point.
+    pub(super) fn add_point(&mut self, c: u32) -> Result<(), AllocError>
+        requires { IsCodePoint c }
+        ensures { OnOk result ((a : Written) → IsUnion self.old a → IsUnion self.new (joined a (only (one_point c)))) }
+    {
+        self.add(Interval::new(c, c))
+    }
+
+    /// Adds what an operand holds.
+    pub(super) fn add_operand(&mut self, operand: Operand) -> Result<(), AllocError>
+        requires { (written : WrittenOperand) × IsOperand operand written }
+        ensures { OnOk result ((a : Written) (written : WrittenOperand) →
+            IsUnion self.old a → IsOperand operand written → IsUnion self.new (joined a (value_of written))) }
+    {
+        match operand {
+            Operand::Character(c) => self.add_point(c),
+            Operand::Class(value) => self.join(value),
+        }
+    }
+
+    /// Adds what a value holds.
+    fn join(&mut self, mut other: Value) -> Result<(), AllocError>
+        ensures { OnOk result ((a b : Written) → IsUnion self.old a → IsValue other b → IsUnion self.new (joined a b)) }
+    {
+        self.points.add_set(other.set)?;
+        self.strings.append(&mut other.strings)?;
+        self.has_empty |= other.has_empty;
+        self.levels = self.levels.max(other.levels);
+        Ok(())
+    }
+
+    /// The value, where all of them are read.
+    pub(super) fn into_value(self) -> Result<Value, AllocError>
+        ensures { IfOk result (λ held. (a : Written) → IsUnion self a → IsValue held a) }
+    {
+        Ok(Value {
+            set: self.points.into_set()?,
+            strings: self.strings,
+            has_empty: self.has_empty,
+            levels: self.levels,
+        })
+    }
+}
