@@ -1,3 +1,5 @@
+pub mod AtomLemmas
+pub mod EscapeRows
 pub mod ReaderLemmas
 pub mod GrammarLemmas
 pub mod CountLemmas

@@ -1,20 +1,36 @@
 -- An item, its quantifier, and the group that an item may be, from what is read of them.
-use Rattle.std.proofs.Common.{◌≡◌, ℕ, ◌+◌, ◌<◌, ◌≤◌, Bool, true, false, ◌∷◌, drop, Option, Some, None, refl, sym, ap, ◌∙◌, subst, arith, List}
-use Rattle.std.specs.Option.{IfSome}
+use Rattle.std.proofs.Common.{◌≡◌, ℕ, ◌+◌, ◌<◌, ◌≤◌, ◌==◌, Bool, true, false, [], ◌∷◌, drop, Option, Some, None, Result, Ok, Err, refl, sym, ap, ap₂, ◌∙◌, subst, arith, eqb-true, List}
+use Rattle.std.specs.Option.{IfSome, IsSomeAnd}
+use Rattle.std.specs.Result.{IfOk}
+use Rattle.std.proofs.lemmas.Bool.{cond-false}
+use Rattle.regress_tree.specs.declared.ir.node.Node.{Node}
+use Rattle.regress_tree.specs.Reading.{Direction}
+use Rattle.regress_lexical.specs.declared.fault.ParseFault.{ParseFault}
 use Rattle.std.proofs.lemmas.Option.{same_Some, cond_some}
 use Rattle.regress_unicode.specs.Table.{Table}
 use Rattle.regress_tree.specs.declared.ir.node.Quantifier.{Quantifier}
-use Rattle.regress_lexical.specs.Source.{Source, Found, ◌>>=◌, found_map, closing, is_at, is_plain}
+use Rattle.regress_lexical.specs.Source.{Source, Found, ◌>>=◌, found_map, opening, closing, is_at, is_plain}
 use Rattle.regress_lexical.specs.Quantifiers.{may_begin}
-use Rattle.regress_syntax.specs.Syntax.{Name, Group, Pattern, Item, one, either, literal, atom, group, Counts, counts_of_item, opened_by, levels}
-use Rattle.regress_syntax.specs.Rows.{Context, context_inside, Head, single, opens, head_of_item, allows, head_at, times_at}
-use Rattle.regress_lexical.proofs.laws.Sources.{found_then, from_each, to_each}
+use Rattle.regress_syntax.specs.Syntax.{Name, Atom, Group, Pattern, Item, one, either, literal, atom, group, Counts, added, counts_of_item, opened_by, levels, levels_of_atom}
+use Rattle.regress_syntax.specs.Rows.{Context, context_inside, Head, single, opens, head_of_item, allows, group_at, head_at, times_at}
+use Rattle.regress_lexical.proofs.laws.Sources.{found_then, from_each, to_each, on_syntax_then}
 use Rattle.regress_syntax.proofs.laws.Plain.{plain_head, no_times}
 use Rattle.regress_parse.specs.Reader.{Term, closed, item_behind, quantified, pattern_at, item_at, term_at}
 use Rattle.regress_base.specs.Limits.{max_capture_groups, max_loops, max_nesting_depth}
-use Rattle.regress_parse.specs.Parsing.{Fits, pattern_part, term_part, item_part}
-use Rattle.regress_parse.proofs.CountLemmas.{Fits-inside}
+use Rattle.regress_parse.specs.Parsing.{Fits, pattern_part, term_part, item_part, atom_at, ReadsAtom, Builds, Yields, text, counted}
+use Rattle.regress_parse.specs.TreeOf.{tree_of_atom}
+use Rattle.regress_parse.specs.declared.parser.Parser.{Parser}
+use Rattle.regress_parse.proofs.CountLemmas.{Fits-inside, added-nothing}
+use Rattle.regress_parse.proofs.ParserLemmas.{built}
 use Rattle.regress_parse.proofs.ReaderLemmas.{item_at-is, term_at-is}
+
+pub front_is : (k : ℕ) (t rest : Source) → is_at k t ≡ true → rest ≡ drop 1 t → t ≡ k ∷ rest
+front_is k [] rest e same = cc
+front_is k (c ∷ t) rest e same = ap₂ (λ d u. d ∷ u) (eqb-true c k e) (sym same)
+
+pub ok_whatever : (r : Result Node ParseFault) (P : Type 0) → P → IfOk r (λ node. P)
+ok_whatever (Ok node) P h = h
+ok_whatever (Err fault) P h = tt
 
 levels-positive : (p : Pattern) → 1 ≤ levels p
 levels-positive (one ts) = omega arith
@@ -67,27 +83,124 @@ module _ (table : Table) (names : List (Option Name)) (ctx : Context) where
       term_at-is ctx t
       ∙ ap (λ found. found >>= quantified ctx) (item_at-is ctx t ∙ ap (λ found. found >>= item_behind pattern_at ctx) front)
 
+  -- ---- an item with no pattern inside, and what opens a group
+
+  pub opening_head : (t : Source) → head_at ctx (opening ∷ t) ≡ group_at ctx.setting.table t
+  unfolding head_at
+  opening_head t = refl
+
+  atom_head : (t : Source) → is_at opening t ≡ false → head_at ctx t ≡ found_map single (atom_at ctx t)
+  unfolding head_at
+  atom_head [] none = refl
+  atom_head (c ∷ t) none = cond-false (c == opening) _ _ none
+
+  pub atom_item : (t : Source) → is_at opening t ≡ false → item_at ctx t ≡ found_map atom (atom_at ctx t)
+  atom_item t none =
+      item_at-is ctx t ∙ ap (λ found. found >>= item_behind pattern_at ctx) (atom_head t none) ∙ mapped (atom_at ctx t)
+    where
+      mapped : (found : Found Atom) → found_map single found >>= item_behind pattern_at ctx ≡ found_map atom found
+      mapped None = refl
+      mapped (Some x) = refl
+
+  pub opening_item : (t : Source) (head : Head × Source) → group_at ctx.setting.table t ≡ Some head →
+      item_at ctx (opening ∷ t) ≡ item_behind pattern_at ctx head
+  opening_item t head found = item_from_head (opening ∷ t) head (opening_head t ∙ found)
+
+  -- what a group is at whose front this was read
+  pub opened_same : (kind : Group) (t : Source) (x : Item × Source) → item_behind pattern_at ctx (opens kind, t) ≡ Some x →
+      head_of_item x.0 ≡ opens kind
+  opened_same kind t x found = head-same (opens kind, t) x found
+
   -- an item that is none, or too much, is so for the term
-  pub term-fail : (t : Source) (head : Head × Source) (before : Counts) (depth : ℕ) → head_at ctx t ≡ Some head →
-      IfSome (item_behind pattern_at ctx head) (λ x. Fits before depth (item_part table names x.0) → ⊥) →
-      IfSome (term_at ctx t) (λ x. Fits before depth (term_part table names x.0) → ⊥)
-  term-fail t head before depth front refused =
-      from_each (term_at ctx t) _ (λ x found fits.
-      let item = found_then (item_at ctx t) (quantified ctx) x (sym (term_at-is ctx t) ∙ found) in
+  pub times-fail : (found : Found Item) (before : Counts) (depth : ℕ) →
+      IfSome found (λ x. Fits before depth (item_part table names x.0) → ⊥) →
+      IfSome (found >>= quantified ctx) (λ x. Fits before depth (term_part table names x.0) → ⊥)
+  times-fail found before depth refused =
+      from_each (found >>= quantified ctx) _ (λ x read fits.
+      let item = found_then found (quantified ctx) x read in
       let times = found_then (times_at ctx (allows ctx.setting.flags.unicode (head_of_item item.0.0)) item.0.1)
       (λ (q : Option Quantifier × Source). Some ((item.0.0, q.0), q.1)) x item.2 in
       let same : (item.0.0, times.0.0) ≡ x.0 = ap (λ (z : Term × Source). z.0) (same_Some _ x times.2) in
       let whole = subst (λ (z : Term). Fits before depth (term_part table names z)) (sym same) fits in
-      to_each (item_behind pattern_at ctx head) _ refused item.0 (sym (item_from_head t head front) ∙ item.1)
+      to_each found _ refused item.0 item.1
       (Fits-inside before before depth depth (term_part table names (item.0.0, times.0.0)) (item_part table names item.0.0)
       (omega arith) (omega arith) (omega arith) whole))
 
+  -- what is read of the quantifier behind an item
+  pub times_read : (found : Found Item) (x : Item × Source) (allowed : Bool) (times : Found (Option Quantifier)) → found ≡ Some x →
+      allowed ≡ allows ctx.setting.flags.unicode (head_of_item x.0) → times_at ctx allowed x.1 ≡ times →
+      found >>= quantified ctx ≡ found_map (λ q. (x.0, q)) times
+  times_read found x allowed times read allowed_is behind =
+      ap (λ found. found >>= quantified ctx) read
+      ∙ ap (λ b. found_map (λ (q : Option Quantifier). (x.0, q)) (times_at ctx b x.1)) (sym allowed_is)
+      ∙ ap (found_map (λ (q : Option Quantifier). (x.0, q))) behind
+
   -- one loop too many is too many for the term
-  pub term-too_many : (t rest : Source) (x : Item) (q : Quantifier) (before : Counts) (depth : ℕ) → term_at ctx t ≡ Some ((x, Some q), rest) →
-      max_loops < before.loops + (counts_of_item x).loops + 1 → IfSome (term_at ctx t) (λ x. Fits before depth (term_part table names x.0) → ⊥)
-  term-too_many t rest x q before depth found many =
-      subst (λ found. IfSome found (λ x. Fits before depth (term_part table names x.0) → ⊥)) (sym found)
+  pub times-too_many : (found : Found Term) (rest : Source) (x : Item) (q : Quantifier) (before : Counts) (depth : ℕ) → found ≡ Some ((x, Some q), rest) →
+      max_loops < before.loops + (counts_of_item x).loops + 1 → IfSome found (λ x. Fits before depth (term_part table names x.0) → ⊥)
+  times-too_many found rest x q before depth read many =
+      subst (λ found. IfSome found (λ x. Fits before depth (term_part table names x.0) → ⊥)) (sym read)
       (λ (fits : Fits before depth (term_part table names (x, Some q))). omega (arith, fits.loops, many))
+
+  -- no quantifier can begin: the item is the term
+  pub builds_alone : (d : Direction) (depth : ℕ) (before : Counts) (new : Parser) (node : Node) (x : Item) (rest : Source) →
+      Builds d depth before new node (item_part table names x) rest → Builds d depth before new node (term_part table names (x, None)) rest
+  builds_alone d depth before new node x rest b = record {
+    node = b.node;
+    fits = Fits-inside before before depth depth (item_part table names x) (term_part table names (x, None)) (omega arith) (omega arith) (omega arith) b.fits;
+    counts = b.counts ∙ ap (added before) (sym (added-nothing (item_part table names x).counts));
+    rest = b.rest;
+  }
+
+  pub alone : (d : Direction) (depth : ℕ) (before : Counts) (new : Parser) (r : Result Node ParseFault) (found : Found Item) →
+      may_begin (text new) ≡ false → Yields (item_part table names) d depth before new r found →
+      Yields (term_part table names) d depth before new r (found >>= quantified ctx)
+  alone d depth before new (Ok node) found none h =
+      let x = built (item_part table names) d depth before new found node h in
+      let free : may_begin x.0.1 ≡ false = ap may_begin (sym x.2.rest) ∙ none in
+      subst (λ (f : Found Term). IsSomeAnd f (λ y. Builds d depth before new node (term_part table names y.0) y.1))
+      (sym (times_read found x.0 _ _ x.1 refl (no_times ctx _ x.0.1 free)))
+      (builds_alone d depth before new node x.0.0 x.0.1 x.2)
+  alone d depth before new (Err fault) found none h = on_syntax_then fault (times-fail found before depth) h
+
+  -- an item with no pattern inside, as an item
+  pub atom_yields : (d : Direction) (depth left : ℕ) (allowed : Bool) (old new : Parser) (r : Result Node ParseFault) (t : Source) →
+      is_at opening t ≡ false → depth + left ≡ max_nesting_depth → counted new ≡ counted old →
+      ReadsAtom ctx left allowed (text new) r (atom_at ctx t) →
+      table ≡ ctx.setting.table → names ≡ ctx.names →
+      Yields (item_part table names) d depth (counted old) new r (item_at ctx t)
+  atom_yields d depth left allowed old new (Ok node) t none all same h tables all_names =
+      subst (λ (f : Found Item). IsSomeAnd f (λ y. Builds d depth (counted old) new node (item_part table names y.0) y.1))
+      (sym (atom_item t none ∙ ap (found_map atom) h.1))
+      (record {
+        node = h.2.node ∙ sym (ap₂ (λ (us : Table) (ns : List (Option Name)). tree_of_atom us ns h.0) tables all_names);
+        fits = record {
+          groups = omega (arith, old.groups_within);
+          loops = omega (arith, old.loops_within);
+          levels = omega (arith, h.2.levels);
+        };
+        counts = same ∙ sym (added-nothing (counted old));
+        rest = refl;
+      })
+  atom_yields d depth left allowed old new (Err fault) t none all same h tables all_names =
+      on_syntax_then fault
+      (λ deep. subst (λ (f : Found Item). IfSome f (λ y. Fits (counted old) depth (item_part table names y.0) → ⊥))
+      (sym (atom_item t none)) (over (atom_at ctx t) deep)) h
+    where
+      over : (found : Found Atom) → IfSome found (λ x. left < levels_of_atom x.0) →
+          IfSome (found_map atom found) (λ y. Fits (counted old) depth (item_part table names y.0) → ⊥)
+      over None deep = tt
+      over (Some x) deep = λ fits. omega (arith, fits.levels, deep, all)
+
+  -- whether a quantifier may stand behind it
+  pub atom_allowed : (left : ℕ) (allowed : Bool) (new : Source) (r : Result Node ParseFault) (t : Source) → is_at opening t ≡ false →
+      ReadsAtom ctx left allowed new r (atom_at ctx t) →
+      IfOk r (λ node. (x : Item × Source) → item_at ctx t ≡ Some x → allowed ≡ allows ctx.setting.flags.unicode (head_of_item x.0))
+  atom_allowed left allowed new (Ok node) t none h =
+      λ x found.
+      let same = same_Some _ x (sym (atom_item t none ∙ ap (found_map atom) h.1) ∙ found) in
+      sym h.2.allows ∙ ap (λ (y : Item × Source). allows ctx.setting.flags.unicode (head_of_item y.0)) same
+  atom_allowed left allowed new (Err fault) t none h = tt
 
   -- ---- a group
 

@@ -1,5 +1,5 @@
 -- How the parser's values stand to what the grammar reads. No public contract cites this.
-use Rattle.std.specs.Prelude.{◌≡◌, ℕ, ◌+◌, ◌≤◌, List, [], ◌∷◌, Option, Some, IfSome, Result, Ok, Err}
+use Rattle.std.specs.Prelude.{◌≡◌, ℕ, ◌+◌, ◌<◌, ◌≤◌, Bool, ◌||◌, List, [], ◌∷◌, Option, Some, None, IfSome, Result, Ok, Err}
 use Rattle.std.specs.Option.{IsSomeAnd}
 use Rattle.regress_tree.specs.declared.ir.node.Node.{Node}
 use Rattle.regress_tree.specs.Reading.{Direction, forwards}
@@ -8,15 +8,15 @@ use Rattle.regress_unicode.specs.TableOf.{table_of}
 use Rattle.regress_tree.specs.Tree.{Tree, tree, alt}
 use Rattle.regress_lexical.specs.declared.fault.ParseFault.{ParseFault}
 use Rattle.regress_lexical.specs.Fault.{OnSyntax}
-use Rattle.regress_lexical.specs.Source.{Source, Found}
-use Rattle.regress_syntax.specs.Syntax.{Name, Pattern, Terms, Item, Counts, nothing_counted, added, counts, counts_of_terms, counts_of_term, counts_of_item, levels, levels_of_terms, levels_of_item}
-use Rattle.regress_syntax.specs.Rows.{Context}
+use Rattle.regress_lexical.specs.Source.{Source, Found, char, is_at}
+use Rattle.regress_syntax.specs.Syntax.{Name, Atom, Pattern, Terms, Item, Counts, nothing_counted, added, counts, counts_of_terms, counts_of_term, counts_of_item, levels, levels_of_atom, levels_of_terms, levels_of_item}
+use Rattle.regress_syntax.specs.Rows.{Context, atom_allows, atom_by}
 use Rattle.regress_syntax.specs.Views.{names_in, context_of, direction_if}
 use Rattle.regress_lexical.specs.Views.{source}
 use Rattle.regress_parse.specs.declared.parser.Parser.{Parser}
 use Rattle.regress_parse.specs.declared.parser.Around.{Around}
 use Rattle.regress_parse.specs.Reader.{Term, pattern_at}
-use Rattle.regress_parse.specs.TreeOf.{tree_of_pattern, trees_of_terms, tree_of_item, tree_of_times, joined}
+use Rattle.regress_parse.specs.TreeOf.{tree_of_atom, tree_of_pattern, trees_of_terms, tree_of_item, tree_of_times, joined}
 use Rattle.regress_base.specs.Limits.{max_capture_groups, max_loops, max_nesting_depth}
 
 -- what a stretch of the pattern comes to: its tree in a direction behind n opened groups, what it counts and its levels
@@ -81,6 +81,27 @@ pub record Builds (d : Direction) (depth : ℕ) (before : Counts) (new : Parser)
   pub fits : Fits before depth part
   pub counts : counted new ≡ added before part.counts
   pub rest : text new ≡ behind
+
+-- the atom at the front
+abbrev pub atom_at : Context → Source → Found Atom
+atom_at ctx [] = None
+atom_at ctx (c ∷ t) = atom_by ctx c t
+
+-- whether `^` or `$` is at the front, behind which no quantifier may stand
+abbrev pub is_anchor : Source → Bool
+is_anchor t = is_at (char "^") t || is_at (char "$") t
+
+-- The node is the tree of this atom, in which so many levels of classes lie at most, and a quantifier may stand behind it
+-- or not.
+pub record IsNode (ctx : Context) (most : ℕ) (allowed : Bool) (built : Node) (a : Atom) : Type 0 where
+  pub node : tree built ≡ tree_of_atom ctx.setting.table ctx.names a
+  pub levels : levels_of_atom a ≤ most
+  pub allows : atom_allows a ≡ allowed
+
+-- What a call answers that reads an atom: its node, or a fault where there is none or too many levels lie in it.
+abbrev pub ReadsAtom : Context → (left : ℕ) → (allowed : Bool) → Source → Result Node ParseFault → Found Atom → Type 0
+ReadsAtom ctx left allowed new (Ok node) found = (a : Atom) × (found ≡ Some (a, new)) × IsNode ctx left allowed node a
+ReadsAtom ctx left allowed new (Err fault) found = OnSyntax fault (IfSome found (λ x. left < levels_of_atom x.0))
 
 -- What a call of the parser answers: what the grammar reads, or a fault where it reads nothing or too much.
 abbrev pub Yields : {A : Type 0} → (A → Part) → Direction → ℕ → Counts → Parser → Result Node ParseFault → Found A → Type 0

@@ -26,6 +26,10 @@ item_by inner ctx t = head_at ctx t >>= item_behind inner ctx
 abbrev pub quantified : Context → Item × Source → Found Term
 quantified ctx (x, t) = found_map (λ q. (x, q)) (times_at ctx (allows ctx.setting.flags.unicode (head_of_item x)) t)
 
+-- what was read of an item, and the quantifier behind it
+abbrev pub with_times : Context → Found Item → Found Term
+with_times ctx found = found >>= quantified ctx
+
 abbrev pub term_by : (Context → Source → Found Pattern) → Context → Source → Found Term
 term_by inner ctx t = item_by inner ctx t >>= quantified ctx
 

@@ -8,8 +8,9 @@ ghost use Rattle.regress_classes.specs.ClassSets.{Value as WrittenValue};
 ghost use Rattle.regress_syntax.specs.Meaning.{is_in_class, longest_first};
 ghost use Rattle.regress_lexical.specs.Source.{IsCodePoint};
 ghost use Rattle.regress_classes.specs.ClassRows.{members_of};
-ghost use Rattle.regress_syntax.specs.Syntax.{Atom as Written};
-ghost use Rattle.regress_syntax.specs.Views.{IsAtom, IsSomeAtom, context_of, names_in, direction_if, group_of};
+ghost use Rattle.regress_syntax.specs.Syntax.{dot, anchor, boundary};
+ghost use Rattle.regress_syntax.specs.Rows.{point_property};
+ghost use Rattle.regress_syntax.specs.Views.{context_of, names_in, direction_if, group_of};
 ghost use Rattle.regress_classes.specs.ClassViews.{IsValue, HasMembers, strings_of};
 ghost use Rattle.regress_parse.specs.TreeOf.{turned, joined, leaf_of_members, leaf_of_literal, references, strings_part, bracket_part, empty_part, class_parts, alternation, tree_of_atom, tree_of_group, tree_of_times};
 ghost use Rattle.regress_parse.specs.Parsing.{alternatives};
@@ -17,64 +18,65 @@ ghost use Rattle.regress_parse.specs.Parsing.{alternatives};
 use regress_base::charclasses::CharacterClassType;
 use regress_base::codepointset::CodePointSet;
 use regress_base::types::{BracketContents, CaptureGroupID};
-use regress_syntax::{Atom, Group, Name, Scope, Value, class_escape_set};
-use regress_tree::ir::{Node, NodeList, Quantifier};
+use regress_classes::class_escape::set_is_canonical;
+use regress_syntax::{Group, Name, Scope, Value, class_escape_set};
+use regress_tree::ir::{AnchorType, Node, NodeList, Quantifier};
 use regress_unicode::{add_icase_code_points, expand_code_point};
 use std::alloc::{AllocError, Global};
 use std::cmp::Reverse;
 use std::ops::Range;
 
-/// The node of an item that holds no pattern.
-pub(crate) fn make_atom(alloc: Global, atom: Atom, scope: &Scope) -> Result<Node, AllocError>
-    requires { IsSomeAtom (context_of scope.now) atom }
-    ensures { (a : Written) → IsAtom (context_of scope.now) atom a →
-        IfOk result (λ node. tree node ≡ tree_of_atom (table_of scope.now.tables.now) (names_in scope.now.groups.now) a) }
+/// The node of `.`.
+pub(crate) fn make_dot(scope: &Scope) -> Node
+    ensures { tree result ≡ tree_of_atom (table_of scope.now.tables.now) (names_in scope.now.groups.now) (dot scope.now.flags) }
 {
-    Ok(match atom {
-        Atom::Literal(c) => make_literal(alloc, c, scope)?,
-        Atom::Dot if scope.flags.dot_all => Node::MatchAny,
-        Atom::Dot => Node::MatchAnyExceptLineTerminator,
-        Atom::Anchor(anchor_type) => Node::Anchor {
-            anchor_type,
-            multiline: scope.flags.multiline,
-        },
-        Atom::WordBoundary { inverted } => Node::WordBoundary {
-            invert: inverted,
-            unicode_icase: scope.flags.unicode && scope.flags.icase,
-        },
-        Atom::ClassEscape { kind, negated } => make_class_escape(alloc, kind, negated, scope)?,
-        Atom::Class { inverted, set } => Node::Bracket(BracketContents {
-            invert: inverted,
-            cps: close(set, scope)?,
-        }),
-        Atom::ClassSet { negated, value } => make_class_set(alloc, negated, value, scope)?,
-        Atom::Strings(strings) => make_strings(alloc, strings, scope.flags.icase)?,
-        Atom::BackReferences { first, others } => {
-            make_references(alloc, first, others, scope.flags.icase)?
-        }
-    })
+    if scope.flags.dot_all {
+        Node::MatchAny
+    } else {
+        Node::MatchAnyExceptLineTerminator
+    }
 }
 
-/// The node of references to these groups, which are tried one after the other.
-fn make_references(
+/// The node of `^` or `$`.
+pub(crate) fn make_anchor(anchor_type: AnchorType, scope: &Scope) -> Node
+    ensures { tree result ≡ tree_of_atom (table_of scope.now.tables.now) (names_in scope.now.groups.now) (anchor scope.now.flags anchor_type) }
+{
+    Node::Anchor {
+        anchor_type,
+        multiline: scope.flags.multiline,
+    }
+}
+
+/// The node of `\b`, or inverted of `\B`.
+pub(crate) fn make_boundary(inverted: bool, scope: &Scope) -> Node
+    ensures { tree result ≡ tree_of_atom (table_of scope.now.tables.now) (names_in scope.now.groups.now) (boundary scope.now.flags inverted) }
+{
+    Node::WordBoundary {
+        invert: inverted,
+        unicode_icase: scope.flags.unicode && scope.flags.icase,
+    }
+}
+
+/// The node of references to these groups, which are tried one after the other. Most are to one alone.
+pub(crate) fn make_references(
     alloc: Global,
-    first: u32,
-    others: Vec<u32>,
+    groups: &[u32],
     icase: bool,
 ) -> Result<Node, AllocError>
-    ensures { IfOk result (λ node. tree node ≡ alternation (references icase (first ∷ others.items))) }
+    ensures { IfOk result (λ node. tree node ≡ alternation (references icase groups.now)) }
 {
-    let reference = Node::BackRef {
-        group: first,
-        icase,
-    };
-    if others.is_empty() {
-        return Ok(reference);
+    if let [group] = groups {
+        return Ok(Node::BackRef {
+            group: *group,
+            icase,
+        });
     }
     let mut references = Vec::new(alloc);
-    references.push(reference)?;
-    for group in others {
-        references.push(Node::BackRef { group, icase })?;
+    for group in groups {
+        references.push(Node::BackRef {
+            group: *group,
+            icase,
+        })?;
     }
     make_alternation(alloc, references)
 }
@@ -112,7 +114,7 @@ fn make_members(members: Vec<u32>) -> Node
 }
 
 /// The node of a class by an escape, whose complement is taken once it is closed.
-fn make_class_escape(
+pub(crate) fn make_class_escape(
     alloc: Global,
     kind: CharacterClassType,
     negated: bool,
@@ -128,9 +130,42 @@ fn make_class_escape(
     }))
 }
 
+/// The node of a class without the flag v.
+pub(crate) fn make_class(
+    inverted: bool,
+    set: CodePointSet,
+    scope: &Scope,
+) -> Result<Node, AllocError>
+    ensures { (members : List Bounds) → HasMembers members set → IfOk result (λ node. tree node ≡
+        leaf (bracket inverted (intervals_of (is_in_class (table_of scope.now.tables.now) scope.now.flags false members)))) }
+{
+    Ok(Node::Bracket(BracketContents {
+        invert: inverted,
+        cps: close(set, scope)?,
+    }))
+}
+
+/// The node of a property of code points. With the flag i its complement is taken first, since it is closed as a set of
+/// its own.
+pub(crate) fn make_property(
+    alloc: Global,
+    set: &CodePointSet,
+    negated: bool,
+    scope: &Scope,
+) -> Result<Node, AllocError>
+    ensures { IfOk result (λ node. tree node ≡ tree_of_atom (table_of scope.now.tables.now) (names_in scope.now.groups.now)
+        (point_property (context_of scope.now) negated set.now)) }
+{
+    if negated && scope.flags.icase {
+        return make_class(false, set.inverted()?, scope);
+    }
+    set_is_canonical(set);
+    make_class(negated, set.try_clone(alloc)?, scope)
+}
+
 /// The node of a class with the flag v: first its strings of two or more, longest first, then its code points, and last
 /// the empty string.
-fn make_class_set(
+pub(crate) fn make_class_set(
     alloc: Global,
     negated: bool,
     value: Value,
@@ -198,7 +233,7 @@ fn push_empty(parts: &mut NodeList, has_empty: bool) -> Result<(), AllocError>
 }
 
 /// The node of these strings, tried in their order.
-fn make_strings(alloc: Global, strings: Vec<Vec<u32>>, icase: bool) -> Result<Node, AllocError>
+pub(crate) fn make_strings(alloc: Global, strings: Vec<Vec<u32>>, icase: bool) -> Result<Node, AllocError>
     ensures { IfOk result (λ node. tree node ≡ leaf (string_set (strings_of strings.items) icase)) }
 {
     let mut alternatives = Vec::with_capacity(alloc, strings.len())?;

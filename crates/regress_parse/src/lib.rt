@@ -1,6 +1,7 @@
 //! From the text of a pattern to its tree.
 #![tactic(auto)]
 
+mod atom;
 mod build;
 mod parser;
 mod pattern;

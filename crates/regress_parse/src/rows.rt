@@ -1,17 +1,20 @@
 //! The grammar, form by form.
-ghost use Rattle.std.specs.Prelude.{◌≡◌, ◌<◌, ◌≤◌, OnOk, length};
-ghost use Rattle.regress_syntax.specs.Views.{group_of, IsAtom, IsHead, IsSomeHead};
-ghost use Rattle.regress_syntax.specs.Syntax.{Atom as WrittenAtom, levels_of_atom};
-ghost use Rattle.regress_syntax.specs.Rows.{Context, Head as Written, opens};
+ghost use Rattle.std.specs.Prelude.{◌≡◌, ◌≤◌, Some, IfOk};
+ghost use Rattle.regress_lexical.specs.Source.{Source, Found};
+ghost use Rattle.regress_syntax.specs.Views.{group_of};
+ghost use Rattle.regress_syntax.specs.Syntax.{Item, Counts};
+ghost use Rattle.regress_syntax.specs.Rows.{opens, allows, head_of_item};
 ghost use Rattle.regress_base.specs.Limits.{max_nesting_depth};
-ghost use Rattle.regress_parse.specs.Reader.{pattern_at, terms_at, term_at, item_behind};
+ghost use Rattle.regress_parse.specs.Reader.{pattern_at, terms_at, term_at, item_behind, with_times};
 ghost use Rattle.regress_parse.specs.Parsing.{text, counted, direction_of, context_in, table_in, names_around, pattern_part, terms_part, term_part, item_part, Yields};
 
-use crate::build::{make_alt, make_atom, make_cat, make_group, make_literal, make_loop};
+use crate::atom::{begins_anchor, read_atom};
+use crate::build::{make_alt, make_cat, make_group, make_literal, make_loop};
 use crate::parser::{Around, Parser};
-use regress_base::types::MAX_NESTING_DEPTH;
+use regress_base::types::{CaptureGroupID, MAX_NESTING_DEPTH};
+use regress_lexical::quantifier::may_begin;
 use regress_syntax::fault::{TOO_DEEP, syntax};
-use regress_syntax::{Atom, Group, Head, ParseFault, read_head, read_times};
+use regress_syntax::{Group, ParseFault, read_group, read_times};
 use regress_tree::ir::Node;
 
 impl Parser<'_> {
@@ -63,42 +66,49 @@ impl Parser<'_> {
         ensures value { Yields (term_part (table_in around.now) (names_around around.now)) (direction_of around.now) around.now.depth (counted self.old) self.new result
             (term_at (context_in around.now) (text self.old)) }
     {
-        let groups_before = self.group_count;
-        let head = read_head(&mut self.cursor, &around.scope)?;
-        let allowed = head.allows_quantifier(around.scope.flags.unicode);
-        let item = self.consume_item(head, around)?;
+        let first = self.group_count;
+        if self.cursor.try_consume('(') {
+            let kind = read_group(&mut self.cursor, around.scope.tables)?;
+            let allowed = kind.allows_quantifier(around.scope.flags.unicode);
+            let item = self.consume_group(kind, around);
+            return self.consume_times(item, allowed, first, around);
+        }
+        let allowed = !begins_anchor(self.cursor.rest);
+        let left = MAX_NESTING_DEPTH - around.depth;
+        let item = read_atom(&mut self.cursor, &around.scope, left);
+        self.consume_times(item, allowed, first, around)
+    }
+
+    /// Reads the quantifier behind an item, if one begins there. `first` is how many groups were counted before the item.
+    #[inline(always)]
+    fn consume_times(
+        &mut self,
+        item: Result<Node, ParseFault>,
+        allowed: bool,
+        first: CaptureGroupID,
+        around: &Around,
+    ) -> Result<Node, ParseFault>
+        ensures value { (found : Found Item) (before : Counts) → before.groups ≡ first →
+            IfOk item (λ node. (x : Item × Source) → found ≡ Some x → allowed ≡ allows around.now.scope.flags.unicode (head_of_item x.0)) →
+            Yields (item_part (table_in around.now) (names_around around.now)) (direction_of around.now) around.now.depth before self.old item found →
+            Yields (term_part (table_in around.now) (names_around around.now)) (direction_of around.now) around.now.depth before self.new result
+            (with_times (context_in around.now) found) }
+    {
+        if !may_begin(self.cursor.rest) {
+            return item;
+        }
+        let node = item?;
         let times = read_times(&mut self.cursor, &around.scope, allowed)?;
         let Some(quantifier) = times else {
-            return Ok(item);
+            return Ok(node);
         };
         self.count_loop()?;
         Ok(make_loop(
             self.cursor.alloc,
-            item,
+            node,
             quantifier,
-            groups_before..self.group_count,
+            first..self.group_count,
         )?)
-    }
-
-    /// Reads an item, behind what it begins with (ECMA-262, Atom and Assertion).
-    #[cycle(parser)]
-    fn consume_item(&mut self, head: Head, around: &Around) -> Result<Node, ParseFault>
-        requires depth { around.now.depth ≤ max_nesting_depth }
-        requires head { IsSomeHead (context_in around.now) head }
-        ensures value { (written : Written) → IsHead (context_in around.now) head written →
-            Yields (item_part (table_in around.now) (names_around around.now)) (direction_of around.now) around.now.depth (counted self.old) self.new result
-            (item_behind pattern_at (context_in around.now) (written, text self.old)) }
-    {
-        match head {
-            Head::Atom(atom) => {
-                // The scan in front has refused these already.
-                if levels(&atom) > MAX_NESTING_DEPTH - around.depth {
-                    return Err(syntax(self.cursor.alloc, TOO_DEEP));
-                }
-                Ok(make_atom(self.cursor.alloc, atom, &around.scope)?)
-            }
-            Head::Opens(kind) => self.consume_group(kind, around),
-        }
     }
 
     /// Reads a group, behind what opens it.
@@ -112,15 +122,5 @@ impl Parser<'_> {
         let contents = self.consume_disjunction(&around.inside(&kind))?;
         self.cursor.consume_closing()?;
         Ok(make_group(self.cursor.alloc, kind, first..self.group_count, contents)?)
-    }
-}
-
-/// How many levels of classes lie in an item.
-fn levels(atom: &Atom) -> u32
-    ensures { (ctx : Context) (a : WrittenAtom) → IsAtom ctx atom.now a → result ≡ levels_of_atom a }
-{
-    match atom {
-        Atom::ClassSet { value, .. } => value.levels,
-        _ => 0,
     }
 }

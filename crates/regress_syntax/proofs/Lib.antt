@@ -11,4 +11,3 @@ mod ScanLemmas
 mod ScanRows
 mod ScanSets
 mod ScannerLemmas
-mod PropertyRows

@@ -2,16 +2,15 @@
 use Rattle.std.proofs.Common.{⊎_elim, ◌≡◌, ◌≢◌, ℕ, ◌+◌, ◌-◌, ◌<◌, ◌≤◌, ◌^◌, nat_le, min, Bool, true, false, cond, ◌||◌, List, [], ◌∷◌, length, Option, Some, None, refl, sym, ap, ◌∙◌, arith}
 use Rattle.std.proofs.lemmas.Bool.{cond-true, cond-false, cases_Bool, false≢true, ne_eqb}
 use Rattle.std.proofs.lemmas.Bool.Decides.{nat_tests}
-use Rattle.std.proofs.lemmas.Option.{none-some, same_Some, cond_some}
+use Rattle.std.proofs.lemmas.Option.{same_Some}
 use Rattle.regress_lexical.specs.Source.{Source, ◌>>=◌}
 use Rattle.regress_lexical.specs.Digits.{is_between, is_decimal, number, front, behind}
 use Rattle.regress_lexical.specs.Escapes.{begins_with_digit}
 use Rattle.regress_lexical.specs.Quantifiers.{count_at}
 use Rattle.regress_syntax.specs.Meaning.{groups_named}
 use Rattle.regress_syntax.specs.Names.{group_name_at}
-use Rattle.regress_syntax.specs.Rows.{Context, has_name, group_number_at, numbered_at, named_at, character_at}
-use Rattle.regress_lexical.proofs.laws.Behind.{behind_front, Ends, ends_none, ends_some, ends_cond}
-use Rattle.regress_syntax.specs.Syntax.{Name, is_named, by_number, by_name, back_reference}
+use Rattle.regress_syntax.specs.Rows.{Context, has_name, group_number_at, named_at}
+use Rattle.regress_syntax.specs.Syntax.{Name, is_named, by_name, back_reference}
 
 digit_decimal : (c : ℕ) → is_between 49 57 c ≡ true → is_decimal c ≡ true
 digit_decimal c e = grind (arith, nat_tests, e)
@@ -49,29 +48,9 @@ group_number_at-some t groups n rest digit few found within =
     grind (arith, nat_tests, ap (λ (x : ℕ × Source). x.0) same, small, within) in
     cond-true _ _ _ fits ∙ ap (λ m. Some (m, behind is_decimal t)) (sym small) ∙ ap Some same
 
-module _ (ctx : Context) where
-  pub numbered-some : (c : ℕ) (t : Source) (k : ℕ) (rest : Source) → group_number_at ctx.groups (c ∷ t) ≡ Some (k, rest) →
-      numbered_at ctx c t ≡ Some (back_reference ctx.setting.flags (by_number k), rest)
-  numbered-some c t k rest found =
-      let p = cond_some (nat_le (number 10 (front is_decimal (c ∷ t))) ctx.groups) _ (k, rest) found in
-      cond-true _ _ _ p.0 ∙ ap (λ (x : ℕ × Source). Some (back_reference ctx.setting.flags (by_number x.0), x.1)) p.1
-
-  pub numbered-none : (c : ℕ) (t : Source) → group_number_at ctx.groups (c ∷ t) ≡ None →
-      numbered_at ctx c t ≡ cond ctx.setting.flags.unicode None (character_at ctx c t)
-  numbered-none c t none =
-      cond-false _ _ _ (fails (nat_le (number 10 (front is_decimal (c ∷ t))) ctx.groups) _ none)
-    where
-      fails : (b : Bool) (x : ℕ × Source) → cond b (Some x) None ≡ None → b ≡ false
-      fails true x e = absurd (none-some x (sym e))
-      fails false x e = refl
-
 abbrev is_empty : List ℕ → Bool
 is_empty [] = true
 is_empty (x ∷ xs) = false
-
-pub none_there : (ks : List ℕ) → length ks ≡ 0 → ks ≡ []
-none_there [] e = refl
-none_there (k ∷ ks) e = absurd (omega (arith, e))
 
 -- some group has the name exactly where groups are found by it
 pub has_name-groups : (name : Name) (n : ℕ) (names : List (Option Name)) →
@@ -86,9 +65,6 @@ has_name-groups name n (other ∷ names) = by (is_named name other) (has_name-gr
         ((b || has_name name names) ≡ false → cond b (n ∷ groups_named name (n + 1) names) (groups_named name (n + 1) names) ≡ [])
     by true h = (λ e none. false≢true (ap is_empty none), λ e. absurd (false≢true (sym e)))
     by false h = h
-
-pub group_number_at-ends : (groups : ℕ) (t : Source) → Ends (group_number_at groups t) t
-group_number_at-ends groups t = ends_cond _ _ _ t (ends_some _ t (behind_front is_decimal t)) (ends_none t)
 
 module _ (ctx : Context) where
   -- what stands behind `\k`, where a name is read

@@ -1,6 +1,7 @@
 -- Laws of this crate's definitions, which the crates above may cite.
 pub mod NameEnds
 pub mod Plain
+pub mod References
 pub mod Rows
 pub mod SameNames
 pub mod Scan

@@ -24,8 +24,24 @@ pub enum Group {
     Look { negate: bool, backwards: bool },
 }
 
+impl Group {
+    ghost use Rattle.std.specs.Prelude.{◌≡◌};
+    ghost use Rattle.regress_syntax.specs.Rows.{group_allows};
+    ghost use Rattle.regress_syntax.specs.Views.{group_of};
+
+    /// Whether a quantifier may stand behind what is opened so.
+    pub fn allows_quantifier(&self, unicode: bool) -> bool
+        ensures { result ≡ group_allows unicode (group_of self.now) }
+    {
+        match self {
+            Group::Look { backwards, .. } => !*backwards && !unicode,
+            Group::Grouping | Group::Modified(_) | Group::Capture(_) => true,
+        }
+    }
+}
+
 /// Reads what a parenthesis opens, behind it.
-pub(crate) fn read_group(cursor: &mut Cursor, tables: &Tables) -> Result<Group, ParseFault>
+pub fn read_group(cursor: &mut Cursor, tables: &Tables) -> Result<Group, ParseFault>
     ensures { Reads (λ kind. opens (group_of kind)) (source cursor.new) result (group_at (table_of tables.now) (source cursor.old)) }
 {
     if cursor.try_consume('?') {

@@ -2,20 +2,20 @@
 //! recursion, and the faults of a pattern that is none.
 #![tactic(auto)]
 
-mod atom;
 mod group;
 mod groups;
-mod head;
 mod names;
+mod references;
 mod scan;
 mod scope;
+mod times;
 
-pub use atom::Atom;
-pub use group::Group;
+pub use group::{Group, read_group};
 pub use groups::Groups;
-pub use head::{Head, read_head, read_times};
 pub use names::Name;
+pub use references::{has_references_by_name, read_group_number, read_reference};
 pub use regress_classes::{Value, class_escape_set};
 pub use regress_lexical::{Change, Cursor, Error, ParseFault, fault};
 pub use scan::scan as scan_groups;
 pub use scope::Scope;
+pub use times::read_times;

@@ -1,21 +1,22 @@
 -- Each answer is a lemma on what was read, at the values of the call.
-use Rattle.std.proofs.Common.{◌≡◌, ◌+◌, false, Some, None, length, refl, sym, ap, ap₂, ◌∙◌, subst, arith, length-drop}
-use Rattle.std.specs.Option.{IsSomeAnd}
+use Rattle.std.proofs.Common.{◌≡◌, ◌+◌, ◌-◌, Bool, false, not, ◌∷◌, Some, None, length, refl, sym, ap, ◌∙◌, subst, arith, length-drop}
 use Rattle.std.proofs.lemmas.Result.{err_from_is_err_and}
-use Rattle.regress_lexical.specs.Source.{Source, ends_alternative, bar as the_bar}
-use Rattle.regress_syntax.specs.Syntax.{literal, atom, Counts, added, one_loop, counts_of_item}
-use Rattle.regress_syntax.specs.Rows.{Head}
+use Rattle.regress_lexical.specs.Source.{Source, Found, opening, is_at, ends_alternative, bar as the_bar}
+use Rattle.regress_syntax.specs.Syntax.{Item, literal, atom}
+use Rattle.regress_syntax.specs.Rows.{opens, allows, head_at}
+use Rattle.regress_syntax.specs.Views.{group_of}
+use Rattle.regress_base.specs.Limits.{max_nesting_depth}
 use Rattle.regress_lexical.specs.Views.{source}
 use Rattle.regress_lexical.proofs.laws.Sources.{at_front, on_syntax, on_syntax_then}
 use Rattle.regress_syntax.proofs.laws.Rows.{head_at-shortens}
-use Rattle.regress_parse.specs.TreeOf.{joined, tree_of_times}
-use Rattle.regress_parse.specs.Reader.{item_behind, pattern_at, terms_at, term_at}
-use Rattle.regress_parse.specs.Parsing.{Builds, text, counted, context_in, table_in, names_around, direction_of, terms_part, term_part, item_part}
-use Rattle.regress_parse.proofs.CountLemmas.{added-assoc, added-nothing, Fits-inside}
-use Rattle.regress_parse.proofs.ReaderLemmas.{terms_at-shortens, term_at-shortens}
+use Rattle.regress_parse.specs.TreeOf.{joined}
+use Rattle.regress_parse.specs.Reader.{Term, item_behind, pattern_at, terms_at, term_at, item_at}
+use Rattle.regress_parse.specs.Parsing.{text, counted, context_in, table_in, names_around, direction_of, terms_part, term_part, item_part, atom_at, ReadsAtom, Yields}
+use Rattle.regress_parse.proofs.CountLemmas.{added-nothing}
+use Rattle.regress_parse.proofs.ReaderLemmas.{terms_at-shortens, term_at-shortens, term_at-is}
 use Rattle.regress_parse.proofs.SoFarLemmas.{TermsSoFar, terms-start, terms-step, terms-end, terms-fail}
 use Rattle.regress_parse.proofs.AlternativesLemmas.{alternatives-start, alternatives-step, first-fail, alternatives-fail}
-use Rattle.regress_parse.proofs.TermLemmas.{too_deep, term_read, plain_term, no_term, term-fail, term-too_many}
+use Rattle.regress_parse.proofs.TermLemmas.{front_is, ok_whatever, too_deep, plain_term, no_term, opening_head, opening_item, opened_same, atom_yields, atom_allowed}
 use Rattle.regress_parse.proofs.ParserLemmas.{built}
 use Rattle.regress_parse.proofs.parser.Parser.+parser.Goals as goal
 
@@ -169,143 +170,79 @@ consume_disjunction-loop-inside-preserved t c =
     (counted c.consume_alternative-in-loop-inside.new.self) l.invariant (sym past.found)
     (subst (λ u. terms_at (context_in around) u ≡ Some found.0) past.moves found.1) b.node b.counts b.fits)
 
-pub consume_item-consume_group-requires : goal.consume_item-consume_group-requires
-consume_item-consume_group-requires t c = omega arith
-
-pub consume_term-returns-in_err-head : goal.consume_term-returns-in_err-head
-consume_term-returns-in_err-head t c =
+pub consume_term-returns-in_err-kind : goal.consume_term-returns-in_err-kind
+consume_term-returns-in_err-kind t c =
     let p = err_from_is_err_and c.from_residual.result c.from_residual.ensures.1 in
     let around = c.args.around.now in
+    let old = c.args.self.now in
+    let past = c.if-try_consume.ensures in
+    let here = source c.try_consume.new.self in
+    let front : text old ≡ opening ∷ here = front_is opening (text old) here (sym past.found) past.moves in
     record {
-      value = rw (p.1, p.2) (on_syntax_then c.in_err-head.field-0.0
-          (λ none. rw (no_term (table_in around) (names_around around) (context_in around) (text c.args.self.now) none) tt) c.in_err-head.ensures);
+      value = rw (p.1, p.2) (on_syntax_then c.in_err-kind.field-0.0
+          (λ none. rw (no_term (table_in around) (names_around around) (context_in around) (text old)
+          (ap (head_at (context_in around)) front ∙ opening_head (table_in around) (names_around around) (context_in around) here ∙ none)) tt)
+          c.in_err-kind.ensures);
     }
 
-pub consume_term-consume_item-requires : goal.consume_term-consume_item-requires
-consume_term-consume_item-requires t c =
-    let head = c.in_ok-head.ensures in (
-      omega (arith, head_at-shortens (context_in c.args.around.now) (text c.args.self.now) _ head.1),
-      (c.requires, (head.0, head.2)),
-    )
-
-pub consume_term-returns-in_err-item : goal.consume_term-returns-in_err-item
-consume_term-returns-in_err-item t c =
-    let p = err_from_is_err_and c.from_residual-in_err-item.result c.from_residual-in_err-item.ensures.1 in
-    let around = c.args.around.now in
-    let head = c.in_ok-head.ensures in
-    record {
-      value = rw (p.1, p.2) (on_syntax_then c.in_err-item.field-0.0
-          (term-fail (table_in around) (names_around around) (context_in around) (text c.args.self.now) (head.0, source c.read_head.new.cursor)
-          (counted c.args.self.now) around.depth head.1)
-          (c.in_err-item.ensures.value head.0 head.2));
-    }
-
-pub consume_term-returns-in_err-times : goal.consume_term-returns-in_err-times
-consume_term-returns-in_err-times t c =
-    let p = err_from_is_err_and c.from_residual-in_err-times.result c.from_residual-in_err-times.ensures.1 in
+pub consume_term-consume_group-item-requires : goal.consume_term-consume_group-item-requires
+consume_term-consume_group-item-requires t c =
     let around = c.args.around.now in
     let old = c.args.self.now in
-    let head = c.in_ok-head.ensures in
-    let behind : Head × Source = (head.0, source c.read_head.new.cursor) in
-    let found = built (item_part (table_in around) (names_around around)) (direction_of around) around.depth (counted old) c.consume_item.new.self
-    (item_behind pattern_at (context_in around) behind) c.in_ok-item.item (c.in_ok-item.ensures.value head.0 head.2) in
-    let allowed = c.allows_quantifier-allowed.ensures (context_in around) head.0 head.2 in
-    record {
-      value = rw (p.1, p.2) (on_syntax c.in_err-times.field-0.0
-          (let none = c.in_err-times.ensures in
-          rw (term_read (table_in around) (names_around around) (context_in around) (text old) behind found.0 c.allows_quantifier-allowed.result
-          None head.1 found.1 allowed (rw found.2.rest at none)) tt));
-    }
+    let past = c.if-try_consume.ensures in
+    let here = source c.try_consume.new.self in
+    let front : text old ≡ opening ∷ here = front_is opening (text old) here (sym past.found) past.moves in
+    let shorter = head_at-shortens (context_in around) (text old) _
+    (ap (head_at (context_in around)) front ∙ opening_head (table_in around) (names_around around) (context_in around) here ∙ c.in_ok-kind.ensures) in
+    omega (arith, shorter)
 
-pub consume_term-returns-in_default : goal.consume_term-returns-in_default
-consume_term-returns-in_default t c =
+pub consume_term-returns-then-try_consume : goal.consume_term-returns-then-try_consume
+consume_term-returns-then-try_consume t c =
     let around = c.args.around.now in
+    let ctx = context_in around in
     let old = c.args.self.now in
-    let head = c.in_ok-head.ensures in
-    let behind : Head × Source = (head.0, source c.read_head.new.cursor) in
-    let found = built (item_part (table_in around) (names_around around)) (direction_of around) around.depth (counted old) c.consume_item.new.self
-    (item_behind pattern_at (context_in around) behind) c.in_ok-item.item (c.in_ok-item.ensures.value head.0 head.2) in
-    let b = found.2 in
-    let allowed = c.allows_quantifier-allowed.ensures (context_in around) head.0 head.2 in
-    let read = term_read (table_in around) (names_around around) (context_in around) (text old) behind found.0 c.allows_quantifier-allowed.result
-    (Some (None, source c.read_times.new.cursor)) head.1 found.1 allowed
-    (rw (sym b.rest) (c.in_ok-times.ensures ∙ ap (λ q. Some (q, source c.read_times.new.cursor)) c.in_default.is)) in
+    let past = c.if-try_consume.ensures in
+    let here = source c.try_consume.new.self in
+    let kind = group_of c.in_ok-kind.kind in
+    let there = source c.read_group.new.cursor in
+    let front : text old ≡ opening ∷ here = front_is opening (text old) here (sym past.found) past.moves in
+    let same : item_at ctx (text old) ≡ item_behind pattern_at ctx (opens kind, there) =
+    ap (item_at ctx) front ∙ opening_item (table_in around) (names_around around) ctx here (opens kind, there) c.in_ok-kind.ensures in
     record {
-      value = rw read (record {
-        node = b.node;
-        fits = Fits-inside (counted old) (counted old) around.depth around.depth (item_part (table_in around) (names_around around) found.0.0)
-            (term_part (table_in around) (names_around around) (found.0.0, None)) (omega arith) (omega arith) (omega arith) b.fits;
-        counts = b.counts ∙ ap (added (counted old)) (sym (added-nothing (item_part (table_in around) (names_around around) found.0.0).counts));
-        rest = refl;
-      });
-    }
-
-pub consume_term-returns-in_err-count_loop : goal.consume_term-returns-in_err-count_loop
-consume_term-returns-in_err-count_loop t c =
-    let p = err_from_is_err_and c.from_residual-in_err-count_loop.result c.from_residual-in_err-count_loop.ensures.1 in
-    let around = c.args.around.now in
-    let old = c.args.self.now in
-    let head = c.in_ok-head.ensures in
-    let behind : Head × Source = (head.0, source c.read_head.new.cursor) in
-    let found = built (item_part (table_in around) (names_around around)) (direction_of around) around.depth (counted old) c.consume_item.new.self
-    (item_behind pattern_at (context_in around) behind) c.in_ok-item.item (c.in_ok-item.ensures.value head.0 head.2) in
-    let b = found.2 in
-    let allowed = c.allows_quantifier-allowed.ensures (context_in around) head.0 head.2 in
-    let read = term_read (table_in around) (names_around around) (context_in around) (text old) behind found.0 c.allows_quantifier-allowed.result
-    (Some (Some c.in-Some.quantifier, source c.read_times.new.cursor)) head.1 found.1 allowed
-    (rw (sym b.rest) (c.in_ok-times.ensures ∙ ap (λ q. Some (q, source c.read_times.new.cursor)) c.in-Some.is)) in
-    record {
-      value = rw (p.1, p.2) (on_syntax c.in_err-count_loop.field-0.0
-          (term-too_many (table_in around) (names_around around) (context_in around) (text old) _ found.0.0 c.in-Some.quantifier (counted old)
-          around.depth read (omega (arith, ap (λ (n : Counts). n.loops) b.counts, c.in_err-count_loop.ensures.err))));
+      value = subst (λ (f : Found Term). Yields (term_part (table_in around) (names_around around)) (direction_of around) around.depth (counted old)
+          c.consume_times.new.self c.consume_times.result f)
+          (sym (term_at-is ctx (text old)))
+          (c.consume_times.ensures.value (item_at ctx (text old)) (counted old) refl
+          (ok_whatever c.consume_group-item.result _ (λ (x : Item × Source) (found : item_at ctx (text old) ≡ Some x).
+          c.allows_quantifier-allowed.ensures
+          ∙ sym (ap (allows ctx.setting.flags.unicode)
+          (opened_same (table_in around) (names_around around) ctx kind there x (sym same ∙ found)))))
+          (subst (λ (f : Found Item). Yields (item_part (table_in around) (names_around around)) (direction_of around) around.depth (counted old)
+          c.consume_group-item.new.self c.consume_group-item.result f) (sym same) c.consume_group-item.ensures.value));
     }
 
 pub consume_term-returns : goal.consume_term-returns
 consume_term-returns t c =
     let around = c.args.around.now in
+    let ctx = context_in around in
     let old = c.args.self.now in
-    let head = c.in_ok-head.ensures in
-    let behind : Head × Source = (head.0, source c.read_head.new.cursor) in
-    let found = built (item_part (table_in around) (names_around around)) (direction_of around) around.depth (counted old) c.consume_item.new.self
-    (item_behind pattern_at (context_in around) behind) c.in_ok-item.item (c.in_ok-item.ensures.value head.0 head.2) in
-    let b = found.2 in
-    let allowed = c.allows_quantifier-allowed.ensures (context_in around) head.0 head.2 in
-    let read = term_read (table_in around) (names_around around) (context_in around) (text old) behind found.0 c.allows_quantifier-allowed.result
-    (Some (Some c.in-Some.quantifier, source c.read_times.new.cursor)) head.1 found.1 allowed
-    (rw (sym b.rest) (c.in_ok-times.ensures ∙ ap (λ q. Some (q, source c.read_times.new.cursor)) c.in-Some.is)) in
-    let counts = c.in_ok-count_loop.ensures.ok ∙ ap (λ n. added n one_loop) b.counts ∙ added-assoc (counted old) _ one_loop in
-    let groups : c.count_loop.new.self.group_count ≡ old.group_count + (counts_of_item found.0.0).groups =
-    omega (arith, ap (λ (n : Counts). n.groups) counts) in
+    let past = c.if-try_consume.ensures in
+    let here = source c.try_consume.new.self in
+    let same : here ≡ text old = past.moves in
+    let none : is_at opening here ≡ false = ap (is_at opening) same ∙ sym past.found in
+    let all : around.depth + (max_nesting_depth - around.depth) ≡ max_nesting_depth = omega (arith, c.requires) in
+    let read = subst (λ (b : Bool). ReadsAtom ctx (max_nesting_depth - around.depth) (not b) (source c.read_atom-item.new.cursor) c.read_atom-item.result (atom_at ctx here))
+    (sym c.begins_anchor-allowed.ensures) c.read_atom-item.ensures in
     record {
-      value = rw read (record {
-        node = c.in_ok-make_loop.ensures
-            ∙ ap₂ (λ end body. tree_of_times (Some c.in-Some.quantifier) old.group_count end body) groups b.node;
-        fits = record {
-          groups = omega (arith, b.fits.groups);
-          loops = omega (arith, ap (λ (n : Counts). n.loops) counts, c.count_loop.new.self.loops_within);
-          levels = b.fits.levels;
-        };
-        counts = counts;
-        rest = c.in_ok-count_loop.ensures.text;
-      });
+      value = subst (λ (u : Source). Yields (term_part (table_in around) (names_around around)) (direction_of around) around.depth (counted old)
+          c.consume_times-2.new.self c.consume_times-2.result (term_at ctx u)) same
+          (subst (λ (f : Found Term). Yields (term_part (table_in around) (names_around around)) (direction_of around) around.depth (counted old)
+          c.consume_times-2.new.self c.consume_times-2.result f)
+          (sym (term_at-is ctx here))
+          (c.consume_times-2.ensures.value (item_at ctx here) (counted old) refl
+          (atom_allowed (table_in around) (names_around around) ctx (max_nesting_depth - around.depth)
+          (not c.begins_anchor-allowed.result) _ c.read_atom-item.result here none read)
+          (atom_yields (table_in around) (names_around around) ctx (direction_of around) around.depth (max_nesting_depth - around.depth)
+          (not c.begins_anchor-allowed.result) old _ c.read_atom-item.result here none
+          all refl read refl refl)));
     }
-
-pub consume_item-returns-in_ok-make_atom-in-Atom : goal.consume_item-returns-in_ok-make_atom-in-Atom
-consume_item-returns-in_ok-make_atom-in-Atom t c = record {
-  value = λ written is_head.
-      let p = rw c.in-Atom.is at is_head in
-      let old = c.args.self.now in
-      let around = c.args.around.now in
-      let levels = c.levels.ensures (context_in around) p.0 p.2 in
-      subst
-      (λ (w : Head). IsSomeAnd (item_behind pattern_at (context_in around) (w, text old))
-      (λ x. Builds (direction_of around) around.depth (counted old) old c.in_ok-make_atom-in-Atom.field-0
-      (item_part (table_in around) (names_around around) x.0) x.1))
-      (sym p.1)
-      (record {
-        node = c.in_ok-make_atom-in-Atom.ensures p.0 p.2;
-        fits = record { groups = omega (arith, old.groups_within); loops = omega (arith, old.loops_within); levels = omega (arith, levels) };
-        counts = sym (added-nothing (counted old));
-        rest = refl;
-      });
-}

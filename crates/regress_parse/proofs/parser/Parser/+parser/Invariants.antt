@@ -17,9 +17,6 @@ decreases-consume_alternative l = 8 * length (text l.self.now) + 3
 abbrev pub decreases-consume_term : goal.decreases-consume_term
 decreases-consume_term l = 8 * length (text l.self.now) + 2
 
-abbrev pub decreases-consume_item : goal.decreases-consume_item
-decreases-consume_item l = 8 * length (text l.self.now) + 6
-
 abbrev pub invariant-consume_alternative-loop-self : goal.invariant-consume_alternative-loop-self
 invariant-consume_alternative-loop-self l =
     TermsSoFar (table_in l.around) (names_around l.around) (direction_of l.around) (context_in l.around) l.around.depth (text l.fn.self) (counted l.fn.self)

@@ -1,0 +1,41 @@
+-- Reading an item that holds no pattern.
+use Rattle.std.proofs.Common.{◌≡◌, ℕ, ◌<◌, ◌≤◌, ◌&&◌, Bool, true, false, cond, List, Some, None, Result, Ok, Err, refl, sym, subst, arith}
+use Rattle.std.specs.Option.{IfSome}
+use Rattle.regress_base.specs.Intervals.{Bounds}
+use Rattle.regress_tree.specs.declared.ir.node.Node.{Node}
+use Rattle.regress_lexical.specs.declared.fault.ParseFault.{ParseFault}
+use Rattle.regress_lexical.specs.Source.{Source, Found}
+use Rattle.regress_lexical.specs.Reads.{ReadsAs}
+use Rattle.regress_lexical.proofs.laws.Sources.{on_syntax_then}
+use Rattle.regress_syntax.specs.Syntax.{Atom, class, levels_of_atom}
+use Rattle.regress_syntax.specs.Rows.{Context, atom_allows, point_property}
+use Rattle.regress_classes.specs.ClassRows.{complement}
+use Rattle.regress_parse.specs.Parsing.{IsNode, ReadsAtom}
+
+-- no class lies in a property of code points, and a quantifier may stand behind it
+levels_of_either : (b : Bool) (x y : Atom) → levels_of_atom x ≤ 0 → levels_of_atom y ≤ 0 → levels_of_atom (cond b x y) ≤ 0
+levels_of_either true x y h k = h
+levels_of_either false x y h k = k
+
+either_allows : (b : Bool) (x y : Atom) → atom_allows x ≡ true → atom_allows y ≡ true → atom_allows (cond b x y) ≡ true
+either_allows true x y h k = h
+either_allows false x y h k = k
+
+module _ (ctx : Context) where
+  pub property-levels : (negated : Bool) (members : List Bounds) → levels_of_atom (point_property ctx negated members) ≤ 0
+  property-levels negated members =
+      levels_of_either (negated && ctx.setting.flags.icase) (class ctx.setting.flags false (complement members))
+      (class ctx.setting.flags negated members) (omega arith) (omega arith)
+
+  pub property-allows : (negated : Bool) (members : List Bounds) → atom_allows (point_property ctx negated members) ≡ true
+  property-allows negated members =
+      either_allows (negated && ctx.setting.flags.icase) (class ctx.setting.flags false (complement members))
+      (class ctx.setting.flags negated members) refl refl
+
+  -- what reads an item with no class in it reads it whatever levels are left
+  pub with_no_levels : (left : ℕ) (allowed : Bool) (new : Source) (r : Result Node ParseFault) (found : Found Atom) →
+      ReadsAs (IsNode ctx 0 allowed) new r found → ReadsAtom ctx left allowed new r found
+  with_no_levels left allowed new (Ok node) found h =
+      (h.0, h.1, record { node = h.2.node; levels = omega (arith, h.2.levels); allows = h.2.allows })
+  with_no_levels left allowed new (Err fault) found h =
+      on_syntax_then fault (λ none. subst (λ (f : Found Atom). IfSome f (λ x. left < levels_of_atom x.0)) (sym none) tt) h

@@ -1,0 +1,25 @@
+-- A class between brackets, or another item.
+use Rattle.std.proofs.Common.{◌≡◌, ℕ, ◌==◌, ◌∷◌, not, sym, ◌∙◌, subst}
+use Rattle.regress_lexical.specs.Source.{Source}
+use Rattle.regress_lexical.specs.Views.{source}
+use Rattle.regress_syntax.specs.Views.{context_of}
+use Rattle.regress_parse.specs.Parsing.{atom_at, is_anchor, ReadsAtom}
+use Rattle.regress_parse.proofs.AtomLemmas.{with_no_levels}
+use Rattle.regress_parse.proofs.atom.read_atom.Goals as goal
+
+pub returns-then-c-from : goal.returns-then-c-from
+returns-then-c-from c =
+    let ctx = context_of c.args.scope.now in
+    let r = c.read_brackets.result in
+    let new = source c.read_brackets.new.cursor in
+    subst (λ (t : Source). ReadsAtom ctx c.args.left (not (is_anchor t)) new r (atom_at ctx t)) (sym c.in-Some.ensures.some)
+    (subst (λ (n : ℕ). ReadsAtom ctx c.args.left (not (is_anchor (n ∷ source c.next.new.self))) new r (atom_at ctx (n ∷ source c.next.new.self)))
+    (sym (c.if-c-from.true ∙ c.from.ensures)) c.read_brackets.ensures)
+
+pub returns-else-c-from : goal.returns-else-c-from
+returns-else-c-from c =
+    let ctx = context_of c.args.scope.now in
+    let r = c.read_other.result in
+    let new = source c.read_other.new.cursor in
+    subst (λ (t : Source). ReadsAtom ctx c.args.left (not (is_anchor t)) new r (atom_at ctx t)) (sym c.in-Some.ensures.some)
+    (with_no_levels ctx c.args.left _ new r _ c.read_other.ensures)

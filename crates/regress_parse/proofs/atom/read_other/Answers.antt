@@ -1,0 +1,34 @@
+-- Which atom it is, by its code point.
+use Rattle.std.proofs.Common.{◌≡◌, ℕ, ◌==◌, ◌||◌, not, refl, sym, ap, ◌∙◌, rules, arith}
+use Rattle.std.proofs.lemmas.Bool.Decides.{nat_tests}
+use Rattle.regress_tree.specs.declared.ir.node.AnchorType.TheVariants.{StartOfLine, EndOfLine}
+use Rattle.regress_syntax.specs.Syntax.{literal, dot, anchor}
+use Rattle.regress_parse.proofs.atom.read_other.Goals as goal
+
+pub returns-then-c-from : goal.returns-then-c-from
+returns-then-c-from c = (
+  dot c.args.scope.now.flags,
+  search rules,
+  record { node = c.make_dot.ensures; levels = omega arith; allows = grind (arith, nat_tests) },
+)
+
+pub returns-then-c-from-2 : goal.returns-then-c-from-2
+returns-then-c-from-2 c = (
+  anchor c.args.scope.now.flags StartOfLine,
+  search rules,
+  record { node = c.make_anchor.ensures; levels = omega arith; allows = grind (arith, nat_tests) },
+)
+
+pub returns-then-c-from-3 : goal.returns-then-c-from-3
+returns-then-c-from-3 c = (
+  anchor c.args.scope.now.flags EndOfLine,
+  search rules,
+  record { node = c.make_anchor-then-c-from-3.ensures; levels = omega arith; allows = grind (arith, nat_tests) },
+)
+
+pub returns-in_ok-make_literal : goal.returns-in_ok-make_literal
+returns-in_ok-make_literal c = (
+  literal c.args.scope.now.flags c.args.c,
+  search rules,
+  record { node = c.in_ok-make_literal.ensures; levels = omega arith; allows = grind (arith, nat_tests) },
+)

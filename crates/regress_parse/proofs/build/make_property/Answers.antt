@@ -1,0 +1,27 @@
+-- The complement is a set of its own.
+use Rattle.std.proofs.Common.{◌≡◌, ◌&&◌, List, refl, ap, ap₂, sym, subst}
+use Rattle.std.specs.Result.{IfOk}
+use Rattle.std.proofs.lemmas.Bool.{cond-true}
+use Rattle.regress_base.specs.Intervals.{Bounds, is_member}
+use Rattle.regress_unicode.specs.TableOf.{table_of}
+use Rattle.regress_tree.specs.Tree.{tree}
+use Rattle.regress_classes.specs.ClassRows.{complement}
+use Rattle.regress_classes.proofs.laws.Values.{complement_is}
+use Rattle.regress_syntax.specs.Syntax.{Atom}
+use Rattle.regress_syntax.specs.Views.{names_in}
+use Rattle.regress_parse.specs.TreeOf.{tree_of_atom}
+use Rattle.regress_parse.proofs.build.make_property.Goals as goal
+
+pub returns-then-scope : goal.returns-then-scope
+returns-then-scope c =
+    let members = c.args.set.now in
+    let scope = c.args.scope.now in
+    let others = c.in_ok-inverted in
+    subst
+    (λ (a : Atom). IfOk c.make_class.result (λ node. tree node ≡ tree_of_atom (table_of scope.tables.now) (names_in scope.groups.now) a))
+    (sym (cond-true _ _ _ (ap₂ (λ a b. a && b) c.if-negated.true c.if-scope.true)))
+    (c.make_class.ensures (complement members) (record {
+      canonical = others.ensures.canonical;
+      each = λ n. ap (λ (l : List Bounds). is_member l n)
+          (complement_is members members others.field-0 (λ _. refl) others.ensures.members others.ensures.canonical);
+    }))

@@ -1,0 +1,251 @@
+//! Items that hold no pattern.
+ghost use Rattle.std.specs.Prelude.{◌≡◌, ◌∷◌, true, false, not, ◌&&◌, ◌||◌, ◌==◌, drop};
+ghost use Rattle.regress_lexical.specs.Digits.{is_between};
+ghost use Rattle.regress_lexical.specs.Escapes.{begins_with_letter};
+ghost use Rattle.regress_lexical.specs.Reads.{ReadsAs};
+ghost use Rattle.regress_lexical.specs.Source.{IsCodePoint, char, is_one_of};
+ghost use Rattle.regress_lexical.specs.Views.{source};
+ghost use Rattle.regress_syntax.specs.Rows.{atom_by, brace_by, is_lone_backslash, begins_number, has_names, escaped_at, numbered_at, named_at, character_at, brackets_at, property_atom_at};
+ghost use Rattle.regress_syntax.specs.Views.{context_of};
+ghost use Rattle.regress_parse.specs.Parsing.{atom_at, is_anchor, IsNode, ReadsAtom};
+
+use crate::build::{
+    make_anchor, make_boundary, make_class, make_class_escape, make_class_set, make_dot,
+    make_literal, make_property, make_references, make_strings,
+};
+use regress_base::types::MAX_NESTING_DEPTH;
+use regress_classes::class::read_class;
+use regress_classes::class_escape::class_letter;
+use regress_classes::class_sets::read_class_set;
+use regress_classes::property::{Property, is_property_letter, read_property};
+use regress_lexical::cursor::is_plain;
+use regress_lexical::digits::{is_between, is_letter};
+use regress_lexical::escape::{escape_fault, read_escape};
+use regress_lexical::quantifier::read_quantifier;
+use regress_syntax::fault::{
+    INCOMPLETE_ESCAPE, INVALID_ATOM, INVALID_BRACED_QUANTIFIER, INVALID_ESCAPE, TOO_DEEP, syntax,
+};
+use regress_syntax::{
+    Cursor, ParseFault, Scope, has_references_by_name, read_group_number, read_reference,
+};
+use regress_tree::ir::{AnchorType, Node};
+
+/// Reads an item that holds no pattern. The fault comes where there is none, and where more levels of classes lie in it
+/// than are left.
+pub(crate) fn read_atom(
+    cursor: &mut Cursor,
+    scope: &Scope,
+    left: u32,
+) -> Result<Node, ParseFault>
+    ensures { ReadsAtom (context_of scope.now) left (not (is_anchor (source cursor.old))) (source cursor.new) result
+        (atom_at (context_of scope.now) (source cursor.old)) }
+{
+    let front = cursor.rest;
+    let Some(c) = cursor.next() else {
+        return Err(syntax(cursor.alloc, INVALID_ATOM));
+    };
+    if c == u32::from('[') {
+        read_brackets(cursor, scope, left)
+    } else {
+        read_other(cursor, scope, c, front)
+    }
+}
+
+/// Whether `^` or `$` comes next, behind which no quantifier may stand.
+pub(crate) fn begins_anchor(source: &[u32]) -> bool
+    ensures { result ≡ is_anchor source.now }
+{
+    match source {
+        [c, ..] => *c == u32::from('^') || *c == u32::from('$'),
+        [] => false,
+    }
+}
+
+/// Reads an item that is no class between brackets, behind its first code point `c`, which is at `front`.
+fn read_other(
+    cursor: &mut Cursor,
+    scope: &Scope,
+    c: u32,
+    front: &[u32],
+) -> Result<Node, ParseFault>
+    requires code_point { IsCodePoint c }
+    requires no_class { (c == char "[") ≡ false }
+    requires front { front.now ≡ c ∷ source cursor.now }
+    ensures { ReadsAs (IsNode (context_of scope.now) 0 (not (c == char "^" || c == char "$"))) (source cursor.new) result
+        (atom_by (context_of scope.now) c (source cursor.old)) }
+{
+    if c == u32::from('.') {
+        Ok(make_dot(scope))
+    } else if c == u32::from('^') {
+        Ok(make_anchor(AnchorType::StartOfLine, scope))
+    } else if c == u32::from('$') {
+        Ok(make_anchor(AnchorType::EndOfLine, scope))
+    } else if c == u32::from('\\') {
+        read_escaped(cursor, scope)
+    } else if c == u32::from('{') || c == u32::from(']') || c == u32::from('}') {
+        read_brace(cursor, scope, c, front)
+    } else if is_plain(c) {
+        Ok(make_literal(cursor.alloc, c, scope)?)
+    } else {
+        Err(syntax(cursor.alloc, INVALID_ATOM))
+    }
+}
+
+/// Reads a class, behind its `[`.
+fn read_brackets(cursor: &mut Cursor, scope: &Scope, left: u32) -> Result<Node, ParseFault>
+    ensures { ReadsAtom (context_of scope.now) left true (source cursor.new) result (brackets_at (context_of scope.now) (source cursor.old)) }
+{
+    if !scope.flags.unicode_sets {
+        let class = read_class(cursor, scope.tables, scope.flags.unicode)?;
+        return Ok(make_class(class.inverted, class.set, scope)?);
+    }
+    let class = read_class_set(cursor, scope.tables, scope.flags.unicode, MAX_NESTING_DEPTH)?;
+    // The scan in front has refused these already.
+    if class.value.levels > left {
+        return Err(syntax(cursor.alloc, TOO_DEEP));
+    }
+    Ok(make_class_set(cursor.alloc, class.negated, class.value, scope)?)
+}
+
+/// A brace or `]` that stands for itself. A `{` does only where it begins no quantifier, which wants a look at all of
+/// it.
+fn read_brace(cursor: &mut Cursor, scope: &Scope, c: u32, front: &[u32]) -> Result<Node, ParseFault>
+    requires code_point { IsCodePoint c }
+    requires front { front.now ≡ c ∷ source cursor.now }
+    ensures { ReadsAs (IsNode (context_of scope.now) 0 true) (source cursor.new) result (brace_by (context_of scope.now) c (source cursor.old)) }
+{
+    if scope.flags.unicode {
+        Err(syntax(cursor.alloc, INVALID_ATOM))
+    } else if read_quantifier(front).is_some() {
+        Err(syntax(cursor.alloc, INVALID_BRACED_QUANTIFIER))
+    } else {
+        Ok(make_literal(cursor.alloc, c, scope)?)
+    }
+}
+
+/// Reads an escape, behind its backslash.
+fn read_escaped(cursor: &mut Cursor, scope: &Scope) -> Result<Node, ParseFault>
+    ensures { ReadsAs (IsNode (context_of scope.now) 0 true) (source cursor.new) result (escaped_at (context_of scope.now) (source cursor.old)) }
+{
+    let Some(c) = cursor.rest.first().copied() else {
+        return Err(syntax(cursor.alloc, INCOMPLETE_ESCAPE));
+    };
+    let rest = &cursor.rest[1..];
+    if let Some((kind, negated)) = class_letter(c) {
+        cursor.rest = rest;
+        Ok(make_class_escape(cursor.alloc, kind, negated, scope)?)
+    } else if c == u32::from('b') {
+        cursor.rest = rest;
+        Ok(make_boundary(false, scope))
+    } else if c == u32::from('B') {
+        cursor.rest = rest;
+        Ok(make_boundary(true, scope))
+    } else if is_lone_backslash(c, rest, scope.flags.unicode) {
+        // The `c` is an item of its own.
+        Ok(make_literal(cursor.alloc, u32::from('\\'), scope)?)
+    } else if begins_property(c, scope) {
+        cursor.rest = rest;
+        read_property_atom(cursor, scope, c == u32::from('P'))
+    } else if begins_number(c) {
+        read_numbered(cursor, scope, c)
+    } else if begins_name(c, scope) {
+        cursor.rest = rest;
+        read_named(cursor, scope)
+    } else {
+        read_character(cursor, scope, c)
+    }
+}
+
+/// A property, with the flag u or v.
+fn begins_property(c: u32, scope: &Scope) -> bool
+    ensures { result ≡ (is_one_of "pP" c && (scope.now.flags.unicode || scope.now.flags.unicode_sets)) }
+{
+    is_property_letter(c) && (scope.flags.unicode || scope.flags.unicode_sets)
+}
+
+/// A reference by name. Without the flag u and without names, `\k` is the escape of a character.
+fn begins_name(c: u32, scope: &Scope) -> bool
+    ensures { result ≡ (c == char "k" && (scope.now.flags.unicode || has_names (context_of scope.now).names)) }
+{
+    c == u32::from('k') && has_references_by_name(scope)
+}
+
+/// 1 to 9.
+fn begins_number(c: u32) -> bool
+    ensures { result ≡ begins_number c }
+{
+    is_between('1', '9', c)
+}
+
+/// Reads a reference by number, which begins with `c`, or where there are not so many groups the escape of a character.
+fn read_numbered(cursor: &mut Cursor, scope: &Scope, c: u32) -> Result<Node, ParseFault>
+    requires front { source cursor.now ≡ c ∷ drop 1 (source cursor.now) }
+    requires digit { begins_number c ≡ true }
+    ensures { ReadsAs (IsNode (context_of scope.now) 0 true) (source cursor.new) result
+        (numbered_at (context_of scope.now) c (drop 1 (source cursor.old))) }
+{
+    if let Some((group, rest)) = read_group_number(cursor.rest, scope.groups.count()) {
+        cursor.rest = rest;
+        return Ok(Node::BackRef {
+            group,
+            icase: scope.flags.icase,
+        });
+    }
+    if scope.flags.unicode {
+        return Err(syntax(cursor.alloc, INVALID_ESCAPE));
+    }
+    read_character(cursor, scope, c)
+}
+
+/// Reads a reference by name, behind `\k`.
+fn read_named(cursor: &mut Cursor, scope: &Scope) -> Result<Node, ParseFault>
+    ensures { ReadsAs (IsNode (context_of scope.now) 0 true) (source cursor.new) result (named_at (context_of scope.now) (source cursor.old)) }
+{
+    let groups = read_reference(cursor, scope)?;
+    Ok(make_references(cursor.alloc, groups, scope.flags.icase)?)
+}
+
+/// Whether the escape is a `c` that no letter follows, without the flag u: the backslash stands alone.
+fn is_lone_backslash(c: u32, rest: &[u32], unicode: bool) -> bool
+    ensures { result ≡ is_lone_backslash unicode c rest.now }
+{
+    c == u32::from('c') && !unicode && !begins_with_letter(rest)
+}
+
+/// Whether a letter comes next.
+fn begins_with_letter(source: &[u32]) -> bool
+    ensures { result ≡ begins_with_letter source.now }
+{
+    match source {
+        [c, ..] => is_letter(*c),
+        [] => false,
+    }
+}
+
+/// Reads the escape of one character, which begins with `c`.
+fn read_character(cursor: &mut Cursor, scope: &Scope, c: u32) -> Result<Node, ParseFault>
+    requires { source cursor.now ≡ c ∷ drop 1 (source cursor.now) }
+    ensures { ReadsAs (IsNode (context_of scope.now) 0 true) (source cursor.new) result
+        (character_at (context_of scope.now) c (drop 1 (source cursor.old))) }
+{
+    let Some((found, rest)) = read_escape(cursor.rest, scope.flags.unicode) else {
+        return Err(syntax(cursor.alloc, escape_fault(cursor.rest)));
+    };
+    cursor.rest = rest;
+    Ok(make_literal(cursor.alloc, found, scope)?)
+}
+
+/// Reads a property, behind `\p` or `\P`.
+fn read_property_atom(cursor: &mut Cursor, scope: &Scope, negated: bool) -> Result<Node, ParseFault>
+    ensures { ReadsAs (IsNode (context_of scope.now) 0 true) (source cursor.new) result
+        (property_atom_at (context_of scope.now) negated (source cursor.old)) }
+{
+    match read_property(cursor, scope.flags.unicode_sets, scope.tables)? {
+        Property::Points(set) => Ok(make_property(cursor.alloc, set, negated, scope)?),
+        Property::Strings(_) if negated => Err(syntax(cursor.alloc, INVALID_ESCAPE)),
+        Property::Strings(strings) => {
+            let copies = Vec::from_clones(cursor.alloc, strings)?;
+            Ok(make_strings(cursor.alloc, copies, scope.flags.icase)?)
+        }
+    }
+}

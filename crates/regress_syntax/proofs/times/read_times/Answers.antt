@@ -1,0 +1,18 @@
+use Rattle.std.proofs.Common.{sym, ◌∙◌}
+use Rattle.regress_syntax.proofs.laws.Plain.{no_times}
+use Rattle.regress_syntax.specs.Views.{context_of}
+use Rattle.regress_lexical.specs.Views.{source}
+use Rattle.regress_lexical.proofs.laws.Behind.{behind_all, quantifier_at-ends}
+use Rattle.regress_syntax.proofs.times.read_times.Goals as goal
+
+pub invariant_of-cursor : goal.invariant_of-cursor
+invariant_of-cursor c = record {
+  in_range = behind_all _ _
+      ((quantifier_at-ends c.args.cursor.now.rest.now).each (c.in-Some.quantifier, c.in-Some.rest.now) (sym c.in-Some.ensures))
+      c.args.cursor.now.in_range;
+}
+
+pub returns-then-not-may_begin : goal.returns-then-not-may_begin
+returns-then-not-may_begin c =
+    no_times (context_of c.args.scope.now) c.args.allowed (source c.args.cursor.now)
+    (sym c.may_begin.ensures ∙ c.if-not-may_begin.true)
