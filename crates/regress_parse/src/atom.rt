@@ -32,11 +32,7 @@ use regress_tree::ir::{AnchorType, Node};
 
 /// Reads an item that holds no pattern. The fault comes where there is none, and where more levels of classes lie in it
 /// than are left.
-pub(crate) fn read_atom(
-    cursor: &mut Cursor,
-    scope: &Scope,
-    left: u32,
-) -> Result<Node, ParseFault>
+pub(crate) fn read_atom(cursor: &mut Cursor, scope: &Scope, left: u32) -> Result<Node, ParseFault>
     ensures { ReadsAtom (context_of scope.now) left (not (is_anchor (source cursor.old))) (source cursor.new) result
         (atom_at (context_of scope.now) (source cursor.old)) }
 {
@@ -62,12 +58,7 @@ pub(crate) fn begins_anchor(source: &[u32]) -> bool
 }
 
 /// Reads an item that is no class between brackets, behind its first code point `c`, which is at `front`.
-fn read_other(
-    cursor: &mut Cursor,
-    scope: &Scope,
-    c: u32,
-    front: &[u32],
-) -> Result<Node, ParseFault>
+fn read_other(cursor: &mut Cursor, scope: &Scope, c: u32, front: &[u32]) -> Result<Node, ParseFault>
     requires code_point { IsCodePoint c }
     requires no_class { (c == char "[") ≡ false }
     requires front { front.now ≡ c ∷ source cursor.now }

@@ -233,7 +233,11 @@ fn push_empty(parts: &mut NodeList, has_empty: bool) -> Result<(), AllocError>
 }
 
 /// The node of these strings, tried in their order.
-pub(crate) fn make_strings(alloc: Global, strings: Vec<Vec<u32>>, icase: bool) -> Result<Node, AllocError>
+pub(crate) fn make_strings(
+    alloc: Global,
+    strings: Vec<Vec<u32>>,
+    icase: bool,
+) -> Result<Node, AllocError>
     ensures { IfOk result (λ node. tree node ≡ leaf (string_set (strings_of strings.items) icase)) }
 {
     let mut alternatives = Vec::with_capacity(alloc, strings.len())?;

@@ -103,12 +103,7 @@ impl Parser<'_> {
             return Ok(node);
         };
         self.count_loop()?;
-        Ok(make_loop(
-            self.cursor.alloc,
-            node,
-            quantifier,
-            first..self.group_count,
-        )?)
+        Ok(make_loop(self.cursor.alloc, node, quantifier, first..self.group_count)?)
     }
 
     /// Reads a group, behind what opens it.

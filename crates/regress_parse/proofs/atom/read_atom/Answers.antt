@@ -1,5 +1,5 @@
 -- A class between brackets, or another item.
-use Rattle.std.proofs.Common.{◌≡◌, ℕ, ◌==◌, ◌∷◌, not, sym, ◌∙◌, subst}
+use Rattle.std.proofs.Common.{ℕ, ◌∷◌, not, sym, ◌∙◌, subst}
 use Rattle.regress_lexical.specs.Source.{Source}
 use Rattle.regress_lexical.specs.Views.{source}
 use Rattle.regress_syntax.specs.Views.{context_of}

@@ -1,7 +1,6 @@
 -- A class, of either kind.
-use Rattle.std.proofs.Common.{◌≡◌, ◌<◌, Some, ◌∙◌, refl, sym, ap, subst, arith}
+use Rattle.std.proofs.Common.{◌<◌, ◌∙◌, refl, sym, ap, subst, arith}
 use Rattle.std.specs.Option.{IfSome}
-use Rattle.std.specs.Result.{IfOk}
 use Rattle.std.proofs.lemmas.Bool.{cond-true, cond-false}
 use Rattle.regress_lexical.specs.Source.{Found, found_map}
 use Rattle.regress_lexical.proofs.laws.Sources.{on_syntax}

@@ -6,7 +6,7 @@ use Rattle.regress_lexical.proofs.laws.Sources.{on_syntax, on_syntax_then}
 use Rattle.regress_syntax.specs.Syntax.{Counts, added, one_loop, counts_of_item}
 use Rattle.regress_tree.specs.Tree.{tree}
 use Rattle.regress_parse.specs.TreeOf.{tree_of_times}
-use Rattle.regress_parse.specs.Parsing.{counted, context_in, table_in, names_around, direction_of, term_part, item_part}
+use Rattle.regress_parse.specs.Parsing.{context_in, table_in, names_around, direction_of, term_part, item_part}
 use Rattle.regress_parse.proofs.CountLemmas.{added-assoc, added-nothing, Fits-inside}
 use Rattle.regress_parse.proofs.TermLemmas.{alone, times-fail, times_read, times-too_many}
 use Rattle.regress_parse.proofs.ParserLemmas.{built}
