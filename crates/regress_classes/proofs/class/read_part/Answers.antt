@@ -1,5 +1,5 @@
 -- A plain part, or any other one.
-use Rattle.std.proofs.Common.{◌||◌, [], ◌∷◌, sym, ap, subst, ◌∙◌}
+use Rattle.std.proofs.Common.{[], ◌∷◌, subst}
 use Rattle.regress_unicode.specs.TableOf.{table_of}
 use Rattle.regress_lexical.specs.Reads.{ReadsAs}
 use Rattle.regress_lexical.specs.Source.{Source}
