@@ -35,10 +35,9 @@ use std::alloc::Global;
 ///
 /// Of several faults that parsing meets the first from the left is told. `Memory` is answered where memory was
 /// wanting, also for the text of a fault. The time taken grows as the pattern does, with a logarithm for groups
-/// that have names, and with the flag i as that times the rows of the table; only the intervals of a class that
-/// stand in descending order are each moved for every one that follows. A reference by a name makes a node for
-/// each group that has it, so time and tree may grow as the product of both. With the flag v what a class holds is
-/// gone over once for each class around it, and for each `&&` or `--` behind it; a property is copied out of the table
+/// that have names and for what a class holds, and with the flag i as that times the rows of the table. A reference
+/// by a name makes a node for each group that has it, so time and tree may grow as the product of both. With the
+/// flag v what a class holds is gone over once for each class around it; a property is copied out of the table
 /// wherever it is named.
 pub fn try_parse(
     alloc: Global,
