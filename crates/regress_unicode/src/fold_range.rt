@@ -1,5 +1,5 @@
 //! A row of a table of images, packed.
-ghost use Rattle.std.specs.Prelude.{◌≡◌, ℕ, ◌+◌, ◌-◌, ◌*◌, ◌/◌, ◌%◌, ◌^◌, ◌<◌, ◌≤◌, ◌↔◌, ◌==◌, ◌≢◌, ◌⊎◌, ◌&&◌, not, false, IfSome, IfNone, pos, negsuc, ◌≤ℤ◌, IsTrue};
+ghost use Rattle.std.specs.Prelude.{◌≡◌, ℕ, ◌+◌, ◌-◌, ◌*◌, ◌/◌, ◌%◌, ◌^◌, ◌<◌, ◌≤◌, ◌↔◌, ◌==◌, false, IfSome, IfNone, pos, negsuc, ◌≤ℤ◌, IsTrue};
 ghost use Rattle.regress_unicode.specs.FoldRows.{is_in_row, image_in_row, is_source, is_target_in_range, stays_in_range as stays_in_range_spec, moved, IsModulo};
 ghost use Rattle.regress_base.specs.Intervals.{code_point_max};
 ghost use Rattle.std.specs.declared.cmp.Ordering.TheVariants.{Less, Equal, Greater};
@@ -161,26 +161,6 @@ impl FoldRange {
         } else {
             None
         }
-    }
-
-    /// Whether `c` moves to another code point, or another one moves to `c`.
-    pub(super) fn joins(&self, c: u32) -> bool
-        requires code_point { c ≤ code_point_max }
-        requires in_range { IsTrue (is_target_in_range self.now) }
-        ensures away { result ≡ false → IsTrue (is_in_row self.now c) → image_in_row self.now c ≡ c }
-        ensures other { result ≡ false → (x : ℕ) → IsTrue (is_source self.now c x) → x ≡ c }
-        ensures some { IsTrue result → (x : ℕ) × (x ≤ code_point_max) × IsTrue (is_in_row self.now x)
-            × (image_in_row self.now x ≢ x) × ((x ≡ c) ⊎ (image_in_row self.now x ≡ c)) }
-    {
-        self.moves(c) || matches!(self.source(c), Some(source) if source != c)
-    }
-
-    /// Whether `c` is a code point of the run and moves to another one.
-    fn moves(&self, c: u32) -> bool
-        requires { IsTrue (is_target_in_range self.now) }
-        ensures { result ≡ (is_in_row self.now c && not (image_in_row self.now c == c)) }
-    {
-        self.first() <= c && c <= self.last() && self.apply(c) != c
     }
 
     /// Whether the first and the last code point of the run move to code points.

@@ -22,7 +22,7 @@ pub use images::{fold, uppercase};
 pub use range::CodePointRange;
 use regress_base::codepointset::CodePointSet;
 pub use tables_error::{TablesError, Which};
-pub use unfold::{expand_code_point, stands_alone, unfold_char, unfold_uppercase_char};
+pub use unfold::{expand_code_point, unfold_char, unfold_uppercase_char};
 
 /// What a pattern needs to know of Unicode: how characters fold, which may stand in a name, and
 /// which have a property. Each value is lawful: an image is its own image, at most four code points

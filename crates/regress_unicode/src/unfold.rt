@@ -1,10 +1,10 @@
 //! All code points of an image.
-ghost use Rattle.std.specs.Prelude.{◌≡◌, ◌<◌, ◌≤◌, ◌↔◌, ◌==◌, ◌||◌, ℕ, [], ◌∷◌, length, get_or, IsTrue, IfOk, OnOk};
+ghost use Rattle.std.specs.Prelude.{◌≡◌, ◌<◌, ◌≤◌, ◌==◌, ◌||◌, ℕ, length, get_or, IsTrue, IfOk, OnOk};
 ghost use Rattle.std.specs.List.{AllWithin, insert};
 ghost use Rattle.regress_base.specs.Intervals.{code_point_max};
 ghost use Rattle.regress_unicode.specs.FoldRows.{image, is_in_order, are_targets_in_range};
 ghost use Rattle.regress_unicode.specs.Listing.{lists, is_ascending, IsListing};
-ghost use Rattle.regress_unicode.specs.Table.{stands_for, IsIdempotent};
+ghost use Rattle.regress_unicode.specs.Table.{stands_for};
 ghost use Rattle.regress_unicode.specs.TableOf.{table_of};
 
 use super::{FoldRange, Tables, fold, uppercase};
@@ -55,37 +55,6 @@ pub fn expand_code_point(
     } else {
         unfold_uppercase_char(alloc, c, tables)
     }
-}
-
-/// Whether a literal `c` stands for itself alone, so that [`expand_code_point`] lists nothing else. It
-/// takes no memory. One pass over the rows at most.
-pub fn stands_alone(c: u32, icase: bool, unicode: bool, tables: &Tables) -> bool
-    requires { c ≤ code_point_max }
-    ensures { IsTrue result ↔ IsListing (stands_for (table_of tables.now) icase unicode c) (c ∷ []) }
-{
-    if !icase {
-        true
-    } else if unicode {
-        has_image_alone(&tables.folds, c)
-    } else {
-        has_image_alone(&tables.uppers, c)
-    }
-}
-
-/// Whether no other code point has the image of `c`.
-fn has_image_alone(rows: &[FoldRange], c: u32) -> bool
-    requires code_point { c ≤ code_point_max }
-    requires in_order { IsTrue (is_in_order rows.now) }
-    requires in_range { IsTrue (are_targets_in_range rows.now) }
-    requires idempotent { IsIdempotent (image rows.now) }
-    ensures { IsTrue result ↔ IsListing (λ x. image rows.now x == image rows.now c) (c ∷ []) }
-{
-    for row in rows {
-        if row.joins(c) {
-            return false;
-        }
-    }
-    true
 }
 
 /// The code points that `target`, an image, is the image of. The rows ascend, and so does what moves.
