@@ -1,6 +1,6 @@
 -- What the parser's loop over alternatives has read so far.
-use Rattle.std.proofs.Common.{◌≡◌, ℕ, ◌+◌, ◌-◌, ◌≤◌, ⊎_elim, true, false, List, [], ◌∷◌, ◌++◌, length, drop, map, Some, None, refl, sym, ap, ap₂, ◌∙◌, arith, length-drop, Option}
-use Rattle.std.specs.Option.{IfSome}
+use Rattle.std.proofs.Common.{◌≡◌, ℕ, ◌+◌, ◌-◌, ◌≤◌, ⊎_elim, true, false, List, [], ◌∷◌, ◌++◌, length, drop, map, Some, None, refl, sym, ap, ap₂, ◌∙◌, arith, length-drop, Option, Result, Ok, Err, subst}
+use Rattle.std.specs.Option.{IfSome, IsSomeAnd}
 use Rattle.std.proofs.lemmas.Option.{same_Some}
 use Rattle.std.proofs.lemmas.Bool.{cond-true, cond-false}
 use Rattle.regress_tree.specs.declared.ir.node.Node.{Node}
@@ -10,11 +10,14 @@ use Rattle.regress_tree.specs.Tree.{Tree, tree, alt}
 use Rattle.regress_lexical.specs.Source.{Source, Found, ◌>>=◌, bar, is_at}
 use Rattle.regress_syntax.specs.Syntax.{Name, Pattern, Terms, one, either, Counts, added, counts, counts_of_terms, levels, levels_of_terms}
 use Rattle.regress_syntax.specs.Rows.{Context}
-use Rattle.regress_lexical.proofs.laws.Sources.{found_then, chosen, to_each, from_each}
+use Rattle.regress_lexical.proofs.laws.Sources.{found_then, chosen, to_each, from_each, on_syntax_then}
 use Rattle.regress_parse.specs.Reader.{pattern_at, terms_at}
 use Rattle.regress_parse.specs.TreeOf.{joined, tree_of_pattern, trees_of_terms}
 use Rattle.regress_base.specs.Limits.{max_nesting_depth}
-use Rattle.regress_parse.specs.Parsing.{alternatives, Fits, pattern_part, terms_part}
+use Rattle.regress_parse.specs.Parsing.{text, counted, alternatives, Fits, pattern_part, terms_part, Builds, Yields}
+use Rattle.regress_parse.specs.declared.parser.Parser.{Parser}
+use Rattle.regress_lexical.specs.declared.fault.ParseFault.{ParseFault}
+use Rattle.regress_parse.proofs.ParserLemmas.{built}
 use Rattle.regress_parse.proofs.BuildLemmas.{alternatives-push}
 use Rattle.regress_parse.proofs.CountLemmas.{Fits-inside}
 use Rattle.regress_parse.proofs.ReaderLemmas.{pattern_at-is, terms_at-shortens, others_of}
@@ -230,6 +233,25 @@ first-fail table names ctx depth t before refused =
     to_each (terms_at ctx t) _ refused first.0 first.1
     (Fits-inside before before depth (depth + 1) (pattern_part table names x.0) (terms_part table names first.0.0)
     (omega (arith, less.groups)) (omega (arith, less.loops)) (omega (arith, less.levels)) fits))
+
+-- no bar behind the first alternative: it is the pattern
+pub lone-yields : (table : Table) (names : List (Option Name)) (d : Direction) (ctx : Context) (depth : ℕ) (t : Source) (before : Counts) (new : Parser)
+    (r : Result Node ParseFault) → is_at bar (text new) ≡ false →
+    Yields (terms_part table names) d (depth + 1) before new r (terms_at ctx t) →
+    Yields (pattern_part table names) d depth before new r (pattern_at ctx t)
+lone-yields table names d ctx depth t before new (Ok node) none read =
+    let x = built (terms_part table names) d (depth + 1) before new (terms_at ctx t) node read in
+    let b = x.2 in
+    let h = alternatives-start table names d ctx depth t before x.0.1 (counted new) node x.0.0 x.1 b.node b.counts b.fits in
+    subst (λ (f : Found Pattern). IsSomeAnd f (λ y. Builds d depth before new node (pattern_part table names y.0) y.1))
+    (sym (alternatives-end table names d ctx depth t before x.0.1 (counted new) [] node h (ap (is_at bar) (sym b.rest) ∙ none)))
+    (record {
+      node = alternatives-node table names d ctx depth t before x.0.1 (counted new) [] node h;
+      fits = h.fits;
+      counts = h.counts;
+      rest = b.rest;
+    })
+lone-yields table names d ctx depth t before new (Err fault) none read = on_syntax_then fault (first-fail table names ctx depth t before) read
 
 -- so is a later one
 pub alternatives-fail : (table : Table) (names : List (Option Name)) (d : Direction) (ctx : Context) (depth : ℕ) (t0 : Source) (before : Counts)

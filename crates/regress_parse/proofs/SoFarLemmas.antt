@@ -1,22 +1,27 @@
 -- What the parser's loop over terms has read so far, as facts on sources, syntax trees and lists of nodes.
-use Rattle.std.proofs.Common.{◌≡◌, ℕ, ◌+◌, ◌≤◌, max, true, false, List, [], ◌∷◌, ◌++◌, length, Some, None, refl, sym, ap, ap₂, ◌∙◌, arith, add_assoc, Option}
-use Rattle.std.specs.Option.{IfSome}
+use Rattle.std.proofs.Common.{◌≡◌, ℕ, ◌+◌, ◌≤◌, max, true, false, List, [], ◌∷◌, ◌++◌, length, Some, None, refl, sym, ap, ap₂, ◌∙◌, arith, add_assoc, Option, Result, Ok, Err, subst}
+use Rattle.std.specs.Option.{IfSome, IsSomeAnd}
 use Rattle.std.proofs.lemmas.Option.{same_Some}
 use Rattle.std.proofs.lemmas.Bool.{cond-true, cond-false}
-use Rattle.regress_tree.specs.declared.ir.node.Node.{Node}
+use Rattle.regress_tree.specs.declared.ir.node.Node.{Node, Empty}
 use Rattle.regress_tree.specs.Reading.{Direction}
 use Rattle.regress_unicode.specs.Table.{Table}
 use Rattle.regress_tree.specs.Tree.{row_append, tree, trees, no_trees, more_trees}
+use Rattle.regress_tree.proofs.laws.Nodes.{tree-Empty}
 use Rattle.regress_lexical.specs.Source.{Source, Found, ◌>>=◌, ends_alternative}
 use Rattle.regress_syntax.specs.Syntax.{Name, Terms, no_terms, more_terms, Counts, added, counts_of_terms, counts_of_term, levels_of_terms}
 use Rattle.regress_syntax.specs.Rows.{Context}
-use Rattle.regress_lexical.proofs.laws.Sources.{found_then, to_each, from_each}
+use Rattle.regress_lexical.proofs.laws.Sources.{found_then, to_each, from_each, on_syntax_then}
 use Rattle.regress_parse.specs.Reader.{Term, terms_at, term_at}
-use Rattle.regress_parse.specs.TreeOf.{trees_of_terms}
-use Rattle.regress_parse.specs.Parsing.{Fits, terms_part, term_part}
+use Rattle.regress_parse.specs.TreeOf.{trees_of_terms, joined}
+use Rattle.regress_parse.specs.Parsing.{text, counted, Fits, terms_part, term_part, Builds, Yields}
+use Rattle.regress_parse.specs.declared.parser.Parser.{Parser}
+use Rattle.regress_lexical.specs.declared.fault.ParseFault.{ParseFault}
+use Rattle.regress_base.specs.Limits.{max_nesting_depth}
+use Rattle.regress_parse.proofs.ParserLemmas.{built}
 use Rattle.regress_parse.proofs.BuildLemmas.{trees-push}
 use Rattle.regress_parse.proofs.ReaderLemmas.{terms_at-is, term_at-shortens, more_of}
-use Rattle.regress_parse.proofs.CountLemmas.{added-nothing}
+use Rattle.regress_parse.proofs.CountLemmas.{Fits-inside, added-nothing}
 
 -- terms before others
 abbrev pub append : Terms → Terms → Terms
@@ -128,6 +133,16 @@ module _ (table : Table) (names : List (Option Name)) (d : Direction) where
           shorter = omega (arith, h.shorter, term_at-shortens ctx t (x, rest) found);
         }
 
+    -- the first term
+    pub terms-first : (node : Node) (x : Term) (rest : Source) (new : Counts) → ends_alternative t0 ≡ false → term_at ctx t0 ≡ Some (x, rest) →
+        tree node ≡ (term_part table names x).node d before.groups → new ≡ added before (counts_of_term x.0 x.1) →
+        Fits before depth (term_part table names x) → TermsSoFar rest new (node ∷ [])
+    terms-first node x rest new goes_on found built counts fits =
+        terms-step t0 before [] node x rest new
+        (terms-start (Fits-inside before before depth depth (term_part table names x) (terms_part table names no_terms)
+        (omega arith) (omega arith) (omega arith) fits))
+        goes_on found built counts fits
+
     -- the alternative has ended
     pub terms-end : (t : Source) (now : Counts) (parts : List Node) (h : TermsSoFar t now parts) →
         ends_alternative t ≡ true → terms_at ctx t0 ≡ Some (h.terms, t)
@@ -170,3 +185,53 @@ module _ (table : Table) (names : List (Option Name)) (d : Direction) where
           );
           levels = omega (arith, fits.levels, ap levels_of_terms first, ap levels_of_terms all, levels-append h.terms read.0.0);
         }))
+
+module _ (table : Table) (names : List (Option Name)) (d : Direction) (ctx : Context) (depth : ℕ) (old : Parser) where
+  none-fit : depth ≤ max_nesting_depth → Fits (counted old) depth (terms_part table names no_terms)
+  none-fit deep = record {
+    groups = omega (arith, old.groups_within);
+    loops = omega (arith, old.loops_within);
+    levels = omega (arith, deep);
+  }
+
+  -- an alternative without any term
+  pub no_terms-yield : ends_alternative (text old) ≡ true → depth ≤ max_nesting_depth →
+      Yields (terms_part table names) d depth (counted old) old (Ok Empty) (terms_at ctx (text old))
+  no_terms-yield ends deep =
+      subst (λ (f : Found Terms). IsSomeAnd f (λ y. Builds d depth (counted old) old Empty (terms_part table names y.0) y.1))
+      (sym (terms_at-is ctx (text old) ∙ cond-true (ends_alternative (text old)) _ _ ends))
+      (record {
+        node = tree-Empty;
+        fits = none-fit deep;
+        counts = sym (added-nothing (counted old));
+        rest = refl;
+      })
+
+  -- a first term that is none, or too much, is so for the alternative
+  pub first_term-fails : ends_alternative (text old) ≡ false → depth ≤ max_nesting_depth →
+      IfSome (term_at ctx (text old)) (λ x. Fits (counted old) depth (term_part table names x.0) → ⊥) →
+      IfSome (terms_at ctx (text old)) (λ x. Fits (counted old) depth (terms_part table names x.0) → ⊥)
+  first_term-fails goes_on deep refused =
+      terms-fail table names d ctx depth (text old) (counted old) (text old) (counted old) []
+      (terms-start table names d ctx depth (text old) (counted old) (none-fit deep)) goes_on refused
+
+  -- an alternative of one term
+  pub one_term-yields : (new : Parser) (r : Result Node ParseFault) → ends_alternative (text old) ≡ false →
+      ends_alternative (text new) ≡ true → depth ≤ max_nesting_depth →
+      Yields (term_part table names) d depth (counted old) new r (term_at ctx (text old)) →
+      Yields (terms_part table names) d depth (counted old) new r (terms_at ctx (text old))
+  one_term-yields new (Ok node) goes_on ends deep read =
+      let x = built (term_part table names) d depth (counted old) new (term_at ctx (text old)) node read in
+      let b = x.2 in
+      let h = terms-first table names d ctx depth (text old) (counted old) node x.0.0 x.0.1 (counted new) goes_on x.1 b.node b.counts b.fits in
+      subst (λ (f : Found Terms). IsSomeAnd f (λ y. Builds d depth (counted old) new node (terms_part table names y.0) y.1))
+      (sym (terms-end table names d ctx depth (text old) (counted old) x.0.1 (counted new) (node ∷ []) h
+      (ap ends_alternative (sym b.rest) ∙ ends)))
+      (record {
+        node = ap (joined d) h.nodes;
+        fits = h.fits;
+        counts = h.counts;
+        rest = b.rest;
+      })
+  one_term-yields new (Err fault) goes_on ends deep read =
+      on_syntax_then fault (first_term-fails goes_on deep) read

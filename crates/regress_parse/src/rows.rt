@@ -1,12 +1,12 @@
 //! The grammar, form by form.
-ghost use Rattle.std.specs.Prelude.{◌≡◌, ◌≤◌, Some, IfOk};
-ghost use Rattle.regress_lexical.specs.Source.{Source, Found};
+ghost use Rattle.std.specs.Prelude.{◌≡◌, ◌≤◌, false, Some, IfOk};
+ghost use Rattle.regress_lexical.specs.Source.{Source, Found, ends_alternative};
 ghost use Rattle.regress_syntax.specs.Views.{group_of};
 ghost use Rattle.regress_syntax.specs.Syntax.{Item, Counts};
 ghost use Rattle.regress_syntax.specs.Rows.{opens, allows, head_of_item};
 ghost use Rattle.regress_base.specs.Limits.{max_nesting_depth};
-ghost use Rattle.regress_parse.specs.Reader.{pattern_at, terms_at, term_at, item_behind, with_times};
-ghost use Rattle.regress_parse.specs.Parsing.{text, counted, direction_of, context_in, table_in, names_around, pattern_part, terms_part, term_part, item_part, Yields};
+ghost use Rattle.regress_parse.specs.Reader.{Term, pattern_at, terms_at, term_at, item_behind, with_times};
+ghost use Rattle.regress_parse.specs.Parsing.{text, counted, direction_of, context_in, table_in, names_around, pattern_part, terms_part, term_part, item_part, Builds, Yields};
 
 use crate::atom::{begins_anchor, read_atom};
 use crate::build::{make_alt, make_cat, make_group, make_literal, make_loop};
@@ -31,8 +31,12 @@ impl Parser<'_> {
             depth: around.depth + 1,
             ..*around
         };
+        let first = self.consume_alternative(&inside);
+        if !self.cursor.is_at('|') {
+            return first;
+        }
         let mut before = Vec::new(self.cursor.alloc);
-        let mut last = self.consume_alternative(&inside)?;
+        let mut last = first?;
         while self.cursor.try_consume('|') {
             before.push(last)?;
             last = self.consume_alternative(&inside)?;
@@ -40,15 +44,36 @@ impl Parser<'_> {
         Ok(make_alt(self.cursor.alloc, before, last)?)
     }
 
-    /// Reads terms up to the end of the alternative (ECMA-262, Alternative). Most are characters that stand for themselves,
-    /// which need no look at the other rows.
+    /// Reads terms up to the end of the alternative (ECMA-262, Alternative). One term alone needs no list.
     #[cycle(parser)]
     fn consume_alternative(&mut self, around: &Around) -> Result<Node, ParseFault>
         requires { around.now.depth ≤ max_nesting_depth }
         ensures value { Yields (terms_part (table_in around.now) (names_around around.now)) (direction_of around.now) around.now.depth (counted self.old) self.new result
             (terms_at (context_in around.now) (text self.old)) }
     {
+        if self.cursor.ends_alternative() {
+            return Ok(Node::Empty);
+        }
+        let first = self.consume_term(around);
+        if self.cursor.ends_alternative() {
+            return first;
+        }
+        self.consume_terms(first?, around)
+    }
+
+    /// Reads the terms behind the first one, up to the end of the alternative. Most are characters that stand for
+    /// themselves, which need no look at the other rows.
+    #[cycle(parser)]
+    fn consume_terms(&mut self, first: Node, around: &Around) -> Result<Node, ParseFault>
+        requires { around.now.depth ≤ max_nesting_depth }
+        ensures value { (t : Source) (before : Counts) (x : Term) → ends_alternative t ≡ false →
+            term_at (context_in around.now) t ≡ Some (x, text self.old) →
+            Builds (direction_of around.now) around.now.depth before self.old first (term_part (table_in around.now) (names_around around.now) x) (text self.old) →
+            Yields (terms_part (table_in around.now) (names_around around.now)) (direction_of around.now) around.now.depth before self.new result
+            (terms_at (context_in around.now) t) }
+    {
         let mut parts = Vec::new(self.cursor.alloc);
+        parts.push(first)?;
         while !self.cursor.ends_alternative() {
             if let Some(c) = self.cursor.next_plain() {
                 parts.push(make_literal(self.cursor.alloc, c, &around.scope)?)?;

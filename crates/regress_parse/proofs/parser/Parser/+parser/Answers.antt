@@ -14,20 +14,77 @@ use Rattle.regress_parse.specs.Reader.{Term, item_behind, pattern_at, terms_at, 
 use Rattle.regress_parse.specs.Parsing.{text, counted, context_in, table_in, names_around, direction_of, terms_part, term_part, item_part, atom_at, ReadsAtom, Yields}
 use Rattle.regress_parse.proofs.CountLemmas.{added-nothing}
 use Rattle.regress_parse.proofs.ReaderLemmas.{terms_at-shortens, term_at-shortens, term_at-is}
-use Rattle.regress_parse.proofs.SoFarLemmas.{TermsSoFar, terms-start, terms-step, terms-end, terms-fail}
-use Rattle.regress_parse.proofs.AlternativesLemmas.{alternatives-start, alternatives-step, first-fail, alternatives-fail}
+use Rattle.regress_parse.proofs.SoFarLemmas.{TermsSoFar, terms-first, terms-step, terms-end, terms-fail, no_terms-yield, one_term-yields, first_term-fails}
+use Rattle.regress_parse.proofs.AlternativesLemmas.{alternatives-start, alternatives-step, lone-yields, first-fail, alternatives-fail}
 use Rattle.regress_parse.proofs.TermLemmas.{front_is, ok_whatever, too_deep, plain_term, no_term, opening_head, opening_item, opened_same, atom_yields, atom_allowed}
 use Rattle.regress_parse.proofs.ParserLemmas.{built}
 use Rattle.regress_parse.proofs.parser.Parser.+parser.Goals as goal
 
-pub consume_alternative-loop-self-init : goal.consume_alternative-loop-self-init
-consume_alternative-loop-self-init t c =
+pub consume_alternative-returns-then-ends_alternative : goal.consume_alternative-returns-then-ends_alternative
+consume_alternative-returns-then-ends_alternative t c =
+    let around = c.args.around.now in
     let old = c.args.self.now in
-    rw c.new-parts.ensures.items (terms-start _ _ _ _ _ (text old) (counted old)
-    (record { groups = omega (arith, old.groups_within); loops = omega (arith, old.loops_within); levels = omega arith }))
+    record {
+      value = no_terms-yield (table_in around) (names_around around) (direction_of around) (context_in around) around.depth old
+          (sym c.ends_alternative.ensures ∙ c.if-ends_alternative.true) c.requires;
+    }
 
-pub consume_alternative-loop-self-preserved-in_ok-push : goal.consume_alternative-loop-self-preserved-in_ok-push
-consume_alternative-loop-self-preserved-in_ok-push t c =
+pub consume_alternative-returns-then-ends_alternative-2 : goal.consume_alternative-returns-then-ends_alternative-2
+consume_alternative-returns-then-ends_alternative-2 t c =
+    let around = c.args.around.now in
+    let old = c.args.self.now in
+    record {
+      value = one_term-yields (table_in around) (names_around around) (direction_of around) (context_in around) around.depth old
+          c.consume_term-first.new.self c.consume_term-first.result
+          (sym c.ends_alternative.ensures ∙ c.if-ends_alternative.false)
+          (sym c.ends_alternative-2.ensures ∙ c.if-ends_alternative-2.true) c.requires c.consume_term-first.ensures.value;
+    }
+
+pub consume_alternative-returns-in_err-first : goal.consume_alternative-returns-in_err-first
+consume_alternative-returns-in_err-first t c =
+    let p = err_from_is_err_and c.from_residual.result c.from_residual.ensures.1 in
+    let around = c.args.around.now in
+    let old = c.args.self.now in
+    record {
+      value = rw (p.1, p.2) (on_syntax_then c.in_err-first.field-0.0
+          (first_term-fails (table_in around) (names_around around) (direction_of around) (context_in around) around.depth old
+          (sym c.ends_alternative.ensures ∙ c.if-ends_alternative.false) c.requires)
+          c.in_err-first.ensures.value);
+    }
+
+pub consume_alternative-consume_terms-requires : goal.consume_alternative-consume_terms-requires
+consume_alternative-consume_terms-requires t c =
+    let around = c.args.around.now in
+    let old = c.args.self.now in
+    let found = built (term_part (table_in around) (names_around around)) (direction_of around) around.depth (counted old) c.consume_term-first.new.self
+    (term_at (context_in around) (text old)) c.in_ok-first.field-0 c.in_ok-first.ensures.value in
+    omega (arith, c.requires, term_at-shortens (context_in around) (text old) found.0 found.1, ap length found.2.rest)
+
+pub consume_alternative-returns : goal.consume_alternative-returns
+consume_alternative-returns t c =
+    let around = c.args.around.now in
+    let old = c.args.self.now in
+    let ctx = context_in around in
+    let found = built (term_part (table_in around) (names_around around)) (direction_of around) around.depth (counted old) c.consume_term-first.new.self
+    (term_at ctx (text old)) c.in_ok-first.field-0 c.in_ok-first.ensures.value in
+    let b = found.2 in
+    record {
+      value = c.consume_terms.ensures.value (text old) (counted old) found.0.0 (sym c.ends_alternative.ensures ∙ c.if-ends_alternative.false)
+          (found.1 ∙ ap (λ (u : Source). Some (found.0.0, u)) (sym b.rest))
+          (record { node = b.node; fits = b.fits; counts = b.counts; rest = refl });
+    }
+
+pub consume_terms-loop-self-init : goal.consume_terms-loop-self-init
+consume_terms-loop-self-init t c =
+    let around = c.args.around.now in
+    let old = c.args.self.now in
+    rw (c.in_ok-push.ensures.items, c.new-parts.ensures.items)
+    ((λ t before x goes_on found b.
+    terms-first (table_in around) (names_around around) (direction_of around) (context_in around) around.depth t before c.args.first x (text old)
+    (counted old) goes_on found b.node b.counts b.fits), omega arith)
+
+pub consume_terms-loop-self-preserved-in_ok-push-2 : goal.consume_terms-loop-self-preserved-in_ok-push-2
+consume_terms-loop-self-preserved-in_ok-push-2 t c =
     let l = c.loop-self in
     let around = c.args.around.now in
     let ctx = context_in around in
@@ -37,65 +94,71 @@ consume_alternative-loop-self-preserved-in_ok-push t c =
     let found : term_at ctx (text l.self) ≡ Some ((atom (literal ctx.setting.flags letter), None), rest) =
     ap (term_at ctx) c.in-Some.ensures.some
     ∙ plain_term (table_in around) (names_around around) ctx letter rest c.in-Some.ensures.plain c.in-Some.ensures.alone in
-    rw c.in_ok-push.ensures.items
-    (terms-step _ _ _ _ _ _ _ (text l.self) (counted l.self) l.parts.items c.in_ok-make_literal.field-0
-    (atom (literal ctx.setting.flags letter), None) rest (counted l.self) l.invariant goes_on found c.in_ok-make_literal.ensures
+    rw c.in_ok-push-2.ensures.items
+    ((λ t before x begins first b.
+    terms-step _ _ _ _ _ _ _ (text l.self) (counted l.self) l.parts.items c.in_ok-make_literal.field-0
+    (atom (literal ctx.setting.flags letter), None) rest (counted l.self) (l.invariant.0 t before x begins first b) goes_on found c.in_ok-make_literal.ensures
     (sym (added-nothing (counted l.self)))
-    (record { groups = omega (arith, l.self.groups_within); loops = omega (arith, l.self.loops_within); levels = omega (arith, c.requires) }))
+    (record { groups = omega (arith, l.self.groups_within); loops = omega (arith, l.self.loops_within); levels = omega (arith, c.requires) })),
+    omega (arith, l.invariant.1, ap length c.in-Some.ensures.some))
 
-pub consume_alternative-returns-in_err-consume_term : goal.consume_alternative-returns-in_err-consume_term
-consume_alternative-returns-in_err-consume_term t c =
+pub consume_terms-returns-in_err-consume_term : goal.consume_terms-returns-in_err-consume_term
+consume_terms-returns-in_err-consume_term t c =
     let from = c.from_residual-in_err-consume_term in
     let p = err_from_is_err_and from.result from.ensures.1 in
     let l = c.loop-self in
     let around = c.args.around.now in
     let here : source c.next_plain.new.self ≡ text l.self = c.in_default.ensures.none in
-    let h = subst (λ (u : Source). TermsSoFar (table_in around) (names_around around) (direction_of around) (context_in around) around.depth
-    (text c.args.self.now) (counted c.args.self.now) u (counted l.self) l.parts.items) (sym here) l.invariant in
     let goes_on = ap ends_alternative here ∙ sym c.ends_alternative.ensures ∙ c.loop-self-test.true in
     record {
-      value = rw (p.1, p.2) (on_syntax_then c.in_err-consume_term.field-0.0
+      value = λ t before x begins first b.
+          let h = subst (λ (u : Source). TermsSoFar (table_in around) (names_around around) (direction_of around) (context_in around) around.depth
+          t before u (counted l.self) l.parts.items) (sym here) (l.invariant.0 t before x begins first b) in
+          rw (p.1, p.2) (on_syntax_then c.in_err-consume_term.field-0.0
           (terms-fail _ _ _ _ _ _ _ (source c.next_plain.new.self) (counted l.self) l.parts.items h goes_on)
           c.in_err-consume_term.ensures.value);
     }
 
-pub consume_alternative-loop-self-smaller : goal.consume_alternative-loop-self-smaller
-consume_alternative-loop-self-smaller t c =
+pub consume_terms-loop-self-smaller : goal.consume_terms-loop-self-smaller
+consume_terms-loop-self-smaller t c =
     let around = c.args.around.now in
     let here = source c.next_plain.new.self in
     let found = built (term_part (table_in around) (names_around around)) (direction_of around) around.depth (counted c.loop-self.self) c.consume_term.new.self
     (term_at (context_in around) here) c.in_ok-consume_term.field-0 c.in_ok-consume_term.ensures.value in
     omega (arith, term_at-shortens (context_in around) here found.0 found.1, ap length found.2.rest, ap length c.in_default.ensures.none)
 
-pub consume_alternative-loop-self-preserved : goal.consume_alternative-loop-self-preserved
-consume_alternative-loop-self-preserved t c =
+pub consume_terms-loop-self-preserved : goal.consume_terms-loop-self-preserved
+consume_terms-loop-self-preserved t c =
     let l = c.loop-self in
     let around = c.args.around.now in
     let there = source c.next_plain.new.self in
     let here : there ≡ text l.self = c.in_default.ensures.none in
-    let h = subst (λ (u : Source). TermsSoFar (table_in around) (names_around around) (direction_of around) (context_in around) around.depth
-    (text c.args.self.now) (counted c.args.self.now) u (counted l.self) l.parts.items) (sym here) l.invariant in
     let goes_on = ap ends_alternative here ∙ sym c.ends_alternative.ensures ∙ c.loop-self-test.true in
     let found = built (term_part (table_in around) (names_around around)) (direction_of around) around.depth (counted l.self) c.consume_term.new.self
     (term_at (context_in around) there) c.in_ok-consume_term.field-0 c.in_ok-consume_term.ensures.value in
     let b = found.2 in
-    rw (b.rest, c.in_ok-push-2.ensures.items)
-    (terms-step _ _ _ _ _ _ _ there (counted l.self) l.parts.items c.in_ok-consume_term.field-0 found.0.0 found.0.1
-    (counted c.consume_term.new.self) h goes_on found.1 b.node b.counts b.fits)
+    rw (b.rest, c.in_ok-push-3.ensures.items)
+    ((λ t before x begins first bs.
+    let h = subst (λ (u : Source). TermsSoFar (table_in around) (names_around around) (direction_of around) (context_in around) around.depth
+    t before u (counted l.self) l.parts.items) (sym here) (l.invariant.0 t before x begins first bs) in
+    terms-step _ _ _ _ _ _ _ there (counted l.self) l.parts.items c.in_ok-consume_term.field-0 found.0.0 found.0.1
+    (counted c.consume_term.new.self) h goes_on found.1 b.node b.counts b.fits),
+    omega (arith, l.invariant.1, term_at-shortens (context_in around) there found.0 found.1, ap length here))
 
-pub consume_alternative-returns : goal.consume_alternative-returns
-consume_alternative-returns t c =
+pub consume_terms-returns : goal.consume_terms-returns
+consume_terms-returns t c =
     let l = c.loop-self in
-    let h = l.invariant in
-    let end = terms-end _ _ _ _ _ _ _ (text l.self) (counted l.self) l.parts.items h
-    (sym c.ends_alternative.ensures ∙ c.loop-self-test.false) in
     record {
-      value = rw end (record {
-        node = c.make_cat.ensures ∙ ap (joined (direction_of c.args.around.now)) h.nodes;
-        fits = h.fits;
-        counts = h.counts;
-        rest = refl;
-      });
+      value = λ t before x begins first b.
+          let h = l.invariant.0 t before x begins first b in
+          let end = terms-end _ _ _ _ _ _ _ (text l.self) (counted l.self) l.parts.items h
+          (sym c.ends_alternative.ensures ∙ c.loop-self-test.false) in
+          rw end (record {
+            node = c.make_cat.ensures ∙ ap (joined (direction_of c.args.around.now)) h.nodes;
+            fits = h.fits;
+            counts = h.counts;
+            rest = refl;
+          });
     }
 
 pub consume_disjunction-returns-then-around-ge-MAX_NESTING_DEPTH : goal.consume_disjunction-returns-then-around-ge-MAX_NESTING_DEPTH
@@ -104,6 +167,16 @@ consume_disjunction-returns-then-around-ge-MAX_NESTING_DEPTH t c =
     record {
       value = on_syntax c.syntax.result (too_deep (table_in around) (names_around around) (context_in around) (counted c.args.self.now) around.depth
           (pattern_at (context_in around) (text c.args.self.now)) c.if-around-ge-MAX_NESTING_DEPTH.true);
+    }
+
+pub consume_disjunction-returns-then-not-is_at : goal.consume_disjunction-returns-then-not-is_at
+consume_disjunction-returns-then-not-is_at t c =
+    let around = c.args.around.now in
+    let old = c.args.self.now in
+    record {
+      value = lone-yields (table_in around) (names_around around) (direction_of around) (context_in around) around.depth (text old) (counted old)
+          c.consume_alternative-first.new.self c.consume_alternative-first.result (sym c.is_at.ensures ∙ c.if-not-is_at.true)
+          c.consume_alternative-first.ensures.value;
     }
 
 pub consume_disjunction-returns-in_err-last : goal.consume_disjunction-returns-in_err-last
@@ -120,11 +193,11 @@ pub consume_disjunction-loop-inside-init : goal.consume_disjunction-loop-inside-
 consume_disjunction-loop-inside-init t c =
     let around = c.args.around.now in
     let old = c.args.self.now in
-    let found = built (terms_part (table_in around) (names_around around)) (direction_of around) (around.depth + 1) (counted old) c.consume_alternative.new.self
+    let found = built (terms_part (table_in around) (names_around around)) (direction_of around) (around.depth + 1) (counted old) c.consume_alternative-first.new.self
     (terms_at (context_in around) (text old)) c.in_ok-last.last c.in_ok-last.ensures.value in
     let b = found.2 in
     rw (b.rest, c.new-before.ensures.items)
-    (alternatives-start _ _ _ _ _ (text c.args.self.now) (counted c.args.self.now) found.0.1 (counted c.consume_alternative.new.self)
+    (alternatives-start _ _ _ _ _ (text c.args.self.now) (counted c.args.self.now) found.0.1 (counted c.consume_alternative-first.new.self)
     c.in_ok-last.last found.0.0 found.1 b.node b.counts b.fits)
 
 pub consume_disjunction-returns-in_err-last-2 : goal.consume_disjunction-returns-in_err-last-2
@@ -145,7 +218,7 @@ consume_disjunction-loop-inside-smaller t c =
     let past = c.loop-inside-test.ensures in
     let around = c.args.around.now in
     let found = built (terms_part (table_in around) (names_around around)) (direction_of around) (around.depth + 1) (counted l.self)
-    c.consume_alternative-in-loop-inside.new.self (terms_at (context_in around) (source c.try_consume.new.self)) c.in_ok-last-2.last
+    c.consume_alternative.new.self (terms_at (context_in around) (source c.try_consume.new.self)) c.in_ok-last-2.last
     c.in_ok-last-2.ensures.value in
     omega (
       arith,
@@ -162,12 +235,12 @@ consume_disjunction-loop-inside-preserved t c =
     let past = c.loop-inside-test.ensures in
     let around = c.args.around.now in
     let found = built (terms_part (table_in around) (names_around around)) (direction_of around) (around.depth + 1) (counted l.self)
-    c.consume_alternative-in-loop-inside.new.self (terms_at (context_in around) (source c.try_consume.new.self)) c.in_ok-last-2.last
+    c.consume_alternative.new.self (terms_at (context_in around) (source c.try_consume.new.self)) c.in_ok-last-2.last
     c.in_ok-last-2.ensures.value in
     let b = found.2 in
     rw (b.rest, c.in_ok-push.ensures.items)
     (alternatives-step _ _ _ _ _ _ _ (text l.self) (counted l.self) l.before.items l.last c.in_ok-last-2.last found.0.0 found.0.1
-    (counted c.consume_alternative-in-loop-inside.new.self) l.invariant (sym past.found)
+    (counted c.consume_alternative.new.self) l.invariant (sym past.found)
     (subst (λ u. terms_at (context_in around) u ≡ Some found.0) past.moves found.1) b.node b.counts b.fits)
 
 pub consume_term-returns-in_err-kind : goal.consume_term-returns-in_err-kind

@@ -1,5 +1,8 @@
-use Rattle.std.proofs.Common.{◌+◌, ◌*◌, length}
-use Rattle.regress_parse.specs.Parsing.{text, counted, context_in, table_in, names_around, direction_of}
+use Rattle.std.proofs.Common.{◌≡◌, ◌≤◌, ◌+◌, ◌*◌, false, Some, length}
+use Rattle.regress_lexical.specs.Source.{Source, ends_alternative}
+use Rattle.regress_syntax.specs.Syntax.{Counts}
+use Rattle.regress_parse.specs.Reader.{Term, term_at}
+use Rattle.regress_parse.specs.Parsing.{text, counted, context_in, table_in, names_around, direction_of, term_part, Builds}
 use Rattle.regress_parse.proofs.SoFarLemmas.{TermsSoFar}
 use Rattle.regress_parse.proofs.AlternativesLemmas.{AlternativesSoFar}
 use Rattle.regress_parse.proofs.parser.Parser.+parser.Given as goal
@@ -17,13 +20,20 @@ decreases-consume_alternative l = 8 * length (text l.self.now) + 3
 abbrev pub decreases-consume_term : goal.decreases-consume_term
 decreases-consume_term l = 8 * length (text l.self.now) + 2
 
-abbrev pub invariant-consume_alternative-loop-self : goal.invariant-consume_alternative-loop-self
-invariant-consume_alternative-loop-self l =
-    TermsSoFar (table_in l.around) (names_around l.around) (direction_of l.around) (context_in l.around) l.around.depth (text l.fn.self) (counted l.fn.self)
-    (text l.self) (counted l.self) l.parts.items
+abbrev pub decreases-consume_terms : goal.decreases-consume_terms
+decreases-consume_terms l = 8 * length (text l.self.now) + 3
 
-abbrev pub decreases-consume_alternative-loop-self : goal.decreases-consume_alternative-loop-self
-decreases-consume_alternative-loop-self l = length (text l.self)
+-- Wherever the first term began, the loop's list holds the terms from there.
+abbrev pub invariant-consume_terms-loop-self : goal.invariant-consume_terms-loop-self
+invariant-consume_terms-loop-self l =
+    ((t : Source) (before : Counts) (x : Term) → ends_alternative t ≡ false → term_at (context_in l.around) t ≡ Some (x, text l.fn.self) →
+    Builds (direction_of l.around) l.around.depth before l.fn.self l.fn.first (term_part (table_in l.around) (names_around l.around) x) (text l.fn.self) →
+    TermsSoFar (table_in l.around) (names_around l.around) (direction_of l.around) (context_in l.around) l.around.depth t before
+    (text l.self) (counted l.self) l.parts.items)
+    × (length (text l.self) ≤ length (text l.fn.self))
+
+abbrev pub decreases-consume_terms-loop-self : goal.decreases-consume_terms-loop-self
+decreases-consume_terms-loop-self l = length (text l.self)
 
 abbrev pub invariant-consume_disjunction-loop-inside : goal.invariant-consume_disjunction-loop-inside
 invariant-consume_disjunction-loop-inside l =
