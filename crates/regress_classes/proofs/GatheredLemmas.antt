@@ -1,28 +1,20 @@
--- What is gathered: a set, and intervals put off.
-use Rattle.std.proofs.Common.{◌≡◌, ℕ, Bool, true, false, ◌||◌, List, [], ◌∷◌, ◌++◌, length, IsPermutation, refl, sym, ap, ◌∙◌, append-nil, arith}
+-- What is gathered: a set, and the intervals behind it in the order in which they are written.
+use Rattle.std.proofs.Common.{◌+◌, ◌<◌, ◌≤◌, ◌⊎◌, max, suc, IsTrue, nat_le, get_or, ap₂, subst, ◌≡◌, ℕ, Bool, true, false, ◌||◌, List, [], ◌∷◌, ◌++◌, IsPermutation, refl, sym, ap, ◌∙◌, arith}
+use Rattle.std.specs.Prelude.{MatchBool}
 use Rattle.std.specs.List.{list_any}
+use Rattle.std.specs.List.Retain.{DedupsFrom, IsDeduped}
+use Rattle.std.specs.List.Sorted.{IsNonDecreasingBy}
+use Rattle.std.proofs.lemmas.Bool.{and_from, le-leb}
+use Rattle.std.proofs.lemmas.Bool.Decides.{nat_tests}
 use Rattle.std.proofs.lemmas.List.Sorted.{list_any-IsPermutation}
-use Rattle.regress_base.specs.Intervals.{Bounds, is_within, is_member, IsCanonical}
-use Rattle.regress_base.proofs.laws.Sets.{or_assoc, is_member-nil, is_member-one, is_member-append}
+use Rattle.regress_base.specs.Intervals.{Bounds, IsInterval, code_point_max, is_within, is_member, is_canonical_from, IsCanonical}
+use Rattle.regress_base.proofs.laws.Sets.{or_assoc, is_member-cons, is_member-one, is_member-append}
 use Rattle.regress_classes.specs.ClassViews.{HasMembers}
 
-swap_or : (x y w : Bool) → ((x || w) || y) ≡ ((x || y) || w)
-swap_or true y w = refl
-swap_or false true true = refl
-swap_or false true false = refl
-swap_or false false true = refl
-swap_or false false false = refl
-
--- an interval more in the set, or put off
-pub in_place : (set new later : List Bounds) (iv : Bounds) (c : ℕ) → is_member new c ≡ (is_member set c || is_within iv c) →
-    is_member (new ++ later) c ≡ (is_member (set ++ later) c || is_within iv c)
-in_place set new later iv c e =
-    is_member-append new later c ∙ ap (λ b. b || is_member later c) e ∙ swap_or (is_member set c) (is_member later c) (is_within iv c)
-    ∙ ap (λ b. b || is_within iv c) (sym (is_member-append set later c))
-
-pub put_off : (set later new : List Bounds) (iv : Bounds) (c : ℕ) → new ≡ later ++ iv ∷ [] →
+-- an interval more
+pub put_behind : (set later new : List Bounds) (iv : Bounds) (c : ℕ) → new ≡ later ++ iv ∷ [] →
     is_member (set ++ new) c ≡ (is_member (set ++ later) c || is_within iv c)
-put_off set later new iv c e =
+put_behind set later new iv c e =
     is_member-append set new c
     ∙ ap (λ b. is_member set c || b) (ap (λ (l : List Bounds). is_member l c) e ∙ is_member-append later (iv ∷ []) c
     ∙ ap (λ b. is_member later c || b) (is_member-one iv c))
@@ -48,21 +40,109 @@ any_member [] c = refl
 any_member (iv ∷ ivs) c = ap (λ b. is_within iv c || b) (any_member ivs c)
 
 -- the order doesn't matter
-pub all_gathered : (set later sorted none others new : List Bounds) → IsCanonical new → IsPermutation later sorted → none ≡ [] →
-    ((c : ℕ) → is_member others c ≡ (is_member none c || is_member sorted c)) →
-    ((c : ℕ) → is_member new c ≡ (is_member set c || is_member others c)) → HasMembers (set ++ later) new
-all_gathered set later sorted none others new canonical permutation empty added joined = record {
+pub in_order : (list sorted new : List Bounds) → IsPermutation list sorted → ((c : ℕ) → is_member new c ≡ is_member sorted c) → IsCanonical new →
+    HasMembers list new
+in_order list sorted new permutation joined canonical = record {
   canonical = canonical;
-  each = λ c. joined c
-      ∙ ap (λ b. is_member set c || b) (added c
-      ∙ ap (λ (l : List Bounds). is_member l c || is_member sorted c) empty ∙ ap (λ b. b || is_member sorted c) (is_member-nil c)
-      ∙ any_member sorted c ∙ sym (list_any-IsPermutation (λ iv. is_within iv c) later sorted permutation) ∙ sym (any_member later c))
-      ∙ sym (is_member-append set later c);
+  each = λ c. joined c ∙ any_member sorted c ∙ sym (list_any-IsPermutation (λ iv. is_within iv c) list sorted permutation) ∙ sym (any_member list c);
 }
 
-pub none_later : (set later : List Bounds) → IsCanonical set → length later ≡ 0 → HasMembers (set ++ later) set
-none_later set [] canonical empty = record {
+-- a set, and what is gathered behind it
+pub set_none : (set list new : List Bounds) → set ≡ [] → HasMembers list new → HasMembers (set ++ list) new
+set_none set list new none has = subst (λ (l : List Bounds). HasMembers (l ++ list) new) (sym none) has
+
+pub set_and : (set list new : List Bounds) → IsCanonical new → ((c : ℕ) → is_member new c ≡ (is_member set c || is_member list c)) →
+    HasMembers (set ++ list) new
+set_and set list new canonical joined = record {
   canonical = canonical;
-  each = λ c. ap (λ (l : List Bounds). is_member l c) (sym (append-nil set));
+  each = λ c. joined c ∙ sym (is_member-append set list c);
 }
-none_later set (iv ∷ ivs) canonical empty = absurd (omega arith)
+
+-- ---- neighbours joined
+
+-- the next interval begins at `low` or above, and each other one no lower than the one before it
+abbrev pub Ascends : ℕ → List Bounds → Type 0
+Ascends low [] = Unit {0}
+Ascends low (iv ∷ ivs) = (low ≤ iv.first) × Ascends iv.first ivs
+
+ascends_lower : (low low' : ℕ) (ivs : List Bounds) → low' ≤ low → Ascends low ivs → Ascends low' ivs
+ascends_lower low low' [] less h = tt
+ascends_lower low low' (iv ∷ ivs) less h = (omega (arith, less, h.0), h.1)
+
+pub ascends_from : (iv : Bounds) (ivs : List Bounds) → IsNonDecreasingBy (λ iv. iv.first) (iv ∷ ivs) → Ascends iv.first ivs
+ascends_from iv [] h = tt
+ascends_from iv (next ∷ ivs) h =
+    (h 0 1 iv (omega arith) (omega arith), ascends_from next ivs (λ i j d le lt. h (suc i) (suc j) d (omega arith) (omega arith)))
+
+-- the test with the facts that it stands for
+is_within_tells : (iv : Bounds) (c : ℕ)
+    → ((is_within iv c ≡ true) × (iv.first ≤ c) × (c ≤ iv.last)) ⊎ ((is_within iv c ≡ false) × ((c < iv.first) ⊎ (iv.last < c)))
+unfolding is_within
+is_within_tells iv c = grind (arith, nat_tests)
+
+-- the interval that goes to the end of the next one too
+abbrev pub reaching : (last next : Bounds) → Bounds
+reaching last next = record { first = last.first; last = max last.last next.last }
+
+reaching_members : (last next : Bounds) (c : ℕ) → last.first ≤ next.first → next.first ≤ last.last + 1 →
+    is_within (reaching last next) c ≡ (is_within last c || is_within next c)
+reaching_members last next c order near =
+    grind (arith, nat_tests, order, near, is_within_tells last c, is_within_tells next c, is_within_tells (reaching last next) c)
+
+reaching_interval : (last next : Bounds) → IsInterval last → IsInterval next → IsInterval (reaching last next)
+reaching_interval last next a b = record { ordered = omega (arith, a.ordered); in_range = omega (arith, a.in_range, b.in_range) }
+
+canonical_cons : (low : ℕ) (iv : Bounds) (ivs : List Bounds) → low ≤ iv.first → IsInterval iv → IsTrue (is_canonical_from (iv.last + 2) ivs) →
+    IsTrue (is_canonical_from low (iv ∷ ivs))
+canonical_cons low iv ivs above interval rest =
+    and_from (nat_le low iv.first) _ (le-leb low iv.first above)
+    (and_from (nat_le iv.first iv.last) _ (le-leb iv.first iv.last interval.ordered)
+    (and_from (nat_le iv.last code_point_max) _ (le-leb iv.last code_point_max interval.in_range) rest))
+
+module _ {S : Type 0} (R : S → Bounds → Bounds → Bool → S → Bounds → Bounds → Type 0)
+    (next_interval : (s : S) (x k : Bounds) (b : Bool) (t : S) (x' k' : Bounds) → R s x k b t x' k' → IsInterval x)
+    (next_stays : (s : S) (x k : Bounds) (b : Bool) (t : S) (x' k' : Bounds) → R s x k b t x' k' → x' ≡ x)
+    (reaches : (s : S) (x k : Bounds) (b : Bool) (t : S) (x' k' : Bounds) → R s x k b t x' k' →
+    MatchBool b ((x.first ≤ k.last + 1) × (k' ≡ reaching k x)) ((k.last + 1 < x.first) × (k' ≡ k))) where
+  canonical_behind : (low : ℕ) (s : S) (k : Bounds) (xs ys : List Bounds) → DedupsFrom R s k xs ys → IsInterval k → low ≤ k.first →
+      IsTrue (is_canonical_from low ys)
+  canonical_behind low s k [] ys is interval above =
+      subst (λ (l : List Bounds). IsTrue (is_canonical_from low l)) (sym is) (canonical_cons low k [] above interval refl)
+  canonical_behind low s k (x ∷ xs) ys (true, t, x', k', r, rest) interval above =
+      let joined = (reaches s x k true t x' k' r).1 in
+      canonical_behind low t k' xs ys rest
+      (subst IsInterval (sym joined) (reaching_interval k x interval (next_interval s x k true t x' k' r)))
+      (subst (λ (iv : Bounds). low ≤ iv.first) (sym joined) above)
+  canonical_behind low s k (x ∷ xs) ys (false, t, x', k', r, (zs, rest, is)) interval above =
+      let apart = reaches s x k false t x' k' r in
+      let same = next_stays s x k false t x' k' r in
+      subst (λ (l : List Bounds). IsTrue (is_canonical_from low l)) (sym (is ∙ ap (λ (iv : Bounds). iv ∷ zs) apart.1))
+      (canonical_cons low k zs above interval
+      (canonical_behind (k.last + 2) t x' xs zs rest (subst IsInterval (sym same) (next_interval s x k false t x' k' r))
+      (subst (λ (iv : Bounds). k.last + 2 ≤ iv.first) (sym same) (omega (arith, apart.0)))))
+
+  members_behind : (s : S) (k : Bounds) (xs ys : List Bounds) → DedupsFrom R s k xs ys → Ascends k.first xs → (c : ℕ) →
+      is_member ys c ≡ (is_within k c || is_member xs c)
+  members_behind s k [] ys is order c = ap (λ (l : List Bounds). is_member l c) is ∙ is_member-cons k [] c
+  members_behind s k (x ∷ xs) ys (true, t, x', k', r, rest) order c =
+      let joined = reaches s x k true t x' k' r in
+      members_behind t k' xs ys rest
+      (subst (λ (iv : Bounds). Ascends iv.first xs) (sym joined.1) (ascends_lower x.first k.first xs order.0 order.1)) c
+      ∙ ap (λ b. b || is_member xs c) (ap (λ (iv : Bounds). is_within iv c) joined.1 ∙ reaching_members k x c order.0 joined.0)
+      ∙ sym (or_assoc (is_within k c) (is_within x c) (is_member xs c))
+      ∙ ap (λ b. is_within k c || b) (sym (is_member-cons x xs c))
+  members_behind s k (x ∷ xs) ys (false, t, x', k', r, (zs, rest, is)) order c =
+      let same = next_stays s x k false t x' k' r in
+      ap (λ (l : List Bounds). is_member l c) is ∙ is_member-cons k' zs c
+      ∙ ap₂ ◌||◌ (ap (λ (iv : Bounds). is_within iv c) (reaches s x k false t x' k' r).1)
+      (members_behind t x' xs zs rest (subst (λ (iv : Bounds). Ascends iv.first xs) (sym same) order.1) c
+      ∙ ap (λ (iv : Bounds). is_within iv c || is_member xs c) same ∙ sym (is_member-cons x xs c))
+
+  pub joined_canonical : (s : S) (xs ys : List Bounds) (d : Bounds) → IsDeduped R s xs ys → IsInterval (get_or xs 0 d) → IsCanonical ys
+  joined_canonical s [] ys d is interval = subst IsCanonical (sym is.told) refl
+  joined_canonical s (x ∷ xs) ys d is interval = canonical_behind 0 s x xs ys is.told interval (omega arith)
+
+  pub joined_members : (s : S) (xs ys : List Bounds) → IsDeduped R s xs ys → IsNonDecreasingBy (λ iv. iv.first) xs → (c : ℕ) →
+      is_member ys c ≡ is_member xs c
+  joined_members s [] ys is order c = ap (λ (l : List Bounds). is_member l c) is.told
+  joined_members s (x ∷ xs) ys is order c = members_behind s x xs ys is.told (ascends_from x xs order) c ∙ sym (is_member-cons x xs c)

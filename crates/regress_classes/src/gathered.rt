@@ -1,23 +1,24 @@
 //! What a class holds, gathered in the order in which it is written.
-ghost use Rattle.std.specs.Prelude.{◌≡◌, ℕ, ◌||◌, [], IfOk, OnOk};
-ghost use Rattle.regress_base.specs.Intervals.{is_member, is_within};
+ghost use Rattle.std.specs.Prelude.{◌≡◌, ℕ, ◌+◌, ◌<◌, ◌≤◌, ◌||◌, max, [], IfOk, MatchBool, OnOk};
+ghost use Rattle.regress_base.specs.Intervals.{IsCanonical, IsInterval, is_member, is_within};
+ghost use Rattle.std.specs.List.Sorted.{IsNonDecreasingBy};
 ghost use Rattle.regress_classes.specs.ClassViews.{HasMembers};
 
 use crate::class_escape::{add_intervals, set_is_canonical};
-use regress_base::codepointset::{CodePointSet, Interval};
+use regress_base::codepointset::{CodePointSet, Interval, is_canonical};
 use std::alloc::{AllocError, Global};
 use std::marker::Model;
 
-/// Up to how many intervals each new one is put in its place at once.
+/// Up to how many intervals are put in their place one by one where a set is there already.
 const FEW: usize = 32;
 
-/// The intervals of a class. Where there are many, one that doesn't go to their end is put off until
-/// all are there: in its place it would move those behind it, so that a class in descending order
-/// would take quadratic time.
+/// The first set that a class names, and its intervals in the order in which they are written. They
+/// are sorted once all are there: to put each in its place would move those behind it, so that a class
+/// in descending order would take quadratic time.
 #[derive(Drop)]
 pub(crate) struct Gathered {
     set: CodePointSet,
-    later: Vec<Interval>,
+    list: Vec<Interval>,
 }
 
 impl Model for Gathered {
@@ -26,7 +27,7 @@ impl Model for Gathered {
 
     ghost Value = { List Bounds };
 
-    ghost view = { λ g. g.set ++ g.later.items };
+    ghost view = { λ g. g.set ++ g.list.items };
 }
 
 impl Gathered {
@@ -36,7 +37,7 @@ impl Gathered {
     {
         Gathered {
             set: CodePointSet::new(alloc),
-            later: Vec::new(alloc),
+            list: Vec::new(alloc),
         }
     }
 
@@ -45,11 +46,7 @@ impl Gathered {
         ensures { OnOk result ((c : ℕ) →
             is_member self.new c ≡ (is_member self.old c || is_within interval c)) }
     {
-        if has_place(&self.set, interval) {
-            self.set.add(interval)?;
-        } else {
-            self.later.push(interval)?;
-        }
+        self.list.push(interval)?;
         Ok(())
     }
 
@@ -76,28 +73,71 @@ impl Gathered {
         self.add_all(set.intervals())
     }
 
-    /// The set of all of them. One pass over those in their place; n log n for the others.
+    /// The set of all of them. Linear where they ascend, else n log n.
     pub(crate) fn into_set(self) -> Result<CodePointSet, AllocError>
         ensures { IfOk result (HasMembers self) }
     {
         let mut set = self.set;
-        let mut later = self.later;
-        if !later.is_empty() {
-            later.sort_unstable_by_key(|interval| interval.first());
-            let mut others = CodePointSet::new(*later.allocator());
-            add_intervals(&mut others, &later)?;
-            set.add_set(others)?;
+        let list = self.list;
+        if set.is_empty() {
+            return Ok(set_of_written(list));
+        }
+        if list.len() < FEW {
+            add_intervals(&mut set, &list)?;
+        } else {
+            set.add_set(set_of_written(list))?;
         }
         set_is_canonical(&set);
         Ok(set)
     }
 }
 
-/// Whether adding the interval moves no others, or few.
-fn has_place(set: &CodePointSet, interval: Interval) -> bool {
-    let intervals = set.intervals();
-    match intervals.last() {
-        Some(last) => intervals.len() < FEW || last.first() <= interval.first(),
-        None => true,
+/// The set of intervals in any order. It moves them in place.
+fn set_of_written(list: Vec<Interval>) -> CodePointSet
+    ensures { HasMembers list.items result }
+{
+    if is_canonical(&list) {
+        return CodePointSet::from_sorted_disjoint_intervals(list);
     }
+    let mut list = list;
+    list.sort_unstable_by_key(|interval| interval.first());
+    join_neighbours(&mut list);
+    CodePointSet::from_sorted_disjoint_intervals(list)
+}
+
+/// Joins the intervals between which no code point lies. It moves them in place.
+fn join_neighbours(list: &mut Vec<Interval>)
+    requires { IsNonDecreasingBy (λ interval. interval.first) list.old.items }
+    ensures members { (c : ℕ) → is_member list.new.items c ≡ is_member list.old.items c }
+    ensures canonical { IsCanonical list.new.items }
+{
+    let Some(lowest) = list.first() else {
+        return;
+    };
+    is_interval(*lowest);
+    list.dedup_by(|next, last| reach(last, *next));
+}
+
+/// What the type of an interval says of it, for a proof that needs it. It does nothing else.
+fn is_interval(interval: Interval)
+    ensures { IsInterval interval }
+{
+    let _ = interval.first();
+}
+
+/// Lets the interval reach to the end of the next one, which begins no earlier, if no code point lies
+/// between the two. Answers whether that is so.
+fn reach(last: &mut Interval, next: Interval) -> bool
+    ensures intervals { IsInterval last.old × IsInterval next }
+    ensures reached { MatchBool result
+        ((next.first ≤ last.old.last + 1) × (last.new ≡ record { first = last.old.first; last = max last.old.last next.last }))
+        ((last.old.last + 1 < next.first) × (last.new ≡ last.old)) }
+{
+    if next.first() > last.last() + 1 {
+        return false;
+    }
+    if last.last() < next.last() {
+        *last = Interval::new(last.first(), next.last());
+    }
+    true
 }

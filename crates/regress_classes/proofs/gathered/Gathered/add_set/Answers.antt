@@ -6,5 +6,5 @@ use Rattle.regress_classes.proofs.gathered.Gathered.add_set.Goals as goal
 
 pub returns-then-is_empty : goal.returns-then-is_empty
 returns-then-is_empty c = λ n.
-    set_taken c.self.inside.set c.self.inside.later.items c.args.set n (c.is_empty.ensures.intervals.0 c.if-is_empty.true)
+    set_taken c.self.inside.set c.self.inside.list.items c.args.set n (c.is_empty.ensures.intervals.0 c.if-is_empty.true)
     ∙ ap (λ (l : List Bounds). is_member l n || is_member c.args.set n) c.self.view_is

@@ -1,22 +1,17 @@
--- Those put off are added in another order.
-use Rattle.std.proofs.Common.{◌||◌, List, ap, sym, subst, ◌∙◌}
-use Rattle.std.proofs.lemmas.Bool.{eqb-true}
-use Rattle.regress_base.specs.Intervals.{Bounds, is_member, IsCanonical}
+-- Those behind the set are added to it, one by one or all at once.
+use Rattle.std.proofs.Common.{◌||◌, List, ap, subst, ◌∙◌}
+use Rattle.regress_base.specs.Intervals.{Bounds, is_member}
 use Rattle.regress_classes.specs.ClassViews.{HasMembers}
-use Rattle.regress_classes.proofs.GatheredLemmas.{all_gathered, none_later}
+use Rattle.regress_classes.proofs.GatheredLemmas.{set_and}
 use Rattle.regress_classes.proofs.gathered.Gathered.into_set.Goals as goal
-use Rattle.regress_classes.proofs.gathered.Gathered.into_set.Goals.{then-not-is_empty+in_ok-add_intervals+in_ok-add_set, else-not-is_empty}
+use Rattle.regress_classes.proofs.gathered.Gathered.into_set.Goals.{then-len-lt-FEW+in_ok-add_intervals, else-len-lt-FEW+in_ok-add_set}
 
 pub returns : goal.returns
 returns c =
-    subst (λ (l : List Bounds). HasMembers l c.if-not-is_empty.set) c.self.view_is (elim c.if-not-is_empty.branch [
-      | then-not-is_empty+in_ok-add_intervals+in_ok-add_set w ↦ rw w.set-is
-          (all_gathered c.self.inside.set c.self.inside.later.items w.sort_unstable_by_key.new.self.items w.new-others.result w.add_intervals.new.set
-          w.add_set.new.self w.in_ok-add_set.ensures.canonical w.sort_unstable_by_key.ensures.permutation w.new-others.ensures
-          (λ n. w.in_ok-add_intervals.ensures n
-          ∙ ap (λ (l : List Bounds). is_member w.new-others.result n || is_member l n) w.deref.ensures.value)
-          w.in_ok-add_set.ensures.members)
-      | else-not-is_empty w ↦ rw w.set-is
-          (none_later c.self.inside.set c.self.inside.later.items (subst IsCanonical w.set-is c.set_is_canonical.ensures)
-          (sym c.self.inside.later.ok.0 ∙ eqb-true _ 0 (sym w.if-not-is_empty.ensures)))
-    ])
+    subst (λ (l : List Bounds). HasMembers l c.if-len-lt-FEW.set) c.self.view_is
+    (set_and c.self.inside.set c.self.inside.list.items c.if-len-lt-FEW.set c.set_is_canonical.ensures (elim c.if-len-lt-FEW.branch [
+      | then-len-lt-FEW+in_ok-add_intervals w ↦ rw w.set-is (λ n. w.in_ok-add_intervals.ensures n
+          ∙ ap (λ (l : List Bounds). is_member c.self.inside.set n || is_member l n) w.deref.ensures.value)
+      | else-len-lt-FEW+in_ok-add_set w ↦ rw w.set-is (λ n. w.in_ok-add_set.ensures.members n
+          ∙ ap (λ b. is_member c.self.inside.set n || b) (w.set_of_written-else-len-lt-FEW.ensures.each n))
+    ]))
