@@ -78,10 +78,12 @@ pub consume_terms-loop-self-init : goal.consume_terms-loop-self-init
 consume_terms-loop-self-init t c =
     let around = c.args.around.now in
     let old = c.args.self.now in
-    rw (c.in_ok-push.ensures.items, c.new-parts.ensures.items)
-    ((λ t before x goes_on found b.
-    terms-first (table_in around) (names_around around) (direction_of around) (context_in around) around.depth t before c.args.first x (text old)
-    (counted old) goes_on found b.node b.counts b.fits), omega arith)
+    rw (c.in_ok-push.ensures.items, c.new-parts.ensures.items) (
+      (λ t before x goes_on found b.
+          terms-first (table_in around) (names_around around) (direction_of around) (context_in around) around.depth t before c.args.first x (text old)
+          (counted old) goes_on found b.node b.counts b.fits),
+      omega arith,
+    )
 
 pub consume_terms-loop-self-preserved-in_ok-push-2 : goal.consume_terms-loop-self-preserved-in_ok-push-2
 consume_terms-loop-self-preserved-in_ok-push-2 t c =
@@ -94,13 +96,14 @@ consume_terms-loop-self-preserved-in_ok-push-2 t c =
     let found : term_at ctx (text l.self) ≡ Some ((atom (literal ctx.setting.flags letter), None), rest) =
     ap (term_at ctx) c.in-Some.ensures.some
     ∙ plain_term (table_in around) (names_around around) ctx letter rest c.in-Some.ensures.plain c.in-Some.ensures.alone in
-    rw c.in_ok-push-2.ensures.items
-    ((λ t before x begins first b.
-    terms-step _ _ _ _ _ _ _ (text l.self) (counted l.self) l.parts.items c.in_ok-make_literal.field-0
-    (atom (literal ctx.setting.flags letter), None) rest (counted l.self) (l.invariant.0 t before x begins first b) goes_on found c.in_ok-make_literal.ensures
-    (sym (added-nothing (counted l.self)))
-    (record { groups = omega (arith, l.self.groups_within); loops = omega (arith, l.self.loops_within); levels = omega (arith, c.requires) })),
-    omega (arith, l.invariant.1, ap length c.in-Some.ensures.some))
+    rw c.in_ok-push-2.ensures.items (
+      (λ t before x begins first b.
+          terms-step _ _ _ _ _ _ _ (text l.self) (counted l.self) l.parts.items c.in_ok-make_literal.field-0
+          (atom (literal ctx.setting.flags letter), None) rest (counted l.self) (l.invariant.0 t before x begins first b) goes_on found c.in_ok-make_literal.ensures
+          (sym (added-nothing (counted l.self)))
+          (record { groups = omega (arith, l.self.groups_within); loops = omega (arith, l.self.loops_within); levels = omega (arith, c.requires) })),
+      omega (arith, l.invariant.1, ap length c.in-Some.ensures.some),
+    )
 
 pub consume_terms-returns-in_err-consume_term : goal.consume_terms-returns-in_err-consume_term
 consume_terms-returns-in_err-consume_term t c =
@@ -137,13 +140,14 @@ consume_terms-loop-self-preserved t c =
     let found = built (term_part (table_in around) (names_around around)) (direction_of around) around.depth (counted l.self) c.consume_term.new.self
     (term_at (context_in around) there) c.in_ok-consume_term.field-0 c.in_ok-consume_term.ensures.value in
     let b = found.2 in
-    rw (b.rest, c.in_ok-push-3.ensures.items)
-    ((λ t before x begins first bs.
-    let h = subst (λ (u : Source). TermsSoFar (table_in around) (names_around around) (direction_of around) (context_in around) around.depth
-    t before u (counted l.self) l.parts.items) (sym here) (l.invariant.0 t before x begins first bs) in
-    terms-step _ _ _ _ _ _ _ there (counted l.self) l.parts.items c.in_ok-consume_term.field-0 found.0.0 found.0.1
-    (counted c.consume_term.new.self) h goes_on found.1 b.node b.counts b.fits),
-    omega (arith, l.invariant.1, term_at-shortens (context_in around) there found.0 found.1, ap length here))
+    rw (b.rest, c.in_ok-push-3.ensures.items) (
+      (λ t before x begins first bs.
+          let h = subst (λ (u : Source). TermsSoFar (table_in around) (names_around around) (direction_of around) (context_in around) around.depth
+          t before u (counted l.self) l.parts.items) (sym here) (l.invariant.0 t before x begins first bs) in
+          terms-step _ _ _ _ _ _ _ there (counted l.self) l.parts.items c.in_ok-consume_term.field-0 found.0.0 found.0.1
+          (counted c.consume_term.new.self) h goes_on found.1 b.node b.counts b.fits),
+      omega (arith, l.invariant.1, term_at-shortens (context_in around) there found.0 found.1, ap length here),
+    )
 
 pub consume_terms-returns : goal.consume_terms-returns
 consume_terms-returns t c =
