@@ -5,10 +5,7 @@ ghost use Rattle.regress_base.specs.Intervals.{is_member, IsCanonical};
 ghost use Rattle.regress_classes.specs.ClassRows.{class_letter, members_of, class_members};
 ghost use Rattle.regress_classes.specs.ClassViews.{HasMembers};
 
-use regress_base::charclasses::{
-    CharacterClassType, digit_intervals, line_terminator_intervals, white_space_intervals,
-    word_intervals,
-};
+use regress_base::charclasses::{CharacterClassType, digit_intervals, word_intervals};
 use regress_base::codepointset::{CodePointSet, Interval};
 use std::alloc::{AllocError, Global};
 
@@ -39,14 +36,25 @@ pub fn class_escape_set(alloc: Global, kind: CharacterClassType) -> Result<CodeP
     }
 }
 
-/// The members of `\s`: white space and line terminators.
+/// The members of `\s`: white space and line terminators, in one list in order.
 fn spaces(alloc: Global) -> Result<CodePointSet, AllocError>
     ensures { IfOk result (HasMembers (white_space ++ line_terminators)) }
 {
-    let mut set = set_of(alloc, &white_space_intervals())?;
-    add_intervals(&mut set, &line_terminator_intervals())?;
-    set_is_canonical(&set);
-    Ok(set)
+    set_of(
+        alloc,
+        &[
+            Interval::new(0x9, 0xD),
+            Interval::new(0x20, 0x20),
+            Interval::new(0xA0, 0xA0),
+            Interval::new(0x1680, 0x1680),
+            Interval::new(0x2000, 0x200A),
+            Interval::new(0x2028, 0x2029),
+            Interval::new(0x202F, 0x202F),
+            Interval::new(0x205F, 0x205F),
+            Interval::new(0x3000, 0x3000),
+            Interval::new(0xFEFF, 0xFEFF),
+        ],
+    )
 }
 
 /// The set of these intervals, copied at once.
