@@ -1,5 +1,6 @@
 -- What a pattern matches, over the characters of a text (ECMA-262, CompileSubpattern).
-use Rattle.std.specs.Prelude.{ℕ, ◌+◌, ◌-◌, Bool, not, ◌&&◌, ◌||◌, List, [], ◌∷◌, length, Option, Some, None, if◌then◌else◌, nat_le}
+use Rattle.std.specs.Prelude.{ℕ, zero, suc, ◌+◌, ◌-◌, ◌==◌, Bool, not, ◌&&◌, ◌||◌, List, [], ◌∷◌, ◌++◌, length, filter, Option, Some, None, if◌then◌else◌}
+use Rattle.std.specs.List.{concat}
 use Rattle.regress_base.specs.Intervals.{Bounds, is_member}
 use Rattle.regress_base.specs.declared.types.Flags.{Flags}
 use Rattle.regress_tree.specs.declared.ir.node.Quantifier.{Quantifier}
@@ -75,15 +76,15 @@ abbrev pub times_steps : (length : ℕ) → Option Quantifier → (start end : �
 times_steps length None start end body = body
 times_steps length (Some q) start end body = repeat (length + 1) q start end body
 
--- before the first that is no longer
-abbrev pub inserted : List ℕ → List (List ℕ) → List (List ℕ)
-inserted s [] = s ∷ []
-inserted s (other ∷ ss) = if nat_le (length other) (length s) then s ∷ other ∷ ss else other ∷ inserted s ss
+-- those of fewer code points than n: the strings of n - 1, and then the shorter ones
+abbrev pub shorter_than : ℕ → List (List ℕ) → List (List ℕ)
+shorter_than zero ss = []
+shorter_than (suc n) ss = filter (λ s. length s == n) ss ++ shorter_than n ss
 
--- the strings of a class in the order in which they are tried: longest first, equal lengths as they were read
+-- The strings of a class in the order in which they are tried: longest first, equal lengths as they were read. None is
+-- longer than all together.
 abbrev pub longest_first : List (List ℕ) → List (List ℕ)
-longest_first [] = []
-longest_first (s ∷ ss) = inserted s (longest_first ss)
+longest_first ss = shorter_than (length (concat ss) + 1) ss
 
 -- the names are those of all groups of the whole pattern
 module _ (setting : Setting) (names : List (Option Name)) (text : List ℕ) where
