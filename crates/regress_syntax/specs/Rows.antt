@@ -98,12 +98,6 @@ allows unicode (opens kind) = group_allows unicode kind
 abbrev pub begins_number : ℕ → Bool
 begins_number = is_between (char "1") (char "9")
 
--- the number of a group, by the whole run of digits, where there are so many
-abbrev pub group_number_at : (groups : ℕ) → Source → Found ℕ
-group_number_at groups t =
-    let group = number 10 (front is_decimal t) in
-    if nat_le group groups then Some (group, behind is_decimal t) else None
-
 -- whether some group has a name, and whether one has this name
 abbrev pub has_names : List (Option Name) → Bool
 has_names names = list_any is_some names

@@ -3,7 +3,8 @@ ghost use Rattle.std.specs.Prelude.{◌≡◌, ◌||◌, true, option_map, IfOk,
 ghost use Rattle.regress_lexical.specs.Fault.{Tells};
 ghost use Rattle.regress_lexical.specs.Escapes.{begins_with_digit};
 ghost use Rattle.regress_lexical.specs.Reads.{ReadsAs};
-ghost use Rattle.regress_syntax.specs.Rows.{has_names, group_number_at, named_at};
+ghost use Rattle.regress_syntax.specs.Numbering.{group_number_at};
+ghost use Rattle.regress_syntax.specs.Rows.{has_names, named_at};
 ghost use Rattle.regress_syntax.specs.Views.{context_of, AreReferences};
 ghost use Rattle.regress_lexical.specs.Views.{source};
 
