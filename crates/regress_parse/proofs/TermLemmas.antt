@@ -10,7 +10,7 @@ use Rattle.std.proofs.lemmas.Option.{same_Some, cond_some}
 use Rattle.regress_unicode.specs.Table.{Table}
 use Rattle.regress_tree.specs.declared.ir.node.Quantifier.{Quantifier}
 use Rattle.regress_lexical.specs.Source.{Source, Found, ◌>>=◌, found_map, opening, closing, is_at, is_plain}
-use Rattle.regress_lexical.specs.Quantifiers.{may_begin}
+use Rattle.regress_lexical.specs.Beginnings.{may_begin}
 use Rattle.regress_syntax.specs.Syntax.{Name, Atom, Group, Pattern, Item, one, either, literal, atom, group, Counts, added, counts_of_item, opened_by, levels, levels_of_atom}
 use Rattle.regress_syntax.specs.Rows.{Context, context_inside, Head, single, opens, head_of_item, allows, group_at, head_at, times_at}
 use Rattle.regress_lexical.proofs.laws.Sources.{found_then, from_each, to_each, on_syntax_then}
