@@ -28,10 +28,6 @@ pub front_is : (k : ℕ) (t rest : Source) → is_at k t ≡ true → rest ≡ d
 front_is k [] rest e same = cc
 front_is k (c ∷ t) rest e same = ap₂ (λ d u. d ∷ u) (eqb-true c k e) (sym same)
 
-pub ok_whatever : (r : Result Node ParseFault) (P : Type 0) → P → IfOk r (λ node. P)
-ok_whatever (Ok node) P h = h
-ok_whatever (Err fault) P h = tt
-
 levels-positive : (p : Pattern) → 1 ≤ levels p
 levels-positive (one ts) = omega arith
 levels-positive (either ts p) = omega arith
