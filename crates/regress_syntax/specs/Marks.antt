@@ -1,6 +1,5 @@
 -- The parentheses, bars and classes of a syntax tree: what a scan that knows no grammar can tell of a pattern.
 use Rattle.std.specs.Prelude.{ℕ, List, [], ◌∷◌, ◌++◌, Option}
-use Rattle.regress_syntax.specs.Syntax as Syntax
 use Rattle.regress_syntax.specs.Syntax.{Name, Atom, class_set, Group, capture, Pattern, Terms, Item, one, either, no_terms, more_terms, atom, group}
 
 -- what tells the groups of a pattern apart

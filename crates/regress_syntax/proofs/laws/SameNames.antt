@@ -1,11 +1,10 @@
 -- The rule on names, on the syntax tree, says of its groups what the parentheses and bars tell: of two groups of one name
 -- some disjunction holds both in different alternatives.
-use Rattle.std.proofs.Common.{◌≡◌, ℕ, ◌+◌, ◌≤◌, Bool, true, false, not, ◌==◌, ◌&&◌, ◌||◌, List, [], ◌∷◌, ◌++◌, map, reverse, Option, refl, sym, ap, ap₂, ◌∙◌, arith, append_assoc, append-nil}
+use Rattle.std.proofs.Common.{◌≡◌, ℕ, ◌+◌, ◌≤◌, Bool, true, false, not, ◌&&◌, ◌||◌, List, [], ◌∷◌, ◌++◌, map, reverse, Option, refl, sym, ap, ap₂, ◌∙◌, arith, append_assoc, append-nil}
 use Rattle.std.proofs.lemmas.Bool.{and_right, and_from, or_left, not_from_false}
 use Rattle.std.proofs.lemmas.List.{map-append, reverse-append}
 use Rattle.std.specs.List.{list_all, list_any}
 use Rattle.regress_syntax.specs.Syntax.{Name, Atom, literal, dot, anchor, boundary, class_escape, class, class_set, string_property, back_reference, Group, grouping, modified, capture, look, Pattern, Terms, Item, one, either, no_terms, more_terms, atom, group, names, names_of_group, names_of_terms, names_of_item}
-use Rattle.regress_syntax.specs.Marks as Marks
 use Rattle.regress_syntax.specs.Marks.{Mark, closes, next, mark_of_group, marks_of_atom, marks_of, marks_of_terms, marks_of_item}
 use Rattle.regress_syntax.specs.SameNames.{same_name, share_name, are_names_apart, are_names_apart_in_terms, are_names_apart_in_item, NoneConflict}
 use Rattle.regress_syntax.specs.Paths.{Level, Path, Place, at_the_start, enter, CaptureAt, groups_by, are_alternatives, conflict, are_apart, are_marks_apart}
