@@ -9,7 +9,7 @@ max_capture_groups = 65535
 abbrev pub max_loops : ℕ
 max_loops = 65535
 
--- how many levels: the whole pattern is one, and so is each group, and with the flag v each class
+-- how many levels: the whole pattern is one, and so is each group, and with the flag v each class that lies in another
 abbrev pub max_nesting_depth : ℕ
 max_nesting_depth = 256
 

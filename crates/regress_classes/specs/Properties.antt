@@ -4,7 +4,7 @@ use Rattle.std.specs.Option.{option_or}
 use Rattle.std.specs.Str.{bytes_eq}
 use Rattle.regress_base.specs.Intervals.{Bounds}
 use Rattle.regress_unicode.specs.Table.{Table, Named, named}
-use Rattle.regress_lexical.specs.Source.{Source, Found, ◌>>=◌, is_at}
+use Rattle.regress_lexical.specs.Source.{Source, Found, ◌>>=◌, char, is_at}
 use Rattle.regress_lexical.specs.Digits.{is_decimal, is_letter, front, behind}
 
 -- what a name stands for: code points, or strings
@@ -19,7 +19,7 @@ points_of (of_strings written) = None
 
 -- names and values are made of these
 abbrev pub is_property_character : ℕ → Bool
-is_property_character c = is_letter c || is_decimal c || c == 95
+is_property_character c = is_letter c || is_decimal c || c == char "_"
 
 -- the list of the table with such a name (ECMA-262, the non-binary properties)
 abbrev pub list_named : Table → List ℕ → Option (List (Named (List Bounds)))
@@ -46,7 +46,7 @@ value_in value (Some entries) = option_map of_points (named value entries)
 -- the `}`
 abbrev pub closed_property : Option Property → Source → Found Property
 closed_property None t = None
-closed_property (Some property) t = if is_at 125 t then Some (property, drop 1 t) else None
+closed_property (Some property) t = if is_at (char "}") t then Some (property, drop 1 t) else None
 
 -- a name or a value: all such characters at the front, one at least (ECMA-262, UnicodePropertyName, UnicodePropertyValue)
 abbrev pub property_word_at : Source → Found (List ℕ)
@@ -62,8 +62,8 @@ listed_value_at table name t = property_word_at t >>= λ (value, rest). closed_p
 abbrev pub braced_property_at : (sets : Bool) → Table → Source → Found Property
 braced_property_at sets table t =
     property_word_at t >>= λ (word, rest).
-    if is_at 61 rest then listed_value_at table word (drop 1 rest) else closed_property (lone_value sets table word) rest
+    if is_at (char "=") rest then listed_value_at table word (drop 1 rest) else closed_property (lone_value sets table word) rest
 
 -- behind `\p` or `\P`; `sets` is the flag v
 unfoldable pub property_at : (sets : Bool) → Table → Source → Found Property
-property_at sets table t = if is_at 123 t then braced_property_at sets table (drop 1 t) else None
+property_at sets table t = if is_at (char "{") t then braced_property_at sets table (drop 1 t) else None

@@ -48,7 +48,6 @@ pub use Rattle.regress_lexical.specs.Fault
 pub use Rattle.regress_syntax.specs.Syntax
 pub use Rattle.regress_syntax.specs.Grammar
 pub use Rattle.regress_syntax.specs.Meaning
-pub use Rattle.regress_syntax.specs.Marks
 pub use Rattle.regress_syntax.specs.SameNames
 pub use Rattle.regress_parse.specs.TreeOf
 pub use Rattle.regress_parse.specs.Accepted

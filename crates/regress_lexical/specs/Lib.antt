@@ -2,6 +2,7 @@ pub mod Source
 pub mod Digits
 pub mod Escapes
 pub mod Quantifiers
+pub mod Beginnings
 pub mod Modifiers
 pub mod Fault
 pub mod Reads

@@ -1,7 +1,7 @@
 -- The quantifier at the front of a source (ECMA-262, Quantifier).
-use Rattle.std.specs.Prelude.{ℕ, ◌-◌, ◌^◌, Bool, true, false, not, min, [], ◌∷◌, length, drop, Option, Some, None, if◌then◌else◌, nat_le, ◌==◌}
+use Rattle.std.specs.Prelude.{ℕ, ◌-◌, ◌^◌, Bool, true, not, min, [], ◌∷◌, length, drop, Option, Some, None, if◌then◌else◌, nat_le, ◌==◌}
 use Rattle.regress_tree.specs.declared.ir.node.Quantifier.{Quantifier}
-use Rattle.regress_lexical.specs.Source.{Source, Found, ◌>>=◌, char, is_at, is_one_of, question_mark}
+use Rattle.regress_lexical.specs.Source.{Source, Found, ◌>>=◌, char, is_at, question_mark}
 use Rattle.regress_lexical.specs.Digits.{is_decimal, number, front, behind}
 
 -- how often at least and at most, none being without a limit
@@ -34,11 +34,6 @@ times_by c t =
     else if c == question_mark then Some ((0, Some 1), t)
     else if c == char "{" then count_at t >>= most_at
     else None
-
--- one of these code points begins each of them
-abbrev pub may_begin : Source → Bool
-may_begin [] = false
-may_begin (c ∷ t) = is_one_of "*+?{" c
 
 -- `?` behind it makes it lazy
 abbrev pub greedy_or_lazy : Times × Source → Found Quantifier

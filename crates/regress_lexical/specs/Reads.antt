@@ -1,8 +1,13 @@
 -- What a call that reads answers: what the source has at its front, or a fault where it has nothing.
-use Rattle.std.specs.Prelude.{◌≡◌, Some, None, Result, Ok, Err}
+use Rattle.std.specs.Borrow.{Bor}
+use Rattle.std.specs.Prelude.{◌≡◌, ℕ, List, Option, Some, None, option_map, Result, Ok, Err}
 use Rattle.regress_lexical.specs.declared.fault.ParseFault.{ParseFault}
 use Rattle.regress_lexical.specs.Fault.{OnSyntax}
 use Rattle.regress_lexical.specs.Source.{Source, Found}
+
+-- a value and the slice behind it, as they are found
+abbrev pub answered : {A : Type 0} → Option (A × Bor (List ℕ)) → Found A
+answered result = option_map (λ found. (found.0, found.1.now)) result
 
 -- it answers what is found, and stands behind it, or a fault of the pattern where nothing is
 abbrev pub Reads : {A B : Type 0} → (A → B) → Source → Result A ParseFault → Found B → Type 0

@@ -51,7 +51,7 @@ pub struct Cursor<'a> {
 
 impl Cursor<'_> {
     ghost use Rattle.std.specs.Prelude.{◌≡◌, [], ◌∷◌, drop, if◌then◌else◌, IfSome, IfNone, OnOk, OnErr, true, false};
-    ghost use Rattle.regress_lexical.specs.Quantifiers.{may_begin};
+    ghost use Rattle.regress_lexical.specs.Beginnings.{may_begin};
     ghost use Rattle.regress_lexical.specs.Source.{is_at, ends_alternative, closing};
     ghost use Rattle.regress_lexical.specs.Views.{source};
 

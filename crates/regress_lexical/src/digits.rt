@@ -4,6 +4,7 @@ ghost use Rattle.std.specs.List.{prefix_len, list_all};
 ghost use Rattle.regress_lexical.specs.Source.{is_at};
 ghost use Rattle.regress_lexical.specs.Digits.{is_between, is_decimal, is_octal, is_letter, is_hex, digit, control, number_from, front, behind, hex_at};
 ghost use Rattle.regress_lexical.specs.Quantifiers.{count_at};
+ghost use Rattle.regress_lexical.specs.Reads.{answered};
 
 /// What stands at the front of a source, and the source behind it; None where it doesn't stand there.
 pub type Read<'a, T> = Option<(T, &'a [u32])>;
@@ -134,7 +135,7 @@ fn read_on<'a>(first: usize, source: &'a [u32]) -> (usize, &'a [u32])
 
 /// A decimal number, which saturates once all its digits are read.
 pub fn read_count<'a>(source: &'a [u32]) -> Read<'a, usize>
-    ensures { option_map (λ found. (found.0, found.1.now)) result ≡ count_at source.now }
+    ensures { answered result ≡ count_at source.now }
 {
     let (c, rest) = read_decimal(source)?;
     Some(read_on(digit(c) as usize, rest))
@@ -151,7 +152,7 @@ fn all_hex(digits: &[u32]) -> bool
 #[tactic(auto, using(crate::proofs::laws::Digits::hex_fits))]
 pub fn read_hex<'a>(source: &'a [u32], count: usize) -> Read<'a, u32>
     requires { count ≤ 4 }
-    ensures { option_map (λ found. (found.0, found.1.now)) result ≡ hex_at count source.now }
+    ensures { answered result ≡ hex_at count source.now }
 {
     if source.len() < count {
         return None;

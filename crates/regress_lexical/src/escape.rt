@@ -1,5 +1,5 @@
 //! Escapes of one character.
-ghost use Rattle.std.specs.Prelude.{◌≡◌, ◌≤◌, true, ◌∷◌, length, drop, Some, None, option_map, if◌then◌else◌, ◌&&◌, ◌+◌, nat_le, All, IfSome};
+ghost use Rattle.std.specs.Prelude.{◌≡◌, ◌≤◌, true, ◌∷◌, length, drop, Some, None, if◌then◌else◌, ◌&&◌, ◌+◌, nat_le, All, IfSome};
 ghost use Rattle.regress_lexical.specs.Escapes.{
   braced_hex_at,
   unit_at,
@@ -17,6 +17,7 @@ ghost use Rattle.regress_lexical.specs.Escapes.{
 };
 ghost use Rattle.regress_lexical.specs.Source.{IsCodePoint, char};
 ghost use Rattle.regress_lexical.specs.Digits as digits_spec;
+ghost use Rattle.regress_lexical.specs.Reads.{answered};
 
 use crate::digits::{
     Read, after, control, digit, hex_length, is_decimal, is_letter, is_octal, number_from,
@@ -53,7 +54,7 @@ fn is_syntax_character(c: u32) -> bool
 /// Hexadecimal digits, one at least, and `}`, for a code point.
 #[tactic(auto, using(crate::proofs::laws::Digits::front_taken, crate::proofs::laws::Digits::behind_dropped))]
 fn read_braced_hex<'a>(source: &'a [u32]) -> Read<'a, u32>
-    ensures { option_map (λ found. (found.0, found.1.now)) result ≡ braced_hex_at source.now }
+    ensures { answered result ≡ braced_hex_at source.now }
 {
     let (digits, rest) = source.split_at(hex_length(source));
     let rest = after(rest, '}')?;
@@ -67,14 +68,14 @@ fn read_braced_hex<'a>(source: &'a [u32]) -> Read<'a, u32>
 /// `\u` and four digits.
 #[tactic(auto, using(crate::proofs::laws::Digits::drop_one_more))]
 fn read_unit<'a>(source: &'a [u32]) -> Read<'a, u32>
-    ensures { option_map (λ found. (found.0, found.1.now)) result ≡ unit_at source.now }
+    ensures { answered result ≡ unit_at source.now }
 {
     read_hex(after(after(source, '\\')?, 'u')?, 4)
 }
 
 /// The second half of a surrogate pair.
 fn read_second_half<'a>(source: &'a [u32]) -> Read<'a, u32>
-    ensures value { option_map (λ found. (found.0, found.1.now)) result ≡ second_half_at source.now }
+    ensures value { answered result ≡ second_half_at source.now }
     ensures first { IfSome result (λ found. 0xDC00 ≤ found.0) }
     ensures last { IfSome result (λ found. found.0 ≤ 0xDFFF) }
 {
@@ -101,7 +102,7 @@ fn with_second_half(high: u32, source: &[u32]) -> (u32, &[u32])
 /// The forms of `\u`, behind the u.
 #[tactic(auto, unfolding(crate::specs::Escapes::unicode_at))]
 pub fn read_unicode<'a>(source: &'a [u32]) -> Read<'a, u32>
-    ensures { option_map (λ found. (found.0, found.1.now)) result ≡ unicode_at source.now }
+    ensures { answered result ≡ unicode_at source.now }
 {
     if let Some(rest) = after(source, '{') {
         return read_braced_hex(rest);
@@ -112,7 +113,7 @@ pub fn read_unicode<'a>(source: &'a [u32]) -> Read<'a, u32>
 
 /// What the letter of an escape is where no value can be read: itself without the flag u, and nothing with it.
 fn itself<'a>(c: u32, source: &'a [u32], unicode: bool) -> Read<'a, u32>
-    ensures { option_map (λ found. (found.0, found.1.now)) result ≡ or_itself unicode c source.now None }
+    ensures { answered result ≡ or_itself unicode c source.now None }
 {
     if unicode {
         return None;
@@ -162,7 +163,7 @@ fn begins_with_digit(source: &[u32]) -> bool
 
 /// A letter behind `c`.
 fn read_control<'a>(source: &'a [u32]) -> Read<'a, u32>
-    ensures { option_map (λ found. (found.0, found.1.now)) result ≡ control_at source.now }
+    ensures { answered result ≡ control_at source.now }
 {
     match source {
         [c, rest @ ..] if is_letter(*c) => Some((control(*c), rest)),
@@ -172,7 +173,7 @@ fn read_control<'a>(source: &'a [u32]) -> Read<'a, u32>
 
 /// An escape that begins with `c` and is none of one letter.
 fn read_other<'a>(c: u32, source: &'a [u32], unicode: bool) -> Read<'a, u32>
-    ensures { option_map (λ found. (found.0, found.1.now)) result ≡ other_escape unicode c source.now }
+    ensures { answered result ≡ other_escape unicode c source.now }
 {
     if c == u32::from('c') {
         read_control(source)
@@ -194,7 +195,7 @@ fn read_other<'a>(c: u32, source: &'a [u32], unicode: bool) -> Read<'a, u32>
 /// What an escape stands for, behind its backslash (ECMA-262, CharacterEscape with annex B).
 #[tactic(auto, unfolding(crate::specs::Escapes::escape_at))]
 pub fn read_escape<'a>(source: &'a [u32], unicode: bool) -> Read<'a, u32>
-    ensures value { option_map (λ found. (found.0, found.1.now)) result ≡ escape_at unicode source.now }
+    ensures value { answered result ≡ escape_at unicode source.now }
     ensures in_range { All IsCodePoint source.now → IfSome result (λ found. IsCodePoint found.0) }
 {
     let (c, rest) = source.split_first()?;

@@ -1,6 +1,8 @@
 //! Quantifiers.
-ghost use Rattle.std.specs.Prelude.{◌≡◌, option_map};
-ghost use Rattle.regress_lexical.specs.Quantifiers.{most_at, times_by, may_begin, quantifier_at, is_ordered};
+ghost use Rattle.std.specs.Prelude.{◌≡◌};
+ghost use Rattle.regress_lexical.specs.Beginnings.{may_begin};
+ghost use Rattle.regress_lexical.specs.Quantifiers.{most_at, times_by, quantifier_at, is_ordered};
+ghost use Rattle.regress_lexical.specs.Reads.{answered};
 
 use crate::digits::{Read, after, read_count};
 use regress_tree::ir::Quantifier;
@@ -10,7 +12,7 @@ type Times = (usize, Option<usize>);
 
 /// Behind the least number: `}`, `,}`, or `,`, the greatest number and `}`.
 fn read_most<'a>(least: usize, source: &'a [u32]) -> Read<'a, Times>
-    ensures { option_map (λ found. (found.0, found.1.now)) result ≡ most_at (least, source.now) }
+    ensures { answered result ≡ most_at (least, source.now) }
 {
     let Some(source) = after(source, ',') else {
         return Some(((least, Some(least)), after(source, '}')?));
@@ -24,7 +26,7 @@ fn read_most<'a>(least: usize, source: &'a [u32]) -> Read<'a, Times>
 
 /// `*`, `+`, `?` or numbers in braces, of which `c` is the first code point.
 fn read_times<'a>(c: u32, source: &'a [u32]) -> Read<'a, Times>
-    ensures { option_map (λ found. (found.0, found.1.now)) result ≡ times_by c source.now }
+    ensures { answered result ≡ times_by c source.now }
 {
     if c == u32::from('*') {
         Some(((0, None), source))
@@ -58,7 +60,7 @@ pub fn may_begin(source: &[u32]) -> bool
 /// Reads a quantifier (ECMA-262, Quantifier).
 #[tactic(auto, unfolding(crate::specs::Quantifiers::quantifier_at))]
 pub fn read_quantifier<'a>(source: &'a [u32]) -> Read<'a, Quantifier>
-    ensures { option_map (λ found. (found.0, found.1.now)) result ≡ quantifier_at source.now }
+    ensures { answered result ≡ quantifier_at source.now }
 {
     let (c, rest) = source.split_first()?;
     let ((min, max), rest) = read_times(*c, rest)?;

@@ -9,9 +9,10 @@ use Rattle.regress_lexical.specs.Source.{Source}
 use Rattle.regress_syntax.specs.Syntax.{Name, Pattern, nothing_counted, counts, names}
 use Rattle.regress_syntax.specs.Rows.{Context}
 use Rattle.regress_syntax.specs.Grammar.{IsPattern}
-use Rattle.regress_syntax.specs.Marks.{marks_of}
-use Rattle.regress_syntax.specs.SameNames.{NoneConflict, are_names_apart}
+use Rattle.regress_syntax.specs.SameNames.{NoneConflict}
+use Rattle.regress_syntax.specs.Paths.{NoMarksConflict, are_marks_apart}
 use Rattle.regress_syntax.specs.Scan.{GivesMarks, plain, marks, named_by, deepest, IsRefusedByMarks}
+use Rattle.regress_syntax.proofs.laws.SameNames.{apart_by_marks}
 use Rattle.regress_syntax.proofs.laws.Scan.{named_by-pattern, deepest-whole}
 use Rattle.regress_parse.specs.Reader.{pattern_at}
 use Rattle.regress_parse.specs.Parsing.{Fits, pattern_part}
@@ -78,16 +79,16 @@ module _ (setting : Setting) (t : Source) (gives : GivesMarks setting.flags.unic
   pub marks-refuse : IsRefusedByMarks (marks setting.flags.unicode_sets setting.table plain t) → (p : Pattern) → IsAccepted setting t p → ⊥
   marks-refuse (inl conflicts) p h =
       let same = gives (own_context setting p) p refl refl h.derived in
-      false≢true (sym conflicts ∙ ap are_names_apart (sym same) ∙ h.names)
+      false≢true (sym conflicts ∙ ap are_marks_apart (sym same) ∙ apart_by_marks p ∙ h.names)
   marks-refuse (inr deep) p h =
       let same = gives (own_context setting p) p refl refl h.derived in
       omega (arith, deep, ap (deepest 1) same, deepest-whole p, h.limits.levels)
 
   -- the names of a pattern that is read are apart where the scan's are
-  pub marks-apart : (p : Pattern) → NoneConflict (marks setting.flags.unicode_sets setting.table plain t) → IsDerived setting t p →
-      NoneConflict (marks_of p)
+  pub marks-apart : (p : Pattern) → NoMarksConflict (marks setting.flags.unicode_sets setting.table plain t) → IsDerived setting t p →
+      NoneConflict p
   marks-apart p apart h =
-      subst NoneConflict (sym (gives (own_context setting p) p refl refl h)) apart
+      sym (apart_by_marks p) ∙ ap are_marks_apart (gives (own_context setting p) p refl refl h) ∙ apart
 
 module _ (setting : Setting) (names : List (Option Name)) where
   pub limits-fit : (p : Pattern) → IsWithinLimits p → Fits nothing_counted 0 (pattern_part setting.table names p)

@@ -174,7 +174,7 @@ marks_behind_a_class = (refl, refl)
 -- whether the source is a pattern whose names conflict nowhere
 unfoldable names_apart : Source → Option Bool
 unfolding pattern_of
-names_apart source = option_map (λ p. are_names_apart (marks_of p)) (pattern_of named source)
+names_apart source = option_map are_names_apart (pattern_of named source)
 
 one_name_in_two_alternatives : names_apart (codes "(?<a>x)|(?<a>y)") ≡ Some true
 unfolding names_apart

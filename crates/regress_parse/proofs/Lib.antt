@@ -10,6 +10,7 @@ pub mod AlternativesLemmas
 pub mod TermLemmas
 pub mod ParserLemmas
 pub mod AcceptedLemmas
+pub mod FormerRule
 pub mod PartLemmas
 pub mod MeaningLemmas
 pub mod GroupLemmas

@@ -1,13 +1,15 @@
 -- A stable sort by falling length is the only one that there is.
-use Rattle.std.proofs.Common.{◌≡◌, ℕ, ◌+◌, ◌<◌, ◌≤◌, inl, inr, Bool, true, false, cond, ◌&&◌, ◌==◌, nat_le, List, [], ◌∷◌, length, filter, get_or, Vec, All, refl, sym, ap, ap₂, ◌∙◌, arith, leb-true, add-one}
-use Rattle.std.proofs.lemmas.List.Elements.{All-nil, All-cons, All-head, All-tail, All-weaker, filter_agree}
+use Rattle.std.proofs.Common.{◌≡◌, ℕ, zero, suc, ◌+◌, ◌<◌, ◌≤◌, inl, inr, Bool, true, false, cond, ◌==◌, List, [], ◌∷◌, ◌++◌, length, filter, get_or, Vec, All, refl, sym, ap, ap₂, ◌∙◌, subst, arith, add-one, append-nil}
+use Rattle.std.proofs.lemmas.List.Elements.{All-nil, All-cons, All-head, All-tail, All-append, All-filter, All-weaker, filter-append, filter_agree}
+use Rattle.std.proofs.lemmas.List.{length-append}
+use Rattle.std.specs.List.{concat}
 use Rattle.std.proofs.lemmas.Bool.Decides.{nat_tests}
-use Rattle.std.proofs.lemmas.Bool.{cases_order}
+use Rattle.std.proofs.lemmas.Bool.{cases_order, cases_lt}
 use Rattle.std.specs.List.Sorted.{ties, IsSortedBy, IsStableBy}
 use Rattle.std.specs.Ordering.{nat_cmp, is_lt}
 use Rattle.std.specs.declared.alloc.Global.{Global}
 use Rattle.std.specs.declared.cmp.Reverse.{Reverse}
-use Rattle.regress_syntax.specs.Meaning.{inserted, longest_first}
+use Rattle.regress_syntax.specs.Meaning.{shorter_than, longest_first}
 use Rattle.regress_classes.specs.ClassViews.{strings_of}
 
 abbrev IsShorter : ℕ → List ℕ → Type 0
@@ -70,71 +72,102 @@ one_falling P (s ∷ ss) (u ∷ us) hs ks f g same =
       | inr (inr more) ↦ let e = sym (longer_than_all (length s) u us more g) ∙ sym h ∙ of_own_length s ss in cc
     ]
 
--- ---- insertion
+-- ---- by lengths that fall
 
-All-inserted : (P : List ℕ → Type 0) (s : List ℕ) (ss : List (List ℕ)) → P s → All P ss → All P (inserted s ss)
-All-inserted P s [] h hs = All-cons P s [] h hs
-All-inserted P s (other ∷ ss) h hs =
-    elim (nat_le (length other) (length s)) as (λ b. All P (cond b (s ∷ other ∷ ss) (other ∷ inserted s ss))) [
-      | true ↦ All-cons P s (other ∷ ss) h hs
-      | false ↦ All-cons P other (inserted s ss) (All-head P other ss hs) (All-inserted P s ss h (All-tail P other ss hs))
-    ]
+All-shorter_than : (P : List ℕ → Type 0) (n : ℕ) (ss : List (List ℕ)) → All P ss → All P (shorter_than n ss)
+All-shorter_than P zero ss hs = All-nil P
+All-shorter_than P (suc n) ss hs =
+    All-append P (of_length n ss) (shorter_than n ss) (All-filter (λ s. length s == n) P ss hs) (All-shorter_than P n ss hs)
 
 pub All-longest_first : (P : List ℕ → Type 0) (ss : List (List ℕ)) → All P ss → All P (longest_first ss)
-All-longest_first P [] hs = hs
-All-longest_first P (s ∷ ss) hs =
-    All-inserted P s (longest_first ss) (All-head P s ss hs) (All-longest_first P ss (All-tail P s ss hs))
+All-longest_first P ss hs = All-shorter_than P (length (concat ss) + 1) ss hs
 
-inserted_falls : (s : List ℕ) (ss : List (List ℕ)) → AreFalling ss → AreFalling (inserted s ss)
-inserted_falls s [] f = (All-nil (IsNoLonger (length s)), tt)
-inserted_falls s (other ∷ ss) f = by (nat_le (length other) (length s)) refl (inserted_falls s ss f.1)
+abbrev HasLength : ℕ → List ℕ → Type 0
+HasLength n s = length s ≡ n
+
+all_of_length : (n : ℕ) (ss : List (List ℕ)) → All (HasLength n) (of_length n ss)
+all_of_length n [] = All-nil (HasLength n)
+all_of_length n (s ∷ ss) = by (length s == n) refl (all_of_length n ss)
   where
-    by : (b : Bool) → nat_le (length other) (length s) ≡ b → AreFalling (inserted s ss) →
-        AreFalling (cond b (s ∷ other ∷ ss) (other ∷ inserted s ss))
-    by true e rest =
-        let le : length other ≤ length s = leb-true _ _ e in (
-          All-cons (IsNoLonger (length s)) other ss le
-              (All-weaker (IsNoLonger (length other)) (IsNoLonger (length s)) (λ t h. omega (arith, le, h)) ss f.0),
-          f,
-        )
-    by false e rest =
-        let le : length s ≤ length other = grind (arith, nat_tests, e) in
-        (All-inserted (IsNoLonger (length other)) s ss le f.0, rest)
+    by : (b : Bool) → (length s == n) ≡ b → All (HasLength n) (of_length n ss) →
+        All (HasLength n) (cond b (s ∷ of_length n ss) (of_length n ss))
+    by true e rest = All-cons (HasLength n) s (of_length n ss) (grind (arith, nat_tests, e)) rest
+    by false e rest = rest
 
-longest_first_falls : (ss : List (List ℕ)) → AreFalling (longest_first ss)
-longest_first_falls [] = tt
-longest_first_falls (s ∷ ss) = inserted_falls s (longest_first ss) (longest_first_falls ss)
+all_shorter : (n : ℕ) (ss : List (List ℕ)) → All (IsShorter n) (shorter_than n ss)
+all_shorter zero ss = All-nil (IsShorter 0)
+all_shorter (suc n) ss =
+    All-append (IsShorter (suc n)) (of_length n ss) (shorter_than n ss)
+    (All-weaker (HasLength n) (IsShorter (suc n)) (λ s e. omega (arith, e)) (of_length n ss) (all_of_length n ss))
+    (All-weaker (IsShorter n) (IsShorter (suc n)) (λ s less. omega (arith, less)) (shorter_than n ss) (all_shorter n ss))
 
--- it comes before those of its length
-inserted_of_length : (n : ℕ) (s : List ℕ) (ss : List (List ℕ)) → of_length n (inserted s ss) ≡ of_length n (s ∷ ss)
-inserted_of_length n s [] = refl
-inserted_of_length n s (other ∷ ss) = by (nat_le (length other) (length s)) refl (inserted_of_length n s ss)
-  where
-    apart : (a b : Bool) → (a && b) ≡ false → (xs : List (List ℕ)) →
-        cond b (other ∷ cond a (s ∷ xs) xs) (cond a (s ∷ xs) xs) ≡ cond a (s ∷ cond b (other ∷ xs) xs) (cond b (other ∷ xs) xs)
-    apart true true e xs = cc
-    apart true false e xs = refl
-    apart false true e xs = refl
-    apart false false e xs = refl
+one_length_falls : (n : ℕ) (ss us : List (List ℕ)) → All (HasLength n) ss → All (IsShorter n) us → AreFalling us → AreFalling (ss ++ us)
+one_length_falls n [] us h k f = f
+one_length_falls n (s ∷ ss) us h k f =
+    let e : length s ≡ n = All-head (HasLength n) s ss h in
+    let rest = All-tail (HasLength n) s ss h in (
+      All-append (IsNoLonger (length s)) ss us
+          (All-weaker (HasLength n) (IsNoLonger (length s)) (λ t same. omega (arith, e, same)) ss rest)
+          (All-weaker (IsShorter n) (IsNoLonger (length s)) (λ t less. omega (arith, e, less)) us k),
+      one_length_falls n ss us rest k f,
+    )
 
-    by : (b : Bool) → nat_le (length other) (length s) ≡ b → of_length n (inserted s ss) ≡ of_length n (s ∷ ss) →
-        of_length n (cond b (s ∷ other ∷ ss) (other ∷ inserted s ss)) ≡ of_length n (s ∷ other ∷ ss)
-    by true e rest = refl
-    by false e rest =
-        let never : ((length s == n) && (length other == n)) ≡ false = grind (arith, nat_tests, e) in
-        ap (λ xs. cond (length other == n) (other ∷ xs) xs) rest
-        ∙ apart (length s == n) (length other == n) never (of_length n ss)
+shorter_than_falls : (n : ℕ) (ss : List (List ℕ)) → AreFalling (shorter_than n ss)
+shorter_than_falls zero ss = tt
+shorter_than_falls (suc n) ss =
+    one_length_falls n (of_length n ss) (shorter_than n ss) (all_of_length n ss) (all_shorter n ss) (shorter_than_falls n ss)
+
+-- all are as long
+all_have_length : (n : ℕ) (ss : List (List ℕ)) → All (HasLength n) ss → of_length n ss ≡ ss
+all_have_length n [] h = refl
+all_have_length n (s ∷ ss) h =
+    let own : (length s == n) ≡ true = let e : length s ≡ n = All-head (HasLength n) s ss h in grind (arith, nat_tests, e) in
+    rw own (ap (λ xs. s ∷ xs) (all_have_length n ss (All-tail (HasLength n) s ss h)))
+
+-- they have another length
+none_have_length : (k n : ℕ) (ss : List (List ℕ)) → k < n → All (HasLength n) ss → of_length k ss ≡ []
+none_have_length k n [] l h = refl
+none_have_length k n (s ∷ ss) l h =
+    let other : (length s == k) ≡ false = let e : length s ≡ n = All-head (HasLength n) s ss h in grind (arith, nat_tests, e, l) in
+    rw other (none_have_length k n ss l (All-tail (HasLength n) s ss h))
+
+shorter_than_of_length : (k n : ℕ) (ss : List (List ℕ)) → k < n → of_length k (shorter_than n ss) ≡ of_length k ss
+shorter_than_of_length k zero ss l = absurd (omega (arith, l))
+shorter_than_of_length k (suc n) ss l =
+    filter-append (λ s. length s == k) (of_length n ss) (shorter_than n ss)
+    ∙ elim (cases_lt k n) [
+      | inl less ↦
+          ap₂ (λ xs ys. xs ++ ys) (none_have_length k n (of_length n ss) less (all_of_length n ss)) (shorter_than_of_length k n ss less)
+      | inr more ↦
+          let e : n ≡ k = omega (arith, more, l) in
+          subst (λ m. of_length m (of_length n ss) ++ of_length m (shorter_than n ss) ≡ of_length m ss) e
+          (ap₂ (λ xs ys. xs ++ ys) (all_have_length n (of_length n ss) (all_of_length n ss)) (none_of_length n (shorter_than n ss) (all_shorter n ss))
+          ∙ append-nil (of_length n ss))
+    ]
+
+shorter_than_all : (ss : List (List ℕ)) → All (IsShorter (length (concat ss) + 1)) ss
+shorter_than_all [] = All-nil (IsShorter 1)
+shorter_than_all (s ∷ ss) =
+    let whole = length-append s (concat ss) in
+    All-cons (IsShorter (length (concat (s ∷ ss)) + 1)) s ss (omega (arith, whole))
+    (All-weaker (IsShorter (length (concat ss) + 1)) (IsShorter (length (concat (s ∷ ss)) + 1)) (λ t less. omega (arith, less, whole)) ss (shorter_than_all ss))
 
 longest_first_of_length : (n : ℕ) (ss : List (List ℕ)) → of_length n (longest_first ss) ≡ of_length n ss
-longest_first_of_length n [] = refl
-longest_first_of_length n (s ∷ ss) =
-    inserted_of_length n s (longest_first ss) ∙ ap (λ xs. cond (length s == n) (s ∷ xs) xs) (longest_first_of_length n ss)
+longest_first_of_length n ss =
+    let bound = length (concat ss) + 1 in
+    elim (cases_lt n bound) [
+      | inl less ↦ shorter_than_of_length n bound ss less
+      | inr more ↦
+          none_of_length n (longest_first ss)
+          (All-weaker (IsShorter bound) (IsShorter n) (λ s less. omega (arith, less, more)) (longest_first ss) (all_shorter bound ss))
+          ∙ sym (none_of_length n ss (All-weaker (IsShorter bound) (IsShorter n) (λ s less. omega (arith, less, more)) ss (shorter_than_all ss)))
+    ]
 
 -- Strings that fall, and of each length that occurs are these in their order, are these with the longest first.
 longest_first_is : (P : List ℕ → Type 0) (ss us : List (List ℕ)) → All P ss → All P us → AreFalling us →
     ((x : List ℕ) → P x → of_length (length x) us ≡ of_length (length x) ss) → us ≡ longest_first ss
 longest_first_is P ss us hs ks f same =
-    one_falling P us (longest_first ss) ks (All-longest_first P ss hs) f (longest_first_falls ss)
+    one_falling P us (longest_first ss) ks (All-longest_first P ss hs) f (shorter_than_falls (length (concat ss) + 1) ss)
     (λ x holds. same x holds ∙ sym (longest_first_of_length (length x) ss))
 
 -- ---- what a sort leaves

@@ -10,7 +10,7 @@ use Rattle.std.proofs.lemmas.Option.{same_Some, cond_some}
 use Rattle.regress_unicode.specs.Table.{Table}
 use Rattle.regress_tree.specs.declared.ir.node.Quantifier.{Quantifier}
 use Rattle.regress_lexical.specs.Source.{Source, Found, ◌>>=◌, found_map, opening, closing, is_at, is_plain}
-use Rattle.regress_lexical.specs.Quantifiers.{may_begin}
+use Rattle.regress_lexical.specs.Beginnings.{may_begin}
 use Rattle.regress_syntax.specs.Syntax.{Name, Atom, Group, Pattern, Item, one, either, literal, atom, group, Counts, added, counts_of_item, opened_by, levels, levels_of_atom}
 use Rattle.regress_syntax.specs.Rows.{Context, context_inside, Head, single, opens, head_of_item, allows, group_at, head_at, times_at}
 use Rattle.regress_lexical.proofs.laws.Sources.{found_then, from_each, to_each, on_syntax_then}
@@ -27,10 +27,6 @@ use Rattle.regress_parse.proofs.ReaderLemmas.{item_at-is, term_at-is}
 pub front_is : (k : ℕ) (t rest : Source) → is_at k t ≡ true → rest ≡ drop 1 t → t ≡ k ∷ rest
 front_is k [] rest e same = cc
 front_is k (c ∷ t) rest e same = ap₂ (λ d u. d ∷ u) (eqb-true c k e) (sym same)
-
-pub ok_whatever : (r : Result Node ParseFault) (P : Type 0) → P → IfOk r (λ node. P)
-ok_whatever (Ok node) P h = h
-ok_whatever (Err fault) P h = tt
 
 levels-positive : (p : Pattern) → 1 ≤ levels p
 levels-positive (one ts) = omega arith

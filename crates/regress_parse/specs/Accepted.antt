@@ -9,7 +9,6 @@ use Rattle.regress_tree.specs.Tree.{Tree}
 use Rattle.regress_lexical.specs.Source.{Source}
 use Rattle.regress_syntax.specs.Syntax.{Pattern, counts, names, levels}
 use Rattle.regress_syntax.specs.Meaning.{meaning}
-use Rattle.regress_syntax.specs.Marks.{marks_of}
 use Rattle.regress_syntax.specs.SameNames.{NoneConflict}
 use Rattle.regress_syntax.specs.Rows.{Context}
 use Rattle.regress_syntax.specs.Grammar.{IsPattern}
@@ -32,7 +31,7 @@ pub record IsWithinLimits (p : Pattern) : Type 0 where
 pub record IsAccepted (setting : Setting) (source : Source) (p : Pattern) : Type 0 where
   pub derived : IsDerived setting source p
   pub limits : IsWithinLimits p
-  pub names : NoneConflict (marks_of p)
+  pub names : NoneConflict p
 
 -- The source stands for no pattern within the limits.
 abbrev pub NoneIsAccepted : Setting → Source → Type 0

@@ -1,6 +1,6 @@
 //! The grammar, form by form.
-ghost use Rattle.std.specs.Prelude.{◌≡◌, ◌≤◌, false, Some, IfOk};
-ghost use Rattle.regress_lexical.specs.Source.{Source, Found, ends_alternative};
+ghost use Rattle.std.specs.Prelude.{◌≡◌, ◌≤◌, false, Some};
+ghost use Rattle.regress_lexical.specs.Source.{Source, ends_alternative};
 ghost use Rattle.regress_syntax.specs.Views.{group_of};
 ghost use Rattle.regress_syntax.specs.Syntax.{Item, Counts};
 ghost use Rattle.regress_syntax.specs.Rows.{opens, allows, head_of_item};
@@ -95,12 +95,12 @@ impl Parser<'_> {
         if self.cursor.try_consume('(') {
             let kind = read_group(&mut self.cursor, around.scope.tables)?;
             let allowed = kind.allows_quantifier(around.scope.flags.unicode);
-            let item = self.consume_group(kind, around);
+            let item = self.consume_group(kind, around)?;
             return self.consume_times(item, allowed, first, around);
         }
         let allowed = !begins_anchor(self.cursor.rest);
         let left = MAX_NESTING_DEPTH - around.depth;
-        let item = read_atom(&mut self.cursor, &around.scope, left);
+        let item = read_atom(&mut self.cursor, &around.scope, left)?;
         self.consume_times(item, allowed, first, around)
     }
 
@@ -108,27 +108,25 @@ impl Parser<'_> {
     #[inline(always)]
     fn consume_times(
         &mut self,
-        item: Result<Node, ParseFault>,
+        item: Node,
         allowed: bool,
         first: CaptureGroupID,
         around: &Around,
     ) -> Result<Node, ParseFault>
-        ensures value { (found : Found Item) (before : Counts) → before.groups ≡ first →
-            IfOk item (λ node. (x : Item × Source) → found ≡ Some x → allowed ≡ allows around.now.scope.flags.unicode (head_of_item x.0)) →
-            Yields (item_part (table_in around.now) (names_around around.now)) (direction_of around.now) around.now.depth before self.old item found →
+        ensures value { (x : Item) (before : Counts) → before.groups ≡ first → allowed ≡ allows around.now.scope.flags.unicode (head_of_item x) →
+            Builds (direction_of around.now) around.now.depth before self.old item (item_part (table_in around.now) (names_around around.now) x) (text self.old) →
             Yields (term_part (table_in around.now) (names_around around.now)) (direction_of around.now) around.now.depth before self.new result
-            (with_times (context_in around.now) found) }
+            (with_times (context_in around.now) (Some (x, text self.old))) }
     {
         if !may_begin(self.cursor.rest) {
-            return item;
+            return Ok(item);
         }
-        let node = item?;
         let times = read_times(&mut self.cursor, &around.scope, allowed)?;
         let Some(quantifier) = times else {
-            return Ok(node);
+            return Ok(item);
         };
         self.count_loop()?;
-        Ok(make_loop(self.cursor.alloc, node, quantifier, first..self.group_count)?)
+        Ok(make_loop(self.cursor.alloc, item, quantifier, first..self.group_count)?)
     }
 
     /// Reads a group, behind what opens it.

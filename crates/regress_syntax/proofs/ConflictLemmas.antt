@@ -16,7 +16,8 @@ use Rattle.std.specs.List.{AllAdjacentBelow, list_all}
 use Rattle.std.specs.Ordering.{nat_cmp, is_lt, is_eq, on, then_cmp, ordering_then, ordering_reverse}
 use Rattle.std.specs.declared.cmp.Ordering.{Ordering}
 use Rattle.std.specs.declared.cmp.Ordering.TheVariants.{Less, Equal, Greater}
-use Rattle.regress_syntax.specs.SameNames.{Path, CaptureAt, are_alternatives, same_name, conflict, are_apart}
+use Rattle.regress_syntax.specs.SameNames.{same_name}
+use Rattle.regress_syntax.specs.Paths.{Path, CaptureAt, are_alternatives, conflict, are_apart}
 use Rattle.regress_syntax.specs.Scanning.{capture_of, level_of}
 use Rattle.regress_syntax.specs.declared.scan.path.Level.{Level as CodeLevel}
 use Rattle.regress_syntax.specs.declared.scan.scanner.NamedGroup.{NamedGroup}

@@ -3,7 +3,7 @@ use Rattle.std.proofs.Common.{◌≡◌, ℕ, zero, suc, ◌+◌, ◌≤◌, Boo
 use Rattle.std.specs.List.{zip, find}
 use Rattle.std.specs.Option.{MatchOption}
 use Rattle.std.proofs.lemmas.List.{map-append, reverse-append, reverse-reverse}
-use Rattle.regress_syntax.specs.SameNames.{Path, are_alternatives, outside, next_alternative}
+use Rattle.regress_syntax.specs.Paths.{Path, are_alternatives, outside, next_alternative}
 use Rattle.regress_syntax.specs.Scanning.{level_of, path_of, highest}
 use Rattle.regress_syntax.specs.declared.scan.path.Level.{Level as CodeLevel}
 use Rattle.regress_syntax.specs.declared.scan.path.Path.{Path as CodePath}

@@ -5,12 +5,12 @@ use Rattle.regress_base.specs.Intervals.{is_member, is_within}
 use Rattle.regress_unicode.specs.SmallTable.{small_table}
 use Rattle.regress_lexical.specs.Source.{Source}
 use Rattle.regress_syntax.specs.Names.{name_at, rest_of_name_by}
-use Rattle.regress_syntax.specs.SameNames.{are_names_apart}
+use Rattle.regress_syntax.specs.Paths.{are_marks_apart}
 use Rattle.regress_syntax.specs.Scan.{plain, marks}
 
 unfoldable apart : Source → Bool
 unfolding marks name_at rest_of_name_by small_table is_member is_within
-apart t = are_names_apart (marks false small_table plain t)
+apart t = are_marks_apart (marks false small_table plain t)
 
 -- the whole pattern holds both, in different alternatives
 alternatives_of_the_pattern : apart (codes "(?<a>x)|(?<a>y)") ≡ true

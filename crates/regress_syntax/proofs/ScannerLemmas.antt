@@ -9,7 +9,8 @@ use Rattle.regress_base.specs.Limits.{max_nesting_depth}
 use Rattle.regress_unicode.specs.Table.{Table}
 use Rattle.regress_lexical.specs.Source.{Source}
 use Rattle.regress_syntax.specs.Marks.{Mark, opens, captures, closes, next, nests}
-use Rattle.regress_syntax.specs.SameNames.{Path, Place, enter, CaptureAt, groups_by, at_the_start, same_name, conflict, are_apart, are_names_apart}
+use Rattle.regress_syntax.specs.SameNames.{same_name}
+use Rattle.regress_syntax.specs.Paths.{Path, Place, enter, CaptureAt, groups_by, at_the_start, conflict, are_apart, are_marks_apart}
 use Rattle.regress_syntax.specs.Scan.{IsRefusedByMarks, named_by, Mode, plain, escape, class, class_escape, marks, mode_behind, mark_at, deepest}
 use Rattle.regress_syntax.specs.Numbering.{names_of}
 use Rattle.regress_syntax.specs.Scanning.{depth_of, bears_name, capture_of, path_of, place_of, Behind}
@@ -142,7 +143,7 @@ pub too_deep_behind : (all : List Mark) (scanner : Scanner) → Behind all [] sc
 too_deep_behind all scanner behind many = (counted (deepest 1 all) _ behind.levels).1 (omega (arith, behind.opened))
 
 pub apart_behind : (all : List Mark) (scanner : Scanner) → Behind all [] scanner → deepest 1 all ≤ max_nesting_depth →
-    are_names_apart all ≡ are_apart (map capture_of scanner.named.items)
+    are_marks_apart all ≡ are_apart (map capture_of scanner.named.items)
 apart_behind all scanner behind few =
     are_apart-named (groups_by at_the_start all) ∙ ap are_apart (behind.named few ∙ append-nil (map capture_of scanner.named.items))
 

@@ -3,5 +3,6 @@ pub mod NameEnds
 pub mod Plain
 pub mod References
 pub mod Rows
+pub mod Paths
 pub mod SameNames
 pub mod Scan

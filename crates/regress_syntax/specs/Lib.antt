@@ -4,6 +4,7 @@ pub mod Rows
 pub mod Grammar
 pub mod Marks
 pub mod SameNames
+pub mod Paths
 pub mod Scan
 pub mod Numbering
 pub mod Scanning

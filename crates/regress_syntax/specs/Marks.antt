@@ -1,7 +1,6 @@
 -- The parentheses, bars and classes of a syntax tree: what a scan that knows no grammar can tell of a pattern.
 use Rattle.std.specs.Prelude.{ℕ, List, [], ◌∷◌, ◌++◌, Option}
-use Rattle.regress_syntax.specs.Syntax as Syntax
-use Rattle.regress_syntax.specs.Syntax.{Name, Atom, literal, dot, anchor, boundary, class_set, string_property, back_reference, Group, grouping, modified, capture, look, Pattern, Terms, Item, one, either, no_terms, more_terms, atom, group}
+use Rattle.regress_syntax.specs.Syntax.{Name, Atom, class_set, Group, capture, Pattern, Terms, Item, one, either, no_terms, more_terms, atom, group}
 
 -- what tells the groups of a pattern apart
 pub data Mark : Type 0 where
@@ -16,22 +15,13 @@ pub data Mark : Type 0 where
   nests : (levels : ℕ) → Mark
 
 abbrev pub mark_of_group : Group → Mark
-mark_of_group grouping = opens
-mark_of_group (modified change) = opens
 mark_of_group (capture name) = captures name
-mark_of_group (look negate direction) = opens
+mark_of_group kind = opens
 
 -- only a class with the flag v tells how deep it is
 abbrev pub marks_of_atom : Atom → List Mark
-marks_of_atom (literal flags c) = []
-marks_of_atom (dot flags) = []
-marks_of_atom (anchor flags kind) = []
-marks_of_atom (boundary flags inverted) = []
-marks_of_atom (Syntax.class_escape flags kind negated) = []
-marks_of_atom (Syntax.class flags inverted members) = []
 marks_of_atom (class_set flags negated value) = nests value.levels ∷ []
-marks_of_atom (string_property flags written) = []
-marks_of_atom (back_reference flags to) = []
+marks_of_atom a = []
 
 abbrev mutual
   pub marks_of : Pattern → List Mark

@@ -1,5 +1,6 @@
 -- What a pattern matches, over the characters of a text (ECMA-262, CompileSubpattern).
-use Rattle.std.specs.Prelude.{ℕ, ◌+◌, ◌-◌, Bool, not, ◌&&◌, ◌||◌, List, [], ◌∷◌, length, Option, Some, None, if◌then◌else◌, nat_le}
+use Rattle.std.specs.Prelude.{ℕ, zero, suc, ◌+◌, ◌-◌, ◌==◌, Bool, not, ◌&&◌, ◌||◌, List, [], ◌∷◌, ◌++◌, length, filter, Option, Some, None, if◌then◌else◌}
+use Rattle.std.specs.List.{concat}
 use Rattle.regress_base.specs.Intervals.{Bounds, is_member}
 use Rattle.regress_base.specs.declared.types.Flags.{Flags}
 use Rattle.regress_tree.specs.declared.ir.node.Quantifier.{Quantifier}
@@ -14,7 +15,7 @@ use Rattle.regress_unicode.specs.Table.{Table, stands_for, is_in_closure}
 use Rattle.regress_tree.specs.Assertions.{is_line_terminator, is_word_character, at_anchor, differ, at_boundary}
 use Rattle.regress_tree.specs.Repetition.{repeat}
 use Rattle.regress_classes.specs.ClassRows.{members_of}
-use Rattle.regress_syntax.specs.Syntax.{Name, is_named, Target, by_number, by_name, Atom, literal, dot, anchor, boundary, class_escape, class, class_set, string_property, back_reference, Group, grouping, modified, capture, look, Pattern, Terms, Item, one, either, no_terms, more_terms, atom, group, opened_by, counts_of_item, counts_of_terms, counts_of_term, names}
+use Rattle.regress_syntax.specs.Syntax.{Name, is_named, Target, by_number, by_name, Atom, literal, dot, anchor, boundary, class_escape, class, class_set, string_property, back_reference, Group, capture, look, Pattern, Terms, Item, one, either, no_terms, more_terms, atom, group, opened_by, counts_of_item, counts_of_terms, counts_of_term, names}
 
 -- a character matches the literal c: with the flag i where both have one image (ECMA-262, Canonicalize)
 abbrev pub is_literal : Table → Flags → ℕ → ℕ → Bool
@@ -41,17 +42,14 @@ along backwards f g = g then_ f
 
 -- the direction in which what a group holds is matched
 abbrev pub direction_of_group : Group → Direction → Direction
-direction_of_group grouping d = d
-direction_of_group (modified change) d = d
-direction_of_group (capture name) d = d
 direction_of_group (look negate direction) d = direction
+direction_of_group kind d = d
 
 -- a group behind n opened ones, around what has these outcomes
 abbrev pub group_steps : ℕ → Group → Step → Step
-group_steps n grouping body = body
-group_steps n (modified change) body = body
 group_steps n (capture name) body = Steps.capture n body
 group_steps n (look negate direction) body = Lookaround.look negate body
+group_steps n kind body = body
 
 -- the groups with this name, of those of a list whose first one has number n
 abbrev pub groups_named : Name → ℕ → List (Option Name) → List ℕ
@@ -75,15 +73,15 @@ abbrev pub times_steps : (length : ℕ) → Option Quantifier → (start end : �
 times_steps length None start end body = body
 times_steps length (Some q) start end body = repeat (length + 1) q start end body
 
--- before the first that is no longer
-abbrev pub inserted : List ℕ → List (List ℕ) → List (List ℕ)
-inserted s [] = s ∷ []
-inserted s (other ∷ ss) = if nat_le (length other) (length s) then s ∷ other ∷ ss else other ∷ inserted s ss
+-- those of fewer code points than n: the strings of n - 1, and then the shorter ones
+abbrev pub shorter_than : ℕ → List (List ℕ) → List (List ℕ)
+shorter_than zero ss = []
+shorter_than (suc n) ss = filter (λ s. length s == n) ss ++ shorter_than n ss
 
--- the strings of a class in the order in which they are tried: longest first, equal lengths as they were read
+-- The strings of a class in the order in which they are tried: longest first, equal lengths as they were read. None is
+-- longer than all together.
 abbrev pub longest_first : List (List ℕ) → List (List ℕ)
-longest_first [] = []
-longest_first (s ∷ ss) = inserted s (longest_first ss)
+longest_first ss = shorter_than (length (concat ss) + 1) ss
 
 -- the names are those of all groups of the whole pattern
 module _ (setting : Setting) (names : List (Option Name)) (text : List ℕ) where

@@ -3,11 +3,11 @@ use Rattle.std.specs.Prelude.{◌≡◌, ◌⊎◌, ◌<◌, ℕ, ◌+◌, ◌-�
 use Rattle.std.specs.Option.{option_to_list}
 use Rattle.regress_base.specs.Limits.{max_nesting_depth}
 use Rattle.regress_unicode.specs.Table.{Table}
-use Rattle.regress_lexical.specs.Source.{Source, opening, closing, bar, question_mark, is_at}
+use Rattle.regress_lexical.specs.Source.{Source, char, opening, closing, bar, question_mark, is_at}
 use Rattle.regress_syntax.specs.Names.{group_name_at}
 use Rattle.regress_syntax.specs.Syntax.{Name, Pattern}
 use Rattle.regress_syntax.specs.Marks.{Mark, opens, captures, closes, next, nests, marks_of}
-use Rattle.regress_syntax.specs.SameNames.{are_names_apart}
+use Rattle.regress_syntax.specs.Paths.{are_marks_apart}
 use Rattle.regress_syntax.specs.Rows.{Context}
 use Rattle.regress_syntax.specs.Grammar.{IsPattern}
 
@@ -28,19 +28,19 @@ opened_at table t =
 
 -- the mode behind a code point; `sets` is the flag v, with which classes nest
 abbrev pub mode_behind : (sets : Bool) → Mode → ℕ → Mode
-mode_behind sets plain c = if c == 92 then escape else if c == 91 then class 0 0 else plain
+mode_behind sets plain c = if c == char "\\" then escape else if c == char "[" then class 0 0 else plain
 mode_behind sets escape c = plain
 mode_behind sets (class depth deepest) c =
-    if c == 92 then class_escape depth deepest
-    else if c == 91 && sets then class (depth + 1) (max deepest (depth + 1))
-    else if c == 93 && depth == 0 then plain
-    else if c == 93 then class (depth - 1) deepest
+    if c == char "\\" then class_escape depth deepest
+    else if c == char "[" && sets then class (depth + 1) (max deepest (depth + 1))
+    else if c == char "]" && depth == 0 then plain
+    else if c == char "]" then class (depth - 1) deepest
     else class depth deepest
 mode_behind sets (class_escape depth deepest) c = class depth deepest
 
 -- a code point that is no mark, and leaves the mode as it is, in plain text and in a class
 abbrev pub is_quiet : ℕ → Bool
-is_quiet c = not (c == 92 || c == 91 || c == 93 || c == opening || c == closing || c == bar)
+is_quiet c = not (c == char "\\" || c == char "[" || c == char "]" || c == opening || c == closing || c == bar)
 
 -- the mark that a code point is, if any, with the source behind it
 abbrev pub mark_at : (sets : Bool) → Table → Mode → ℕ → Source → Option Mark
@@ -50,7 +50,7 @@ mark_at sets table plain c t =
     else if c == bar then Some next
     else None
 mark_at sets table escape c t = None
-mark_at sets table (class depth deepest) c t = if c == 93 && depth == 0 && sets then Some (nests deepest) else None
+mark_at sets table (class depth deepest) c t = if c == char "]" && depth == 0 && sets then Some (nests deepest) else None
 mark_at sets table (class_escape depth deepest) c t = None
 
 -- the marks of a source, from a mode on: one where the first code point is one, and those from the mode behind it on
@@ -87,4 +87,4 @@ deepest n (nests levels ∷ ms) = max (n + levels) (deepest n ms)
 
 -- Two groups conflict, or the levels are more than the limit.
 abbrev pub IsRefusedByMarks : List Mark → Type 0
-IsRefusedByMarks ms = (are_names_apart ms ≡ false) ⊎ (max_nesting_depth < deepest 1 ms)
+IsRefusedByMarks ms = (are_marks_apart ms ≡ false) ⊎ (max_nesting_depth < deepest 1 ms)

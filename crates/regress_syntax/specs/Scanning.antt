@@ -3,7 +3,7 @@ use Rattle.std.specs.Prelude.{◌≡◌, ℕ, ◌-◌, ◌^◌, min, max, ◌≤
 use Rattle.regress_base.specs.Limits.{max_nesting_depth}
 use Rattle.regress_syntax.specs.Numbering.{names_of}
 use Rattle.regress_syntax.specs.Marks.{Mark, opens, captures, closes, next, nests}
-use Rattle.regress_syntax.specs.SameNames.{Level, Path, Place, CaptureAt, groups_by, at_the_start}
+use Rattle.regress_syntax.specs.Paths.{Level, Path, Place, CaptureAt, groups_by, at_the_start}
 use Rattle.regress_syntax.specs.Scan.{Mode, plain, escape, class, class_escape, named_by, deepest}
 use Rattle.regress_syntax.specs.declared.scan.mark.Mode.{Mode as CodeMode}
 use Rattle.regress_syntax.specs.declared.scan.mark.Mode.TheVariants as modes

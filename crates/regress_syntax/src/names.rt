@@ -3,6 +3,7 @@ ghost use Rattle.std.specs.Prelude.{◌≡◌, ◌+◌, ◌++◌, length, Some, 
 ghost use Rattle.regress_lexical.specs.Source.{found_map};
 ghost use Rattle.regress_syntax.specs.Names.{is_sign, begins_name, continues_name, written_at, name_character_at, rest_of_name_by, name_at, group_name_at};
 ghost use Rattle.regress_unicode.specs.TableOf.{table_of};
+ghost use Rattle.regress_lexical.specs.Reads.{answered};
 
 use regress_lexical::digits::{Read, after};
 use regress_lexical::escape::read_unicode;
@@ -46,7 +47,7 @@ fn further_character(c: u32, tables: &Tables) -> Option<char>
 
 /// One character, as it is or by a form of `\u` that gives a value.
 fn read_written<'a>(source: &'a [u32]) -> Read<'a, u32>
-    ensures { option_map (λ found. (found.0, found.1.now)) result ≡ written_at source.now }
+    ensures { answered result ≡ written_at source.now }
 {
     let (c, rest) = source.split_first()?;
     if *c == u32::from('\\') {
@@ -58,7 +59,7 @@ fn read_written<'a>(source: &'a [u32]) -> Read<'a, u32>
 
 /// Reads a character that may begin a name.
 fn read_first<'a>(source: &'a [u32], tables: &Tables) -> Read<'a, char>
-    ensures { option_map (λ found. (found.0, found.1.now)) result ≡ name_character_at (begins_name (table_of tables.now)) source.now }
+    ensures { answered result ≡ name_character_at (begins_name (table_of tables.now)) source.now }
 {
     let (c, rest) = read_written(source)?;
     Some((first_character(c, tables)?, rest))
@@ -66,7 +67,7 @@ fn read_first<'a>(source: &'a [u32], tables: &Tables) -> Read<'a, char>
 
 /// Reads a character that may go on in a name.
 fn read_further<'a>(source: &'a [u32], tables: &Tables) -> Read<'a, char>
-    ensures { option_map (λ found. (found.0, found.1.now)) result ≡ name_character_at (continues_name (table_of tables.now)) source.now }
+    ensures { answered result ≡ name_character_at (continues_name (table_of tables.now)) source.now }
 {
     let (c, rest) = read_written(source)?;
     Some((further_character(c, tables)?, rest))

@@ -1,9 +1,10 @@
 //! References to groups.
-ghost use Rattle.std.specs.Prelude.{◌≡◌, ◌||◌, true, option_map, IfOk, ◌++◌, string_bytes, encode_utf8_all};
+ghost use Rattle.std.specs.Prelude.{◌≡◌, ◌||◌, true, IfOk, ◌++◌, string_bytes, encode_utf8_all};
 ghost use Rattle.regress_lexical.specs.Fault.{Tells};
 ghost use Rattle.regress_lexical.specs.Escapes.{begins_with_digit};
-ghost use Rattle.regress_lexical.specs.Reads.{ReadsAs};
-ghost use Rattle.regress_syntax.specs.Rows.{has_names, group_number_at, named_at};
+ghost use Rattle.regress_lexical.specs.Reads.{answered, ReadsAs};
+ghost use Rattle.regress_syntax.specs.Numbering.{group_number_at};
+ghost use Rattle.regress_syntax.specs.Rows.{has_names, named_at};
 ghost use Rattle.regress_syntax.specs.Views.{context_of, AreReferences};
 ghost use Rattle.regress_lexical.specs.Views.{source};
 
@@ -17,7 +18,7 @@ use std::alloc::{AllocError, Global};
 /// Reads the number of a group by the whole run of digits, where there are so many groups.
 pub fn read_group_number<'a>(source: &'a [u32], groups: u16) -> Read<'a, u32>
     requires { begins_with_digit source.now ≡ true }
-    ensures { option_map (λ found. (found.0, found.1.now)) result ≡ group_number_at groups source.now }
+    ensures { answered result ≡ group_number_at groups source.now }
 {
     let (number, rest) = read_count(source)?;
     if number > usize::from(groups) {

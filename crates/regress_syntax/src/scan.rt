@@ -4,7 +4,7 @@ ghost use Rattle.regress_base.specs.Limits.{max_capture_groups, max_nesting_dept
 ghost use Rattle.regress_unicode.specs.TableOf.{table_of};
 ghost use Rattle.regress_lexical.specs.Fault.{RefusedOnlyIf};
 ghost use Rattle.regress_syntax.specs.Numbering.{names_of};
-ghost use Rattle.regress_syntax.specs.SameNames.{NoneConflict};
+ghost use Rattle.regress_syntax.specs.Paths.{NoMarksConflict};
 ghost use Rattle.regress_syntax.specs.Scan.{GivesMarks, plain, marks, named_by, deepest, IsRefusedByMarks};
 ghost use Rattle.regress_syntax.specs.Views.{names_in};
 
@@ -31,7 +31,7 @@ pub fn scan(
 ) -> Result<Groups, ParseFault>
     ensures names { IfOk result (λ groups. names_in groups ≡ named_by (marks sets (table_of tables.now) plain pattern.now)) }
     ensures count { IfOk result (λ groups. groups.count ≡ min (length (names_in groups)) max_capture_groups) }
-    ensures apart { IfOk result (λ groups. NoneConflict (marks sets (table_of tables.now) plain pattern.now)) }
+    ensures apart { IfOk result (λ groups. NoMarksConflict (marks sets (table_of tables.now) plain pattern.now)) }
     ensures levels { IfOk result (λ _. deepest 1 (marks sets (table_of tables.now) plain pattern.now) ≤ max_nesting_depth) }
     ensures refused { RefusedOnlyIf result (IsRefusedByMarks (marks sets (table_of tables.now) plain pattern.now)) }
     ensures whole { GivesMarks sets (table_of tables.now) pattern.now }
@@ -48,7 +48,7 @@ fn find_names(
     tables: &Tables,
 ) -> Result<Vec<Option<Name>>, ParseFault>
     ensures names { IfOk result (λ names. names_of names.items ≡ named_by (marks sets (table_of tables.now) plain pattern.now)) }
-    ensures apart { IfOk result (λ names. NoneConflict (marks sets (table_of tables.now) plain pattern.now)) }
+    ensures apart { IfOk result (λ names. NoMarksConflict (marks sets (table_of tables.now) plain pattern.now)) }
     ensures levels { IfOk result (λ _. deepest 1 (marks sets (table_of tables.now) plain pattern.now) ≤ max_nesting_depth) }
     ensures refused { RefusedOnlyIf result (IsRefusedByMarks (marks sets (table_of tables.now) plain pattern.now)) }
 {

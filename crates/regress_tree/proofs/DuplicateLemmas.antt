@@ -3,7 +3,7 @@ use Rattle.std.proofs.Common.{◌≡◌, ℕ, ◌+◌, ◌<◌, ◌≤◌, inl, 
 use Rattle.std.proofs.lemmas.Bool.{cases_lt}
 use Rattle.std.proofs.lemmas.Bool.Decides.{nat_tests}
 use Rattle.regress_tree.specs.Tree.{Tree, Trees, leaf, cat, alt, wrapped, no_trees, more_trees}
-use Rattle.regress_tree.specs.Copies.{may_duplicate, may_duplicate_row}
+use Rattle.regress_tree.specs.Duplicates.{may_duplicate, may_duplicate_row}
 use Rattle.regress_tree.specs.Measures.{levels, levels_of_deepest}
 use Rattle.regress_tree.specs.Shapes.{on_leaf, is_string_set, has_string_set, some_node_in_row}
 

@@ -10,6 +10,7 @@ pub mod Strings
 pub mod Matching
 pub mod Walk
 pub mod Visits
+pub mod Gathered
 pub mod Climbs
 pub mod WellFormed
 pub mod Measures
@@ -21,4 +22,5 @@ pub mod Setting
 pub mod Spine
 pub mod NodeTests
 pub mod Copies
+pub mod Duplicates
 pub mod Survey

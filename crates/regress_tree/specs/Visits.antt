@@ -1,10 +1,9 @@
 -- The visits of a walk: on which nodes the calls are made, in which order, and what they leave.
-use Rattle.std.specs.Prelude.{◌≡◌, ℕ, ◌+◌, ◌≤◌, Bool, true, false, min, List, [], ◌++◌}
+use Rattle.std.specs.Prelude.{◌≡◌, ℕ, ◌+◌, ◌≤◌, Bool, true, false, min}
 use Rattle.std.specs.Borrow.{Bor, MutBor}
 use Rattle.regress_tree.specs.declared.ir.node.Node.{Node}
 use Rattle.regress_tree.specs.declared.ir.walker.Walk.{Walk}
-use Rattle.regress_tree.specs.WellFormed.{Capture, captures_of_wrapper}
-use Rattle.regress_tree.specs.Tree.{Leaf, Wrapper, capture_group, loop, loop_one, lookaround, Tree, Trees, leaf, cat, alt, wrapped, no_trees, more_trees, tree}
+use Rattle.regress_tree.specs.Tree.{Leaf, Wrapper, lookaround, Tree, Trees, leaf, cat, alt, wrapped, no_trees, more_trees, tree}
 
 -- the depth of what lies one level further inside: the greatest one is as deep as it goes
 abbrev pub deeper : ℕ → ℕ
@@ -12,10 +11,8 @@ deeper depth = min (depth + 1) 18446744073709551615
 
 -- whether what a wrapper holds is matched backwards, where the wrapper is or is not
 abbrev pub turned_by : Wrapper → Bool → Bool
-turned_by (capture_group id name) behind = behind
-turned_by (loop quantifier start end) behind = behind
-turned_by (loop_one quantifier) behind = behind
 turned_by (lookaround negate backwards start end) behind = backwards
+turned_by w behind = behind
 
 -- `Call a t depth behind b u skip` says that a call on a node of the tree t, at that depth and in a lookbehind or not, may take the
 -- closure from the state a to b, leave the tree u there, and ask to skip the children or not.
@@ -92,22 +89,3 @@ abbrev mutual
 abbrev pub AddsNoNodes : {F : Type 0} → (F → MutBor Node → MutBor Walk → Unit {0} → MutBor Node → MutBor Walk → F → Type 0) → Type 0
 AddsNoNodes {F} step = (before after : F) (node node' : MutBor Node) (walk walk' : MutBor Walk) →
     step before node walk tt node' walk' after → nodes (tree node'.now) ≤ nodes (tree node.now)
-
--- what all nodes of a tree have, each before those inside it
-abbrev mutual
-  pub gathered : {X : Type 0} → (Tree → List X) → Tree → List X
-  gathered own (leaf l) = own (leaf l)
-  gathered own (cat parts) = own (cat parts) ++ gathered_in_row own parts
-  gathered own (alt left right) = own (alt left right) ++ (gathered own left ++ gathered own right)
-  gathered own (wrapped w body) = own (wrapped w body) ++ gathered own body
-
-  pub gathered_in_row : {X : Type 0} → (Tree → List X) → Trees → List X
-  gathered_in_row own no_trees = []
-  gathered_in_row own (more_trees t ts) = gathered own t ++ gathered_in_row own ts
-
--- the capture group that a node itself is, if it is one
-abbrev pub own_group : Tree → List Capture
-own_group (leaf l) = []
-own_group (cat parts) = []
-own_group (alt left right) = []
-own_group (wrapped w body) = captures_of_wrapper w

@@ -2,7 +2,8 @@
 use Rattle.std.proofs.Common.{◌≡◌, ℕ, false, [], ◌∷◌, None, refl, ap, arith}
 use Rattle.std.proofs.lemmas.Bool.Decides.{nat_tests}
 use Rattle.regress_lexical.specs.Source.{Source, ◌>>=◌, char, is_at}
-use Rattle.regress_lexical.specs.Quantifiers.{times_by, may_begin, greedy_or_lazy, quantifier_at}
+use Rattle.regress_lexical.specs.Beginnings.{may_begin}
+use Rattle.regress_lexical.specs.Quantifiers.{times_by, greedy_or_lazy, quantifier_at}
 
 no_times : (c : ℕ) (t : Source) → may_begin (c ∷ t) ≡ false → times_by c t ≡ None
 no_times c t h = grind (arith, nat_tests)

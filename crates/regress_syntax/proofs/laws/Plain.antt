@@ -4,7 +4,7 @@ use Rattle.std.proofs.lemmas.Bool.Decides.{nat_tests}
 use Rattle.std.proofs.lemmas.Bool.{cond-true, cond-false}
 use Rattle.std.proofs.Math.Bool.{and-false}
 use Rattle.regress_lexical.specs.Source.{Source, found_map, opening, full_stop, is_one_of, is_at, is_plain}
-use Rattle.regress_lexical.specs.Quantifiers.{may_begin}
+use Rattle.regress_lexical.specs.Beginnings.{may_begin}
 use Rattle.regress_lexical.proofs.laws.Quantifiers.{no_quantifier, no_brace}
 use Rattle.regress_syntax.specs.Syntax.{literal}
 use Rattle.regress_syntax.specs.Rows.{Context, single, head_at, times_at}

@@ -1,324 +1,346 @@
--- Where the groups of a list of marks stand: two of them are alternatives where any disjunction at all holds both in
--- different alternatives, wherever it stands in their paths. And by this rule more is refused than by one that compares the
--- numbers of alternatives alone, level by level, as the Rust crate does.
-use Rattle.std.proofs.Common.{◌≡◌, ℕ, ◌+◌, ◌<◌, ◌≤◌, Bool, true, false, not, ◌==◌, ◌&&◌, ◌||◌, List, [], ◌∷◌, ◌++◌, reverse, refl, sym, ap, ap₂, ◌∙◌, subst, arith, append_assoc}
-use Rattle.std.proofs.lemmas.Bool.{true≢false, and_parts, and_from, and_left, and_right, or_from, or_left, or_right, not_from_true, not_from_false, false_from_ne_true}
-use Rattle.std.proofs.lemmas.Bool.Decides.{nat_tests}
-use Rattle.std.proofs.lemmas.List.{reverse-append}
-use Rattle.std.proofs.lemmas.List.Folds.{list_any-append}
+-- The rule on names, on the syntax tree, says of its groups what the parentheses and bars tell: of two groups of one name
+-- some disjunction holds both in different alternatives.
+use Rattle.std.proofs.Common.{◌≡◌, ℕ, ◌+◌, ◌≤◌, Bool, true, false, not, ◌&&◌, ◌||◌, List, [], ◌∷◌, ◌++◌, map, reverse, Option, refl, sym, ap, ap₂, ◌∙◌, arith, append_assoc, append-nil}
+use Rattle.std.proofs.lemmas.Bool.{and_right, and_from, or_left, not_from_false}
+use Rattle.std.proofs.lemmas.List.{map-append, reverse-append}
 use Rattle.std.specs.List.{list_all, list_any}
-use Rattle.regress_syntax.specs.Marks.{Mark, opens, captures, closes, next, nests}
-use Rattle.regress_syntax.specs.SameNames.{Level, Path, Place, at_the_start, enter, outside, next_alternative, CaptureAt, groups_by, are_alternatives, same_name, conflict, are_apart}
+use Rattle.regress_syntax.specs.Syntax.{Name, Atom, literal, dot, anchor, boundary, class_escape, class, class_set, string_property, back_reference, Group, grouping, modified, capture, look, Pattern, Terms, Item, one, either, no_terms, more_terms, atom, group, names, names_of_group, names_of_terms, names_of_item}
+use Rattle.regress_syntax.specs.Marks.{Mark, closes, next, mark_of_group, marks_of_atom, marks_of, marks_of_terms, marks_of_item}
+use Rattle.regress_syntax.specs.SameNames.{same_name, share_name, are_names_apart, are_names_apart_in_terms, are_names_apart_in_item, NoneConflict}
+use Rattle.regress_syntax.specs.Paths.{Level, Path, Place, at_the_start, enter, CaptureAt, groups_by, are_alternatives, conflict, are_apart, are_marks_apart}
+use Rattle.regress_syntax.proofs.laws.Paths.{Below, From, below_more, below_append, from_append, below_reverse, from_reverse, same_front, no_alternatives, lower_differs, same_number, are_apart_anywhere, apart_anywhere, are_apart_by_numbers, apart_by_numbers}
 
--- ---- any disjunction at all
+-- ---- two lists of groups
 
--- the same disjunction, and different alternatives of it
-abbrev pub is_beside : Level → Level → Bool
-is_beside level other = level.opening == other.opening && not (level.alternative == other.alternative)
+abbrev Each : (CaptureAt → Type 0) → List CaptureAt → Type 0
+Each P [] = Unit {0}
+Each P (g ∷ gs) = P g × Each P gs
 
--- some disjunction holds both places, in different alternatives
-abbrev pub some_holds_both : Path → Path → Bool
-some_holds_both path other = list_any (λ level. list_any (is_beside level) other) path
+each_map : (P Q : CaptureAt → Type 0) → ((g : CaptureAt) → P g → Q g) → (gs : List CaptureAt) → Each P gs → Each Q gs
+each_map P Q f [] h = tt
+each_map P Q f (g ∷ gs) h = (f g h.0, each_map P Q f gs h.1)
 
--- ---- numbers of parentheses
+each_append : (P : CaptureAt → Type 0) (xs ys : List CaptureAt) → Each P xs → Each P ys → Each P (xs ++ ys)
+each_append P [] ys h k = k
+each_append P (g ∷ xs) ys h k = (h.0, each_append P xs ys h.1 k)
 
--- all are below n
-abbrev Below : ℕ → Path → Type 0
-Below n [] = Unit {0}
-Below n (level ∷ path) = (level.opening < n) × Below n path
+-- none of the first conflicts with one of the second
+abbrev are_clear : List CaptureAt → List CaptureAt → Bool
+are_clear xs ys = list_all (λ g. list_all (λ other. not (conflict g other)) ys) xs
 
--- none is
-abbrev From : ℕ → Path → Type 0
-From n [] = Unit {0}
-From n (level ∷ path) = (n ≤ level.opening) × From n path
+abbrev names_at : List CaptureAt → List (Option Name)
+names_at gs = map (λ g. g.name) gs
 
--- they fall on the way outwards
-abbrev Falls : ℕ → Path → Type 0
-Falls n [] = Unit {0}
-Falls n (level ∷ path) = (level.opening < n) × Falls level.opening path
+list_all-both : (p : CaptureAt → Bool) (xs ys : List CaptureAt) → list_all p (xs ++ ys) ≡ (list_all p xs && list_all p ys)
+list_all-both p [] ys = refl
+list_all-both p (x ∷ xs) ys = ap (λ b. p x && b) (list_all-both p xs ys) ∙ regroup (p x) (list_all p xs) (list_all p ys)
+  where
+    regroup : (a b c : Bool) → (a && (b && c)) ≡ ((a && b) && c)
+    regroup true b c = refl
+    regroup false b c = refl
 
-below_more : (n m : ℕ) (path : Path) → n ≤ m → Below n path → Below m path
-below_more n m [] l h = tt
-below_more n m (level ∷ path) l h = (omega (arith, l, h.0), below_more n m path l h.1)
+are_apart-append : (xs ys : List CaptureAt) → are_apart (xs ++ ys) ≡ (are_apart xs && (are_clear xs ys && are_apart ys))
+are_apart-append [] ys = refl
+are_apart-append (g ∷ xs) ys =
+    ap₂ (λ a b. a && b) (list_all-both (λ other. not (conflict g other)) xs ys) (are_apart-append xs ys)
+    ∙ regroup (list_all (λ other. not (conflict g other)) xs) (list_all (λ other. not (conflict g other)) ys) (are_apart xs) (are_clear xs ys) (are_apart ys)
+  where
+    regroup : (a b c d e : Bool) → ((a && b) && (c && (d && e))) ≡ ((a && c) && ((b && d) && e))
+    regroup false b c d e = refl
+    regroup true false false d e = refl
+    regroup true false true d e = refl
+    regroup true true c d e = refl
 
-below_from_falls : (n : ℕ) (path : Path) → Falls n path → Below n path
-below_from_falls n [] h = tt
-below_from_falls n (level ∷ path) h = (h.0, below_more level.opening n path (omega (arith, h.0)) (below_from_falls level.opening path h.1))
+-- in one alternative of all disjunctions that hold both, or in different ones of some
+abbrev AreAlternatives : Bool → CaptureAt → CaptureAt → Type 0
+AreAlternatives answer g other = are_alternatives (reverse g.path) (reverse other.path) ≡ answer
 
-lower_differs : (k m : ℕ) → k < m → (k == m) ≡ false
-lower_differs k m l = grind (arith, nat_tests, l)
+together-one : (g : CaptureAt) (ys : List CaptureAt) → Each (AreAlternatives false g) ys →
+    list_all (λ other. not (conflict g other)) ys ≡ not (list_any (same_name g.name) (names_at ys))
+together-one g [] h = refl
+together-one g (y ∷ ys) h =
+    ap₂ (λ a b. not (same_name g.name y.name && not a) && b) h.0 (together-one g ys h.1)
+    ∙ regroup (same_name g.name y.name) (list_any (same_name g.name) (names_at ys))
+  where
+    regroup : (a b : Bool) → (not (a && true) && not b) ≡ not (a || b)
+    regroup true b = refl
+    regroup false b = refl
 
-higher_differs : (k m : ℕ) → k < m → (m == k) ≡ false
-higher_differs k m l = grind (arith, nat_tests, l)
+-- Groups that are together conflict where they share a name.
+together : (xs ys : List CaptureAt) → Each (λ g. Each (AreAlternatives false g) ys) xs →
+    are_clear xs ys ≡ not (share_name (names_at xs) (names_at ys))
+together [] ys h = refl
+together (x ∷ xs) ys h =
+    ap₂ (λ a b. a && b) (together-one x ys h.0) (together xs ys h.1)
+    ∙ regroup (list_any (same_name x.name) (names_at ys)) (share_name (names_at xs) (names_at ys))
+  where
+    regroup : (a b : Bool) → (not a && not b) ≡ not (a || b)
+    regroup true b = refl
+    regroup false b = refl
 
-same_number : (k m : ℕ) → k ≡ m → (k == m) ≡ true
-same_number k m e = grind (arith, nat_tests, e)
+apart-one : (g : CaptureAt) (ys : List CaptureAt) → Each (AreAlternatives true g) ys → list_all (λ other. not (conflict g other)) ys ≡ true
+apart-one g [] h = refl
+apart-one g (y ∷ ys) h = and_from _ _ (not_from_false _ (and_right _ _ (ap not h.0))) (apart-one g ys h.1)
 
--- one that is none of the others has none beside it
-none_beside : (level : Level) (path : Path) (n : ℕ) → n ≤ level.opening → Below n path → list_any (is_beside level) path ≡ false
-none_beside level [] n l h = refl
-none_beside level (other ∷ path) n l h =
-    or_from _ _ (and_left _ _ (higher_differs other.opening level.opening (omega (arith, l, h.0)))) (none_beside level path n l h.1)
+in_alternatives : (xs ys : List CaptureAt) → Each (λ g. Each (AreAlternatives true g) ys) xs → are_clear xs ys ≡ true
+in_alternatives [] ys h = refl
+in_alternatives (x ∷ xs) ys h = and_from _ _ (apart-one x ys h.0) (in_alternatives xs ys h.1)
 
-beside_none : (level : Level) (path : Path) (n : ℕ) → level.opening < n → From n path → list_any (is_beside level) path ≡ false
-beside_none level [] n l h = refl
-beside_none level (other ∷ path) n l h =
-    or_from _ _ (and_left _ _ (lower_differs level.opening other.opening (omega (arith, l, h.0)))) (beside_none level path n l h.1)
+-- ---- where the groups of a part stand
 
--- Behind later parentheses nothing is beside what stood before.
-drop_later : (path more outer : Path) (n : ℕ) → Below n path → From n more →
-    some_holds_both path (more ++ outer) ≡ some_holds_both path outer
-drop_later [] more outer n h k = refl
-drop_later (level ∷ path) more outer n h k =
-    ap₂ (λ a b. a || b)
-    (list_any-append (is_beside level) more outer ∙ ap (λ b. b || list_any (is_beside level) outer) (beside_none level more n h.0 k))
-    (drop_later path more outer n h.1 k)
+-- Below a path, in parentheses that are opened behind n others and within the first m.
+abbrev IsIn : (n m : ℕ) → Path → CaptureAt → Type 0
+IsIn n m path g = (inner : Path) × (g.path ≡ inner ++ path) × From (n + 1) inner × Below (m + 1) inner
 
--- No disjunction holds a place in two alternatives.
-none_in_itself : (path : Path) (n : ℕ) → Falls n path → some_holds_both path path ≡ false
-none_in_itself [] n h = refl
-none_in_itself (level ∷ path) n h =
-    let below = below_from_falls level.opening path h.1 in
-    or_from _ _
-    (or_from _ _ (and_right _ _ (not_from_true _ (same_number level.alternative level.alternative refl))) (none_beside level path level.opening (omega arith) below))
-    (drop_later path (level ∷ []) path level.opening below (omega arith, tt) ∙ none_in_itself path level.opening h.1)
+from_less : (n m : ℕ) (path : Path) → m ≤ n → From n path → From m path
+from_less n m [] l h = tt
+from_less n m (level ∷ path) l h = (omega (arith, l, h.0), from_less n m path l h.1)
 
-below_end : (inner outer : Path) (n : ℕ) → Below n (inner ++ outer) → Below n outer
-below_end [] outer n h = h
-below_end (level ∷ inner) outer n h = below_end inner outer n h.1
+-- in a row, the one behind the parentheses of the other
+row : (n k m : ℕ) (path : Path) (g other : CaptureAt) → IsIn n k path g → IsIn k m path other → AreAlternatives false g other
+row n k m path g other (inner, e, from, below) (inner', e', from', below') =
+    ap₂ (λ a b. are_alternatives (reverse a) (reverse b)) e e'
+    ∙ ap₂ are_alternatives (reverse-append inner path) (reverse-append inner' path)
+    ∙ same_front (reverse path) (reverse inner) (reverse inner')
+    ∙ no_alternatives (reverse inner) (reverse inner') (k + 1) (below_reverse (k + 1) inner below) (from_reverse (k + 1) inner' from')
 
-none_outside : (inner outer : Path) (n : ℕ) → Falls n (inner ++ outer) → some_holds_both (inner ++ outer) outer ≡ false
-none_outside [] outer n h = none_in_itself outer n h
-none_outside (level ∷ inner) outer n h =
-    or_from _ _
-    (none_beside level outer level.opening (omega arith)
-    (below_end inner outer level.opening (below_from_falls level.opening (inner ++ outer) h.1)))
-    (none_outside inner outer level.opening h.1)
+-- in an alternative of this disjunction, that of this number or a later one
+abbrev IsFrom : (n m : ℕ) (outer : Path) (opening alternative : ℕ) → CaptureAt → Type 0
+IsFrom n m outer opening alternative g =
+    (number : ℕ) × (alternative ≤ number) × IsIn n m (record { opening = opening; alternative = number } ∷ outer) g
 
--- ---- the outermost first
+-- in different alternatives
+beside : (n k k' m : ℕ) (outer : Path) (opening alternative : ℕ) (g other : CaptureAt) →
+    IsIn n k (record { opening = opening; alternative = alternative } ∷ outer) g → IsFrom k' m outer opening (alternative + 1) other →
+    AreAlternatives true g other
+beside n k k' m outer opening alternative g other (inner, e, from, below) (number, later, (inner', e', from', below')) =
+    ap₂ (λ a b. are_alternatives (reverse a) (reverse b)) e e'
+    ∙ ap₂ are_alternatives (turned inner _) (turned inner' _)
+    ∙ same_front (reverse outer) (_ ∷ reverse inner) (_ ∷ reverse inner')
+    ∙ and_from _ _ (same_number opening opening refl) (or_left _ _ (not_from_false _ (lower_differs alternative number (omega (arith, later)))))
+  where
+    turned : (front : Path) (level : Level) → reverse (front ++ level ∷ outer) ≡ reverse outer ++ level ∷ reverse front
+    turned front level =
+        reverse-append front (level ∷ outer) ∙ ap (λ p. p ++ reverse front) (reverse-append (level ∷ []) outer)
+        ∙ append_assoc (reverse outer) (level ∷ []) (reverse front)
 
-below_append : (n : ℕ) (path other : Path) → Below n path → Below n other → Below n (path ++ other)
-below_append n [] other h k = k
-below_append n (level ∷ path) other h k = (h.0, below_append n path other h.1 k)
+abbrev at : Path → ℕ → Place
+at path n = record { path = path; opened = n }
 
-from_append : (n : ℕ) (path other : Path) → From n path → From n other → From n (path ++ other)
-from_append n [] other h k = k
-from_append n (level ∷ path) other h k = (h.0, from_append n path other h.1 k)
+-- What the marks of terms tell behind n parentheses: groups below the path, of these names, and whether they are apart.
+record Row (path : Path) (n : ℕ) (ms : List Mark) (ns : List (Option Name)) (b : Bool) : Type 0 where
+  found : List CaptureAt
+  opened : ℕ
+  split : (rest : List Mark) → groups_by (at path n) (ms ++ rest) ≡ found ++ groups_by (at path opened) rest
+  more : n ≤ opened
+  inside : Each (IsIn n opened path) found
+  named : names_at found ≡ ns
+  apart : are_apart found ≡ b
 
-below_front : (inner outer : Path) (n : ℕ) → Below n (inner ++ outer) → Below n inner
-below_front [] outer n h = tt
-below_front (level ∷ inner) outer n h = (h.0, below_front inner outer n h.1)
+-- The same of alternatives, from one on.
+record Choice (outer : Path) (opening first n : ℕ) (ms : List Mark) (ns : List (Option Name)) (b : Bool) : Type 0 where
+  found : List CaptureAt
+  opened : ℕ
+  last : ℕ
+  split : (rest : List Mark) → groups_by (at (record { opening = opening; alternative = first } ∷ outer) n) (ms ++ rest)
+      ≡ found ++ groups_by (at (record { opening = opening; alternative = last } ∷ outer) opened) rest
+  more : n ≤ opened
+  inside : Each (IsFrom n opened outer opening first) found
+  named : names_at found ≡ ns
+  apart : are_apart found ≡ b
 
-below_reverse : (n : ℕ) (path : Path) → Below n path → Below n (reverse path)
-below_reverse n [] h = tt
-below_reverse n (level ∷ path) h =
-    subst (Below n) (sym (reverse-append (level ∷ []) path)) (below_append n (reverse path) (level ∷ []) (below_reverse n path h.1) (h.0, tt))
+within : (n m n' m' : ℕ) (path : Path) → n' ≤ n → m ≤ m' → (g : CaptureAt) → IsIn n m path g → IsIn n' m' path g
+within n m n' m' path l l' g (inner, e, from, below) =
+    (inner, e, from_less (n + 1) (n' + 1) inner (omega (arith, l)) from, below_more (m + 1) (m' + 1) inner (omega (arith, l')) below)
 
-from_reverse : (n : ℕ) (path : Path) → From n path → From n (reverse path)
-from_reverse n [] h = tt
-from_reverse n (level ∷ path) h =
-    subst (From n) (sym (reverse-append (level ∷ []) path)) (from_append n (reverse path) (level ∷ []) (from_reverse n path h.1) (h.0, tt))
+parts_in_a_row : (xs ys zs rest : List Mark) (found others : List CaptureAt) (a b c : Place) →
+    ((rest : List Mark) → groups_by a (xs ++ rest) ≡ found ++ groups_by b rest) →
+    ((rest : List Mark) → groups_by b (ys ++ rest) ≡ others ++ groups_by c rest) →
+    groups_by a ((xs ++ ys) ++ rest) ≡ (found ++ others) ++ groups_by c rest
+parts_in_a_row xs ys zs rest found others a b c h k =
+    ap (groups_by a) (append_assoc xs ys rest) ∙ h (ys ++ rest) ∙ ap (λ gs. found ++ gs) (k rest)
+    ∙ sym (append_assoc found others (groups_by c rest))
 
-same_front : (front path other : Path) → are_alternatives (front ++ path) (front ++ other) ≡ are_alternatives path other
-same_front [] path other = refl
-same_front (level ∷ front) path other = let inside = same_front front path other in grind (arith, nat_tests)
+-- terms behind a term
+in_a_row : (path : Path) (n : ℕ) (xs ys : List Mark) (ns ms : List (Option Name)) (a b : Bool) → (first : Row path n xs ns a) →
+    Row path first.opened ys ms b → Row path n (xs ++ ys) (ns ++ ms) (a && (not (share_name ns ms) && b))
+in_a_row path n xs ys ns ms a b first rest =
+    record {
+      found = first.found ++ rest.found;
+      opened = rest.opened;
+      split = λ behind. parts_in_a_row xs ys [] behind first.found rest.found _ _ _ first.split rest.split;
+      more = omega (arith, first.more, rest.more);
+      inside =
+          each_append _ first.found rest.found
+          (each_map _ _ (within n first.opened n rest.opened path (omega arith) rest.more) first.found first.inside)
+          (each_map _ _ (within first.opened rest.opened n rest.opened path first.more (omega arith)) rest.found rest.inside);
+      named = map-append (λ g. g.name) first.found rest.found ∙ ap₂ (λ x y. x ++ y) first.named rest.named;
+      apart = are_apart-append first.found rest.found
+          ∙ ap₂ (λ x y. x && y) first.apart
+          (ap₂ (λ x y. x && y)
+          (together first.found rest.found
+          (each_map _ _
+          (λ g h. each_map _ _ (λ other k. row n first.opened rest.opened path g other h k) rest.found rest.inside) first.found first.inside)
+          ∙ ap₂ (λ x y. not (share_name x y)) first.named rest.named)
+          rest.apart);
+    }
 
-no_alternatives : (path other : Path) (n : ℕ) → Below n path → From n other → are_alternatives path other ≡ false
-no_alternatives [] other n h k = refl
-no_alternatives (level ∷ path) [] n h k = refl
-no_alternatives (level ∷ path) (beside ∷ other) n h k = and_left _ _ (lower_differs level.opening beside.opening (omega (arith, h.0, k.0)))
+-- one alternative, the last
+only : (outer : Path) (opening first n : ℕ) (xs : List Mark) (ns : List (Option Name)) (a : Bool) →
+    Row (record { opening = opening; alternative = first } ∷ outer) n xs ns a → Choice outer opening first n xs ns a
+only outer opening first n xs ns a r =
+    record {
+      found = r.found;
+      opened = r.opened;
+      last = first;
+      split = r.split;
+      more = r.more;
+      inside = each_map _ _ (λ g h. (first, omega arith, h)) r.found r.inside;
+      named = r.named;
+      apart = r.apart;
+    }
 
--- ---- from one place to the next
+-- one alternative, and others behind a bar
+or_else : (outer : Path) (opening first n : ℕ) (xs ys : List Mark) (ns ms : List (Option Name)) (a b : Bool) →
+    (r : Row (record { opening = opening; alternative = first } ∷ outer) n xs ns a) → Choice outer opening (first + 1) r.opened ys ms b →
+    Choice outer opening first n (xs ++ next ∷ ys) (ns ++ ms) (a && b)
+or_else outer opening first n xs ys ns ms a b r others =
+    record {
+      found = r.found ++ others.found;
+      opened = others.opened;
+      last = others.last;
+      split = λ behind. parts_in_a_row xs (next ∷ ys) [] behind r.found others.found _ _ _ r.split others.split;
+      more = omega (arith, r.more, others.more);
+      inside =
+          each_append _ r.found others.found
+          (each_map _ _ (λ g h. (first, omega arith, within n r.opened n others.opened _ (omega arith) others.more g h)) r.found r.inside)
+          (each_map _ _ (λ g h. (h.0, omega (arith, h.1), within r.opened others.opened n others.opened _ r.more (omega arith) g h.2)) others.found others.inside);
+      named = map-append (λ g. g.name) r.found others.found ∙ ap₂ (λ x y. x ++ y) r.named others.named;
+      apart = are_apart-append r.found others.found
+          ∙ ap₂ (λ x y. x && y) r.apart
+          (ap₂ (λ x y. x && y)
+          (in_alternatives r.found others.found
+          (each_map _ _
+          (λ g h. each_map _ _ (λ other k. beside n r.opened r.opened others.opened outer opening first g other h k) others.found others.inside) r.found r.inside))
+          others.apart);
+    }
 
--- How a path stands to that of an earlier place, in front of whose pattern fewer than n parentheses were opened: both have
--- the outer part in common, and what this one has more was opened later; or they part at an alternative.
-data Stands (old : Path) (n : ℕ) (now : Path) : Type 0 where
-  shared : (inner outer more : Path) → old ≡ inner ++ outer → now ≡ more ++ outer → From n more → Stands old n now
-  parted : (inner outer more : Path) (before here : Level) → old ≡ inner ++ before ∷ outer → now ≡ more ++ here ∷ outer →
-      before.opening ≡ here.opening → before.alternative < here.alternative → Stands old n now
+-- the groups that a parenthesis opens at a path
+abbrev own : Path → Group → List CaptureAt
+own path kind = map (λ name. record { path = path; name = name }) (names_of_group kind)
 
-module _ (old : Path) (n : ℕ) where
-  stands_inside : (now : Path) (level : Level) → n ≤ level.opening → Stands old n now → Stands old n (level ∷ now)
-  stands_inside now level l (shared inner outer more e f later) = shared inner outer (level ∷ more) e (ap (λ p. level ∷ p) f) (l, later)
-  stands_inside now level l (parted inner outer more before here e f same less) =
-      parted inner outer (level ∷ more) before here e (ap (λ p. level ∷ p) f) same less
+own_found : (path : Path) (n : ℕ) (kind : Group) (ms : List Mark) →
+    groups_by (at path n) (mark_of_group kind ∷ ms) ≡ own path kind ++ groups_by (enter (at path n)) ms
+own_found path n grouping ms = refl
+own_found path n (modified change) ms = refl
+own_found path n (capture name) ms = refl
+own_found path n (look negate direction) ms = refl
 
-  shared_outside : (inner outer more : Path) → old ≡ inner ++ outer → From n more → Stands old n (outside (more ++ outer))
-  shared_outside inner [] [] e later = shared inner [] [] e refl tt
-  shared_outside inner (o ∷ []) [] e later = shared inner (o ∷ []) [] e refl tt
-  shared_outside inner (o ∷ around ∷ outer) [] e later =
-      shared (inner ++ o ∷ []) (around ∷ outer) [] (e ∙ sym (append_assoc inner (o ∷ []) (around ∷ outer))) refl tt
-  shared_outside inner [] (m ∷ []) e later = shared inner [] (m ∷ []) e refl later
-  shared_outside inner (o ∷ outer) (m ∷ []) e later = shared inner (o ∷ outer) [] e refl tt
-  shared_outside inner outer (m ∷ around ∷ more) e later = shared inner outer (around ∷ more) e refl later.1
+own_inside : (path : Path) (n : ℕ) (kind : Group) → Each (IsIn n n path) (own path kind)
+own_inside path n grouping = tt
+own_inside path n (modified change) = tt
+own_inside path n (capture name) = (([], refl, tt, tt), tt)
+own_inside path n (look negate direction) = tt
 
-  parted_outside : (inner outer more : Path) (before here : Level) → old ≡ inner ++ before ∷ outer →
-      before.opening ≡ here.opening → before.alternative < here.alternative → Stands old n (outside (more ++ here ∷ outer))
-  parted_outside inner [] [] before here e same less = parted inner [] [] before here e refl same less
-  parted_outside inner (o ∷ outer) [] before here e same less =
-      shared (inner ++ before ∷ []) (o ∷ outer) [] (e ∙ sym (append_assoc inner (before ∷ []) (o ∷ outer))) refl tt
-  parted_outside inner outer (m ∷ []) before here e same less = parted inner outer [] before here e refl same less
-  parted_outside inner outer (m ∷ around ∷ more) before here e same less =
-      parted inner outer (around ∷ more) before here e refl same less
+own_named : (path : Path) (kind : Group) → names_at (own path kind) ≡ names_of_group kind
+own_named path grouping = refl
+own_named path (modified change) = refl
+own_named path (capture name) = refl
+own_named path (look negate direction) = refl
 
-  stands_outside : (now : Path) → Stands old n now → Stands old n (outside now)
-  stands_outside now (shared inner outer more e f later) = subst (λ p. Stands old n (outside p)) (sym f) (shared_outside inner outer more e later)
-  stands_outside now (parted inner outer more before here e f same less) =
-      subst (λ p. Stands old n (outside p)) (sym f) (parted_outside inner outer more before here e same less)
+own_apart : (path : Path) (kind : Group) → are_apart (own path kind) ≡ true
+own_apart path grouping = refl
+own_apart path (modified change) = refl
+own_apart path (capture name) = refl
+own_apart path (look negate direction) = refl
 
-  shared_next : (inner outer more : Path) → old ≡ inner ++ outer → From n more → Stands old n (next_alternative (more ++ outer))
-  shared_next inner [] [] e later = shared inner [] [] e refl tt
-  shared_next inner (o ∷ outer) [] e later =
-      parted inner outer [] o (record o { alternative = o.alternative + 1 }) e refl refl (omega arith)
-  shared_next inner outer (m ∷ more) e later = shared inner outer (record m { alternative = m.alternative + 1 } ∷ more) e refl later
+-- what stands in parentheses is below the path around them
+below_path : (path : Path) (n m : ℕ) → n + 1 ≤ m → (g : CaptureAt) → IsFrom (n + 1) m path (n + 1) 0 g → IsIn n m path g
+below_path path n m l g (number, later, (inner, e, from, below)) =
+    let level : Level = record { opening = n + 1; alternative = number } in (
+      inner ++ level ∷ [],
+      e ∙ sym (append_assoc inner (level ∷ []) path),
+      from_append (n + 1) inner (level ∷ []) (from_less (n + 1 + 1) (n + 1) inner (omega arith) from) (omega arith, tt),
+      below_append (m + 1) inner (level ∷ []) below (omega (arith, l), tt),
+    )
 
-  parted_next : (inner outer more : Path) (before here : Level) → old ≡ inner ++ before ∷ outer →
-      before.opening ≡ here.opening → before.alternative < here.alternative → Stands old n (next_alternative (more ++ here ∷ outer))
-  parted_next inner outer [] before here e same less =
-      parted inner outer [] before (record here { alternative = here.alternative + 1 }) e refl same (omega (arith, less))
-  parted_next inner outer (m ∷ more) before here e same less =
-      parted inner outer (record m { alternative = m.alternative + 1 } ∷ more) before here e refl same less
+-- parentheses with what they hold
+in_parentheses : (level : Level) (around : Path) (n : ℕ) (kind : Group) (ms : List Mark) (ns : List (Option Name)) (b : Bool) →
+    Choice (level ∷ around) (n + 1) 0 (n + 1) ms ns b →
+    Row (level ∷ around) n (mark_of_group kind ∷ ms ++ closes ∷ []) (names_of_group kind ++ ns) (not (share_name (names_of_group kind) ns) && b)
+in_parentheses level around n kind ms ns b body =
+    let path = level ∷ around in
+    let inside : Each (IsIn n body.opened path) body.found = each_map _ _ (below_path path n body.opened body.more) body.found body.inside in
+    record {
+      found = own path kind ++ body.found;
+      opened = body.opened;
+      split = λ rest.
+          own_found path n kind ((ms ++ closes ∷ []) ++ rest)
+          ∙ ap (λ gs. own path kind ++ gs) (ap (groups_by (enter (at path n))) (append_assoc ms (closes ∷ []) rest) ∙ body.split (closes ∷ rest))
+          ∙ sym (append_assoc (own path kind) body.found (groups_by (at path body.opened) rest));
+      more = omega (arith, body.more);
+      inside =
+          each_append _ (own path kind) body.found
+          (each_map _ _ (within n n n body.opened path (omega arith) (omega (arith, body.more))) (own path kind) (own_inside path n kind))
+          inside;
+      named = map-append (λ g. g.name) (own path kind) body.found ∙ ap₂ (λ x y. x ++ y) (own_named path kind) body.named;
+      apart = are_apart-append (own path kind) body.found
+          ∙ ap₂ (λ x y. x && y) (own_apart path kind)
+          (ap₂ (λ x y. x && y)
+          (together (own path kind) body.found
+          (each_map _ _ (λ g h. each_map _ _ (λ other k. row n n body.opened path g other h k) body.found inside) (own path kind) (own_inside path n kind))
+          ∙ ap₂ (λ x y. not (share_name x y)) (own_named path kind) body.named)
+          body.apart);
+    }
 
-  stands_next : (now : Path) → Stands old n now → Stands old n (next_alternative now)
-  stands_next now (shared inner outer more e f later) =
-      subst (λ p. Stands old n (next_alternative p)) (sym f) (shared_next inner outer more e later)
-  stands_next now (parted inner outer more before here e f same less) =
-      subst (λ p. Stands old n (next_alternative p)) (sym f) (parted_next inner outer more before here e same less)
+no_groups : (path : Path) (n : ℕ) (ms : List Mark) → ((rest : List Mark) → groups_by (at path n) (ms ++ rest) ≡ groups_by (at path n) rest) →
+    Row path n ms [] true
+no_groups path n ms e = record { found = []; opened = n; split = e; more = omega arith; inside = tt; named = refl; apart = refl }
 
-  -- ---- of two places
+atom_found : (path : Path) (n : ℕ) (a : Atom) (rest : List Mark) → groups_by (at path n) (marks_of_atom a ++ rest) ≡ groups_by (at path n) rest
+atom_found path n (literal flags c) rest = refl
+atom_found path n (dot flags) rest = refl
+atom_found path n (anchor flags kind) rest = refl
+atom_found path n (boundary flags inverted) rest = refl
+atom_found path n (class_escape flags kind negated) rest = refl
+atom_found path n (class flags inverted members) rest = refl
+atom_found path n (class_set flags negated value) rest = refl
+atom_found path n (string_property flags written) rest = refl
+atom_found path n (back_reference flags to) rest = refl
 
-  module _ (k : ℕ) (falls : Falls k old) (below : Below n old) where
-    shared_alike : (inner outer more : Path) → old ≡ inner ++ outer → From n more →
-        are_alternatives (reverse old) (reverse (more ++ outer)) ≡ some_holds_both old (more ++ outer)
-    shared_alike inner outer more e later =
-        let here : Below n (inner ++ outer) = subst (Below n) e below in
-        let sorted : Falls k (inner ++ outer) = subst (Falls k) e falls in
-        subst (λ p. are_alternatives (reverse p) (reverse (more ++ outer)) ≡ some_holds_both p (more ++ outer)) (sym e)
-        (ap₂ are_alternatives (reverse-append inner outer) (reverse-append more outer)
-        ∙ same_front (reverse outer) (reverse inner) (reverse more)
-        ∙ no_alternatives (reverse inner) (reverse more) n (below_reverse n inner (below_front inner outer n here)) (from_reverse n more later)
-        ∙ sym (drop_later (inner ++ outer) more outer n here later ∙ none_outside inner outer k sorted))
+-- ---- the syntax tree
 
-    parted_alike : (inner outer more : Path) (before here : Level) → old ≡ inner ++ before ∷ outer →
-        before.opening ≡ here.opening → before.alternative < here.alternative →
-        are_alternatives (reverse old) (reverse (more ++ here ∷ outer)) ≡ some_holds_both old (more ++ here ∷ outer)
-    parted_alike inner outer more before here e same less =
-        let opening : (before.opening == here.opening) ≡ true = same_number before.opening here.opening same in
-        let alternative : not (before.alternative == here.alternative) ≡ true = not_from_false _ (lower_differs before.alternative here.alternative less) in
-        let beside : is_beside before here ≡ true = and_from _ _ opening alternative in
-        subst (λ p. are_alternatives (reverse p) (reverse (more ++ here ∷ outer)) ≡ some_holds_both p (more ++ here ∷ outer)) (sym e)
-        (ap₂ are_alternatives (turned inner before) (turned more here)
-        ∙ same_front (reverse outer) (before ∷ reverse inner) (here ∷ reverse more)
-        ∙ first (reverse inner) (reverse more)
-        ∙ sym (list_any-append (λ level. list_any (is_beside level) (more ++ here ∷ outer)) inner (before ∷ outer)
-        ∙ or_right _ _ (or_left _ _
-        (list_any-append (is_beside before) more (here ∷ outer) ∙ or_right _ _ (or_left _ _ beside)))))
-      where
-        turned : (front : Path) (level : Level) → reverse (front ++ level ∷ outer) ≡ reverse outer ++ level ∷ reverse front
-        turned front level =
-            reverse-append front (level ∷ outer) ∙ ap (λ p. p ++ reverse front) (reverse-append (level ∷ []) outer)
-            ∙ append_assoc (reverse outer) (level ∷ []) (reverse front)
+mutual
+  of_pattern : (outer : Path) (opening first n : ℕ) (p : Pattern) → Choice outer opening first n (marks_of p) (names p) (are_names_apart p)
+  of_pattern outer opening first n (one ts) = only outer opening first n _ _ _ (of_terms _ outer n ts)
+  of_pattern outer opening first n (either ts p) =
+      let r = of_terms (record { opening = opening; alternative = first }) outer n ts in
+      or_else outer opening first n _ _ _ _ _ _ r (of_pattern outer opening (first + 1) r.opened p)
 
-        first : (path other : Path) → are_alternatives (before ∷ path) (here ∷ other) ≡ true
-        first path other =
-            and_from _ _ (same_number before.opening here.opening same)
-            (or_left _ _ (not_from_false _ (lower_differs before.alternative here.alternative less)))
+  of_terms : (level : Level) (around : Path) (n : ℕ) (ts : Terms) →
+      Row (level ∷ around) n (marks_of_terms ts) (names_of_terms ts) (are_names_apart_in_terms ts)
+  of_terms level around n no_terms = no_groups (level ∷ around) n [] (λ rest. refl)
+  of_terms level around n (more_terms x q xs) =
+      let r = of_item level around n x in
+      in_a_row (level ∷ around) n _ _ _ _ _ _ r (of_terms level around r.opened xs)
 
-    alike : (now : Path) → Stands old n now → are_alternatives (reverse old) (reverse now) ≡ some_holds_both old now
-    alike now (shared inner outer more e f later) =
-        subst (λ p. are_alternatives (reverse old) (reverse p) ≡ some_holds_both old p) (sym f) (shared_alike inner outer more e later)
-    alike now (parted inner outer more before here e f same less) =
-        subst (λ p. are_alternatives (reverse old) (reverse p) ≡ some_holds_both old p) (sym f) (parted_alike inner outer more before here e same less)
+  of_item : (level : Level) (around : Path) (n : ℕ) (x : Item) →
+      Row (level ∷ around) n (marks_of_item x) (names_of_item x) (are_names_apart_in_item x)
+  of_item level around n (atom a) = no_groups (level ∷ around) n _ (atom_found (level ∷ around) n a)
+  of_item level around n (group kind p) =
+      in_parentheses level around n kind _ _ _ (of_pattern (level ∷ around) (n + 1) 0 (n + 1) p)
 
--- ---- of all groups
+-- The marks of a pattern tell whether its names are apart.
+pub apart_by_marks : (p : Pattern) → are_marks_apart (marks_of p) ≡ are_names_apart p
+apart_by_marks p =
+    let all = of_pattern [] 0 0 0 p in
+    ap are_apart (ap (groups_by at_the_start) (sym (append-nil (marks_of p))) ∙ all.split [] ∙ append-nil all.found) ∙ all.apart
 
--- Two groups of one name, in no disjunction at all in different alternatives.
-abbrev pub conflict_anywhere : CaptureAt → CaptureAt → Bool
-conflict_anywhere a b = same_name a.name b.name && not (some_holds_both a.path b.path)
+-- The rule, of each two groups: names are apart where of each two groups of one name some disjunction holds both in
+-- different alternatives.
+pub apart_as_written : (p : Pattern) → are_names_apart p ≡ are_apart_anywhere (groups_by at_the_start (marks_of p))
+apart_as_written p = sym (apart_by_marks p) ∙ apart_anywhere (marks_of p)
 
-abbrev pub are_apart_anywhere : List CaptureAt → Bool
-are_apart_anywhere [] = true
-are_apart_anywhere (g ∷ gs) = list_all (λ other. not (conflict_anywhere g other)) gs && are_apart_anywhere gs
-
-later_alike : (g : CaptureAt) (n k : ℕ) → Falls k g.path → Below n g.path → (place : Place) (ms : List Mark) →
-    n ≤ place.opened + 1 → Stands g.path n place.path →
-    list_all (λ other. not (conflict g other)) (groups_by place ms) ≡ list_all (λ other. not (conflict_anywhere g other)) (groups_by place ms)
-later_alike g n k falls below place [] l stands = refl
-later_alike g n k falls below place (opens ∷ ms) l stands =
-    later_alike g n k falls below (enter place) ms (omega (arith, l)) (stands_inside g.path n place.path _ l stands)
-later_alike g n k falls below place (captures name ∷ ms) l stands =
-    ap₂ (λ a b. not (same_name g.name name && not a) && b) (alike g.path n k falls below place.path stands)
-    (later_alike g n k falls below (enter place) ms (omega (arith, l)) (stands_inside g.path n place.path _ l stands))
-later_alike g n k falls below place (closes ∷ ms) l stands =
-    later_alike g n k falls below (record place { path = outside place.path }) ms l (stands_outside g.path n place.path stands)
-later_alike g n k falls below place (next ∷ ms) l stands =
-    later_alike g n k falls below (record place { path = next_alternative place.path }) ms l (stands_next g.path n place.path stands)
-later_alike g n k falls below place (nests levels ∷ ms) l stands = later_alike g n k falls below place ms l stands
-
-falls_outside : (n : ℕ) (path : Path) → Falls n path → Falls n (outside path)
-falls_outside n [] h = tt
-falls_outside n (level ∷ []) h = h
-falls_outside n (level ∷ around ∷ path) h = (omega (arith, h.0, h.1.0), h.1.1)
-
-falls_next : (n : ℕ) (path : Path) → Falls n path → Falls n (next_alternative path)
-falls_next n [] h = tt
-falls_next n (level ∷ path) h = h
-
-apart_alike : (place : Place) (ms : List Mark) → Falls (place.opened + 1) place.path →
-    are_apart (groups_by place ms) ≡ are_apart_anywhere (groups_by place ms)
-apart_alike place [] h = refl
-apart_alike place (opens ∷ ms) h = apart_alike (enter place) ms (omega arith, h)
-apart_alike place (captures name ∷ ms) h =
-    let g : CaptureAt = record { path = place.path; name = name } in
-    ap₂ (λ a b. a && b)
-    (later_alike g (place.opened + 1) (place.opened + 1) h (below_from_falls _ place.path h) (enter place) ms (omega arith)
-    (stands_inside place.path (place.opened + 1) place.path _ (omega arith) (shared [] place.path [] refl refl tt)))
-    (apart_alike (enter place) ms (omega arith, h))
-apart_alike place (closes ∷ ms) h = apart_alike (record place { path = outside place.path }) ms (falls_outside _ place.path h)
-apart_alike place (next ∷ ms) h = apart_alike (record place { path = next_alternative place.path }) ms (falls_next _ place.path h)
-apart_alike place (nests levels ∷ ms) h = apart_alike place ms h
-
--- It is enough to compare paths from the outermost disjunction on: no other one holds both.
-pub apart_anywhere : (ms : List Mark) → are_apart (groups_by at_the_start ms) ≡ are_apart_anywhere (groups_by at_the_start ms)
-apart_anywhere ms = apart_alike at_the_start ms (omega arith, tt)
-
--- ---- by the numbers of alternatives alone
-
--- the numbers agree on all levels that both have, the outermost first
-abbrev pub numbers_agree : Path → Path → Bool
-numbers_agree [] other = true
-numbers_agree (level ∷ path) [] = true
-numbers_agree (level ∷ path) (beside ∷ other) = level.alternative == beside.alternative && numbers_agree path other
-
-abbrev pub conflict_by_numbers : CaptureAt → CaptureAt → Bool
-conflict_by_numbers a b = same_name a.name b.name && numbers_agree (reverse a.path) (reverse b.path)
-
-abbrev pub are_apart_by_numbers : List CaptureAt → Bool
-are_apart_by_numbers [] = true
-are_apart_by_numbers (g ∷ gs) = list_all (λ other. not (conflict_by_numbers g other)) gs && are_apart_by_numbers gs
-
-no_alternatives_by_numbers : (path other : Path) → numbers_agree path other ≡ true → are_alternatives path other ≡ false
-no_alternatives_by_numbers [] other e = refl
-no_alternatives_by_numbers (level ∷ path) [] e = refl
-no_alternatives_by_numbers (level ∷ path) (beside ∷ other) e =
-    let parts = and_parts _ _ e in
-    and_right _ _ (or_from _ _ (not_from_true _ parts.0) (no_alternatives_by_numbers path other parts.1))
-
-by_numbers_too : (g other : CaptureAt) → not (conflict g other) ≡ true → not (conflict_by_numbers g other) ≡ true
-by_numbers_too g other e =
-    not_from_false _ (false_from_ne_true _ (λ h.
-    let parts = and_parts _ _ h in
-    true≢false (sym e ∙ not_from_true _
-    (and_from _ _ parts.0 (not_from_false _ (no_alternatives_by_numbers (reverse g.path) (reverse other.path) parts.1))))))
-
-all_by_numbers_too : (g : CaptureAt) (gs : List CaptureAt) → list_all (λ other. not (conflict g other)) gs ≡ true →
-    list_all (λ other. not (conflict_by_numbers g other)) gs ≡ true
-all_by_numbers_too g [] e = refl
-all_by_numbers_too g (other ∷ gs) e =
-    let parts = and_parts _ _ e in and_from _ _ (by_numbers_too g other parts.0) (all_by_numbers_too g gs parts.1)
-
--- What is apart is so by the numbers alone too: a pattern that is accepted is accepted by that rule.
-pub apart_by_numbers : (gs : List CaptureAt) → are_apart gs ≡ true → are_apart_by_numbers gs ≡ true
-apart_by_numbers [] e = refl
-apart_by_numbers (g ∷ gs) e =
-    let parts = and_parts _ _ e in and_from _ _ (all_by_numbers_too g gs parts.0) (apart_by_numbers gs parts.1)
+-- Where names are apart they are so by the numbers of alternatives alone: what the rule accepts was accepted by that one.
+pub apart_by_numbers_too : (p : Pattern) → NoneConflict p → are_apart_by_numbers (groups_by at_the_start (marks_of p)) ≡ true
+apart_by_numbers_too p h = apart_by_numbers (groups_by at_the_start (marks_of p)) (apart_by_marks p ∙ h)

@@ -2,7 +2,7 @@
 ghost use Rattle.std.specs.Prelude.{◌≡◌, ◌<◌, ◌≤◌, ◌+◌, ◌^◌, ◌==◌, Bool, false, drop, length, option_map, IfOk};
 ghost use Rattle.regress_unicode.specs.Table.{Table};
 ghost use Rattle.regress_unicode.specs.TableOf.{table_of};
-ghost use Rattle.regress_lexical.specs.Source.{is_at};
+ghost use Rattle.regress_lexical.specs.Source.{char, is_at};
 ghost use Rattle.regress_syntax.specs.Scan.{opened_at, mode_behind, is_quiet, mark_at, marks};
 ghost use Rattle.regress_syntax.specs.Scanning.{mode_of, mark_of, depth_of};
 ghost use Rattle.regress_syntax.specs.declared.scan.mark.Mode.{Mode as CodeMode};
@@ -42,7 +42,7 @@ impl Mode {
     /// The mode behind a code point that begins no escape.
     pub(super) fn behind(self, c: u32, sets: bool) -> Mode
         requires room { depth_of (mode_of self) + 1 < 2 ^ 64 }
-        requires unescaped { (c == 92) ≡ false }
+        requires unescaped { (c == char "\\") ≡ false }
         ensures { mode_of result ≡ mode_behind sets (mode_of self) c }
     {
         match (self, char::from_u32(c)) {
@@ -92,7 +92,7 @@ fn skip_escaped(source: &[u32]) -> &[u32]
 pub(super) fn skip_quiet(source: &[u32]) -> &[u32]
     ensures same { (sets : Bool) (table : Table) (mode : CodeMode) →
         marks sets table (mode_of mode) source.now ≡ marks sets table (mode_of mode) result.now }
-    ensures unescaped { is_at 92 result.now ≡ false }
+    ensures unescaped { is_at (char "\\") result.now ≡ false }
     ensures within { length result.now ≤ length source.now }
 {
     let mut rest = source;

@@ -1,6 +1,6 @@
 //! Where a place of a pattern stands: the disjunctions that hold it.
 ghost use Rattle.std.specs.Prelude.{◌≡◌, ◌<◌, ◌≤◌, ◌+◌, ◌∷◌, [], ◌^◌, length, reverse, IfOk, OnOk};
-ghost use Rattle.regress_syntax.specs.SameNames.{at_the_start, are_alternatives, outside, next_alternative};
+ghost use Rattle.regress_syntax.specs.Paths.{at_the_start, are_alternatives, outside, next_alternative};
 ghost use Rattle.regress_syntax.specs.Scanning.{path_of, highest};
 
 use std::alloc::{AllocError, Global};

@@ -5,7 +5,7 @@ ghost use Rattle.regress_base.specs.Limits.{max_nesting_depth};
 ghost use Rattle.regress_lexical.specs.Fault.{RefusedOnlyIf};
 ghost use Rattle.regress_syntax.specs.Numbering.{names_of};
 ghost use Rattle.regress_syntax.specs.Marks.{Mark as Written};
-ghost use Rattle.regress_syntax.specs.SameNames.{CaptureAt, NoneConflict, conflict, enter};
+ghost use Rattle.regress_syntax.specs.Paths.{CaptureAt, NoMarksConflict, conflict, enter};
 ghost use Rattle.regress_syntax.specs.Scan.{named_by, deepest, IsRefusedByMarks};
 ghost use Rattle.regress_syntax.specs.Scanning.{mark_of, capture_of, bears_name, path_of, place_of, highest_at, Behind};
 
@@ -119,7 +119,7 @@ impl Scanner {
     /// there were too many levels.
     pub(super) fn finish(self) -> Result<Vec<Option<Name>>, ParseFault>
         ensures names { (all : List Written) → Behind all [] self → IfOk result (λ names. names_of names.items ≡ named_by all) }
-        ensures apart { (all : List Written) → Behind all [] self → IfOk result (λ _. NoneConflict all) }
+        ensures apart { (all : List Written) → Behind all [] self → IfOk result (λ _. NoMarksConflict all) }
         ensures levels { (all : List Written) → Behind all [] self → IfOk result (λ _. deepest 1 all ≤ max_nesting_depth) }
         ensures refused { (all : List Written) → Behind all [] self → RefusedOnlyIf result (IsRefusedByMarks all) }
     {

@@ -3,7 +3,8 @@ use Rattle.std.proofs.Common.{◌≡◌, ℕ, Bool, false, List, [], ◌++◌, r
 use Rattle.std.proofs.lemmas.Bool.{false≢true}
 use Rattle.regress_tree.specs.Tree.{Tree, Trees, leaf, cat, alt, wrapped, no_trees, more_trees}
 use Rattle.regress_tree.specs.WellFormed.{captures, captures_in_row, captures_of_wrapper}
-use Rattle.regress_tree.specs.Visits.{Visited, before_children, without_children, Inside, in_leaf, in_cat, in_alt, in_wrapped, RowVisited, no_more, one_more, gathered, gathered_in_row, own_group}
+use Rattle.regress_tree.specs.Visits.{Visited, before_children, without_children, Inside, in_leaf, in_cat, in_alt, in_wrapped, RowVisited, no_more, one_more}
+use Rattle.regress_tree.specs.Gathered.{gathered, gathered_in_row, own_group}
 
 -- Each call adds what its node has, leaves the node and skips nothing. `Added a b xs` says that the closure has gathered these
 -- between the two states.

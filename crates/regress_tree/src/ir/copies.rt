@@ -3,7 +3,8 @@ ghost use Rattle.std.specs.Prelude.{◌≡◌, ◌≤◌, true, false, IfOk, IfS
 ghost use Rattle.std.specs.Box.{boxed_slice_items};
 ghost use Rattle.regress_tree.specs.Tree.{tree, trees};
 ghost use Rattle.regress_tree.specs.Spine.{is_alt};
-ghost use Rattle.regress_tree.specs.Copies.{is_leaf, HasNoGroup, NoneHasGroup, may_duplicate, may_duplicate_row};
+ghost use Rattle.regress_tree.specs.Copies.{is_leaf, HasNoGroup, NoneHasGroup};
+ghost use Rattle.regress_tree.specs.Duplicates.{may_duplicate, may_duplicate_row};
 
 use super::node::{Node, NodeList, Regex};
 use super::spine::relink;

@@ -2,7 +2,7 @@
 use Rattle.std.proofs.Common.{rules, ◌≡◌, ◌++◌, ◌∙◌, refl, ap}
 use Rattle.regress_front.specs.Tree.{tree}
 use Rattle.regress_calls.specs.Listed.{groups_of, Lists}
-use Rattle.regress_front.specs.Visits.{gathered, own_group}
+use Rattle.regress_tree.specs.Gathered.{gathered, own_group}
 use Rattle.regress_tree.proofs.laws.Gathered.{visited_adds, gathered-groups}
 use Rattle.regress_calls.proofs.ListedLemmas.{Lists-none, Lists-then, ended}
 use Rattle.regress_calls.proofs.linter.lint.Goals as goal

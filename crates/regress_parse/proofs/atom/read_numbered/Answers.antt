@@ -1,5 +1,5 @@
 use Rattle.std.proofs.Common.{◌≡◌, Some, refl, sym, subst, arith}
-use Rattle.regress_syntax.specs.Rows.{group_number_at}
+use Rattle.regress_syntax.specs.Numbering.{group_number_at}
 use Rattle.regress_lexical.specs.Source.{Source}
 use Rattle.regress_syntax.specs.Syntax.{by_number, back_reference}
 use Rattle.regress_syntax.specs.Views.{context_of}

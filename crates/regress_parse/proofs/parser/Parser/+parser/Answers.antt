@@ -1,8 +1,8 @@
 -- Each answer is a lemma on what was read, at the values of the call.
-use Rattle.std.proofs.Common.{◌≡◌, ◌+◌, ◌-◌, Bool, false, not, ◌∷◌, Some, None, length, refl, sym, ap, ◌∙◌, subst, arith, length-drop}
+use Rattle.std.proofs.Common.{◌≡◌, ◌+◌, ◌-◌, Bool, false, not, ◌∷◌, Some, None, Ok, Err, length, refl, sym, ap, ◌∙◌, subst, arith, length-drop}
 use Rattle.std.proofs.lemmas.Result.{err_from_is_err_and}
 use Rattle.regress_lexical.specs.Source.{Source, Found, opening, is_at, ends_alternative, bar as the_bar}
-use Rattle.regress_syntax.specs.Syntax.{Item, literal, atom}
+use Rattle.regress_syntax.specs.Syntax.{literal, atom}
 use Rattle.regress_syntax.specs.Rows.{opens, allows, head_at}
 use Rattle.regress_syntax.specs.Views.{group_of}
 use Rattle.regress_base.specs.Limits.{max_nesting_depth}
@@ -10,14 +10,14 @@ use Rattle.regress_lexical.specs.Views.{source}
 use Rattle.regress_lexical.proofs.laws.Sources.{at_front, on_syntax, on_syntax_then}
 use Rattle.regress_syntax.proofs.laws.Rows.{head_at-shortens}
 use Rattle.regress_parse.specs.TreeOf.{joined}
-use Rattle.regress_parse.specs.Reader.{Term, item_behind, pattern_at, terms_at, term_at, item_at}
+use Rattle.regress_parse.specs.Reader.{Term, item_behind, pattern_at, terms_at, term_at, item_at, with_times}
 use Rattle.regress_parse.specs.Parsing.{text, counted, context_in, table_in, names_around, direction_of, terms_part, term_part, item_part, atom_at, ReadsAtom, Yields}
 use Rattle.regress_parse.proofs.CountLemmas.{added-nothing}
 use Rattle.regress_parse.proofs.ReaderLemmas.{terms_at-shortens, term_at-shortens, term_at-is}
 use Rattle.regress_parse.proofs.SoFarLemmas.{TermsSoFar, terms-first, terms-step, terms-end, terms-fail, no_terms-yield, one_term-yields, first_term-fails}
 use Rattle.regress_parse.proofs.AlternativesLemmas.{alternatives-start, alternatives-step, lone-yields, first-fail, alternatives-fail}
-use Rattle.regress_parse.proofs.TermLemmas.{front_is, ok_whatever, too_deep, plain_term, no_term, opening_head, opening_item, opened_same, atom_yields, atom_allowed}
-use Rattle.regress_parse.proofs.ParserLemmas.{built}
+use Rattle.regress_parse.proofs.TermLemmas.{front_is, times-fail, too_deep, plain_term, no_term, opening_head, opening_item, opened_same, atom_yields, atom_allowed}
+use Rattle.regress_parse.proofs.ParserLemmas.{built, built_here, of_built}
 use Rattle.regress_parse.proofs.parser.Parser.+parser.Goals as goal
 
 pub consume_alternative-returns-then-ends_alternative : goal.consume_alternative-returns-then-ends_alternative
@@ -262,8 +262,8 @@ consume_term-returns-in_err-kind t c =
           c.in_err-kind.ensures);
     }
 
-pub consume_term-consume_group-item-requires : goal.consume_term-consume_group-item-requires
-consume_term-consume_group-item-requires t c =
+pub consume_term-consume_group-requires : goal.consume_term-consume_group-requires
+consume_term-consume_group-requires t c =
     let around = c.args.around.now in
     let old = c.args.self.now in
     let past = c.if-try_consume.ensures in
@@ -272,6 +272,23 @@ consume_term-consume_group-item-requires t c =
     let shorter = head_at-shortens (context_in around) (text old) _
     (ap (head_at (context_in around)) front ∙ opening_head (table_in around) (names_around around) (context_in around) here ∙ c.in_ok-kind.ensures) in
     omega (arith, shorter)
+
+pub consume_term-returns-in_err-item : goal.consume_term-returns-in_err-item
+consume_term-returns-in_err-item t c =
+    let p = err_from_is_err_and c.from_residual-in_err-item.result c.from_residual-in_err-item.ensures.1 in
+    let around = c.args.around.now in
+    let ctx = context_in around in
+    let old = c.args.self.now in
+    let past = c.if-try_consume.ensures in
+    let here = source c.try_consume.new.self in
+    let there = source c.read_group.new.cursor in
+    let front : text old ≡ opening ∷ here = front_is opening (text old) here (sym past.found) past.moves in
+    let same : item_at ctx (text old) ≡ item_behind pattern_at ctx (opens (group_of c.in_ok-kind.kind), there) =
+    ap (item_at ctx) front ∙ opening_item (table_in around) (names_around around) ctx here (opens (group_of c.in_ok-kind.kind), there) c.in_ok-kind.ensures in
+    record {
+      value = rw (p.1, p.2, term_at-is ctx (text old), same)
+          (on_syntax_then c.in_err-item.field-0.0 (times-fail (table_in around) (names_around around) ctx _ (counted old) around.depth) c.in_err-item.ensures.value);
+    }
 
 pub consume_term-returns-then-try_consume : goal.consume_term-returns-then-try_consume
 consume_term-returns-then-try_consume t c =
@@ -285,17 +302,38 @@ consume_term-returns-then-try_consume t c =
     let front : text old ≡ opening ∷ here = front_is opening (text old) here (sym past.found) past.moves in
     let same : item_at ctx (text old) ≡ item_behind pattern_at ctx (opens kind, there) =
     ap (item_at ctx) front ∙ opening_item (table_in around) (names_around around) ctx here (opens kind, there) c.in_ok-kind.ensures in
+    let x = built_here (item_part (table_in around) (names_around around)) (direction_of around) around.depth (counted old) c.consume_group.new.self
+    (item_behind pattern_at ctx (opens kind, there)) c.in_ok-item.item c.in_ok-item.ensures.value in
     record {
       value = subst (λ (f : Found Term). Yields (term_part (table_in around) (names_around around)) (direction_of around) around.depth (counted old)
           c.consume_times.new.self c.consume_times.result f)
-          (sym (term_at-is ctx (text old)))
-          (c.consume_times.ensures.value (item_at ctx (text old)) (counted old) refl
-          (ok_whatever c.consume_group-item.result _ (λ (x : Item × Source) (found : item_at ctx (text old) ≡ Some x).
-          c.allows_quantifier-allowed.ensures
+          (sym (term_at-is ctx (text old) ∙ ap (with_times ctx) (same ∙ x.1)))
+          (c.consume_times.ensures.value x.0 (counted old) refl
+          (c.allows_quantifier-allowed.ensures
           ∙ sym (ap (allows ctx.setting.flags.unicode)
-          (opened_same (table_in around) (names_around around) ctx kind there x (sym same ∙ found)))))
-          (subst (λ (f : Found Item). Yields (item_part (table_in around) (names_around around)) (direction_of around) around.depth (counted old)
-          c.consume_group-item.new.self c.consume_group-item.result f) (sym same) c.consume_group-item.ensures.value));
+          (opened_same (table_in around) (names_around around) ctx kind there (x.0, text c.consume_group.new.self) x.1)))
+          x.2);
+    }
+
+pub consume_term-returns-in_err-item-2 : goal.consume_term-returns-in_err-item-2
+consume_term-returns-in_err-item-2 t c =
+    let p = err_from_is_err_and c.from_residual-in_err-item-2.result c.from_residual-in_err-item-2.ensures.1 in
+    let around = c.args.around.now in
+    let ctx = context_in around in
+    let old = c.args.self.now in
+    let past = c.if-try_consume.ensures in
+    let here = source c.try_consume.new.self in
+    let same : here ≡ text old = past.moves in
+    let none : is_at opening here ≡ false = ap (is_at opening) same ∙ sym past.found in
+    let all : around.depth + (max_nesting_depth - around.depth) ≡ max_nesting_depth = omega (arith, c.requires) in
+    let read = subst (λ (b : Bool). ReadsAtom ctx (max_nesting_depth - around.depth) (not b) (source c.read_atom.new.cursor) (Err c.in_err-item-2.field-0.0) (atom_at ctx here))
+    (sym c.begins_anchor-allowed.ensures) c.in_err-item-2.ensures in
+    record {
+      value = rw (p.1, p.2, ← same, term_at-is ctx here)
+          (on_syntax_then c.in_err-item-2.field-0.0 (times-fail (table_in around) (names_around around) ctx _ (counted old) around.depth)
+          (atom_yields (table_in around) (names_around around) ctx (direction_of around) around.depth (max_nesting_depth - around.depth)
+          (not c.begins_anchor-allowed.result) old old (Err c.in_err-item-2.field-0.0) here none
+          all refl read refl refl));
     }
 
 pub consume_term-returns : goal.consume_term-returns
@@ -308,18 +346,24 @@ consume_term-returns t c =
     let same : here ≡ text old = past.moves in
     let none : is_at opening here ≡ false = ap (is_at opening) same ∙ sym past.found in
     let all : around.depth + (max_nesting_depth - around.depth) ≡ max_nesting_depth = omega (arith, c.requires) in
-    let read = subst (λ (b : Bool). ReadsAtom ctx (max_nesting_depth - around.depth) (not b) (source c.read_atom-item.new.cursor) c.read_atom-item.result (atom_at ctx here))
-    (sym c.begins_anchor-allowed.ensures) c.read_atom-item.ensures in
+    let built_atom = c.in_ok-item-2.item in
+    let read = subst (λ (b : Bool). ReadsAtom ctx (max_nesting_depth - around.depth) (not b) (source c.read_atom.new.cursor) (Ok built_atom) (atom_at ctx here))
+    (sym c.begins_anchor-allowed.ensures) c.in_ok-item-2.ensures in
     record {
       value = subst (λ (u : Source). Yields (term_part (table_in around) (names_around around)) (direction_of around) around.depth (counted old)
           c.consume_times-2.new.self c.consume_times-2.result (term_at ctx u)) same
           (subst (λ (f : Found Term). Yields (term_part (table_in around) (names_around around)) (direction_of around) around.depth (counted old)
           c.consume_times-2.new.self c.consume_times-2.result f)
           (sym (term_at-is ctx here))
-          (c.consume_times-2.ensures.value (item_at ctx here) (counted old) refl
+          (of_built (item_part (table_in around) (names_around around)) (direction_of around) around.depth (counted old) _ (item_at ctx here)
+          (with_times ctx)
+          (Yields (term_part (table_in around) (names_around around)) (direction_of around) around.depth (counted old)
+          c.consume_times-2.new.self c.consume_times-2.result)
+          built_atom
+          (λ x found b. c.consume_times-2.ensures.value x (counted old) refl
           (atom_allowed (table_in around) (names_around around) ctx (max_nesting_depth - around.depth)
-          (not c.begins_anchor-allowed.result) _ c.read_atom-item.result here none read)
+          (not c.begins_anchor-allowed.result) _ (Ok built_atom) here none read (x, _) found) b)
           (atom_yields (table_in around) (names_around around) ctx (direction_of around) around.depth (max_nesting_depth - around.depth)
-          (not c.begins_anchor-allowed.result) old _ c.read_atom-item.result here none
+          (not c.begins_anchor-allowed.result) old _ (Ok built_atom) here none
           all refl read refl refl)));
     }

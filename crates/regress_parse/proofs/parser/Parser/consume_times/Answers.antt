@@ -1,15 +1,14 @@
 -- What is read of the quantifier, behind the item that was found.
-use Rattle.std.proofs.Common.{◌≡◌, ◌+◌, Some, None, refl, sym, ap, ap₂, ◌∙◌, arith}
+use Rattle.std.proofs.Common.{◌≡◌, ◌+◌, Some, None, Ok, refl, sym, ap, ap₂, ◌∙◌, arith}
 use Rattle.std.proofs.lemmas.Result.{err_from_is_err_and}
 use Rattle.regress_lexical.specs.Views.{source}
-use Rattle.regress_lexical.proofs.laws.Sources.{on_syntax, on_syntax_then}
+use Rattle.regress_lexical.proofs.laws.Sources.{on_syntax}
 use Rattle.regress_syntax.specs.Syntax.{Counts, added, one_loop, counts_of_item}
 use Rattle.regress_tree.specs.Tree.{tree}
 use Rattle.regress_parse.specs.TreeOf.{tree_of_times}
-use Rattle.regress_parse.specs.Parsing.{context_in, table_in, names_around, direction_of, term_part, item_part}
+use Rattle.regress_parse.specs.Parsing.{text, context_in, table_in, names_around, direction_of, term_part, item_part}
 use Rattle.regress_parse.proofs.CountLemmas.{added-assoc, added-nothing, Fits-inside}
-use Rattle.regress_parse.proofs.TermLemmas.{alone, times-fail, times_read, times-too_many}
-use Rattle.regress_parse.proofs.ParserLemmas.{built}
+use Rattle.regress_parse.proofs.TermLemmas.{alone, times_read, times-too_many}
 use Rattle.regress_parse.proofs.parser.Parser.consume_times.Goals as goal
 
 pub returns-then-not-may_begin : goal.returns-then-not-may_begin
@@ -20,13 +19,13 @@ returns-then-not-may_begin c =
     let ctx = context_in around in
     let old = c.args.self.now in
     record {
-      value = λ found before first allowed h.
-          alone table names ctx (direction_of around) around.depth before old c.args.item found
-          (sym c.may_begin.ensures ∙ c.if-not-may_begin.true) h;
+      value = λ x before first allowed b.
+          alone table names ctx (direction_of around) around.depth before old (Ok c.args.item) (Some (x, text old))
+          (sym c.may_begin.ensures ∙ c.if-not-may_begin.true) b;
     }
 
-pub returns-in_err-node : goal.returns-in_err-node
-returns-in_err-node c =
+pub returns-in_err-times : goal.returns-in_err-times
+returns-in_err-times c =
     let p = err_from_is_err_and c.from_residual.result c.from_residual.ensures.1 in
     let around = c.args.around.now in
     let table = table_in around in
@@ -34,26 +33,10 @@ returns-in_err-node c =
     let ctx = context_in around in
     let old = c.args.self.now in
     record {
-      value = λ found before first allowed h.
-          rw (p.1, p.2) (on_syntax_then c.in_err-node.field-0.0 (times-fail table names ctx found before around.depth) (rw c.in_err-node.was at h));
-    }
-
-pub returns-in_err-times : goal.returns-in_err-times
-returns-in_err-times c =
-    let p = err_from_is_err_and c.from_residual-in_err-times.result c.from_residual-in_err-times.ensures.1 in
-    let around = c.args.around.now in
-    let table = table_in around in
-    let names = names_around around in
-    let ctx = context_in around in
-    let old = c.args.self.now in
-    record {
-      value = λ found before first allowed h.
-          let x = built (item_part table names) (direction_of around) around.depth before old found c.in_ok-node.node (rw c.in_ok-node.was at h) in
-          let allows = (rw c.in_ok-node.was at allowed) x.0 x.1 in
-          let b = x.2 in
+      value = λ x before first allowed b.
           rw (p.1, p.2) (on_syntax c.in_err-times.field-0.0
           (let none = c.in_err-times.ensures in
-          rw (times_read table names ctx found x.0 c.args.allowed None x.1 allows (rw b.rest at none)) tt));
+          rw (times_read table names ctx (Some (x, text old)) (x, text old) c.args.allowed None refl allowed none) tt));
     }
 
 pub returns-in_default : goal.returns-in_default
@@ -64,17 +47,14 @@ returns-in_default c =
     let ctx = context_in around in
     let old = c.args.self.now in
     record {
-      value = λ found before first allowed h.
-          let x = built (item_part table names) (direction_of around) around.depth before old found c.in_ok-node.node (rw c.in_ok-node.was at h) in
-          let allows = (rw c.in_ok-node.was at allowed) x.0 x.1 in
-          let b = x.2 in
-          let read = times_read table names ctx found x.0 c.args.allowed (Some (None, source c.read_times.new.cursor)) x.1 allows
-          (rw (sym b.rest) (c.in_ok-times.ensures ∙ ap (λ q. Some (q, source c.read_times.new.cursor)) c.in_default.is)) in
+      value = λ x before first allowed b.
+          let read = times_read table names ctx (Some (x, text old)) (x, text old) c.args.allowed (Some (None, source c.read_times.new.cursor)) refl allowed
+          (c.in_ok-times.ensures ∙ ap (λ q. Some (q, source c.read_times.new.cursor)) c.in_default.is) in
           rw read (record {
             node = b.node;
-            fits = Fits-inside before before around.depth around.depth (item_part table names x.0.0) (term_part table names (x.0.0, None))
+            fits = Fits-inside before before around.depth around.depth (item_part table names x) (term_part table names (x, None))
                 (omega arith) (omega arith) (omega arith) b.fits;
-            counts = b.counts ∙ ap (added before) (sym (added-nothing (item_part table names x.0.0).counts));
+            counts = b.counts ∙ ap (added before) (sym (added-nothing (item_part table names x).counts));
             rest = refl;
           });
     }
@@ -88,14 +68,11 @@ returns-in_err-count_loop c =
     let ctx = context_in around in
     let old = c.args.self.now in
     record {
-      value = λ found before first allowed h.
-          let x = built (item_part table names) (direction_of around) around.depth before old found c.in_ok-node.node (rw c.in_ok-node.was at h) in
-          let allows = (rw c.in_ok-node.was at allowed) x.0 x.1 in
-          let b = x.2 in
-          let read = times_read table names ctx found x.0 c.args.allowed (Some (Some c.in-Some.quantifier, source c.read_times.new.cursor)) x.1 allows
-          (rw (sym b.rest) (c.in_ok-times.ensures ∙ ap (λ q. Some (q, source c.read_times.new.cursor)) c.in-Some.is)) in
+      value = λ x before first allowed b.
+          let read = times_read table names ctx (Some (x, text old)) (x, text old) c.args.allowed (Some (Some c.in-Some.quantifier, source c.read_times.new.cursor)) refl allowed
+          (c.in_ok-times.ensures ∙ ap (λ q. Some (q, source c.read_times.new.cursor)) c.in-Some.is) in
           rw (p.1, p.2) (on_syntax c.in_err-count_loop.field-0.0
-          (times-too_many table names ctx _ _ x.0.0 c.in-Some.quantifier before around.depth read
+          (times-too_many table names ctx _ _ x c.in-Some.quantifier before around.depth read
           (omega (arith, ap (λ (n : Counts). n.loops) b.counts, c.in_err-count_loop.ensures.err))));
     }
 
@@ -107,18 +84,15 @@ returns c =
     let ctx = context_in around in
     let old = c.args.self.now in
     record {
-      value = λ found before first allowed h.
-          let x = built (item_part table names) (direction_of around) around.depth before old found c.in_ok-node.node (rw c.in_ok-node.was at h) in
-          let allows = (rw c.in_ok-node.was at allowed) x.0 x.1 in
-          let b = x.2 in
-          let read = times_read table names ctx found x.0 c.args.allowed (Some (Some c.in-Some.quantifier, source c.read_times.new.cursor)) x.1 allows
-          (rw (sym b.rest) (c.in_ok-times.ensures ∙ ap (λ q. Some (q, source c.read_times.new.cursor)) c.in-Some.is)) in
+      value = λ x before first allowed b.
+          let read = times_read table names ctx (Some (x, text old)) (x, text old) c.args.allowed (Some (Some c.in-Some.quantifier, source c.read_times.new.cursor)) refl allowed
+          (c.in_ok-times.ensures ∙ ap (λ q. Some (q, source c.read_times.new.cursor)) c.in-Some.is) in
           let counts = c.in_ok-count_loop.ensures.ok ∙ ap (λ n. added n one_loop) b.counts ∙ added-assoc before _ one_loop in
-          let groups : c.count_loop.new.self.group_count ≡ before.groups + (counts_of_item x.0.0).groups =
+          let groups : c.count_loop.new.self.group_count ≡ before.groups + (counts_of_item x).groups =
           omega (arith, ap (λ (n : Counts). n.groups) counts) in
           rw read (record {
             node = c.in_ok-make_loop.ensures
-                ∙ ap (λ start. tree_of_times (Some c.in-Some.quantifier) start c.count_loop.new.self.group_count (tree c.in_ok-node.node)) (sym first)
+                ∙ ap (λ start. tree_of_times (Some c.in-Some.quantifier) start c.count_loop.new.self.group_count (tree c.args.item)) (sym first)
                 ∙ ap₂ (λ end body. tree_of_times (Some c.in-Some.quantifier) before.groups end body) groups b.node;
             fits = record {
               groups = omega (arith, b.fits.groups);

@@ -1,6 +1,6 @@
 use Rattle.std.proofs.Common.{not, rules}
 use Rattle.std.proofs.lemmas.List.Sorted.{answers_always}
-use Rattle.regress_syntax.specs.SameNames.{conflict}
+use Rattle.regress_syntax.specs.Paths.{conflict}
 use Rattle.regress_syntax.specs.Scanning.{capture_of}
 use Rattle.regress_syntax.proofs.scan.scanner.are_neighbours_apart.Goals as goal
 

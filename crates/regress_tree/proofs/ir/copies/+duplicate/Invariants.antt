@@ -1,7 +1,8 @@
 -- What is copied so far, and what is still to be copied.
 use Rattle.std.proofs.Common.{◌≡◌, map, take, drop}
 use Rattle.regress_tree.specs.Tree.{tree, trees}
-use Rattle.regress_tree.specs.Copies.{may_duplicate_row, NoneHasGroup}
+use Rattle.regress_tree.specs.Copies.{NoneHasGroup}
+use Rattle.regress_tree.specs.Duplicates.{may_duplicate_row}
 use Rattle.regress_tree.proofs.ir.copies.+duplicate.Given as goal
 
 abbrev pub invariant-duplicate_nodes-loop-node : goal.invariant-duplicate_nodes-loop-node

@@ -1,0 +1,31 @@
+-- What is accepted was accepted by the Rust crate's rule on names, which compares the numbers of alternatives alone, level by
+-- level, whatever parentheses they belong to. The pattern is the same, and so is its tree.
+use Rattle.std.proofs.Common.{◌≡◌, ap, IsTrue}
+use Rattle.regress_unicode.specs.Table.{IsLawful}
+use Rattle.regress_tree.specs.Setting.{Setting}
+use Rattle.regress_lexical.specs.Source.{Source}
+use Rattle.regress_syntax.specs.Syntax.{Pattern}
+use Rattle.regress_syntax.specs.Marks.{marks_of}
+use Rattle.regress_syntax.specs.Paths.{at_the_start, groups_by}
+use Rattle.regress_syntax.proofs.laws.Paths.{are_apart_by_numbers}
+use Rattle.regress_syntax.proofs.laws.SameNames.{apart_by_numbers_too}
+use Rattle.regress_syntax.proofs.laws.Scan.{gives_marks}
+use Rattle.regress_parse.specs.TreeOf.{tree_of}
+use Rattle.regress_parse.specs.Accepted.{IsDerived, IsWithinLimits, IsAccepted}
+use Rattle.regress_parse.proofs.AcceptedLemmas.{same_derived}
+
+-- as `IsAccepted`, but for the rule on names
+pub record IsAcceptedByNumbers (setting : Setting) (source : Source) (p : Pattern) : Type 0 where
+  pub derived : IsDerived setting source p
+  pub limits : IsWithinLimits p
+  pub names : IsTrue (are_apart_by_numbers (groups_by at_the_start (marks_of p)))
+
+module _ (setting : Setting) (source : Source) where
+  pub accepted_by_numbers_too : (p : Pattern) → IsAccepted setting source p → IsAcceptedByNumbers setting source p
+  accepted_by_numbers_too p h = record { derived = h.derived; limits = h.limits; names = apart_by_numbers_too p h.names }
+
+  pub same_tree : IsLawful setting.table → (p q : Pattern) → IsAccepted setting source p → IsAcceptedByNumbers setting source q →
+      tree_of setting.table p ≡ tree_of setting.table q
+  same_tree lawful p q h k =
+      ap (tree_of setting.table)
+      (same_derived setting source (gives_marks setting.flags.unicode_sets setting.table source lawful) p q h.derived k.derived)

@@ -1,0 +1,16 @@
+-- Which trees are duplicated, level by level.
+use Rattle.std.specs.Prelude.{ℕ, ◌+◌, Bool, true, not, ◌&&◌, nat_le}
+use Rattle.regress_tree.specs.Shapes.{is_string_set}
+use Rattle.regress_tree.specs.Tree.{Tree, Trees, leaf, cat, alt, wrapped, no_trees, more_trees}
+
+-- no node stands past the depth of 100, where the tree stands at this one, and none is a `StringSet`
+abbrev mutual
+  pub may_duplicate : (depth : ℕ) → Tree → Bool
+  may_duplicate depth (leaf l) = nat_le depth 100 && not (is_string_set l)
+  may_duplicate depth (cat parts) = nat_le depth 100 && may_duplicate_row (depth + 1) parts
+  may_duplicate depth (alt left right) = nat_le depth 100 && (may_duplicate (depth + 1) left && may_duplicate (depth + 1) right)
+  may_duplicate depth (wrapped w body) = nat_le depth 100 && may_duplicate (depth + 1) body
+
+  pub may_duplicate_row : (depth : ℕ) → Trees → Bool
+  may_duplicate_row depth no_trees = true
+  may_duplicate_row depth (more_trees t ts) = may_duplicate depth t && may_duplicate_row depth ts
