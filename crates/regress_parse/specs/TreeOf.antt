@@ -10,7 +10,7 @@ use Rattle.regress_tree.specs.Tree.{Leaf, empty, goal, char, char_set, match_any
 use Rattle.regress_tree.specs.Tree as tree
 use Rattle.regress_classes.specs.ClassRows.{members_of}
 use Rattle.regress_classes.specs.ClassSets.{Value, has_strings}
-use Rattle.regress_syntax.specs.Syntax.{Name, Atom, literal, dot, anchor, boundary, class_escape, class, class_set, string_property, back_reference, Group, capture, look, Pattern, Terms, Item, one, either, no_terms, more_terms, atom, group, opened_by, counts_of_item, counts_of_terms, counts_of_term, names}
+use Rattle.regress_syntax.specs.Syntax.{Name, Atom, literal, dot, anchor, boundary, class_escape, class, class_set, string_property, back_reference, Group, grouping, modified, capture, look, Pattern, Terms, Item, one, either, no_terms, more_terms, atom, group, opened_by, counts_of_item, counts_of_terms, counts_of_term, names}
 use Rattle.regress_syntax.specs.Meaning.{is_in_class, longest_first, direction_of_group, referred}
 
 -- Where matching runs backwards the parts stand turned: the last one first.
@@ -30,9 +30,10 @@ is_backwards backwards = true
 
 -- a group around this tree, with it and in it the capture groups start to end - 1
 abbrev pub tree_of_group : (start end : ℕ) → Group → Tree → Tree
+tree_of_group start end grouping body = body
+tree_of_group start end (modified change) body = body
 tree_of_group start end (capture name) body = wrapped (capture_group start (option_map encode_utf8_all name)) body
 tree_of_group start end (look negate direction) body = wrapped (lookaround negate (is_backwards direction) start end) body
-tree_of_group start end kind body = body
 
 -- an item of the groups start to end - 1, as often as the quantifier says
 abbrev pub tree_of_times : Option Quantifier → (start end : ℕ) → Tree → Tree

@@ -15,7 +15,7 @@ use Rattle.regress_unicode.specs.Table.{Table, stands_for, is_in_closure}
 use Rattle.regress_tree.specs.Assertions.{is_line_terminator, is_word_character, at_anchor, differ, at_boundary}
 use Rattle.regress_tree.specs.Repetition.{repeat}
 use Rattle.regress_classes.specs.ClassRows.{members_of}
-use Rattle.regress_syntax.specs.Syntax.{Name, is_named, Target, by_number, by_name, Atom, literal, dot, anchor, boundary, class_escape, class, class_set, string_property, back_reference, Group, capture, look, Pattern, Terms, Item, one, either, no_terms, more_terms, atom, group, opened_by, counts_of_item, counts_of_terms, counts_of_term, names}
+use Rattle.regress_syntax.specs.Syntax.{Name, is_named, Target, by_number, by_name, Atom, literal, dot, anchor, boundary, class_escape, class, class_set, string_property, back_reference, Group, grouping, modified, capture, look, Pattern, Terms, Item, one, either, no_terms, more_terms, atom, group, opened_by, counts_of_item, counts_of_terms, counts_of_term, names}
 
 -- a character matches the literal c: with the flag i where both have one image (ECMA-262, Canonicalize)
 abbrev pub is_literal : Table → Flags → ℕ → ℕ → Bool
@@ -42,14 +42,17 @@ along backwards f g = g then_ f
 
 -- the direction in which what a group holds is matched
 abbrev pub direction_of_group : Group → Direction → Direction
+direction_of_group grouping d = d
+direction_of_group (modified change) d = d
+direction_of_group (capture name) d = d
 direction_of_group (look negate direction) d = direction
-direction_of_group kind d = d
 
 -- a group behind n opened ones, around what has these outcomes
 abbrev pub group_steps : ℕ → Group → Step → Step
+group_steps n grouping body = body
+group_steps n (modified change) body = body
 group_steps n (capture name) body = Steps.capture n body
 group_steps n (look negate direction) body = Lookaround.look negate body
-group_steps n kind body = body
 
 -- the groups with this name, of those of a list whose first one has number n
 abbrev pub groups_named : Name → ℕ → List (Option Name) → List ℕ

@@ -28,8 +28,10 @@ pub record Context : Type 0 where
 
 -- the context of what stands inside a group
 abbrev pub context_inside : Group → Context → Context
+context_inside grouping ctx = ctx
 context_inside (modified change) ctx = record ctx { setting = record ctx.setting { flags = changed change ctx.setting.flags } }
-context_inside kind ctx = ctx
+context_inside (capture name) ctx = ctx
+context_inside (look negate direction) ctx = ctx
 
 -- what an item begins with: all of it, or what its parenthesis opens
 pub data Head : Type 0 where
@@ -69,14 +71,23 @@ group_at table t = if is_at question_mark t then behind_mark_at table (drop 1 t)
 
 -- a quantifier may stand behind all but `^` and `$`
 abbrev pub atom_allows : Atom → Bool
+atom_allows (literal flags c) = true
+atom_allows (dot flags) = true
 atom_allows (anchor flags kind) = false
-atom_allows a = true
+atom_allows (boundary flags inverted) = true
+atom_allows (class_escape flags kind negated) = true
+atom_allows (class flags inverted members) = true
+atom_allows (class_set flags negated value) = true
+atom_allows (string_property flags written) = true
+atom_allows (back_reference flags to) = true
 
 -- behind a lookahead without the flag u, and behind no lookbehind
 abbrev pub group_allows : (unicode : Bool) → Group → Bool
+group_allows unicode grouping = true
+group_allows unicode (modified change) = true
+group_allows unicode (capture name) = true
 group_allows unicode (look negate forwards) = not unicode
 group_allows unicode (look negate backwards) = false
-group_allows unicode kind = true
 
 -- whether a quantifier may stand behind an item that begins so
 abbrev pub allows : (unicode : Bool) → Head → Bool

@@ -77,8 +77,10 @@ added a b = record { groups = a.groups + b.groups; loops = a.loops + b.loops }
 
 -- how many groups a parenthesis opens that capture
 abbrev pub opened_by : Group → ℕ
+opened_by grouping = 0
+opened_by (modified change) = 0
 opened_by (capture name) = 1
-opened_by kind = 0
+opened_by (look negate direction) = 0
 
 abbrev pub counts_of_group : Group → Counts
 counts_of_group kind = record { groups = opened_by kind; loops = 0 }
@@ -108,8 +110,10 @@ counts_of_term x q = added (counts_of_item x) (counts_of_times q)
 
 -- the name of a capture group, or none; nothing for what captures nothing
 abbrev pub names_of_group : Group → List (Option Name)
+names_of_group grouping = []
+names_of_group (modified change) = []
 names_of_group (capture name) = name ∷ []
-names_of_group kind = []
+names_of_group (look negate direction) = []
 
 -- the name of each capture group, by the order of opening parentheses
 abbrev mutual
@@ -127,8 +131,15 @@ abbrev mutual
 
 -- how many levels of classes lie in an item
 abbrev pub levels_of_atom : Atom → ℕ
+levels_of_atom (literal flags c) = 0
+levels_of_atom (dot flags) = 0
+levels_of_atom (anchor flags kind) = 0
+levels_of_atom (boundary flags inverted) = 0
+levels_of_atom (class_escape flags kind negated) = 0
+levels_of_atom (class flags inverted members) = 0
 levels_of_atom (class_set flags negated value) = value.levels
-levels_of_atom a = 0
+levels_of_atom (string_property flags written) = 0
+levels_of_atom (back_reference flags to) = 0
 
 -- How many levels there are: the pattern is one, and so is each group around what lies deepest, and each class around that
 -- but the outermost.
