@@ -3,7 +3,7 @@ use Rattle.std.proofs.Common.{◌≡◌, ℕ, ◌+◌, Bool, true, false, cond, 
 use Rattle.std.proofs.lemmas.Bool.{cond-false}
 use Rattle.regress_base.specs.Intervals.{Bounds, is_within, is_member, IsCanonical, IsComplement}
 use Rattle.regress_base.proofs.laws.Sets.{or_assoc, is_member-one, is_member-append}
-use Rattle.regress_unicode.specs.Table.{Table}
+use Rattle.regress_base.specs.Table.{Table}
 use Rattle.regress_lexical.specs.Source.{Source, Found, ◌>>=◌, is_at}
 use Rattle.regress_classes.specs.ClassRows.{ClassAtom, atom_members, class_atom_at, complement, begins_range, range_at, class_part_at, class_parts_by, class_at}
 use Rattle.regress_classes.specs.ClassViews.{HasMembers, Adds}

@@ -3,7 +3,7 @@ ghost use Rattle.std.specs.Prelude.{◌≡◌, option_map};
 ghost use Rattle.regress_lexical.specs.Quantifiers.{most_at, times_by, may_begin, quantifier_at, is_ordered};
 
 use crate::digits::{Read, after, read_count};
-use regress_tree::ir::Quantifier;
+use regress_base::types::Quantifier;
 
 /// How often at least and at most, none being without a limit.
 type Times = (usize, Option<usize>);

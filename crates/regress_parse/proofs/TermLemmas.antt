@@ -7,8 +7,8 @@ use Rattle.regress_tree.specs.declared.ir.node.Node.{Node}
 use Rattle.regress_tree.specs.Reading.{Direction}
 use Rattle.regress_lexical.specs.declared.fault.ParseFault.{ParseFault}
 use Rattle.std.proofs.lemmas.Option.{same_Some, cond_some}
-use Rattle.regress_unicode.specs.Table.{Table}
-use Rattle.regress_tree.specs.declared.ir.node.Quantifier.{Quantifier}
+use Rattle.regress_base.specs.Table.{Table}
+use Rattle.regress_base.specs.declared.types.Quantifier.{Quantifier}
 use Rattle.regress_lexical.specs.Source.{Source, Found, ◌>>=◌, found_map, opening, closing, is_at, is_plain}
 use Rattle.regress_lexical.specs.Quantifiers.{may_begin}
 use Rattle.regress_syntax.specs.Syntax.{Name, Atom, Group, Pattern, Item, one, either, literal, atom, group, Counts, added, counts_of_item, opened_by, levels, levels_of_atom}

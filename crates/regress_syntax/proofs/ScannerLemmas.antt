@@ -6,7 +6,7 @@ use Rattle.std.proofs.lemmas.Bool.{and_left, cases_lt}
 use Rattle.std.proofs.lemmas.List.Elements.{filter-append}
 use Rattle.std.proofs.lemmas.List.{map-append}
 use Rattle.regress_base.specs.Limits.{max_nesting_depth}
-use Rattle.regress_unicode.specs.Table.{Table}
+use Rattle.regress_base.specs.Table.{Table}
 use Rattle.regress_lexical.specs.Source.{Source}
 use Rattle.regress_syntax.specs.Marks.{Mark, opens, captures, closes, next, nests}
 use Rattle.regress_syntax.specs.SameNames.{Path, Place, enter, CaptureAt, groups_by, at_the_start, same_name, conflict, are_apart, are_names_apart}

@@ -4,7 +4,7 @@ use Rattle.std.proofs.lemmas.Option.{none-some}
 use Rattle.std.proofs.lemmas.Bool.{cond-true, cond-false, and_parts}
 use Rattle.regress_base.specs.declared.charclasses.CharacterClassType.{CharacterClassType}
 use Rattle.regress_base.specs.Intervals.{Bounds}
-use Rattle.regress_unicode.specs.Table.{Table}
+use Rattle.regress_base.specs.Table.{Table}
 use Rattle.regress_lexical.specs.Source.{Source, Found, ◌>>=◌, is_at, first_row}
 use Rattle.regress_lexical.specs.Digits.{is_decimal, is_letter}
 use Rattle.regress_classes.specs.Properties.{Property, points_of, is_property_character, closed_property, braced_property_at, property_at, property_word_at, listed_value_at}

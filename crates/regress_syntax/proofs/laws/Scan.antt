@@ -1,6 +1,6 @@
 -- A scan that knows no grammar gives the marks of each syntax tree that the grammar derives, and what they say of it.
 use Rattle.std.proofs.Common.{◌≡◌, ℕ, ◌+◌, ◌-◌, ◌≤◌, max, Bool, List, [], ◌∷◌, ◌++◌, refl, sym, ap, ap₂, ◌∙◌, subst, arith, append_assoc, append-nil}
-use Rattle.regress_unicode.specs.Table.{Table, IsLawful}
+use Rattle.regress_base.specs.Table.{Table, IsLawful}
 use Rattle.regress_lexical.specs.Source.{Source, closing, bar}
 use Rattle.regress_syntax.specs.Syntax.{Atom, literal, dot, anchor, boundary, class_escape, class, class_set, string_property, back_reference, levels_of_atom, Group, grouping, modified, capture, look, Pattern, Terms, Item, one, either, no_terms, more_terms, atom, group, names, names_of_group, names_of_terms, names_of_item, levels, levels_of_terms, levels_of_item}
 use Rattle.regress_syntax.specs.Rows.{Context, context_inside, single, opens, head_of_item, allows}
