@@ -1,10 +1,10 @@
 -- Paths as the code keeps them.
-use Rattle.std.proofs.Common.{◌≡◌, ℕ, zero, suc, ◌+◌, ◌≤◌, Bool, true, false, not, ◌==◌, ◌&&◌, List, [], ◌∷◌, ◌++◌, map, reverse, length, get_or, slice_set, Option, Some, None, option_map, refl, sym, ap, ◌∙◌, arith}
+use Rattle.std.proofs.Common.{◌≡◌, ℕ, zero, suc, ◌+◌, Bool, true, false, not, ◌==◌, ◌&&◌, List, [], ◌∷◌, ◌++◌, map, reverse, length, get_or, slice_set, Option, Some, None, option_map, refl, sym, ap, ◌∙◌, arith}
 use Rattle.std.specs.List.{zip, find}
 use Rattle.std.specs.Option.{MatchOption}
 use Rattle.std.proofs.lemmas.List.{map-append, reverse-append, reverse-reverse}
-use Rattle.regress_syntax.specs.SameNames.{Path, are_alternatives, outside, next_alternative}
-use Rattle.regress_syntax.specs.Scanning.{level_of, path_of, highest}
+use Rattle.regress_syntax.specs.SameNames.{are_alternatives, next_alternative}
+use Rattle.regress_syntax.specs.Scanning.{level_of, path_of}
 use Rattle.regress_syntax.specs.declared.scan.path.Level.{Level as CodeLevel}
 use Rattle.regress_syntax.specs.declared.scan.path.Path.{Path as CodePath}
 
@@ -68,12 +68,3 @@ counted_on levels n level l e =
     ∙ sym (ap next_alternative (ap (λ ls. reverse (map level_of ls)) parts.1 ∙ innermost_last parts.0 level))
 
 -- ---- the numbers of a path
-
-pub highest-outside : (path : Path) → highest (outside path) ≤ highest path
-highest-outside [] = omega arith
-highest-outside (level ∷ []) = omega arith
-highest-outside (level ∷ around ∷ path) = omega arith
-
-pub highest-next : (path : Path) → highest (next_alternative path) ≤ highest path + 1
-highest-next [] = omega arith
-highest-next (level ∷ path) = omega arith

@@ -138,9 +138,6 @@ counted n d same = (λ few. omega (arith, same), λ many. omega (arith, same))
 pub levels_behind : (all : List Mark) (scanner : Scanner) → Behind all [] scanner → scanner.deepest ≤ max_nesting_depth → deepest 1 all ≤ max_nesting_depth
 levels_behind all scanner behind few = (counted (deepest 1 all) _ behind.levels).0 (omega (arith, behind.opened))
 
-pub too_deep_behind : (all : List Mark) (scanner : Scanner) → Behind all [] scanner → max_nesting_depth < scanner.deepest → max_nesting_depth < deepest 1 all
-too_deep_behind all scanner behind many = (counted (deepest 1 all) _ behind.levels).1 (omega (arith, behind.opened))
-
 pub apart_behind : (all : List Mark) (scanner : Scanner) → Behind all [] scanner → deepest 1 all ≤ max_nesting_depth →
     are_names_apart all ≡ are_apart (map capture_of scanner.named.items)
 apart_behind all scanner behind few =

@@ -317,7 +317,7 @@ level_of_string [] = refl
 level_of_string (c ∷ []) = refl
 level_of_string (c ∷ d ∷ cs) = refl
 
-level_of_strings : (ss : List (List ℕ)) → (value_of_strings ss).levels ≡ 0
+pub level_of_strings : (ss : List (List ℕ)) → (value_of_strings ss).levels ≡ 0
 level_of_strings [] = refl
 level_of_strings (s ∷ ss) = omega (arith, level_of_string s, level_of_strings ss)
 

@@ -169,9 +169,6 @@ not_as_one root P free = tt
 no_member : (greatest : ℕ) (p : Position) → NotAsOneCharacter p → IsSmallSet [] greatest p
 no_member greatest p free = record { bounded = All-nil _; small = omega arith; some = not_as_one p _ free }
 
-pub no_character : (p : Position) → NotAsOneCharacter p → IsSmallSet [] code_point_max p
-no_character = no_member code_point_max
-
 -- it matches nothing wherever it may not be the body of a loop over one character, and is no bracket
 record IsNothing (l : Leaf) : Type 0 where
   none : (setting : Setting) (bytes : List ℕ) (d : Direction) (s : State) → steps setting bytes d (leaf l) s ≡ []

@@ -154,7 +154,7 @@ deepest-group n (modified change) ms = refl
 deepest-group n (capture name) ms = refl
 deepest-group n (look negate direction) ms = refl
 
-one_level : (p : Pattern) → 1 ≤ levels p
+pub one_level : (p : Pattern) → 1 ≤ levels p
 one_level (one ts) = omega arith
 one_level (either ts p) = omega arith
 
