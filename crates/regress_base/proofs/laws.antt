@@ -1,2 +1,4 @@
 pub mod Sets
+pub mod Listings
+pub mod Literals
 pub mod Members

@@ -7,9 +7,11 @@ pub mod FirstBytes
 pub mod Needle
 pub mod Places
 pub mod Intervals
+pub mod Listing
 pub mod Overlap
 pub mod Utf8
 pub mod Classes
 pub mod Ranges
 pub mod Brackets
 pub mod Limits
+pub mod Table

@@ -1,4 +1,4 @@
-//! Plain values that every layer shares: flags, ids, limits, brackets, groups and loops.
+//! Plain values that every layer shares: flags, anchors, quantifiers, ids, limits, brackets, groups and loops.
 
 ghost use Rattle.std.specs.Prelude.{◌≡◌};
 ghost use Rattle.regress_base.specs.Intervals.{code_point_max};
@@ -26,6 +26,26 @@ pub struct Flags {
     pub unicode: bool,
     /// Flag v: classes with strings and operators.
     pub unicode_sets: bool,
+}
+
+/// Which end of the text, or of a line, an anchor stands for.
+#[derive(Clone, Copy, Debug)]
+pub enum AnchorType {
+    /// `^`
+    StartOfLine,
+    /// `$`
+    EndOfLine,
+}
+
+/// How often the body of a loop is matched.
+#[derive(Clone, Copy, Debug)]
+pub struct Quantifier {
+    /// How many turns there are at least.
+    pub min: usize,
+    /// How many there are at most. With `None` there is no such number.
+    pub max: Option<usize>,
+    /// Whether another turn is tried before what follows the loop, or after it.
+    pub greedy: bool,
 }
 
 /// The number of a capture group, from 0 on, by the order of opening parentheses.

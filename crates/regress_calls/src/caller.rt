@@ -4,7 +4,7 @@ ghost use Rattle.regress_front.specs.SmallTable.{small_table};
 ghost use Rattle.regress_front.specs.Fault.{RefusedOnlyIf};
 ghost use Rattle.regress_front.specs.Syntax.{Pattern};
 ghost use Rattle.regress_front.specs.Accepted.{IsAccepted, NoneIsAccepted};
-ghost use Rattle.regress_front.specs.Setting.{setting_of};
+ghost use Rattle.regress_front.specs.SettingOf.{setting_of};
 
 use regress_front::codepointset::{CODE_POINT_MAX, CodePointSet, Interval};
 use regress_front::optimizer::parse_and_optimize;

@@ -5,6 +5,7 @@ use Rattle.std.proofs.lemmas.List.{map-append}
 use Rattle.std.proofs.lemmas.List.Folds.{list_any-append}
 use Rattle.std.proofs.lemmas.Map.Views.{any-filter_same}
 use Rattle.std.proofs.lemmas.Slice.Eq.{bytes_eq-Decides}
+use Rattle.std.proofs.Math.Bool.{and-true}
 use Rattle.std.specs.Str.{bytes_eq}
 use Rattle.std.specs.declared.alloc.Global.{Global}
 use Rattle.regress_base.specs.Intervals.{Bounds, is_member, IsCanonical, intervals_of, code_point_max}
@@ -32,14 +33,6 @@ applied_is operators.Intersection a b = refl
 applied_is operators.Subtraction a b = refl
 
 -- ---- members
-
-and_false : (x : Bool) → (x && false) ≡ false
-and_false true = refl
-and_false false = refl
-
-and_true : (x : Bool) → (x && true) ≡ x
-and_true true = refl
-and_true false = refl
 
 drops_more : (x o k : Bool) → ((x && not o) && k) ≡ (x && not (o || not k))
 drops_more false o k = refl
@@ -115,7 +108,7 @@ left_first operator first a b operand taken none dropped h k empty drops adds st
     subst (IsLeft operator first taken) (sym (applied_is operator a b)) (record {
       canonical = h.members.canonical;
       members = members_left operator first.set a.members b.members none taken.points dropped h.members.canonical
-          (λ c. sym (h.members.each c) ∙ sym (and_true (is_member first.set c))
+          (λ c. sym (h.members.each c) ∙ sym (and-true (is_member first.set c))
           ∙ ap (λ x. is_member first.set c && not x) (sym (ap (λ (l : List Bounds). is_member l c) empty ∙ is_member-nil c)))
           (λ c within. drops c within ∙ ap (λ x. not (kept operator x)) (k.members.each c)) adds;
       strings = ap₂ (λ (l m : List (List ℕ)). filter (λ s. kept operator (is_among l s)) m)

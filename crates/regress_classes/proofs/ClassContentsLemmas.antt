@@ -2,7 +2,7 @@
 use Rattle.std.proofs.Common.{◌≡◌, ℕ, zero, suc, ◌+◌, ◌<◌, ◌≤◌, Bool, true, false, cond, [], ◌∷◌, length, drop, Some, None, refl, sym, ap, ◌∙◌, subst, add-one, arith, length-drop}
 use Rattle.std.proofs.lemmas.Bool.{cond-true, cond-false}
 use Rattle.std.proofs.lemmas.Option.{none-some}
-use Rattle.regress_unicode.specs.Table.{Table}
+use Rattle.regress_base.specs.Table.{Table}
 use Rattle.regress_lexical.specs.Source.{Source, Found, ◌>>=◌, is_at}
 use Rattle.regress_classes.specs.ClassRows.{one_point}
 use Rattle.regress_classes.specs.ClassSets.{Value, only, joined, unless_of_strings, Operand, value_of, set_character_at, operand_at, part_behind, parts_by, parts_at, are_at, operands_by, operands_at, contents_behind, contents_at, class_set_by}

@@ -3,7 +3,7 @@ use Rattle.std.proofs.Common.{◌≡◌, ℕ, ◌+◌, Bool, true, false, cond, 
 use Rattle.std.proofs.lemmas.Bool.{cond-false}
 use Rattle.regress_base.specs.Intervals.{Bounds, is_within, is_member, IsCanonical, IsComplement}
 use Rattle.regress_base.proofs.laws.Sets.{or_assoc, is_member-one, is_member-append}
-use Rattle.regress_unicode.specs.Table.{Table}
+use Rattle.regress_base.specs.Table.{Table}
 use Rattle.regress_lexical.specs.Source.{Source, Found, ◌>>=◌, is_at}
 use Rattle.regress_classes.specs.ClassRows.{ClassAtom, atom_members, class_atom_at, complement, begins_range, range_at, class_part_at, class_parts_by, class_at}
 use Rattle.regress_classes.specs.ClassViews.{HasMembers, Adds}
@@ -26,10 +26,6 @@ adds_both xs ys old between new first second c =
     second c ∙ ap (λ b. b || is_member ys c) (first c) ∙ sym (or_assoc (is_member old c) (is_member xs c) (is_member ys c))
     ∙ ap (λ b. is_member old c || b) (sym (is_member-append xs ys c))
 
-more_parts-none : (found : Found (List Bounds)) → found ≡ more_parts [] found
-more_parts-none None = refl
-more_parts-none (Some x) = refl
-
 more_parts-more : (xs ys : List Bounds) (found : Found (List Bounds)) → more_parts xs (more_parts ys found) ≡ more_parts (xs ++ ys) found
 more_parts-more xs ys None = refl
 more_parts-more xs ys (Some x) = ap (λ (l : List Bounds). Some (l, x.1)) (sym (append_assoc xs ys x.0))
@@ -50,13 +46,6 @@ module _ (table : Table) (unicode : Bool) where
     pub members : List Bounds
     pub whole : class_parts_by table unicode (length t + 1) t ≡ more_parts members (class_parts_by table unicode (length rest + 1) rest)
     pub held : (c : ℕ) → is_member set c ≡ is_member members c
-
-  pub none_read : (t : Source) (set : List Bounds) → set ≡ [] → ReadUpTo t t set
-  none_read t set none = record {
-    members = [];
-    whole = more_parts-none (class_parts_by table unicode (length t + 1) t);
-    held = λ c. ap (λ (l : List Bounds). is_member l c) none;
-  }
 
   pub one_more_read : (t rest behind : Source) (set new members : List Bounds) → ReadUpTo t rest set →
       is_at 93 rest ≡ false → class_part_at table unicode rest ≡ Some (members, behind) → Adds members set new → ReadUpTo t behind new

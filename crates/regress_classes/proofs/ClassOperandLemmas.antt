@@ -3,7 +3,7 @@ use Rattle.std.proofs.Common.{◌≡◌, ℕ, Bool, true, false, ◌∷◌, drop
 use Rattle.std.proofs.lemmas.Bool.{cond-true, cond-false}
 use Rattle.std.proofs.lemmas.Option.{none-some, same_Some}
 use Rattle.regress_base.specs.declared.charclasses.CharacterClassType.{CharacterClassType}
-use Rattle.regress_unicode.specs.Table.{Table}
+use Rattle.regress_base.specs.Table.{Table}
 use Rattle.regress_lexical.specs.Source.{Source, Found, found_map, is_at, first_row}
 use Rattle.regress_classes.specs.ClassRows.{class_letter, class_members}
 use Rattle.regress_classes.specs.ClassSets.{Value, only, nested, Operand, character, class, set_character_at, operand_at, operand_rows, escaped_operand_at}

@@ -25,14 +25,6 @@ no_members set e = record {
   each = λ c. ap (λ (l : List Bounds). is_member l c) e;
 }
 
--- what is in one or the other
-pub members_joined : (xs ys old other new : List Bounds) → HasMembers xs old → HasMembers ys other → IsCanonical new →
-    ((c : ℕ) → is_member new c ≡ (is_member old c || is_member other c)) → HasMembers (xs ++ ys) new
-members_joined xs ys old other new h k canonical e = record {
-  canonical = canonical;
-  each = λ c. e c ∙ ap₂ (λ a b. a || b) (h.each c) (k.each c) ∙ sym (is_member-append xs ys c);
-}
-
 -- those that pass
 pub members_where : (p : ℕ → Bool) (new : List Bounds) → IsCanonical new → ((c : ℕ) → is_member new c ≡ p c) →
     HasMembers (intervals_of p) new

@@ -47,10 +47,6 @@ in_order list sorted new permutation joined canonical = record {
   each = λ c. joined c ∙ any_member sorted c ∙ sym (list_any-IsPermutation (λ iv. is_within iv c) list sorted permutation) ∙ sym (any_member list c);
 }
 
--- a set, and what is gathered behind it
-pub set_none : (set list new : List Bounds) → set ≡ [] → HasMembers list new → HasMembers (set ++ list) new
-set_none set list new none has = subst (λ (l : List Bounds). HasMembers (l ++ list) new) (sym none) has
-
 pub set_and : (set list new : List Bounds) → IsCanonical new → ((c : ℕ) → is_member new c ≡ (is_member set c || is_member list c)) →
     HasMembers (set ++ list) new
 set_and set list new canonical joined = record {

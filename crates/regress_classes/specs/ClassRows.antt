@@ -4,7 +4,7 @@ use Rattle.regress_base.specs.declared.charclasses.CharacterClassType.{Character
 use Rattle.regress_base.specs.declared.charclasses.CharacterClassType.TheVariants.{Digits, Spaces, Words}
 use Rattle.regress_base.specs.Classes.{digits, white_space, line_terminators, word_characters}
 use Rattle.regress_base.specs.Intervals.{Bounds, is_member, intervals_of}
-use Rattle.regress_unicode.specs.Table.{Table}
+use Rattle.regress_base.specs.Table.{Table}
 use Rattle.regress_lexical.specs.Source.{Source, Found, ◌>>=◌, found_map, Row, when, otherwise, first_row, char, is_one_of, is_at}
 use Rattle.regress_lexical.specs.Digits.{is_decimal, is_letter, control}
 use Rattle.regress_lexical.specs.Escapes.{escape_at}

@@ -4,7 +4,7 @@ use Rattle.std.specs.List.{list_any}
 use Rattle.std.specs.Str.{bytes_eq}
 use Rattle.regress_base.specs.Intervals.{Bounds, is_member, intervals_of}
 use Rattle.regress_base.specs.Limits.{max_nesting_depth}
-use Rattle.regress_unicode.specs.Table.{Table}
+use Rattle.regress_base.specs.Table.{Table}
 use Rattle.regress_lexical.specs.Source.{Source, Found, ◌>>=◌, found_map, Row, when, otherwise, first_row, char, is_one_of, is_at}
 use Rattle.regress_lexical.specs.Escapes.{escape_at}
 use Rattle.regress_classes.specs.Properties.{Property, of_points, of_strings, property_at}

@@ -3,7 +3,7 @@ use Rattle.std.specs.Prelude.{ℕ, Bool, ◌||◌, List, length, drop, Option, S
 use Rattle.std.specs.Option.{option_or}
 use Rattle.std.specs.Str.{bytes_eq}
 use Rattle.regress_base.specs.Intervals.{Bounds}
-use Rattle.regress_unicode.specs.Table.{Table, Named, named}
+use Rattle.regress_base.specs.Table.{Table, Named, named}
 use Rattle.regress_lexical.specs.Source.{Source, Found, ◌>>=◌, char, is_at}
 use Rattle.regress_lexical.specs.Digits.{is_decimal, is_letter, front, behind}
 

@@ -2,7 +2,7 @@
 ghost use Rattle.std.specs.Prelude.{◌≡◌, ◌+◌, ◌==◌, ◌&&◌, not, Bool, drop, if◌then◌else◌, Some, None, List, [], ◌∷◌, length, OnOk, IfSome, IfNone};
 ghost use Rattle.regress_base.specs.Intervals.{Bounds};
 ghost use Rattle.regress_classes.specs.ClassRows.{complement_if, atom_members, begins_range, range_of, range_at, class_part_at, class_parts_by, class_at};
-ghost use Rattle.regress_unicode.specs.Table.{Table};
+ghost use Rattle.regress_base.specs.Table.{Table};
 ghost use Rattle.regress_unicode.specs.TableOf.{table_of};
 ghost use Rattle.regress_lexical.specs.Source.{char};
 ghost use Rattle.regress_lexical.specs.Fault.{RefusedOnlyIf};

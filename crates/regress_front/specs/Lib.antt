@@ -14,12 +14,12 @@ pub use Rattle.regress_base.specs.Places
 pub use Rattle.regress_base.specs.Needle
 pub use Rattle.regress_base.specs.Ranges
 -- The table.
-pub use Rattle.regress_unicode.specs.Table
+pub use Rattle.regress_base.specs.Table
 pub use Rattle.regress_unicode.specs.FoldRows
 pub use Rattle.regress_unicode.specs.Parts
 pub use Rattle.regress_unicode.specs.TableOf
 pub use Rattle.regress_unicode.specs.Refusals
-pub use Rattle.regress_unicode.specs.Listing
+pub use Rattle.regress_base.specs.Listing
 pub use Rattle.regress_unicode.specs.SmallTable
 -- Trees, and what they match.
 pub use Rattle.regress_tree.specs.Reading
@@ -41,10 +41,12 @@ pub use Rattle.regress_tree.specs.NodeTests
 pub use Rattle.regress_tree.specs.Copies
 pub use Rattle.regress_tree.specs.Visits
 pub use Rattle.regress_tree.specs.Walk
-pub use Rattle.regress_tree.specs.Literal
+pub use Rattle.regress_tree.specs.SmallSets
+pub use Rattle.regress_literal.specs.Literal
 -- Patterns.
 pub use Rattle.regress_lexical.specs.Source
 pub use Rattle.regress_lexical.specs.Fault
+pub use Rattle.regress_syntax.specs.SettingOf
 pub use Rattle.regress_syntax.specs.Syntax
 pub use Rattle.regress_syntax.specs.Grammar
 pub use Rattle.regress_syntax.specs.Meaning

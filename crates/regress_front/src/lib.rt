@@ -3,7 +3,7 @@
 #![tactic(auto)]
 
 pub use regress_base::{bytesearch, charclasses, codepointset, types, util};
-pub use regress_tree::unicode;
+pub use regress_unicode as unicode;
 
 /// The tree.
 pub mod ir {
@@ -14,7 +14,7 @@ pub mod ir {
 
 /// Lowering of literals.
 pub mod literal {
-    pub use regress_tree::literal::{Piece, lower_code_point_sequence};
+    pub use regress_literal::literal::{Piece, lower_code_point_sequence};
 }
 
 /// From the text of a pattern to its tree.

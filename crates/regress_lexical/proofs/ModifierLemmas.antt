@@ -1,5 +1,6 @@
 -- Letters that switch on and letters that switch off.
 use Rattle.std.proofs.Common.{◌≡◌, ℕ, Bool, true, false, not, ◌&&◌, ◌||◌, ◌==◌, List, [], ◌∷◌, ◌++◌, refl, sym}
+use Rattle.std.proofs.Math.Bool.{and-true}
 use Rattle.std.specs.List.{list_all}
 use Rattle.regress_lexical.specs.Modifiers.{stands_in, are_different}
 
@@ -14,10 +15,6 @@ regroup false true true true e = refl
 regroup false true true false e = refl
 regroup false true false d e = refl
 regroup false false c d e = refl
-
-and-true : (b : Bool) → (b && true) ≡ b
-and-true true = refl
-and-true false = refl
 
 -- no letter twice in both, one behind the other
 pub different_in_both : (on off : List ℕ) →

@@ -1,6 +1,6 @@
 -- The quantifier at the front of a source (ECMA-262, Quantifier).
 use Rattle.std.specs.Prelude.{ℕ, ◌-◌, ◌^◌, Bool, true, not, min, [], ◌∷◌, length, drop, Option, Some, None, if◌then◌else◌, nat_le, ◌==◌}
-use Rattle.regress_tree.specs.declared.ir.node.Quantifier.{Quantifier}
+use Rattle.regress_base.specs.declared.types.Quantifier.{Quantifier}
 use Rattle.regress_lexical.specs.Source.{Source, Found, ◌>>=◌, char, is_at, question_mark}
 use Rattle.regress_lexical.specs.Digits.{is_decimal, number, front, behind}
 

@@ -5,7 +5,7 @@ ghost use Rattle.regress_lexical.specs.Quantifiers.{most_at, times_by, quantifie
 ghost use Rattle.regress_lexical.specs.Reads.{answered};
 
 use crate::digits::{Read, after, read_count};
-use regress_tree::ir::Quantifier;
+use regress_base::types::Quantifier;
 
 /// How often at least and at most, none being without a limit.
 type Times = (usize, Option<usize>);

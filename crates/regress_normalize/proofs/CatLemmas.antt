@@ -99,16 +99,6 @@ module _ {S : Type 0} (R : S → Node → Node → Bool → S → Node → Node 
 abbrev pub neighbours_from : Bool → List Node → Bool
 neighbours_from before nodes = (before && first_in_row has_bytes (trees nodes)) || has_neighbours has_bytes (trees nodes)
 
-pub neighbours_here : (before : Bool) (x : Node) (nodes : List Node) → before ≡ true → has_bytes (tree x) ≡ true →
-    neighbours_from before (x ∷ nodes) ≡ true
-neighbours_here before x nodes is has = ap₂ (λ a b. (a && b) || has_neighbours has_bytes (trees (x ∷ nodes))) is has
-
-pub neighbours_later : (before here : Bool) (x : Node) (nodes : List Node) → here ≡ has_bytes (tree x) → (before && here) ≡ false →
-    neighbours_from before (x ∷ nodes) ≡ neighbours_from here nodes
-neighbours_later before here x nodes is apart =
-    ap (λ b. b || has_neighbours has_bytes (trees (x ∷ nodes))) (ap (λ b. before && b) (sym is) ∙ apart)
-    ∙ ap (λ b. (b && first_in_row has_bytes (trees nodes)) || has_neighbours has_bytes (trees nodes)) (sym is)
-
 -- ---- how many
 
 pub is_short-from_len : (nodes : List Node) → 2 ≤ length nodes → is_short (trees nodes) ≡ false

@@ -2,7 +2,7 @@
 use Rattle.std.proofs.Common.{◌≡◌, ℕ, ◌+◌, ◌≤◌, Bool, true, false, not, ◌&&◌, ◌||◌, ◌⊎◌, max, inl, inr, [], Result, Ok, Err, refl, sym, ap, ap₂, ◌∙◌, subst, arith}
 use Rattle.std.specs.Prelude.{IsTrue, IfOk, IsErr}
 use Rattle.std.specs.declared.alloc.AllocError.{AllocError}
-use Rattle.std.proofs.Math.Bool.{or-false}
+use Rattle.std.proofs.Math.Bool.{and-false, or-false}
 use Rattle.std.proofs.lemmas.Bool.{cases_Bool, or_parts, true≢false, false≢true}
 use Rattle.regress_tree.specs.Measures.{total_in_row, levels, levels_of_deepest}
 use Rattle.regress_tree.specs.NodeTests.{is_empty, match_always_fails}
@@ -22,7 +22,7 @@ use Rattle.regress_normalize.specs.Packed.{IsPacked, IsRowPacked, IsFactsOf}
 use Rattle.regress_normalize.specs.PartFacts.{HasFacts, HasRowFacts}
 use Rattle.regress_normalize.specs.declared.facts.PartFacts.{PartFacts}
 use Rattle.regress_normalize.specs.declared.facts.RowFacts.{RowFacts}
-use Rattle.regress_normalize.proofs.PackedLemmas.{some_in_row-append, has_cat-append, RowIsNormal-append, and_false}
+use Rattle.regress_normalize.proofs.PackedLemmas.{some_in_row-append, has_cat-append, RowIsNormal-append}
 
 -- ---- rows of parts in normal form
 
@@ -220,9 +220,6 @@ module _ (d : Direction) (row : RowFacts) (ts new : Trees) (taken : ℕ) (each :
   charge_new : total_in_row charges new + taken ≡ row.charge
   charge_new = omega (arith, done.packs.charge, done.count, facts.charge)
 
-  pub taken_fits : taken ≤ row.charge
-  taken_fits = omega (arith, charge_new)
-
   levels_new : max 1 (levels_of_deepest new) ≡ row.levels
   levels_new = done.packs.levels ∙ sym facts.levels
 
@@ -238,7 +235,7 @@ module _ (d : Direction) (row : RowFacts) (ts new : Trees) (taken : ℕ) (each :
   lasting_new : (some_in_row match_always_fails new && not (some_node_in_row (on_wrapper is_group) new)) ≡ false
   lasting_new = elim (cases_Bool row.has_group) [
     | inl is ↦
-        ap (λ b. some_in_row match_always_fails new && not b) (group_new ∙ is) ∙ and_false (some_in_row match_always_fails new)
+        ap (λ b. some_in_row match_always_fails new && not b) (group_new ∙ is) ∙ and-false (some_in_row match_always_fails new)
     | inr is_not ↦
         let none = alone row.some_fails row.has_group lasting is_not in
         let fails = done.packs.fails ∙ spliced_fail ts each (sym facts.has_group ∙ is_not) (sym facts.some_fails ∙ none) in

@@ -1,6 +1,6 @@
 -- Rows packed: parts in the place of others, among parts that stay.
 use Rattle.std.proofs.Common.{◌≡◌, ℕ, ◌+◌, Bool, true, false, ◌&&◌, ◌||◌, max, List, [], ◌∷◌, ◌++◌, refl, sym, ap, ap₂, ◌∙◌, subst, arith, le_refl, le_trans, length-append}
-use Rattle.std.proofs.Math.Bool.{or_assoc, or-false}
+use Rattle.std.proofs.Math.Bool.{and-false, or_assoc, or-false}
 use Rattle.std.proofs.lemmas.Bool.{or_parts, true≢false}
 use Rattle.regress_tree.specs.Measures.{total_in_row, levels_of_deepest}
 use Rattle.regress_tree.specs.NodeTests.{is_empty, match_always_fails}
@@ -261,13 +261,9 @@ last_in_row test no_trees = false
 last_in_row test (more_trees t no_trees) = test t
 last_in_row test (more_trees t (more_trees u us)) = last_in_row test (more_trees u us)
 
-pub and_false : (b : Bool) → (b && false) ≡ false
-and_false true = refl
-and_false false = refl
-
 has_neighbours-push : (test : Tree → Bool) (ts : Trees) (t : Tree) →
     has_neighbours test (row_append ts (more_trees t no_trees)) ≡ (has_neighbours test ts || (last_in_row test ts && test t))
-has_neighbours-push test no_trees t = or-false _ ∙ and_false (test t)
+has_neighbours-push test no_trees t = or-false _ ∙ and-false (test t)
 has_neighbours-push test (more_trees x no_trees) t =
     or-false-inner (test x) (test t)
   where

@@ -18,7 +18,7 @@ use Rattle.regress_tree.proofs.laws.Rows.{trees-append}
 use Rattle.regress_rewrite.specs.Law.{IsPart}
 use Rattle.regress_rewrite.specs.Unroll.{small_account}
 use Rattle.regress_rewrite.proofs.laws.Unrolling.{account-unrolled}
-use Rattle.regress_rewrite.proofs.laws.Keeps.{Keeps-refl, Keeps-trans, Keeps-put, Keeps-one_part, IsPart-kept, IsPart-part}
+use Rattle.regress_rewrite.proofs.laws.Keeps.{Keeps-trans, Keeps-put, Keeps-one_part, IsPart-kept}
 use Rattle.regress_rewrite.proofs.laws.Parts.{place, row_set, row_at}
 use Rattle.regress_rewrite.proofs.laws.Spine.{IsPart-reattach}
 use Rattle.regress_normalize.specs.declared.facts.PartFacts.{PartFacts}
@@ -28,9 +28,6 @@ use Rattle.regress_normalize.specs.Steps.{StandsFor, IsAltOnto}
 use Rattle.regress_normalize.proofs.NormalLemmas.{IsNormal-part, IsNormal-reattach}
 
 -- ---- one step after the other
-
-pub StandsFor-refl : (d : Direction) (t : Tree) → StandsFor d t t
-StandsFor-refl d t = record { keeps = Keeps-refl d t; left = λ normal. refl }
 
 pub StandsFor-then : (d : Direction) (t u v : Tree) → StandsFor d t u → StandsFor d u v → StandsFor d t v
 StandsFor-then d t u v first second = record {
@@ -96,11 +93,6 @@ Finished-error known d t u (Ok facts) err stands = absurd (false≢true err)
 Finished-error known d t u (Err e) err stands =
     record { keeps = stands.keeps; normal = tt; facts = tt; left = λ clean. stands.left clean.0; plain = λ clean. tt }
 
-pub Finished-done : (known : Type 0) (d : Direction) (t u : Tree) (facts : PartFacts) → StandsFor d t u → IsNormal u → HasFacts facts u →
-    (IsNormal t × known → IsPlain facts u) → Finished (IsNormal t × known) d t u (Ok facts)
-Finished-done known d t u facts stands normal has plain =
-    record { keeps = stands.keeps; normal = normal; facts = has; left = λ clean. stands.left clean.0; plain = plain }
-
 -- a part in the place of a `Cat` of one
 pub StandsFor-only_part : (d : Direction) (t part : Tree) → t ≡ cat (more_trees part no_trees) → StandsFor d t part
 StandsFor-only_part d t part is = subst (λ (u : Tree). StandsFor d u part) (sym is) (record {
@@ -163,11 +155,6 @@ units-reattach (cat parts) t = omega arith
 units-reattach (alt left above) t = omega (arith, units-reattach above (alt left t))
 units-reattach (wrapped w body) t = omega arith
 
--- down: the next alternative is above
-pub reattach_down : (from onto from' onto' : Tree) → Shifted from onto from' onto' → reattach onto' from' ≡ reattach onto from
-reattach_down from onto from' onto' shifted =
-    ap (λ (t : Tree). reattach t from') shifted.is ∙ ap (reattach onto) (sym shifted.was)
-
 -- up: the `Alt` that stands there now
 module _ (above node rest here : Tree) (shifted : Shifted above node rest here) where
   pub reattach_up : reattach rest here ≡ reattach above node
@@ -201,9 +188,6 @@ module _ (d : Direction) (t left made right : Tree) (is : t ≡ alt left right) 
   pub stands_left : StandsFor d t (alt made right)
   stands_left = subst (λ (u : Tree). StandsFor d u (alt made right)) (sym is)
       (StandsFor-put (left_of right) d left made (StandsFor-normalized d left made answer here))
-
-pub IsPart_left : (t left right : Tree) → t ≡ alt left right → IsPart t → IsPart left
-IsPart_left t left right is part = IsPart-part (left_of right) left (subst (λ (u : Tree). IsPart u) is part)
 
 pub both_sides : (t left right : Tree) (facts left_facts : PartFacts) → t ≡ alt left right → IsAltOnto facts t → (made : Tree) →
     IsNormal made → HasFacts left_facts made → IsAltOf left_facts facts (alt made right)

@@ -5,7 +5,7 @@ use Rattle.std.specs.declared.alloc.AllocError.{AllocError}
 use Rattle.std.proofs.Math.Nat.{suc-add}
 use Rattle.std.proofs.lemmas.Bool.Decides.{nat_tests}
 use Rattle.std.proofs.lemmas.Bool.{true≢false, false≢true, and_from}
-use Rattle.regress_tree.specs.declared.ir.node.Quantifier.{Quantifier}
+use Rattle.regress_base.specs.declared.types.Quantifier.{Quantifier}
 use Rattle.regress_tree.specs.Measures.{levels}
 use Rattle.regress_tree.specs.NormalForm.{IsNormal}
 use Rattle.regress_tree.specs.Reading.{Direction}
@@ -20,7 +20,7 @@ use Rattle.regress_rewrite.specs.Law.{IsPart, Keeps}
 use Rattle.regress_rewrite.specs.Unroll.{further_turns, unrolled, may_copy, small_account}
 use Rattle.regress_rewrite.proofs.laws.Emptying.{emptied_keeps}
 use Rattle.regress_rewrite.proofs.laws.Failing.{fails_keeps}
-use Rattle.regress_rewrite.proofs.laws.Keeps.{Keeps-refl, Keeps-trans, Keeps-put, IsPart-part, IsPart-kept}
+use Rattle.regress_rewrite.proofs.laws.Keeps.{Keeps-trans, Keeps-put, IsPart-part, IsPart-kept}
 use Rattle.regress_rewrite.proofs.laws.Promotion.{one_character-stands, promoted_keeps}
 use Rattle.regress_rewrite.proofs.laws.Unrolling.{MayCopy-from, units-small, unrolled_keeps}
 use Rattle.regress_normalize.specs.Normalized.{Finished, Normalized, IsCleanAround, IsWrapperOf, IsCatOf, RowIsNormal}
@@ -29,6 +29,7 @@ use Rattle.regress_normalize.specs.Wrapped.{may_unroll_by, IsLoopOf, TakesForm, 
 use Rattle.regress_normalize.specs.declared.facts.PartFacts.{PartFacts}
 use Rattle.regress_normalize.specs.declared.facts.RowFacts.{RowFacts}
 use Rattle.regress_normalize.specs.declared.wrapper.LoopForm.TheVariants.{OneCharacter, Empty, AlwaysFails}
+use Rattle.regress_normalize.proofs.NormalLemmas.{empty_normal}
 use Rattle.regress_normalize.proofs.PackedLemmas.{RowIsNormal-append}
 
 -- ---- what is finished
@@ -85,17 +86,6 @@ module _ (clean : Type 0) (d : Direction) (t : Tree) where
 
 -- ---- a loop that is not unrolled
 
-IsNormal-empty : IsNormal (leaf empty)
-IsNormal-empty = record {
-  simplified = refl;
-  flattened = refl;
-  unrolled = refl;
-  promoted = refl;
-  formed = refl;
-  emptied = refl;
-  failed = refl;
-}
-
 IsNormal-nothing : IsNormal (leaf (byte_set []))
 IsNormal-nothing = record {
   simplified = refl;
@@ -113,7 +103,7 @@ pub emptied_finished : (clean : Type 0) (d : Direction) (t : Tree) → (clean �
 emptied_finished clean d t normal other is part facts has =
     finished-changed clean d t
     (λ is_clean. true≢false (sym is ∙ LacksShape-here is_emptied_away t (normal is_clean).emptied))
-    (leaf empty) facts (emptied_keeps d t other is part) IsNormal-empty has
+    (leaf empty) facts (emptied_keeps d t other is part) empty_normal has
 
 module _ (facts : PartFacts) (q : Quantifier) (start end : ℕ) (body : Tree) (normal : IsNormal body) (has : HasFacts facts body) where
   abbrev around : Tree
@@ -269,10 +259,6 @@ module _ (facts : PartFacts) (q : Quantifier) (start end : ℕ) (body : Tree) (h
 
     pub IsPart-unrolled : IsPart (unrolled q start end body)
     IsPart-unrolled = IsPart-kept d keeps_unrolled part
-
-pub nothing_done : (d : Direction) (t : Tree) (answer : Result RowFacts AllocError) → IsErr answer → HasFinishedParts d t t answer
-nothing_done d t (Ok row) is = absurd (false≢true is)
-nothing_done d t (Err e) is = record { keeps = Keeps-refl d t; parts = tt }
 
 -- a loop that is unrolled, and the row that it becomes
 module _ (d : Direction) (t mid : Tree) (parts : Result RowFacts AllocError) (finished : HasFinishedParts d t mid parts) where

@@ -1,7 +1,7 @@
 pub mod Optimized
 -- what the public contracts cite of the crates below, passed on, so that a caller names one library
 pub use Rattle.regress_base.specs.Intervals
-pub use Rattle.regress_unicode.specs.Table
+pub use Rattle.regress_base.specs.Table
 pub use Rattle.regress_unicode.specs.TableOf
 pub use Rattle.regress_tree.specs.Setting
 pub use Rattle.regress_tree.specs.Tree

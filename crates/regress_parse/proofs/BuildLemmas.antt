@@ -5,7 +5,7 @@ use Rattle.regress_base.specs.Intervals.{Bounds, is_member, IsCanonical, IsCompl
 use Rattle.regress_base.proofs.laws.Sets.{canonical_is, intervals_of-member}
 use Rattle.regress_tree.specs.declared.ir.node.Node.{Node}
 use Rattle.regress_tree.specs.Reading.{Direction}
-use Rattle.regress_unicode.specs.Table.{Table, is_in_closure}
+use Rattle.regress_base.specs.Table.{Table, is_in_closure}
 use Rattle.regress_unicode.proofs.laws.Closures.{closure_same}
 use Rattle.regress_tree.specs.Tree.{Tree, tree, trees, alt, cat, row_append, no_trees, more_trees}
 use Rattle.regress_syntax.specs.Meaning.{is_in_class}

@@ -5,7 +5,7 @@ use Rattle.std.proofs.lemmas.Bool.Decides.{nat_tests}
 use Rattle.std.proofs.lemmas.List.Elements.{All-head, All-tail}
 use Rattle.regress_base.specs.Intervals.{Bounds}
 use Rattle.regress_base.specs.declared.charclasses.CharacterClassType.{CharacterClassType}
-use Rattle.regress_unicode.specs.Table.{Table, IsLawful}
+use Rattle.regress_base.specs.Table.{Table, IsLawful}
 use Rattle.regress_classes.specs.ClassRows.{complement, class_letter, class_at}
 use Rattle.regress_classes.specs.ClassSets.{Value}
 use Rattle.regress_lexical.specs.Digits.{is_between, is_decimal, digit, number_from, number, front}

@@ -15,12 +15,6 @@ added-nothing a =
     (let e : a.groups + 0 ≡ a.groups = omega arith in e)
     (let e : a.loops + 0 ≡ a.loops = omega arith in e)
 
-pub nothing-added : (a : Counts) → added nothing_counted a ≡ a
-nothing-added a =
-    ap₂ (λ (g l : ℕ). record { groups = g; loops = l })
-    (let e : 0 + a.groups ≡ a.groups = omega arith in e)
-    (let e : 0 + a.loops ≡ a.loops = omega arith in e)
-
 -- What keeps the limits behind more, and as deep, keeps them behind less.
 pub Fits-inside : (before mid : Counts) (depth deep : ℕ) (whole part : Part) →
     mid.groups + part.counts.groups ≤ before.groups + whole.counts.groups →

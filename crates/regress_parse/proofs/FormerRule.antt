@@ -1,7 +1,7 @@
 -- What is accepted was accepted by the Rust crate's rule on names, which compares the numbers of alternatives alone, level by
 -- level, whatever parentheses they belong to. The pattern is the same, and so is its tree.
 use Rattle.std.proofs.Common.{◌≡◌, ap, IsTrue}
-use Rattle.regress_unicode.specs.Table.{IsLawful}
+use Rattle.regress_base.specs.Table.{IsLawful}
 use Rattle.regress_tree.specs.Setting.{Setting}
 use Rattle.regress_lexical.specs.Source.{Source}
 use Rattle.regress_syntax.specs.Syntax.{Pattern}

@@ -16,14 +16,3 @@ pub mod MeaningLemmas
 pub mod GroupLemmas
 pub mod CodePointLemmas
 pub mod WellFormedLemmas
-pub mod Meanings
-pub mod LoopMeanings
-pub mod AssertionMeanings
-pub mod CharacterSets
-pub mod CharacterMeanings
-pub mod LookaroundMeanings
-pub mod ReferenceMeanings
-pub mod ModifierMeanings
-pub mod SetMeanings
-pub mod Examples
-pub mod GroupExamples

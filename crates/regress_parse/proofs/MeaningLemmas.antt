@@ -5,15 +5,15 @@ use Rattle.regress_base.specs.Brackets.{is_accepted}
 use Rattle.regress_base.specs.Intervals.{Bounds, is_member, intervals_of}
 use Rattle.regress_tree.specs.Reading.{Direction, Read, next_character, forwards, backwards, IsText, of_characters, of_bytes}
 use Rattle.regress_tree.specs.Steps.{State, Step, byte_state, distinct, stay, fail, moved, ◌or_◌, one_character}
-use Rattle.regress_unicode.specs.Listing.{lists}
+use Rattle.regress_base.specs.Listing.{lists}
 use Rattle.regress_tree.specs.References as References
 use Rattle.regress_tree.specs.Matching.{steps, steps_in_row}
 use Rattle.regress_tree.specs.Setting.{Setting}
 use Rattle.regress_tree.specs.Strings.{any_string}
 use Rattle.regress_tree.specs.Assertions.{is_line_terminator, is_word_character, differ}
-use Rattle.regress_tree.specs.declared.ir.node.Quantifier.{Quantifier}
-use Rattle.regress_tree.specs.Literal.{class_of}
-use Rattle.regress_unicode.specs.Table.{stands_for}
+use Rattle.regress_base.specs.declared.types.Quantifier.{Quantifier}
+use Rattle.regress_base.specs.Table.{class_of}
+use Rattle.regress_base.specs.Table.{stands_for}
 use Rattle.regress_tree.specs.Tree.{Tree, Trees, leaf, no_trees, more_trees, empty, match_any, match_any_except_line_terminator, char, char_set, bracket, back_ref, string_set}
 use Rattle.regress_syntax.specs.Syntax.{Atom, literal, dot, anchor, boundary, class_escape, class, class_set, string_property, back_reference, Group, grouping, modified, capture, look, Name, Pattern, Terms, Item, one, either, no_terms, more_terms, atom, group, opened_by, counts_of_item, counts_of_term, counts_of_terms, names}
 use Rattle.regress_syntax.specs.Meaning.{is_in_class, longest_first, along, direction_of_group, group_steps, referred, any_reference, times_steps, atom_steps, pattern_steps, terms_steps, item_steps}

@@ -3,7 +3,6 @@ use Rattle.std.proofs.Common.{◌≡◌, ◌∙◌, ℕ, Some, refl, sym, ap, su
 use Rattle.std.specs.Option.{IsSomeAnd}
 use Rattle.regress_tree.specs.declared.ir.node.Node.{Node}
 use Rattle.regress_tree.specs.Reading.{Direction}
-use Rattle.regress_lexical.specs.declared.fault.ParseFault.{ParseFault}
 use Rattle.regress_lexical.specs.Source.{Source, Found}
 use Rattle.regress_syntax.specs.Syntax.{Counts}
 use Rattle.regress_lexical.proofs.laws.Sources.{some_and}
@@ -32,8 +31,3 @@ module _ {A : Type 0} (part : A → Part) (d : Direction) (depth : ℕ) (before 
   of_built more P node each h =
       let x = built_here node h in
       subst (λ (f : Found A). P (more f)) (sym x.1) (each x.0 x.1 x.2)
-
-  -- what is found is what was read in two steps
-  pub yields_same : (other : Found A) (r : Result Node ParseFault) → found ≡ other → Yields part d depth before new r found →
-      Yields part d depth before new r other
-  yields_same other r same h = subst (Yields part d depth before new r) same h

@@ -5,7 +5,7 @@ use Rattle.std.proofs.lemmas.Option.{same_Some}
 use Rattle.std.proofs.lemmas.Bool.{cond-true, cond-false}
 use Rattle.regress_tree.specs.declared.ir.node.Node.{Node, Empty}
 use Rattle.regress_tree.specs.Reading.{Direction}
-use Rattle.regress_unicode.specs.Table.{Table}
+use Rattle.regress_base.specs.Table.{Table}
 use Rattle.regress_tree.specs.Tree.{row_append, tree, trees, no_trees, more_trees}
 use Rattle.regress_tree.proofs.laws.Nodes.{tree-Empty}
 use Rattle.regress_lexical.specs.Source.{Source, Found, ◌>>=◌, ends_alternative}

@@ -7,16 +7,17 @@ use Rattle.regress_tree.specs.declared.ir.node.Node.{Node}
 use Rattle.regress_tree.specs.Reading.{Direction}
 use Rattle.regress_lexical.specs.declared.fault.ParseFault.{ParseFault}
 use Rattle.std.proofs.lemmas.Option.{same_Some, cond_some}
-use Rattle.regress_unicode.specs.Table.{Table}
-use Rattle.regress_tree.specs.declared.ir.node.Quantifier.{Quantifier}
+use Rattle.regress_base.specs.Table.{Table}
+use Rattle.regress_base.specs.declared.types.Quantifier.{Quantifier}
 use Rattle.regress_lexical.specs.Source.{Source, Found, ◌>>=◌, found_map, opening, closing, is_at, is_plain}
 use Rattle.regress_lexical.specs.Beginnings.{may_begin}
 use Rattle.regress_syntax.specs.Syntax.{Name, Atom, Group, Pattern, Item, one, either, literal, atom, group, Counts, added, counts_of_item, opened_by, levels, levels_of_atom}
 use Rattle.regress_syntax.specs.Rows.{Context, context_inside, Head, single, opens, head_of_item, allows, group_at, head_at, times_at}
 use Rattle.regress_lexical.proofs.laws.Sources.{found_then, from_each, to_each, on_syntax_then}
 use Rattle.regress_syntax.proofs.laws.Plain.{plain_head, no_times}
+use Rattle.regress_syntax.proofs.laws.Scan.{one_level}
 use Rattle.regress_parse.specs.Reader.{Term, closed, item_behind, quantified, pattern_at, item_at, term_at}
-use Rattle.regress_base.specs.Limits.{max_capture_groups, max_loops, max_nesting_depth}
+use Rattle.regress_base.specs.Limits.{max_loops, max_nesting_depth}
 use Rattle.regress_parse.specs.Parsing.{Fits, pattern_part, term_part, item_part, atom_at, ReadsAtom, Builds, Yields, text, counted}
 use Rattle.regress_parse.specs.TreeOf.{tree_of_atom}
 use Rattle.regress_parse.specs.declared.parser.Parser.{Parser}
@@ -28,15 +29,12 @@ pub front_is : (k : ℕ) (t rest : Source) → is_at k t ≡ true → rest ≡ d
 front_is k [] rest e same = cc
 front_is k (c ∷ t) rest e same = ap₂ (λ d u. d ∷ u) (eqb-true c k e) (sym same)
 
-levels-positive : (p : Pattern) → 1 ≤ levels p
-levels-positive (one ts) = omega arith
-levels-positive (either ts p) = omega arith
 
 module _ (table : Table) (names : List (Option Name)) (ctx : Context) where
   -- no pattern fits where no level is left
   pub too_deep : (before : Counts) (depth : ℕ) (found : Found Pattern) → max_nesting_depth ≤ depth →
       IfSome found (λ x. Fits before depth (pattern_part table names x.0) → ⊥)
-  too_deep before depth found full = from_each found _ (λ x _ fits. omega (arith, fits.levels, levels-positive x.0))
+  too_deep before depth found full = from_each found _ (λ x _ fits. omega (arith, fits.levels, one_level x.0))
 
   -- ---- an item, behind what it begins with
 
@@ -197,15 +195,4 @@ module _ (table : Table) (names : List (Option Name)) (ctx : Context) where
       let same = same_Some _ x (sym (atom_item t none ∙ ap (found_map atom) h.1) ∙ found) in
       sym h.2.allows ∙ ap (λ (y : Item × Source). allows ctx.setting.flags.unicode (head_of_item y.0)) same
   atom_allowed left allowed new (Err fault) t none h = tt
-
   -- ---- a group
-
-  -- one group too many is too many for the item
-  pub group-too_many : (kind : Group) (t : Source) (before : Counts) (depth : ℕ) → max_capture_groups < before.groups + opened_by kind →
-      IfSome (item_behind pattern_at ctx (opens kind, t)) (λ x. Fits before depth (item_part table names x.0) → ⊥)
-  group-too_many kind t before depth many =
-      from_each (item_behind pattern_at ctx (opens kind, t)) _ (λ x found fits.
-      let body = found_then (pattern_at (context_inside kind ctx) t) (closed kind) x found in
-      let same = closed_same kind body.0 x body.2 in
-      let whole = subst (λ (y : Item). Fits before depth (item_part table names y)) (sym same) fits in
-      omega (arith, whole.groups, many))

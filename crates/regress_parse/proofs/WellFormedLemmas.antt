@@ -7,14 +7,14 @@ use Rattle.std.proofs.lemmas.Str.{encodes_same}
 use Rattle.regress_base.specs.Intervals.{intervals_of}
 use Rattle.regress_base.specs.Limits.{max_char_set_length}
 use Rattle.regress_base.proofs.laws.Sets.{intervals_of-canonical}
-use Rattle.regress_tree.specs.declared.ir.node.Quantifier.{Quantifier}
-use Rattle.regress_tree.specs.Literal.{class_of}
+use Rattle.regress_base.specs.declared.types.Quantifier.{Quantifier}
+use Rattle.regress_base.specs.Table.{class_of}
 use Rattle.regress_tree.specs.Reading.{Direction, forwards, backwards}
-use Rattle.regress_unicode.specs.Table.{Table, IsLawful}
+use Rattle.regress_base.specs.Table.{Table, IsLawful}
 use Rattle.regress_tree.specs.Tree.{Tree, Trees, no_trees, more_trees, char, match_any, match_any_except_line_terminator, bracket, back_ref, string_set}
 use Rattle.regress_tree.specs.Setting.{Setting}
 use Rattle.regress_tree.specs.WellFormed.{inside, LeafMayStand, IsQuantifier, HasGroups, MayStand, RowMayStand, IsWellFormed, captures}
-use Rattle.regress_tree.proofs.laws.Literals.{class_of-bounded, class_of-few}
+use Rattle.regress_base.proofs.laws.Literals.{class_of-bounded, class_of-few}
 use Rattle.regress_tree.proofs.laws.Turned.{RowMayStand-row_reverse}
 use Rattle.regress_classes.specs.ClassRows.{members_of}
 use Rattle.regress_classes.specs.ClassSets.{Value}

@@ -1,7 +1,7 @@
 -- The grammar as a function: what it reads from the front of a source, and the source behind that. The relation of
 -- `Grammar` in `regress_syntax` has the same forms, and the lemmas on it show that it relates what this reads and nothing else.
 use Rattle.std.specs.Prelude.{ℕ, zero, suc, ◌+◌, ◌*◌, length, drop, Option, Some, None, if◌then◌else◌}
-use Rattle.regress_tree.specs.declared.ir.node.Quantifier.{Quantifier}
+use Rattle.regress_base.specs.declared.types.Quantifier.{Quantifier}
 use Rattle.regress_lexical.specs.Source.{Source, Found, ◌>>=◌, found_map, closing, bar, is_at, ends_alternative}
 use Rattle.regress_syntax.specs.Syntax.{Group, Pattern, Terms, Item, one, either, no_terms, more_terms, atom, group}
 use Rattle.regress_syntax.specs.Rows.{Context, context_inside, Head, single, opens, head_of_item, allows, head_at, times_at}

@@ -4,7 +4,7 @@ use Rattle.std.specs.Prelude.{encode_utf8_all, IfSome, nat_le}
 use Rattle.std.specs.List.{flat_map}
 use Rattle.std.proofs.lemmas.Bool.{cases_Bool, true≢false, false≢true, and_parts, eq-eqb, leb-true, le-leb}
 use Rattle.std.proofs.lemmas.Str.{length-le-encodes}
-use Rattle.regress_tree.specs.declared.ir.node.Quantifier.{Quantifier}
+use Rattle.regress_base.specs.declared.types.Quantifier.{Quantifier}
 use Rattle.regress_tree.specs.Reading.{Direction, forwards, backwards}
 use Rattle.regress_tree.specs.Steps.{State, Step, stay, ◌then_◌, these_bytes}
 use Rattle.regress_tree.specs.Repetition.{turn, turns, moving, up_to, more_turns, repeat}

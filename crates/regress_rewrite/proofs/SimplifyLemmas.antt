@@ -13,9 +13,9 @@ use Rattle.regress_base.specs.Intervals.{Bounds, code_point_max, is_member, IsCa
 use Rattle.regress_base.specs.Limits.{max_char_set_length}
 use Rattle.regress_base.specs.declared.types.bracket.BracketContents.{BracketContents}
 use Rattle.regress_base.proofs.laws.Sets.{member_above}
-use Rattle.regress_unicode.specs.Listing.{lists}
-use Rattle.regress_unicode.specs.Table.{code_points}
-use Rattle.regress_unicode.proofs.laws.Listings.{lists-members, All-from_lists}
+use Rattle.regress_base.specs.Listing.{lists}
+use Rattle.regress_base.specs.Listing.{code_points}
+use Rattle.regress_base.proofs.laws.Listings.{lists-members, All-from_lists}
 use Rattle.regress_tree.specs.declared.ir.node.Node.{Node}
 use Rattle.regress_tree.specs.Copies.{is_leaf}
 use Rattle.regress_tree.specs.Reading.{Direction}
@@ -25,7 +25,7 @@ use Rattle.regress_tree.specs.WellFormed.{Position, one_character, inside, last,
 use Rattle.regress_tree.proofs.laws.Alike.{Alike-from_same}
 use Rattle.regress_tree.proofs.laws.Brackets.{gap_count-complement}
 use Rattle.regress_tree.proofs.laws.ByteSequences.{one_character-agree}
-use Rattle.regress_tree.proofs.laws.Literals.{scalar_in_range}
+use Rattle.regress_base.proofs.laws.Literals.{scalar_in_range}
 use Rattle.regress_tree.proofs.laws.Measures.{IsLess-lighter}
 use Rattle.regress_rewrite.specs.declared.rewrite.PassAction.{PassAction}
 use Rattle.regress_rewrite.specs.declared.rewrite.PassAction.TheVariants.{Keep, Modified, Remove, Replace}

@@ -1,6 +1,6 @@
 -- Loops over one character.
 use Rattle.std.specs.Prelude.{◌≡◌, true, false}
-use Rattle.regress_tree.specs.declared.ir.node.Quantifier.{Quantifier}
+use Rattle.regress_base.specs.declared.types.Quantifier.{Quantifier}
 use Rattle.regress_tree.specs.NodeTests.{matches_exactly_one_char}
 use Rattle.regress_tree.specs.Tree.{Tree, wrapped, loop_one, tree}
 use Rattle.regress_rewrite.specs.declared.rewrite.PassAction.{PassAction}

@@ -2,7 +2,7 @@
 use Rattle.std.specs.Prelude.{◌≡◌, true, false, not, flat_map}
 use Rattle.regress_base.specs.Intervals.{IsCanonical, IsComplement}
 use Rattle.regress_base.specs.declared.types.bracket.BracketContents.{BracketContents}
-use Rattle.regress_unicode.specs.Table.{code_points}
+use Rattle.regress_base.specs.Listing.{code_points}
 use Rattle.regress_tree.specs.Tree.{Leaf, Tree, leaf, char_set, bracket, tree}
 use Rattle.regress_tree.specs.Shapes.{is_small_bracket, is_long_bracket, is_simplified_away}
 use Rattle.regress_rewrite.specs.declared.rewrite.PassAction.{PassAction}

@@ -1,6 +1,6 @@
 -- Loops that are unrolled.
 use Rattle.std.specs.Prelude.{ℕ, ◌-◌, Bool, not, ◌&&◌, nat_le, Option, Some, None, option_map, if◌then◌else◌}
-use Rattle.regress_tree.specs.declared.ir.node.Quantifier.{Quantifier}
+use Rattle.regress_base.specs.declared.types.Quantifier.{Quantifier}
 use Rattle.regress_tree.specs.Measures.{total_in_row, levels, levels_of_deepest}
 use Rattle.regress_tree.specs.Shapes.{on_leaf, on_wrapper, some_node_in_row, is_loop, is_string_set, has_loop, has_string_set, is_zero}
 use Rattle.regress_tree.specs.Tree.{Tree, Trees, leaf, cat, alt, wrapped, capture_group, loop, loop_one, lookaround, no_trees, more_trees, row_append, copies}

@@ -2,7 +2,7 @@
 ghost use Rattle.std.specs.Prelude.{◌≡◌, ◌<◌, ◌++◌, ◌-◌, ◌&&◌, [], length, map, true, IfOk, OnOk, OnErr};
 ghost use Rattle.regress_tree.specs.Reading.{Direction, forwards, backwards};
 ghost use Rattle.regress_tree.specs.Tree.{tree, trees, leaf, char, char_set, byte_sequence, cat};
-ghost use Rattle.regress_tree.specs.Literal.{set_of};
+ghost use Rattle.regress_tree.specs.SmallSets.{set_of};
 ghost use Rattle.regress_tree.specs.Walk.{direction_of};
 ghost use Rattle.regress_tree.specs.Shapes.{has_bytes, is_formed_away};
 ghost use Rattle.regress_rewrite.specs.Law.{after, IsLawful};
@@ -10,7 +10,7 @@ ghost use Rattle.regress_rewrite.specs.Formed.{formed_character, bytes_of, part_
 
 use crate::rewrite::PassAction;
 use regress_tree::ir::{Node, Walk};
-use regress_tree::literal::ascii;
+use regress_tree::small_sets::ascii;
 use std::alloc::{AllocError, Global};
 use std::mem;
 

@@ -1,7 +1,7 @@
 //! Simplification of brackets.
 ghost use Rattle.std.specs.Prelude.{◌≡◌, true, not, nat_le, nat_lt, length, flat_map, IfOk, OnErr};
 ghost use Rattle.regress_base.specs.Limits.{max_char_set_length};
-ghost use Rattle.regress_unicode.specs.Table.{code_points};
+ghost use Rattle.regress_base.specs.Listing.{code_points};
 ghost use Rattle.regress_tree.specs.Copies.{is_leaf};
 ghost use Rattle.regress_tree.specs.Reading.{Direction};
 ghost use Rattle.regress_tree.specs.Tree.{tree};

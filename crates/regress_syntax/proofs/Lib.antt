@@ -1,5 +1,3 @@
-pub mod ClassSetExamples
-mod SameNameExamples
 pub mod laws
 mod ConflictLemmas
 mod NameLemmas

@@ -1,5 +1,5 @@
 -- Paths as the code keeps them.
-use Rattle.std.proofs.Common.{◌≡◌, ℕ, zero, suc, ◌+◌, ◌≤◌, Bool, true, false, not, ◌==◌, ◌&&◌, List, [], ◌∷◌, ◌++◌, map, reverse, length, get_or, slice_set, Option, Some, None, option_map, refl, sym, ap, ◌∙◌, arith}
+use Rattle.std.proofs.Common.{◌≡◌, ℕ, zero, suc, ◌+◌, Bool, true, false, not, ◌==◌, ◌&&◌, List, [], ◌∷◌, ◌++◌, map, reverse, length, get_or, slice_set, Option, Some, None, option_map, refl, sym, ap, ◌∙◌, arith}
 use Rattle.std.specs.List.{zip, find}
 use Rattle.std.specs.Option.{MatchOption}
 use Rattle.std.proofs.lemmas.List.{map-append, reverse-append, reverse-reverse}
@@ -68,12 +68,3 @@ counted_on levels n level l e =
     ∙ sym (ap next_alternative (ap (λ ls. reverse (map level_of ls)) parts.1 ∙ innermost_last parts.0 level))
 
 -- ---- the numbers of a path
-
-pub highest-outside : (path : Path) → highest (outside path) ≤ highest path
-highest-outside [] = omega arith
-highest-outside (level ∷ []) = omega arith
-highest-outside (level ∷ around ∷ path) = omega arith
-
-pub highest-next : (path : Path) → highest (next_alternative path) ≤ highest path + 1
-highest-next [] = omega arith
-highest-next (level ∷ path) = omega arith

@@ -1,53 +1,24 @@
 -- References by number and by name.
-use Rattle.std.proofs.Common.{⊎_elim, ◌≡◌, ◌≢◌, ℕ, ◌+◌, ◌-◌, ◌<◌, ◌≤◌, ◌^◌, nat_le, min, Bool, true, false, cond, ◌||◌, List, [], ◌∷◌, length, Option, Some, None, refl, sym, ap, ◌∙◌, arith}
+use Rattle.std.proofs.Common.{⊎_elim, ◌≡◌, ◌≢◌, ℕ, ◌+◌, ◌-◌, ◌^◌, min, Bool, true, false, cond, ◌||◌, List, [], ◌∷◌, length, Option, Some, None, refl, sym, ap, ◌∙◌, arith}
 use Rattle.std.proofs.lemmas.Bool.{cond-true, cond-false, cases_Bool, false≢true, ne_eqb}
-use Rattle.std.proofs.lemmas.Bool.Decides.{nat_tests}
-use Rattle.std.proofs.lemmas.Option.{same_Some}
 use Rattle.regress_lexical.specs.Source.{Source, ◌>>=◌}
-use Rattle.regress_lexical.specs.Digits.{is_between, is_decimal, number, front, behind}
+use Rattle.regress_lexical.specs.Digits.{is_decimal, number, front, behind}
 use Rattle.regress_lexical.specs.Escapes.{begins_with_digit}
 use Rattle.regress_lexical.specs.Quantifiers.{count_at}
+use Rattle.regress_lexical.proofs.laws.Digits.{front_digit}
 use Rattle.regress_syntax.specs.Meaning.{groups_named}
 use Rattle.regress_syntax.specs.Names.{group_name_at}
 use Rattle.regress_syntax.specs.Numbering.{group_number_at}
 use Rattle.regress_syntax.specs.Rows.{Context, has_name, named_at}
 use Rattle.regress_syntax.specs.Syntax.{Name, is_named, by_name, back_reference}
 
-digit_decimal : (c : ℕ) → is_between 49 57 c ≡ true → is_decimal c ≡ true
-digit_decimal c e = grind (arith, nat_tests, e)
-
-pub begins-digit : (c : ℕ) (t : Source) → is_between 49 57 c ≡ true → begins_with_digit (c ∷ t) ≡ true
-begins-digit c t e = digit_decimal c e
-
-front-first : (c : ℕ) (t : Source) → is_decimal c ≡ true → front is_decimal (c ∷ t) ≡ c ∷ front is_decimal t
-unfolding front
-front-first c t e = cond-true (is_decimal c) _ _ e
-
 -- a count that saturates tells it
 pub count-is : (t : Source) → begins_with_digit t ≡ true →
     count_at t ≡ Some (min (number 10 (front is_decimal t)) (2 ^ 64 - 1), behind is_decimal t)
 count-is [] e = absurd (false≢true e)
 count-is (c ∷ t) e =
-    let some : length (front is_decimal (c ∷ t)) ≢ 0 = λ none. omega (arith, none, ap length (front-first c t e)) in
+    let some : length (front is_decimal (c ∷ t)) ≢ 0 = λ none. omega (arith, none, ap length (front_digit c t e)) in
     cond-false _ _ _ (ne_eqb (length (front is_decimal (c ∷ t))) 0 some)
-
-pub group_number_at-none : (t : Source) (groups n : ℕ) (rest : Source) → begins_with_digit t ≡ true → groups < 65536 →
-    count_at t ≡ Some (n, rest) → groups < n → group_number_at groups t ≡ None
-group_number_at-none t groups n rest digit few found more =
-    let same = same_Some _ (n, rest) (sym (count-is t digit) ∙ found) in
-    let above : nat_le (number 10 (front is_decimal t)) groups ≡ false =
-    grind (arith, nat_tests, ap (λ (x : ℕ × Source). x.0) same, few, more) in
-    cond-false _ _ _ above
-
-pub group_number_at-some : (t : Source) (groups n : ℕ) (rest : Source) → begins_with_digit t ≡ true → groups < 65536 →
-    count_at t ≡ Some (n, rest) → n ≤ groups → group_number_at groups t ≡ Some (n, rest)
-group_number_at-some t groups n rest digit few found within =
-    let same = same_Some _ (n, rest) (sym (count-is t digit) ∙ found) in
-    let small : min (number 10 (front is_decimal t)) (2 ^ 64 - 1) ≡ number 10 (front is_decimal t) =
-    omega (arith, ap (λ (x : ℕ × Source). x.0) same, few, within) in
-    let fits : nat_le (number 10 (front is_decimal t)) groups ≡ true =
-    grind (arith, nat_tests, ap (λ (x : ℕ × Source). x.0) same, small, within) in
-    cond-true _ _ _ fits ∙ ap (λ m. Some (m, behind is_decimal t)) (sym small) ∙ ap Some same
 
 abbrev is_empty : List ℕ → Bool
 is_empty [] = true

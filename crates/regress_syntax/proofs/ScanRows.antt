@@ -6,11 +6,11 @@ use lib.Utf8.{scalar}
 use Rattle.regress_base.specs.Classes.{word_characters}
 use Rattle.regress_base.specs.Intervals.{Bounds, is_within, is_member}
 use Rattle.regress_base.specs.declared.charclasses.CharacterClassType.{CharacterClassType}
-use Rattle.regress_unicode.specs.Table.{Table, HasWordAscii, IsLawful}
+use Rattle.regress_base.specs.Table.{Table, HasWordAscii, IsLawful}
 use Rattle.regress_lexical.specs.Source.{Source, Found, ◌>>=◌, found_map, opening, closing, colon, bar, full_stop, question_mark, is_one_of, is_at, first_row}
 use Rattle.regress_lexical.specs.Digits.{is_decimal, number, front, behind}
 use Rattle.regress_lexical.specs.Escapes.{unicode_at, escape_at}
-use Rattle.regress_tree.specs.declared.ir.node.Quantifier.{Quantifier}
+use Rattle.regress_base.specs.declared.types.Quantifier.{Quantifier}
 use Rattle.regress_lexical.specs.Quantifiers.{quantifier_at, is_ordered}
 use Rattle.regress_classes.specs.Properties.{Property, of_points, of_strings, property_at}
 use Rattle.regress_classes.specs.ClassRows.{complement, class_letter, class_at}

@@ -5,12 +5,13 @@ use Rattle.std.proofs.lemmas.Bool.Decides.{nat_tests}
 use Rattle.regress_base.specs.Intervals.{Bounds}
 use Rattle.regress_base.specs.Limits.{max_nesting_depth}
 use Rattle.regress_base.specs.declared.charclasses.CharacterClassType.{CharacterClassType}
-use Rattle.regress_unicode.specs.Table.{Table}
+use Rattle.regress_base.specs.Table.{Table}
 use Rattle.regress_lexical.specs.Source.{Source, Found, ◌>>=◌, found_map, is_at, first_row}
 use Rattle.regress_classes.specs.Properties.{Property, of_points, of_strings, property_at}
 use Rattle.regress_classes.specs.ClassRows.{class_letter, class_members, one_point, points_between}
-use Rattle.regress_classes.specs.ClassSets.{Value, has_strings, only, joined, common, without, value_of_string, value_of_strings, nested, unless_of_strings, Operand, character, value_of, is_set_syntax, is_double, begins_double, is_reserved, escaped_character_at, set_character_at, strings_by, quoted_at, property_operand, operand_rows, escaped_operand_at, operand_at, range_of, part_behind, parts_by, are_at, operands_by, contents_behind, contents_at, class_set_by, class_set_at}
+use Rattle.regress_classes.specs.ClassSets.{Value, has_strings, only, joined, common, without, value_of_strings, nested, unless_of_strings, Operand, character, value_of, is_set_syntax, is_double, begins_double, is_reserved, escaped_character_at, set_character_at, strings_by, quoted_at, property_operand, operand_rows, escaped_operand_at, operand_at, range_of, part_behind, parts_by, are_at, operands_by, contents_behind, contents_at, class_set_by, class_set_at}
 use Rattle.regress_classes.specs.ClassSets as ClassSets
+use Rattle.regress_classes.proofs.laws.ClassStrings.{level_of_strings}
 use Rattle.regress_syntax.specs.Marks.{Mark, nests}
 use Rattle.regress_syntax.specs.Scan.{plain, class, marks, is_quiet}
 use Rattle.regress_lexical.proofs.laws.Digits.{and_both, drop_one_more}
@@ -86,15 +87,6 @@ behind_part table depth before levels v t = within table depth before (max level
 abbrev behind_class : (table : Table) (depth before : ℕ) → Value → Source → List Mark
 behind_class table depth before v t = closed table depth before v.levels t
 
-flat_string : (s : List ℕ) → (value_of_string s).levels ≡ 0
-flat_string [] = refl
-flat_string (c ∷ []) = refl
-flat_string (c ∷ d ∷ cs) = refl
-
-flat_strings : (ss : List (List ℕ)) → (value_of_strings ss).levels ≡ 0
-flat_strings [] = refl
-flat_strings (s ∷ ss) = omega (arith, flat_string s, flat_strings ss)
-
 module _ (table : Table) where
   pass_close : (depth before levels : ℕ) (t : Source) → is_at 93 t ≡ true → within table depth before levels t ≡ closed table depth before levels (drop 1 t)
   unfolding marks
@@ -138,7 +130,7 @@ module _ (table : Table) where
         Gives (within table depth before levels t) (behind_operand table depth before levels) (quoted_at unicode t)
     gives_quoted_at depth before levels t =
         gives_cond (is_at 123 t) _ _
-        (λ e. gives_flat depth before levels _ (λ ss. ClassSets.class (value_of_strings ss)) (strings_by (length t) unicode [] (drop 1 t)) flat_strings
+        (λ e. gives_flat depth before levels _ (λ ss. ClassSets.class (value_of_strings ss)) (strings_by (length t) unicode [] (drop 1 t)) level_of_strings
         (gives_leads (leads_behind (pass_at (at_levels depth before levels) 123 t refl e)
         (lead_strings_by unicode (length t) depth (max before (depth + levels)) [] (drop 1 t)))))
         (λ _. gives_none)
@@ -150,7 +142,7 @@ module _ (table : Table) where
     gives_property_operand depth before levels in_negated negated (of_strings written, t) =
         gives_cond (in_negated || negated) _ _ (λ _. gives_none)
         (λ _. gives_some (_, t)
-        (same_within depth before levels (max levels (value_of_strings written).levels) t (omega (arith, flat_strings written))))
+        (same_within depth before levels (max levels (value_of_strings written).levels) t (omega (arith, level_of_strings written))))
 
     operand_rows_give : (depth before levels : ℕ) (in_negated : Bool) (c : ℕ) (t : Source) →
         EachRow (Gives (marks true table (behind_backslash (at_levels depth before levels)) (c ∷ t)) (behind_operand table depth before levels))

@@ -6,7 +6,7 @@ use Rattle.std.proofs.lemmas.Bool.{and_left, cases_lt}
 use Rattle.std.proofs.lemmas.List.Elements.{filter-append}
 use Rattle.std.proofs.lemmas.List.{map-append}
 use Rattle.regress_base.specs.Limits.{max_nesting_depth}
-use Rattle.regress_unicode.specs.Table.{Table}
+use Rattle.regress_base.specs.Table.{Table}
 use Rattle.regress_lexical.specs.Source.{Source}
 use Rattle.regress_syntax.specs.Marks.{Mark, opens, captures, closes, next, nests}
 use Rattle.regress_syntax.specs.SameNames.{same_name}
@@ -138,9 +138,6 @@ counted n d same = (λ few. omega (arith, same), λ many. omega (arith, same))
 
 pub levels_behind : (all : List Mark) (scanner : Scanner) → Behind all [] scanner → scanner.deepest ≤ max_nesting_depth → deepest 1 all ≤ max_nesting_depth
 levels_behind all scanner behind few = (counted (deepest 1 all) _ behind.levels).0 (omega (arith, behind.opened))
-
-pub too_deep_behind : (all : List Mark) (scanner : Scanner) → Behind all [] scanner → max_nesting_depth < scanner.deepest → max_nesting_depth < deepest 1 all
-too_deep_behind all scanner behind many = (counted (deepest 1 all) _ behind.levels).1 (omega (arith, behind.opened))
 
 pub apart_behind : (all : List Mark) (scanner : Scanner) → Behind all [] scanner → deepest 1 all ≤ max_nesting_depth →
     are_marks_apart all ≡ are_apart (map capture_of scanner.named.items)

@@ -1,4 +1,5 @@
 pub mod Names
+pub mod SettingOf
 pub mod Syntax
 pub mod Rows
 pub mod Grammar

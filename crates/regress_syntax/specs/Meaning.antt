@@ -3,7 +3,7 @@ use Rattle.std.specs.Prelude.{ℕ, zero, suc, ◌+◌, ◌-◌, ◌==◌, Bool, 
 use Rattle.std.specs.List.{concat}
 use Rattle.regress_base.specs.Intervals.{Bounds, is_member}
 use Rattle.regress_base.specs.declared.types.Flags.{Flags}
-use Rattle.regress_tree.specs.declared.ir.node.Quantifier.{Quantifier}
+use Rattle.regress_base.specs.declared.types.Quantifier.{Quantifier}
 use Rattle.regress_tree.specs.Reading.{Direction, forwards, backwards, of_characters}
 use Rattle.regress_tree.specs.Steps.{Step, distinct, stay, fail, ◌then_◌, ◌or_◌, one_character, hold_at}
 use Rattle.regress_tree.specs.Steps as Steps
@@ -11,7 +11,7 @@ use Rattle.regress_tree.specs.Lookaround as Lookaround
 use Rattle.regress_tree.specs.References as References
 use Rattle.regress_tree.specs.Strings.{any_string}
 use Rattle.regress_tree.specs.Setting.{Setting}
-use Rattle.regress_unicode.specs.Table.{Table, stands_for, is_in_closure}
+use Rattle.regress_base.specs.Table.{Table, stands_for, is_in_closure}
 use Rattle.regress_tree.specs.Assertions.{is_line_terminator, is_word_character, at_anchor, differ, at_boundary}
 use Rattle.regress_tree.specs.Repetition.{repeat}
 use Rattle.regress_classes.specs.ClassRows.{members_of}

@@ -2,7 +2,7 @@
 use Rattle.std.specs.Prelude.{ℕ, zero, suc, ◌+◌, Bool, ◌&&◌, ◌||◌, [], ◌∷◌, length, drop, Some, None, if◌then◌else◌, ◌==◌}
 use lib.Utf8.{scalar}
 use Rattle.regress_base.specs.Intervals.{is_member}
-use Rattle.regress_unicode.specs.Table.{Table}
+use Rattle.regress_base.specs.Table.{Table}
 use Rattle.regress_lexical.specs.Source.{Source, Found, ◌>>=◌, found_map, char, is_one_of, is_at}
 use Rattle.regress_lexical.specs.Escapes.{unicode_at}
 use Rattle.regress_syntax.specs.Syntax.{Name}

@@ -3,11 +3,11 @@
 use Rattle.std.specs.Prelude.{ℕ, Bool, true, false, not, ◌&&◌, ◌||◌, [], ◌∷◌, drop, List, Option, Some, None, is_some, if◌then◌else◌, nat_le, ◌==◌}
 use Rattle.std.specs.List.{list_any}
 use Rattle.regress_base.specs.Intervals.{Bounds}
-use Rattle.regress_tree.specs.declared.ir.node.AnchorType.TheVariants.{StartOfLine, EndOfLine}
-use Rattle.regress_tree.specs.declared.ir.node.Quantifier.{Quantifier}
+use Rattle.regress_base.specs.declared.types.AnchorType.TheVariants.{StartOfLine, EndOfLine}
+use Rattle.regress_base.specs.declared.types.Quantifier.{Quantifier}
 use Rattle.regress_tree.specs.Setting.{Setting}
 use Rattle.regress_tree.specs.Reading.{forwards, backwards}
-use Rattle.regress_unicode.specs.Table.{Table}
+use Rattle.regress_base.specs.Table.{Table}
 use Rattle.regress_lexical.specs.Source.{Source, Found, ◌>>=◌, found_map, Row, when, otherwise, first_row, char, is_one_of, opening, full_stop, colon, question_mark, is_at, is_plain}
 use Rattle.regress_lexical.specs.Digits.{is_between, is_decimal, number, front, behind}
 use Rattle.regress_lexical.specs.Escapes.{begins_with_letter, escape_at}

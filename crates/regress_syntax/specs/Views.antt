@@ -2,7 +2,7 @@
 use Rattle.regress_lexical.specs.Views.{change_of}
 use Rattle.std.specs.Prelude.{◌≡◌, ℕ, Bool, List, map, Option, option_map, if◌then◌else◌}
 use Rattle.regress_tree.specs.Reading.{Direction, forwards, backwards}
-use Rattle.regress_tree.specs.Setting.{setting_of}
+use Rattle.regress_syntax.specs.SettingOf.{setting_of}
 use Rattle.regress_syntax.specs.declared.scope.Scope.{Scope}
 use Rattle.regress_syntax.specs.declared.group.Group.{Group as CodeGroup}
 use Rattle.regress_syntax.specs.declared.group.Group.TheVariants as groups

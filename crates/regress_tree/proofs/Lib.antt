@@ -1,8 +1,5 @@
 pub mod laws
-mod Examples
-pub mod LoweringLemmas
 pub mod VisitLemmas
-mod LiteralExamples
 mod BracketLemmas
 mod DuplicateLemmas
 mod GroupIdLemmas

@@ -7,7 +7,7 @@ use Rattle.std.proofs.lemmas.Bool.{false≢true}
 use Rattle.regress_tree.specs.declared.ir.groups.GroupIds.{GroupIds}
 use Rattle.regress_tree.specs.declared.ir.groups.Groups.{Groups}
 use Rattle.regress_tree.specs.declared.ir.node.Node.{Node}
-use Rattle.regress_tree.specs.declared.ir.node.Quantifier.{Quantifier}
+use Rattle.regress_base.specs.declared.types.Quantifier.{Quantifier}
 use Rattle.regress_tree.specs.Tree.{capture_group, loop, lookaround, Tree, Trees, cat, alt, wrapped, no_trees, more_trees, row_append, tree, trees}
 use Rattle.regress_tree.specs.WellFormed.{Capture, captures, captures_in_row, inside, IsQuantifier, HasGroups}
 use Rattle.regress_tree.specs.Survey.{holds, reference, reference_in_row, Tells, joined, one, fill, StandsAt, PassesAt, FailsAt}

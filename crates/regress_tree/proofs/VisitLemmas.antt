@@ -6,7 +6,7 @@ use Rattle.std.proofs.Math.Nat.{add-zero, add-suc}
 use Rattle.std.proofs.Math.Numerals.{add-one}
 use Rattle.std.specs.declared.boxed.BoxedSlice.{BoxedSlice}
 use Rattle.regress_base.specs.declared.types.bracket.BracketContents.{BracketContents}
-use Rattle.regress_tree.specs.declared.ir.node.AnchorType.{AnchorType}
+use Rattle.regress_base.specs.declared.types.AnchorType.{AnchorType}
 use Rattle.regress_tree.specs.declared.ir.node.Node.{Node, size-Node, the_lemmas}
 use Rattle.regress_tree.specs.declared.ir.node.Node.TheVariants.{Alt, Empty, Goal, Char, ByteSequence, ByteSet, CharSet, MatchAny, MatchAnyExceptLineTerminator, Anchor, WordBoundary, Bracket, BackRef, StringSet}
 use Rattle.regress_tree.proofs.laws.Nodes.{tree-Alt, tree-Empty, tree-Goal, tree-Char, tree-ByteSequence, tree-ByteSet, tree-CharSet, tree-MatchAny, tree-MatchAnyExceptLineTerminator, tree-Anchor, tree-WordBoundary, tree-Bracket, tree-BackRef, tree-StringSet}

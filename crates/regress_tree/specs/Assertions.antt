@@ -2,10 +2,10 @@
 use Rattle.std.specs.Prelude.{ℕ, Bool, false, not, ◌&&◌, ◌||◌, ◌==◌, Option, Some, None, if◌then◌else◌}
 use Rattle.regress_base.specs.Classes.{line_terminators, word_characters}
 use Rattle.regress_base.specs.Intervals.{is_member}
-use Rattle.regress_tree.specs.declared.ir.node.AnchorType.{AnchorType}
-use Rattle.regress_tree.specs.declared.ir.node.AnchorType.TheVariants.{StartOfLine, EndOfLine}
+use Rattle.regress_base.specs.declared.types.AnchorType.{AnchorType}
+use Rattle.regress_base.specs.declared.types.AnchorType.TheVariants.{StartOfLine, EndOfLine}
 use Rattle.regress_tree.specs.Reading.{Reading, Read}
-use Rattle.regress_unicode.specs.Table.{Table, is_in_closure}
+use Rattle.regress_base.specs.Table.{Table, is_in_closure}
 
 -- ECMA-262, LineTerminator
 abbrev pub is_line_terminator : ℕ → Bool

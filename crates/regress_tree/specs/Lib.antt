@@ -1,5 +1,5 @@
 pub mod Tree
-pub mod Literal
+pub mod SmallSets
 pub mod Reading
 pub mod Steps
 pub mod Assertions

@@ -1,8 +1,8 @@
 -- What a tree matches, over the bytes of a text.
 use Rattle.std.specs.Prelude.{ℕ, ◌+◌, ◌-◌, true, not, ◌==◌, List, length, if◌then◌else◌}
 use Rattle.regress_base.specs.Brackets.{is_accepted}
-use Rattle.regress_unicode.specs.Listing.{lists}
-use Rattle.regress_unicode.specs.Table.{stands_for}
+use Rattle.regress_base.specs.Listing.{lists}
+use Rattle.regress_base.specs.Table.{stands_for}
 use Rattle.regress_tree.specs.Setting.{Setting}
 use Rattle.regress_tree.specs.Reading.{Direction, forwards, backwards, of_bytes}
 use Rattle.regress_tree.specs.Steps.{Step, distinct, stay, ◌then_◌, ◌or_◌, one_character, these_bytes, hold_at, capture}

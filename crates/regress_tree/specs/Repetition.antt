@@ -1,6 +1,6 @@
 -- Repetition of a part of a pattern (ECMA-262, RepeatMatcher).
 use Rattle.std.specs.Prelude.{ℕ, zero, suc, ◌+◌, ◌-◌, min, nat_le, nat_lt, ◌==◌, Bool, not, ◌&&◌, List, [], ◌∷◌, filter, Option, Some, None, if◌then◌else◌}
-use Rattle.regress_tree.specs.declared.ir.node.Quantifier.{Quantifier}
+use Rattle.regress_base.specs.declared.types.Quantifier.{Quantifier}
 use Rattle.regress_tree.specs.Steps.{State, Span, Step, stay, ◌then_◌, ◌or_◌}
 
 -- the captures from group k on, of which those of the groups start to end - 1 are forgotten

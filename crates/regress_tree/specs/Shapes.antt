@@ -4,7 +4,7 @@ use Rattle.std.specs.List.{list_all}
 use lib.Utf8.{scalar}
 use Rattle.regress_base.specs.Intervals.{Bounds, code_point_max}
 use Rattle.regress_base.specs.Limits.{max_char_set_length}
-use Rattle.regress_tree.specs.declared.ir.node.Quantifier.{Quantifier}
+use Rattle.regress_base.specs.declared.types.Quantifier.{Quantifier}
 use Rattle.regress_tree.specs.Measures.{levels}
 use Rattle.regress_tree.specs.NodeTests.{is_none, is_empty, match_always_fails, matches_exactly_one_char}
 use Rattle.regress_tree.specs.Units.{charge}

@@ -2,8 +2,8 @@
 use Rattle.std.specs.Prelude.{ℕ, zero, suc, Bool, List, [], ◌∷◌, map, Option, option_map, string_bytes}
 use Rattle.std.specs.Box.{boxed_slice_items}
 use Rattle.regress_base.specs.Intervals.{Bounds}
-use Rattle.regress_tree.specs.declared.ir.node.AnchorType.{AnchorType}
-use Rattle.regress_tree.specs.declared.ir.node.Quantifier.{Quantifier}
+use Rattle.regress_base.specs.declared.types.AnchorType.{AnchorType}
+use Rattle.regress_base.specs.declared.types.Quantifier.{Quantifier}
 use Rattle.regress_tree.specs.declared.ir.node.Node.{Node, fold-Node}
 use Rattle.regress_tree.specs.declared.ir.node.Node.TheOpen.{Node-F}
 

@@ -13,7 +13,8 @@ mod visit_mut;
 mod walker;
 mod well_formed;
 
-pub use node::{AnchorType, Node, NodeList, Quantifier, Regex};
+pub use node::{Node, NodeList, Regex};
+pub use regress_base::types::{AnchorType, Quantifier};
 pub use visit::walk;
 pub use visit_mut::walk_mut;
 pub use walker::Walk;

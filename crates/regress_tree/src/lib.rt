@@ -1,7 +1,5 @@
-//! The tree of a pattern, what it matches, and the lowering of literals.
+//! The tree of a pattern, and what it matches.
 #![tactic(auto)]
 
 pub mod ir;
-pub mod literal;
-
-pub use regress_unicode as unicode;
+pub mod small_sets;

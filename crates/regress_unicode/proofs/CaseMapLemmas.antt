@@ -9,12 +9,12 @@ use Rattle.std.specs.List.Sorted.{IsNonDecreasing, IsSorted, IsStable, ties}
 use Rattle.std.specs.Ordering.{nat_cmp, is_lt}
 use Rattle.std.specs.List.{range_with_len}
 use Rattle.regress_base.specs.Intervals.{code_point_max}
-use Rattle.regress_unicode.specs.Listing.{lists, is_ascending_from}
+use Rattle.regress_base.specs.Listing.{lists, is_ascending_from}
 use Rattle.regress_unicode.specs.FoldRows.{FoldRow, moved, is_in_row, image_in_row, image, is_in_order_from, is_in_order, are_targets_in_range}
 use Rattle.regress_unicode.specs.Parts.{AreSoundRows}
 use Rattle.regress_unicode.specs.Moves.{codes, moves, movers, images, count_of, HasNoFour}
-use Rattle.regress_unicode.specs.Table.{IsIdempotent, HasSmallClasses, IsCaseMap}
-use Rattle.regress_unicode.proofs.laws.Listings.{ascending_parts, ascending_within, ascending_filter, lists-tail, lists-past, lists-filter, length_without, ascending_append, lists-append, lists-run}
+use Rattle.regress_base.specs.Table.{IsIdempotent, HasSmallClasses, IsCaseMap}
+use Rattle.regress_base.proofs.laws.Listings.{ascending_parts, ascending_within, ascending_filter, lists-tail, lists-past, lists-filter, length_without, ascending_append, lists-append, lists-run}
 use Rattle.regress_unicode.proofs.RowLemmas.{order_parts, shifted_is}
 
 -- a number that has another image is in a row

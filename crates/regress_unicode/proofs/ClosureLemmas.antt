@@ -9,9 +9,10 @@ use Rattle.regress_base.proofs.laws.Sets.{is_member-nil, is_member-cons}
 use Rattle.regress_base.specs.Intervals.{Bounds, code_point_max, is_within, is_member}
 use Rattle.regress_unicode.specs.declared.shift.Shift.{Shift}
 use Rattle.regress_unicode.specs.FoldRows.{FoldRow, moved, is_in_row, image_in_row, image, stays_in_range, is_target_in_range, are_targets_in_range, is_in_order_from, is_in_order}
-use Rattle.regress_unicode.specs.Listing.{lists}
-use Rattle.regress_unicode.specs.Table.{Table, IsIdempotent, code_points, is_in_closure}
-use Rattle.regress_unicode.proofs.laws.Listings.{lists-head, lists-tail, lists-past, lists-interval}
+use Rattle.regress_base.specs.Listing.{lists, code_points}
+use Rattle.regress_base.specs.Table.{Table, IsIdempotent, is_in_closure}
+use Rattle.regress_base.proofs.laws.Listings.{lists-head, lists-tail, lists-past, lists-interval}
+use Rattle.regress_base.proofs.laws.Literals.{same_tests}
 use Rattle.regress_unicode.proofs.RowLemmas.{order_parts}
 use Rattle.regress_unicode.specs.Shifts.{is_hit, origin, lands, lands_by, forward, backward}
 
@@ -337,15 +338,10 @@ closed_from rows set folded closed m c over member same =
       | inr other ↦ over.sources c ∙ rw (rows_backward_from rows folded c over.good other there) (or-true (folded c))
     ]
 
-pub same_truth : (a b : Bool) → (a ≡ true → b ≡ true) → (b ≡ true → a ≡ true) → a ≡ b
-same_truth true b there back = sym (there refl)
-same_truth false true there back = back refl
-same_truth false false there back = refl
-
 pub closure_is : (t : Table) (rows : List FoldRow) (set : List Bounds) (folded closed : ℕ → Bool) → ((x : ℕ) → t.fold x ≡ image rows x) →
     ClosesOver rows set folded closed →
     ((c : ℕ) → closed c ≡ true → c ≤ code_point_max) → (c : ℕ) → closed c ≡ is_in_closure t set c
-closure_is t rows set folded closed same over bound c = same_truth (closed c) (is_in_closure t set c)
+closure_is t rows set folded closed same over bound c = same_tests (closed c) (is_in_closure t set c)
     (λ h. (let found = closed_gives rows set folded closed c over h in
     closure_from t set found.0 c (bound c h) found.1 (same found.0 ∙ found.2 ∙ sym (same c))))
     (λ h. (let found = closure_gives t set c h in
@@ -354,7 +350,7 @@ closure_is t rows set folded closed same over bound c = same_truth (closed c) (i
 -- the closure of a closure is itself
 pub closure_twice : (t : Table) (set closed : List Bounds) → ((c : ℕ) → is_member closed c ≡ is_in_closure t set c) → (c : ℕ) →
     is_in_closure t closed c ≡ is_member closed c
-closure_twice t set closed is c = same_truth (is_in_closure t closed c) (is_member closed c)
+closure_twice t set closed is c = same_tests (is_in_closure t closed c) (is_member closed c)
     (λ h. (let found = closure_gives t closed c h in
     let first = closure_gives t set found.1 (sym (is found.1) ∙ found.2) in
     is c ∙ closure_from t set first.1 c found.0 first.2 (first.3 ∙ found.3)))

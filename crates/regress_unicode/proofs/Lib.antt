@@ -11,4 +11,3 @@ pub mod RefusalLemmas
 pub mod ShiftLemmas
 pub mod ClosingLemmas
 pub mod ClosureLemmas
-pub mod TableExamples

@@ -2,7 +2,7 @@
 use Rattle.std.proofs.Common.{◌≡◌, ℕ, suc, ◌+◌, ◌<◌, ◌≤◌, Bool, true, false, List, [], ◌∷◌, map, drop, length, get_or, Option, Some, None, String, Vec, string_bytes, Global, refl, sym, ap, ◌∙◌, add-one, drop-cons, option_map, cond}
 use Rattle.std.specs.Str.{bytes_eq}
 use Rattle.std.proofs.lemmas.List.{drop_all}
-use Rattle.regress_unicode.specs.Table.{named}
+use Rattle.regress_base.specs.Table.{named}
 use Rattle.regress_unicode.specs.Parts.{entry_of, strings_of}
 
 -- the entries from a place on begin with the one there

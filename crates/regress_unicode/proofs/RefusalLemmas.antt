@@ -8,7 +8,7 @@ use Rattle.regress_unicode.specs.declared.tables_error.Which.TheVariants.{Fold, 
 use Rattle.regress_unicode.specs.declared.tables_error.TablesError.{TablesError}
 use Rattle.regress_unicode.specs.declared.tables_error.TablesError.TheVariants.{RangeOrder, TargetOutOfRange, NotIdempotent, ClassTooLarge, IdentifierPunctuation, BadString, Memory}
 use Rattle.regress_unicode.specs.FoldRows.{FoldRow, image, is_in_order, are_targets_in_range}
-use Rattle.regress_unicode.specs.Table.{Named, IsIdempotent, HasSmallClasses, is_string}
+use Rattle.regress_base.specs.Table.{Named, IsIdempotent, HasSmallClasses, is_string}
 use Rattle.regress_unicode.specs.Parts.{Parts, AreSoundRows, strings_of}
 use Rattle.regress_unicode.specs.Refusals.{Meets, place, IsFirstDue}
 

@@ -7,13 +7,13 @@ use Rattle.std.proofs.lemmas.List.Sums.{AllPass-from_list_all}
 use Rattle.std.proofs.lemmas.List.Elements.{All-weaker}
 use Rattle.regress_base.specs.Intervals.{Bounds, is_member, is_within, is_canonical_from}
 use Rattle.regress_base.specs.Classes.{word_characters}
-use Rattle.regress_unicode.specs.Listing.{lists}
+use Rattle.regress_base.specs.Listing.{lists}
 use Rattle.regress_unicode.specs.FoldRows.{FoldRow, image, is_in_order}
 use Rattle.regress_unicode.specs.Moves.{images, count_of}
-use Rattle.regress_unicode.specs.Table.{IsIdempotent, HasSmallClasses, Named, HasWordAscii, HasCanonicalSets}
+use Rattle.regress_base.specs.Table.{IsIdempotent, HasSmallClasses, Named, HasWordAscii, HasCanonicalSets}
 use Rattle.regress_unicode.specs.Parts.{AreSoundRows, IsSound, parts_from, sets_of, strings_of}
 use Rattle.regress_unicode.specs.SmallTable.{small_folds, small_uppers, small_parts}
-use Rattle.regress_unicode.proofs.laws.Listings.{lists-run}
+use Rattle.regress_base.proofs.laws.Listings.{lists-run}
 use Rattle.regress_unicode.proofs.CaseMapLemmas.{count_of_absent, All-lists, idempotent_from_images, small_from_images, case_map}
 
 -- the images of what moves are images of themselves, and each stands at most three times among them

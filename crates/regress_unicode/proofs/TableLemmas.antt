@@ -1,6 +1,6 @@
 -- Each value of `Tables` stands for a lawful table.
 use Rattle.regress_unicode.specs.declared.Tables.{Tables}
-use Rattle.regress_unicode.specs.Table.{IsLawful}
+use Rattle.regress_base.specs.Table.{IsLawful}
 use Rattle.regress_unicode.specs.TableOf.{table_of}
 
 pub table_of-lawful : (t : Tables) → IsLawful (table_of t)

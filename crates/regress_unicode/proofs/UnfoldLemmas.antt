@@ -5,14 +5,12 @@ use Rattle.std.proofs.lemmas.Bool.Decides.{nat_tests}
 use Rattle.std.proofs.lemmas.List.{get_or_read}
 use Rattle.regress_base.specs.Intervals.{code_point_max}
 use Rattle.regress_unicode.specs.FoldRows.{FoldRow, is_source, is_in_order}
-use Rattle.regress_unicode.specs.Listing.{lists, is_ascending, is_ascending_from}
-use Rattle.regress_unicode.proofs.laws.Listings.{ascending_parts, lists-append, lists-head, lists-tail}
+use Rattle.regress_base.specs.Listing.{lists, is_ascending, is_ascending_from}
+use Rattle.regress_base.proofs.laws.Listings.{ascending_parts, lists-append, lists-head, lists-tail}
+use Rattle.regress_base.proofs.laws.Literals.{lists-one}
 use Rattle.regress_unicode.proofs.RowLemmas.{order_apart}
 
 -- ---- a number put at the end
-
-lists-one : (c x : ℕ) → lists (c ∷ []) x ≡ (x == c)
-lists-one c x = grind (arith, nat_tests)
 
 end_ascending : (low : ℕ) (xs : List ℕ) (c : ℕ) → IsTrue (is_ascending_from low xs) → ((x : ℕ) → lists xs x ≡ true → x < c) → low ≤ c →
     IsTrue (is_ascending_from low (xs ++ c ∷ []))

@@ -1,6 +1,4 @@
-pub mod Listing
 pub mod FoldRows
-pub mod Table
 pub mod Parts
 pub mod SmallTable
 pub mod Moves

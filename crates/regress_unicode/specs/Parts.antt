@@ -3,7 +3,7 @@ use Rattle.std.specs.Prelude.{ℕ, List, [], map, IsTrue, String, string_bytes, 
 use Rattle.std.specs.declared.alloc.Global.{Global}
 use Rattle.regress_base.specs.Intervals.{Bounds}
 use Rattle.regress_unicode.specs.FoldRows.{FoldRow, image, is_in_order, are_targets_in_range}
-use Rattle.regress_unicode.specs.Table.{Table, Named, IsIdempotent, HasSmallClasses, IsLawful}
+use Rattle.regress_base.specs.Table.{Table, Named, IsIdempotent, HasSmallClasses, IsLawful}
 
 -- the rows of both maps, the sets of identifiers, and the named sets and strings
 pub record Parts : Type 0 where

@@ -5,7 +5,7 @@ use Rattle.regress_unicode.specs.declared.tables_error.Which.TheVariants.{Fold, 
 use Rattle.regress_unicode.specs.declared.tables_error.TablesError.{TablesError}
 use Rattle.regress_unicode.specs.declared.tables_error.TablesError.TheVariants.{RangeOrder, TargetOutOfRange, NotIdempotent, ClassTooLarge, IdentifierPunctuation, BadString, Memory}
 use Rattle.regress_unicode.specs.FoldRows.{FoldRow, image, is_in_order, are_targets_in_range}
-use Rattle.regress_unicode.specs.Table.{IsIdempotent, HasSmallClasses, HasWordAscii, HasStrings}
+use Rattle.regress_base.specs.Table.{IsIdempotent, HasSmallClasses, HasWordAscii, HasStrings}
 use Rattle.regress_unicode.specs.Parts.{Parts}
 
 -- the rows of a map

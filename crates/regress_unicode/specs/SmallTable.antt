@@ -2,7 +2,7 @@
 use Rattle.std.specs.Prelude.{ℕ, List, [], ◌∷◌, map, ℤ, pos, neg_ℤ, codes}
 use Rattle.regress_base.specs.Intervals.{Bounds}
 use Rattle.regress_unicode.specs.FoldRows.{FoldRow}
-use Rattle.regress_unicode.specs.Table.{Table, Named}
+use Rattle.regress_base.specs.Table.{Table, Named}
 use Rattle.regress_unicode.specs.Parts.{Parts, table_from}
 
 abbrev row : ℕ → ℕ → ℤ → ℕ → FoldRow

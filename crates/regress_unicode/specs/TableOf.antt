@@ -1,6 +1,6 @@
 -- The table that a value of `Tables` holds.
 use Rattle.regress_unicode.specs.declared.Tables.{Tables}
-use Rattle.regress_unicode.specs.Table.{Table}
+use Rattle.regress_base.specs.Table.{Table}
 use Rattle.regress_unicode.specs.Parts.{Parts, parts_from, table_from}
 
 -- what the value holds

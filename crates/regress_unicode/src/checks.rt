@@ -6,7 +6,7 @@ ghost use Rattle.regress_base.specs.Classes.{word_characters};
 ghost use Rattle.regress_unicode.specs.declared.tables_error.TablesError.TheVariants.{RangeOrder, TargetOutOfRange, NotIdempotent, ClassTooLarge, Memory};
 ghost use Rattle.regress_unicode.specs.FoldRows.{image as image_of, is_in_order, are_targets_in_range};
 ghost use Rattle.regress_unicode.specs.Moves.{codes, images as images_of, count_of, HasNoFour};
-ghost use Rattle.regress_unicode.specs.Table.{IsIdempotent, is_string, HasWordAscii, HasCanonicalSets};
+ghost use Rattle.regress_base.specs.Table.{IsIdempotent, is_string, HasWordAscii, HasCanonicalSets};
 ghost use Rattle.regress_unicode.specs.Parts.{sets_of};
 
 use super::images::image;

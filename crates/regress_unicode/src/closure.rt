@@ -3,7 +3,7 @@ ghost use Rattle.std.specs.Prelude.{◌≡◌, ℕ, ◌≤◌, ◌||◌, List, A
 ghost use Rattle.regress_base.specs.Intervals.{Bounds, is_within, is_member, IsCanonical};
 ghost use Rattle.regress_unicode.specs.FoldRows.{is_in_order, are_targets_in_range};
 ghost use Rattle.regress_unicode.specs.Shifts.{IsShift, lands, lands_by, forward, backward};
-ghost use Rattle.regress_unicode.specs.Table.{is_in_closure};
+ghost use Rattle.regress_base.specs.Table.{is_in_closure};
 ghost use Rattle.regress_unicode.specs.TableOf.{table_of};
 
 use super::checks::set_is_canonical;

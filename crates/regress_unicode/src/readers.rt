@@ -1,7 +1,7 @@
 //! The readers of the table.
 ghost use Rattle.std.specs.Prelude.{◌≡◌, map, option_copied};
 ghost use Rattle.regress_unicode.specs.Parts.{entry_of};
-ghost use Rattle.regress_unicode.specs.Table.{named};
+ghost use Rattle.regress_base.specs.Table.{named};
 
 use super::Tables;
 use regress_base::codepointset::CodePointSet;
@@ -21,7 +21,7 @@ fn find<'a, T>(entries: &'a [(String, T)], name: &str) -> Option<&'a T>
 
 impl Tables {
     ghost use Rattle.std.specs.Prelude.{◌≡◌, map, option_map, option_copied};
-    ghost use Rattle.regress_unicode.specs.Table.{named};
+    ghost use Rattle.regress_base.specs.Table.{named};
     ghost use Rattle.regress_unicode.specs.TableOf.{table_of};
 
     /// The characters that may begin a name.

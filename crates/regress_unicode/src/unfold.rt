@@ -3,8 +3,8 @@ ghost use Rattle.std.specs.Prelude.{◌≡◌, ◌<◌, ◌≤◌, ◌==◌, ◌
 ghost use Rattle.std.specs.List.{AllWithin, insert};
 ghost use Rattle.regress_base.specs.Intervals.{code_point_max};
 ghost use Rattle.regress_unicode.specs.FoldRows.{image, is_in_order, are_targets_in_range};
-ghost use Rattle.regress_unicode.specs.Listing.{lists, is_ascending, IsListing};
-ghost use Rattle.regress_unicode.specs.Table.{stands_for};
+ghost use Rattle.regress_base.specs.Listing.{lists, is_ascending, IsListing};
+ghost use Rattle.regress_base.specs.Table.{stands_for};
 ghost use Rattle.regress_unicode.specs.TableOf.{table_of};
 
 use super::{FoldRange, Tables, fold, uppercase};

@@ -2,20 +2,16 @@
 use Rattle.std.proofs.Common.{ℕ, zero, suc, ◌+◌, Bool, true, false, ◌&&◌, ◌||◌, ◌==◌, cond, List, [], ◌∷◌, ◌++◌, length, drop, Option, Some, None}
 use Rattle.regress_base.specs.Intervals.{Bounds}
 use Rattle.regress_base.specs.Limits.{max_nesting_depth}
-use Rattle.regress_unicode.specs.Table.{Table}
+use Rattle.regress_base.specs.Table.{Table}
 use Rattle.regress_lexical.specs.Source.{Source, Found, is_at, first_row}
 use Rattle.regress_classes.specs.Properties.{Property, of_points, of_strings, property_at}
 use Rattle.regress_classes.specs.ClassRows.{class_letter, class_members, one_point}
 use Rattle.regress_classes.specs.ClassSets.{Value, has_strings, only, joined, common, without, unless_of_strings, Operand, character, class, value_of, is_set_syntax, is_double, begins_double, is_reserved, escaped_character_at, set_character_at, strings_by, quoted_at, property_operand, operand_rows, escaped_operand_at, operand_at, range_of, range_at, part_behind, parts_by, are_at, operands_by, contents_behind, contents_at, class_set_by, class_set_at}
 use Rattle.regress_classes.proofs.laws.Pieces.{property_at-ends}
-use Rattle.regress_lexical.proofs.laws.Behind.{IsBehind, behind_same, behind_drop, Ends, ends_none, ends_some, ends_behind, ends_more, ends_then, ends_map, ends_cond, escape_at-ends}
+use Rattle.regress_lexical.proofs.laws.Behind.{IsBehind, behind_same, behind_drop, Ends, ends_none, ends_some, one-ends, ends_behind, ends_more, ends_then, ends_map, ends_cond, escape_at-ends}
 use Rattle.regress_lexical.proofs.laws.Sources.{EachRow, no_more, ◌also◌, first_row-has}
 
 -- ---- what stands behind an operand
-
--- what leaves all behind the first code point
-one-ends : {A : Type 0} (x : A) (c : ℕ) (t : Source) → Ends (Some (x, t)) (c ∷ t)
-one-ends x c t = ends_some (x, t) (c ∷ t) (behind_drop 1 (c ∷ t))
 
 escaped_character_at-ends : (unicode : Bool) (t : Source) → Ends (escaped_character_at unicode t) t
 escaped_character_at-ends unicode [] = ends_none []

@@ -6,7 +6,7 @@ use Rattle.std.specs.Option.{IfSome, option_map, option_or}
 use Rattle.std.specs.Str.{bytes_eq}
 use Rattle.regress_base.specs.Intervals.{Bounds, code_point_max}
 use Rattle.regress_base.specs.Limits.{max_nesting_depth}
-use Rattle.regress_unicode.specs.Table.{Table, Named, named, is_string, IsLawful}
+use Rattle.regress_base.specs.Table.{Table, Named, named, is_string, IsLawful}
 use Rattle.regress_lexical.specs.Source.{Source, Found, ◌>>=◌, IsCodePoint, is_at, first_row}
 use Rattle.regress_classes.specs.Properties.{Property, of_points, of_strings, list_named, strings_named, lone_value, value_in, closed_property, property_at, property_word_at}
 use Rattle.regress_classes.specs.ClassRows.{class_letter, class_members, one_point, complement_if}
@@ -317,7 +317,7 @@ level_of_string [] = refl
 level_of_string (c ∷ []) = refl
 level_of_string (c ∷ d ∷ cs) = refl
 
-level_of_strings : (ss : List (List ℕ)) → (value_of_strings ss).levels ≡ 0
+pub level_of_strings : (ss : List (List ℕ)) → (value_of_strings ss).levels ≡ 0
 level_of_strings [] = refl
 level_of_strings (s ∷ ss) = omega (arith, level_of_string s, level_of_strings ss)
 

@@ -4,13 +4,13 @@ use Rattle.std.proofs.lemmas.Option.{none-some}
 use Rattle.std.proofs.lemmas.Bool.{cond-true, cond-false, and_parts}
 use Rattle.regress_base.specs.declared.charclasses.CharacterClassType.{CharacterClassType}
 use Rattle.regress_base.specs.Intervals.{Bounds}
-use Rattle.regress_unicode.specs.Table.{Table}
+use Rattle.regress_base.specs.Table.{Table}
 use Rattle.regress_lexical.specs.Source.{Source, Found, ◌>>=◌, is_at, first_row}
 use Rattle.regress_lexical.specs.Digits.{is_decimal, is_letter}
 use Rattle.regress_classes.specs.Properties.{Property, points_of, is_property_character, closed_property, braced_property_at, property_at, property_word_at, listed_value_at}
 use Rattle.regress_classes.specs.ClassRows.{ClassAtom, point, set, complement_if, class_members, class_letter, class_control_at, class_property, class_property_at, class_escape_rows, class_escape_by, class_escape_at, class_atom_at, range_of, range_at, begins_range, class_part_at, class_parts_by, class_at, atom_members}
 use Rattle.regress_lexical.proofs.laws.Sources.{then_same, cond_same, EachRow, no_more, ◌also◌, first_row-has}
-use Rattle.regress_lexical.proofs.laws.Behind.{IsBehind, behind_same, behind_drop, behind_front, behind_shorter, Ends, ends_none, ends_some, ends_behind, ends_more, ends_then, ends_map, ends_cond, escape_at-ends}
+use Rattle.regress_lexical.proofs.laws.Behind.{IsBehind, behind_same, behind_drop, behind_front, behind_shorter, Ends, ends_none, ends_some, one-ends, ends_behind, ends_more, ends_then, ends_map, ends_cond, escape_at-ends}
 
 -- ---- what stands behind a property
 
@@ -38,10 +38,6 @@ property_at-ends sets table t =
     (ends_behind _ t (drop 1 t) (behind_drop 1 t) (braced_property_at-ends sets table (drop 1 t))) (ends_none t)
 
 -- ---- what stands behind a class
-
--- what leaves all behind the first code point
-one-ends : {A : Type 0} (x : A) (c : ℕ) (t : Source) → Ends (Some (x, t)) (c ∷ t)
-one-ends x c t = ends_some (x, t) (c ∷ t) (behind_drop 1 (c ∷ t))
 
 pub class_control_at-ends : (t : Source) → Ends (class_control_at t) (99 ∷ t)
 class_control_at-ends [] = ends_some _ (99 ∷ []) (behind_same (99 ∷ []))

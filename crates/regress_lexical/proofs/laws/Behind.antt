@@ -55,6 +55,10 @@ ends_none t = record { each = λ x e. absurd (none-some x e) }
 pub ends_some : {A : Type 0} (x : A × Source) (t : Source) → IsBehind t x.1 → Ends (Some x) t
 ends_some {A} x t h = record { each = λ y e. subst (λ (z : A × Source). IsBehind t z.1) (same_Some x y e) h }
 
+-- what leaves all behind the first code point
+pub one-ends : {A : Type 0} (x : A) (c : ℕ) (t : Source) → Ends (Some (x, t)) (c ∷ t)
+one-ends x c t = ends_some (x, t) (c ∷ t) (behind_drop 1 (c ∷ t))
+
 pub ends_behind : {A : Type 0} (found : Found A) (t s : Source) → IsBehind t s → Ends found s → Ends found t
 ends_behind found t s h k = record { each = λ x e. behind_behind t s x.1 h (k.each x e) }
 
@@ -112,10 +116,6 @@ or_itself-ends unicode c t (Some x) h = h
 control_at-ends : (t : Source) → Ends (control_at t) t
 control_at-ends [] = ends_none []
 control_at-ends (d ∷ t) = ends_more _ d t (ends_cond _ _ _ t (ends_some _ t (behind_same t)) (ends_none t))
-
--- what leaves all behind the first code point
-one-ends : (x c : ℕ) (t : Source) → Ends (Some (x, t)) (c ∷ t)
-one-ends x c t = ends_some (x, t) (c ∷ t) (behind_drop 1 (c ∷ t))
 
 other_escape-ends : (unicode : Bool) (c : ℕ) (t : Source) → Ends (other_escape unicode c t) (c ∷ t)
 other_escape-ends unicode c t =

@@ -21,11 +21,6 @@ pub then_same : {A B : Type 0} (found : Found A) (f g : A × Source → Found B)
 then_same None f g h = refl
 then_same (Some x) f g h = h x refl
 
-pub then_then : {A B C : Type 0} (found : Found A) (f : A × Source → Found B) (g : B × Source → Found C) →
-    (found >>= f) >>= g ≡ found >>= (λ x. f x >>= g)
-then_then None f g = refl
-then_then (Some x) f g = refl
-
 pub chosen : {A : Type 0} (b : Bool) (x y z : A) → cond b x y ≡ z → ((b ≡ true) × (x ≡ z)) ⊎ ((b ≡ false) × (y ≡ z))
 chosen true x y z e = inl (refl, e)
 chosen false x y z e = inr (refl, e)

@@ -7,7 +7,7 @@ use Rattle.std.proofs.lemmas.List.Sums.{AllPass-from_list_all}
 use Rattle.std.proofs.lemmas.List.Elements.{All-cons, All-nil}
 use Rattle.std.proofs.lemmas.Str.{length-encode, len_utf8_bounds}
 use Rattle.regress_tree.specs.declared.ir.node.Node.TheVariants.{ByteSequence, ByteSet}
-use Rattle.regress_tree.specs.Literal.{is_ascii}
+use Rattle.regress_tree.specs.SmallSets.{is_ascii}
 use Rattle.regress_tree.specs.Reading.{Direction, forwards, backwards, of_bytes}
 use Rattle.regress_tree.specs.Steps.{State, one_character, these_bytes}
 use Rattle.regress_tree.specs.Shapes.{is_formed_away}

@@ -1,6 +1,6 @@
 -- Joining all neighbours of a list of trees, from one end to the other.
 use Rattle.std.proofs.Common.{◌≡◌, ℕ, zero, suc, ◌+◌, ◌-◌, ◌<◌, ◌≤◌, Bool, true, false, ◌&&◌, ◌||◌, List, [], ◌∷◌, map, length, drop, refl, sym, ap, ap₂, ◌∙◌, subst, arith}
-use Rattle.std.proofs.Math.Bool.{or-false}
+use Rattle.std.proofs.Math.Bool.{and-false, or-false}
 use Rattle.std.proofs.lemmas.Bool.{false≢true, or_right, and_from, and_parts}
 use Rattle.std.proofs.lemmas.List.{length-map}
 use Rattle.regress_tree.specs.declared.ir.node.Node.{Node}
@@ -16,10 +16,6 @@ has_more i ts = has_neighbours has_bytes (row (drop i ts))
 
 abbrev both : ℕ → List Tree → Bool
 both i ts = has_bytes (part_at i ts) && has_bytes (part_at (suc i) ts)
-
-and-false : (b : Bool) → (b && false) ≡ false
-and-false true = refl
-and-false false = refl
 
 has_more-next : (ts : List Tree) (i : ℕ) → suc i < length ts → has_more i ts ≡ (both i ts || has_more (suc i) ts)
 has_more-next [] i within = absurd (omega (arith, within))
@@ -129,11 +125,6 @@ module _ (i last : ℕ) (old now : List Tree) (some : 1 ≤ i) where
 
   pub backward_gap : HaveBytes (i - 1) last now → HasGap i last now → HasGap (i - 1) last (joined_at backwards (i - 1) last now)
   backward_gap have gap = join_gap now (i - 1) last have (gap_before gap) backwards
-
-pub backward_end : (joined : Bool) (last : ℕ) (old now : List Tree) → BackwardSoFar joined 0 last old now →
-    Joins backwards joined (row old) (row now)
-backward_end true last old now so_far = so_far
-backward_end false last old now so_far = (ap row so_far.0, so_far.2)
 
 -- What the tests on nodes say of the list of their trees.
 

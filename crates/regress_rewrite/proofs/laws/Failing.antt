@@ -8,7 +8,7 @@ use Rattle.std.proofs.lemmas.List.Elements.{All-nil}
 use Rattle.regress_base.specs.Brackets.{is_accepted}
 use Rattle.regress_base.specs.Intervals.{code_point_max}
 use Rattle.regress_tree.specs.declared.ir.node.Node.{Node}
-use Rattle.regress_tree.specs.declared.ir.node.Quantifier.{Quantifier}
+use Rattle.regress_base.specs.declared.types.Quantifier.{Quantifier}
 use Rattle.regress_tree.specs.Reading.{Direction, Read, next_character, of_bytes}
 use Rattle.regress_tree.specs.Steps.{State, Step, moved, one_character}
 use Rattle.regress_tree.specs.Repetition.{unset, turn, turns, up_to, more_turns, repeat}
@@ -23,7 +23,7 @@ use Rattle.regress_tree.specs.Spine.{is_alt}
 use Rattle.regress_tree.proofs.laws.Accepting.{accepts_nothing}
 use Rattle.regress_tree.proofs.laws.Alike.{Alike-from_same}
 use Rattle.regress_tree.proofs.laws.ByteSequences.{one_character-agree}
-use Rattle.regress_tree.proofs.laws.Literals.{scalar_in_range}
+use Rattle.regress_base.proofs.laws.Literals.{scalar_in_range}
 use Rattle.regress_tree.proofs.laws.Measures.{units-positive, IsLess-lighter}
 use Rattle.regress_tree.proofs.laws.Places.{left_of, right_of, IsLess-part}
 use Rattle.regress_tree.proofs.laws.Rows.{RowMayStand-more, MayStand-from_last}
@@ -168,9 +168,6 @@ not_as_one root P free = tt
 
 no_member : (greatest : ℕ) (p : Position) → NotAsOneCharacter p → IsSmallSet [] greatest p
 no_member greatest p free = record { bounded = All-nil _; small = omega arith; some = not_as_one p _ free }
-
-pub no_character : (p : Position) → NotAsOneCharacter p → IsSmallSet [] code_point_max p
-no_character = no_member code_point_max
 
 -- it matches nothing wherever it may not be the body of a loop over one character, and is no bracket
 record IsNothing (l : Leaf) : Type 0 where

@@ -3,7 +3,7 @@ use Rattle.std.proofs.Common.{◌≡◌, ℕ, ◌+◌, ◌≤◌, true, [], ◌�
 use Rattle.std.specs.Prelude.{encode_utf8_all, IfOk, Result, Ok, Err}
 use Rattle.std.specs.declared.alloc.AllocError.{AllocError}
 use Rattle.std.proofs.lemmas.Bool.{false≢true, not-true}
-use Rattle.regress_tree.specs.declared.ir.node.Quantifier.{Quantifier}
+use Rattle.regress_base.specs.declared.types.Quantifier.{Quantifier}
 use Rattle.regress_tree.specs.NodeTests.{leaf_matches_exactly_one_char, matches_exactly_one_char}
 use Rattle.regress_tree.specs.Reading.{Direction}
 use Rattle.regress_tree.specs.Repetition.{more_turns, turns, up_to, repeat}

@@ -1,7 +1,7 @@
 -- References by number.
-use Rattle.std.proofs.Common.{◌≡◌, ℕ, nat_le, Bool, true, false, cond, ◌∷◌, Some, None, refl, sym, ap, ◌∙◌}
-use Rattle.std.proofs.lemmas.Bool.{cond-true, cond-false}
-use Rattle.std.proofs.lemmas.Option.{none-some, cond_some}
+use Rattle.std.proofs.Common.{◌≡◌, ℕ, nat_le, ◌∷◌, Some, ap, ◌∙◌}
+use Rattle.std.proofs.lemmas.Bool.{cond-true}
+use Rattle.std.proofs.lemmas.Option.{cond_some}
 use Rattle.regress_lexical.specs.Source.{Source}
 use Rattle.regress_lexical.specs.Digits.{is_decimal, number, front}
 use Rattle.regress_lexical.proofs.laws.Behind.{behind_front, Ends, ends_none, ends_some, ends_cond}
@@ -18,12 +18,3 @@ module _ (ctx : Context) where
   numbered-some c t k rest found =
       let p = cond_some (nat_le (number 10 (front is_decimal (c ∷ t))) ctx.groups) _ (k, rest) found in
       cond-true _ _ _ p.0 ∙ ap (λ (x : ℕ × Source). Some (back_reference ctx.setting.flags (by_number x.0), x.1)) p.1
-
-  pub numbered-none : (c : ℕ) (t : Source) → group_number_at ctx.groups (c ∷ t) ≡ None →
-      numbered_at ctx c t ≡ cond ctx.setting.flags.unicode None (character_at ctx c t)
-  numbered-none c t none =
-      cond-false _ _ _ (fails (nat_le (number 10 (front is_decimal (c ∷ t))) ctx.groups) _ none)
-    where
-      fails : (b : Bool) (x : ℕ × Source) → cond b (Some x) None ≡ None → b ≡ false
-      fails true x e = absurd (none-some x (sym e))
-      fails false x e = refl

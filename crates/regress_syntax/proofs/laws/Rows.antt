@@ -3,8 +3,8 @@ use Rattle.std.proofs.Common.{◌≡◌, ℕ, ◌<◌, nat_le, Bool, true, not, 
 use Rattle.std.proofs.lemmas.Bool.{or_cases, and_parts}
 use Rattle.std.proofs.lemmas.Option.{none-some, same_Some, cond_some}
 use Rattle.regress_base.specs.declared.charclasses.CharacterClassType.{CharacterClassType}
-use Rattle.regress_tree.specs.declared.ir.node.Quantifier.{Quantifier}
-use Rattle.regress_unicode.specs.Table.{Table}
+use Rattle.regress_base.specs.declared.types.Quantifier.{Quantifier}
+use Rattle.regress_base.specs.Table.{Table}
 use Rattle.regress_lexical.specs.Source.{Source, Found, opening, closing, colon, question_mark, bar, is_at, ends_alternative, first_row}
 use Rattle.regress_syntax.specs.Syntax.{Atom, class_escape}
 use Rattle.regress_lexical.specs.Digits.{is_decimal, number, front}
@@ -15,7 +15,7 @@ use Rattle.regress_classes.specs.Properties.{Property, of_points, of_strings, pr
 use Rattle.regress_classes.specs.ClassRows.{class_letter, class_at}
 use Rattle.regress_classes.specs.ClassSets.{class_set_at}
 use Rattle.regress_syntax.specs.Rows.{Context, Head, single, angle_at, behind_mark_at, group_at, has_name, is_lone_backslash, character_at, property_atom, property_atom_at, numbered_at, named_at, escape_rows, escaped_by, escaped_at, brace_by, brackets_at, atom_rows, atom_by, head_by, head_at, no_quantifier_at, this_quantifier, times_at}
-use Rattle.regress_lexical.proofs.laws.Behind.{behind_same, behind_drop, behind_front, behind_shorter, Ends, ends_none, ends_some, ends_behind, ends_more, ends_then, ends_map, ends_cond, escape_at-ends, quantifier_at-ends}
+use Rattle.regress_lexical.proofs.laws.Behind.{behind_same, behind_drop, behind_front, behind_shorter, Ends, ends_none, ends_some, one-ends, ends_behind, ends_more, ends_then, ends_map, ends_cond, escape_at-ends, quantifier_at-ends}
 use Rattle.regress_syntax.proofs.laws.NameEnds.{group_name_at-ends, modifiers_at-ends}
 use Rattle.regress_classes.proofs.laws.Pieces.{property_at-ends, class_at-ends}
 use Rattle.regress_classes.proofs.laws.ClassSets.{class_set_at-ends}
@@ -24,9 +24,6 @@ use Rattle.regress_lexical.proofs.laws.Sources.{Shortens, chosen, EachRow, no_mo
 -- what is found leaves the source from its first code point on, or from its second
 this-ends : {A : Type 0} (x : A) (t : Source) → Ends (Some (x, t)) t
 this-ends x t = ends_some (x, t) t (behind_same t)
-
-next-ends : {A : Type 0} (x : A) (c : ℕ) (t : Source) → Ends (Some (x, t)) (c ∷ t)
-next-ends x c t = ends_some (x, t) (c ∷ t) (behind_drop 1 (c ∷ t))
 
 module _ (table : Table) where
   angle_at-ends : (t : Source) → Ends (angle_at table t) t
@@ -78,8 +75,8 @@ module _ (ctx : Context) where
 
   escape_rows-end : (c : ℕ) (t : Source) → EachRow (λ found. Ends found (c ∷ t)) (escape_rows ctx c t)
   escape_rows-end c t =
-      (λ _. next-ends _ c t)
-      also (λ _. next-ends _ c t)
+      (λ _. one-ends _ c t)
+      also (λ _. one-ends _ c t)
       also backslash-ends c t _
       also (λ _. ends_more _ c t (property_atom_at-ends _ t))
       also (λ _. numbered_at-ends c t)
@@ -95,7 +92,7 @@ module _ (ctx : Context) where
             | Some named ↦ Some (class_escape ctx.setting.flags named.0 named.1, t)
             | None ↦ first_row (escape_rows ctx c t)
           ]) (c ∷ t)
-      by (Some named) = next-ends _ c t
+      by (Some named) = one-ends _ c t
       by None = first_row-has (λ found. Ends found (c ∷ t)) (escape_rows ctx c t) (ends_none (c ∷ t)) (escape_rows-end c t)
 
   escaped_at-ends : (t : Source) → Ends (escaped_at ctx t) t

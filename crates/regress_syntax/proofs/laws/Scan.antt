@@ -1,6 +1,6 @@
 -- A scan that knows no grammar gives the marks of each syntax tree that the grammar derives, and what they say of it.
 use Rattle.std.proofs.Common.{◌≡◌, ℕ, ◌+◌, ◌-◌, ◌≤◌, max, Bool, List, [], ◌∷◌, ◌++◌, refl, sym, ap, ap₂, ◌∙◌, subst, arith, append_assoc, append-nil}
-use Rattle.regress_unicode.specs.Table.{Table, IsLawful}
+use Rattle.regress_base.specs.Table.{Table, IsLawful}
 use Rattle.regress_lexical.specs.Source.{Source, closing, bar}
 use Rattle.regress_syntax.specs.Syntax.{Atom, literal, dot, anchor, boundary, class_escape, class, class_set, string_property, back_reference, levels_of_atom, Group, grouping, modified, capture, look, Pattern, Terms, Item, one, either, no_terms, more_terms, atom, group, names, names_of_group, names_of_terms, names_of_item, levels, levels_of_terms, levels_of_item}
 use Rattle.regress_syntax.specs.Rows.{Context, context_inside, single, opens, head_of_item, allows}
@@ -154,7 +154,7 @@ deepest-group n (modified change) ms = refl
 deepest-group n (capture name) ms = refl
 deepest-group n (look negate direction) ms = refl
 
-one_level : (p : Pattern) → 1 ≤ levels p
+pub one_level : (p : Pattern) → 1 ≤ levels p
 one_level (one ts) = omega arith
 one_level (either ts p) = omega arith
 

@@ -1,6 +1,6 @@
 //! What tells the capture groups of a pattern apart.
 ghost use Rattle.std.specs.Prelude.{◌≡◌, ◌<◌, ◌≤◌, ◌+◌, ◌^◌, ◌==◌, Bool, false, drop, length, option_map, IfOk};
-ghost use Rattle.regress_unicode.specs.Table.{Table};
+ghost use Rattle.regress_base.specs.Table.{Table};
 ghost use Rattle.regress_unicode.specs.TableOf.{table_of};
 ghost use Rattle.regress_lexical.specs.Source.{char, is_at};
 ghost use Rattle.regress_syntax.specs.Scan.{opened_at, mode_behind, is_quiet, mark_at, marks};

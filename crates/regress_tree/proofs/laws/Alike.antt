@@ -3,7 +3,7 @@ use Rattle.std.proofs.Common.{◌≡◌, ◌==◌, ℕ, zero, suc, Bool, true, f
 use Rattle.regress_tree.specs.Steps.{State, Step, Alike, distinct, stay, ◌then_◌, ◌or_◌, capture, captured}
 use Rattle.regress_tree.specs.Lookaround.{looked, look}
 use Rattle.regress_tree.specs.Repetition.{unset, turn, turns, moving, up_to, more_turns, repeat}
-use Rattle.regress_tree.specs.declared.ir.node.Quantifier.{Quantifier}
+use Rattle.regress_base.specs.declared.types.Quantifier.{Quantifier}
 use Rattle.regress_tree.proofs.laws.Distinct.{distinct-append-alike, distinct-filter, distinct-flat_map-alike, distinct-map-alike}
 
 pub Alike-refl : (f : Step) → Alike f f

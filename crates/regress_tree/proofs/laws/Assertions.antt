@@ -1,8 +1,8 @@
 -- Anchors and word boundaries hold over the bytes of a text where they hold over its characters.
 use Rattle.std.proofs.Common.{◌≡◌, ℕ, ◌≤◌, Bool, ◌&&◌, ◌||◌, ◌==◌, List, length, Option, Some, None, option_map, encode_utf8_all, refl, sym, ap, ap₂, ◌∙◌, arith}
 use Rattle.std.proofs.lemmas.List.{take_all}
-use Rattle.regress_tree.specs.declared.ir.node.AnchorType.{AnchorType}
-use Rattle.regress_tree.specs.declared.ir.node.AnchorType.TheVariants.{StartOfLine, EndOfLine}
+use Rattle.regress_base.specs.declared.types.AnchorType.{AnchorType}
+use Rattle.regress_base.specs.declared.types.AnchorType.TheVariants.{StartOfLine, EndOfLine}
 use Rattle.regress_tree.specs.Reading.{Direction, Read, IsText, of_characters, of_bytes, byte_place}
 use Rattle.regress_tree.specs.Steps.{hold_at}
 use Rattle.regress_tree.specs.Assertions.{is_line_terminator, passes, at_anchor, differ, at_boundary}

@@ -11,6 +11,7 @@ use Rattle.std.proofs.lemmas.Str.{length-encode}
 use Rattle.std.specs.Char.{IsScalar, len_utf8, encode_utf8}
 use Rattle.std.specs.List.{starts_with}
 use Rattle.std.specs.Option.{option_or}
+use Rattle.regress_base.proofs.laws.Literals.{same_tests}
 use Rattle.regress_tree.specs.Reading.{Direction, forwards, backwards, Read, next_character, of_bytes, character_at, read_after, read_before_by, read_before}
 use Rattle.regress_tree.specs.Steps.{State, Step, stay, ◌then_◌, moved, one_character, these_bytes}
 use Rattle.regress_tree.proofs.laws.Characters.{character_at_from, character_at_parts}
@@ -26,12 +27,6 @@ stands_parts bytes k written h = (starts_is Decides-eqb (drop k bytes) written _
 
 stands_from : (bytes : List ℕ) (k : ℕ) (written rest : List ℕ) → drop k bytes ≡ written ++ rest → stands bytes k written ≡ true
 stands_from bytes k written rest e = (starts_is Decides-eqb (drop k bytes) written _ refl).1 rest e
-
--- tests that pass together are one
-pub same_tests : (a b : Bool) → (a ≡ true → b ≡ true) → (b ≡ true → a ≡ true) → a ≡ b
-same_tests true b to from = sym (to refl)
-same_tests false true to from = from refl
-same_tests false false to from = refl
 
 -- what stands behind bytes that stand there
 behind : (bytes : List ℕ) (k : ℕ) (written rest : List ℕ) → drop k bytes ≡ written ++ rest → drop (k + length written) bytes ≡ rest

@@ -8,7 +8,7 @@ use Rattle.regress_tree.specs.Assertions.{differ}
 use Rattle.regress_tree.specs.Reading.{Direction, IsText, of_characters, of_bytes}
 use Rattle.regress_tree.specs.Steps.{one_character}
 use Rattle.regress_tree.proofs.laws.ByteSequences.{one_character-agree}
-use Rattle.regress_tree.proofs.laws.Literals.{scalar_in_range}
+use Rattle.regress_base.proofs.laws.Literals.{scalar_in_range}
 use Rattle.regress_tree.proofs.laws.Simulation.{Simulates, Simulates-same_right, Simulates-one_character}
 
 -- over the bytes a test does what another one does over the characters, where the two agree

@@ -2,7 +2,7 @@
 use Rattle.std.proofs.Common.{◌≡◌, ◌∙◌, sym, ap, ℕ, Bool, Option, Vec, Box, Global, rules}
 use Rattle.std.specs.Prelude.{String}
 use Rattle.std.specs.declared.ops.Range.{Range}
-use Rattle.regress_tree.specs.declared.ir.node.Quantifier.{Quantifier}
+use Rattle.regress_base.specs.declared.types.Quantifier.{Quantifier}
 use Rattle.regress_tree.specs.declared.ir.node.Node.{Node, out-Node, the_lemmas}
 use Rattle.regress_tree.specs.declared.ir.node.Node.TheOpen.{Node-F}
 use Rattle.regress_tree.specs.declared.ir.node.Node.TheVariants.{Cat, Alt, CaptureGroup, Loop, Loop1CharBody, LookaroundAssertion}

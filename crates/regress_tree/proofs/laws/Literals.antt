@@ -1,166 +1,20 @@
--- What a literal stands for, as a list, and what its class matches.
-use Rattle.std.proofs.Common.{◌≡◌, ◌≢◌, ℕ, ◌+◌, ◌≤◌, ◌==◌, Bool, true, false, cond, ◌&&◌, nat_le, nat_lt, IsTrue, List, [], ◌∷◌, encode_utf8_all, inl, inr, refl, sym, ap, subst, ◌∙◌, arith, append-nil, length, All}
-use Rattle.std.proofs.lemmas.Bool.{eq-eqb, false≢true, and_from, le-leb, leb-true, and_parts}
-use Rattle.std.proofs.lemmas.Bool.Decides.{nat_tests}
-use Rattle.std.proofs.Math.Utf8.{scalar_cases}
-use Rattle.std.specs.Char.{IsScalar}
-use Rattle.std.specs.List.{range_with_len}
-use Rattle.regress_base.specs.Intervals.{code_point_max}
-use Rattle.regress_unicode.specs.Listing.{lists, is_ascending_from, is_ascending, IsListing}
-use Rattle.regress_tree.specs.Literal.{listed_below, listed, class_of, is_ascii, piece_of}
+-- What the class of a literal matches.
+use Rattle.std.proofs.Common.{◌≡◌, ℕ, ◌==◌, Bool, List, [], ◌∷◌, encode_utf8_all, sym, ap, ◌∙◌}
+use Rattle.regress_base.specs.Listing.{lists}
+use Rattle.regress_base.specs.Table.{Table, stands_for, class_of}
+use Rattle.regress_base.proofs.laws.Literals.{lists-one, lists-class_of-scalar}
 use Rattle.regress_tree.specs.Matching.{leaf_steps, steps}
 use Rattle.regress_tree.specs.Setting.{Setting}
 use Rattle.regress_tree.specs.Reading.{Direction, IsText, of_characters, of_bytes}
 use Rattle.regress_tree.specs.Steps.{State, one_character}
-use Rattle.regress_unicode.specs.Table.{Table, IsLawful, canon, stands_for}
-use Rattle.regress_tree.specs.Tree.{leaf, char, byte_set, char_set}
-use Rattle.regress_unicode.proofs.laws.Listings.{All-from_lists, few_of_image, ascending_parts, ascending_above, ascending_append, ascending_filter, lists-head, lists-tail, lists-past, lists-filter, lists-run}
-use Rattle.regress_tree.proofs.laws.ByteSequences.{same_tests, one_character-agree}
+use Rattle.regress_tree.specs.Tree.{leaf, char, char_set}
+use Rattle.regress_tree.proofs.laws.ByteSequences.{one_character-agree}
 use Rattle.regress_tree.proofs.laws.Simulation.{Simulates, Simulates-same_right, Simulates-one_character}
-
--- ---- listings
-
--- what stands behind the same first number is the same
-same_behind : (x : ℕ) (xs ys : List ℕ) → IsTrue (is_ascending_from (x + 1) xs) →
-    ((c : ℕ) → lists (x ∷ xs) c ≡ true → lists (x ∷ ys) c ≡ true) → (c : ℕ) → lists xs c ≡ true → lists ys c ≡ true
-same_behind x xs ys h within c e =
-    let above = ascending_above (x + 1) xs c h e in
-    let other : x ≢ c = omega (arith, above) in
-    lists-past x ys c other (within c (lists-tail x xs c e))
-
--- ascending lists with the same members are one list
-ascending_same : (low low' : ℕ) (xs ys : List ℕ) → IsTrue (is_ascending_from low xs) → IsTrue (is_ascending_from low' ys) →
-    ((c : ℕ) → lists xs c ≡ lists ys c) → xs ≡ ys
-ascending_same low low' [] [] hx hy same = refl
-ascending_same low low' [] (y ∷ ys) hx hy same = absurd (false≢true (same y ∙ lists-head y ys))
-ascending_same low low' (x ∷ xs) [] hx hy same = absurd (false≢true (sym (same x) ∙ lists-head x xs))
-ascending_same low low' (x ∷ xs) (y ∷ ys) hx hy same =
-    let px = ascending_parts low x xs hx in
-    let py = ascending_parts low' y ys hy in
-    let low_x = ascending_above y (y ∷ ys) x (from_itself y ys py.rest) (sym (same x) ∙ lists-head x xs) in
-    let low_y = ascending_above x (x ∷ xs) y (from_itself x xs px.rest) (same y ∙ lists-head y ys) in
-    let first : y ≡ x = omega (arith, low_x, low_y) in
-    let rest : IsTrue (is_ascending_from (x + 1) ys) = subst (λ (n : ℕ). IsTrue (is_ascending_from (n + 1) ys)) first py.rest in
-    let members : (c : ℕ) → lists (x ∷ xs) c ≡ lists (x ∷ ys) c =
-    λ c. same c ∙ ap (λ n. lists (n ∷ ys) c) first in
-    ap (λ n. n ∷ xs) (sym first)
-    ∙ ap (λ l. y ∷ l)
-    (ascending_same (x + 1) (x + 1) xs ys px.rest rest
-    (λ c.
-    same_tests _ _
-    (same_behind x xs ys px.rest (λ d e. sym (members d) ∙ e) c)
-    (same_behind x ys xs rest (λ d e. members d ∙ e) c)))
-  where
-    from_itself : (x : ℕ) (xs : List ℕ) → IsTrue (is_ascending_from (x + 1) xs) → IsTrue (is_ascending_from x (x ∷ xs))
-    from_itself x xs h = grind (arith, nat_tests)
-
-ascending_listed : (n : ℕ) (test : ℕ → Bool) → IsTrue (is_ascending (listed_below n test))
-unfolding listed_below
-ascending_listed n test =
-    ascending_filter 0 test (range_with_len 0 n)
-    (subst (λ xs. IsTrue (is_ascending xs)) (append-nil (range_with_len 0 n)) (ascending_append 0 0 n [] (omega arith) refl))
-
-lists_listed : (n : ℕ) (test : ℕ → Bool) (c : ℕ) → lists (listed_below n test) c ≡ (nat_lt c n && test c)
-unfolding listed_below
-lists_listed n test c = lists-filter test (range_with_len 0 n) c ∙ rw (lists-run 0 n c) (swapped (test c))
-  where
-    swapped : (b : Bool) → (b && (nat_le 0 c && nat_lt c (0 + n))) ≡ (nat_lt c n && b)
-    swapped true = grind (arith, nat_tests)
-    swapped false = grind (arith, nat_tests)
-
--- the list of the code points that pass a test is what it says
-pub IsListing-listed : (test : ℕ → Bool) → IsListing test (listed test)
-IsListing-listed test = record {
-  ascending = ascending_listed (code_point_max + 1) test;
-  members = λ c. lists_listed (code_point_max + 1) test c ∙ ap (λ b. b && test c) (below c);
-}
-  where
-    below : (c : ℕ) → nat_lt c (code_point_max + 1) ≡ nat_le c code_point_max
-    below c = grind (arith, nat_tests)
-
--- and the only one
-pub listing_is_listed : (test : ℕ → Bool) (xs : List ℕ) → IsListing test xs → xs ≡ listed test
-listing_is_listed test xs listing =
-    let all = IsListing-listed test in
-    ascending_same 0 0 xs (listed test) listing.ascending all.ascending (λ c. listing.members c ∙ sym (all.members c))
-
--- ---- what a literal stands for
-
-lists-one : (c x : ℕ) → lists (c ∷ []) x ≡ (x == c)
-lists-one c x = grind (arith, nat_tests)
-
-stands_for-itself : (table : Table) (icase unicode : Bool) (c : ℕ) → stands_for table icase unicode c c ≡ true
-stands_for-itself table true unicode c = eq-eqb (canon table unicode c) _ refl
-stands_for-itself table false unicode c = eq-eqb c c refl
-
--- without icase it is the literal alone
-pub class_of-itself : (table : Table) (unicode : Bool) (c : ℕ) → c ≤ code_point_max → class_of table false unicode c ≡ c ∷ []
-class_of-itself table unicode c h =
-    sym (listing_is_listed (λ x. x == c) (c ∷ []) (record { ascending = ascending; members = λ x. lists-one c x ∙ within x }))
-  where
-    ascending : IsTrue (is_ascending (c ∷ []))
-    ascending = grind (arith, nat_tests)
-
-    within : (x : ℕ) → (x == c) ≡ (nat_le x code_point_max && (x == c))
-    within x = grind (arith, nat_tests)
-
-pub scalar_in_range : (x : ℕ) → IsScalar x → x ≤ code_point_max
-scalar_in_range x s = elim (scalar_cases x s) [ inl low ↦ omega arith | inr high ↦ omega arith ]
-
-module _ (table : Table) (icase unicode : Bool) (c : ℕ) where
-  -- the members of a class
-  pub lists-class_of : (x : ℕ) → lists (class_of table icase unicode c) x ≡ (nat_le x code_point_max && stands_for table icase unicode c x)
-  lists-class_of x = (IsListing-listed (stands_for table icase unicode c)).members x
-
-  -- a code point stands for itself at least
-  pub class_of-some : c ≤ code_point_max → class_of table icase unicode c ≢ []
-  class_of-some h none =
-      false≢true
-      (ap (λ xs. lists xs c) (sym none) ∙ lists-class_of c
-      ∙ and_from _ _ (le-leb c code_point_max h) (stands_for-itself table icase unicode c))
-
-  -- of the Unicode scalar values the class has those that the literal stands for
-  pub lists-class_of-scalar : (x : ℕ) → IsScalar x → lists (class_of table icase unicode c) x ≡ stands_for table icase unicode c x
-  lists-class_of-scalar x s =
-      lists-class_of x ∙ ap (λ b. b && stands_for table icase unicode c x) (le-leb x code_point_max (scalar_in_range x s))
-
-  -- the members of a class are code points
-  pub class_of-bounded : All (λ x. x ≤ code_point_max) (class_of table icase unicode c)
-  class_of-bounded =
-      All-from_lists (λ x. x ≤ code_point_max) (class_of table icase unicode c)
-      (λ x listed. leb-true x code_point_max (and_parts _ _ (sym (lists-class_of x) ∙ listed)).0)
-
--- under a lawful table they are four at most
-pub class_of-few : (table : Table) (icase unicode : Bool) (c : ℕ) → IsLawful table → c ≤ code_point_max →
-    length (class_of table icase unicode c) ≤ 4
-class_of-few table true true c lawful h =
-    few_of_image table.fold (table.fold c) (class_of table true true c) lawful.fold.small_classes
-    (IsListing-listed (stands_for table true true c))
-class_of-few table true false c lawful h =
-    few_of_image table.uppercase (table.uppercase c) (class_of table true false c) lawful.uppercase.small_classes
-    (IsListing-listed (stands_for table true false c))
-class_of-few table false unicode c lawful h =
-    let one = ap length (class_of-itself table unicode c h) in omega (arith, one)
-
--- ---- what a class matches
 
 module _ (setting : Setting) (bytes : List ℕ) (d : Direction) where
   -- a single code point is the set of it
   pub char-steps : (c : ℕ) (s : State) → leaf_steps setting bytes d (char c) s ≡ one_character d (of_bytes bytes) (lists (c ∷ [])) s
   char-steps c s = one_character-agree d bytes (λ x. x == c) (lists (c ∷ [])) (λ x scalar_value. sym (lists-one c x)) s
-
-  -- each piece of a class takes one of its members
-  pub piece_of-steps : (class : List ℕ) (s : State) →
-      leaf_steps setting bytes d (piece_of class) s ≡ one_character d (of_bytes bytes) (lists class) s
-  piece_of-steps [] s = refl
-  piece_of-steps (c ∷ []) s = char-steps c s
-  piece_of-steps (c ∷ e ∷ rest) s = by_test (is_ascii (c ∷ e ∷ rest))
-    where
-      by_test : (b : Bool) →
-          leaf_steps setting bytes d (cond b (byte_set (c ∷ e ∷ rest)) (char_set (c ∷ e ∷ rest))) s
-          ≡ one_character d (of_bytes bytes) (lists (c ∷ e ∷ rest)) s
-      by_test true = refl
-      by_test false = refl
 
   -- over bytes a class takes what the literal stands for
   pub class_of-steps : (table : Table) (icase unicode : Bool) (c : ℕ) (s : State) →

@@ -5,8 +5,8 @@ use Rattle.std.specs.declared.boxed.BoxedSlice.{BoxedSlice}
 use Rattle.std.proofs.Common.{Vec, Box, Global, sym, ap, ◌∙◌}
 use Rattle.regress_tree.specs.declared.ir.node.Node.{Node, Node-F, fold-roll-Node}
 use Rattle.regress_tree.specs.declared.ir.node.Node.TheVariants.{Empty, Goal, Char, ByteSequence, ByteSet, CharSet, Cat, Alt, MatchAny, MatchAnyExceptLineTerminator, Anchor, WordBoundary, CaptureGroup, Bracket, Loop, Loop1CharBody, LookaroundAssertion, BackRef, StringSet, rolls-Empty, rolls-Goal, rolls-Char, rolls-ByteSequence, rolls-ByteSet, rolls-CharSet, rolls-Cat, rolls-Alt, rolls-MatchAny, rolls-MatchAnyExceptLineTerminator, rolls-Anchor, rolls-WordBoundary, rolls-CaptureGroup, rolls-Bracket, rolls-Loop, rolls-Loop1CharBody, rolls-LookaroundAssertion, rolls-BackRef, rolls-StringSet}
-use Rattle.regress_tree.specs.declared.ir.node.AnchorType.{AnchorType}
-use Rattle.regress_tree.specs.declared.ir.node.Quantifier.{Quantifier}
+use Rattle.regress_base.specs.declared.types.AnchorType.{AnchorType}
+use Rattle.regress_base.specs.declared.types.Quantifier.{Quantifier}
 use Rattle.regress_base.specs.declared.types.bracket.BracketContents.{BracketContents}
 use Rattle.std.specs.declared.ops.Range.{Range}
 use Rattle.regress_tree.specs.Tree.{Tree, tree, trees, tree_of_level, leaf, empty, goal, char, byte_sequence, byte_set, char_set, cat, alt, match_any, match_any_except_line_terminator, anchor, word_boundary, bracket, back_ref, string_set, wrapped, capture_group, loop, loop_one, lookaround}

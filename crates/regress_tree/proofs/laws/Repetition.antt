@@ -4,7 +4,7 @@ use Rattle.std.proofs.Common.{◌≡◌, ◌⊎◌, inl, inr, ⊎_elim, ℕ, zer
 use Rattle.std.proofs.lemmas.Bool.{cases_lt, eq-eqb, false≢true}
 use Rattle.std.proofs.lemmas.List.Elements.{All-cons, All-head, All-tail, All-filter, filter_passes}
 use Rattle.std.proofs.lemmas.Str.{length-le-encodes}
-use Rattle.regress_tree.specs.declared.ir.node.Quantifier.{Quantifier}
+use Rattle.regress_base.specs.declared.types.Quantifier.{Quantifier}
 use Rattle.regress_tree.specs.Reading.{Direction, forwards, backwards, byte_place}
 use Rattle.regress_tree.specs.Steps.{Span, State, Step, IsStateOf, IsCaptureOf, byte_state, byte_capture, stay}
 use Rattle.regress_tree.specs.Repetition.{unset_from, unset, turn, turns, moving, up_to, more_turns, repeat}

@@ -1,28 +1,10 @@
 //! The tree.
 
-use regress_base::types::{BracketContents, CaptureGroupID, CaptureGroupName, Flags};
+use regress_base::types::{
+    AnchorType, BracketContents, CaptureGroupID, CaptureGroupName, Flags, Quantifier,
+};
 use std::boxed::BoxedSlice;
 use std::ops::Range;
-
-/// Which end of the text, or of a line, an anchor stands for.
-#[derive(Clone, Copy, Debug)]
-pub enum AnchorType {
-    /// `^`
-    StartOfLine,
-    /// `$`
-    EndOfLine,
-}
-
-/// How often the body of a loop is matched.
-#[derive(Clone, Copy, Debug)]
-pub struct Quantifier {
-    /// How many turns there are at least.
-    pub min: usize,
-    /// How many there are at most. With `None` there is no such number.
-    pub max: Option<usize>,
-    /// Whether another turn is tried before what follows the loop, or after it.
-    pub greedy: bool,
-}
 
 /// A node of the tree of a pattern. `specs/Matching.antt` says what each kind matches.
 ///

@@ -10,9 +10,9 @@ ghost use Rattle.regress_tree.specs.Survey.{Tells, reference, StandsAt, PassesAt
 
 use super::brackets::accepts_none;
 use super::groups::{GroupIds, Groups};
-use super::node::{Node, Quantifier, Regex};
+use super::node::{Node, Regex};
 use regress_base::codepointset::{CODE_POINT_MAX, is_canonical};
-use regress_base::types::{CaptureGroupName, MAX_CHAR_SET_LENGTH};
+use regress_base::types::{CaptureGroupName, MAX_CHAR_SET_LENGTH, Quantifier};
 use std::boxed::BoxedSlice;
 use std::str;
 

@@ -1,8 +1,9 @@
 -- A set's closure depends on its members alone.
 use Rattle.std.proofs.Common.{◌≡◌, ℕ, true, List, sym, ◌∙◌}
 use Rattle.regress_base.specs.Intervals.{Bounds, is_member}
-use Rattle.regress_unicode.specs.Table.{Table, is_in_closure}
-use Rattle.regress_unicode.proofs.ClosureLemmas.{same_truth, closure_from, closure_gives}
+use Rattle.regress_base.specs.Table.{Table, is_in_closure}
+use Rattle.regress_base.proofs.laws.Literals.{same_tests}
+use Rattle.regress_unicode.proofs.ClosureLemmas.{closure_from, closure_gives}
 
 module _ (table : Table) where
   closure_within : (xs ys : List Bounds) → ((m : ℕ) → is_member xs m ≡ is_member ys m) → (c : ℕ) →
@@ -14,4 +15,4 @@ module _ (table : Table) where
   pub closure_same : (xs ys : List Bounds) → ((m : ℕ) → is_member xs m ≡ is_member ys m) → (c : ℕ) →
       is_in_closure table xs c ≡ is_in_closure table ys c
   closure_same xs ys same c =
-      same_truth _ _ (closure_within xs ys same c) (closure_within ys xs (λ m. sym (same m)) c)
+      same_tests _ _ (closure_within xs ys same c) (closure_within ys xs (λ m. sym (same m)) c)

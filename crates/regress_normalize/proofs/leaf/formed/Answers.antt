@@ -1,6 +1,6 @@
 -- By what the leaf becomes.
 use Rattle.std.proofs.Common.{ap, ◌∙◌}
-use Rattle.regress_tree.specs.Literal.{set_of}
+use Rattle.regress_tree.specs.SmallSets.{set_of}
 use Rattle.regress_tree.specs.Tree.{char, char_set, tree}
 use Rattle.regress_tree.proofs.laws.Nodes.{tree-Char, tree-CharSet}
 use Rattle.regress_rewrite.specs.Formed.{formed_character}

@@ -1,7 +1,7 @@
 -- The copies and the loop behind them stand for the loop.
 use Rattle.std.proofs.Common.{◌≡◌, true, false, sym, subst, ap, ◌∙◌}
 use Rattle.std.proofs.lemmas.Bool.{not-true, not-false}
-use Rattle.regress_tree.specs.declared.ir.node.Quantifier.{Quantifier}
+use Rattle.regress_base.specs.declared.types.Quantifier.{Quantifier}
 use Rattle.regress_tree.specs.Reading.{forwards}
 use Rattle.regress_tree.specs.Shapes.{on_loop, is_zero}
 use Rattle.regress_tree.specs.Tree.{Tree, tree, loop, copies}

@@ -1,7 +1,7 @@
 -- Which atom it is, by its code point.
 use Rattle.std.proofs.Common.{rules, arith}
 use Rattle.std.proofs.lemmas.Bool.Decides.{nat_tests}
-use Rattle.regress_tree.specs.declared.ir.node.AnchorType.TheVariants.{StartOfLine, EndOfLine}
+use Rattle.regress_base.specs.declared.types.AnchorType.TheVariants.{StartOfLine, EndOfLine}
 use Rattle.regress_syntax.specs.Syntax.{literal, dot, anchor}
 use Rattle.regress_parse.proofs.atom.read_other.Goals as goal
 

@@ -3,7 +3,7 @@ use Rattle.std.proofs.lemmas.Result.{err_from_is_err_and}
 use Rattle.regress_base.specs.Limits.{max_capture_groups}
 use Rattle.regress_tree.specs.Reading.{forwards}
 use Rattle.regress_tree.specs.Tree.{Tree, trees, cat, more_trees, no_trees}
-use Rattle.regress_tree.specs.Setting.{setting_of}
+use Rattle.regress_syntax.specs.SettingOf.{setting_of}
 use Rattle.regress_tree.specs.WellFormed.{IsWellFormed}
 use Rattle.regress_tree.proofs.laws.Nodes.{tree-Cat, tree-Goal}
 use Rattle.regress_syntax.specs.Syntax.{counts}

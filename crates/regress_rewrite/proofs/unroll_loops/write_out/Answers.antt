@@ -2,7 +2,7 @@
 use Rattle.std.proofs.Common.{◌≡◌, true, List, Vec, Global, rules, sym, ap, subst, ◌∙◌, tests}
 use Rattle.regress_tree.specs.declared.ir.node.Node.{Node}
 use Rattle.regress_tree.specs.declared.ir.node.Node.TheVariants.{Cat}
-use Rattle.regress_tree.specs.declared.ir.node.Quantifier.{Quantifier}
+use Rattle.regress_base.specs.declared.types.Quantifier.{Quantifier}
 use Rattle.regress_tree.specs.Shapes.{on_loop, is_zero}
 use Rattle.regress_tree.specs.Tree.{Tree, tree, wrapped, loop, cat, trees, copies}
 use Rattle.regress_tree.proofs.laws.Nodes.{tree-Loop, tree-Cat}

@@ -3,7 +3,7 @@ use Rattle.std.proofs.Common.{◌≡◌, List, String, Global, true, sym, subst,
 use Rattle.std.proofs.lemmas.Result.{err_from_is_err_and}
 use Rattle.std.specs.List.{list_all}
 use Rattle.regress_unicode.specs.Parts.{AreSoundRows, parts_from, sets_of}
-use Rattle.regress_unicode.specs.Table.{is_string, HasCanonicalSets}
+use Rattle.regress_base.specs.Table.{is_string, HasCanonicalSets}
 use Rattle.regress_base.specs.Intervals.{Bounds}
 use Rattle.regress_unicode.proofs.CaseMapLemmas.{case_map}
 use Rattle.regress_unicode.proofs.RefusalLemmas.{first_by_rows, identifiers_refused, strings_refused, all_met, strings_test}

@@ -1,6 +1,6 @@
 -- The strings are read as lists of numbers.
 use Rattle.std.proofs.Common.{ℕ, Vec, Global, Some, ap, ◌∙◌, map, option_map, List}
-use Rattle.regress_unicode.specs.Table.{named}
+use Rattle.regress_base.specs.Table.{named}
 use Rattle.regress_unicode.specs.Parts.{strings_of}
 use Rattle.regress_unicode.proofs.NamedLemmas.{named_strings}
 use Rattle.regress_unicode.proofs.Tables.strings.Goals as goal

@@ -3,7 +3,7 @@ use Rattle.std.proofs.Common.{List, All, String, Global, subst}
 use Rattle.std.proofs.lemmas.List.{take_all}
 use Rattle.std.proofs.lemmas.List.Elements.{All-more, All-map}
 use Rattle.regress_base.specs.Intervals.{Bounds, IsCanonical}
-use Rattle.regress_unicode.specs.Table.{Named}
+use Rattle.regress_base.specs.Table.{Named}
 use Rattle.regress_unicode.specs.Parts.{entry_of}
 use Rattle.regress_unicode.proofs.checks.sets_are_canonical.Goals as goal
 

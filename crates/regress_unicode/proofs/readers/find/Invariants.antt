@@ -1,7 +1,7 @@
 -- The first entry of that name is not among those passed.
 use Rattle.std.proofs.Common.{◌≡◌, map, drop}
 use Rattle.regress_unicode.specs.Parts.{entry_of}
-use Rattle.regress_unicode.specs.Table.{named}
+use Rattle.regress_base.specs.Table.{named}
 use Rattle.regress_unicode.proofs.readers.find.Given as goal
 
 abbrev pub invariant-loop-entry : goal.invariant-loop-entry

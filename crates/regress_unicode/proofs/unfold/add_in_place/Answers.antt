@@ -2,8 +2,8 @@
 use Rattle.std.proofs.Common.{◌≡◌, ℕ, ◌<◌, ◌≤◌, IsTrue, List, insert, length, get_or, subst, sym, ap, ◌∙◌, arith}
 use Rattle.std.proofs.lemmas.List.{get_or_read}
 use Rattle.std.proofs.lemmas.Result.{on_ok_weaker}
-use Rattle.regress_unicode.specs.Listing.{lists, is_ascending}
-use Rattle.regress_unicode.proofs.laws.Listings.{put_ascending, put_lists}
+use Rattle.regress_base.specs.Listing.{lists, is_ascending}
+use Rattle.regress_base.proofs.laws.Listings.{put_ascending, put_lists}
 use Rattle.regress_unicode.proofs.unfold.add_in_place.Goals as goal
 use Rattle.regress_unicode.proofs.unfold.add_in_place.Goals.{else-place-len-via-then-place-len+else-index-c, else-place-len-via-else-place-len}
 

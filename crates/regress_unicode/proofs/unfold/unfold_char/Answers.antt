@@ -2,9 +2,9 @@
 use Rattle.std.proofs.Common.{ℕ, ◌≤◌, ◌==◌, length, List, Vec, Global, sym, subst}
 use Rattle.std.proofs.lemmas.Result.{IfOk-weaker}
 use Rattle.regress_unicode.specs.FoldRows.{FoldRow, image}
-use Rattle.regress_unicode.specs.Listing.{IsListing}
-use Rattle.regress_unicode.specs.Table.{HasSmallClasses}
-use Rattle.regress_unicode.proofs.laws.Listings.{few_of_image}
+use Rattle.regress_base.specs.Listing.{IsListing}
+use Rattle.regress_base.specs.Table.{HasSmallClasses}
+use Rattle.regress_base.proofs.laws.Listings.{few_of_image}
 use Rattle.regress_unicode.proofs.TableLemmas.{table_of-lawful}
 use Rattle.regress_unicode.proofs.unfold.unfold_char.Goals as goal
 

@@ -3,8 +3,8 @@ use Rattle.std.proofs.Common.{◌<◌, ℕ, false, ◌==◌, ◌&&◌, ◌||◌,
 use Rattle.std.proofs.lemmas.List.{take_all}
 use Rattle.regress_base.specs.Intervals.{code_point_max}
 use Rattle.regress_unicode.specs.FoldRows.{FoldRow, is_target_in_range}
-use Rattle.regress_unicode.specs.Listing.{is_ascending}
-use Rattle.regress_unicode.proofs.laws.Listings.{listed_source}
+use Rattle.regress_base.specs.Listing.{is_ascending}
+use Rattle.regress_base.proofs.laws.Listings.{listed_source}
 use Rattle.regress_unicode.proofs.RowLemmas.{target_at}
 use Rattle.regress_unicode.proofs.SourceLemmas.{has_source, has_source-nil, has_source-more, has_source-no_more, has_image}
 use Rattle.regress_unicode.proofs.UnfoldLemmas.{listed_none, none_listed, pushed_ascending, pushed_lists, source_within, below_rows, target_added}

@@ -2,7 +2,7 @@
 use Rattle.std.proofs.Common.{◌≡◌, ℕ, ◌<◌, ◌≤◌, true, ◌&&◌, nat_le, IsTrue, length, get_or, take}
 use Rattle.regress_base.specs.Intervals.{code_point_max}
 use Rattle.regress_unicode.specs.FoldRows.{FoldRow}
-use Rattle.regress_unicode.specs.Listing.{lists, is_ascending}
+use Rattle.regress_base.specs.Listing.{lists, is_ascending}
 use Rattle.regress_unicode.proofs.SourceLemmas.{has_source}
 use Rattle.regress_unicode.proofs.unfold.with_image.Given as goal
 

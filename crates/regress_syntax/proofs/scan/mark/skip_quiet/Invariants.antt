@@ -1,6 +1,6 @@
 -- What is left has the same marks in each mode.
 use Rattle.std.proofs.Common.{◌≡◌, Bool, ◌≤◌, length}
-use Rattle.regress_unicode.specs.Table.{Table}
+use Rattle.regress_base.specs.Table.{Table}
 use Rattle.regress_syntax.specs.Scan.{marks}
 use Rattle.regress_syntax.specs.Scanning.{mode_of}
 use Rattle.regress_syntax.specs.declared.scan.mark.Mode.{Mode}

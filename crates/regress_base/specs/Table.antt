@@ -1,0 +1,96 @@
+-- What a pattern asks of Unicode, as plain data.
+use Rattle.std.specs.Prelude.{◌≡◌, ℕ, ◌<◌, ◌≤◌, Bool, ◌&&◌, nat_le, nat_lt, ◌==◌, List, [], ◌∷◌, length, All, Option, Some, None, IsTrue, if◌then◌else◌}
+use Rattle.std.specs.List.{list_any, list_all}
+use Rattle.std.specs.Str.{bytes_eq}
+use Rattle.regress_base.specs.Intervals.{Bounds, code_point_max, is_member, IsCanonical}
+use Rattle.regress_base.specs.Classes.{word_characters}
+use Rattle.regress_base.specs.Listing.{is_ascending, code_points, listed}
+
+-- a value under a name, which is given by its UTF-8
+pub record Named (A : Type 0) : Type 0 where
+  pub name : List ℕ
+  pub value : A
+
+-- The images of the characters under folding and in upper case, the characters that may begin and go on in a name, and
+-- named classes and lists of strings.
+pub record Table : Type 0 where
+  pub fold : ℕ → ℕ
+  pub uppercase : ℕ → ℕ
+  pub id_start : List Bounds
+  pub id_continue : List Bounds
+  pub general_category : List (Named (List Bounds))
+  pub script : List (Named (List Bounds))
+  pub script_extensions : List (Named (List Bounds))
+  pub binary : List (Named (List Bounds))
+  pub strings : List (Named (List (List ℕ)))
+
+-- the first value of that name
+unfoldable pub named : {A : Type 0} → List ℕ → List (Named A) → Option A
+named name [] = None
+named name (entry ∷ entries) = if bytes_eq entry.name name then Some entry.value else named name entries
+
+-- ---- what makes a table lawful
+
+-- an image is its own image
+abbrev pub IsIdempotent : (ℕ → ℕ) → Type 0
+IsIdempotent f = (c : ℕ) → f (f c) ≡ f c
+
+-- at most four share an image: MAX_CHAR_SET_LENGTH (this project's profile)
+abbrev pub HasSmallClasses : (ℕ → ℕ) → Type 0
+HasSmallClasses f =
+    (image : ℕ) (xs : List ℕ) → IsTrue (is_ascending xs) → All (λ x. f x ≡ image) xs → length xs ≤ 4
+
+-- A map of cases: an image is its own image, code points go to code points, and at most four share an image.
+pub record IsCaseMap (f : ℕ → ℕ) : Type 0 where
+  pub idempotent : IsIdempotent f
+  pub in_range : (c : ℕ) → c ≤ code_point_max → f c ≤ code_point_max
+  pub small_classes : HasSmallClasses f
+
+-- the ASCII characters of a set are letters, digits and the low line
+abbrev pub HasWordAscii : List Bounds → Type 0
+HasWordAscii set = (c : ℕ) → c < 0x80 → IsTrue (is_member set c) → IsTrue (is_member word_characters c)
+
+-- whether a list is a string of code points, one at least
+abbrev pub is_string : List ℕ → Bool
+is_string s = nat_lt 0 (length s) && list_all (λ c. nat_le c code_point_max) s
+
+-- each set under a name is canonical
+abbrev pub HasCanonicalSets : List (Named (List Bounds)) → Type 0
+HasCanonicalSets entries = All (λ entry. IsCanonical entry.value) entries
+
+-- each string under a name is one
+abbrev pub HasStrings : List (Named (List (List ℕ))) → Type 0
+HasStrings entries = IsTrue (list_all (λ entry. list_all is_string entry.value) entries)
+
+-- What each table that the crate hands out keeps.
+pub record IsLawful (t : Table) : Type 0 where
+  pub fold : IsCaseMap t.fold
+  pub uppercase : IsCaseMap t.uppercase
+  pub id_start : IsCanonical t.id_start
+  pub id_continue : IsCanonical t.id_continue
+  pub id_start_ascii : HasWordAscii t.id_start
+  pub id_continue_ascii : HasWordAscii t.id_continue
+  pub general_category : HasCanonicalSets t.general_category
+  pub script : HasCanonicalSets t.script
+  pub script_extensions : HasCanonicalSets t.script_extensions
+  pub binary : HasCanonicalSets t.binary
+  pub strings : HasStrings t.strings
+
+-- ---- images
+
+-- what has the same image matches in either case (ECMA-262, Canonicalize): the fold with the flag u, else the upper case
+abbrev pub canon : Table → Bool → ℕ → ℕ
+canon t unicode c = if unicode then t.fold c else t.uppercase c
+
+-- whether a literal c stands for x: with icase all that has the image of c (ECMA-262, CharacterSetMatcher)
+abbrev pub stands_for : Table → (icase unicode : Bool) → ℕ → ℕ → Bool
+stands_for t icase unicode c x = if icase then canon t unicode x == canon t unicode c else x == c
+
+-- the code points that a literal c stands for
+abbrev pub class_of : Table → (icase unicode : Bool) → ℕ → List ℕ
+class_of t icase unicode c = listed (stands_for t icase unicode c)
+
+-- Whether the code point is in the closure of a set: its fold is the fold of a member (ECMA-262, MaybeSimpleCaseFolding).
+unfoldable pub is_in_closure : Table → List Bounds → ℕ → Bool
+is_in_closure t set c =
+    nat_le c code_point_max && list_any (λ iv. list_any (λ m. t.fold m == t.fold c) (code_points iv)) set

@@ -1,0 +1,190 @@
+-- How groups, names, modifiers and references are read, and their trees and marks, at worked patterns.
+use Rattle.std.proofs.Common.{◌≡◌, ℕ, Bool, false, true, List, [], ◌∷◌, Option, Some, None, option_map, refl, codes}
+use Rattle.std.specs.Char.{encode_utf8}
+use Rattle.regress_base.specs.declared.types.Flags.{Flags}
+use Rattle.regress_tree.specs.Setting.{Setting}
+use Rattle.regress_tree.specs.Reading.{forwards}
+use Rattle.regress_tree.specs.Tree.{Tree, leaf, goal, back_ref, cat, alt, wrapped, capture_group, lookaround}
+use Rattle.regress_lexical.specs.Modifiers.{Change}
+use Rattle.regress_syntax.specs.Marks.{Mark, opens, captures, closes, next, marks_of}
+use Rattle.regress_syntax.specs.SameNames.{are_names_apart}
+use Rattle.regress_syntax.specs.Scan.{marks, plain as outside_classes}
+use Rattle.regress_lexical.specs.Source.{Source}
+use Rattle.regress_syntax.specs.Syntax.{Pattern, one, no_terms, more_terms, atom, literal, class, back_reference, by_number, group, modified, capture, look}
+use Rattle.regress_parse.specs.TreeOf.{tree_of}
+use Rattle.regress_examples.proofs.PatternExamples.{letter, word, two, row, character, quantifier, captured_letter}
+use Rattle.regress_examples.proofs.Meanings.{no_flags, plain, named, unicode, pattern_of, run}
+
+-- ---- lookarounds
+
+quantifier_behind_a_lookahead : pattern_of plain (codes "(?=a)*")
+    ≡ Some (one (more_terms (group (look false forwards) (one (word (letter 97)))) (Some (quantifier 0 None)) no_terms))
+unfolding pattern_of
+quantifier_behind_a_lookahead = refl
+
+no_quantifier_behind_a_lookahead_with_u : pattern_of unicode (codes "(?=a)*") ≡ None
+unfolding pattern_of
+no_quantifier_behind_a_lookahead_with_u = refl
+
+no_quantifier_behind_a_lookbehind : pattern_of plain (codes "(?<=a)*") ≡ None
+unfolding pattern_of
+no_quantifier_behind_a_lookbehind = refl
+
+-- ---- modifiers
+
+abbrev with_i : Flags
+with_i = record no_flags { icase = true }
+
+abbrev i_on : Change
+i_on = record { icase = Some true; multiline = None; dot_all = None }
+
+-- a letter with the flag i on it
+abbrev letter_with_i : Pattern
+letter_with_i = one (word (group (modified i_on) (one (word (atom (literal with_i 97))))))
+
+i_switched_on : pattern_of plain (codes "(?i:a)") ≡ Some letter_with_i
+unfolding pattern_of
+i_switched_on = refl
+
+-- behind the hyphen there may be no letter
+i_switched_on_and_nothing_off : pattern_of plain (codes "(?i-:a)") ≡ Some letter_with_i
+unfolding pattern_of
+i_switched_on_and_nothing_off = refl
+
+no_flag_on_and_off : pattern_of plain (codes "(?i-i:a)") ≡ None
+unfolding pattern_of
+no_flag_on_and_off = refl
+
+no_hyphen_alone : pattern_of plain (codes "(?-:a)") ≡ None
+unfolding pattern_of
+no_hyphen_alone = refl
+
+no_question_mark_alone : pattern_of plain (codes "(?)") ≡ None
+unfolding pattern_of
+no_question_mark_alone = refl
+
+-- ---- references by number
+
+-- the parenthesis in the class opens no group
+one_group_beside_a_class : pattern_of plain (codes "[(]\\1(a)")
+    ≡ Some (one (more_terms (atom (class no_flags false (run 40 40 ∷ []))) None
+    (two (atom (back_reference no_flags (by_number 1))) (captured_letter 97))))
+unfolding pattern_of
+one_group_beside_a_class = refl
+
+-- There is one group, not ten, so that the digits are octal.
+octal_for_want_of_ten_groups : pattern_of plain (codes "\\10(a)") ≡ Some (one (two (letter 8) (captured_letter 97)))
+unfolding pattern_of
+octal_for_want_of_ten_groups = refl
+
+octal_for_want_of_two_groups : pattern_of plain (codes "\\2(a)") ≡ Some (one (two (letter 2) (captured_letter 97)))
+unfolding pattern_of
+octal_for_want_of_two_groups = refl
+
+no_octal_for_want_of_groups_with_u : pattern_of unicode (codes "\\2(a)") ≡ None
+unfolding pattern_of
+no_octal_for_want_of_groups_with_u = refl
+
+-- 8 is no octal digit
+digit_for_want_of_groups : pattern_of plain (codes "\\8") ≡ Some (one (word (letter 56)))
+unfolding pattern_of
+digit_for_want_of_groups = refl
+
+-- ---- names
+
+-- where no group has a name, `\k` stands for the letter
+letter_for_want_of_names : pattern_of plain (codes "\\k") ≡ Some (one (word (letter 107)))
+unfolding pattern_of
+letter_for_want_of_names = refl
+
+no_letter_for_want_of_names_with_u : pattern_of unicode (codes "\\k") ≡ None
+unfolding pattern_of
+no_letter_for_want_of_names_with_u = refl
+
+no_other_name : pattern_of named (codes "(?<a>x)\\k<b>") ≡ None
+unfolding pattern_of
+no_other_name = refl
+
+-- a name is told by its characters, however these are written
+name_by_an_escape : pattern_of named (codes "(?<\\u0061>x)")
+    ≡ Some (one (word (group (capture (Some (codes "a"))) (one (word (letter 120))))))
+unfolding pattern_of
+name_by_an_escape = refl
+
+-- an escape of `>` ends no name, and is in none
+no_bracket_by_an_escape : pattern_of named (codes "(?<a\\u003Ex)") ≡ None
+unfolding pattern_of
+no_bracket_by_an_escape = refl
+
+-- ---- trees
+
+-- The source is a pattern with this tree, before the goal.
+unfoldable HasTree : Setting → Source → Tree → Type 0
+unfolding pattern_of encode_utf8
+HasTree setting source t = option_map (tree_of setting.table) (pattern_of setting source) ≡ Some (cat (row t (leaf goal)))
+
+abbrev captured : ℕ → Option (List ℕ) → ℕ → Tree
+captured id name c = wrapped (capture_group id name) (character c)
+
+-- the parts stand turned, and the groups keep their numbers
+lookbehind_of_groups : HasTree plain (codes "(?<=(a)(b))")
+    (wrapped (lookaround false true 0 2) (cat (row (captured 1 None 98) (captured 0 None 97))))
+unfolding HasTree
+lookbehind_of_groups = refl
+
+-- a lookahead in a lookbehind is not turned
+lookahead_in_a_lookbehind : HasTree plain (codes "(?<=(?=ab)c)")
+    (wrapped (lookaround false true 0 0)
+    (cat (row (character 99) (wrapped (lookaround false false 0 0) (cat (row (character 97) (character 98)))))))
+unfolding HasTree
+lookahead_in_a_lookbehind = refl
+
+-- a name stands for each of its groups
+reference_to_two_groups : HasTree named (codes "(?<a>x)|(?<a>y)\\k<a>")
+    (alt (captured 0 (Some (codes "a")) 120)
+    (cat (row (captured 1 (Some (codes "a")) 121) (alt (leaf (back_ref 1 false)) (leaf (back_ref 2 false))))))
+unfolding HasTree
+reference_to_two_groups = refl
+
+-- ---- marks
+
+-- The scan finds these marks, and so does the syntax tree.
+unfoldable HasMarks : Setting → Source → List Mark → Type 0
+unfolding pattern_of
+HasMarks setting source ms =
+    (marks setting.flags.unicode_sets setting.table outside_classes source ≡ ms)
+    × (option_map marks_of (pattern_of setting source) ≡ Some ms)
+
+-- parentheses in classes and behind backslashes leave no mark
+marks_of_each_kind : HasMarks named (codes "(?<a>x)(?:y)[(]\\((z)")
+    (captures (Some (codes "a")) ∷ closes ∷ opens ∷ closes ∷ captures None ∷ closes ∷ [])
+unfolding HasMarks
+marks_of_each_kind = (refl, refl)
+
+marks_of_groups_in_each_other : HasMarks plain (codes "(?<!(?i:a|(b)))")
+    (opens ∷ opens ∷ next ∷ captures None ∷ closes ∷ closes ∷ closes ∷ [])
+unfolding HasMarks
+marks_of_groups_in_each_other = (refl, refl)
+
+-- in a class neither `[` nor an escaped `]` begins or ends anything
+marks_behind_a_class : HasMarks plain (codes "[[\\](]|(a)") (next ∷ captures None ∷ closes ∷ [])
+unfolding HasMarks
+marks_behind_a_class = (refl, refl)
+
+-- whether the source is a pattern whose names conflict nowhere
+unfoldable names_apart : Source → Option Bool
+unfolding pattern_of
+names_apart source = option_map are_names_apart (pattern_of named source)
+
+one_name_in_two_alternatives : names_apart (codes "(?<a>x)|(?<a>y)") ≡ Some true
+unfolding names_apart
+one_name_in_two_alternatives = refl
+
+one_name_twice_in_a_row : names_apart (codes "(?<a>x)(?<a>y)") ≡ Some false
+unfolding names_apart
+one_name_twice_in_a_row = refl
+
+-- the second may match where the first has
+one_name_behind_two_alternatives : names_apart (codes "(?:(?<a>x)|y)(?<a>z)") ≡ Some false
+unfolding names_apart
+one_name_behind_two_alternatives = refl

@@ -1,0 +1,16 @@
+mod AssertionMeanings
+mod CharacterMeanings
+mod CharacterSets
+mod ClassSetExamples
+mod GroupExamples
+mod LiteralExamples
+mod LookaroundMeanings
+mod LoopMeanings
+mod Meanings
+mod ModifierMeanings
+mod PatternExamples
+mod ReferenceMeanings
+mod SameNameExamples
+mod SetMeanings
+mod TableExamples
+mod TreeExamples

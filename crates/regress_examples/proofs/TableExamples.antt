@@ -1,0 +1,135 @@
+-- The definitions at values, each computed.
+use Rattle.std.proofs.Common.{◌≡◌, ℕ, true, false, List, [], ◌∷◌, Some, None, pos, negsuc, refl, codes}
+use Rattle.regress_base.specs.Intervals.{Bounds}
+use Rattle.regress_unicode.specs.FoldRows.{FoldRow, image, is_in_order, are_targets_in_range, stays_in_range}
+use Rattle.regress_base.specs.Listing.{lists, is_ascending}
+use Rattle.regress_base.specs.Table.{named, canon, stands_for, is_in_closure, is_string}
+use Rattle.regress_unicode.specs.SmallTable.{small_table}
+
+row : ℕ → ℕ → FoldRow
+row start length = record { start = start; length = length; delta = pos 1; modulo = 2 }
+
+set : ℕ → ℕ → List Bounds
+set first last = record { first = first; last = last } ∷ []
+
+-- each second code point of a row moves
+image-moves : image (record { start = 4; length = 4; delta = pos 1; modulo = 2 } ∷ []) 6 ≡ 7
+unfolding image
+image-moves = refl
+
+image-stays : image (record { start = 4; length = 4; delta = pos 1; modulo = 2 } ∷ []) 5 ≡ 5
+unfolding image
+image-stays = refl
+
+image-beyond : image (record { start = 4; length = 4; delta = pos 1; modulo = 2 } ∷ []) 8 ≡ 8
+unfolding image
+image-beyond = refl
+
+-- the first row that has the code point counts
+image-first : image (record { start = 4; length = 1; delta = negsuc 0; modulo = 1 } ∷ record
+    { start = 4; length = 1; delta = pos 1; modulo = 1 } ∷ []) 4 ≡ 3
+unfolding image
+image-first = refl
+
+-- runs that touch are in order, and runs that share a code point are not
+order-touching : is_in_order (row 4 4 ∷ row 8 1 ∷ []) ≡ true
+unfolding row
+order-touching = refl
+
+order-shared : is_in_order (row 4 5 ∷ row 8 1 ∷ []) ≡ false
+unfolding row
+order-shared = refl
+
+order-turned : is_in_order (row 8 1 ∷ row 4 4 ∷ []) ≡ false
+unfolding row
+order-turned = refl
+
+-- the ends of a run decide on its target
+target-below : stays_in_range (negsuc 65) 0x41 ≡ false
+target-below = refl
+
+target-zero : stays_in_range (negsuc 64) 0x41 ≡ true
+target-zero = refl
+
+target-last : stays_in_range (pos 65537) 0xFFFFE ≡ true
+target-last = refl
+
+target-past : stays_in_range (pos 65538) 0xFFFFE ≡ false
+target-past = refl
+
+targets-one_out : are_targets_in_range (row 4 4 ∷ record { start = 0; length = 2; delta = negsuc 0; modulo = 1 } ∷ []) ≡ false
+unfolding row
+targets-one_out = refl
+
+-- the first entry of a name
+named-first : named {A = ℕ} (codes "b") (record { name = codes "a"; value = 1 } ∷ record { name = codes "b"; value = 2 } ∷ record
+    { name = codes "b"; value = 3 } ∷ []) ≡ Some 2
+unfolding named
+named-first = refl
+
+named-none : named {A = ℕ} (codes "c") (record { name = codes "a"; value = 1 } ∷ []) ≡ None
+unfolding named
+named-none = refl
+
+-- strings
+string-empty : is_string [] ≡ false
+string-empty = refl
+
+string-last : is_string (0x10FFFF ∷ []) ≡ true
+string-last = refl
+
+string-past : is_string (0x61 ∷ 0x110000 ∷ []) ≡ false
+string-past = refl
+
+-- lists
+ascending-twice : is_ascending (1 ∷ 1 ∷ []) ≡ false
+ascending-twice = refl
+
+ascending-some : is_ascending (0 ∷ 1 ∷ 7 ∷ []) ≡ true
+ascending-some = refl
+
+lists-last : lists (0 ∷ 7 ∷ []) 7 ≡ true
+lists-last = refl
+
+lists-none : lists (0 ∷ 7 ∷ []) 6 ≡ false
+lists-none = refl
+
+-- the small table: MICRO SIGN, KELVIN SIGN and LATIN SMALL LETTER LONG S
+canon-u : canon small_table true 0xB5 ≡ 0x3BC
+unfolding image small_table
+canon-u = refl
+
+canon-no_u : canon small_table false 0xB5 ≡ 0x39C
+unfolding image small_table
+canon-no_u = refl
+
+stands-alone : stands_for small_table false true 0x6B 0x4B ≡ false
+stands-alone = refl
+
+stands-either_case : stands_for small_table true false 0x6B 0x4B ≡ true
+unfolding image small_table
+stands-either_case = refl
+
+stands-no_kelvin : stands_for small_table true false 0x6B 0x212A ≡ false
+unfolding image small_table
+stands-no_kelvin = refl
+
+stands-kelvin : stands_for small_table true true 0x6B 0x212A ≡ true
+unfolding image small_table
+stands-kelvin = refl
+
+closure-itself : is_in_closure small_table (set 0x73 0x73) 0x73 ≡ true
+unfolding image small_table is_in_closure set
+closure-itself = refl
+
+closure-other_case : is_in_closure small_table (set 0x73 0x73) 0x53 ≡ true
+unfolding image small_table is_in_closure set
+closure-other_case = refl
+
+closure-long_s : is_in_closure small_table (set 0x73 0x73) 0x17F ≡ true
+unfolding image small_table is_in_closure set
+closure-long_s = refl
+
+closure-neighbour : is_in_closure small_table (set 0x73 0x73) 0x54 ≡ false
+unfolding image small_table is_in_closure set
+closure-neighbour = refl

@@ -1,0 +1,292 @@
+-- The definitions at worked trees and places, by computation.
+use Rattle.std.proofs.Common.{◌≡◌, ℕ, Bool, true, false, List, [], ◌∷◌, map, Option, Some, None, refl, codes}
+use Rattle.std.specs.Str.{chars}
+use lib.Utf8.{encode}
+use Rattle.regress_base.specs.Classes.{digits}
+use Rattle.regress_base.specs.Intervals.{is_member, is_within}
+use Rattle.regress_base.specs.declared.types.AnchorType.TheVariants.{StartOfLine, EndOfLine}
+use Rattle.regress_base.specs.declared.types.Quantifier.{Quantifier}
+use Rattle.regress_tree.specs.Reading.{forwards, backwards, of_characters, read_after, read_before, character_at}
+use Rattle.regress_tree.specs.Steps.{State, Span, same_state, one_character, these_bytes, hold_at, capture}
+use Rattle.regress_tree.specs.Repetition.{unset, repeat}
+use Rattle.regress_tree.specs.Lookaround.{look}
+use Rattle.regress_tree.specs.References.{back_reference}
+use Rattle.regress_tree.specs.Strings.{any_string}
+use Rattle.regress_tree.specs.Assertions.{is_word_character, at_anchor, at_boundary}
+use Rattle.regress_unicode.specs.FoldRows.{image}
+use Rattle.regress_base.specs.Table.{is_in_closure}
+use Rattle.regress_tree.specs.Matching.{matches}
+use Rattle.regress_tree.specs.Setting.{Setting}
+use Rattle.regress_unicode.specs.SmallTable.{small_table}
+use Rattle.regress_tree.specs.Tree.{Tree, leaf, empty, char, byte_sequence, anchor, bracket, back_ref, string_set, cat, alt, wrapped, no_trees, more_trees, capture_group, loop, loop_one, lookaround}
+use Rattle.regress_tree.specs.Units.{loops, account, weight}
+
+abbrev plain : Setting
+plain = record {
+  flags = record { icase = false; multiline = false; dot_all = false; unicode = false; unicode_sets = false };
+  table = small_table;
+}
+
+-- `*`, `*?` and `{2}`
+abbrev star : Quantifier
+star = record { min = 0; max = None; greedy = true }
+
+abbrev lazy_star : Quantifier
+lazy_star = record { min = 0; max = None; greedy = false }
+
+abbrev twice : Quantifier
+twice = record { min = 2; max = Some 2; greedy = true }
+
+abbrev a : Tree
+a = leaf (char 97)
+
+abbrev b : Tree
+b = leaf (char 98)
+
+-- a state where nothing has captured
+abbrev at : ℕ → State
+at place = record { place = place; captures = [] }
+
+-- where one group has captured this
+abbrev with_group : ℕ → Option Span → State
+with_group place span = record { place = place; captures = span ∷ [] }
+
+-- ---- repetition
+
+-- `a*` over "aa" takes as many as it can, and then fewer
+greedy_star : matches plain (codes "aa") forwards (wrapped (loop star 0 0) a) (at 0) ≡ at 2 ∷ at 1 ∷ at 0 ∷ []
+unfolding one_character chars encode character_at read_after repeat same_state
+greedy_star = refl
+
+-- `a*?` over "aa" takes as few as it can, and then more
+lazy_one : matches plain (codes "aa") forwards (wrapped (loop_one lazy_star) a) (at 0) ≡ at 0 ∷ at 1 ∷ at 2 ∷ []
+unfolding one_character chars encode character_at read_after repeat same_state
+lazy_one = refl
+
+-- backwards from the end
+star_backwards : matches plain (codes "aa") backwards (wrapped (loop star 0 0) a) (at 2) ≡ at 0 ∷ at 1 ∷ at 2 ∷ []
+unfolding one_character chars encode character_at read_before repeat same_state
+star_backwards = refl
+
+-- `(?:|a)*` over "a": a turn that does not move is dropped
+empty_turns_are_dropped : matches plain (codes "a") forwards (wrapped (loop star 0 0) (alt (leaf empty) a)) (at 0) ≡ at 1 ∷ at 0 ∷ []
+unfolding one_character chars encode character_at read_after repeat same_state
+empty_turns_are_dropped = refl
+
+-- `(?:|a){2}` over "a": a turn of the least number may be empty
+least_turns_may_be_empty : matches plain (codes "a") forwards (wrapped (loop twice 0 0) (alt (leaf empty) a)) (at 0) ≡ at 0 ∷ at 1 ∷ []
+unfolding one_character chars encode character_at read_after repeat same_state
+least_turns_may_be_empty = refl
+
+-- `(?:(a)|b)*` over "ab": the second turn forgets what the group captured in the first
+turns_forget : matches plain (codes "ab") forwards (wrapped (loop star 0 1) (alt (wrapped (capture_group 0 None) a) b)) (with_group 0 None)
+    ≡ with_group 2 None ∷ with_group 1 (Some (0, 1)) ∷ with_group 0 None ∷ []
+unfolding one_character chars encode character_at read_after capture repeat same_state
+turns_forget = refl
+
+-- the groups around the range keep what they have captured
+unset_middle : unset 1 2 (record { place = 5; captures = Some (0, 1) ∷ Some (1, 2) ∷ Some (2, 3) ∷ [] })
+    ≡ record { place = 5; captures = Some (0, 1) ∷ None ∷ Some (2, 3) ∷ [] }
+unset_middle = refl
+
+-- ---- anchors and boundaries
+
+-- `^` and `$` in "a", a line feed, "b": the ends, and with `multiline` also the ends of a line
+abbrev starts : (multiline : Bool) → List Bool
+starts multiline = map (at_anchor (of_characters (97 ∷ 10 ∷ 98 ∷ [])) StartOfLine multiline) (0 ∷ 1 ∷ 2 ∷ 3 ∷ [])
+
+abbrev ends : (multiline : Bool) → List Bool
+ends multiline = map (at_anchor (of_characters (97 ∷ 10 ∷ 98 ∷ [])) EndOfLine multiline) (0 ∷ 1 ∷ 2 ∷ 3 ∷ [])
+
+one_start : starts false ≡ true ∷ false ∷ false ∷ false ∷ []
+one_start = refl
+
+line_starts : starts true ≡ true ∷ false ∷ true ∷ false ∷ []
+unfolding is_member is_within
+line_starts = refl
+
+one_end : ends false ≡ false ∷ false ∷ false ∷ true ∷ []
+one_end = refl
+
+line_ends : ends true ≡ false ∷ true ∷ false ∷ true ∷ []
+unfolding is_member is_within
+line_ends = refl
+
+-- a tree's anchor asks the bytes: behind U+2028, three bytes, a line starts
+behind_a_separator : matches plain (0xE2 ∷ 0x80 ∷ 0xA8 ∷ []) forwards (leaf (anchor StartOfLine true)) (at 3) ≡ at 3 ∷ []
+unfolding is_member is_within hold_at chars encode character_at read_before same_state
+behind_a_separator = refl
+
+-- in "a-": a boundary before and behind the letter, none at the end
+abbrev boundaries : (invert : Bool) → List Bool
+boundaries invert = map (at_boundary (of_characters (codes "a-")) (is_word_character small_table false) invert) (0 ∷ 1 ∷ 2 ∷ [])
+
+at_boundaries : boundaries false ≡ true ∷ true ∷ false ∷ []
+unfolding is_member is_within
+at_boundaries = refl
+
+off_boundaries : boundaries true ≡ false ∷ false ∷ true ∷ []
+unfolding is_member is_within
+off_boundaries = refl
+
+-- with `unicode_icase` U+017F and U+212A, which fold to s and k, are in the word set
+words_in_either_case : map (is_word_character small_table true) (0x17F ∷ 0x212A ∷ 0x2D ∷ []) ≡ true ∷ true ∷ false ∷ []
+unfolding is_in_closure small_table image
+words_in_either_case = refl
+
+words_as_they_stand : map (is_word_character small_table false) (0x17F ∷ 0x5F ∷ 0x2D ∷ []) ≡ false ∷ true ∷ false ∷ []
+unfolding is_member is_within
+words_as_they_stand = refl
+
+-- ---- lookarounds
+
+-- `(?=(a))` in "ab": the place stays, and what the group has captured
+a_look_captures : matches plain (codes "ab") forwards (wrapped (lookaround false false 0 1) (wrapped (capture_group 0 None) a)) (with_group 0 None)
+    ≡ with_group 0 (Some (0, 1)) ∷ []
+unfolding one_character chars encode character_at read_after capture look same_state
+a_look_captures = refl
+
+-- `(?=a*)` in "aa" gives the first outcome of its body alone
+one_outcome : matches plain (codes "aa") forwards (wrapped (lookaround false false 0 0) (wrapped (loop star 0 0) a)) (at 0) ≡ at 0 ∷ []
+unfolding one_character chars encode character_at read_after repeat look same_state
+one_outcome = refl
+
+-- `(?!b)` in "ab"
+no_b_ahead : matches plain (codes "ab") forwards (wrapped (lookaround true false 0 0) b) (at 0) ≡ at 0 ∷ []
+unfolding one_character chars encode character_at read_after look same_state
+no_b_ahead = refl
+
+b_ahead : matches plain (codes "ab") forwards (wrapped (lookaround true false 0 0) b) (at 1) ≡ []
+unfolding one_character chars encode character_at read_after look
+b_ahead = refl
+
+-- `(?<=ab)` behind "ab": the parts of its body stand turned, and it looks backwards where the whole goes forwards
+abbrev behind_ab : Tree
+behind_ab = wrapped (lookaround false true 0 0) (cat (more_trees b (more_trees a no_trees)))
+
+ab_behind : matches plain (codes "ab") forwards behind_ab (at 2) ≡ at 2 ∷ []
+unfolding one_character chars encode character_at read_before look same_state
+ab_behind = refl
+
+no_ab_behind : matches plain (codes "ab") forwards behind_ab (at 1) ≡ []
+unfolding one_character chars encode character_at read_before look
+no_ab_behind = refl
+
+-- `(?=a)` looks forwards, also where the whole goes backwards
+ahead_in_a_lookbehind : matches plain (codes "ab") backwards (wrapped (lookaround false false 0 0) a) (at 0) ≡ at 0 ∷ []
+unfolding one_character chars encode character_at read_after look same_state
+ahead_in_a_lookbehind = refl
+
+-- ---- references
+
+-- `\1` where the group has captured nothing, or there is none
+unset_group : matches plain (codes "a") forwards (leaf (back_ref 1 false)) (with_group 0 None) ≡ with_group 0 None ∷ []
+unfolding back_reference same_state
+unset_group = refl
+
+no_such_group : matches plain (codes "a") backwards (leaf (back_ref 2 false)) (with_group 1 (Some (0, 1))) ≡ with_group 1 (Some (0, 1)) ∷ []
+unfolding back_reference same_state
+no_such_group = refl
+
+-- U+E9 and U+1F600 twice, of two bytes and of four
+abbrev two_twice : List ℕ
+two_twice = 0xC3 ∷ 0xA9 ∷ 0xF0 ∷ 0x9F ∷ 0x98 ∷ 0x80 ∷ 0xC3 ∷ 0xA9 ∷ 0xF0 ∷ 0x9F ∷ 0x98 ∷ 0x80 ∷ []
+
+two_behind : matches plain two_twice forwards (leaf (back_ref 1 false)) (with_group 6 (Some (0, 6))) ≡ with_group 12 (Some (0, 6)) ∷ []
+unfolding one_character chars encode character_at read_after back_reference same_state
+two_behind = refl
+
+two_before : matches plain two_twice backwards (leaf (back_ref 1 false)) (with_group 6 (Some (6, 12))) ≡ with_group 0 (Some (6, 12)) ∷ []
+unfolding one_character chars encode character_at read_after read_before back_reference same_state
+two_before = refl
+
+-- from another place, other characters stand there
+others_behind : matches plain two_twice forwards (leaf (back_ref 1 false)) (with_group 2 (Some (0, 6))) ≡ []
+unfolding one_character chars encode character_at read_after back_reference
+others_behind = refl
+
+-- with `icase` a letter in its other case
+in_either_case : matches plain (codes "aA") forwards (leaf (back_ref 1 true)) (with_group 1 (Some (0, 1))) ≡ with_group 2 (Some (0, 1)) ∷ []
+unfolding one_character chars encode character_at read_after back_reference same_state small_table image
+in_either_case = refl
+
+in_one_case : matches plain (codes "aA") forwards (leaf (back_ref 1 false)) (with_group 1 (Some (0, 1))) ≡ []
+unfolding one_character chars encode character_at read_after back_reference
+in_one_case = refl
+
+-- ---- sets of strings
+
+-- "ab" and "a", of which one is the front of the other, in the order in which they stand
+longer_first : matches plain (codes "ab") forwards (leaf (string_set (codes "ab" ∷ codes "a" ∷ []) false)) (at 0) ≡ at 2 ∷ at 1 ∷ []
+unfolding one_character chars encode character_at read_after any_string same_state
+longer_first = refl
+
+shorter_first : matches plain (codes "ab") forwards (leaf (string_set (codes "a" ∷ codes "ab" ∷ []) false)) (at 0) ≡ at 1 ∷ at 2 ∷ []
+unfolding one_character chars encode character_at read_after any_string same_state
+shorter_first = refl
+
+-- before the place each string stands as it is written
+strings_before : matches plain (codes "ab") backwards (leaf (string_set (codes "ab" ∷ codes "ba" ∷ codes "b" ∷ []) false)) (at 2) ≡ at 0 ∷ at 1 ∷ []
+unfolding one_character chars encode character_at read_before any_string same_state
+strings_before = refl
+
+-- with `icase` letters in their other case
+strings_in_either_case : matches plain (codes "Ab") forwards (leaf (string_set (codes "aB" ∷ []) true)) (at 0) ≡ at 2 ∷ []
+unfolding one_character chars encode character_at read_after any_string same_state small_table image
+strings_in_either_case = refl
+
+strings_in_one_case : matches plain (codes "Ab") forwards (leaf (string_set (codes "aB" ∷ []) false)) (at 0) ≡ []
+unfolding one_character chars encode character_at read_after any_string
+strings_in_one_case = refl
+
+-- a set of none, and an empty string
+no_string : matches plain (codes "a") forwards (leaf (string_set [] false)) (at 0) ≡ []
+unfolding any_string
+no_string = refl
+
+an_empty_string : matches plain (codes "a") forwards (leaf (string_set ([] ∷ []) false)) (at 0) ≡ at 0 ∷ []
+unfolding any_string same_state
+an_empty_string = refl
+
+-- ---- bytes and brackets
+
+-- a byte sequence compares its bytes as they stand, behind the place or before it
+bytes_behind : matches plain (codes "abab") forwards (leaf (byte_sequence (codes "ab"))) (at 2) ≡ at 4 ∷ []
+unfolding these_bytes same_state
+bytes_behind = refl
+
+bytes_before : matches plain (codes "abab") backwards (leaf (byte_sequence (codes "ab"))) (at 2) ≡ at 0 ∷ []
+unfolding these_bytes same_state
+bytes_before = refl
+
+other_bytes_before : matches plain (codes "abab") backwards (leaf (byte_sequence (codes "ab"))) (at 3) ≡ []
+unfolding these_bytes
+other_bytes_before = refl
+
+too_few_bytes_before : matches plain (codes "abab") backwards (leaf (byte_sequence (codes "ab"))) (at 1) ≡ []
+unfolding these_bytes
+too_few_bytes_before = refl
+
+-- `[^\d]` takes a letter, and no digit
+letter_is_no_digit : matches plain (codes "a1") forwards (leaf (bracket true digits)) (at 0) ≡ at 1 ∷ []
+unfolding is_member is_within one_character chars encode character_at read_after same_state
+letter_is_no_digit = refl
+
+digit_is_one : matches plain (codes "a1") forwards (leaf (bracket true digits)) (at 1) ≡ []
+unfolding is_member is_within one_character chars encode character_at read_after
+digit_is_one = refl
+
+-- ---- sizes
+
+-- a loop may be unrolled where its least number is not 0, and then its account holds what that may add
+star_stays : loops (wrapped (loop star 0 0) a) ≡ 0
+star_stays = refl
+
+twice_is_unrolled : loops (wrapped (loop twice 0 0) (wrapped (loop_one twice) a)) ≡ 1
+twice_is_unrolled = refl
+
+account_of_twice : account (wrapped (loop twice 0 0) a) ≡ 6407
+account_of_twice = refl
+
+weights : weight (wrapped (loop star 0 0) (wrapped (loop_one star) (leaf (bracket false digits)))) ≡ 10
+weights = refl

@@ -1,0 +1,223 @@
+-- The pieces of literals in a row match what the literals do, and stand apart.
+use Rattle.std.proofs.Common.{◌≡◌, ◌≢◌, ℕ, ◌+◌, ◌<◌, ◌≤◌, Bool, true, false, cond, List, [], ◌∷◌, ◌++◌, length, drop, slice_index, map, flat_map, encode_utf8_all, refl, sym, ap, ◌∙◌, ⊎_elim, append-nil, append_assoc}
+use mathlib.Core.Path.{fun_ext}
+use Rattle.std.proofs.lemmas.Bool.{false≢true, cond-true, cond-false, cond_both, cases_Bool}
+use Rattle.std.proofs.lemmas.List.{drop_more}
+use Rattle.std.specs.Char.{encode_utf8}
+use Rattle.regress_base.specs.Intervals.{code_point_max}
+use Rattle.regress_base.specs.Listing.{lists, IsListing}
+use Rattle.regress_literal.specs.Literal.{piece_of, is_character, bytes_piece, lowered_behind, lowered, literal_steps, AreApart, MeanLiterals}
+use Rattle.regress_tree.specs.Matching.{leaf_steps, steps_in_row}
+use Rattle.regress_tree.specs.Setting.{Setting}
+use Rattle.regress_tree.specs.Reading.{forwards, IsText, of_bytes}
+use Rattle.regress_tree.specs.Steps.{State, Step, stay, ◌then_◌, one_character, these_bytes}
+use Rattle.regress_base.specs.Table.{Table, stands_for, class_of}
+use Rattle.regress_tree.specs.SmallSets.{is_ascii}
+use Rattle.regress_tree.specs.Tree.{Leaf, byte_sequence, byte_set, char_set, leaf, row}
+use Rattle.regress_tree.proofs.laws.ByteSequences.{these_bytes-nil, these_bytes-append, these_bytes-one}
+use Rattle.regress_base.proofs.laws.Literals.{listing_is_listed, class_of-some}
+use Rattle.regress_tree.proofs.laws.Literals.{char-steps, class_of-steps}
+use Rattle.regress_tree.proofs.laws.Outcomes.{flat_map-stay, flat_map-then}
+use Rattle.regress_tree.proofs.laws.Simulation.{Simulates, Simulates-same_right, Simulates-stay, Simulates-then, Simulates-one_character}
+
+-- ---- what they match
+
+module _ (setting : Setting) (bytes : List ℕ) where
+  abbrev leaves_steps : List Leaf → Step
+  leaves_steps leaves = steps_in_row setting bytes forwards (row (map leaf leaves))
+
+  leaves-append : (xs ys : List Leaf) (s : State) → leaves_steps (xs ++ ys) s ≡ (leaves_steps xs then_ leaves_steps ys) s
+  leaves-append [] ys s = sym (append-nil _)
+  leaves-append (l ∷ xs) ys s =
+      ap (λ f. flat_map f (leaf_steps setting bytes forwards l s)) (fun_ext (leaves-append xs ys))
+      ∙ flat_map-then (leaves_steps xs) (leaves_steps ys) (leaf_steps setting bytes forwards l s)
+
+  bytes_piece-steps : (written : List ℕ) (s : State) → leaves_steps (bytes_piece written) s ≡ these_bytes forwards bytes written s
+  bytes_piece-steps [] s = sym (these_bytes-nil bytes s)
+  bytes_piece-steps (b ∷ written) s = flat_map-stay (these_bytes forwards bytes (b ∷ written) s)
+
+  -- nothing stands before
+  nothing_then : (f : Step) (s : State) → (these_bytes forwards bytes [] then_ f) s ≡ f s
+  nothing_then f s = ap (flat_map f) (these_bytes-nil bytes s) ∙ append-nil (f s)
+
+  -- each piece of a class takes one of its members
+  piece_of-steps : (class : List ℕ) (s : State) →
+      leaf_steps setting bytes forwards (piece_of class) s ≡ one_character forwards (of_bytes bytes) (lists class) s
+  piece_of-steps [] s = refl
+  piece_of-steps (c ∷ []) s = char-steps setting bytes forwards c s
+  piece_of-steps (c ∷ e ∷ rest) s = by_test (is_ascii (c ∷ e ∷ rest))
+    where
+      by_test : (b : Bool) →
+          leaf_steps setting bytes forwards (cond b (byte_set (c ∷ e ∷ rest)) (char_set (c ∷ e ∷ rest))) s
+          ≡ one_character forwards (of_bytes bytes) (lists (c ∷ e ∷ rest)) s
+      by_test true = refl
+      by_test false = refl
+
+  character-steps : (class : List ℕ) (s : State) → is_character class ≡ true →
+      these_bytes forwards bytes (encode_utf8_all class) s ≡ one_character forwards (of_bytes bytes) (lists class) s
+  character-steps [] s h = absurd (false≢true h)
+  character-steps (c ∷ []) s h =
+      ap (λ written. these_bytes forwards bytes written s) (append-nil (encode_utf8 c))
+      ∙ these_bytes-one bytes c h s ∙ char-steps setting bytes forwards c s
+  character-steps (c ∷ d ∷ rest) s h = absurd (false≢true h)
+
+  module _ (table : Table) (icase unicode : Bool) where
+    -- the literals over the bytes
+    abbrev over_bytes : List ℕ → Step
+    over_bytes [] = stay
+    over_bytes (c ∷ cs) = one_character forwards (of_bytes bytes) (stands_for table icase unicode c) then_ over_bytes cs
+
+    lowered-steps : (written cs : List ℕ) (s : State) →
+        leaves_steps (lowered_behind table icase unicode written cs) s ≡ (these_bytes forwards bytes written then_ over_bytes cs) s
+    lowered-steps written [] s = bytes_piece-steps written s ∙ sym (flat_map-stay (these_bytes forwards bytes written s))
+    lowered-steps written (c ∷ cs) s =
+        let class = class_of table icase unicode c in
+        let rest = lowered_behind table icase unicode [] cs in
+        let before = these_bytes forwards bytes written s in
+        ⊎_elim
+        (λ (one : is_character class ≡ true).
+        ap (λ leaves. leaves_steps leaves s) (cond-true _ _ _ one)
+        ∙ lowered-steps (written ++ encode_utf8_all class) cs s
+        ∙ ap (flat_map (over_bytes cs)) (these_bytes-append bytes written (encode_utf8_all class) s)
+        ∙ sym (flat_map-then (these_bytes forwards bytes (encode_utf8_all class)) (over_bytes cs) before)
+        ∙ ap (λ (f : Step). flat_map (f then_ over_bytes cs) before)
+        (fun_ext (λ t. character-steps class t one ∙ class_of-steps setting bytes forwards table icase unicode c t)))
+        (λ (several : is_character class ≡ false).
+        ap (λ leaves. leaves_steps leaves s) (cond-false _ _ _ several)
+        ∙ leaves-append (bytes_piece written) (piece_of class ∷ rest) s
+        ∙ ap (flat_map (leaves_steps (piece_of class ∷ rest))) (bytes_piece-steps written s)
+        ∙ ap (λ (f : Step). flat_map f before)
+        (fun_ext (λ t.
+        ap (λ (f : Step). flat_map f (leaf_steps setting bytes forwards (piece_of class) t))
+        (fun_ext (λ u. lowered-steps [] cs u ∙ nothing_then (over_bytes cs) u))
+        ∙ ap (flat_map (over_bytes cs))
+        (piece_of-steps class t ∙ class_of-steps setting bytes forwards table icase unicode c t))))
+        (cases_Bool (is_character class))
+
+module _ (table : Table) (icase unicode : Bool) (setting : Setting) (text : List ℕ) (is_text : IsText text) where
+  literals_simulate : (cs : List ℕ) →
+      Simulates text forwards (literal_steps table icase unicode text cs) (over_bytes setting (encode_utf8_all text) table icase unicode cs)
+  literals_simulate [] = Simulates-stay text forwards
+  literals_simulate (c ∷ cs) =
+      Simulates-then text forwards _ _ _ _ (Simulates-one_character text is_text forwards (stands_for table icase unicode c))
+      (literals_simulate cs)
+
+  -- forwards the pieces in a row do over the bytes what the literals do over the characters
+  pub lowered_simulates : (cs : List ℕ) →
+      Simulates text forwards (literal_steps table icase unicode text cs)
+      (steps_in_row setting (encode_utf8_all text) forwards (row (map leaf (lowered table icase unicode cs))))
+  lowered_simulates cs =
+      Simulates-same_right text forwards _ _ _
+      (λ s. lowered-steps setting (encode_utf8_all text) table icase unicode [] cs s
+      ∙ nothing_then setting (encode_utf8_all text) (over_bytes setting (encode_utf8_all text) table icase unicode cs) s)
+      (literals_simulate cs)
+
+pub lowered-mean : (table : Table) (icase unicode : Bool) (cs : List ℕ) →
+    MeanLiterals table icase unicode cs (lowered table icase unicode cs)
+lowered-mean table icase unicode cs setting text s is_text in' = (lowered_simulates table icase unicode setting text is_text cs).same s in'
+
+-- ---- that they stand apart
+
+abbrev IsNoSequence : Leaf → Type 0
+IsNoSequence l = (bytes : List ℕ) → l ≢ byte_sequence bytes
+
+piece_of-no_sequence : (class : List ℕ) → IsNoSequence (piece_of class)
+piece_of-no_sequence [] bytes e = cc
+piece_of-no_sequence (c ∷ []) bytes e = cc
+piece_of-no_sequence (c ∷ d ∷ rest) bytes e = by_test (is_ascii (c ∷ d ∷ rest)) e
+  where
+    by_test : (b : Bool) → cond b (byte_set (c ∷ d ∷ rest)) (char_set (c ∷ d ∷ rest)) ≡ byte_sequence bytes → ⊥
+    by_test true e = cc
+    by_test false e = cc
+
+apart-none : AreApart []
+apart-none [] behind bytes next e = cc
+apart-none (l ∷ front) behind bytes next e = cc
+
+apart-piece : (l : Leaf) (leaves : List Leaf) → IsNoSequence l → AreApart leaves → AreApart (l ∷ leaves)
+apart-piece l leaves alone apart [] behind bytes next e = let same : l ≡ byte_sequence bytes = cc in alone bytes same
+apart-piece l leaves alone apart (first ∷ front) behind bytes next e =
+    let rest : leaves ≡ front ++ byte_sequence bytes ∷ byte_sequence next ∷ behind = cc in apart front behind bytes next rest
+
+apart-sequence : (written : List ℕ) → AreApart (byte_sequence written ∷ [])
+apart-sequence written [] behind bytes next e = cc
+apart-sequence written (first ∷ front) behind bytes next e =
+    let rest : [] ≡ front ++ byte_sequence bytes ∷ byte_sequence next ∷ behind = cc in apart-none front behind bytes next rest
+
+apart-behind : (written : List ℕ) (l : Leaf) (leaves : List Leaf) → IsNoSequence l → AreApart (l ∷ leaves) →
+    AreApart (byte_sequence written ∷ l ∷ leaves)
+apart-behind written l leaves alone apart [] behind bytes next e = let same : l ≡ byte_sequence next = cc in alone next same
+apart-behind written l leaves alone apart (first ∷ front) behind bytes next e =
+    let rest : l ∷ leaves ≡ front ++ byte_sequence bytes ∷ byte_sequence next ∷ behind = cc in apart front behind bytes next rest
+
+apart-bytes : (written : List ℕ) → AreApart (bytes_piece written)
+apart-bytes [] = apart-none
+apart-bytes (b ∷ written) = apart-sequence (b ∷ written)
+
+apart-bytes_behind : (written : List ℕ) (l : Leaf) (leaves : List Leaf) → IsNoSequence l → AreApart leaves →
+    AreApart (bytes_piece written ++ l ∷ leaves)
+apart-bytes_behind [] l leaves alone apart = apart-piece l leaves alone apart
+apart-bytes_behind (b ∷ written) l leaves alone apart = apart-behind (b ∷ written) l leaves alone (apart-piece l leaves alone apart)
+
+module _ (table : Table) (icase unicode : Bool) where
+  lowered_behind-apart : (written cs : List ℕ) → AreApart (lowered_behind table icase unicode written cs)
+  lowered_behind-apart written [] = apart-bytes written
+  lowered_behind-apart written (c ∷ cs) =
+      let class = class_of table icase unicode c in
+      cond_both (is_character class) _ _ AreApart
+      (λ one. lowered_behind-apart (written ++ encode_utf8_all class) cs)
+      (λ several. apart-bytes_behind written (piece_of class) _ (piece_of-no_sequence class) (lowered_behind-apart [] cs))
+
+  pub lowered-apart : (cs : List ℕ) → AreApart (lowered table icase unicode cs)
+  lowered-apart cs = lowered_behind-apart [] cs
+
+  -- ---- one literal more
+
+  lowered-character : (written : List ℕ) (c ch : ℕ) (cs : List ℕ) → class_of table icase unicode c ≡ ch ∷ [] →
+      is_character (ch ∷ []) ≡ true →
+      lowered_behind table icase unicode written (c ∷ cs) ≡ lowered_behind table icase unicode (written ++ encode_utf8 ch) cs
+  lowered-character written c ch cs one h =
+      cond-true _ _ _ (ap is_character one ∙ h)
+      ∙ ap (λ bytes. lowered_behind table icase unicode (written ++ bytes) cs) (ap encode_utf8_all one ∙ append-nil (encode_utf8 ch))
+
+  lowered-piece : (written : List ℕ) (c : ℕ) (cs : List ℕ) → is_character (class_of table icase unicode c) ≡ false →
+      lowered_behind table icase unicode written (c ∷ cs)
+      ≡ bytes_piece written ++ piece_of (class_of table icase unicode c) ∷ lowered_behind table icase unicode [] cs
+  lowered-piece written c cs h = cond-false _ _ _ h
+
+  -- the pieces found, and those of the literals from i on behind these bytes, are the pieces of all
+  abbrev pub AreFound : List Leaf → List ℕ → List ℕ → ℕ → Type 0
+  AreFound found written cps i = found ++ lowered_behind table icase unicode written (drop i cps) ≡ lowered table icase unicode cps
+
+  module _
+      (found : List Leaf) (written cps : List ℕ) (i : ℕ) (so_far : AreFound found written cps i) (within : i < length cps)
+      (class : List ℕ) (listing : IsListing (stands_for table icase unicode (slice_index cps i)) class)
+    where
+      at_place : found ++ lowered_behind table icase unicode written (slice_index cps i ∷ drop (i + 1) cps)
+          ≡ lowered table icase unicode cps
+      at_place = ap (λ rest. found ++ lowered_behind table icase unicode written rest) (sym (drop_more cps i 0 within)) ∙ so_far
+
+      its_class : class ≡ class_of table icase unicode (slice_index cps i)
+      its_class = listing_is_listed (stands_for table icase unicode (slice_index cps i)) class listing
+
+      pub step_character : (ch : ℕ) → class ≡ ch ∷ [] → is_character class ≡ true →
+          AreFound found (written ++ encode_utf8 ch) cps (i + 1)
+      step_character ch one h =
+          ap (λ leaves. found ++ leaves)
+          (sym (lowered-character written (slice_index cps i) ch (drop (i + 1) cps) (sym its_class ∙ one)
+          (ap is_character (sym one) ∙ h)))
+          ∙ at_place
+
+      pub step_piece : is_character class ≡ false →
+          AreFound ((found ++ bytes_piece written) ++ piece_of class ∷ []) [] cps (i + 1)
+      step_piece h =
+          let rest = lowered_behind table icase unicode [] (drop (i + 1) cps) in
+          append_assoc (found ++ bytes_piece written) (piece_of class ∷ []) rest
+          ∙ append_assoc found (bytes_piece written) (piece_of class ∷ rest)
+          ∙ ap (λ members. found ++ (bytes_piece written ++ piece_of members ∷ rest)) its_class
+          ∙ ap (λ leaves. found ++ leaves)
+          (sym (lowered-piece written (slice_index cps i) (drop (i + 1) cps) (ap is_character (sym its_class) ∙ h)))
+          ∙ at_place
+
+      pub class-some : slice_index cps i ≤ code_point_max → class ≢ []
+      class-some h none = class_of-some table icase unicode (slice_index cps i) h (sym its_class ∙ none)
