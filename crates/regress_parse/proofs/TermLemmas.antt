@@ -29,7 +29,6 @@ pub front_is : (k : ℕ) (t rest : Source) → is_at k t ≡ true → rest ≡ d
 front_is k [] rest e same = cc
 front_is k (c ∷ t) rest e same = ap₂ (λ d u. d ∷ u) (eqb-true c k e) (sym same)
 
-
 module _ (table : Table) (names : List (Option Name)) (ctx : Context) where
   -- no pattern fits where no level is left
   pub too_deep : (before : Counts) (depth : ℕ) (found : Found Pattern) → max_nesting_depth ≤ depth →
