@@ -31,6 +31,7 @@ use Rattle.regress_normalize.specs.declared.facts.RowFacts.{RowFacts}
 use Rattle.regress_normalize.specs.declared.wrapper.LoopForm.{LoopForm}
 use Rattle.regress_normalize.specs.declared.wrapper.LoopForm.TheVariants.{OneCharacter, Empty, AlwaysFails, Stays}
 use Rattle.regress_normalize.specs.declared.wrapper.LoopPlan.{LoopPlan}
+use Rattle.regress_normalize.proofs.NormalLemmas.{empty_normal, nothing_normal}
 use Rattle.regress_normalize.proofs.PackedLemmas.{RowIsNormal-append}
 
 -- ---- what is finished
@@ -87,35 +88,13 @@ module _ (clean : Type 0) (d : Direction) (t : Tree) where
 
 -- ---- a loop that is not unrolled
 
-IsNormal-empty : IsNormal (leaf empty)
-IsNormal-empty = record {
-  simplified = refl;
-  flattened = refl;
-  unrolled = refl;
-  promoted = refl;
-  formed = refl;
-  emptied = refl;
-  failed = refl;
-}
-
-IsNormal-nothing : IsNormal (leaf (byte_set []))
-IsNormal-nothing = record {
-  simplified = refl;
-  flattened = refl;
-  unrolled = refl;
-  promoted = refl;
-  formed = refl;
-  emptied = refl;
-  failed = refl;
-}
-
 -- what is emptied becomes `Empty`
 pub emptied_finished : (clean : Type 0) (d : Direction) (t : Tree) → (clean → IsNormal t) → is_cat t ≡ false → is_emptied_away t ≡ true → IsPart t →
     (facts : PartFacts) → HasFacts facts (leaf empty) → Finished clean d t (leaf empty) (Ok facts)
 emptied_finished clean d t normal other is part facts has =
     finished-changed clean d t
     (λ is_clean. true≢false (sym is ∙ LacksShape-here is_emptied_away t (normal is_clean).emptied))
-    (leaf empty) facts (emptied_keeps d t other is part) IsNormal-empty has
+    (leaf empty) facts (emptied_keeps d t other is part) empty_normal has
 
 module _ (facts : PartFacts) (q : Quantifier) (start end : ℕ) (body : Tree) (normal : IsNormal body) (has : HasFacts facts body) where
   abbrev around : Tree
@@ -152,7 +131,7 @@ module _ (facts : PartFacts) (q : Quantifier) (start end : ℕ) (body : Tree) (n
         (λ clean. true≢false
         (sym (and_from (fails_by_part around) (not (has_group around)) takes.0 (ap not takes.1))
         ∙ LacksShape-here is_failed_away around clean.0.failed))
-        (leaf (byte_set [])) new (fails_keeps d around refl takes.0 takes.1 part) IsNormal-nothing new_has
+        (leaf (byte_set [])) new (fails_keeps d around refl takes.0 takes.1 part) nothing_normal new_has
     form_finished Stays takes new_has many stays = record {
       keeps = Keeps-refl d around;
       normal = IsNormal-wrapped (loop q start end) body normal
