@@ -8,7 +8,7 @@ use Rattle.regress_tree.specs.Measures.{total_in_row, levels, levels_of_deepest}
 use Rattle.regress_tree.specs.NodeTests.{is_empty, match_always_fails}
 use Rattle.regress_tree.specs.NormalForm.{IsNormal}
 use Rattle.regress_tree.specs.Reading.{Direction}
-use Rattle.regress_tree.specs.Shapes.{on_leaf, on_wrapper, some_node, some_node_in_row, some_in_row, has_group, is_group, is_loop, is_string_set, has_cat, is_short, RowLacksShape, is_simplified_away, is_flattened_away, is_unrolled_away, is_promoted_away, is_formed_away, is_emptied_away, is_failed_away}
+use Rattle.regress_tree.specs.Shapes.{on_leaf, on_wrapper, some_node, some_node_in_row, some_in_row, has_group, is_group, is_loop, is_string_set, has_cat, is_short, RowLacksShape, is_flattened_away, is_formed_away, is_emptied_away, is_failed_away}
 use Rattle.regress_tree.specs.Tree.{Wrapper, Tree, Trees, leaf, empty, byte_set, cat, alt, wrapped, no_trees, more_trees}
 use Rattle.regress_tree.specs.Units.{charges}
 use Rattle.regress_tree.proofs.laws.Measures.{some_node-append, LacksShape-here, LacksShape-inside, LacksShape-from}
@@ -22,97 +22,41 @@ use Rattle.regress_normalize.specs.Packed.{IsPacked, IsRowPacked, IsFactsOf}
 use Rattle.regress_normalize.specs.PartFacts.{HasFacts, HasRowFacts}
 use Rattle.regress_normalize.specs.declared.facts.PartFacts.{PartFacts}
 use Rattle.regress_normalize.specs.declared.facts.RowFacts.{RowFacts}
-use Rattle.regress_normalize.proofs.PackedLemmas.{some_in_row-append, has_cat-append, RowIsNormal-append}
+use Rattle.regress_normalize.proofs.NormalLemmas.{Kind, simplified, flattened, unrolled, promoted, formed, emptied, failed, shape, lacks, normal_from, empty_normal, nothing_normal}
+use Rattle.regress_normalize.proofs.PackedLemmas.{some_in_row-append, has_cat-append, RowIsNormal-append, and_false}
 
 -- ---- rows of parts in normal form
 
--- no node of the row has a shape that a rewrite removes
-record IsNormalRow (ts : Trees) : Type 0 where
-  simplified : RowLacksShape is_simplified_away ts
-  flattened : RowLacksShape is_flattened_away ts
-  unrolled : RowLacksShape is_unrolled_away ts
-  promoted : RowLacksShape is_promoted_away ts
-  formed : RowLacksShape is_formed_away ts
-  emptied : RowLacksShape is_emptied_away ts
-  failed : RowLacksShape is_failed_away ts
+-- no node of the row has a shape of any kind
+abbrev IsNormalRow : Trees → Type 0
+IsNormalRow ts = (k : Kind) → RowLacksShape (shape k) ts
 
 each_normal : (ts : Trees) → IsNormalRow ts → RowIsNormal ts
 each_normal no_trees all = tt
-each_normal (more_trees t ts) all =
-    let simplified = or_parts (some_node is_simplified_away t) (some_node_in_row is_simplified_away ts) all.simplified in
-    let flattened = or_parts (some_node is_flattened_away t) (some_node_in_row is_flattened_away ts) all.flattened in
-    let unrolled = or_parts (some_node is_unrolled_away t) (some_node_in_row is_unrolled_away ts) all.unrolled in
-    let promoted = or_parts (some_node is_promoted_away t) (some_node_in_row is_promoted_away ts) all.promoted in
-    let formed = or_parts (some_node is_formed_away t) (some_node_in_row is_formed_away ts) all.formed in
-    let emptied = or_parts (some_node is_emptied_away t) (some_node_in_row is_emptied_away ts) all.emptied in
-    let failed = or_parts (some_node is_failed_away t) (some_node_in_row is_failed_away ts) all.failed in (
-      record {
-        simplified = simplified.0;
-        flattened = flattened.0;
-        unrolled = unrolled.0;
-        promoted = promoted.0;
-        formed = formed.0;
-        emptied = emptied.0;
-        failed = failed.0;
-      },
-      each_normal ts (record {
-        simplified = simplified.1;
-        flattened = flattened.1;
-        unrolled = unrolled.1;
-        promoted = promoted.1;
-        formed = formed.1;
-        emptied = emptied.1;
-        failed = failed.1;
-      }),
-    )
+each_normal (more_trees t ts) all = (
+  normal_from t (λ k. (or_parts (some_node (shape k) t) (some_node_in_row (shape k) ts) (all k)).0),
+  each_normal ts (λ k. (or_parts (some_node (shape k) t) (some_node_in_row (shape k) ts) (all k)).1),
+)
 
 all_normal : (ts : Trees) → RowIsNormal ts → IsNormalRow ts
-all_normal no_trees each = record {
-  simplified = refl;
-  flattened = refl;
-  unrolled = refl;
-  promoted = refl;
-  formed = refl;
-  emptied = refl;
-  failed = refl;
-}
-all_normal (more_trees t ts) each =
-    let here = each.0 in
-    let rest = all_normal ts each.1 in
-    record {
-      simplified = ap₂ ◌||◌ here.simplified rest.simplified;
-      flattened = ap₂ ◌||◌ here.flattened rest.flattened;
-      unrolled = ap₂ ◌||◌ here.unrolled rest.unrolled;
-      promoted = ap₂ ◌||◌ here.promoted rest.promoted;
-      formed = ap₂ ◌||◌ here.formed rest.formed;
-      emptied = ap₂ ◌||◌ here.emptied rest.emptied;
-      failed = ap₂ ◌||◌ here.failed rest.failed;
-    }
+all_normal no_trees each k = refl
+all_normal (more_trees t ts) each k = ap₂ ◌||◌ (lacks t each.0 k) (all_normal ts each.1 k)
 
 inside_normal : (ts : Trees) → IsNormal (cat ts) → IsNormalRow ts
-inside_normal ts normal = record {
-  simplified = LacksShape-inside is_simplified_away (cat ts) normal.simplified;
-  flattened = LacksShape-inside is_flattened_away (cat ts) normal.flattened;
-  unrolled = LacksShape-inside is_unrolled_away (cat ts) normal.unrolled;
-  promoted = LacksShape-inside is_promoted_away (cat ts) normal.promoted;
-  formed = LacksShape-inside is_formed_away (cat ts) normal.formed;
-  emptied = LacksShape-inside is_emptied_away (cat ts) normal.emptied;
-  failed = LacksShape-inside is_failed_away (cat ts) normal.failed;
-}
+inside_normal ts normal k = LacksShape-inside (shape k) (cat ts) (lacks (cat ts) normal k)
 
 cat_normal : (ts : Trees) → RowIsNormal ts → is_short ts ≡ false → has_cat ts ≡ false → IsPacked ts → is_failed_away (cat ts) ≡ false →
     IsNormal (cat ts)
-cat_normal ts each long no_cat packed fails =
-    let all = all_normal ts each in
-    record {
-      simplified = LacksShape-from is_simplified_away (cat ts) all.simplified refl;
-      flattened = LacksShape-from is_flattened_away (cat ts) all.flattened (ap₂ ◌||◌ long no_cat);
-      unrolled = LacksShape-from is_unrolled_away (cat ts) all.unrolled refl;
-      promoted = LacksShape-from is_promoted_away (cat ts) all.promoted refl;
-      formed = LacksShape-from is_formed_away (cat ts) all.formed packed.no_neighbours;
-      emptied = LacksShape-from is_emptied_away (cat ts) all.emptied packed.no_empty;
-      failed = LacksShape-from is_failed_away (cat ts) all.failed fails;
-    }
+cat_normal ts each long no_cat packed fails = normal_from (cat ts) (λ k. LacksShape-from (shape k) (cat ts) (all_normal ts each k) (here k))
+  where
+    here : (k : Kind) → shape k (cat ts) ≡ false
+    here simplified = refl
+    here flattened = ap₂ ◌||◌ long no_cat
+    here unrolled = refl
+    here promoted = refl
+    here formed = packed.no_neighbours
+    here emptied = packed.no_empty
+    here failed = fails
 
 -- what a `Cat` in normal form has
 record IsCleanRow (ts : Trees) : Type 0 where
@@ -315,15 +259,7 @@ module _ (d : Direction) (row : RowFacts) (ts : Trees) (given : AreParts row ts)
       let free : has_group (cat ts) ≡ false = sym given.facts.has_group ∙ both.1 in
       record {
         keeps = fails_keeps d (cat ts) refl fails free part;
-        normal = record {
-          simplified = refl;
-          flattened = refl;
-          unrolled = refl;
-          promoted = refl;
-          formed = refl;
-          emptied = refl;
-          failed = refl;
-        };
+        normal = nothing_normal;
         facts = has;
         left = λ normal.
             absurd (true≢false (sym (ap₂ (λ a b. a && not b) fails free) ∙ LacksShape-here is_failed_away (cat ts) normal.failed));
@@ -377,15 +313,7 @@ module _ (d : Direction) (row : RowFacts) (ts : Trees) (given : AreParts row ts)
         empty_normalized (inl none) is f has plain =
             subst (λ (u : Tree). Normalized d (cat ts) u (Ok f)) (sym none.1) (record {
               keeps = Keeps-trans d (subst (λ (us : Trees). Keeps d (cat ts) (cat us)) none.0 keeps) (Keeps-no_part d);
-              normal = record {
-                simplified = refl;
-                flattened = refl;
-                unrolled = refl;
-                promoted = refl;
-                formed = refl;
-                emptied = refl;
-                failed = refl;
-              };
+              normal = empty_normal;
               facts = has;
               left = λ normal. absurd (not_left (ap is_short none.0) normal);
               plain = λ normal. no_one f.was_one_character plain _;

@@ -23,6 +23,7 @@ use Rattle.regress_normalize.specs.declared.facts.PartFacts.{PartFacts}
 use Rattle.regress_normalize.specs.Normalized.{Normalized}
 use Rattle.regress_normalize.specs.PartFacts.{StandsAsOne, HasFacts}
 use Rattle.regress_normalize.specs.Steps.{Clears}
+use Rattle.regress_normalize.proofs.NormalLemmas.{IsNormal-leaf}
 
 -- ---- what holds no node
 
@@ -35,15 +36,7 @@ leaf_lacks shape (wrapped w body) is none = absurd (false≢true is)
 
 leaf_normal : (t : Tree) → is_leaf t ≡ true → is_simplified_away t ≡ false → is_formed_away t ≡ false → is_emptied_away t ≡ false →
     IsNormal t
-leaf_normal (leaf l) is simplified formed emptied = record {
-  simplified = simplified;
-  flattened = refl;
-  unrolled = refl;
-  promoted = refl;
-  formed = formed;
-  emptied = emptied;
-  failed = refl;
-}
+leaf_normal (leaf l) is simplified formed emptied = IsNormal-leaf l simplified formed emptied
 leaf_normal (cat parts) is simplified formed emptied = absurd (false≢true is)
 leaf_normal (alt left right) is simplified formed emptied = absurd (false≢true is)
 leaf_normal (wrapped w body) is simplified formed emptied = absurd (false≢true is)

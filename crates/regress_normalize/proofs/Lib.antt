@@ -2,7 +2,6 @@ pub mod FactsLemmas
 pub mod PackedLemmas
 pub mod CatLemmas
 pub mod FinishLemmas
-pub mod LastLemmas
 pub mod WrapperLemmas
 pub mod LeafLemmas
 pub mod NormalLemmas

@@ -1,59 +1,89 @@
 -- The normal form of a whole, by that of its parts.
-use Rattle.std.proofs.Common.{◌≡◌, Bool, false, ◌||◌, refl, ap₂}
+use Rattle.std.proofs.Common.{◌≡◌, Bool, false, ◌||◌, [], refl, ap₂}
 use Rattle.regress_tree.specs.NormalForm.{IsNormal}
 use Rattle.regress_tree.specs.Shapes.{LacksShape, is_simplified_away, is_flattened_away, is_unrolled_away, is_promoted_away, is_formed_away, is_emptied_away, is_failed_away}
 use Rattle.regress_tree.specs.Spine.{reattach}
-use Rattle.regress_tree.specs.Tree.{Tree, leaf, empty, alt}
+use Rattle.regress_tree.specs.Tree.{Leaf, Tree, leaf, empty, byte_set, alt}
 use Rattle.regress_tree.proofs.laws.Measures.{LacksShape-from}
 use Rattle.regress_tree.proofs.laws.Places.{Place, put, LacksShape-whole}
 use Rattle.regress_rewrite.proofs.laws.Spine.{LacksShape-reattach}
 
-pub IsNormal-part : (p : Place) (t : Tree) → IsNormal (put p t) → IsNormal t
-IsNormal-part p t normal = record {
-  simplified = LacksShape-whole is_simplified_away p t normal.simplified;
-  flattened = LacksShape-whole is_flattened_away p t normal.flattened;
-  unrolled = LacksShape-whole is_unrolled_away p t normal.unrolled;
-  promoted = LacksShape-whole is_promoted_away p t normal.promoted;
-  formed = LacksShape-whole is_formed_away p t normal.formed;
-  emptied = LacksShape-whole is_emptied_away p t normal.emptied;
-  failed = LacksShape-whole is_failed_away p t normal.failed;
+-- the kinds of shape, one for each field of the normal form
+pub data Kind : Type 0 where
+  simplified : Kind
+  flattened : Kind
+  unrolled : Kind
+  promoted : Kind
+  formed : Kind
+  emptied : Kind
+  failed : Kind
+
+abbrev pub shape : Kind → Tree → Bool
+shape simplified = is_simplified_away
+shape flattened = is_flattened_away
+shape unrolled = is_unrolled_away
+shape promoted = is_promoted_away
+shape formed = is_formed_away
+shape emptied = is_emptied_away
+shape failed = is_failed_away
+
+-- a tree is in normal form if it lacks each kind
+pub lacks : (t : Tree) → IsNormal t → (k : Kind) → LacksShape (shape k) t
+lacks t normal simplified = normal.simplified
+lacks t normal flattened = normal.flattened
+lacks t normal unrolled = normal.unrolled
+lacks t normal promoted = normal.promoted
+lacks t normal formed = normal.formed
+lacks t normal emptied = normal.emptied
+lacks t normal failed = normal.failed
+
+pub normal_from : (t : Tree) → ((k : Kind) → LacksShape (shape k) t) → IsNormal t
+normal_from t none = record {
+  simplified = none simplified;
+  flattened = none flattened;
+  unrolled = none unrolled;
+  promoted = none promoted;
+  formed = none formed;
+  emptied = none emptied;
+  failed = none failed;
 }
+
+pub IsNormal-part : (p : Place) (t : Tree) → IsNormal (put p t) → IsNormal t
+IsNormal-part p t normal = normal_from t (λ k. LacksShape-whole (shape k) p t (lacks (put p t) normal k))
 
 pub IsNormal-reattach : (above t : Tree) → IsNormal (reattach above t) → IsNormal t
-IsNormal-reattach above t normal = record {
-  simplified = LacksShape-reattach is_simplified_away above t normal.simplified;
-  flattened = LacksShape-reattach is_flattened_away above t normal.flattened;
-  unrolled = LacksShape-reattach is_unrolled_away above t normal.unrolled;
-  promoted = LacksShape-reattach is_promoted_away above t normal.promoted;
-  formed = LacksShape-reattach is_formed_away above t normal.formed;
-  emptied = LacksShape-reattach is_emptied_away above t normal.emptied;
-  failed = LacksShape-reattach is_failed_away above t normal.failed;
-}
+IsNormal-reattach above t normal = normal_from t (λ k. LacksShape-reattach (shape k) above t (lacks (reattach above t) normal k))
 
-pub empty_normal : IsNormal (leaf empty)
-empty_normal = record {
-  simplified = refl;
+-- a leaf has shapes of three kinds
+pub IsNormal-leaf : (l : Leaf) → is_simplified_away (leaf l) ≡ false → is_formed_away (leaf l) ≡ false → is_emptied_away (leaf l) ≡ false →
+    IsNormal (leaf l)
+IsNormal-leaf l no_bracket no_literal no_empty = record {
+  simplified = no_bracket;
   flattened = refl;
   unrolled = refl;
   promoted = refl;
-  formed = refl;
-  emptied = refl;
+  formed = no_literal;
+  emptied = no_empty;
   failed = refl;
 }
 
-module _ (left right : Tree) (left_normal : IsNormal left) (right_normal : IsNormal right) where
-  alt_lacks : (shape : Tree → Bool) → LacksShape shape left → LacksShape shape right → shape (alt left right) ≡ false →
-      LacksShape shape (alt left right)
-  alt_lacks shape first second here = LacksShape-from shape (alt left right) (ap₂ ◌||◌ first second) here
+pub empty_normal : IsNormal (leaf empty)
+empty_normal = IsNormal-leaf empty refl refl refl
 
+pub nothing_normal : IsNormal (leaf (byte_set []))
+nothing_normal = IsNormal-leaf (byte_set []) refl refl refl
+
+module _ (left right : Tree) (left_normal : IsNormal left) (right_normal : IsNormal right) where
   -- an `Alt` has a shape of its own where both sides are `Empty`, and where one fails and no group is inside
   pub IsNormal-alt : is_emptied_away (alt left right) ≡ false → is_failed_away (alt left right) ≡ false → IsNormal (alt left right)
-  IsNormal-alt emptied failed = record {
-    simplified = alt_lacks is_simplified_away left_normal.simplified right_normal.simplified refl;
-    flattened = alt_lacks is_flattened_away left_normal.flattened right_normal.flattened refl;
-    unrolled = alt_lacks is_unrolled_away left_normal.unrolled right_normal.unrolled refl;
-    promoted = alt_lacks is_promoted_away left_normal.promoted right_normal.promoted refl;
-    formed = alt_lacks is_formed_away left_normal.formed right_normal.formed refl;
-    emptied = alt_lacks is_emptied_away left_normal.emptied right_normal.emptied emptied;
-    failed = alt_lacks is_failed_away left_normal.failed right_normal.failed failed;
-  }
+  IsNormal-alt no_empties no_failing = normal_from (alt left right) (λ k.
+      LacksShape-from (shape k) (alt left right) (ap₂ ◌||◌ (lacks left left_normal k) (lacks right right_normal k)) (here k))
+    where
+      here : (k : Kind) → shape k (alt left right) ≡ false
+      here simplified = refl
+      here flattened = refl
+      here unrolled = refl
+      here promoted = refl
+      here formed = refl
+      here emptied = no_empties
+      here failed = no_failing

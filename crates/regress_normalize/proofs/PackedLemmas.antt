@@ -7,7 +7,7 @@ use Rattle.regress_tree.specs.NodeTests.{is_empty, match_always_fails}
 use Rattle.regress_tree.specs.NormalForm.{IsNormal}
 use Rattle.regress_tree.specs.Reading.{Direction, forwards, backwards}
 use Rattle.regress_tree.specs.Shapes.{on_leaf, on_wrapper, some_node_in_row, some_in_row, first_in_row, has_neighbours, has_bytes, is_cat, has_cat, is_string_set}
-use Rattle.regress_tree.specs.Tree.{Tree, Trees, leaf, empty, cat, no_trees, more_trees, row_append, row_reverse}
+use Rattle.regress_tree.specs.Tree.{Tree, Trees, byte_sequence, leaf, empty, cat, no_trees, more_trees, row_append, row_reverse}
 use Rattle.regress_tree.specs.Units.{charges}
 use Rattle.regress_tree.proofs.laws.Measures.{some_node-append, total-append}
 use Rattle.regress_tree.proofs.laws.Rows.{row_append-none, row_append-assoc}
@@ -19,6 +19,7 @@ use Rattle.regress_rewrite.proofs.laws.Segments.{Keeps-segment, empty_keeps, pai
 use Rattle.regress_rewrite.proofs.laws.Splicing.{row_length-append}
 use Rattle.regress_normalize.specs.Normalized.{RowIsNormal}
 use Rattle.regress_normalize.specs.Packed.{in_text_order, Packs, IsPacked, TakesBytes}
+use Rattle.regress_normalize.proofs.NormalLemmas.{IsNormal-leaf}
 
 -- ---- tests and sums over rows, one behind the other
 
@@ -158,15 +159,7 @@ empty_packs d = record {
 
 longer_normal : (a b : List ℕ) → IsNormal (written a) → IsNormal (written (a ++ b))
 longer_normal [] b normal = absurd (true≢false normal.emptied)
-longer_normal (x ∷ a) b normal = record {
-  simplified = refl;
-  flattened = refl;
-  unrolled = refl;
-  promoted = refl;
-  formed = refl;
-  emptied = refl;
-  failed = refl;
-}
+longer_normal (x ∷ a) b normal = IsNormal-leaf (byte_sequence (x ∷ (a ++ b))) refl refl refl
 
 -- the parts in the order of the text, and what runs backwards
 pair_packs : (d : Direction) (a b : List ℕ) →

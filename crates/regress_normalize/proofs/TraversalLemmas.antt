@@ -1,6 +1,6 @@
 -- What the traversal keeps, step by step.
-use Rattle.std.proofs.Common.{◌≡◌, ℕ, ◌+◌, ◌<◌, ◌≤◌, le_trans, Bool, false, List, [], ◌∷◌, length, take, get_or, set, Result, Ok, Err, refl, sym, ap, subst, ◌∙◌, arith}
-use Rattle.std.specs.Prelude.{IfOk, OnOk, IsTrue}
+use Rattle.std.proofs.Common.{◌≡◌, ℕ, ◌+◌, ◌<◌, List, [], ◌∷◌, length, take, get_or, set, Result, Ok, Err, refl, sym, ap, subst, ◌∙◌, arith}
+use Rattle.std.specs.Prelude.{IfOk, OnOk}
 use Rattle.std.specs.Result.{IsErr}
 use Rattle.std.specs.declared.alloc.AllocError.{AllocError}
 use Rattle.std.proofs.lemmas.Bool.{false≢true, true≢false}
@@ -8,17 +8,15 @@ use Rattle.std.proofs.lemmas.List.{take_more_set}
 use Rattle.regress_tree.specs.declared.ir.node.Node.{Node}
 use Rattle.regress_tree.specs.NormalForm.{IsNormal}
 use Rattle.regress_tree.specs.Reading.{Direction}
-use Rattle.regress_tree.specs.Shapes.{is_flattened_away, is_unrolled_away}
+use Rattle.regress_tree.specs.Shapes.{is_flattened_away}
 use Rattle.regress_tree.specs.Spine.{Shifted, reattach}
 use Rattle.regress_tree.specs.Tree.{Wrapper, Tree, Trees, leaf, cat, alt, wrapped, no_trees, more_trees, row_append, tree, trees}
-use Rattle.regress_tree.specs.Units.{units, account}
+use Rattle.regress_tree.specs.Units.{units}
 use Rattle.regress_tree.proofs.laws.Measures.{LacksShape-here}
 use Rattle.regress_tree.proofs.laws.Places.{Place, put, direction_at, right_of, inside_of, left_of}
 use Rattle.regress_tree.proofs.laws.Rows.{trees-append}
 use Rattle.regress_rewrite.specs.Law.{IsPart}
-use Rattle.regress_rewrite.specs.Unroll.{small_account}
-use Rattle.regress_rewrite.proofs.laws.Unrolling.{account-unrolled}
-use Rattle.regress_rewrite.proofs.laws.Keeps.{Keeps-trans, Keeps-put, Keeps-one_part, IsPart-kept}
+use Rattle.regress_rewrite.proofs.laws.Keeps.{Keeps-refl, Keeps-trans, Keeps-put, Keeps-one_part, IsPart-kept, IsPart-part}
 use Rattle.regress_rewrite.proofs.laws.Parts.{place, row_set, row_at}
 use Rattle.regress_rewrite.proofs.laws.Spine.{IsPart-reattach}
 use Rattle.regress_normalize.specs.declared.facts.PartFacts.{PartFacts}
@@ -123,15 +121,6 @@ module _ (d : Direction) (w : Wrapper) (t u : Tree) (answer : Result PartFacts A
           IfOk a (λ facts. IsCleanAround facts (wrapped w u))
       by (Ok facts) normal plain = (normal, plain)
       by (Err e) normal plain = tt
-
--- a loop that is small was one that may be unrolled
-pub small_kept : (d : Direction) (t u : Tree) (small : Bool) → StandsFor d t u → IsPart t → small ≡ is_unrolled_away t → IsTrue small →
-    account u ≤ small_account
-small_kept d t u small stands part is one = le_trans stands.keeps.account (account-unrolled t part (sym is ∙ one))
-
-pub wrapper_clean : (d : Direction) (t u : Tree) (small : Bool) (facts : PartFacts) → StandsFor d t u → small ≡ is_unrolled_away t →
-    (IsNormal t → IsCleanAround facts u) → IsNormal t → IsCleanAround facts u × (small ≡ false)
-wrapper_clean d t u small facts stands is clean normal = (clean normal, is ∙ LacksShape-here is_unrolled_away t normal.unrolled)
 
 -- ---- alternatives
 

@@ -1,26 +1,20 @@
 -- Steps on the way of a loop into normal form.
-use Rattle.std.specs.Prelude.{◌≡◌, ◌⊎◌, ℕ, Bool, true, false, not, ◌&&◌, ◌||◌, nat_le, Result, IfOk}
+use Rattle.std.specs.Prelude.{◌≡◌, ◌⊎◌, ℕ, true, false, [], Result, IfOk}
 use Rattle.std.specs.declared.alloc.AllocError.{AllocError}
 use Rattle.regress_base.specs.declared.types.Quantifier.{Quantifier}
 use Rattle.regress_tree.specs.NodeTests.{matches_exactly_one_char}
 use Rattle.regress_tree.specs.NormalForm.{IsNormal}
 use Rattle.regress_tree.specs.Reading.{Direction}
 use Rattle.regress_tree.specs.Shapes.{has_group, may_unroll, is_empty_wrapper, fails_by_part, is_failed_away}
-use Rattle.regress_tree.specs.Tree.{capture_group, loop, loop_one, lookaround, Tree, Trees, leaf, cat, alt, wrapped, no_trees, more_trees, row_append}
+use Rattle.regress_tree.specs.Tree.{empty, byte_set, loop, loop_one, Tree, leaf, wrapped}
 use Rattle.regress_rewrite.specs.Law.{Keeps}
-use Rattle.regress_normalize.specs.Normalized.{RowIsNormal, IsCatOf}
-use Rattle.regress_normalize.specs.PartFacts.{HasFacts, HasRowFacts}
+use Rattle.regress_normalize.specs.Normalized.{IsCatOf}
+use Rattle.regress_normalize.specs.PartFacts.{HasFacts}
 use Rattle.regress_normalize.specs.declared.facts.PartFacts.{PartFacts}
 use Rattle.regress_normalize.specs.declared.facts.RowFacts.{RowFacts}
 use Rattle.regress_normalize.specs.declared.wrapper.LoopForm.{LoopForm}
 use Rattle.regress_normalize.specs.declared.wrapper.LoopForm.TheVariants.{OneCharacter, Empty, AlwaysFails, Stays}
-
--- Whether a loop is unrolled, by what is known of its body. One that is small was one that may be unrolled before its body was
--- rewritten.
-abbrev pub may_unroll_by : (small : Bool) → Quantifier → (start end : ℕ) → PartFacts → Bool
-may_unroll_by small q start end facts =
-    nat_le end start && (nat_le 1 q.min && nat_le q.min 5)
-    && (not facts.has_loop && not facts.has_string_set) && ((nat_le facts.charge 256 || small) && nat_le facts.levels 101)
+use Rattle.regress_normalize.specs.declared.wrapper.LoopPlan.{LoopPlan}
 
 -- a loop that is not unrolled, around a body in normal form
 pub record IsLoopOf (facts : PartFacts) (t : Tree) : Type 0 where
@@ -33,33 +27,36 @@ pub record IsLoopOf (facts : PartFacts) (t : Tree) : Type 0 where
   pub normal : IsNormal body
   pub has : HasFacts facts body
 
--- a loop over one character in the place of a loop, and any other tree as it is
-abbrev pub promoted_loop : Tree → Tree
-promoted_loop (leaf l) = leaf l
-promoted_loop (cat parts) = cat parts
-promoted_loop (alt left right) = alt left right
-promoted_loop (wrapped (capture_group id name) body) = wrapped (capture_group id name) body
-promoted_loop (wrapped (loop q start end) body) = wrapped (loop_one q) body
-promoted_loop (wrapped (loop_one q) body) = wrapped (loop_one q) body
-promoted_loop (wrapped (lookaround negate backwards start end) body) = wrapped (lookaround negate backwards start end) body
+-- what a loop of these becomes
+abbrev pub in_form : LoopForm → Quantifier → (start end : ℕ) → Tree → Tree
+in_form (OneCharacter room) q start end body = wrapped (loop_one q) body
+in_form Empty q start end body = leaf empty
+in_form AlwaysFails q start end body = leaf (byte_set [])
+in_form Stays q start end body = wrapped (loop q start end) body
+
+-- what a loop becomes, and any other tree as it is
+abbrev pub loop_in_form : LoopForm → Tree → Tree
+loop_in_form form (wrapped (loop q start end) body) = in_form form q start end body
+loop_in_form form t = t
+
+abbrev pub IsOneCharacter : LoopForm → Type 0
+IsOneCharacter (OneCharacter room) = Unit {0}
+IsOneCharacter form = ⊥
 
 -- Why a loop takes the form. It stays where nothing but unrolling has anything to remove.
 abbrev pub TakesForm : LoopForm → PartFacts → Quantifier → (start end : ℕ) → Tree → Type 0
-TakesForm OneCharacter facts q start end body = (facts.was_one_character ≡ true) ⊎ (matches_exactly_one_char body ≡ true)
+TakesForm (OneCharacter room) facts q start end body = (facts.was_one_character ≡ true) ⊎ (matches_exactly_one_char body ≡ true)
 TakesForm Empty facts q start end body = is_empty_wrapper (loop q start end) body ≡ true
 TakesForm AlwaysFails facts q start end body = (fails_by_part (wrapped (loop q start end) body) ≡ true) × (has_group body ≡ false)
 TakesForm Stays facts q start end body =
     (matches_exactly_one_char body ≡ false) × (is_empty_wrapper (loop q start end) body ≡ false)
     × (is_failed_away (wrapped (loop q start end) body) ≡ false)
 
--- a `Cat` of parts with these facts, and behind them a loop around a body with those
-pub record EndsInLoop (row : RowFacts) (facts : PartFacts) (t : Tree) : Type 0 where
-  pub before : Trees
-  pub behind : Tree
-  pub is : t ≡ cat (row_append before (more_trees behind no_trees))
-  pub normal : RowIsNormal before
-  pub has : HasRowFacts row before
-  pub loop : IsLoopOf facts behind
+-- A loop takes the form for a reason, and what it becomes has the facts.
+pub record IsPlanned (body_facts : PartFacts) (q : Quantifier) (start end : ℕ) (body : Tree) (plan : LoopPlan) : Type 0 where
+  pub takes : TakesForm plan.form body_facts q start end body
+  pub has : HasFacts plan.facts (in_form plan.form q start end body)
+  pub many : plan.facts.was_one_character ≡ false
 
 -- What is there stands for the old tree, and unless memory was wanting it is a `Cat` of parts in normal form with the facts.
 pub record HasFinishedParts (d : Direction) (old new : Tree) (answer : Result RowFacts AllocError) : Type 0 where

@@ -1,9 +1,10 @@
 //! What is known of parts in normal form.
 ghost use Rattle.std.specs.Prelude.{◌≡◌, not, ◌&&◌, OnOk};
 ghost use Rattle.regress_tree.specs.Tree.{Tree, Trees, no_trees, more_trees, row_append};
-ghost use Rattle.regress_tree.specs.Shapes.{is_cat};
+ghost use Rattle.regress_tree.specs.Shapes.{is_cat, is_within, max_body_charge, max_body_levels};
 ghost use Rattle.regress_normalize.specs.PartFacts.{HasFacts, HasRowFacts};
 
+use regress_rewrite::unroll_loops::{MAX_CHARGE, MAX_LEVELS};
 use std::alloc::AllocError;
 use std::cmp;
 
@@ -25,6 +26,18 @@ pub struct PartFacts {
     /// Whether it matched exactly one character before literals were formed, as far as is looked at. A loop
     /// over it becomes one over one character.
     pub was_one_character: bool,
+}
+
+impl PartFacts {
+    /// Whether it is small enough to be copied for each turn of a loop around it.
+    pub fn may_be_copied(&self) -> bool
+        ensures { result ≡ is_within max_body_levels max_body_charge self.now.has_loop self.now.has_string_set self.now.charge self.now.levels }
+    {
+        !self.has_loop
+            && !self.has_string_set
+            && self.charge <= MAX_CHARGE
+            && self.levels <= MAX_LEVELS
+    }
 }
 
 /// What is known of parts in a row, each in normal form. A part that is a `Cat` counts as its parts do.

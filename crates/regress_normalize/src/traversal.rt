@@ -15,7 +15,6 @@ use crate::cat::finish_cat;
 use crate::facts::{PartFacts, RowFacts};
 use crate::leaf::finish_leaf;
 use crate::wrapper::finish_wrapper;
-use regress_rewrite::unroll_loops::may_unroll;
 use regress_tree::ir::spine::{relink, shift};
 use regress_tree::ir::{Node, NodeList, Walk};
 use std::alloc::{AllocError, Global};
@@ -115,9 +114,8 @@ fn normalize_last(alloc: Global, node: &mut Node, walk: &Walk) -> Result<PartFac
         | Node::Loop { .. }
         | Node::Loop1CharBody { .. }
         | Node::LookaroundAssertion { .. } => {
-            let small = may_unroll(node);
             let body = normalize_body(alloc, node, walk)?;
-            finish_wrapper(alloc, node, &body, small, walk)
+            finish_wrapper(alloc, node, &body, walk)
         }
         _ => finish_leaf(alloc, node),
     }

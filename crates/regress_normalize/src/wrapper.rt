@@ -1,30 +1,31 @@
 //! A node that holds one node, which is in normal form.
-ghost use Rattle.std.specs.Prelude.{◌≡◌, ◌≤◌, true, false, not, ◌&&◌, IsTrue, IfOk, OnOk, OnErr};
+ghost use Rattle.std.specs.Prelude.{◌≡◌, ℕ, true, false, not, ◌&&◌, IfOk};
 ghost use Rattle.regress_tree.specs.NodeTests.{is_empty};
 ghost use Rattle.regress_tree.specs.Reading.{Direction};
-ghost use Rattle.regress_tree.specs.Shapes.{is_cat, is_group, is_loop, is_zero, on_loop};
-ghost use Rattle.regress_tree.specs.Tree.{Wrapper, Tree, tree, wrapped, copies};
-ghost use Rattle.regress_tree.specs.Units.{account};
+ghost use Rattle.regress_tree.specs.Shapes.{is_cat, is_group, is_loop, is_unrolled_away, may_unroll_by, on_loop};
+ghost use Rattle.regress_tree.specs.Tree.{Wrapper, loop, loop_one, Tree, tree, wrapped, copies};
 ghost use Rattle.regress_tree.specs.Walk.{direction_of};
+ghost use Rattle.regress_base.specs.declared.types.Quantifier.{Quantifier};
 ghost use Rattle.regress_rewrite.specs.Law.{IsPart};
-ghost use Rattle.regress_rewrite.specs.Unroll.{further_turns, may_copy, small_account};
 ghost use Rattle.regress_normalize.specs.Normalized.{Finished, IsCleanAround, IsWrapperOf};
 ghost use Rattle.regress_normalize.specs.PartFacts.{HasFacts, HasRowFacts};
-ghost use Rattle.regress_normalize.specs.Wrapped.{may_unroll_by, IsLoopOf, promoted_loop, TakesForm, EndsInLoop, HasFinishedParts};
+ghost use Rattle.regress_normalize.specs.Wrapped.{IsLoopOf, IsOneCharacter, IsPlanned, TakesForm, in_form, loop_in_form, HasFinishedParts};
 
 use crate::cat::finish_cat;
 use crate::facts::{PartFacts, RowFacts};
 use crate::leaf::leaf_facts;
-use regress_rewrite::unroll_loops::{MAX_CHARGE, MAX_LEVELS, write_out};
+use regress_rewrite::promote_1char_loops::promoted;
+use regress_rewrite::unroll_loops::{copy_times, further_turns, has_few_turns};
 use regress_tree::ir::{Node, Quantifier, Walk};
 use std::alloc::{AllocError, Global};
 use std::mem;
 use std::ops::Range;
 
 /// What a loop that is not unrolled becomes.
+#[derive(Drop)]
 enum LoopForm {
-    /// A loop over one character.
-    OneCharacter,
+    /// A loop over one character, with room for that.
+    OneCharacter(Box<Node>),
     Empty,
     /// A set of nothing.
     AlwaysFails,
@@ -32,21 +33,23 @@ enum LoopForm {
     Stays,
 }
 
-/// Brings a node around a body in normal form, with these facts, into normal form. It is `small` where it was a loop that
-/// may be unrolled before its body was rewritten: then it still is, though bytes may be charged more than the characters
-/// that they were.
+/// What a loop that is not unrolled is to become, and what is then known of it.
+#[derive(Drop)]
+struct LoopPlan {
+    form: LoopForm,
+    facts: PartFacts,
+}
+
+/// Brings a node around a body in normal form, with these facts, into normal form.
 pub fn finish_wrapper(
     alloc: Global,
     node: &mut Node,
     body: &PartFacts,
-    small: bool,
     walk: &Walk,
 ) -> Result<PartFacts, AllocError>
     requires part { IsPart (tree node.old) }
     requires body { IsWrapperOf body.now (tree node.old) }
-    requires small { IsTrue small → account (tree node.old) ≤ small_account }
-    ensures { Finished (IsCleanAround body.now (tree node.old) × (small ≡ false)) (direction_of walk.now)
-        (tree node.old) (tree node.new) result }
+    ensures { Finished (IsCleanAround body.now (tree node.old)) (direction_of walk.now) (tree node.old) (tree node.new) result }
 {
     match node {
         Node::CaptureGroup { .. } => around(body, true, false),
@@ -55,7 +58,7 @@ pub fn finish_wrapper(
             enclosed_groups,
             ..
         } => {
-            if may_unroll(quant, enclosed_groups, body, small) {
+            if may_unroll(quant, enclosed_groups, body) {
                 finish_unrolled(alloc, node, body, walk)
             } else {
                 finish_loop(alloc, node, body)
@@ -86,15 +89,11 @@ fn always_holds(negate: bool, contents: &Node) -> bool
 }
 
 /// Whether a loop of these turns and groups around a body with these facts is unrolled.
-fn may_unroll(quant: &Quantifier, groups: &Range<u16>, body: &PartFacts, small: bool) -> bool
-    ensures { result ≡ may_unroll_by small quant.now groups.now.start groups.now.end body.now }
+fn may_unroll(quant: &Quantifier, groups: &Range<u16>, body: &PartFacts) -> bool
+    ensures { result ≡ may_unroll_by quant.now groups.now.start groups.now.end
+        body.now.has_loop body.now.has_string_set body.now.charge body.now.levels }
 {
-    groups.is_empty()
-        && matches!(quant.min, 1..=5)
-        && !body.has_loop
-        && !body.has_string_set
-        && (body.charge <= MAX_CHARGE || small)
-        && body.levels <= MAX_LEVELS
+    has_few_turns(quant, groups) && body.may_be_copied()
 }
 
 /// Unrolls a loop, and brings the row of its copies into normal form.
@@ -106,41 +105,44 @@ fn finish_unrolled(
 ) -> Result<PartFacts, AllocError>
     requires part { IsPart (tree node.old) }
     requires body { IsWrapperOf body.now (tree node.old) }
-    requires copied { on_loop may_copy (tree node.old) ≡ true }
+    requires shape { is_unrolled_away (tree node.old) ≡ true }
     ensures { Finished ⊥ (direction_of walk.now) (tree node.old) (tree node.new) result }
 {
-    let row = unroll_parts(alloc, node, body)?;
+    let row = unroll(alloc, node, body)?;
     finish_cat(alloc, node, &row, walk)
 }
 
-/// Unrolls a loop, finishes the loop of the turns that may follow, and tells what is known of the row.
-fn unroll_parts(alloc: Global, node: &mut Node, body: &PartFacts) -> Result<RowFacts, AllocError>
+/// Makes a loop a `Cat` of a copy of its body for each turn that it must take and of what the turns come to that may
+/// follow, and tells what is known of the row. All is planned, and all memory taken, before the loop is changed.
+fn unroll(alloc: Global, node: &mut Node, body: &PartFacts) -> Result<RowFacts, AllocError>
     requires part { IsPart (tree node.old) }
     requires body { IsWrapperOf body.now (tree node.old) }
-    requires copied { on_loop may_copy (tree node.old) ≡ true }
+    requires shape { is_unrolled_away (tree node.old) ≡ true }
     ensures { (d : Direction) → HasFinishedParts d (tree node.old) (tree node.new) result }
 {
-    let Node::Loop { loopee, quant, .. } = node else {
+    let Node::Loop {
+        loopee,
+        quant,
+        enclosed_groups,
+    } = node
+    else {
         unreachable!()
     };
-    let more = may_go_on(quant);
-    let row = copies_facts(body, quant.min, loopee.is_cat())?;
-    write_out(alloc, node)?;
-    if more {
-        finish_last(alloc, node, body, row)
-    } else {
-        Ok(row)
+    let mut row = copies_facts(body, quant.min, loopee.is_cat())?;
+    let mut parts = copy_times(alloc, loopee, quant.min)?;
+    let rest = further_turns(quant);
+    if rest.max == Some(0) {
+        *node = Node::Cat(parts);
+        return Ok(row);
     }
-}
-
-/// Whether turns may follow those that must be taken.
-fn may_go_on(quant: &Quantifier) -> bool
-    ensures { result ≡ not (is_zero (further_turns quant.now).max) }
-{
-    match quant.max {
-        Some(max) => max > quant.min,
-        None => true,
-    }
+    let plan = plan_loop(alloc, loopee, &rest, enclosed_groups, body)?;
+    row.add(&plan.facts, false)?;
+    // There is room for what follows: nothing fails from here on.
+    *quant = rest;
+    take_form(alloc, node, plan.form);
+    parts.push(mem::replace(node, Node::Empty))?;
+    *node = Node::Cat(parts);
+    Ok(row)
 }
 
 /// What is known of so many copies of a part.
@@ -154,35 +156,11 @@ fn copies_facts(part: &PartFacts, times: usize, cat: bool) -> Result<RowFacts, A
     Ok(row)
 }
 
-/// Finishes the loop that is the last part of a `Cat`, and adds it to what is known of the parts before it.
-fn finish_last(
-    alloc: Global,
-    node: &mut Node,
-    body: &PartFacts,
-    row: RowFacts,
-) -> Result<RowFacts, AllocError>
-    requires part { IsPart (tree node.old) }
-    requires row { EndsInLoop row body.now (tree node.old) }
-    ensures { (d : Direction) → HasFinishedParts d (tree node.old) (tree node.new) result }
-{
-    let Node::Cat(parts) = node else {
-        unreachable!()
-    };
-    let Some(last) = parts.last_mut() else {
-        unreachable!()
-    };
-    let facts = finish_loop(alloc, last, body)?;
-    let mut row = row;
-    row.add(&facts, false)?;
-    Ok(row)
-}
-
 /// Brings a loop that is not unrolled, around a body in normal form, into normal form.
 fn finish_loop(alloc: Global, node: &mut Node, body: &PartFacts) -> Result<PartFacts, AllocError>
     requires part { IsPart (tree node.old) }
     requires inner { IsLoopOf body.now (tree node.old) }
-    ensures finished { (d : Direction) → Finished (IsCleanAround body.now (tree node.old)) d (tree node.old) (tree node.new) result }
-    ensures other { is_cat (tree node.new) ≡ false }
+    ensures { (d : Direction) → Finished (IsCleanAround body.now (tree node.old)) d (tree node.old) (tree node.new) result }
 {
     let Node::Loop {
         loopee,
@@ -192,60 +170,98 @@ fn finish_loop(alloc: Global, node: &mut Node, body: &PartFacts) -> Result<PartF
     else {
         unreachable!()
     };
-    match form_of(loopee, quant, enclosed_groups, body) {
-        LoopForm::OneCharacter => {
-            let facts = around(body, false, true)?;
-            promote(alloc, node)?;
-            Ok(facts)
-        }
-        LoopForm::Empty => {
-            *node = Node::Empty;
-            Ok(leaf_facts(node, false))
-        }
-        LoopForm::AlwaysFails => {
-            *node = Node::ByteSet(Vec::new(alloc));
-            Ok(leaf_facts(node, false))
-        }
+    let plan = plan_loop(alloc, loopee, quant, enclosed_groups, body)?;
+    take_form(alloc, node, plan.form);
+    Ok(plan.facts)
+}
+
+/// What a loop of these parts that is not unrolled is to become, and what is then known of it.
+fn plan_loop(
+    alloc: Global,
+    loopee: &Node,
+    quant: &Quantifier,
+    groups: &Range<u16>,
+    body: &PartFacts,
+) -> Result<LoopPlan, AllocError>
+    requires { HasFacts body.now (tree loopee.now) }
+    ensures { IfOk result (IsPlanned body.now quant.now groups.now.start groups.now.end (tree loopee.now)) }
+{
+    let form = form_of(alloc, loopee, quant, groups, body)?;
+    let facts = facts_of(alloc, &form, body)?;
+    Ok(LoopPlan { form, facts })
+}
+
+/// What is known of what a loop around a body becomes in this form.
+fn facts_of(alloc: Global, form: &LoopForm, body: &PartFacts) -> Result<PartFacts, AllocError>
+    ensures has { (q : Quantifier) (start end : ℕ) (t : Tree) → HasFacts body.now t →
+        IfOk result (λ facts. HasFacts facts (in_form form.now q start end t)) }
+    ensures many { IfOk result (λ facts. facts.was_one_character ≡ false) }
+{
+    match form {
+        LoopForm::OneCharacter(_) => around(body, false, true),
+        LoopForm::Empty => Ok(leaf_facts(&Node::Empty, false)),
+        LoopForm::AlwaysFails => Ok(leaf_facts(&Node::ByteSet(Vec::new(alloc)), false)),
         LoopForm::Stays => around(body, false, true),
     }
 }
 
-/// What a loop of these parts becomes.
-fn form_of(loopee: &Node, quant: &Quantifier, groups: &Range<u16>, body: &PartFacts) -> LoopForm
+/// What a loop of these parts becomes, with the room that it takes.
+fn form_of(
+    alloc: Global,
+    loopee: &Node,
+    quant: &Quantifier,
+    groups: &Range<u16>,
+    body: &PartFacts,
+) -> Result<LoopForm, AllocError>
     requires { HasFacts body.now (tree loopee.now) }
-    ensures { TakesForm result body.now quant.now groups.now.start groups.now.end (tree loopee.now) }
+    ensures { IfOk result (λ form. TakesForm form body.now quant.now groups.now.start groups.now.end (tree loopee.now)) }
 {
     if body.was_one_character {
-        LoopForm::OneCharacter
-    } else if loopee.is_empty() || (quant.max == Some(0) && groups.is_empty()) {
-        LoopForm::Empty
-    } else if quant.min > 0 && body.always_fails {
+        return one_character(alloc);
+    }
+    if loopee.is_empty() || (quant.max == Some(0) && groups.is_empty()) {
+        return Ok(LoopForm::Empty);
+    }
+    if quant.min > 0 && body.always_fails {
         // A set or a bracket, so no group is inside.
-        LoopForm::AlwaysFails
-    } else if loopee.matches_exactly_one_char() {
-        LoopForm::OneCharacter
-    } else {
-        LoopForm::Stays
+        return Ok(LoopForm::AlwaysFails);
+    }
+    if loopee.matches_exactly_one_char() {
+        return one_character(alloc);
+    }
+    Ok(LoopForm::Stays)
+}
+
+/// A loop over one character, with room for its body.
+fn one_character(alloc: Global) -> Result<LoopForm, AllocError>
+    ensures { IfOk result IsOneCharacter }
+{
+    Ok(LoopForm::OneCharacter(Box::new(alloc, Node::Empty)?))
+}
+
+/// Makes a loop what it is to become. It takes no memory.
+fn take_form(alloc: Global, node: &mut Node, form: LoopForm)
+    requires { on_loop (λ quantifier start end body. true) (tree node.old) ≡ true }
+    ensures { tree node.new ≡ loop_in_form form (tree node.old) }
+{
+    match form {
+        LoopForm::OneCharacter(room) => promote(node, room),
+        LoopForm::Empty => *node = Node::Empty,
+        LoopForm::AlwaysFails => *node = Node::ByteSet(Vec::new(alloc)),
+        LoopForm::Stays => {}
     }
 }
 
-/// Makes a loop one over one character. The body is moved once there is room for it.
-fn promote(alloc: Global, node: &mut Node) -> Result<(), AllocError>
+/// Makes a loop one over one character.
+fn promote(node: &mut Node, room: Box<Node>)
     requires { on_loop (λ quantifier start end body. true) (tree node.old) ≡ true }
-    ensures promoted { OnOk result (tree node.new ≡ promoted_loop (tree node.old)) }
-    ensures err { OnErr result (tree node.new ≡ tree node.old) }
+    ensures { (q : Quantifier) (start end : ℕ) (body : Tree) → tree node.old ≡ wrapped (loop q start end) body →
+        tree node.new ≡ wrapped (loop_one q) body }
 {
     let Node::Loop { loopee, quant, .. } = node else {
         unreachable!()
     };
-    let quant = *quant;
-    let mut body = Box::new(alloc, Node::Empty)?;
-    mem::swap(&mut body, loopee);
-    *node = Node::Loop1CharBody {
-        loopee: body,
-        quant,
-    };
-    Ok(())
+    *node = promoted(loopee, *quant, room);
 }
 
 /// What is known of a node around a part, and whether it is a capture group or a loop.

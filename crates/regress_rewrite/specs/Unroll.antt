@@ -1,16 +1,16 @@
 -- Loops that are unrolled.
-use Rattle.std.specs.Prelude.{ℕ, ◌-◌, Bool, not, ◌&&◌, nat_le, Option, Some, None, option_map, if◌then◌else◌}
+use Rattle.std.specs.Prelude.{ℕ, ◌-◌, Bool, Option, Some, None, option_map, if◌then◌else◌}
 use Rattle.regress_base.specs.declared.types.Quantifier.{Quantifier}
 use Rattle.regress_tree.specs.Measures.{total_in_row, levels, levels_of_deepest}
-use Rattle.regress_tree.specs.Shapes.{on_leaf, on_wrapper, some_node_in_row, is_loop, is_string_set, has_loop, has_string_set, is_zero}
-use Rattle.regress_tree.specs.Tree.{Tree, Trees, leaf, cat, alt, wrapped, capture_group, loop, loop_one, lookaround, no_trees, more_trees, row_append, copies}
-use Rattle.regress_tree.specs.Units.{charges, charge, units}
+use Rattle.regress_tree.specs.Shapes.{on_leaf, on_wrapper, some_node_in_row, is_loop, is_string_set, has_loop, has_string_set, is_within, is_zero}
+use Rattle.regress_tree.specs.Tree.{Tree, Trees, cat, wrapped, loop, no_trees, more_trees, row_append, copies}
+use Rattle.regress_tree.specs.Units.{charges, charge}
 
 -- What a charge leaves of a budget: None where the budget is too small, there are more than `most` levels, or there are loops or
 -- sets of strings.
 abbrev pub left_of_budget : (most budget : ℕ) (loops strings : Bool) (charge levels : ℕ) → Option ℕ
 left_of_budget most budget loops strings charge levels =
-    if (not loops && not strings) && (nat_le charge budget && nat_le levels most) then Some (budget - charge) else None
+    if is_within most budget loops strings charge levels then Some (budget - charge) else None
 
 -- what a copy of the tree leaves, and copies of all trees of a row
 abbrev pub after_charge : (most budget : ℕ) → Tree → Option ℕ
@@ -36,21 +36,5 @@ unrolled q start end body = cat (row_append (copies q.min body) (further_loop q 
 
 -- a loop, unrolled, and any other tree as it is
 abbrev pub unrolled_loop : Tree → Tree
-unrolled_loop (leaf l) = leaf l
-unrolled_loop (cat parts) = cat parts
-unrolled_loop (alt left right) = alt left right
-unrolled_loop (wrapped (capture_group id name) body) = wrapped (capture_group id name) body
 unrolled_loop (wrapped (loop q start end) body) = unrolled q start end body
-unrolled_loop (wrapped (loop_one q) body) = wrapped (loop_one q) body
-unrolled_loop (wrapped (lookaround negate backwards start end) body) = wrapped (lookaround negate backwards start end) body
-
--- The body of this loop may be copied as often as it must be matched: it is as `may_unroll` asks, but for its charge, and has at most
--- the units that a charge of 256 allows, so that unrolling adds no more than the account holds for a loop.
-abbrev pub may_copy : Quantifier → (start end : ℕ) → Tree → Bool
-may_copy q start end body =
-    nat_le end start && (nat_le 1 q.min && nat_le q.min 5)
-    && (not (has_loop body) && not (has_string_set body)) && (nat_le (units body) 1280 && nat_le (levels body) 101)
-
--- What the account of a loop that may be unrolled is at most: a node, the units of its body, and what unrolling may add.
-abbrev pub small_account : ℕ
-small_account = 7682
+unrolled_loop t = t

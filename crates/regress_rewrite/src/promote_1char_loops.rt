@@ -1,7 +1,7 @@
 //! Promotion of loops over one character.
 ghost use Rattle.std.specs.Prelude.{◌≡◌, true, IfOk, OnErr};
 ghost use Rattle.regress_tree.specs.Reading.{Direction};
-ghost use Rattle.regress_tree.specs.Tree.{tree};
+ghost use Rattle.regress_tree.specs.Tree.{tree, wrapped, loop_one};
 ghost use Rattle.regress_tree.specs.Shapes.{is_promoted_away};
 ghost use Rattle.regress_rewrite.specs.Law.{IsPart, IsLawful};
 ghost use Rattle.regress_rewrite.specs.Promote.{Promotes};
@@ -36,8 +36,15 @@ fn promote_loop(
     if !body.matches_exactly_one_char() {
         return Ok(PassAction::Keep);
     }
-    // The body is moved once there is room for it.
-    let mut loopee = Box::new(alloc, Node::Empty)?;
+    let room = Box::new(alloc, Node::Empty)?;
+    Ok(PassAction::Replace(promoted(body, quant, room)))
+}
+
+/// The loop over one character in the place of a loop of this body, which is moved to where there is room.
+pub fn promoted(body: &mut Box<Node>, quant: Quantifier, room: Box<Node>) -> Node
+    ensures { tree result ≡ wrapped (loop_one quant) (tree body.old.value) }
+{
+    let mut loopee = room;
     mem::swap(&mut loopee, body);
-    Ok(PassAction::Replace(Node::Loop1CharBody { loopee, quant }))
+    Node::Loop1CharBody { loopee, quant }
 }

@@ -3,16 +3,17 @@ ghost use Rattle.std.specs.Prelude.{◌≡◌, ◌<◌, ◌≤◌, true, false, 
 ghost use Rattle.regress_tree.specs.Copies.{HasNoGroup};
 ghost use Rattle.regress_tree.specs.Measures.{levels};
 ghost use Rattle.regress_tree.specs.Reading.{Direction};
-ghost use Rattle.regress_tree.specs.Shapes.{has_string_set, is_unrolled_away, on_loop};
+ghost use Rattle.regress_tree.specs.Shapes.{has_few_turns, has_string_set, is_unrolled_away, max_body_levels};
 ghost use Rattle.regress_tree.specs.Tree.{tree, trees, copies};
 ghost use Rattle.regress_tree.specs.WellFormed.{IsQuantifier};
 ghost use Rattle.regress_rewrite.specs.Law.{IsPart, IsLawful};
-ghost use Rattle.regress_rewrite.specs.Unroll.{after_charge, after_charge_row, further_turns, may_copy, unrolled_loop};
+ghost use Rattle.regress_rewrite.specs.Unroll.{after_charge, after_charge_row, further_turns, unrolled_loop};
 
 use crate::rewrite::PassAction;
 use regress_tree::ir::{Node, NodeList, Quantifier};
 use std::alloc::{AllocError, Global};
 use std::mem;
+use std::ops::Range;
 
 /// What a body that is copied is charged at most.
 pub const MAX_CHARGE: usize = 256;
@@ -26,15 +27,14 @@ pub fn unroll_loops(alloc: Global, node: &mut Node) -> Result<PassAction, AllocE
     ensures lawful { (d : Direction) → IfOk result (IsLawful is_unrolled_away true d (tree node.old) (tree node.new)) }
     ensures err { OnErr result (tree node.new ≡ tree node.old) }
 {
-    if may_unroll(node) {
-        unroll(alloc, node)
-    } else {
-        Ok(PassAction::Keep)
+    if !may_unroll(node) {
+        return Ok(PassAction::Keep);
     }
+    unroll(alloc, node)?;
+    Ok(PassAction::Modified)
 }
 
-/// Whether it is a `Loop` without groups that must take one to five turns, and whose body is small
-/// enough to be copied for each of them. It looks at no more than 257 nodes of the body.
+/// Whether it is a `Loop` to be unrolled. It looks at no more than 257 nodes of its body.
 pub fn may_unroll(node: &Node) -> bool
     ensures { result ≡ is_unrolled_away (tree node.now) }
 {
@@ -44,31 +44,27 @@ pub fn may_unroll(node: &Node) -> bool
             quant,
             enclosed_groups,
         } => {
-            enclosed_groups.is_empty()
-                && matches!(quant.min, 1..=5)
+            has_few_turns(quant, enclosed_groups)
                 && charge(loopee, MAX_LEVELS, MAX_CHARGE).is_some()
         }
         _ => false,
     }
 }
 
-/// Makes a loop that `may_unroll` finds a `Cat`, as `write_out` does.
-pub fn unroll(alloc: Global, node: &mut Node) -> Result<PassAction, AllocError>
-    requires part { IsPart (tree node.old) }
-    requires shape { is_unrolled_away (tree node.old) ≡ true }
-    ensures lawful { (d : Direction) → IfOk result (IsLawful is_unrolled_away true d (tree node.old) (tree node.new)) }
-    ensures err { OnErr result (tree node.new ≡ tree node.old) }
+/// Whether a loop without groups must take one to five turns: it is unrolled if its body is small enough to be copied
+/// for each of them.
+pub fn has_few_turns(quant: &Quantifier, groups: &Range<u16>) -> bool
+    ensures { result ≡ has_few_turns quant.now groups.now.start groups.now.end }
 {
-    write_out(alloc, node)?;
-    Ok(PassAction::Modified)
+    groups.is_empty() && matches!(quant.min, 1..=5)
 }
 
-/// Makes a loop whose body may be copied a `Cat`: a copy of the body for each turn that must be taken,
+/// Makes a loop that `may_unroll` finds a `Cat`: a copy of the body for each turn that must be taken,
 /// and the loop of the turns that may follow, unless there are none. All memory is taken before the
 /// loop is changed.
-pub fn write_out(alloc: Global, node: &mut Node) -> Result<(), AllocError>
+pub fn unroll(alloc: Global, node: &mut Node) -> Result<(), AllocError>
     requires part { IsPart (tree node.old) }
-    requires body { on_loop may_copy (tree node.old) ≡ true }
+    requires shape { is_unrolled_away (tree node.old) ≡ true }
     ensures unrolled { OnOk result (tree node.new ≡ unrolled_loop (tree node.old)) }
     ensures err { OnErr result (tree node.new ≡ tree node.old) }
 {
@@ -86,11 +82,11 @@ pub fn write_out(alloc: Global, node: &mut Node) -> Result<(), AllocError>
 }
 
 /// So many copies of a body, with room for one node more.
-fn copy_times(alloc: Global, body: &Node, times: usize) -> Result<NodeList, AllocError>
+pub fn copy_times(alloc: Global, body: &Node, times: usize) -> Result<NodeList, AllocError>
     requires times { times ≤ 5 }
     requires groups { HasNoGroup (tree body.now) }
     requires strings { has_string_set (tree body.now) ≡ false }
-    requires levels { levels (tree body.now) ≤ 101 }
+    requires levels { levels (tree body.now) ≤ max_body_levels }
     ensures copies { IfOk result (λ parts. trees parts.items ≡ copies times (tree body.now)) }
     ensures room { IfOk result (λ parts. vec_len parts < vec_capacity parts) }
 {
@@ -105,7 +101,7 @@ fn copy_times(alloc: Global, body: &Node, times: usize) -> Result<NodeList, Allo
 }
 
 /// How many turns may follow those that must be taken.
-fn further_turns(quant: &Quantifier) -> Quantifier
+pub fn further_turns(quant: &Quantifier) -> Quantifier
     requires { IsQuantifier quant.now }
     ensures { result ≡ further_turns quant.now }
 {

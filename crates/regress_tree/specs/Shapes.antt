@@ -8,7 +8,7 @@ use Rattle.regress_base.specs.declared.types.Quantifier.{Quantifier}
 use Rattle.regress_tree.specs.Measures.{levels}
 use Rattle.regress_tree.specs.NodeTests.{is_none, is_empty, match_always_fails, matches_exactly_one_char}
 use Rattle.regress_tree.specs.Units.{charge}
-use Rattle.regress_tree.specs.Tree.{Leaf, empty, goal, char, byte_sequence, byte_set, char_set, match_any, match_any_except_line_terminator, anchor, word_boundary, bracket, back_ref, string_set, Wrapper, capture_group, loop, loop_one, lookaround, Tree, Trees, leaf, cat, alt, wrapped, no_trees, more_trees}
+use Rattle.regress_tree.specs.Tree.{Leaf, empty, char, byte_sequence, char_set, bracket, string_set, Wrapper, capture_group, loop, loop_one, lookaround, Tree, Trees, leaf, cat, alt, wrapped, no_trees, more_trees}
 
 module _ (test : Tree → Bool) where
   -- some node of the tree passes the test, or of a row
@@ -46,28 +46,16 @@ module _ (shape : Tree → Bool) where
 
 abbrev pub on_leaf : (Leaf → Bool) → Tree → Bool
 on_leaf test (leaf l) = test l
-on_leaf test (cat parts) = false
-on_leaf test (alt left right) = false
-on_leaf test (wrapped w body) = false
+on_leaf test t = false
 
 abbrev pub on_wrapper : (Wrapper → Bool) → Tree → Bool
-on_wrapper test (leaf l) = false
-on_wrapper test (cat parts) = false
-on_wrapper test (alt left right) = false
 on_wrapper test (wrapped w body) = test w
+on_wrapper test t = false
 
 -- a `Loop` whose quantifier, group range and body pass the test
 abbrev pub on_loop : (Quantifier → (start end : ℕ) → Tree → Bool) → Tree → Bool
-on_loop test (leaf l) = false
-on_loop test (cat parts) = false
-on_loop test (alt left right) = false
-on_loop test (wrapped w body) = by w
-  where
-    by : Wrapper → Bool
-    by (capture_group id name) = false
-    by (loop quantifier start end) = test quantifier start end body
-    by (loop_one quantifier) = false
-    by (lookaround negate backwards start end) = false
+on_loop test (wrapped (loop quantifier start end) body) = test quantifier start end body
+on_loop test t = false
 
 -- some tree of the row passes the test itself
 abbrev pub some_in_row : (Tree → Bool) → Trees → Bool
@@ -85,31 +73,17 @@ has_neighbours test (more_trees t ts) = (test t && first_in_row test ts) || has_
 
 abbrev pub is_group : Wrapper → Bool
 is_group (capture_group id name) = true
-is_group (loop quantifier start end) = false
-is_group (loop_one quantifier) = false
-is_group (lookaround negate backwards start end) = false
+is_group w = false
 
 -- a loop of either kind
 abbrev pub is_loop : Wrapper → Bool
-is_loop (capture_group id name) = false
 is_loop (loop quantifier start end) = true
 is_loop (loop_one quantifier) = true
-is_loop (lookaround negate backwards start end) = false
+is_loop w = false
 
 abbrev pub is_string_set : Leaf → Bool
-is_string_set empty = false
-is_string_set goal = false
-is_string_set (char c) = false
-is_string_set (byte_sequence bytes) = false
-is_string_set (byte_set bytes) = false
-is_string_set (char_set characters) = false
-is_string_set match_any = false
-is_string_set match_any_except_line_terminator = false
-is_string_set (anchor kind multiline) = false
-is_string_set (word_boundary invert unicode_icase) = false
-is_string_set (bracket invert intervals) = false
-is_string_set (back_ref group icase) = false
 is_string_set (string_set strings icase) = true
+is_string_set l = false
 
 abbrev pub has_group : Tree → Bool
 has_group = some_node (on_wrapper is_group)
@@ -124,19 +98,8 @@ has_string_set = some_node (on_leaf is_string_set)
 
 -- a bracket whose `invert` and intervals pass the test
 abbrev pub is_bracket_with : (Bool → List Bounds → Bool) → Leaf → Bool
-is_bracket_with test empty = false
-is_bracket_with test goal = false
-is_bracket_with test (char c) = false
-is_bracket_with test (byte_sequence bytes) = false
-is_bracket_with test (byte_set bytes) = false
-is_bracket_with test (char_set characters) = false
-is_bracket_with test match_any = false
-is_bracket_with test match_any_except_line_terminator = false
-is_bracket_with test (anchor kind multiline) = false
-is_bracket_with test (word_boundary invert unicode_icase) = false
 is_bracket_with test (bracket invert intervals) = test invert intervals
-is_bracket_with test (back_ref group icase) = false
-is_bracket_with test (string_set strings icase) = false
+is_bracket_with test l = false
 
 -- how many code points lie in the intervals
 abbrev pub code_point_count : List Bounds → ℕ
@@ -162,10 +125,8 @@ abbrev pub is_simplified_away : Tree → Bool
 is_simplified_away = on_leaf (λ l. is_small_bracket l || is_long_bracket l)
 
 abbrev pub is_cat : Tree → Bool
-is_cat (leaf l) = false
 is_cat (cat parts) = true
-is_cat (alt left right) = false
-is_cat (wrapped w body) = false
+is_cat t = false
 
 -- some tree of the row is a `Cat`
 abbrev pub has_cat : Trees → Bool
@@ -180,17 +141,33 @@ is_short (more_trees t (more_trees u ts)) = false
 
 -- What flattening removes: a `Cat` of fewer than two parts, or with a `Cat` part.
 abbrev pub is_flattened_away : Tree → Bool
-is_flattened_away (leaf l) = false
 is_flattened_away (cat parts) = is_short parts || has_cat parts
-is_flattened_away (alt left right) = false
-is_flattened_away (wrapped w body) = false
+is_flattened_away t = false
 
--- The body of this loop is copied as often as it must be matched: one to five times, and it holds no group, no loop and no
--- `StringSet`, is charged at most 256 and has at most 101 levels.
+-- what the body of a loop that is unrolled is charged at most, and how many levels it has
+abbrev pub max_body_charge : ℕ
+max_body_charge = 256
+
+abbrev pub max_body_levels : ℕ
+max_body_levels = 101
+
+-- There are no loops and no `StringSet`, and charge and levels are within the bounds.
+abbrev pub is_within : (most_levels budget : ℕ) (loops strings : Bool) (charge levels : ℕ) → Bool
+is_within most_levels budget loops strings charge levels =
+    (not loops && not strings) && (nat_le charge budget && nat_le levels most_levels)
+
+-- A loop without groups must take one to five turns.
+abbrev pub has_few_turns : Quantifier → (start end : ℕ) → Bool
+has_few_turns quantifier start end = nat_le end start && (nat_le 1 quantifier.min && nat_le quantifier.min 5)
+
+-- Such a loop is unrolled where what its body holds is within the bounds: that is copied for each of these turns.
+abbrev pub may_unroll_by : Quantifier → (start end : ℕ) (loops strings : Bool) (charge levels : ℕ) → Bool
+may_unroll_by quantifier start end loops strings charge levels =
+    has_few_turns quantifier start end && is_within max_body_levels max_body_charge loops strings charge levels
+
 abbrev pub may_unroll : Quantifier → (start end : ℕ) → Tree → Bool
 may_unroll quantifier start end body =
-    nat_le end start && (nat_le 1 quantifier.min && nat_le quantifier.min 5)
-    && (not (has_loop body) && not (has_string_set body)) && (nat_le (charge body) 256 && nat_le (levels body) 101)
+    may_unroll_by quantifier start end (has_loop body) (has_string_set body) (charge body) (levels body)
 
 -- What unrolling removes.
 abbrev pub is_unrolled_away : Tree → Bool
@@ -219,8 +196,7 @@ is_bytes_leaf l = false
 abbrev pub is_formed_away : Tree → Bool
 is_formed_away (leaf l) = is_bytes_leaf l
 is_formed_away (cat parts) = has_neighbours has_bytes parts
-is_formed_away (alt left right) = false
-is_formed_away (wrapped w body) = false
+is_formed_away t = false
 
 abbrev pub is_zero : Option ℕ → Bool
 is_zero None = false

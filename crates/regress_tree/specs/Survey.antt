@@ -111,25 +111,12 @@ FailsAt p t = Fails (StandsAt p t) (captures t)
 -- The goal at the end.
 
 abbrev pub is_goal_leaf : Leaf → Bool
-is_goal_leaf empty = false
 is_goal_leaf goal = true
-is_goal_leaf (char c) = false
-is_goal_leaf (byte_sequence bytes) = false
-is_goal_leaf (byte_set bytes) = false
-is_goal_leaf (char_set characters) = false
-is_goal_leaf match_any = false
-is_goal_leaf match_any_except_line_terminator = false
-is_goal_leaf (anchor kind multiline) = false
-is_goal_leaf (word_boundary invert unicode_icase) = false
-is_goal_leaf (bracket invert intervals) = false
-is_goal_leaf (back_ref group icase) = false
-is_goal_leaf (string_set strings icase) = false
+is_goal_leaf l = false
 
 abbrev pub is_goal : Tree → Bool
 is_goal (leaf l) = is_goal_leaf l
-is_goal (cat parts) = false
-is_goal (alt left right) = false
-is_goal (wrapped w body) = false
+is_goal t = false
 
 -- the row, but for a goal that is its last part
 abbrev pub without_goal : Trees → Trees

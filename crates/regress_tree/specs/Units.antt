@@ -1,23 +1,12 @@
 -- How large a tree is, and what falls with every rewriting.
 use Rattle.std.specs.Prelude.{◌≡◌, ℕ, ◌+◌, ◌*◌, ◌<◌, ◌⊎◌, [], ◌∷◌, length, if◌then◌else◌, ◌==◌}
 use Rattle.regress_tree.specs.Measures.{Measure, total, total_in_row}
-use Rattle.regress_tree.specs.Tree.{Leaf, empty, goal, char, byte_sequence, byte_set, char_set, match_any, match_any_except_line_terminator, anchor, word_boundary, bracket, back_ref, string_set, Wrapper, capture_group, loop, loop_one, lookaround, Tree, Trees}
+use Rattle.regress_tree.specs.Tree.{Leaf, char, byte_sequence, byte_set, char_set, bracket, Wrapper, capture_group, loop, loop_one, lookaround, Tree, Trees}
 
 -- One for a node, and one more for each byte of a `ByteSequence`.
 abbrev pub charge_of_leaf : Leaf → ℕ
-charge_of_leaf empty = 1
-charge_of_leaf goal = 1
-charge_of_leaf (char c) = 1
 charge_of_leaf (byte_sequence bytes) = 1 + length bytes
-charge_of_leaf (byte_set bytes) = 1
-charge_of_leaf (char_set characters) = 1
-charge_of_leaf match_any = 1
-charge_of_leaf match_any_except_line_terminator = 1
-charge_of_leaf (anchor kind multiline) = 1
-charge_of_leaf (word_boundary invert unicode_icase) = 1
-charge_of_leaf (bracket invert intervals) = 1
-charge_of_leaf (back_ref group icase) = 1
-charge_of_leaf (string_set strings icase) = 1
+charge_of_leaf l = 1
 
 abbrev pub charges : Measure
 charges = record { of_leaf = charge_of_leaf; of_cat = 1; of_alt = 1; of_wrapper = λ w. 1 }
@@ -29,19 +18,9 @@ charge = total charges
 -- One for a node, and one more for each byte of a `ByteSequence`; five for a `Char`, whose UTF-8 would be a node and at
 -- most four bytes.
 abbrev pub units_of_leaf : Leaf → ℕ
-units_of_leaf empty = 1
-units_of_leaf goal = 1
 units_of_leaf (char c) = 5
 units_of_leaf (byte_sequence bytes) = 1 + length bytes
-units_of_leaf (byte_set bytes) = 1
-units_of_leaf (char_set characters) = 1
-units_of_leaf match_any = 1
-units_of_leaf match_any_except_line_terminator = 1
-units_of_leaf (anchor kind multiline) = 1
-units_of_leaf (word_boundary invert unicode_icase) = 1
-units_of_leaf (bracket invert intervals) = 1
-units_of_leaf (back_ref group icase) = 1
-units_of_leaf (string_set strings icase) = 1
+units_of_leaf l = 1
 
 abbrev pub sizes : Measure
 sizes = record { of_leaf = units_of_leaf; of_cat = 1; of_alt = 1; of_wrapper = λ w. 1 }
@@ -77,20 +56,13 @@ abbrev pub account : Tree → ℕ
 account t = units t + unrolling * loops t
 
 abbrev pub weight_of_leaf : Leaf → ℕ
-weight_of_leaf empty = 1
-weight_of_leaf goal = 1
 weight_of_leaf (char c) = 4
 weight_of_leaf (byte_sequence []) = 2
 weight_of_leaf (byte_sequence (b ∷ bytes)) = 3
 weight_of_leaf (byte_set bytes) = 2
 weight_of_leaf (char_set characters) = 3
-weight_of_leaf match_any = 1
-weight_of_leaf match_any_except_line_terminator = 1
-weight_of_leaf (anchor kind multiline) = 1
-weight_of_leaf (word_boundary invert unicode_icase) = 1
 weight_of_leaf (bracket invert intervals) = 4 + length intervals
-weight_of_leaf (back_ref group icase) = 1
-weight_of_leaf (string_set strings icase) = 1
+weight_of_leaf l = 1
 
 abbrev pub weight_of_wrapper : Wrapper → ℕ
 weight_of_wrapper (capture_group id name) = 1

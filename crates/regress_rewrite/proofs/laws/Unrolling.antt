@@ -14,10 +14,10 @@ use Rattle.regress_tree.specs.Measures.{total_in_row, levels}
 use Rattle.regress_tree.specs.Reading.{Direction}
 use Rattle.regress_tree.specs.Repetition.{turns, up_to, more_turns, repeat}
 use Rattle.regress_tree.specs.Setting.{Setting}
-use Rattle.regress_tree.specs.Shapes.{on_loop, has_loop, has_string_set, is_simplified_away, may_unroll, is_unrolled_away, is_zero, LacksShape, RowLacksShape}
+use Rattle.regress_tree.specs.Shapes.{has_loop, has_string_set, is_simplified_away, max_body_charge, max_body_levels, may_unroll, may_unroll_by, is_unrolled_away, is_zero, LacksShape, RowLacksShape}
 use Rattle.regress_tree.specs.Steps.{State, Step, ◌then_◌}
 use Rattle.regress_tree.specs.Tree.{Tree, Trees, leaf, cat, alt, wrapped, capture_group, loop, loop_one, lookaround, no_trees, more_trees, row_append, copies, tree, trees}
-use Rattle.regress_tree.specs.Units.{sizes, units, unrollables, unrollable, loops, account, charge, IsLess}
+use Rattle.regress_tree.specs.Units.{sizes, units, unrollables, loops, unrolling, charge, IsLess}
 use Rattle.regress_tree.specs.WellFormed.{captures, captures_in_row, Position, one_character, inside, last, root, last_of, NotAsOneCharacter, IsQuantifier, MayStand, RowMayStand}
 use Rattle.regress_tree.proofs.laws.Alike.{Alike-from_same}
 use Rattle.regress_tree.proofs.laws.Groups.{captures-none, turn-none}
@@ -26,7 +26,7 @@ use Rattle.regress_tree.proofs.laws.Outcomes.{flat_map-stay}
 use Rattle.regress_tree.proofs.laws.Rows.{row_append-none, steps-append, captures-append, trees-append, RowMayStand-append}
 use Rattle.regress_rewrite.specs.declared.rewrite.PassAction.TheVariants.{Modified}
 use Rattle.regress_rewrite.specs.Law.{IsPart, Keeps, IsLawful}
-use Rattle.regress_rewrite.specs.Unroll.{further_turns, further_loop, unrolled, unrolled_loop, may_copy, small_account}
+use Rattle.regress_rewrite.specs.Unroll.{further_turns, further_loop, unrolled, unrolled_loop}
 use Rattle.regress_rewrite.proofs.CopiesLemmas.{HasNoGroup-from, loops-none, copies-stand, captures-copies}
 use Rattle.regress_rewrite.proofs.LawfulLemmas.{modified_lawful}
 
@@ -60,23 +60,21 @@ inside-free inside = tt
 inside-free last = tt
 inside-free root = tt
 
--- A loop that may be unrolled, whose body may be copied.
-
-pub record MayCopy (q : Quantifier) (start end : ℕ) (body : Tree) : Type 0 where
+-- What a loop has that may be unrolled.
+pub record MayUnroll (q : Quantifier) (start end : ℕ) (body : Tree) : Type 0 where
   pub groupless : end ≤ start
   pub least : 1 ≤ q.min
   pub most : q.min ≤ 5
   pub no_loop : has_loop body ≡ false
   pub no_strings : has_string_set body ≡ false
-  pub units : units body ≤ 1280
-  pub levels : levels body ≤ 101
+  pub charge : charge body ≤ max_body_charge
+  pub levels : levels body ≤ max_body_levels
 
-pub MayCopy-from : (q : Quantifier) (start end : ℕ) (body : Tree) → may_copy q start end body ≡ true → MayCopy q start end body
-MayCopy-from q start end body may = by (has_loop body) refl (has_string_set body) refl may
+pub MayUnroll-from : (q : Quantifier) (start end : ℕ) (body : Tree) → may_unroll q start end body ≡ true → MayUnroll q start end body
+MayUnroll-from q start end body may = by (has_loop body) refl (has_string_set body) refl may
   where
     by : (loops : Bool) → has_loop body ≡ loops → (strings : Bool) → has_string_set body ≡ strings →
-        (nat_le end start && (nat_le 1 q.min && nat_le q.min 5) && (not loops && not strings) && (nat_le (units body) 1280 && nat_le (levels body) 101)) ≡ true →
-        MayCopy q start end body
+        may_unroll_by q start end loops strings (charge body) (levels body) ≡ true → MayUnroll q start end body
     by true l strings s may = absurd (grind (arith, nat_tests))
     by false l true s may = absurd (grind (arith, nat_tests))
     by false l false s may = record {
@@ -85,24 +83,9 @@ MayCopy-from q start end body may = by (has_loop body) refl (has_string_set body
       most = grind (arith, nat_tests);
       no_loop = l;
       no_strings = s;
-      units = grind (arith, nat_tests);
+      charge = grind (arith, nat_tests);
       levels = grind (arith, nat_tests);
     }
-
--- what may be unrolled has such a body
-pub may_copy-unrolled : (q : Quantifier) (start end : ℕ) (body : Tree) → (n : ℕ) → MayStand n body inside → may_unroll q start end body ≡ true →
-    may_copy q start end body ≡ true
-may_copy-unrolled q start end body n m may = by (has_loop body) (has_string_set body) may
-  where
-    small : units body ≤ 5 * charge body
-    small = units-le n body inside m
-
-    by : (loops strings : Bool) →
-        (nat_le end start && (nat_le 1 q.min && nat_le q.min 5) && (not loops && not strings) && (nat_le (charge body) 256 && nat_le (levels body) 101)) ≡ true →
-        (nat_le end start && (nat_le 1 q.min && nat_le q.min 5) && (not loops && not strings) && (nat_le (units body) 1280 && nat_le (levels body) 101)) ≡ true
-    by true strings may = absurd (grind (arith, nat_tests))
-    by false true may = absurd (grind (arith, nat_tests))
-    by false false may = grind (arith, nat_tests, small)
 
 module _ (q : Quantifier) (start end : ℕ) (body : Tree) where
   -- what holds of the row behind the copies, whether the loop is there or not
@@ -175,11 +158,11 @@ module _ (q : Quantifier) (start end : ℕ) (body : Tree) where
       let first : total_in_row unrollables (copies q.min body) ≡ 0 = omega (arith, total-copies unrollables q.min body, ap (λ n. q.min * n) none) in
       omega (arith, first, behind, total-append unrollables (copies q.min body) (further_loop q start end body))
 
-  units-unrolled : q.min ≤ 5 → units body ≤ 1280 → units (unrolled q start end body) ≤ units body + 6402
+  units-unrolled : q.min ≤ 5 → units body ≤ 5 * max_body_charge → units (unrolled q start end body) ≤ units body + (unrolling + 1)
   units-unrolled most small =
       let behind : total_in_row sizes (further_loop q start end body) ≤ 1 + units body =
       with_further (λ ts. total_in_row sizes ts ≤ 1 + units body) (λ zero. omega arith) (omega arith) in
-      let each : q.min * units body ≤ 5 * 1280 = mul-le-mul most small in
+      let each : q.min * units body ≤ 5 * (5 * max_body_charge) = mul-le-mul most small in
       omega (arith, each, behind, total-copies sizes q.min body, total-append sizes (copies q.min body) (further_loop q start end body))
 
   lacks-unrolled : LacksShape is_simplified_away body → LacksShape is_simplified_away (unrolled q start end body)
@@ -188,7 +171,7 @@ module _ (q : Quantifier) (start end : ℕ) (body : Tree) where
       (some_node-copies is_simplified_away q.min body lacks)
       (with_further (λ ts. RowLacksShape is_simplified_away ts) (λ zero. refl) (ap (λ b. b || false) lacks))
 
-  module _ (may : MayCopy q start end body) where
+  module _ (may : MayUnroll q start end body) where
     one_loop : 1 ≤ loops (wrapped (loop q start end) body)
     one_loop = grind (arith, nat_tests)
 
@@ -201,12 +184,13 @@ module _ (q : Quantifier) (start end : ℕ) (body : Tree) where
         let n = part.0 in
         let m = part.2 in
         let none = captures-none start end body m.1.1 may.groupless in
+        let small : units body ≤ 5 * max_body_charge = omega (arith, units-le n body inside m.2, may.charge) in
         record {
           meaning = λ setting text is_text. Alike-from_same (λ s.
               sym (steps-unrolled may.groupless setting (encode_utf8_all text) d s));
           stands = unrolled-stand;
           captures = captures-unrolled none;
-          account = omega (arith, units-unrolled may.most may.units, loops-unrolled (loops-none body may.no_loop), one_loop);
+          account = omega (arith, units-unrolled may.most small, loops-unrolled (loops-none body may.no_loop), one_loop);
           brackets = lacks-unrolled;
         }
 
@@ -218,7 +202,7 @@ module _ (q : Quantifier) (start end : ℕ) (body : Tree) where
   pub unroll_lawful : (d : Direction) → IsPart (wrapped (loop q start end) body) → may_unroll q start end body ≡ true →
       IsLawful is_unrolled_away true d (wrapped (loop q start end) body) (unrolled q start end body) Modified
   unroll_lawful d part may =
-      let facts = MayCopy-from q start end body (may_copy-unrolled q start end body part.0 part.2.2 may) in
+      let facts = MayUnroll-from q start end body may in
       modified_lawful is_unrolled_away true d (wrapped (loop q start end) body) may (unrolled q start end body)
       (unrolled_keeps facts d part) (unrolled_less facts)
 
@@ -235,15 +219,6 @@ module _ (q : Quantifier) (start end : ℕ) (body : Tree) where
 
 -- The same of any node.
 
-pub loop_may_copy : (t : Tree) → IsPart t → is_unrolled_away t ≡ true → on_loop may_copy t ≡ true
-loop_may_copy (leaf l) part is = absurd (false≢true is)
-loop_may_copy (cat parts) part is = absurd (false≢true is)
-loop_may_copy (alt left right) part is = absurd (false≢true is)
-loop_may_copy (wrapped (capture_group id name) body) part is = absurd (false≢true is)
-loop_may_copy (wrapped (loop q start end) body) part is = may_copy-unrolled q start end body part.0 part.2.2 is
-loop_may_copy (wrapped (loop_one q) body) part is = absurd (false≢true is)
-loop_may_copy (wrapped (lookaround negate backwards start end) body) part is = absurd (false≢true is)
-
 pub loop_lawful : (d : Direction) (t new : Tree) → IsPart t → is_unrolled_away t ≡ true → new ≡ unrolled_loop t →
     IsLawful is_unrolled_away true d t new Modified
 loop_lawful d (leaf l) new part is made = absurd (false≢true is)
@@ -253,25 +228,3 @@ loop_lawful d (wrapped (capture_group id name) body) new part is made = absurd (
 loop_lawful d (wrapped (loop q start end) body) new part is made = rw made (unroll_lawful q start end body d part is)
 loop_lawful d (wrapped (loop_one q) body) new part is made = absurd (false≢true is)
 loop_lawful d (wrapped (lookaround negate backwards start end) body) new part is made = absurd (false≢true is)
-
--- the account of a loop that may be unrolled is small
-pub account-unrolled : (t : Tree) → IsPart t → is_unrolled_away t ≡ true → account t ≤ small_account
-account-unrolled (leaf l) part is = absurd (false≢true is)
-account-unrolled (cat parts) part is = absurd (false≢true is)
-account-unrolled (alt left right) part is = absurd (false≢true is)
-account-unrolled (wrapped (capture_group id name) body) part is = absurd (false≢true is)
-account-unrolled (wrapped (loop q start end) body) part is =
-    let may = MayCopy-from q start end body (may_copy-unrolled q start end body part.0 part.2.2 is) in
-    omega (arith, may.units, loops-none body may.no_loop, one_loop q start end body may, at_most_one q)
-  where
-    at_most_one : (q : Quantifier) → unrollable (loop q start end) ≤ 1
-    at_most_one q = grind (arith, nat_tests)
-account-unrolled (wrapped (loop_one q) body) part is = absurd (false≢true is)
-account-unrolled (wrapped (lookaround negate backwards start end) body) part is = absurd (false≢true is)
-
--- and a loop that must take a turn, of such an account, has a body of so few units
-pub units-small : (q : Quantifier) (start end : ℕ) (body : Tree) → 1 ≤ q.min → account (wrapped (loop q start end) body) ≤ small_account →
-    units body ≤ 1280
-units-small q start end body least small =
-    let one : unrollable (loop q start end) ≡ 1 = grind (arith, nat_tests) in
-    omega (arith, one, small)

@@ -16,7 +16,7 @@ use Rattle.regress_normalize.specs.PartFacts.{HasRowFacts}
 use Rattle.regress_normalize.specs.Steps.{StandsFor}
 use Rattle.regress_normalize.proofs.NormalLemmas.{IsNormal-reattach}
 use Rattle.regress_tree.specs.NormalForm.{IsNormal}
-use Rattle.regress_normalize.proofs.TraversalLemmas.{StandsFor-reattach, StandsFor-normalized, StandsFor-only_part, IsPart-stands, Normalized-after, Normalized-error, stands_inside, wraps, wraps_clean, small_kept, wrapper_clean, Normalized-finished, Finished-error, plain_up, units-reattach, units_up, onto_up, stands_up, IsPart_up, stands_left, both_sides, taken, more_normal, StandsFor-part}
+use Rattle.regress_normalize.proofs.TraversalLemmas.{StandsFor-reattach, StandsFor-normalized, StandsFor-only_part, IsPart-stands, Normalized-after, Normalized-error, stands_inside, wraps, wraps_clean, Normalized-finished, Finished-error, plain_up, units-reattach, units_up, onto_up, stands_up, IsPart_up, stands_left, both_sides, taken, more_normal, StandsFor-part}
 use Rattle.regress_normalize.proofs.traversal.+normalize.Goals as goal
 
 pub normalize-normalize_last-requires : goal.normalize-normalize_last-requires
@@ -295,16 +295,8 @@ normalize_up-returns-in-Err t c =
     (Finished-error _ _ _ _ _ refl (stands_up (tree l.above) (tree l.node) _ _ shifted _ _ _ _ l.invariant.stands c.in-Err.ensures))
 
 -- a node around a body
-
-pub normalize_last-finish_wrapper-requires-clause-small : goal.normalize_last-finish_wrapper-requires-clause-small
-normalize_last-finish_wrapper-requires-clause-small t c one =
-    let part = subst (λ (u : Tree). IsPart u) (sym c.if-take_only_part.ensures) c.requires.part in
-    small_kept (direction_of c.args.walk.now) _ _ c.may_unroll-small.result c.normalize_body.ensures.keeps part c.may_unroll-small.ensures one
-
 pub normalize_last-returns-in_ok-body-in-CaptureGroup : goal.normalize_last-returns-in_ok-body-in-CaptureGroup
 normalize_last-returns-in_ok-body-in-CaptureGroup t c =
-    let d = direction_of c.args.walk.now in
-    let keeps = c.normalize_body.ensures.keeps in
     rw (sym c.if-take_only_part.ensures)
-    (Normalized-finished _ d _ _ _ _ keeps c.finish_wrapper.ensures
-    (wrapper_clean d _ _ c.may_unroll-small.result c.in_ok-body-in-CaptureGroup.body keeps c.may_unroll-small.ensures c.in_ok-body-in-CaptureGroup.ensures.plain))
+    (Normalized-finished _ (direction_of c.args.walk.now) _ _ _ _ c.normalize_body.ensures.keeps c.finish_wrapper.ensures
+    c.in_ok-body-in-CaptureGroup.ensures.plain)

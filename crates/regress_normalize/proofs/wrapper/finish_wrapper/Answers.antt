@@ -1,36 +1,29 @@
 -- A loop by what was found of it, and a lookaround for `Empty`.
-use Rattle.std.proofs.Common.{◌≡◌, ◌≤◌, true, refl, sym, ap, subst, ◌∙◌}
-use Rattle.regress_tree.specs.Shapes.{is_emptied_away, on_loop}
+use Rattle.std.proofs.Common.{◌≡◌, true, refl, sym, ap, subst, ◌∙◌}
+use Rattle.regress_tree.specs.Shapes.{is_emptied_away, is_unrolled_away, may_unroll}
 use Rattle.regress_tree.specs.Tree.{Tree, tree, wrapped, loop, lookaround}
-use Rattle.regress_tree.specs.Units.{account}
 use Rattle.regress_tree.specs.Walk.{direction_of}
 use Rattle.regress_tree.proofs.laws.Levels.{out-Loop, out-LookaroundAssertion}
 use Rattle.regress_tree.proofs.laws.Nodes.{tree-Loop, tree-LookaroundAssertion, tree-Empty}
 use Rattle.regress_rewrite.specs.Law.{IsPart}
-use Rattle.regress_rewrite.specs.Unroll.{may_copy, small_account}
 use Rattle.regress_normalize.specs.Normalized.{IsWrapperOf}
-use Rattle.regress_normalize.specs.Wrapped.{may_unroll_by}
-use Rattle.regress_normalize.proofs.WrapperLemmas.{emptied_finished, wrapper_holds, tells_unrolling, unrolled_not_clean, finished_narrower}
+use Rattle.regress_normalize.proofs.WrapperLemmas.{emptied_finished, wrapper_holds, told_by_facts, unrolled_not_clean, finished_narrower}
 use Rattle.regress_normalize.proofs.wrapper.finish_wrapper.Goals as goal
 
-pub finish_unrolled-requires-clause-copied : goal.finish_unrolled-requires-clause-copied
-finish_unrolled-requires-clause-copied c =
+pub finish_unrolled-requires-clause-shape : goal.finish_unrolled-requires-clause-shape
+finish_unrolled-requires-clause-shape c =
     let at = c.in-Loop in
     let q = at.quant in
     let start = at.enclosed_groups.start in
     let end = at.enclosed_groups.end in
     let body = tree at.loopee.value in
-    let is = ap tree at.is ∙ tree-Loop at.loopee at.quant at.enclosed_groups in
-    let facts = c.args.body.now in
-    let small = c.args.small in
-    let told = subst (λ (t : Tree). IsWrapperOf facts t) is c.requires.body in
-    let part = subst (λ (t : Tree). IsPart t) is c.requires.part in
-    let holds = wrapper_holds facts (loop q start end) body told in
-    let tells = tells_unrolling small q start end body facts holds.has part
-    (λ one. subst (λ (t : Tree). account t ≤ small_account) is (c.requires.small one)) in
-    let asked : c.may_unroll.result ≡ may_unroll_by small q start end facts = rw (at.quant-is, at.enclosed_groups-is) at c.may_unroll.ensures in
     let loop_is = tree-Loop at.loopee at.quant at.enclosed_groups in
-    rw (at.is, out-Loop) (ap (on_loop may_copy) loop_is ∙ tells.copied (sym asked ∙ c.if-may_unroll.true))
+    let facts = c.args.body.now in
+    let told = subst (λ (t : Tree). IsWrapperOf facts t) (ap tree at.is ∙ loop_is) c.requires.body in
+    let asked : c.may_unroll.result ≡ may_unroll q start end body =
+    (rw (at.quant-is, at.enclosed_groups-is) at c.may_unroll.ensures)
+    ∙ told_by_facts q start end body facts (wrapper_holds facts (loop q start end) body told).has in
+    rw (at.is, out-Loop) (ap is_unrolled_away loop_is ∙ sym asked ∙ c.if-may_unroll.true)
 
 pub finish_loop-requires-clause-inner : goal.finish_loop-requires-clause-inner
 finish_loop-requires-clause-inner c =
@@ -39,22 +32,19 @@ finish_loop-requires-clause-inner c =
     let start = at.enclosed_groups.start in
     let end = at.enclosed_groups.end in
     let body = tree at.loopee.value in
-    let is = ap tree at.is ∙ tree-Loop at.loopee at.quant at.enclosed_groups in
+    let loop_is = tree-Loop at.loopee at.quant at.enclosed_groups in
     let facts = c.args.body.now in
-    let small = c.args.small in
-    let told = subst (λ (t : Tree). IsWrapperOf facts t) is c.requires.body in
-    let part = subst (λ (t : Tree). IsPart t) is c.requires.part in
+    let told = subst (λ (t : Tree). IsWrapperOf facts t) (ap tree at.is ∙ loop_is) c.requires.body in
     let holds = wrapper_holds facts (loop q start end) body told in
-    let tells = tells_unrolling small q start end body facts holds.has part
-    (λ one. subst (λ (t : Tree). account t ≤ small_account) is (c.requires.small one)) in
-    let asked : c.may_unroll.result ≡ may_unroll_by small q start end facts = rw (at.quant-is, at.enclosed_groups-is) at c.may_unroll.ensures in
+    let asked : c.may_unroll.result ≡ may_unroll q start end body =
+    (rw (at.quant-is, at.enclosed_groups-is) at c.may_unroll.ensures) ∙ told_by_facts q start end body facts holds.has in
     rw (at.is, out-Loop) (record {
       quantifier = q;
       start = start;
       end = end;
       body = body;
-      is = tree-Loop at.loopee at.quant at.enclosed_groups;
-      stays = tells.stays (sym asked ∙ c.if-may_unroll.false);
+      is = loop_is;
+      stays = sym asked ∙ c.if-may_unroll.false;
       normal = holds.normal;
       has = holds.has;
     })
@@ -66,26 +56,21 @@ returns-then-may_unroll c =
     let start = at.enclosed_groups.start in
     let end = at.enclosed_groups.end in
     let body = tree at.loopee.value in
-    let is = ap tree at.is ∙ tree-Loop at.loopee at.quant at.enclosed_groups in
+    let loop_is = tree-Loop at.loopee at.quant at.enclosed_groups in
     let facts = c.args.body.now in
-    let small = c.args.small in
-    let told = subst (λ (t : Tree). IsWrapperOf facts t) is c.requires.body in
-    let part = subst (λ (t : Tree). IsPart t) is c.requires.part in
-    let holds = wrapper_holds facts (loop q start end) body told in
-    let tells = tells_unrolling small q start end body facts holds.has part
-    (λ one. subst (λ (t : Tree). account t ≤ small_account) is (c.requires.small one)) in
-    let asked : c.may_unroll.result ≡ may_unroll_by small q start end facts = rw (at.quant-is, at.enclosed_groups-is) at c.may_unroll.ensures in
+    let told = subst (λ (t : Tree). IsWrapperOf facts t) (ap tree at.is ∙ loop_is) c.requires.body in
+    let asked : c.may_unroll.result ≡ may_unroll q start end body =
+    (rw (at.quant-is, at.enclosed_groups-is) at c.may_unroll.ensures)
+    ∙ told_by_facts q start end body facts (wrapper_holds facts (loop q start end) body told).has in
     let finished = rw (at.is, out-Loop) at c.finish_unrolled.ensures in
     rw at.is (finished_narrower _ _ _ _ _ _
-    (λ clean. unrolled_not_clean facts _ q start end body (tree-Loop at.loopee at.quant at.enclosed_groups)
-    (tells.exact clean.1 ∙ sym asked ∙ c.if-may_unroll.true) clean.0)
+    (unrolled_not_clean facts _ q start end body loop_is (sym asked ∙ c.if-may_unroll.true))
     finished)
 
 pub returns-else-may_unroll : goal.returns-else-may_unroll
 returns-else-may_unroll c =
     let at = c.in-Loop in
-    let finished = rw (at.is, out-Loop) at (c.finish_loop.ensures.finished (direction_of c.args.walk.now)) in
-    rw at.is (finished_narrower _ _ _ _ _ _ (λ clean. clean.0) finished)
+    rw at.is (rw (at.is, out-Loop) at (c.finish_loop.ensures (direction_of c.args.walk.now)))
 
 pub returns-then-always_holds : goal.returns-then-always_holds
 returns-then-always_holds c =
@@ -96,5 +81,5 @@ returns-then-always_holds c =
     let part = subst (λ (u : Tree). IsPart u) is c.requires.part in
     let emptied : is_emptied_away t ≡ true = sym (rw (c.deref.ensures, at.is, out) at c.always_holds.ensures) ∙ c.if-always_holds.true in
     rw (is, tree-Empty)
-    (emptied_finished _ (direction_of c.args.walk.now) t (λ clean. clean.0.0) refl emptied part
+    (emptied_finished _ (direction_of c.args.walk.now) t (λ clean. clean.0) refl emptied part
     c.leaf_facts.result (rw tree-Empty at c.leaf_facts.ensures.has))

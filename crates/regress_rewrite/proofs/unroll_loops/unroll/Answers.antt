@@ -1,11 +1,52 @@
--- The law, from what became of the loop.
-use Rattle.regress_tree.specs.Tree.{tree}
-use Rattle.regress_rewrite.proofs.laws.Unrolling.{loop_may_copy, loop_lawful}
+-- What became of the loop and the copies.
+use Rattle.std.proofs.Common.{◌≡◌, true, List, Vec, Global, rules, sym, ap, subst, ◌∙◌, tests}
+use Rattle.regress_tree.specs.declared.ir.node.Node.{Node}
+use Rattle.regress_tree.specs.declared.ir.node.Node.TheVariants.{Cat}
+use Rattle.regress_base.specs.declared.types.Quantifier.{Quantifier}
+use Rattle.regress_tree.specs.Shapes.{is_unrolled_away, is_zero, may_unroll}
+use Rattle.regress_tree.specs.Tree.{Tree, tree, wrapped, loop, cat, trees, copies}
+use Rattle.regress_tree.proofs.laws.Nodes.{tree-Loop, tree-Cat}
+use Rattle.regress_tree.proofs.laws.Levels.{out-Loop}
+use Rattle.regress_rewrite.specs.Law.{IsPart}
+use Rattle.regress_rewrite.specs.Unroll.{further_turns, unrolled, unrolled_loop}
+use Rattle.regress_rewrite.proofs.laws.Unrolling.{MayUnroll-from, unrolled-without, unrolled-with, body_groupless, is_zero-told}
 use Rattle.regress_rewrite.proofs.unroll_loops.unroll.Goals as goal
+use Rattle.regress_rewrite.proofs.unroll_loops.unroll.Goals.{then-ne+in_ok-push, else-ne}
 
-pub write_out-requires-clause-body : goal.write_out-requires-clause-body
-write_out-requires-clause-body c = loop_may_copy (tree c.args.node.now) c.requires.part c.requires.shape
+pub copy_times-requires-clause-groups : goal.copy_times-requires-clause-groups
+copy_times-requires-clause-groups c =
+    let at = c.in-Loop in
+    let body = tree at.loopee.value in
+    let is = ap tree at.is ∙ tree-Loop at.loopee at.quant at.enclosed_groups in
+    let part = subst (λ (t : Tree). IsPart t) is c.requires.part in
+    let may : may_unroll at.quant at.enclosed_groups.start at.enclosed_groups.end body ≡ true = ap is_unrolled_away (sym is) ∙ c.requires.shape in
+    let facts = MayUnroll-from at.quant at.enclosed_groups.start at.enclosed_groups.end body may in
+    rw (c.deref.ensures, at.loopee-is) (body_groupless at.quant at.enclosed_groups.start at.enclosed_groups.end body facts part)
 
-pub returns-clause-lawful : goal.returns-clause-lawful
-returns-clause-lawful c d =
-    loop_lawful d (tree c.args.node.now) (tree c.write_out.new.node) c.requires.part c.requires.shape c.in_ok-write_out.ensures.unrolled
+-- the node is the loop, unrolled
+pub returns-clause-unrolled : goal.returns-clause-unrolled
+returns-clause-unrolled c =
+    let at = c.in-Loop in
+    let q = at.quant in
+    let start = at.enclosed_groups.start in
+    let end = at.enclosed_groups.end in
+    let body = tree at.loopee.value in
+    let is = ap tree at.is ∙ tree-Loop at.loopee at.quant at.enclosed_groups in
+    let parts = c.in_ok-parts.parts.items in
+    let copied : trees parts ≡ copies q.min body = rw (c.deref.ensures, at.is, out-Loop) at c.in_ok-parts.ensures.copies in
+    let turns : c.further_turns.result ≡ further_turns q = rw at.quant-is at c.further_turns.ensures in
+    let zero = ap (λ (q' : Quantifier). is_zero q'.max) (sym turns) ∙ is_zero-told c.further_turns.result.max in
+    let row_is : tree (Cat c.if-ne.parts) ≡ unrolled q start end body =
+    tree-Cat c.if-ne.parts
+    ∙ elim c.if-ne.branch [
+      | then-ne+in_ok-push w ↦
+          let further = rw (at.is, out-Loop) at w.replace.ensures.value in
+          let tree_of_further = ap tree further ∙ tree-Loop at.loopee c.further_turns.result at.enclosed_groups
+          ∙ ap (λ (q' : Quantifier). wrapped (loop q' start end) body) turns in
+          ap (λ (ps : Vec Node Global). cat (trees ps.items)) w.parts-is ∙ ap (λ (ps : List Node). cat (trees ps)) w.in_ok-push.ensures.items
+          ∙ unrolled-with q start end body parts copied w.replace.result tree_of_further (search (rules, tests))
+      | else-ne w ↦
+          ap (λ (ps : Vec Node Global). cat (trees ps.items)) w.parts-is
+          ∙ unrolled-without q start end body parts copied (search (rules, tests))
+    ] in
+    row_is ∙ ap unrolled_loop (sym is)
