@@ -4,6 +4,7 @@ pub mod LoweringLemmas
 pub mod VisitLemmas
 mod LiteralExamples
 mod BracketLemmas
+mod DisplayLemmas
 mod DuplicateLemmas
 mod GroupIdLemmas
 mod IdLemmas

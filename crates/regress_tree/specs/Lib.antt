@@ -22,3 +22,4 @@ pub mod Spine
 pub mod NodeTests
 pub mod Copies
 pub mod Survey
+pub mod Display
