@@ -1,14 +1,15 @@
 -- What is printed of a pattern: the one place that cites the library's words.
-use Rattle.std.specs.Prelude.{◌≡◌}
+use Rattle.std.specs.Prelude.{◌≡◌, ℕ, List, ◌++◌, Option, codes}
+use Rattle.std.specs.Io.KnownBytes.{Appends}
 use Rattle.regress_front.specs.Setting.{Setting}
 use Rattle.regress_front.specs.SmallTable.{small_table}
-use Rattle.regress_front.specs.Tree.{tree}
+use Rattle.regress_front.specs.Tree.{Tree}
+use Rattle.regress_front.specs.Display.{printed}
 use Rattle.regress_front.specs.WellFormed.{captures}
 use Rattle.regress_front.specs.NormalForm.{IsNormal}
 use Rattle.regress_front.specs.Syntax.{Pattern}
 use Rattle.regress_front.specs.TreeOf.{tree_of}
 use Rattle.regress_front.specs.Accepted as parse
-use Rattle.regex_front.specs.declared.trees.Trees.{Trees}
 use Rattle.regex_front.specs.Request.{Request}
 
 -- its flags, and the table that the program has
@@ -25,12 +26,32 @@ IsAcceptedPattern request = (p : Pattern) × IsAccepted request p
 abbrev pub NoneIsAccepted : Request → Type 0
 NoneIsAccepted request = parse.NoneIsAccepted (setting_of_request request) request.0
 
--- The trees printed of a request: the accepted pattern's own tree, and one in normal form that means what the
--- pattern does and has its groups.
-pub record AreTreesOf (request : Request) (trees : Trees) : Type 0 where
+-- A tree in normal form that means what the pattern does and has its groups.
+pub record IsOptimized (request : Request) (p : Pattern) (t : Tree) : Type 0 where
+  pub normal : IsNormal t
+  pub meaning : parse.Means (setting_of_request request) t p
+  pub captures : captures t ≡ captures (tree_of small_table p)
+
+-- The first part of the output: the accepted pattern's own tree, and a line behind it.
+pub record IsParsedText (request : Request) (bytes : List ℕ) : Type 0 where
   pub pattern : Pattern
   pub accepted : IsAccepted request pattern
-  pub parsed : tree trees.parsed.node ≡ tree_of small_table pattern
-  pub normal : IsNormal (tree trees.optimized.node)
-  pub meaning : parse.Means (setting_of_request request) (tree trees.optimized.node) pattern
-  pub captures : captures (tree trees.optimized.node) ≡ captures (tree_of small_table pattern)
+  pub text : bytes ≡ printed (tree_of small_table pattern) ++ codes "--\n"
+
+-- The second part: an optimized tree of it.
+pub record IsOptimizedText (request : Request) (bytes : List ℕ) : Type 0 where
+  pub optimized : Tree
+  pub good : (p : Pattern) → IsAccepted request p → IsOptimized request p optimized
+  pub text : bytes ≡ printed optimized
+
+-- The whole output: one behind the other.
+pub record IsOutput (request : Request) (bytes : List ℕ) : Type 0 where
+  pub pattern : Pattern
+  pub accepted : IsAccepted request pattern
+  pub optimized : Tree
+  pub good : IsOptimized request pattern optimized
+  pub text : bytes ≡ (printed (tree_of small_table pattern) ++ codes "--\n") ++ printed optimized
+
+-- A writer has taken bytes of which this holds. Where it tells what it holds, it holds these more.
+abbrev pub Took : Option (List ℕ) → Option (List ℕ) → (List ℕ → Type 0) → Type 0
+Took old new P = (bytes : List ℕ) × P bytes × Appends old new bytes

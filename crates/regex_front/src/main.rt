@@ -3,24 +3,25 @@
 //! status 2 and the usage. Want of memory for the arguments or the buffer is status 3, as elsewhere.
 #![tactic(auto)]
 
-ghost use Rattle.std.specs.Prelude.{◌≡◌, ◌≢◌, ◌≤◌, ◌⊎◌, None, IfSome};
-ghost use Rattle.regex_front.specs.Printed.{IsAcceptedPattern, NoneIsAccepted};
+ghost use Rattle.std.specs.Prelude.{◌≡◌, ◌≢◌, ◌≤◌, ◌↔◌, ◌⊎◌, None, IfSome, IfErr, OnOk};
+ghost use Rattle.regex_front.specs.declared.failure.Failure.TheVariants.{Memory, Output};
+ghost use Rattle.regex_front.specs.Printed.{IsAcceptedPattern, NoneIsAccepted, IsParsedText, IsOutput, Took};
 ghost use Rattle.regex_front.specs.Request.{request_of};
+ghost use Rattle.regex_front.specs.Ending.{Ends};
 
 mod arguments;
 mod failure;
-mod front;
 #[cfg(test)]
 mod tests;
 mod trees;
 
-use arguments::arguments;
+use arguments::{Request, arguments, read_request};
 use failure::{Failure, tell};
-use front::run_front;
 use std::alloc::Global;
 use std::env::Env;
 use std::io::{BufWriter, Write};
 use std::process::ExitCode;
+use trees::print_trees;
 
 fn main(rt: HostRuntime) -> ExitCode {
     ExitCode::from(run(&rt, rt.stdout(), &mut rt.stderr()))
@@ -54,4 +55,47 @@ fn run_buffered<W: Write + Drop, E: Write>(
         Ok(mut out) => run_front(alloc, args, &mut out, err),
         Err(_) => tell(Failure::Memory, err),
     }
+}
+
+/// Runs the program on its arguments, without its own name, and answers its status:
+/// - 0: the parsed tree, `--` and the optimized tree were written to `out`;
+/// - 1: the pattern has a fault, and `error: ` with its text was written to `err`;
+/// - 2: the arguments aren't a pattern and perhaps letters of `imsuv`, each at most once, and `err` has the usage;
+/// - 3: memory was wanting, and `err` has `error: out of memory`; `out` has nothing, or the parsed tree and `--`;
+/// - 4: `out` can't be written; it may have taken the front of what 0 writes.
+///
+/// The parsed tree is written and flushed before the optimized one is made. A failing write to `err` changes no status.
+pub fn run_front<W: Write, E: Write>(alloc: Global, args: &[String], out: &mut W, err: &mut E) -> u8
+    ensures known { result ≤ 4 }
+    ensures usage { (result ≡ 2) ↔ (request_of args.now ≡ None) }
+    ensures refused { result ≡ 1 → IfSome (request_of args.now) NoneIsAccepted }
+    ensures accepted { (result ≡ 0) ⊎ (result ≡ 4) → IfSome (request_of args.now) IsAcceptedPattern }
+
+    // What is written, byte for byte: both trees, nothing, or the first one.
+    ensures printed { result ≡ 0 → IfSome (request_of args.now)
+        (λ request. Took (W.contents out.old) (W.contents out.new) (IsOutput request)) }
+    ensures untouched { (result ≡ 1) ⊎ (result ≡ 2) → out.new ≡ out.old }
+    ensures wanting { result ≡ 3 → (out.new ≡ out.old) ⊎ IfSome (request_of args.now)
+        (λ request. Took (W.contents out.old) (W.contents out.new) (IsParsedText request)) }
+    ensures quiet { (result ≡ 0) ⊎ (result ≡ 4) → err.new ≡ err.old }
+{
+    match print_request(alloc, args, out) {
+        Ok(()) => 0,
+        Err(failure) => tell(failure, err),
+    }
+}
+
+/// Prints what the arguments ask for.
+fn print_request<W: Write>(alloc: Global, args: &[String], out: &mut W) -> Result<(), Failure>
+    ensures ends { Ends (request_of args.now) result }
+    ensures printed { OnOk result (IfSome (request_of args.now)
+        (λ request. Took (W.contents out.old) (W.contents out.new) (IsOutput request))) }
+    ensures untouched { IfErr result (λ failure. failure ≢ Output → failure ≢ Memory → out.new ≡ out.old) }
+    ensures wanting { IfErr result (λ failure. failure ≡ Memory → (out.new ≡ out.old) ⊎ IfSome (request_of args.now)
+        (λ request. Took (W.contents out.old) (W.contents out.new) (IsParsedText request))) }
+{
+    let Some(Request { pattern, flags }) = read_request(args) else {
+        return Err(Failure::Usage);
+    };
+    print_trees(alloc, pattern, flags, out)
 }

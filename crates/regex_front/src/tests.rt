@@ -2,8 +2,7 @@
 
 use crate::arguments::arguments;
 use crate::failure::{Failure, tell};
-use crate::front::run_front;
-use crate::run;
+use crate::{run, run_front};
 use std::alloc::{AllocError, Global};
 use std::env::{Env, FillError};
 use std::io::{self, ErrorKind, Write};

@@ -1,34 +1,86 @@
-//! From a pattern to the two trees that are printed of it.
-ghost use Rattle.std.specs.Prelude.{◌≡◌, ◌≤◌, All, IfOk, chars};
-ghost use Rattle.regress_front.specs.Fault.{RefusedOnlyIf};
-ghost use Rattle.regex_front.specs.Printed.{AreTreesOf, NoneIsAccepted};
+//! The two trees that are printed of a pattern.
+ghost use Rattle.std.specs.Prelude.{◌≡◌, ◌≢◌, ◌≤◌, ◌⊎◌, ◌++◌, All, Some, IfOk, IfErr, OnOk, chars};
+ghost use Rattle.std.specs.Io.KnownBytes.{Appends};
+ghost use Rattle.regress_front.specs.TableOf.{table_of};
+ghost use Rattle.regress_front.specs.SmallTable.{small_table};
+ghost use Rattle.regress_front.specs.Tree.{tree};
+ghost use Rattle.regress_front.specs.Display.{printed};
+ghost use Rattle.regex_front.specs.declared.failure.Failure.TheVariants.{Memory, Output};
+ghost use Rattle.regex_front.specs.Printed.{IsAcceptedPattern, IsParsedText, IsOptimizedText, IsOutput, Took};
+ghost use Rattle.regex_front.specs.Ending.{Ends, IsDue};
 
+use crate::failure::Failure;
 use regress_front::codepointset::CODE_POINT_MAX;
 use regress_front::ir::Regex;
 use regress_front::optimizer::parse_and_optimize;
-use regress_front::parse::{ParseFault, try_parse};
+use regress_front::parse::try_parse;
 use regress_front::types::Flags;
 use regress_front::unicode::Tables;
 use std::alloc::{AllocError, Global};
+use std::io::{self, Write};
 
-/// The tree of a pattern as it is parsed, and as it is optimized.
-#[derive(Drop)]
-pub(crate) struct Trees {
-    pub(crate) parsed: Regex,
-    pub(crate) optimized: Regex,
-}
-
-/// Parses a pattern twice, and optimizes the second tree. Want of memory for any of this is `Memory`.
-pub(crate) fn trees_of(alloc: Global, pattern: &str, flags: Flags) -> Result<Trees, ParseFault>
-    ensures trees { IfOk result (AreTreesOf (chars pattern.now, flags)) }
-    ensures refused { RefusedOnlyIf result (NoneIsAccepted (chars pattern.now, flags)) }
+/// Prints the tree of a pattern as it is parsed, and then as it is optimized.
+pub(crate) fn print_trees<W: Write>(
+    alloc: Global,
+    pattern: &str,
+    flags: Flags,
+    out: &mut W,
+) -> Result<(), Failure>
+    ensures ends { Ends (Some (chars pattern.now, flags)) result }
+    ensures printed { OnOk result (Took (W.contents out.old) (W.contents out.new) (IsOutput (chars pattern.now, flags))) }
+    ensures untouched { IfErr result (λ failure. failure ≢ Output → failure ≢ Memory → out.new ≡ out.old) }
+    ensures wanting { IfErr result (λ failure. failure ≡ Memory → (out.new ≡ out.old)
+        ⊎ Took (W.contents out.old) (W.contents out.new) (IsParsedText (chars pattern.now, flags))) }
 {
     let points = code_points(alloc, pattern)?;
     let tables = Tables::small(alloc)?;
-    let parsed = try_parse(alloc, &points, flags, &tables)?;
-    let (optimized, done) = parse_and_optimize(alloc, &points, flags, &tables)?;
+    print_parsed(alloc, &points, flags, &tables, out)?;
+    print_optimized(alloc, &points, flags, &tables, out)
+}
+
+/// Prints the tree of a pattern as it is parsed, and the line behind it.
+fn print_parsed<W: Write>(
+    alloc: Global,
+    points: &[u32],
+    flags: Flags,
+    tables: &Tables,
+    out: &mut W,
+) -> Result<(), Failure>
+    requires in_range { All (λ c. c ≤ CODE_POINT_MAX) points.now }
+    requires small { table_of tables.now ≡ small_table }
+    ensures printed { OnOk result (Took (W.contents out.old) (W.contents out.new) (IsParsedText (points.now, flags))) }
+    ensures due { IfErr result (IsDue (points.now, flags)) }
+    ensures untouched { IfErr result (λ failure. failure ≢ Output → out.new ≡ out.old) }
+{
+    let parsed = try_parse(alloc, points, flags, tables)?;
+    write_tree(&parsed, "--\n", out).map_err(|_| Failure::Output)
+}
+
+/// Prints the tree of a pattern as it is optimized.
+fn print_optimized<W: Write>(
+    alloc: Global,
+    points: &[u32],
+    flags: Flags,
+    tables: &Tables,
+    out: &mut W,
+) -> Result<(), Failure>
+    requires in_range { All (λ c. c ≤ CODE_POINT_MAX) points.now }
+    requires small { table_of tables.now ≡ small_table }
+    requires accepted { IsAcceptedPattern (points.now, flags) }
+    ensures printed { OnOk result (Took (W.contents out.old) (W.contents out.new) (IsOptimizedText (points.now, flags))) }
+    ensures failed { IfErr result (λ failure. ((failure ≡ Memory) × (out.new ≡ out.old)) ⊎ (failure ≡ Output)) }
+{
+    let (optimized, done) = parse_and_optimize(alloc, points, flags, tables)?;
     done?;
-    Ok(Trees { parsed, optimized })
+    write_tree(&optimized, "", out).map_err(|_| Failure::Output)
+}
+
+/// Writes a tree and what comes behind it, and flushes: what is printed then stays printed.
+fn write_tree<W: Write>(regex: &Regex, behind: &str, out: &mut W) -> io::Result<()>
+    ensures { OnOk result (Appends (W.contents out.old) (W.contents out.new) (printed (tree regex.now.node) ++ behind.now)) }
+{
+    write!(out, "{regex}{behind}")?;
+    out.flush()
 }
 
 /// The characters of a pattern, as the parser reads them.

@@ -31,6 +31,7 @@ pub use Rattle.regress_tree.specs.References
 pub use Rattle.regress_tree.specs.Strings
 pub use Rattle.regress_tree.specs.Setting
 pub use Rattle.regress_tree.specs.Tree
+pub use Rattle.regress_tree.specs.Display
 pub use Rattle.regress_tree.specs.Matching
 pub use Rattle.regress_tree.specs.WellFormed
 pub use Rattle.regress_tree.specs.Measures

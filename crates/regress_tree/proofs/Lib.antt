@@ -1,6 +1,7 @@
 pub mod laws
 pub mod VisitLemmas
 mod BracketLemmas
+mod DisplayLemmas
 mod DuplicateLemmas
 mod GroupIdLemmas
 mod IdLemmas

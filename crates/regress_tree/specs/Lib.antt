@@ -24,3 +24,4 @@ pub mod NodeTests
 pub mod Copies
 pub mod Duplicates
 pub mod Survey
+pub mod Display

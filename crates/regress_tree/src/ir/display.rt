@@ -1,67 +1,78 @@
 //! The printed tree: one line a node, each node before its children.
+ghost use Rattle.std.specs.Prelude.{◌≡◌, codes};
+ghost use Rattle.std.specs.List.{join_by};
+ghost use Rattle.std.specs.Fmt.{WritesOnOk};
+ghost use Rattle.regress_tree.specs.Tree.{tree, trees, bracket, byte_sequence, byte_set, char_set};
+ghost use Rattle.regress_tree.specs.Display as text;
 
-use super::node::{Node, Regex};
+use super::node::{AnchorType, Node, Quantifier, Regex};
+use regress_base::codepointset::Interval;
+use regress_base::types::BracketContents;
 use std::fmt;
+use std::fmt::{Formatter, Write};
 
 /// How many levels are shown by dots. A deeper one is shown by its number.
 const MAX_DEPTH_DOTS: usize = 120;
 
 impl fmt::Display for Regex {
-    fn fmt<W: fmt::Write>(&self, f: &mut fmt::Formatter<W>) -> fmt::Result {
+    ghost use Rattle.std.specs.Prelude.{Some};
+    ghost use Rattle.regress_tree.specs.Tree.{tree};
+    ghost use Rattle.regress_tree.specs.Display.{printed};
+
+    ghost output = { λ regex. Some (printed (tree regex.node)) };
+
+    fn fmt<W: Write>(&self, f: &mut Formatter<W>) -> fmt::Result {
         write_tree(&self.node, 0, f)
     }
 }
 
 // It goes down the right sides of alternatives in a loop: there may be as many levels as alternatives.
 #[cycle(write_tree)]
-fn write_tree<W: fmt::Write>(node: &Node, depth: usize, f: &mut fmt::Formatter<W>) -> fmt::Result {
+fn write_tree<W: Write>(node: &Node, depth: usize, f: &mut Formatter<W>) -> fmt::Result
+    ensures { WritesOnOk W.write_str_gives f.old result (text.printed_at depth (tree node.now)) f.new }
+{
     let mut node = node;
     let mut depth = depth;
     loop {
-        write_indent(depth, f)?;
-        write_node(node, f)?;
+        write_line(node, depth, f)?;
         depth = depth.saturating_add(1);
         match node {
-            Node::Empty
-            | Node::Goal
-            | Node::Char { .. }
-            | Node::ByteSequence(_)
-            | Node::ByteSet(_)
-            | Node::CharSet(_)
-            | Node::MatchAny
-            | Node::MatchAnyExceptLineTerminator
-            | Node::Anchor { .. }
-            | Node::WordBoundary { .. }
-            | Node::Bracket(_)
-            | Node::BackRef { .. }
-            | Node::StringSet { .. } => return Ok(()),
             Node::Cat(parts) => return write_trees(parts, depth, f),
             Node::Alt(left, right) => {
                 write_tree(left, depth, f)?;
                 node = right;
             }
-            Node::CaptureGroup { contents, .. } | Node::LookaroundAssertion { contents, .. } => {
-                node = contents;
-            }
-            Node::Loop { loopee, .. } | Node::Loop1CharBody { loopee, .. } => node = loopee,
+            Node::CaptureGroup { contents, .. } => node = contents,
+            Node::LookaroundAssertion { contents, .. } => node = contents,
+            Node::Loop { loopee, .. } => node = loopee,
+            Node::Loop1CharBody { loopee, .. } => node = loopee,
+            _ => return Ok(()),
         }
     }
 }
 
 #[cycle(write_tree)]
-fn write_trees<W: fmt::Write>(
-    parts: &[Node],
-    depth: usize,
-    f: &mut fmt::Formatter<W>,
-) -> fmt::Result {
+fn write_trees<W: Write>(parts: &[Node], depth: usize, f: &mut Formatter<W>) -> fmt::Result
+    ensures { WritesOnOk W.write_str_gives f.old result (text.printed_in_row depth (trees parts.now)) f.new }
+{
     for part in parts {
         write_tree(part, depth, f)?;
     }
     Ok(())
 }
 
-fn write_indent<W: fmt::Write>(depth: usize, f: &mut fmt::Formatter<W>) -> fmt::Result {
-    for _ in 0..depth.min(MAX_DEPTH_DOTS) {
+fn write_line<W: Write>(node: &Node, depth: usize, f: &mut Formatter<W>) -> fmt::Result
+    ensures { WritesOnOk W.write_str_gives f.old result (text.line depth (text.node_text (tree node.now))) f.new }
+{
+    write_indent(depth, f)?;
+    write_node(node, f)?;
+    f.write_str("\n")
+}
+
+fn write_indent<W: Write>(depth: usize, f: &mut Formatter<W>) -> fmt::Result
+    ensures { WritesOnOk W.write_str_gives f.old result (text.indent depth) f.new }
+{
+    for _level in 0..depth.min(MAX_DEPTH_DOTS) {
         f.write_str("..")?;
     }
     if depth > MAX_DEPTH_DOTS {
@@ -71,39 +82,48 @@ fn write_indent<W: fmt::Write>(depth: usize, f: &mut fmt::Formatter<W>) -> fmt::
     Ok(())
 }
 
-fn write_node<W: fmt::Write>(node: &Node, f: &mut fmt::Formatter<W>) -> fmt::Result {
+/// Writes what stands on the line of a node.
+fn write_node<W: Write>(node: &Node, f: &mut Formatter<W>) -> fmt::Result
+    ensures { WritesOnOk W.write_str_gives f.old result (text.node_text (tree node.now)) f.new }
+{
     match node {
-        Node::Empty => f.write_str("Empty\n"),
-        Node::Goal => f.write_str("Goal\n"),
-        Node::Char { c } => writeln!(f, "'{c}'"),
+        Node::Empty => f.write_str("Empty"),
+        Node::Goal => f.write_str("Goal"),
+        Node::Char { c } => write!(f, "'{c}'"),
         Node::ByteSequence(bytes) => write_byte_sequence(bytes, f),
         Node::ByteSet(bytes) => write_byte_set(bytes, f),
         Node::CharSet(characters) => write_char_set(characters, f),
-        Node::Cat(_) => f.write_str("Cat\n"),
-        Node::Alt(..) => f.write_str("Alt\n"),
-        Node::MatchAny => f.write_str("MatchAny\n"),
-        Node::MatchAnyExceptLineTerminator => f.write_str("MatchAnyExceptLineTerminator\n"),
+        Node::Cat(_) => f.write_str("Cat"),
+        Node::Alt(..) => f.write_str("Alt"),
+        Node::MatchAny => f.write_str("MatchAny"),
+        Node::MatchAnyExceptLineTerminator => f.write_str("MatchAnyExceptLineTerminator"),
         Node::CaptureGroup { id, name, .. } => match name {
-            Some(name) => writeln!(f, "CaptureGroup {id} \"{name}\""),
-            None => writeln!(f, "CaptureGroup {id}"),
+            Some(name) => write!(f, "CaptureGroup {id} \"{name}\""),
+            None => write!(f, "CaptureGroup {id}"),
         },
         Node::Anchor {
             anchor_type,
             multiline,
-        } => writeln!(f, "Anchor {anchor_type:?} multiline={multiline}"),
-        Node::WordBoundary { invert: false, .. } => f.write_str("WordBoundary \"\\\\b\" \n"),
-        Node::WordBoundary { invert: true, .. } => f.write_str("WordBoundary \"\\\\B\" \n"),
-        Node::Bracket(contents) => writeln!(f, "Bracket {contents:?}"),
+        } => {
+            let end = end_text(*anchor_type);
+            write!(f, "Anchor {end} multiline={multiline}")
+        }
+        Node::WordBoundary { invert: false, .. } => f.write_str("WordBoundary \"\\\\b\" "),
+        Node::WordBoundary { invert: true, .. } => f.write_str("WordBoundary \"\\\\B\" "),
+        Node::Bracket(contents) => write_bracket(contents, f),
         Node::Loop {
             quant,
             enclosed_groups,
             ..
-        } => writeln!(
-            f,
-            "Loop (groups {}..{}) {quant:?}",
-            enclosed_groups.start, enclosed_groups.end
-        ),
-        Node::Loop1CharBody { quant, .. } => writeln!(f, "Loop1Char {quant:?}"),
+        } => {
+            let (start, end) = (enclosed_groups.start, enclosed_groups.end);
+            write!(f, "Loop (groups {start}..{end}) ")?;
+            write_quantifier(quant, f)
+        }
+        Node::Loop1CharBody { quant, .. } => {
+            f.write_str("Loop1Char ")?;
+            write_quantifier(quant, f)
+        }
         Node::LookaroundAssertion {
             negate,
             backwards,
@@ -111,44 +131,125 @@ fn write_node<W: fmt::Write>(node: &Node, f: &mut fmt::Formatter<W>) -> fmt::Res
             end_group,
             ..
         } => {
-            let sense = if *negate { "negative" } else { "positive" };
-            let direction = if *backwards { "backwards" } else { "forwards" };
-            writeln!(
+            let sense = if *negate { "negative " } else { "positive " };
+            let direction = if *backwards {
+                "backwards "
+            } else {
+                "forwards "
+            };
+            write!(
                 f,
-                "LookaroundAssertion {sense} {direction} {start_group} {end_group}"
+                "LookaroundAssertion {sense}{direction}{start_group} {end_group}"
             )
         }
-        Node::BackRef { group, .. } => writeln!(f, "BackRef {group} "),
+        Node::BackRef { group, .. } => write!(f, "BackRef {group} "),
         Node::StringSet {
             alternatives,
             icase,
-        } => writeln!(f, "StringSet count={}, icase={icase}", alternatives.len()),
+        } => {
+            let count = alternatives.len();
+            write!(f, "StringSet count={count}, icase={icase}")
+        }
     }
 }
 
-fn write_byte_sequence<W: fmt::Write>(bytes: &[u8], f: &mut fmt::Formatter<W>) -> fmt::Result {
-    write!(f, "ByteSeq{} 0x", bytes.len())?;
+fn end_text(end: AnchorType) -> &'static str
+    ensures { result.now ≡ text.anchored end }
+{
+    match end {
+        AnchorType::StartOfLine => "StartOfLine",
+        AnchorType::EndOfLine => "EndOfLine",
+    }
+}
+
+fn write_quantifier<W: Write>(quant: &Quantifier, f: &mut Formatter<W>) -> fmt::Result
+    ensures { WritesOnOk W.write_str_gives f.old result (text.quantifier quant.now) f.new }
+{
+    let (min, greedy) = (quant.min, quant.greedy);
+    write!(f, "Quantifier {{ min: {min}, max: ")?;
+    write_maximum(quant.max, f)?;
+    write!(f, ", greedy: {greedy} }}")
+}
+
+fn write_maximum<W: Write>(max: Option<usize>, f: &mut Formatter<W>) -> fmt::Result
+    ensures { WritesOnOk W.write_str_gives f.old result (text.maximum max) f.new }
+{
+    match max {
+        Some(max) => write!(f, "Some({max})"),
+        None => f.write_str("None"),
+    }
+}
+
+fn write_bracket<W: Write>(contents: &BracketContents, f: &mut Formatter<W>) -> fmt::Result
+    ensures { WritesOnOk W.write_str_gives f.old result (text.leaf_text (bracket contents.now.invert contents.now.cps)) f.new }
+{
+    let invert = contents.invert;
+    write!(
+        f,
+        "Bracket BracketContents {{ invert: {invert}, cps: CodePointSet {{ ivs: ["
+    )?;
+    write_intervals(contents.cps.intervals(), f)?;
+    f.write_str("] } }")
+}
+
+fn write_intervals<W: Write>(intervals: &[Interval], f: &mut Formatter<W>) -> fmt::Result
+    ensures { WritesOnOk W.write_str_gives f.old result (join_by text.interval (codes ", ") intervals.now) f.new }
+{
+    if let [first, rest @ ..] = intervals {
+        write_interval(*first, f)?;
+        for interval in rest {
+            f.write_str(", ")?;
+            write_interval(*interval, f)?;
+        }
+    }
+    Ok(())
+}
+
+fn write_interval<W: Write>(interval: Interval, f: &mut Formatter<W>) -> fmt::Result
+    ensures { WritesOnOk W.write_str_gives f.old result (text.interval interval) f.new }
+{
+    write_code_point(interval.first(), f)?;
+    f.write_str("-")?;
+    write_code_point(interval.last(), f)
+}
+
+fn write_code_point<W: Write>(c: u32, f: &mut Formatter<W>) -> fmt::Result
+    ensures { WritesOnOk W.write_str_gives f.old result (text.code_point c) f.new }
+{
+    write!(f, "U+{c:04X}")
+}
+
+fn write_byte_sequence<W: Write>(bytes: &[u8], f: &mut Formatter<W>) -> fmt::Result
+    ensures { WritesOnOk W.write_str_gives f.old result (text.leaf_text (byte_sequence bytes.now)) f.new }
+{
+    let count = bytes.len();
+    write!(f, "ByteSeq{count} 0x")?;
     for byte in bytes {
         write!(f, "{byte:x}")?;
     }
-    f.write_str("\n")
+    Ok(())
 }
 
-fn write_byte_set<W: fmt::Write>(bytes: &[u8], f: &mut fmt::Formatter<W>) -> fmt::Result {
-    write!(f, "ByteSet{}", bytes.len())?;
+fn write_byte_set<W: Write>(bytes: &[u8], f: &mut Formatter<W>) -> fmt::Result
+    ensures { WritesOnOk W.write_str_gives f.old result (text.leaf_text (byte_set bytes.now)) f.new }
+{
+    let count = bytes.len();
+    write!(f, "ByteSet{count}")?;
     for byte in bytes {
         write!(f, " 0x{byte:x}")?;
     }
-    f.write_str("\n")
+    Ok(())
 }
 
-fn write_char_set<W: fmt::Write>(characters: &[u32], f: &mut fmt::Formatter<W>) -> fmt::Result {
+fn write_char_set<W: Write>(characters: &[u32], f: &mut Formatter<W>) -> fmt::Result
+    ensures { WritesOnOk W.write_str_gives f.old result (text.leaf_text (char_set characters.now)) f.new }
+{
     f.write_str("CharSet ")?;
-    for (i, c) in characters.iter().enumerate() {
-        if i > 0 {
-            f.write_str(", ")?;
+    if let [first, rest @ ..] = characters {
+        write!(f, "0x{first:x}")?;
+        for c in rest {
+            write!(f, ", 0x{c:x}")?;
         }
-        write!(f, "0x{c:x}")?;
     }
-    f.write_str("\n")
+    Ok(())
 }

@@ -1,0 +1,35 @@
+-- What the parts of a run come to.
+use Rattle.std.proofs.Common.{◌≡◌, ℕ, List, ◌++◌, Option, Some, None, ap, ap₂, ◌∙◌, append_assoc}
+use Rattle.std.specs.Io.KnownBytes.{Appends}
+use Rattle.std.specs.Prelude.{Result, Ok, Err, OnOk}
+use Rattle.regex_front.specs.declared.failure.Failure.{Failure}
+use Rattle.regex_front.specs.Request.{Request}
+use Rattle.regex_front.specs.Printed.{IsParsedText, IsOptimizedText, IsOutput, Took}
+
+-- two writes
+pub appends_both : (a b c : Option (List ℕ)) (xs ys : List ℕ) → Appends a b xs → Appends b c ys → Appends a c (xs ++ ys)
+appends_both None b c xs ys one two = tt
+appends_both (Some a) None c xs ys one two = absurd one
+appends_both (Some a) (Some b) None xs ys one two = two
+appends_both (Some a) (Some b) (Some c) xs ys one two = two ∙ ap (λ t. t ++ ys) one ∙ append_assoc a xs ys
+
+-- both parts are the whole
+whole_output : (request : Request) (old between new : Option (List ℕ)) → Took old between (IsParsedText request) →
+    Took between new (IsOptimizedText request) → Took old new (IsOutput request)
+whole_output request old between new first second = (
+  first.0 ++ second.0,
+  record {
+    pattern = first.1.pattern;
+    accepted = first.1.accepted;
+    optimized = second.1.optimized;
+    good = second.1.good first.1.pattern first.1.accepted;
+    text = ap₂ (λ xs ys. xs ++ ys) first.1.text second.1.text;
+  },
+  appends_both old between new first.0 second.0 first.2 second.2,
+)
+
+-- the second part behind the first, where it is written
+pub then_whole : (request : Request) (r : Result (Unit {0}) Failure) (old between new : Option (List ℕ)) →
+    Took old between (IsParsedText request) → OnOk r (Took between new (IsOptimizedText request)) → OnOk r (Took old new (IsOutput request))
+then_whole request (Ok done) old between new first second = whole_output request old between new first second
+then_whole request (Err failure) old between new first second = tt
