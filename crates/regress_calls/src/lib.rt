@@ -1,5 +1,5 @@
-//! A caller of the library, as another crate would write it, and tests of the public calls. It stands above
-//! `regress_front`, since a crate with tests is proved twice.
+//! A caller of the library and a linter, as another crate would write them, and tests of what lines of data can't say. It
+//! stands above `regress_front`, since a crate with tests is proved twice.
 #![tactic(auto)]
 
 pub mod caller;

@@ -1,45 +1,140 @@
-//! What a pattern comes to, as a row writes it.
-ghost use Rattle.std.specs.Prelude.{◌≤◌, All};
+//! What a line comes to.
 
-use regress_front::codepointset::CODE_POINT_MAX;
-use regress_front::ir::Regex;
-use regress_front::optimizer::optimize;
-use regress_front::parse::{ParseFault, try_parse};
-use regress_front::types::Flags;
-use regress_front::unicode::Tables;
+use crate::generated::generated;
+use crate::parsing::points_in;
+use crate::row::row_difference;
+use crate::tear::{in_range, torn};
+use crate::trees::{answered, optimize_watched, whole};
+use regress_base::types::Flags;
+use regress_notation::{Fault, Promise, read_bytes, read_flags};
+use regress_parse::try_parse;
+use regress_syntax::{Error, ParseFault};
+use regress_tree_rows::{duplicated, lowered, named, parts, printed_bytes};
+use regress_unicode::{Tables, TablesError};
 use std::alloc::{AllocError, Global};
+use std::hash::{DefaultHasher, Hash, Hasher};
 
-/// The fault behind `error: `, or the parsed tree and, if it is asked for, a tab and the optimized one.
-pub(crate) fn answer_to(
+/// What a line comes to, if it should come to something else. A line that begins with flags is a row.
+pub(crate) fn difference(
     alloc: Global,
-    points: &[u32],
-    flags: Flags,
+    line: &str,
     tables: &Tables,
-    with_second: bool,
-) -> Result<String, AllocError>
-    requires { All (λ c. c ≤ CODE_POINT_MAX) points.now }
-{
-    let mut regex = match try_parse(alloc, points, flags, tables) {
-        Ok(regex) => regex,
-        Err(ParseFault::Syntax(error)) => return format!(in alloc; "error: {error}"),
-        Err(ParseFault::Memory(fault)) => return Err(fault),
-    };
-    let mut answer = in_one_line(alloc, &regex)?;
-    if with_second {
-        optimize(alloc, &mut regex)?;
-        answer.push('\t')?;
-        answer.push_str(in_one_line(alloc, &regex)?.as_str())?;
+) -> Result<Option<String>, Fault> {
+    let (first, row) = line.split_once('\t').ok_or(Fault::Line)?;
+    if let Some(flags) = read_flags(first) {
+        return row_difference(alloc, flags, row, tables);
     }
-    Ok(answer)
+    let (call, expected) = line.rsplit_once('\t').ok_or(Fault::Line)?;
+    let mut fields = Vec::new(alloc);
+    for field in call.split('\t') {
+        fields.push(field)?;
+    }
+    let found = answer(alloc, &fields, tables)?;
+    Ok(if found.as_str() == expected {
+        None
+    } else {
+        Some(found)
+    })
 }
 
-/// The tree as it prints, with `/` in place of each line's end.
-fn in_one_line(alloc: Global, regex: &Regex) -> Result<String, AllocError> {
-    let printed = format!(in alloc; "{regex}")?;
-    let mut line = String::with_capacity(alloc, printed.len())?;
-    for part in printed.lines() {
-        line.push_str(part)?;
-        line.push('/')?;
+/// What the call comes to that these fields name: one of `regress_base_rows`, or else one on trees.
+fn answer(alloc: Global, fields: &[&str], tables: &Tables) -> Result<String, Fault> {
+    match regress_base_rows::answer(alloc, fields, tables) {
+        Err(Fault::Line) => answer_on_trees(alloc, fields, tables),
+        found => found,
     }
-    Ok(line)
+}
+
+fn answer_on_trees(alloc: Global, fields: &[&str], tables: &Tables) -> Result<String, Fault> {
+    match fields {
+        [call, on] => match *call {
+            "want" => want(alloc, on),
+            "tear" => torn(alloc, on, tables),
+            "bytes" => printed_bytes(alloc, &read_bytes(alloc, on)?),
+            _ => named(alloc, call, on),
+        },
+        [call, one, two] => match *call {
+            "errors" => errors(alloc, one, two),
+            "duplicate" => {
+                let depth = two.parse::<usize>().ok().ok_or(Fault::Line)?;
+                duplicated(alloc, one, depth)
+            }
+            _ => {
+                let flags = read_flags(one).ok_or(Fault::Line)?;
+                answer_under(alloc, call, flags, two, tables)
+            }
+        },
+        _ => Err(Fault::Line),
+    }
+}
+
+/// What a call under flags comes to: on literals, on a large pattern, or on a pattern.
+fn answer_under(
+    alloc: Global,
+    call: &str,
+    flags: Flags,
+    on: &str,
+    tables: &Tables,
+) -> Result<String, Fault> {
+    match call {
+        "lower" | "pieces" => lowered(alloc, call, flags, &points_in(alloc, on)?, tables),
+        "ascend" | "descend" | "named" => large(alloc, call, flags, on, tables),
+        "whole" => whole(alloc, flags, on, tables),
+        _ => answered(alloc, call, flags, on, tables),
+    }
+}
+
+/// The parts of the optimized tree of a large pattern, and the size of the first.
+fn large(
+    alloc: Global,
+    call: &str,
+    flags: Flags,
+    number: &str,
+    tables: &Tables,
+) -> Result<String, Fault> {
+    let number = number.parse::<u16>().ok().ok_or(Fault::Line)?;
+    let points = in_range(generated(alloc, call, number)?)?;
+    match try_parse(alloc, &points, flags, tables) {
+        Ok(regex) => {
+            let mut regex = regex;
+            optimize_watched(alloc, &mut regex)?;
+            parts(alloc, &regex.node)
+        }
+        Err(ParseFault::Syntax(_)) => Err(Fault::Broken(Promise::ClassIsRead)),
+        Err(ParseFault::Memory(_)) => Err(Fault::Memory),
+    }
+}
+
+/// How the error of one text lies to that of another, whether they are equal, and whether their hashes are.
+fn errors(alloc: Global, one: &str, other: &str) -> Result<String, Fault> {
+    let one = Error {
+        text: String::from_str(alloc, one)?,
+    };
+    let other = Error {
+        text: String::from_str(alloc, other)?,
+    };
+    let (order, equal) = (one.cmp(&other), one == other);
+    let hashed = hash_of(&one) == hash_of(&other);
+    Ok(format!(in alloc; "{order:?} {equal} {hashed}")?)
+}
+
+fn hash_of(error: &Error) -> u64 {
+    let mut hasher = DefaultHasher::new();
+    error.hash(&mut hasher);
+    hasher.finish()
+}
+
+/// How want of memory prints, as a fault of parsing or as a refusal of a table.
+fn want(alloc: Global, of: &str) -> Result<String, Fault> {
+    match of {
+        "parsing" => {
+            let fault = ParseFault::from(AllocError);
+            Ok(format!(in alloc; "{fault}")?)
+        }
+        "a table" => {
+            let refusal = TablesError::from(AllocError);
+            Ok(format!(in alloc; "{refusal}")?)
+        }
+        _ => Err(Fault::Line),
+    }
 }

@@ -1,30 +1,27 @@
-//! Rows "flags, pattern, what it comes to", read from standard input and compared with the library's answers, over the
-//! small table. So that a row costs no proof, rows are data: a program reads them.
+//! Lines of data, read from standard input, that say what a pattern or a call comes to, compared with the library's
+//! answers over the small table. So that a line costs no proof, a program reads them. The head of the file `stdin` tells
+//! the forms of lines.
 //!
-//! A row is a line of three or four fields, with a tab between them: the flags, the pattern, the parsed tree or the
-//! fault and, where the row has it, the optimized tree. Lines that begin with `#` are comments and say what the rows
-//! below them hold; empty lines are skipped.
+//! Where memory is wanting, in any of them, the program looks whether the call has kept what it promises then;
+//! `tools/refuse_growth` refuses each growth of each call in turn.
 //!
-//! - Flags are letters of `imsuv`, perhaps none, each at most once.
-//! - A pattern is text as it is, backslashes too. `⟨HEX⟩` stands for a code point, surrogates included, given in
-//!   hexadecimal, and `⟨N×TEXT⟩` for N times the text, N being decimal.
-//! - A tree is as it prints, with a `/` in place of each line's end. No tree prints a `/` of its own.
-//! - A fault is `error: ` and its text.
-//! - `accepted` stands for any tree, where the tree would be long.
-//!
-//! A row that differs is told with its number and both answers, and behind the last row stands how many hold. The
-//! status is 0 if all rows hold, 1 if some differ, 2 at a line that is no row, 3 if memory was wanting, 4 if standard
-//! input can't be read or isn't UTF-8, and 5 if standard output can't be written. From 2 on a line on standard error
-//! says so, but for 5.
+//! A line that comes to something else is told with its number, and so is a promise that is broken, and behind the last
+//! line stands how many hold. The status is 0 if all lines hold, 1 if one doesn't, 2 at a line of no form, 3 if memory
+//! was wanting and all was kept, 4 if standard input can't be read or isn't UTF-8, 5 if standard output can't be
+//! written, and 6 if no line was read. From 2 on a line on standard error says so, but for 5.
 #![tactic(auto)]
 
 mod answer;
-mod compare;
 mod failure;
+mod generated;
+mod lines;
+mod parsing;
 mod row;
+mod tear;
+mod trees;
 
-use compare::{Tally, run_rows};
 use failure::{Failure, tell};
+use lines::{Tally, run_lines};
 use std::io::{BufReader, BufWriter, Write};
 use std::process::ExitCode;
 
@@ -36,9 +33,13 @@ fn main(rt: HostRuntime) -> ExitCode {
     ExitCode::from(status)
 }
 
-/// Hands standard input and output to `run_rows`. Only want of memory keeps a buffer from being made.
+/// Hands standard input and output to `run_lines`. Only want of memory keeps a buffer from being made.
 fn run(rt: &HostRuntime) -> Result<Tally, Failure> {
-    let input = BufReader::new(rt.alloc(), rt.stdin()).map_err(|_| Failure::Memory)?;
-    let mut out = BufWriter::new(rt.alloc(), rt.stdout()).map_err(|_| Failure::Memory)?;
-    run_rows(rt.alloc(), input, &mut out)
+    let Ok(input) = BufReader::new(rt.alloc(), rt.stdin()) else {
+        return Err(Failure::Memory);
+    };
+    let Ok(mut out) = BufWriter::new(rt.alloc(), rt.stdout()) else {
+        return Err(Failure::Memory);
+    };
+    run_lines(rt.alloc(), input, &mut out)
 }

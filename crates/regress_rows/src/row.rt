@@ -1,43 +1,46 @@
-//! A line as a row.
+//! Rows of patterns.
+ghost use Rattle.regress_tree.specs.Tree.{tree};
+ghost use Rattle.regress_tree.specs.WellFormed.{IsWellFormed};
 
-/// A line, cut into its fields.
-#[derive(Clone, Copy)]
-pub(crate) struct Row<'a> {
-    /// The letters of the flags.
-    pub(crate) letters: &'a str,
-    /// The pattern, as it is written.
-    pub(crate) pattern: &'a str,
-    /// What it comes to: the fault, `accepted`, or the parsed tree and perhaps a tab and the optimized one.
-    pub(crate) expected: &'a str,
+use crate::parsing::{told, tree_of};
+use crate::trees::{is_settled, optimize_watched};
+use regress_base::types::Flags;
+use regress_notation::{Fault, Promise, check};
+use regress_tree::ir::Regex;
+use regress_tree_rows::in_one_line;
+use regress_unicode::Tables;
+use std::alloc::Global;
+
+/// What the pattern of a row comes to, if the row says something else.
+pub(crate) fn row_difference(
+    alloc: Global,
+    flags: Flags,
+    row: &str,
+    tables: &Tables,
+) -> Result<Option<String>, Fault> {
+    let (pattern, expected) = row.split_once('\t').ok_or(Fault::Line)?;
+    let found = match tree_of(alloc, flags, pattern, tables)? {
+        Ok(regex) => trees_of(alloc, regex, expected.contains('\t'))?,
+        Err(error) => told(alloc, error)?,
+    };
+    let holds = match expected {
+        "accepted" => !found.starts_with("error: "),
+        _ => found.as_str() == expected,
+    };
+    Ok(if holds { None } else { Some(found) })
 }
 
-impl Row<'_> {
-    /// Whether the row has the optimized tree too.
-    pub(crate) fn has_second(&self) -> bool {
-        self.expected.contains('\t')
+/// The parsed tree and, if it is asked for, a tab and the optimized one, which each rewrite leaves as it is.
+fn trees_of(alloc: Global, regex: Regex, with_second: bool) -> Result<String, Fault>
+    requires { IsWellFormed (tree regex.node) }
+{
+    let mut regex = regex;
+    let mut found = in_one_line(alloc, &regex)?;
+    if with_second {
+        optimize_watched(alloc, &mut regex)?;
+        found.push('\t')?;
+        found.push_str(&in_one_line(alloc, &regex)?)?;
+        check(is_settled(alloc, &mut regex)?, Promise::Settled)?;
     }
-
-    /// Whether the row is right about a pattern that comes to this.
-    pub(crate) fn holds(&self, found: &str) -> bool {
-        match self.expected {
-            "accepted" => !found.starts_with("error: "),
-            expected => found == expected,
-        }
-    }
-}
-
-/// Whether the line holds no row: it is empty, or a comment.
-pub(crate) fn is_comment(line: &str) -> bool {
-    line.is_empty() || line.starts_with('#')
-}
-
-/// The fields of a line, or nothing where it has fewer than three.
-pub(crate) fn read_row(line: &str) -> Option<Row<'_>> {
-    let (letters, rest) = line.split_once('\t')?;
-    let (pattern, expected) = rest.split_once('\t')?;
-    Some(Row {
-        letters,
-        pattern,
-        expected,
-    })
+    Ok(found)
 }

@@ -1,40 +1,14 @@
-//! Calls on whole patterns, once with ample memory.
+//! The caller of docs/CALLING.md, and calls that carry a fact and answer nothing.
 
-use super::{flags_of, parsed};
 use crate::caller::optimized_text;
-use regress_front::optimizer::{optimize, parse_and_optimize};
-use regress_front::types::Flags;
-use regress_front::unicode::Tables;
+use regress_front::codepointset::canonical_form_is_unique;
+use regress_front::types::{Flags, limits_are_as_defined};
 use std::test::Fail;
 
 #[test]
-fn one_call_parses_and_optimizes(rt: HostRuntime) -> Result<(), Fail> {
-    let alloc = rt.alloc();
-    let tables = Tables::small(alloc)?;
-    let points = [u32::from(b'a'), u32::from(b'b')];
-    let flags = flags_of("s");
-    let (regex, optimized) = parse_and_optimize(alloc, &points, flags, &tables)?;
-    optimized?;
-    assert_eq!(rt;
-        format!(in alloc; "{regex}")?.as_str(),
-        "Cat\n..ByteSeq2 0x6162\n..Goal\n"
-    );
-    assert!(rt; regex.flags == flags);
-    Ok(())
-}
-
-#[test]
-fn two_calls_parse_and_optimize(rt: HostRuntime) -> Result<(), Fail> {
-    let alloc = rt.alloc();
-    let mut regex = parsed(alloc, "ab", "mu")?;
-    assert!(rt; regex.flags == flags_of("mu"));
-    optimize(alloc, &mut regex)?;
-    assert_eq!(rt;
-        format!(in alloc; "{regex}")?.as_str(),
-        "Cat\n..ByteSeq2 0x6162\n..Goal\n"
-    );
-    assert!(rt; regex.flags == flags_of("mu"));
-    Ok(())
+fn facts_are_carried(_rt: HostRuntime) {
+    canonical_form_is_unique();
+    limits_are_as_defined();
 }
 
 #[test]

@@ -22,7 +22,7 @@ fn a_linter_lists_groups_and_warns_of_nested_loops(rt: HostRuntime) -> Result<()
             "Report { groups: [], loops: 4, lookarounds: 0, nested: false }",
         ),
     ] {
-        let report = lint(alloc, &parsed(alloc, pattern, "")?)?;
+        let report = lint(alloc, &parsed(alloc, pattern, false)?)?;
         assert_eq!(rt;
             format!(in alloc; "{report:?}")?.as_str(),
             wanted,

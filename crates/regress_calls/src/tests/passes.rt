@@ -64,10 +64,10 @@ fn kind(node: &Node) -> &'static str {
 fn visited(
     alloc: Global,
     pattern: &str,
-    letters: &str,
+    unicode: bool,
     nodes: usize,
 ) -> Result<String, ParseFault> {
-    let mut regex = parsed(alloc, pattern, letters)?;
+    let mut regex = parsed(alloc, pattern, unicode)?;
     let mut visits = Visits {
         nodes,
         seen: String::new(alloc),
@@ -81,25 +81,25 @@ fn visited(
 
 #[test]
 fn children_are_visited_before_parents_and_left_before_right(rt: HostRuntime) -> Result<(), Fail> {
-    for (pattern, letters, want) in [
+    for (pattern, unicode, want) in [
         (
             "(?:a|bc)d",
-            "u",
+            true,
             "Char at 3, forwards, unicode\nChar at 4, forwards, unicode\nChar at 4, forwards, unicode\nCat at 3, forwards, unicode\nAlt at 2, forwards, unicode\nChar at 2, forwards, unicode\nCat at 1, forwards, unicode\nGoal at 1, forwards, unicode\nCat at 0, forwards, unicode\nnot changed",
         ),
         (
             "||(?:)a",
-            "",
+            false,
             "Empty at 2, forwards, no unicode\nEmpty at 3, forwards, no unicode\nEmpty at 4, forwards, no unicode\nChar at 4, forwards, no unicode\nCat at 3, forwards, no unicode\nAlt at 2, forwards, no unicode\nAlt at 1, forwards, no unicode\nGoal at 1, forwards, no unicode\nCat at 0, forwards, no unicode\nnot changed",
         ),
         // what a lookaround holds is visited in its own direction
         (
             "(?<=a(?=b))",
-            "",
+            false,
             "Char at 4, forwards, no unicode\nLookaroundAssertion at 3, backwards, no unicode\nChar at 3, backwards, no unicode\nCat at 2, backwards, no unicode\nLookaroundAssertion at 1, forwards, no unicode\nGoal at 1, forwards, no unicode\nCat at 0, forwards, no unicode\nnot changed",
         ),
     ] {
-        let found = visited(rt.alloc(), pattern, letters, 9)?;
+        let found = visited(rt.alloc(), pattern, unicode, 9)?;
         assert_eq!(rt; found.as_str(), want, "{pattern}");
     }
     Ok(())
@@ -108,7 +108,7 @@ fn children_are_visited_before_parents_and_left_before_right(rt: HostRuntime) ->
 #[test]
 fn want_of_memory_at_a_node_is_answered(rt: HostRuntime) -> Result<(), Fail> {
     for nodes in 0..9 {
-        let answer = visited(rt.alloc(), "(?:a|bc)d", "", nodes);
+        let answer = visited(rt.alloc(), "(?:a|bc)d", false, nodes);
         assert!(rt; answer.is_err(), "with {nodes} nodes looked at");
     }
     Ok(())

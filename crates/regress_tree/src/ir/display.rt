@@ -5,9 +5,9 @@ ghost use Rattle.std.specs.Fmt.{WritesOnOk};
 ghost use Rattle.regress_tree.specs.Tree.{tree, trees, bracket, byte_sequence, byte_set, char_set};
 ghost use Rattle.regress_tree.specs.Display as text;
 
-use super::node::{AnchorType, Node, Quantifier, Regex};
+use super::node::{Node, Regex};
 use regress_base::codepointset::Interval;
-use regress_base::types::BracketContents;
+use regress_base::types::{AnchorType, BracketContents, Quantifier};
 use std::fmt;
 use std::fmt::{Formatter, Write};
 

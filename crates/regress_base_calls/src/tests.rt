@@ -1,7 +1,0 @@
-//! Tests of calls.
-
-mod searches;
-mod sets;
-mod tables;
-mod types;
-mod util;

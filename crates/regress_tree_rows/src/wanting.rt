@@ -1,0 +1,26 @@
+//! A rewrite of a caller's own, for which memory is wanting at a node.
+
+use regress_rewrite::{PassAction, Rewrite};
+use regress_tree::ir::{Node, Walk};
+use std::alloc::AllocError;
+
+/// Another rewrite, for which memory is wanting behind so many nodes.
+#[derive(Drop)]
+pub(crate) struct Wanting<R: Rewrite> {
+    pub(crate) nodes: usize,
+    pub(crate) rewrite: R,
+}
+
+impl<R: Rewrite> Rewrite for Wanting<R> {
+    ghost removes = { R.removes };
+
+    ghost is_exact = { R.is_exact };
+
+    fn apply(&mut self, node: &mut Node, walk: &Walk) -> Result<PassAction, AllocError> {
+        if self.nodes == 0 {
+            return Err(AllocError);
+        }
+        self.nodes -= 1;
+        self.rewrite.apply(node, walk)
+    }
+}
