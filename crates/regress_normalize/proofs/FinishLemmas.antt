@@ -23,7 +23,7 @@ use Rattle.regress_normalize.specs.PartFacts.{HasFacts, HasRowFacts}
 use Rattle.regress_normalize.specs.declared.facts.PartFacts.{PartFacts}
 use Rattle.regress_normalize.specs.declared.facts.RowFacts.{RowFacts}
 use Rattle.regress_normalize.proofs.NormalLemmas.{Kind, simplified, flattened, unrolled, promoted, formed, emptied, failed, shape, lacks, normal_from, empty_normal, nothing_normal}
-use Rattle.regress_normalize.proofs.PackedLemmas.{some_in_row-append, has_cat-append, RowIsNormal-append, and_false}
+use Rattle.regress_normalize.proofs.PackedLemmas.{some_in_row-append, has_cat-append, RowIsNormal-append}
 
 -- ---- rows of parts in normal form
 

@@ -20,7 +20,7 @@ use Rattle.regress_rewrite.specs.Law.{IsPart, Keeps}
 use Rattle.regress_rewrite.specs.Unroll.{further_turns, unrolled}
 use Rattle.regress_rewrite.proofs.laws.Emptying.{emptied_keeps}
 use Rattle.regress_rewrite.proofs.laws.Failing.{fails_keeps}
-use Rattle.regress_rewrite.proofs.laws.Keeps.{Keeps-trans, Keeps-put, IsPart-part, IsPart-kept}
+use Rattle.regress_rewrite.proofs.laws.Keeps.{Keeps-refl, Keeps-trans, Keeps-put, IsPart-part, IsPart-kept}
 use Rattle.regress_rewrite.proofs.laws.Promotion.{one_character-stands, promoted_keeps}
 use Rattle.regress_rewrite.proofs.laws.Unrolling.{MayUnroll-from, unrolled_keeps, unrolled-without}
 use Rattle.regress_normalize.specs.Normalized.{Finished, Normalized, IsCleanAround, IsWrapperOf, RowIsNormal}
