@@ -4,9 +4,9 @@ ghost use Rattle.std.specs.Prelude.{◌≤◌, All};
 use crate::printing::in_one_line;
 use regress_base::codepointset::CODE_POINT_MAX;
 use regress_base::types::Flags;
+use regress_literal::literal::{Piece, lower_code_point_sequence};
 use regress_notation::{Fault, Promise, check};
 use regress_tree::ir::{Node, Regex};
-use regress_literal::literal::{Piece, lower_code_point_sequence};
 use regress_unicode::Tables;
 use std::alloc::Global;
 
