@@ -1,13 +1,15 @@
 //! The printed tree: one line a node, each node before its children.
-ghost use Rattle.std.specs.Prelude.{◌≡◌, codes};
+ghost use Rattle.std.specs.Prelude.{◌≡◌, ◌++◌, codes, option_map, string_bytes};
 ghost use Rattle.std.specs.List.{join_by};
-ghost use Rattle.std.specs.Fmt.{WritesOnOk};
-ghost use Rattle.regress_tree.specs.Tree.{tree, trees, bracket, byte_sequence, byte_set, char_set};
+ghost use Rattle.std.specs.Fmt.{WritesOnOk, decimal};
+ghost use Rattle.regress_tree.specs.Tree.{tree, trees, anchor, bracket, byte_sequence, byte_set, char_set, capture_group, loop, lookaround};
 ghost use Rattle.regress_tree.specs.Display as text;
 
 use super::node::{Node, Regex};
 use regress_base::codepointset::Interval;
-use regress_base::types::{AnchorType, BracketContents, Quantifier};
+use regress_base::types::{
+    AnchorType, BracketContents, CaptureGroupID, CaptureGroupName, Quantifier,
+};
 use std::fmt;
 use std::fmt::{Formatter, Write};
 
@@ -97,17 +99,11 @@ fn write_node<W: Write>(node: &Node, f: &mut Formatter<W>) -> fmt::Result
         Node::Alt(..) => f.write_str("Alt"),
         Node::MatchAny => f.write_str("MatchAny"),
         Node::MatchAnyExceptLineTerminator => f.write_str("MatchAnyExceptLineTerminator"),
-        Node::CaptureGroup { id, name, .. } => match name {
-            Some(name) => write!(f, "CaptureGroup {id} \"{name}\""),
-            None => write!(f, "CaptureGroup {id}"),
-        },
+        Node::CaptureGroup { id, name, .. } => write_group(*id, name, f),
         Node::Anchor {
             anchor_type,
             multiline,
-        } => {
-            let end = end_text(*anchor_type);
-            write!(f, "Anchor {end} multiline={multiline}")
-        }
+        } => write_anchor(*anchor_type, *multiline, f),
         Node::WordBoundary { invert: false, .. } => f.write_str("WordBoundary \"\\\\b\" "),
         Node::WordBoundary { invert: true, .. } => f.write_str("WordBoundary \"\\\\B\" "),
         Node::Bracket(contents) => write_bracket(contents, f),
@@ -115,11 +111,7 @@ fn write_node<W: Write>(node: &Node, f: &mut Formatter<W>) -> fmt::Result
             quant,
             enclosed_groups,
             ..
-        } => {
-            let (start, end) = (enclosed_groups.start, enclosed_groups.end);
-            write!(f, "Loop (groups {start}..{end}) ")?;
-            write_quantifier(quant, f)
-        }
+        } => write_loop(quant, enclosed_groups.start, enclosed_groups.end, f),
         Node::Loop1CharBody { quant, .. } => {
             f.write_str("Loop1Char ")?;
             write_quantifier(quant, f)
@@ -130,27 +122,65 @@ fn write_node<W: Write>(node: &Node, f: &mut Formatter<W>) -> fmt::Result
             start_group,
             end_group,
             ..
-        } => {
-            let sense = if *negate { "negative " } else { "positive " };
-            let direction = if *backwards {
-                "backwards "
-            } else {
-                "forwards "
-            };
-            write!(
-                f,
-                "LookaroundAssertion {sense}{direction}{start_group} {end_group}"
-            )
-        }
+        } => write_lookaround(*negate, *backwards, *start_group, *end_group, f),
         Node::BackRef { group, .. } => write!(f, "BackRef {group} "),
         Node::StringSet {
             alternatives,
             icase,
-        } => {
-            let count = alternatives.len();
-            write!(f, "StringSet count={count}, icase={icase}")
-        }
+        } => write_string_set(alternatives.len(), *icase, f),
     }
+}
+
+fn write_group<W: Write>(
+    id: CaptureGroupID,
+    name: &Option<CaptureGroupName>,
+    f: &mut Formatter<W>,
+) -> fmt::Result
+    ensures { WritesOnOk W.write_str_gives f.old result (text.wrapper_text (capture_group id (option_map string_bytes name.now))) f.new }
+{
+    match name {
+        Some(name) => write!(f, "CaptureGroup {id} \"{name}\""),
+        None => write!(f, "CaptureGroup {id}"),
+    }
+}
+
+fn write_anchor<W: Write>(kind: AnchorType, multiline: bool, f: &mut Formatter<W>) -> fmt::Result
+    ensures { WritesOnOk W.write_str_gives f.old result (text.leaf_text (anchor kind multiline)) f.new }
+{
+    let end = end_text(kind);
+    write!(f, "Anchor {end} multiline={multiline}")
+}
+
+fn write_loop<W: Write>(
+    quant: &Quantifier,
+    start: CaptureGroupID,
+    end: CaptureGroupID,
+    f: &mut Formatter<W>,
+) -> fmt::Result
+    ensures { WritesOnOk W.write_str_gives f.old result (text.wrapper_text (loop quant.now start end)) f.new }
+{
+    write!(f, "Loop (groups {start}..{end}) ")?;
+    write_quantifier(quant, f)
+}
+
+fn write_lookaround<W: Write>(
+    negate: bool,
+    backwards: bool,
+    start: CaptureGroupID,
+    end: CaptureGroupID,
+    f: &mut Formatter<W>,
+) -> fmt::Result
+    ensures { WritesOnOk W.write_str_gives f.old result (text.wrapper_text (lookaround negate backwards start end)) f.new }
+{
+    let sense = if negate { "negative " } else { "positive " };
+    let direction = if backwards { "backwards " } else { "forwards " };
+    write!(f, "LookaroundAssertion {sense}{direction}{start} {end}")
+}
+
+fn write_string_set<W: Write>(count: usize, icase: bool, f: &mut Formatter<W>) -> fmt::Result
+    ensures { WritesOnOk W.write_str_gives f.old result (codes "StringSet count=" ++ decimal count ++ codes ", icase=" ++ text.truth icase) f.new }
+{
+    write!(f, "StringSet count={count}, icase={icase}")
 }
 
 fn end_text(end: AnchorType) -> &'static str
