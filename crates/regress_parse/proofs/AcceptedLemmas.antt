@@ -80,9 +80,11 @@ module _ (setting : Setting) (t : Source) (gives : GivesMarks setting.flags.unic
   marks-refuse (inl conflicts) p h =
       let same = gives (own_context setting p) p refl refl h.derived in
       false≢true (sym conflicts ∙ ap are_marks_apart (sym same) ∙ apart_by_marks p ∙ h.names)
-  marks-refuse (inr deep) p h =
+  marks-refuse (inr (inl deep)) p h =
       let same = gives (own_context setting p) p refl refl h.derived in
       omega (arith, deep, ap (deepest 1) same, deepest-whole p, h.limits.levels)
+  marks-refuse (inr (inr many)) p h =
+      omega (arith, many, groups_found (own_context setting p) p refl refl h.derived, h.limits.groups)
 
   -- the names of a pattern that is read are apart where the scan's are
   pub marks-apart : (p : Pattern) → NoMarksConflict (marks setting.flags.unicode_sets setting.table plain t) → IsDerived setting t p →

@@ -27,7 +27,8 @@ use std::alloc::Global;
 /// `Syntax` is answered with one of the texts of `regress_syntax::fault`, which says where each is due:
 /// - before the pattern is parsed, `Duplicate capture group name` where two groups of one name conflict, and else
 ///   `Regular expression is too deeply nested` (`MAX_NESTING_DEPTH` levels: the whole pattern is one, and so is each
-///   group, lookaround, and class with the flag v that lies in another);
+///   group, lookaround, and class with the flag v that lies in another), and else `Capture group count limit exceeded`
+///   of more groups than 32 bits number;
 /// - past another limit, `Capture group count limit exceeded` (`MAX_CAPTURE_GROUPS`) or `Loop count limit
 ///   exceeded` (`MAX_LOOPS`, a loop being an item with a quantifier);
 /// - else where no row applies: `Unbalanced parenthesis`, or a text on an item, a group, a reference,

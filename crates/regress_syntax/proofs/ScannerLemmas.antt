@@ -148,7 +148,7 @@ apart_behind all scanner behind few =
 pub refused_behind : (all : List Mark) (scanner : Scanner) → Behind all [] scanner → are_apart (map capture_of scanner.named.items) ≡ false →
     IsRefusedByMarks all
 refused_behind all scanner behind conflicts =
-    ⊎_elim (λ (many : max_nesting_depth < deepest 1 all). inr many)
+    ⊎_elim (λ (many : max_nesting_depth < deepest 1 all). inr (inl many))
     (λ (few : deepest 1 all ≤ max_nesting_depth). inl (apart_behind all scanner behind few ∙ conflicts)) (cases_lt max_nesting_depth (deepest 1 all))
 
 -- ---- from one code point to the next

@@ -1,7 +1,7 @@
 -- The parentheses and bars of a pattern, by a scan of its code points that knows no grammar.
-use Rattle.std.specs.Prelude.{◌≡◌, ◌⊎◌, ◌<◌, ℕ, ◌+◌, ◌-◌, max, Bool, false, not, ◌&&◌, ◌||◌, List, [], ◌∷◌, ◌++◌, drop, Option, Some, None, if◌then◌else◌, ◌==◌}
+use Rattle.std.specs.Prelude.{◌≡◌, ◌⊎◌, ◌<◌, ℕ, ◌+◌, ◌-◌, max, Bool, false, not, ◌&&◌, ◌||◌, List, [], ◌∷◌, ◌++◌, drop, length, Option, Some, None, if◌then◌else◌, ◌==◌}
 use Rattle.std.specs.Option.{option_to_list}
-use Rattle.regress_base.specs.Limits.{max_nesting_depth}
+use Rattle.regress_base.specs.Limits.{max_capture_groups, max_nesting_depth}
 use Rattle.regress_base.specs.Table.{Table}
 use Rattle.regress_lexical.specs.Source.{Source, char, opening, closing, bar, question_mark, is_at}
 use Rattle.regress_syntax.specs.Names.{group_name_at}
@@ -85,6 +85,7 @@ deepest n (closes ∷ ms) = max n (deepest (max 1 (n - 1)) ms)
 deepest n (next ∷ ms) = max n (deepest n ms)
 deepest n (nests levels ∷ ms) = max (n + levels) (deepest n ms)
 
--- Two groups conflict, or the levels are more than the limit.
+-- Two groups conflict, or the levels or the groups are more than the limit.
 abbrev pub IsRefusedByMarks : List Mark → Type 0
-IsRefusedByMarks ms = (are_marks_apart ms ≡ false) ⊎ (max_nesting_depth < deepest 1 ms)
+IsRefusedByMarks ms =
+    (are_marks_apart ms ≡ false) ⊎ (max_nesting_depth < deepest 1 ms) ⊎ (max_capture_groups < length (named_by ms))

@@ -15,14 +15,14 @@ mod scanner;
 use crate::groups::Groups;
 use crate::names::Name;
 use mark::{Mode, read_mark, skip_quiet};
-use regress_lexical::fault::ParseFault;
+use regress_lexical::fault::{ParseFault, TOO_MANY_GROUPS, syntax};
 use regress_unicode::Tables;
 use scanner::Scanner;
 use std::alloc::Global;
 
 /// Finds the capture groups of a pattern and their names, without parsing it; `sets` is the flag v, with which classes
 /// lie in one another. The fault comes where two groups of one name conflict, wherever they stand, else where there are
-/// more levels than `MAX_NESTING_DEPTH`.
+/// more levels than `MAX_NESTING_DEPTH`, else where there are more groups than 32 bits number.
 pub fn scan(
     alloc: Global,
     pattern: &[u32],
@@ -37,6 +37,10 @@ pub fn scan(
     ensures whole { GivesMarks sets (table_of tables.now) pattern.now }
 {
     let names = find_names(alloc, pattern, sets, tables)?;
+    // The number of each has 32 bits.
+    if names.len() > u32::MAX as usize {
+        return Err(syntax(alloc, TOO_MANY_GROUPS));
+    }
     Ok(Groups::new(alloc, names)?)
 }
 

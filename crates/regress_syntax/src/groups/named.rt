@@ -1,5 +1,5 @@
 //! The names of the groups, and the numbers of those that have one.
-ghost use Rattle.std.specs.Prelude.{◌≡◌, ◌+◌, ◌++◌, ◌∷◌, [], List, ℕ, min, length, IfOk, OnOk, if◌then◌else◌, bytes_eq};
+ghost use Rattle.std.specs.Prelude.{◌≡◌, ◌<◌, ◌+◌, ◌^◌, ◌++◌, ◌∷◌, [], List, ℕ, min, length, IfOk, OnOk, if◌then◌else◌, bytes_eq};
 ghost use Rattle.regress_base.specs.Limits.{max_capture_groups};
 ghost use Rattle.regress_syntax.specs.Meaning.{groups_named};
 ghost use Rattle.regress_syntax.specs.Numbering.{names_of, numbers_in};
@@ -14,6 +14,7 @@ use std::collections::BTreeMap;
 impl Groups {
     /// The groups with these names.
     pub(crate) fn new(alloc: Global, names: Vec<Option<Name>>) -> Result<Groups, AllocError>
+        requires { length names.items < 2 ^ 32 }
         ensures names { IfOk result (λ groups. names_in groups ≡ names_of names.items) }
         ensures count { IfOk result (λ groups. groups.count ≡ min (length names.items) max_capture_groups) }
     {
@@ -51,14 +52,15 @@ fn is_any_named(names: &[Option<Name>]) -> bool
     names.iter().any(|name| name.is_some())
 }
 
-/// The numbers of the groups of each name. Where their type has no number for a group, memory is said to be wanting.
+/// The numbers of the groups of each name.
 fn number(alloc: Global, names: &[Option<Name>]) -> Result<BTreeMap<Name, Vec<u32>>, AllocError>
+    requires { length names.now < 2 ^ 32 }
     ensures { IfOk result (λ numbers. (name : List ℕ) → numbers_in numbers name ≡ groups_named name 1 (names_of names.now)) }
 {
     let mut numbers = BTreeMap::new(alloc);
     let mut number = 0u32;
     for name in names {
-        number = number.checked_add(1).ok_or(AllocError)?;
+        number += 1;
         if let Some(name) = name {
             add_number(alloc, &mut numbers, name, number)?;
         }

@@ -10,3 +10,6 @@ returns-in_err-new-clause-whole c = gives_marks c.args.sets (table_of c.args.tab
 
 pub returns-clause-whole : goal.returns-clause-whole
 returns-clause-whole c = gives_marks c.args.sets (table_of c.args.tables.now) c.args.pattern.now c.args.tables.now.sound.lawful
+
+pub returns-then-len-clause-whole : goal.returns-then-len-clause-whole
+returns-then-len-clause-whole c = gives_marks c.args.sets (table_of c.args.tables.now) c.args.pattern.now c.args.tables.now.sound.lawful

@@ -1,4 +1,4 @@
-use Rattle.std.proofs.Common.{◌≡◌, ◌+◌, rules, ap, ◌∙◌}
+use Rattle.std.proofs.Common.{◌≡◌, ◌+◌, ap, ◌∙◌}
 use Rattle.regress_syntax.specs.Numbering.{numbers_in}
 use Rattle.regress_syntax.proofs.NumberingLemmas.{numbered_none, numbered_some}
 use Rattle.regress_syntax.proofs.groups.named.number.Goals as goal
@@ -6,7 +6,7 @@ use Rattle.regress_syntax.proofs.groups.named.number.Goals.{in-Some+in_ok-add_nu
 
 pub loop-name-preserved : goal.loop-name-preserved
 loop-name-preserved c =
-    let counted : c.in_ok-number.number ≡ c.loop-name.name-index + 1 = search rules in (
+    let counted : c.loop-name.number + 1 ≡ c.loop-name.name-index + 1 = ap (λ k. k + 1) c.loop-name.invariant.0 in (
       counted,
       λ name. elim c.match-name.branch [
         | in-Some+in_ok-add_number w ↦
