@@ -14,7 +14,7 @@ use Rattle.regress_tree.specs.Steps.{State, Step, stay, ◌then_◌, one_charact
 use Rattle.regress_base.specs.Table.{Table, stands_for, class_of}
 use Rattle.regress_tree.specs.SmallSets.{is_ascii}
 use Rattle.regress_tree.specs.Tree.{Leaf, byte_sequence, byte_set, char_set, leaf, row}
-use Rattle.regress_tree.proofs.laws.ByteSequences.{these_bytes-nil, these_bytes-append, these_bytes-one}
+use Rattle.regress_tree.proofs.laws.ByteSequences.{these_bytes-none, these_bytes-append, these_bytes-one}
 use Rattle.regress_base.proofs.laws.Literals.{listing_is_listed, class_of-some}
 use Rattle.regress_tree.proofs.laws.Literals.{char-steps, class_of-steps}
 use Rattle.regress_tree.proofs.laws.Outcomes.{flat_map-stay, flat_map-then}
@@ -33,12 +33,12 @@ module _ (setting : Setting) (bytes : List ℕ) where
       ∙ flat_map-then (leaves_steps xs) (leaves_steps ys) (leaf_steps setting bytes forwards l s)
 
   bytes_piece-steps : (written : List ℕ) (s : State) → leaves_steps (bytes_piece written) s ≡ these_bytes forwards bytes written s
-  bytes_piece-steps [] s = sym (these_bytes-nil bytes s)
+  bytes_piece-steps [] s = sym (these_bytes-none forwards bytes s)
   bytes_piece-steps (b ∷ written) s = flat_map-stay (these_bytes forwards bytes (b ∷ written) s)
 
   -- nothing stands before
   nothing_then : (f : Step) (s : State) → (these_bytes forwards bytes [] then_ f) s ≡ f s
-  nothing_then f s = ap (flat_map f) (these_bytes-nil bytes s) ∙ append-nil (f s)
+  nothing_then f s = ap (flat_map f) (these_bytes-none forwards bytes s) ∙ append-nil (f s)
 
   -- each piece of a class takes one of its members
   piece_of-steps : (class : List ℕ) (s : State) →

@@ -15,7 +15,7 @@ use Rattle.regress_rewrite.proofs.laws.Emptying.{emptied_keeps}
 use Rattle.regress_rewrite.proofs.laws.Alternatives.{left_alone, right_alone}
 use Rattle.regress_normalize.specs.declared.facts.PartFacts.{PartFacts}
 use Rattle.regress_normalize.specs.Normalized.{Normalized, IsAltOf}
-use Rattle.regress_normalize.specs.PartFacts.{HasFacts, IsPlain}
+use Rattle.regress_normalize.specs.PartFacts.{HasFacts, IsStillOne}
 use Rattle.regress_normalize.proofs.NormalLemmas.{IsNormal-alt, empty_normal}
 
 module _ (left right : Tree) where
@@ -54,7 +54,7 @@ module _ (d : Direction) (t : Tree) (left_facts right_facts : PartFacts) (sides 
     normal = empty_normal;
     facts = has;
     left = λ normal. other is_emptied_away empties (λ n. LacksShape-here is_emptied_away t n.emptied) normal;
-    plain = λ normal. other is_emptied_away empties (λ n. LacksShape-here is_emptied_away t n.emptied) normal;
+    still_one = λ normal. other is_emptied_away empties (λ n. LacksShape-here is_emptied_away t n.emptied) normal;
   }
 
   module _ (new : Tree) (facts : PartFacts) (no_left : left_facts.has_group ≡ false) (no_right : right_facts.has_group ≡ false) where
@@ -76,7 +76,7 @@ module _ (d : Direction) (t : Tree) (left_facts right_facts : PartFacts) (sides 
           normal = subst (λ (u : Tree). IsNormal u) (sym is) sides.right_normal;
           facts = subst (λ (u : Tree). HasFacts facts u) (sym is) has;
           left = λ normal. failed (or_left _ _ left_fails) normal;
-          plain = λ normal. failed (or_left _ _ left_fails) normal;
+          still_one = λ normal. failed (or_left _ _ left_fails) normal;
         }
 
     pub left_side : right_facts.always_fails ≡ true → new ≡ first → HasFacts facts first → Normalized d t new (Ok facts)
@@ -87,7 +87,7 @@ module _ (d : Direction) (t : Tree) (left_facts right_facts : PartFacts) (sides 
           normal = subst (λ (u : Tree). IsNormal u) (sym is) sides.left_normal;
           facts = subst (λ (u : Tree). HasFacts facts u) (sym is) has;
           left = λ normal. failed (or_right _ _ right_fails) normal;
-          plain = λ normal. failed (or_right _ _ right_fails) normal;
+          still_one = λ normal. failed (or_right _ _ right_fails) normal;
         }
 
   -- it stays
@@ -100,12 +100,12 @@ module _ (d : Direction) (t : Tree) (left_facts right_facts : PartFacts) (sides 
     normal = by answer;
     facts = subst (λ (u : Tree). IfOk answer (λ facts. HasFacts facts u)) (sym sides.is) has;
     left = λ normal. refl;
-    plain = λ normal. plain answer many;
+    still_one = λ normal. still_one answer many;
   }
     where
-      plain : (a : Result PartFacts AllocError) → IfOk a (λ facts. facts.was_one_character ≡ false) → IfOk a (λ facts. IsPlain facts t)
-      plain (Ok facts) is = λ one. absurd (true≢false (sym one ∙ is))
-      plain (Err e) is = tt
+      still_one : (a : Result PartFacts AllocError) → IfOk a (λ facts. facts.was_one_character ≡ false) → IfOk a (λ facts. IsStillOne facts t)
+      still_one (Ok facts) is = λ one. absurd (true≢false (sym one ∙ is))
+      still_one (Err e) is = tt
 
       may' : (((left_facts.always_fails ≡ false) × (right_facts.always_fails ≡ false)) ⊎ ((left_facts.has_group || right_facts.has_group) ≡ true)) →
           ((match_always_fails first ≡ false) × (match_always_fails second ≡ false)) ⊎ ((has_group first || has_group second) ≡ true)

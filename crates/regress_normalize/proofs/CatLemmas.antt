@@ -1,14 +1,14 @@
 -- Lists of nodes that the calls on a row handle.
-use Rattle.std.proofs.Common.{◌≡◌, ◌≤◌, Bool, true, false, not, if◌then◌else◌, ◌&&◌, ◌||◌, List, [], ◌∷◌, length, refl, sym, ap, ap₂, ◌∙◌, subst, arith}
+use Rattle.std.proofs.Common.{◌≡◌, Bool, true, false, if◌then◌else◌, ◌&&◌, ◌||◌, List, [], ◌∷◌, refl, sym, ap, ap₂, ◌∙◌, subst}
 use Rattle.std.specs.Prelude.{OnOk, MatchBool, Result, Ok, Err}
-use Rattle.std.specs.List.{filter, list_any}
 use Rattle.std.specs.List.Retain.{DedupsFrom, IsDeduped}
 use Rattle.regress_tree.specs.declared.ir.node.Node.{Node}
 use Rattle.regress_tree.specs.NodeTests.{is_empty}
 use Rattle.regress_tree.specs.Reading.{Direction}
-use Rattle.regress_tree.specs.Shapes.{first_in_row, some_in_row, has_bytes, has_neighbours, is_cat, has_cat, is_short}
+use Rattle.regress_tree.specs.Shapes.{first_in_row, some_in_row, has_bytes, has_neighbours}
 use Rattle.regress_tree.specs.Tree.{Tree, Trees, no_trees, more_trees, row_append, tree, trees}
 use Rattle.regress_tree.proofs.laws.Rows.{row_append-assoc}
+use Rattle.regress_rewrite.specs.Taken.{row_without}
 use Rattle.regress_rewrite.proofs.laws.Joining.{is_written}
 use Rattle.regress_rewrite.proofs.laws.Segments.{is_empty-leaf}
 use Rattle.regress_normalize.specs.Packed.{in_text_order, Packs, TakesBytes}
@@ -29,26 +29,26 @@ behind_one d before t old new packs =
     (subst (λ (ts : Trees). Packs d (in_text_order d (row_append (row_append before (more_trees t no_trees)) old)) (in_text_order d ts))
     (row_append-assoc before (more_trees t no_trees) new) packs)
 
-abbrev pub stays : Node → Bool
-stays n = not (is_empty (tree n))
-
-pub filtered_packs : (d : Direction) (before : Trees) (nodes : List Node) → PacksBehind d before (trees nodes) (trees (filter stays nodes))
-filtered_packs d before [] = Packs-refl d _
-filtered_packs d before (x ∷ nodes) = one_more (is_empty (tree x)) refl (λ front. filtered_packs d front nodes)
+without_packs : (d : Direction) (before ts : Trees) → PacksBehind d before ts (row_without is_empty ts)
+without_packs d before no_trees = Packs-refl d _
+without_packs d before (more_trees t ts) = one_more (is_empty t) refl (λ front. without_packs d front ts)
   where
-    one_more : (b : Bool) → is_empty (tree x) ≡ b → ((front : Trees) → PacksBehind d front (trees nodes) (trees (filter stays nodes))) →
-        PacksBehind d before (more_trees (tree x) (trees nodes)) (trees (if not (is_empty (tree x)) then x ∷ filter stays nodes else filter stays nodes))
-    one_more true is rest =
-        rw (is, is_empty-leaf (tree x) is) (Packs-trans d _ _ _ (leaves_out d before (trees nodes)) (rest before))
+    one_more : (b : Bool) → is_empty t ≡ b → ((front : Trees) → PacksBehind d front ts (row_without is_empty ts)) →
+        PacksBehind d before (more_trees t ts) (if is_empty t then row_without is_empty ts else more_trees t (row_without is_empty ts))
+    one_more true is rest = rw (is, is_empty-leaf t is) (Packs-trans d _ _ _ (leaves_out d before ts) (rest before))
     one_more false is rest =
-        rw is (behind_one d before (tree x) (trees nodes) (trees (filter stays nodes)) (rest (row_append before (more_trees (tree x) no_trees))))
+        rw is (behind_one d before t ts (row_without is_empty ts) (rest (row_append before (more_trees t no_trees))))
 
-pub filtered_none : (nodes : List Node) → some_in_row is_empty (trees (filter stays nodes)) ≡ false
-filtered_none [] = refl
-filtered_none (x ∷ nodes) = one_more (is_empty (tree x)) refl (filtered_none nodes)
+pub left_out_packs : (d : Direction) (ts us : Trees) → us ≡ row_without is_empty ts → Packs d (in_text_order d ts) (in_text_order d us)
+left_out_packs d ts us is =
+    subst (λ (vs : Trees). Packs d (in_text_order d ts) (in_text_order d vs)) (sym is) (without_packs d no_trees ts)
+
+pub without_none : (ts : Trees) → some_in_row is_empty (row_without is_empty ts) ≡ false
+without_none no_trees = refl
+without_none (more_trees t ts) = one_more (is_empty t) refl (without_none ts)
   where
-    one_more : (b : Bool) → is_empty (tree x) ≡ b → some_in_row is_empty (trees (filter stays nodes)) ≡ false →
-        some_in_row is_empty (trees (if not (is_empty (tree x)) then x ∷ filter stays nodes else filter stays nodes)) ≡ false
+    one_more : (b : Bool) → is_empty t ≡ b → some_in_row is_empty (row_without is_empty ts) ≡ false →
+        some_in_row is_empty (if is_empty t then row_without is_empty ts else more_trees t (row_without is_empty ts)) ≡ false
     one_more true is rest = rw is rest
     one_more false is rest = rw is (ap₂ ◌||◌ is rest)
 
@@ -98,23 +98,6 @@ module _ {S : Type 0} (R : S → Node → Node → Bool → S → Node → Node 
 -- those found from a place on, where the part before it has bytes or not
 abbrev pub neighbours_from : Bool → List Node → Bool
 neighbours_from before nodes = (before && first_in_row has_bytes (trees nodes)) || has_neighbours has_bytes (trees nodes)
-
--- ---- how many
-
-pub is_short-from_len : (nodes : List Node) → 2 ≤ length nodes → is_short (trees nodes) ≡ false
-is_short-from_len [] long = absurd (omega (arith, long))
-is_short-from_len (x ∷ []) long = absurd (omega (arith, long))
-is_short-from_len (x ∷ y ∷ nodes) long = refl
-
--- ---- what `any` finds
-
-pub some_in_row-any : (test : Tree → Bool) (nodes : List Node) → some_in_row test (trees nodes) ≡ list_any (λ n. test (tree n)) nodes
-some_in_row-any test [] = refl
-some_in_row-any test (x ∷ nodes) = ap (λ b. test (tree x) || b) (some_in_row-any test nodes)
-
-pub has_cat-any : (nodes : List Node) → has_cat (trees nodes) ≡ list_any (λ n. is_cat (tree n)) nodes
-has_cat-any [] = refl
-has_cat-any (x ∷ nodes) = ap (λ b. is_cat (tree x) || b) (has_cat-any nodes)
 
 pub on_ok_map : {X E : Type 0} (P Q : Type 0) (r : Result X E) → (P → Q) → OnOk r P → OnOk r Q
 on_ok_map P Q (Ok x) f p = f p

@@ -1,7 +1,6 @@
 -- What is known of a row, one part more.
 use Rattle.std.proofs.Common.{◌≡◌, ℕ, ◌+◌, ◌≤◌, Bool, true, false, ◌||◌, max, inl, inr, Ordering, Less, Equal, Greater, refl, sym, ap, ◌∙◌, arith}
-use Rattle.std.specs.Prelude.{if◌then◌else◌, Option, Some, None, Ok, SomeIff, alloc_error}
-use Rattle.std.specs.Option.{ok_or}
+use Rattle.std.specs.Prelude.{if◌then◌else◌}
 use Rattle.std.specs.Ordering.{ord_max, nat_cmp}
 use Rattle.std.specs.Cmp.{nat_cmp_is}
 use Rattle.std.proofs.lemmas.Bool.{cases_lt}
@@ -11,11 +10,10 @@ use Rattle.regress_tree.specs.Measures.{total_in_row, levels, levels_of_deepest}
 use Rattle.regress_tree.specs.Shapes.{some_node, some_node_in_row, some_in_row, is_cat}
 use Rattle.regress_tree.specs.Tree.{Tree, Trees, leaf, cat, alt, wrapped, no_trees, more_trees, row_append}
 use Rattle.regress_tree.specs.Units.{charges, charge}
-use Rattle.regress_tree.proofs.laws.Measures.{some_node-append, total-append}
+use Rattle.regress_tree.proofs.laws.Measures.{some_node-append, some_in_row-append, total-append, levels-append}
 use Rattle.regress_tree.proofs.laws.Rows.{row_append-none}
 use Rattle.regress_rewrite.specs.Splice.{parts_of, spliced}
 use Rattle.regress_rewrite.proofs.laws.Splicing.{spliced-append}
-use Rattle.regress_normalize.proofs.PackedLemmas.{some_in_row-append, levels-append}
 
 -- a `Cat` counts one more than its parts
 abbrev pub around : Tree → ℕ
@@ -69,11 +67,6 @@ around-charge t = omega (arith, charge-parts_of t)
 
 pub around-levels : (t : Tree) → around t ≤ levels t
 around-levels t = omega (arith, levels-parts_of t)
-
--- the sum that was checked
-pub sum_of : (P : Type 0) (n sum : ℕ) (r : Option ℕ) → SomeIff r P sum → Ok n ≡ ok_or r alloc_error → n ≡ sum
-sum_of P n sum None test is = cc
-sum_of P n sum (Some m) test is = let same = test.1 in cc
 
 -- the greater of two
 pub greater : (a b : ℕ) → ord_max nat_cmp a b ≡ max a b

@@ -8,10 +8,10 @@ use Rattle.regress_tree.specs.Measures.{total_in_row, levels, levels_of_deepest}
 use Rattle.regress_tree.specs.NodeTests.{is_empty, match_always_fails}
 use Rattle.regress_tree.specs.NormalForm.{IsNormal}
 use Rattle.regress_tree.specs.Reading.{Direction}
-use Rattle.regress_tree.specs.Shapes.{on_leaf, on_wrapper, some_node, some_node_in_row, some_in_row, has_group, is_group, is_loop, is_string_set, has_cat, is_short, RowLacksShape, is_flattened_away, is_formed_away, is_emptied_away, is_failed_away}
-use Rattle.regress_tree.specs.Tree.{Wrapper, Tree, Trees, leaf, empty, byte_set, cat, alt, wrapped, no_trees, more_trees}
+use Rattle.regress_tree.specs.Shapes.{on_leaf, on_wrapper, some_node, some_node_in_row, some_in_row, has_group, is_group, is_loop, is_string_set, is_cat, has_cat, is_short, RowLacksShape, is_flattened_away, is_formed_away, is_emptied_away, is_failed_away}
+use Rattle.regress_tree.specs.Tree.{Tree, Trees, leaf, empty, byte_set, cat, alt, wrapped, no_trees, more_trees}
 use Rattle.regress_tree.specs.Units.{charges}
-use Rattle.regress_tree.proofs.laws.Measures.{some_node-append, LacksShape-here, LacksShape-inside, LacksShape-from}
+use Rattle.regress_tree.proofs.laws.Measures.{some_in_row-append, LacksShape-here, LacksShape-inside, LacksShape-from}
 use Rattle.regress_rewrite.specs.Law.{IsPart, Keeps}
 use Rattle.regress_rewrite.specs.Splice.{parts_of, spliced}
 use Rattle.regress_rewrite.proofs.laws.Failing.{fails_keeps}
@@ -23,7 +23,7 @@ use Rattle.regress_normalize.specs.PartFacts.{HasFacts, HasRowFacts}
 use Rattle.regress_normalize.specs.declared.facts.PartFacts.{PartFacts}
 use Rattle.regress_normalize.specs.declared.facts.RowFacts.{RowFacts}
 use Rattle.regress_normalize.proofs.NormalLemmas.{Kind, simplified, flattened, unrolled, promoted, formed, emptied, failed, shape, lacks, normal_from, empty_normal, nothing_normal}
-use Rattle.regress_normalize.proofs.PackedLemmas.{some_in_row-append, has_cat-append, RowIsNormal-append}
+use Rattle.regress_normalize.proofs.PackedLemmas.{RowIsNormal-append}
 
 -- ---- rows of parts in normal form
 
@@ -98,19 +98,7 @@ parts_no_cat (wrapped w body) normal = refl
 spliced_no_cat : (ts : Trees) → RowIsNormal ts → has_cat (spliced ts) ≡ false
 spliced_no_cat no_trees each = refl
 spliced_no_cat (more_trees t ts) each =
-    has_cat-append (parts_of t) (spliced ts) ∙ ap₂ ◌||◌ (parts_no_cat t each.0) (spliced_no_cat ts each.1)
-
-module _ (test : Wrapper → Bool) where
-  parts_wrappers : (t : Tree) → some_node_in_row (on_wrapper test) (parts_of t) ≡ some_node (on_wrapper test) t
-  parts_wrappers (leaf l) = or-false _
-  parts_wrappers (cat parts) = refl
-  parts_wrappers (alt left right) = or-false _
-  parts_wrappers (wrapped w body) = or-false _
-
-  spliced_wrappers : (ts : Trees) → some_node_in_row (on_wrapper test) (spliced ts) ≡ some_node_in_row (on_wrapper test) ts
-  spliced_wrappers no_trees = refl
-  spliced_wrappers (more_trees t ts) =
-      some_node-append (on_wrapper test) (parts_of t) (spliced ts) ∙ ap₂ ◌||◌ (parts_wrappers t) (spliced_wrappers ts)
+    some_in_row-append is_cat (parts_of t) (spliced ts) ∙ ap₂ ◌||◌ (parts_no_cat t each.0) (spliced_no_cat ts each.1)
 
 -- where there is no group
 alone : (a b : Bool) → (a && not b) ≡ false → b ≡ false → a ≡ false
@@ -168,13 +156,13 @@ module _ (d : Direction) (row : RowFacts) (ts new : Trees) (taken : ℕ) (each :
   levels_new = done.packs.levels ∙ sym facts.levels
 
   group_new : some_node_in_row (on_wrapper is_group) new ≡ row.has_group
-  group_new = done.packs.wrappers is_group ∙ spliced_wrappers is_group ts ∙ sym facts.has_group
+  group_new = done.packs.wrappers is_group ∙ some_node-spliced (on_wrapper is_group) (λ us. refl) ts ∙ sym facts.has_group
 
   loop_new : some_node_in_row (on_wrapper is_loop) new ≡ row.has_loop
-  loop_new = done.packs.wrappers is_loop ∙ spliced_wrappers is_loop ts ∙ sym facts.has_loop
+  loop_new = done.packs.wrappers is_loop ∙ some_node-spliced (on_wrapper is_loop) (λ us. refl) ts ∙ sym facts.has_loop
 
   string_set_new : some_node_in_row (on_leaf is_string_set) new ≡ row.has_string_set
-  string_set_new = done.packs.string_sets ∙ some_node-spliced is_string_set ts ∙ sym facts.has_string_set
+  string_set_new = done.packs.string_sets ∙ some_node-spliced (on_leaf is_string_set) (λ us. refl) ts ∙ sym facts.has_string_set
 
   lasting_new : (some_in_row match_always_fails new && not (some_node_in_row (on_wrapper is_group) new)) ≡ false
   lasting_new = elim (cases_Bool row.has_group) [
@@ -253,7 +241,7 @@ both_and false b is = absurd (false≢true is)
 module _ (d : Direction) (row : RowFacts) (ts : Trees) (given : AreParts row ts) where
   pub fails_normalized : IsPart (cat ts) → (row.some_fails && not row.has_group) ≡ true → (f : PartFacts) →
       HasFacts f (leaf (byte_set [])) → f.was_one_character ≡ false → Normalized d (cat ts) (leaf (byte_set [])) (Ok f)
-  fails_normalized part is f has plain =
+  fails_normalized part is f has many =
       let both = both_and row.some_fails row.has_group is in
       let fails : some_in_row match_always_fails ts ≡ true = sym given.facts.some_fails ∙ both.0 in
       let free : has_group (cat ts) ≡ false = sym given.facts.has_group ∙ both.1 in
@@ -263,7 +251,7 @@ module _ (d : Direction) (row : RowFacts) (ts : Trees) (given : AreParts row ts)
         facts = has;
         left = λ normal.
             absurd (true≢false (sym (ap₂ (λ a b. a && not b) fails free) ∙ LacksShape-here is_failed_away (cat ts) normal.failed));
-        plain = λ normal. no_one f.was_one_character plain _;
+        still_one = λ normal. no_one f.was_one_character many _;
       }
 
   module _ (new : Trees) (keeps : Keeps d (cat ts) (cat new)) (left : has_cat ts ≡ false → IsPacked ts → new ≡ ts) where
@@ -283,7 +271,7 @@ module _ (d : Direction) (row : RowFacts) (ts : Trees) (given : AreParts row ts)
       normal = tt;
       facts = tt;
       left = λ normal. ap cat (left_whole normal);
-      plain = λ normal. tt;
+      still_one = λ normal. tt;
     }
 
     module _ (taken : ℕ) (done : IsRowPacked d ts new taken) (lasting : (row.some_fails && not row.has_group) ≡ false) where
@@ -294,14 +282,14 @@ module _ (d : Direction) (row : RowFacts) (ts : Trees) (given : AreParts row ts)
         normal = new_cat_normal d row ts new taken given.each given.facts done lasting long;
         facts = new_cat_facts d row ts new taken given.each given.facts done lasting long f is;
         left = λ normal. ap cat (left_whole normal);
-        plain = λ normal. no_one f.was_one_character is.was_one_character _;
+        still_one = λ normal. no_one f.was_one_character is.was_one_character _;
       }
       cat_normalized long (Err e) is = record {
         keeps = keeps;
         normal = tt;
         facts = tt;
         left = λ normal. ap cat (left_whole normal);
-        plain = λ normal. tt;
+        still_one = λ normal. tt;
       }
 
       module _ (t : Tree) where
@@ -310,15 +298,15 @@ module _ (d : Direction) (row : RowFacts) (ts : Trees) (given : AreParts row ts)
 
         pub empty_normalized : Stands → is_empty t ≡ true → (f : PartFacts) → HasFacts f (leaf empty) → f.was_one_character ≡ false →
             Normalized d (cat ts) t (Ok f)
-        empty_normalized (inl none) is f has plain =
+        empty_normalized (inl none) is f has many =
             subst (λ (u : Tree). Normalized d (cat ts) u (Ok f)) (sym none.1) (record {
               keeps = Keeps-trans d (subst (λ (us : Trees). Keeps d (cat ts) (cat us)) none.0 keeps) (Keeps-no_part d);
               normal = empty_normal;
               facts = has;
               left = λ normal. absurd (not_left (ap is_short none.0) normal);
-              plain = λ normal. no_one f.was_one_character plain _;
+              still_one = λ normal. no_one f.was_one_character many _;
             })
-        empty_normalized (inr one) is f has plain =
+        empty_normalized (inr one) is f has many =
             absurd (true≢false (sym is ∙ one_some d row ts new taken given.each given.facts done lasting t one))
 
         alone_keeps : new ≡ more_trees t no_trees → Keeps d (cat ts) t
@@ -332,12 +320,12 @@ module _ (d : Direction) (row : RowFacts) (ts : Trees) (given : AreParts row ts)
           normal = one_normal d row ts new taken given.each given.facts done lasting t one;
           facts = one_facts d row ts new taken given.each given.facts done lasting t one f is;
           left = λ normal. absurd (not_left (ap is_short one) normal);
-          plain = λ normal. no_one f.was_one_character is.was_one_character _;
+          still_one = λ normal. no_one f.was_one_character is.was_one_character _;
         }
         alone_normalized (inr one) some (Err e) is = record {
           keeps = alone_keeps one;
           normal = tt;
           facts = tt;
           left = λ normal. absurd (not_left (ap is_short one) normal);
-          plain = λ normal. tt;
+          still_one = λ normal. tt;
         }

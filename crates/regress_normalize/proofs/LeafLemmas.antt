@@ -1,19 +1,19 @@
 -- A node that holds no node: one kind of shape after the other is removed.
-use Rattle.std.proofs.Common.{◌≡◌, ℕ, ◌<◌, ◌⊎◌, Bool, true, false, inl, inr, [], ◌∷◌, Result, Ok, Err, refl, sym, ap, subst, ◌∙◌, arith}
+use Rattle.std.proofs.Common.{◌≡◌, ◌<◌, ◌⊎◌, Bool, true, false, inl, inr, Result, Ok, Err, refl, sym, ap, subst, ◌∙◌, arith}
 use Rattle.std.specs.Prelude.{IfOk}
 use Rattle.std.specs.Result.{IsErr}
-use Rattle.std.proofs.lemmas.Bool.{false≢true, not-true}
+use Rattle.std.proofs.lemmas.Bool.{false≢true}
 use Rattle.std.specs.declared.alloc.AllocError.{AllocError}
 use Rattle.regress_tree.specs.Copies.{is_leaf}
-use Rattle.regress_tree.specs.NodeTests.{leaf_matches_exactly_one_char, matches_exactly_one_char}
+use Rattle.regress_tree.specs.NodeTests.{matches_exactly_one_char}
 use Rattle.regress_tree.specs.NormalForm.{IsNormal}
 use Rattle.regress_tree.specs.Reading.{Direction, forwards}
 use Rattle.regress_tree.specs.Shapes.{LacksShape, is_cat, is_simplified_away, is_formed_away, is_emptied_away}
-use Rattle.regress_tree.specs.Tree.{Leaf, empty, goal, char, byte_sequence, byte_set, char_set, match_any, match_any_except_line_terminator, anchor, word_boundary, bracket, back_ref, string_set, Tree, leaf, cat, alt, wrapped}
+use Rattle.regress_tree.specs.Tree.{Leaf, empty, Tree, leaf, cat, alt, wrapped}
 use Rattle.regress_tree.specs.Units.{weight, loops, IsLess}
-use Rattle.regress_tree.specs.WellFormed.{Position, one_character, LeafMayStand}
-use Rattle.regress_tree.proofs.laws.Accepting.{accepts_some}
+use Rattle.regress_tree.specs.WellFormed.{one_character}
 use Rattle.regress_tree.proofs.laws.Measures.{LacksShape-here}
+use Rattle.regress_tree.proofs.laws.Positions.{MayStand-one_character}
 use Rattle.regress_rewrite.specs.declared.rewrite.PassAction.{PassAction}
 use Rattle.regress_rewrite.specs.declared.rewrite.PassAction.TheVariants.{Keep}
 use Rattle.regress_rewrite.specs.Law.{IsPart, Keeps, after, IsLawful}
@@ -116,30 +116,8 @@ Clears-empty t is some part = record {
 
 -- ---- one character
 
-one_leaf : (n k : ℕ) (l : Leaf) (p : Position) → leaf_matches_exactly_one_char l ≡ true → LeafMayStand n l p → LeafMayStand k l one_character
-one_leaf n k empty p one m = absurd (false≢true one)
-one_leaf n k goal p one m = absurd (false≢true one)
-one_leaf n k (char c) p one m = m
-one_leaf n k (byte_sequence bytes) p one m = absurd (false≢true one)
-one_leaf n k (byte_set bytes) p one m = absurd (false≢true one)
-one_leaf n k (char_set []) p one m = absurd (false≢true one)
-one_leaf n k (char_set (c ∷ cs)) p one m = record { bounded = m.bounded; small = m.small; some = λ none. cc }
-one_leaf n k match_any p one m = m
-one_leaf n k match_any_except_line_terminator p one m = m
-one_leaf n k (anchor kind multiline) p one m = absurd (false≢true one)
-one_leaf n k (word_boundary invert unicode_icase) p one m = absurd (false≢true one)
-one_leaf n k (bracket invert intervals) p one m = record {
-  canonical = m.canonical;
-  some = accepts_some invert intervals m.canonical (not-true _ one);
-}
-one_leaf n k (back_ref group icase) p one m = absurd (false≢true one)
-one_leaf n k (string_set strings icase) p one m = absurd (false≢true one)
-
 one_stands : (t : Tree) → matches_exactly_one_char t ≡ true → IsPart t → StandsAsOne t
-one_stands (leaf l) one part n = one_leaf part.0 n l part.1 one part.2
-one_stands (cat parts) one part n = absurd (false≢true one)
-one_stands (alt left right) one part n = absurd (false≢true one)
-one_stands (wrapped w body) one part n = absurd (false≢true one)
+one_stands t one part n = MayStand-one_character part.0 n t part.1 one part.2
 
 -- ---- all three
 
@@ -168,7 +146,7 @@ module _ (old simplified formed new : Tree) (part : IsPart old) (first : Clears 
         no_literal no_empty;
     facts = has;
     left = λ normal. same normal;
-    plain = λ normal one.
+    still_one = λ normal one.
         let at_first = first.left (LacksShape-here is_simplified_away old normal.simplified) in
         ap matches_exactly_one_char (same normal ∙ sym at_first) ∙ (sym was ∙ one);
   }
@@ -182,7 +160,7 @@ module _ (d : Direction) (old simplified : Tree) (first : Clears is_simplified_a
     normal = tt;
     facts = tt;
     left = λ normal. first.left (LacksShape-here is_simplified_away old normal.simplified);
-    plain = λ normal. tt;
+    still_one = λ normal. tt;
   }
 
   pub formed_error : (formed : Tree) → Clears is_formed_away simplified formed → (answer : Result PartFacts AllocError) → IsErr answer →
@@ -195,5 +173,5 @@ module _ (d : Direction) (old simplified : Tree) (first : Clears is_simplified_a
     left = λ normal.
         let one = first.left (LacksShape-here is_simplified_away old normal.simplified) in
         second.left (ap is_formed_away one ∙ LacksShape-here is_formed_away old normal.formed) ∙ one;
-    plain = λ normal. tt;
+    still_one = λ normal. tt;
   }

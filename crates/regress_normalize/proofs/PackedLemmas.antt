@@ -6,11 +6,12 @@ use Rattle.regress_tree.specs.Measures.{total_in_row, levels_of_deepest}
 use Rattle.regress_tree.specs.NodeTests.{is_empty, match_always_fails}
 use Rattle.regress_tree.specs.NormalForm.{IsNormal}
 use Rattle.regress_tree.specs.Reading.{Direction, forwards, backwards}
-use Rattle.regress_tree.specs.Shapes.{on_leaf, on_wrapper, some_node_in_row, some_in_row, first_in_row, has_neighbours, has_bytes, is_cat, has_cat, is_string_set}
+use Rattle.regress_tree.specs.Shapes.{on_leaf, on_wrapper, some_node_in_row, some_in_row, first_in_row, has_neighbours, has_bytes, is_cat, is_string_set}
 use Rattle.regress_tree.specs.Tree.{Tree, Trees, byte_sequence, leaf, empty, cat, no_trees, more_trees, row_append, row_reverse}
 use Rattle.regress_tree.specs.Units.{charges}
-use Rattle.regress_tree.proofs.laws.Measures.{some_node-append, total-append}
-use Rattle.regress_tree.proofs.laws.Rows.{row_append-none, row_append-assoc}
+use Rattle.regress_tree.proofs.laws.Measures.{some_node-append, some_in_row-append, total-append, levels-append}
+use Rattle.regress_tree.proofs.laws.Rows.{row_append-assoc}
+use Rattle.regress_tree.proofs.laws.Turned.{row_reverse-append}
 use Rattle.regress_rewrite.specs.Formed.{bytes_of}
 use Rattle.regress_rewrite.specs.Splice.{row_length}
 use Rattle.regress_rewrite.proofs.laws.Joining.{written, is_written}
@@ -21,22 +22,7 @@ use Rattle.regress_normalize.specs.Normalized.{RowIsNormal}
 use Rattle.regress_normalize.specs.Packed.{in_text_order, Packs, IsPacked, TakesBytes}
 use Rattle.regress_normalize.proofs.NormalLemmas.{IsNormal-leaf}
 
--- ---- tests and sums over rows, one behind the other
-
-pub some_in_row-append : (test : Tree → Bool) (ts us : Trees) →
-    some_in_row test (row_append ts us) ≡ (some_in_row test ts || some_in_row test us)
-some_in_row-append test no_trees us = refl
-some_in_row-append test (more_trees t ts) us =
-    ap (λ b. test t || b) (some_in_row-append test ts us) ∙ sym (or_assoc (test t) (some_in_row test ts) (some_in_row test us))
-
-pub has_cat-append : (ts us : Trees) → has_cat (row_append ts us) ≡ (has_cat ts || has_cat us)
-has_cat-append no_trees us = refl
-has_cat-append (more_trees t ts) us =
-    ap (λ b. is_cat t || b) (has_cat-append ts us) ∙ sym (or_assoc (is_cat t) (has_cat ts) (has_cat us))
-
-pub levels-append : (ts us : Trees) → levels_of_deepest (row_append ts us) ≡ max (levels_of_deepest ts) (levels_of_deepest us)
-levels-append no_trees us = omega arith
-levels-append (more_trees t ts) us = omega (arith, levels-append ts us)
+-- ---- rows, one behind the other
 
 pub RowIsNormal-append : (ts us : Trees) → RowIsNormal ts → RowIsNormal us → RowIsNormal (row_append ts us)
 RowIsNormal-append no_trees us first second = second
@@ -96,12 +82,6 @@ module _ (d : Direction) (u : Tree) (us vs : Trees) (packs : Packs d (more_trees
       (some_in_row-append test vs zs ∙ ap (λ b. b || some_in_row test zs) same ∙ sym (some_in_row-append test (more_trees u us) zs))
       ∙ sym (some_in_row-append test xs (row_append (more_trees u us) zs))
 
-  has_cat-around : has_cat vs ≡ has_cat (more_trees u us) → has_cat (around vs) ≡ has_cat (around (more_trees u us))
-  has_cat-around same =
-      has_cat-append xs (row_append vs zs)
-      ∙ ap (λ b. has_cat xs || b) (has_cat-append vs zs ∙ ap (λ b. b || has_cat zs) same ∙ sym (has_cat-append (more_trees u us) zs))
-      ∙ sym (has_cat-append xs (row_append (more_trees u us) zs))
-
   length-around : (ts : Trees) → row_length (around ts) ≡ row_length xs + (row_length ts + row_length zs)
   length-around ts = omega (arith, row_length-append xs (row_append ts zs), row_length-append ts zs)
 
@@ -124,7 +104,7 @@ module _ (d : Direction) (u : Tree) (us vs : Trees) (packs : Packs d (more_trees
         let first = RowIsNormal-split xs (row_append (more_trees u us) zs) each in
         let rest = RowIsNormal-split (more_trees u us) zs first.1 in
         RowIsNormal-append xs (row_append vs zs) first.0 (RowIsNormal-append vs zs (packs.normal rest.0) rest.1);
-    cats = has_cat-around packs.cats;
+    cats = some_in_row-around is_cat packs.cats;
     fewer = omega (arith, packs.fewer, length-around vs, length-around (more_trees u us));
     charge = omega (
       arith,
@@ -189,17 +169,6 @@ pair_packs backwards a b = record {
 }
 
 -- ---- turned
-
-row_reverse-append : (ts us : Trees) → row_reverse (row_append ts us) ≡ row_append (row_reverse us) (row_reverse ts)
-row_reverse-append no_trees us = sym (row_append-none (row_reverse us))
-row_reverse-append (more_trees t ts) us =
-    ap (λ vs. row_append vs (more_trees t no_trees)) (row_reverse-append ts us)
-    ∙ row_append-assoc (row_reverse us) (row_reverse ts) (more_trees t no_trees)
-
-pub row_reverse-twice : (ts : Trees) → row_reverse (row_reverse ts) ≡ ts
-row_reverse-twice no_trees = refl
-row_reverse-twice (more_trees t ts) =
-    row_reverse-append (row_reverse ts) (more_trees t no_trees) ∙ ap (more_trees t) (row_reverse-twice ts)
 
 turned-around : (xs ts zs : Trees) →
     row_reverse (row_append xs (row_append ts zs)) ≡ row_append (row_reverse zs) (row_append (row_reverse ts) (row_reverse xs))

@@ -16,14 +16,15 @@ use Rattle.regress_tree.proofs.laws.Measures.{LacksShape-here}
 use Rattle.regress_tree.proofs.laws.Places.{Place, put, direction_at, right_of, inside_of, left_of}
 use Rattle.regress_tree.proofs.laws.Rows.{trees-append}
 use Rattle.regress_rewrite.specs.Law.{IsPart}
-use Rattle.regress_rewrite.proofs.laws.Keeps.{Keeps-refl, Keeps-trans, Keeps-put, Keeps-one_part, IsPart-kept, IsPart-part}
+use Rattle.regress_rewrite.proofs.laws.Keeps.{Keeps-trans, Keeps-put, Keeps-one_part, IsPart-kept}
 use Rattle.regress_rewrite.proofs.laws.Parts.{place, row_set, row_at}
 use Rattle.regress_rewrite.proofs.laws.Spine.{IsPart-reattach}
 use Rattle.regress_normalize.specs.declared.facts.PartFacts.{PartFacts}
 use Rattle.regress_normalize.specs.Normalized.{Finished, Normalized, IsCleanAround, RowIsNormal, IsWrapperOf, IsAltOf}
-use Rattle.regress_normalize.specs.PartFacts.{HasFacts, IsPlain}
+use Rattle.regress_normalize.specs.PartFacts.{HasFacts, IsStillOne}
 use Rattle.regress_normalize.specs.Steps.{StandsFor, IsAltOnto}
 use Rattle.regress_normalize.proofs.NormalLemmas.{IsNormal-part, IsNormal-reattach}
+use Rattle.regress_normalize.proofs.PackedLemmas.{RowIsNormal-append}
 
 -- ---- one step after the other
 
@@ -63,7 +64,7 @@ Normalized-after d t u v answer first second =
       normal = second.normal;
       facts = second.facts;
       left = both.left;
-      plain = λ normal. second.plain (subst (λ (x : Tree). IsNormal x) (sym (first.left normal)) normal);
+      still_one = λ normal. second.still_one (subst (λ (x : Tree). IsNormal x) (sym (first.left normal)) normal);
     }
 
 -- the same where the second step needs more to leave what is there
@@ -74,7 +75,7 @@ Normalized-finished clean d t u v answer first second is_clean = record {
   normal = second.normal;
   facts = second.facts;
   left = λ normal. second.left (is_clean normal) ∙ first.left normal;
-  plain = λ normal. second.plain (is_clean normal);
+  still_one = λ normal. second.still_one (is_clean normal);
 }
 
 -- after an error nothing else is said
@@ -82,14 +83,14 @@ pub Normalized-error : (d : Direction) (t u : Tree) (answer : Result PartFacts A
     Normalized d t u answer
 Normalized-error d t u (Ok facts) err stands = absurd (false≢true err)
 Normalized-error d t u (Err e) err stands =
-    record { keeps = stands.keeps; normal = tt; facts = tt; left = stands.left; plain = λ normal. tt }
+    record { keeps = stands.keeps; normal = tt; facts = tt; left = stands.left; still_one = λ normal. tt }
 
 -- the same beside something else that is known before
 pub Finished-error : (known : Type 0) (d : Direction) (t u : Tree) (answer : Result PartFacts AllocError) → IsErr answer → StandsFor d t u →
     Finished (IsNormal t × known) d t u answer
 Finished-error known d t u (Ok facts) err stands = absurd (false≢true err)
 Finished-error known d t u (Err e) err stands =
-    record { keeps = stands.keeps; normal = tt; facts = tt; left = λ clean. stands.left clean.0; plain = λ clean. tt }
+    record { keeps = stands.keeps; normal = tt; facts = tt; left = λ clean. stands.left clean.0; still_one = λ clean. tt }
 
 -- a part in the place of a `Cat` of one
 pub StandsFor-only_part : (d : Direction) (t part : Tree) → t ≡ cat (more_trees part no_trees) → StandsFor d t part
@@ -115,12 +116,12 @@ module _ (d : Direction) (w : Wrapper) (t u : Tree) (answer : Result PartFacts A
   pub wraps_clean : IsNormal (wrapped w t) → IfOk answer (λ facts. IsCleanAround facts (wrapped w u))
   wraps_clean whole =
       let inner = IsNormal-part (inside_of w) t whole in
-      by answer (subst (λ (x : Tree). IsNormal (wrapped w x)) (sym (here.left inner)) whole) (here.plain inner)
+      by answer (subst (λ (x : Tree). IsNormal (wrapped w x)) (sym (here.left inner)) whole) (here.still_one inner)
     where
-      by : (a : Result PartFacts AllocError) → IsNormal (wrapped w u) → IfOk a (λ facts. IsPlain facts u) →
+      by : (a : Result PartFacts AllocError) → IsNormal (wrapped w u) → IfOk a (λ facts. IsStillOne facts u) →
           IfOk a (λ facts. IsCleanAround facts (wrapped w u))
-      by (Ok facts) normal plain = (normal, plain)
-      by (Err e) normal plain = tt
+      by (Ok facts) normal still_one = (normal, still_one)
+      by (Err e) normal still_one = tt
 
 -- ---- alternatives
 
@@ -161,11 +162,11 @@ module _ (above node rest here : Tree) (shifted : Shifted above node rest here) 
       StandsFor-then d old (reattach rest here) (reattach rest made) (subst (λ (t : Tree). StandsFor d old t) (sym reattach_up) so_far)
       (StandsFor-reattach d rest here made (StandsFor-normalized d here made answer next))
 
-  pub plain_up : (d : Direction) (old made : Tree) (answer : PartFacts) → StandsFor d old (reattach above node) →
-      Normalized d here made (Ok answer) → IsNormal old → IsPlain answer made
-  plain_up d old made answer so_far next normal =
+  pub still_one_up : (d : Direction) (old made : Tree) (answer : PartFacts) → StandsFor d old (reattach above node) →
+      Normalized d here made (Ok answer) → IsNormal old → IsStillOne answer made
+  still_one_up d old made answer so_far next normal =
       let whole = subst (λ (t : Tree). IsNormal t) (sym (reattach_up ∙ so_far.left normal)) normal in
-      next.plain (IsNormal-reattach rest here whole)
+      next.still_one (IsNormal-reattach rest here whole)
 
   pub IsPart_up : (d : Direction) (old : Tree) → StandsFor d old (reattach above node) → IsPart old → IsPart here
   IsPart_up d old so_far part =
@@ -195,17 +196,13 @@ both_sides t left right facts left_facts is onto made normal has =
 
 -- ---- parts
 
-RowIsNormal-more : (ts : Trees) (t : Tree) → RowIsNormal ts → IsNormal t → RowIsNormal (row_append ts (more_trees t no_trees))
-RowIsNormal-more no_trees t normal here = (here, tt)
-RowIsNormal-more (more_trees u us) t normal here = (normal.0, RowIsNormal-more us t normal.1 here)
-
 module _ (now : List Node) (i : ℕ) (in_row : i < length now) (new : Node) where
   -- the parts so far, and this one
   pub taken : trees (take (i + 1) (set now i new)) ≡ row_append (trees (take i now)) (more_trees (tree new) no_trees)
   taken = ap trees (take_more_set now i new in_row) ∙ trees-append (take i now) (new ∷ [])
 
   pub more_normal : RowIsNormal (trees (take i now)) → IsNormal (tree new) → RowIsNormal (trees (take (i + 1) (set now i new)))
-  more_normal before here = subst (λ (ts : Trees). RowIsNormal ts) (sym taken) (RowIsNormal-more _ (tree new) before here)
+  more_normal before here = subst (λ (ts : Trees). RowIsNormal ts) (sym taken) (RowIsNormal-append _ (more_trees (tree new) no_trees) before (here, tt))
 
   pub StandsFor-part : (d : Direction) (initial : List Node) (old : Node) (at : old ≡ get_or now i old) (answer : Result PartFacts AllocError) →
       StandsFor d (cat (trees initial)) (cat (trees now)) → Normalized d (tree old) (tree new) answer →

@@ -1,8 +1,7 @@
 -- What a node around a body in normal form becomes, and why.
-use Rattle.std.proofs.Common.{◌≡◌, ◌⊎◌, ℕ, zero, suc, ◌+◌, inl, inr, Bool, true, false, not, ◌&&◌, ◌||◌, [], List, nat_le, Result, Ok, Err, refl, sym, ap, ap₂, subst, ◌∙◌}
+use Rattle.std.proofs.Common.{◌≡◌, ◌⊎◌, ℕ, zero, suc, inl, inr, Bool, true, false, not, ◌&&◌, ◌||◌, [], List, nat_le, Result, Ok, Err, refl, sym, ap, ap₂, subst, ◌∙◌}
 use Rattle.std.specs.Prelude.{IsErr}
 use Rattle.std.specs.declared.alloc.AllocError.{AllocError}
-use Rattle.std.proofs.Math.Nat.{suc-add}
 use Rattle.std.proofs.lemmas.Bool.{true≢false, false≢true, and_from}
 use Rattle.regress_tree.specs.declared.ir.node.Node.{Node}
 use Rattle.regress_base.specs.declared.types.Quantifier.{Quantifier}
@@ -16,12 +15,13 @@ use Rattle.regress_tree.specs.Measures.{levels}
 use Rattle.regress_tree.specs.WellFormed.{MayStand, inside, one_character}
 use Rattle.regress_tree.proofs.laws.Measures.{LacksShape-here}
 use Rattle.regress_tree.proofs.laws.Places.{among}
+use Rattle.regress_tree.proofs.laws.Positions.{MayStand-one_character}
 use Rattle.regress_rewrite.specs.Law.{IsPart, Keeps}
 use Rattle.regress_rewrite.specs.Unroll.{further_turns, unrolled}
 use Rattle.regress_rewrite.proofs.laws.Emptying.{emptied_keeps}
 use Rattle.regress_rewrite.proofs.laws.Failing.{fails_keeps}
 use Rattle.regress_rewrite.proofs.laws.Keeps.{Keeps-refl, Keeps-trans, Keeps-put, IsPart-part, IsPart-kept}
-use Rattle.regress_rewrite.proofs.laws.Promotion.{one_character-stands, promoted_keeps}
+use Rattle.regress_rewrite.proofs.laws.Promotion.{promoted_keeps}
 use Rattle.regress_rewrite.proofs.laws.Unrolling.{MayUnroll-from, unrolled_keeps, unrolled-without}
 use Rattle.regress_normalize.specs.Normalized.{Finished, Normalized, IsCleanAround, IsWrapperOf, RowIsNormal}
 use Rattle.regress_normalize.specs.PartFacts.{HasFacts, HasRowFacts}
@@ -63,7 +63,7 @@ module _ (clean : Type 0) (d : Direction) (t : Tree) where
     normal = normal;
     facts = has;
     left = λ is_clean. absurd (other is_clean);
-    plain = λ is_clean. absurd (other is_clean);
+    still_one = λ is_clean. absurd (other is_clean);
   }
 
   pub finished-changed_error : (clean → ⊥) → (new : Tree) (e : AllocError) → Keeps d t new → Finished clean d t new (Err e)
@@ -72,7 +72,7 @@ module _ (clean : Type 0) (d : Direction) (t : Tree) where
     normal = tt;
     facts = tt;
     left = λ is_clean. absurd (other is_clean);
-    plain = λ is_clean. tt;
+    still_one = λ is_clean. tt;
   }
 
   -- one step more
@@ -83,7 +83,7 @@ module _ (clean : Type 0) (d : Direction) (t : Tree) where
     normal = rest.normal;
     facts = rest.facts;
     left = λ is_clean. absurd (other is_clean);
-    plain = λ is_clean. absurd (other is_clean);
+    still_one = λ is_clean. absurd (other is_clean);
   }
 
 -- ---- a loop that is not unrolled
@@ -106,7 +106,7 @@ module _ (facts : PartFacts) (q : Quantifier) (start end : ℕ) (body : Tree) (n
 
   one : IsOne → (n : ℕ) → MayStand n body inside → MayStand n body one_character
   one (inl was) n m = has.one was n
-  one (inr is) n m = one_character-stands n body is m
+  one (inr is) n m = MayStand-one_character n n body inside is m
 
   not_clean : IsOne → IsCleanAround facts around → ⊥
   not_clean (inl was) clean =
@@ -138,7 +138,7 @@ module _ (facts : PartFacts) (q : Quantifier) (start end : ℕ) (body : Tree) (n
           (record { unrolled = stays; promoted = takes.0; emptied = takes.1; failed = takes.2 });
       facts = new_has;
       left = λ clean. refl;
-      plain = λ clean was. absurd (true≢false (sym was ∙ many));
+      still_one = λ clean was. absurd (true≢false (sym was ∙ many));
     }
 
 -- it is no `Cat`
@@ -149,11 +149,6 @@ form_no_cat AlwaysFails q start end body = refl
 form_no_cat Stays q start end body = refl
 
 -- ---- copies in a row
-
--- one copy more
-pub copies-more : (n : ℕ) (t : Tree) → row_append (copies n t) (more_trees t no_trees) ≡ copies (n + 1) t
-copies-more zero t = refl
-copies-more (suc n) t = ap (more_trees t) (copies-more n t) ∙ ap (λ (k : ℕ). copies k t) (sym (suc-add n 1))
 
 RowIsNormal-copies : (n : ℕ) (t : Tree) → IsNormal t → RowIsNormal (copies n t)
 RowIsNormal-copies zero t normal = tt
@@ -265,7 +260,7 @@ finished_narrower wide narrow d t new answer narrower finished = record {
   normal = finished.normal;
   facts = finished.facts;
   left = λ clean. finished.left (narrower clean);
-  plain = λ clean. finished.plain (narrower clean);
+  still_one = λ clean. finished.still_one (narrower clean);
 }
 
 -- what is known of a body tells whether a loop around it is unrolled

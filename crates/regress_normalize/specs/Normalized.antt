@@ -5,7 +5,7 @@ use Rattle.regress_tree.specs.NormalForm.{IsNormal}
 use Rattle.regress_tree.specs.Reading.{Direction}
 use Rattle.regress_tree.specs.Tree.{Wrapper, Tree, Trees, leaf, cat, alt, wrapped, no_trees, more_trees}
 use Rattle.regress_rewrite.specs.Law.{Keeps}
-use Rattle.regress_normalize.specs.PartFacts.{HasFacts, IsPlain, HasRowFacts}
+use Rattle.regress_normalize.specs.PartFacts.{HasFacts, IsStillOne, HasRowFacts}
 use Rattle.regress_normalize.specs.declared.facts.PartFacts.{PartFacts}
 use Rattle.regress_normalize.specs.declared.facts.RowFacts.{RowFacts}
 
@@ -16,7 +16,7 @@ pub record Finished (clean : Type 0) (d : Direction) (old new : Tree) (answer : 
   pub facts : IfOk answer (λ facts. HasFacts facts new)
   -- and what is clean is left as it is
   pub left : clean → new ≡ old
-  pub plain : clean → IfOk answer (λ facts. IsPlain facts new)
+  pub still_one : clean → IfOk answer (λ facts. IsStillOne facts new)
 
 -- clean is what is in normal form
 abbrev pub Normalized : Direction → (old new : Tree) → Result PartFacts AllocError → Type 0
@@ -27,7 +27,7 @@ abbrev pub IsCleanAround : PartFacts → Tree → Type 0
 IsCleanAround facts (leaf l) = IsNormal (leaf l)
 IsCleanAround facts (cat parts) = IsNormal (cat parts)
 IsCleanAround facts (alt left right) = IsNormal (alt left right)
-IsCleanAround facts (wrapped w body) = IsNormal (wrapped w body) × IsPlain facts body
+IsCleanAround facts (wrapped w body) = IsNormal (wrapped w body) × IsStillOne facts body
 
 -- each tree of the row is in normal form
 abbrev pub RowIsNormal : Trees → Type 0

@@ -25,8 +25,8 @@ pub record HasFacts (facts : PartFacts) (t : Tree) : Type 0 where
   pub one : IsTrue facts.was_one_character → StandsAsOne t
 
 -- what was one character is one as it stands
-abbrev pub IsPlain : PartFacts → Tree → Type 0
-IsPlain facts t = IsTrue facts.was_one_character → matches_exactly_one_char t ≡ true
+abbrev pub IsStillOne : PartFacts → Tree → Type 0
+IsStillOne facts t = IsTrue facts.was_one_character → matches_exactly_one_char t ≡ true
 
 -- What is known of a row, where the parts of a `Cat` count in its place.
 pub record HasRowFacts (facts : RowFacts) (ts : Trees) : Type 0 where

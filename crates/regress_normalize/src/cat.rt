@@ -14,6 +14,7 @@ use crate::facts::{PartFacts, RowFacts};
 use crate::leaf::leaf_facts;
 use regress_rewrite::flatten::splice;
 use regress_rewrite::form_literal_bytes::{append, has_bytes};
+use regress_rewrite::remove_empties::leave_out_empties;
 use regress_tree::ir::{Node, NodeList, Walk};
 use std::alloc::{AllocError, Global};
 
@@ -155,14 +156,6 @@ fn close_in_text_order(parts: &mut NodeList) -> Result<(), AllocError>
         return Err(AllocError);
     }
     Ok(())
-}
-
-/// Leaves out each `Empty`.
-fn leave_out_empties(parts: &mut NodeList)
-    ensures packs { (d : Direction) → Packs d (in_text_order d (trees parts.old.items)) (in_text_order d (trees parts.new.items)) }
-    ensures none { some_in_row is_empty (trees parts.new.items) ≡ false }
-{
-    parts.retain(|part| !part.is_empty());
 }
 
 /// Joins the bytes of neighbours. Where memory is refused for them, two neighbours stay apart.

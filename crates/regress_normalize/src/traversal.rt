@@ -7,7 +7,7 @@ ghost use Rattle.regress_tree.specs.Tree.{tree, trees, leaf, empty, cat, no_tree
 ghost use Rattle.regress_tree.specs.Walk.{direction_of};
 ghost use Rattle.regress_rewrite.specs.Law.{IsPart};
 ghost use Rattle.regress_normalize.specs.Normalized.{Finished, Normalized, IsCleanAround, RowIsNormal, IsWrapperOf};
-ghost use Rattle.regress_normalize.specs.PartFacts.{HasFacts, IsPlain, HasRowFacts};
+ghost use Rattle.regress_normalize.specs.PartFacts.{HasFacts, IsStillOne, HasRowFacts};
 ghost use Rattle.regress_normalize.specs.Steps.{StandsFor, IsAltOnto};
 
 use crate::alternatives::finish_alt;
@@ -59,7 +59,7 @@ fn normalize_up(
     requires part { IsPart (reattach (tree above) (tree node.old)) }
     requires normal { IsNormal (tree node.old) }
     requires facts { HasFacts last (tree node.old) }
-    ensures { Finished (IsNormal (reattach (tree above) (tree node.old)) × IsPlain last (tree node.old)) (direction_of walk.now)
+    ensures { Finished (IsNormal (reattach (tree above) (tree node.old)) × IsStillOne last (tree node.old)) (direction_of walk.now)
         (reattach (tree above) (tree node.old)) (tree node.new) result }
 {
     let mut above = above;
@@ -164,7 +164,7 @@ fn normalize_body(alloc: Global, node: &mut Node, walk: &Walk) -> Result<PartFac
     requires wrapper { on_wrapper (λ w. true) (tree node.old) ≡ true }
     ensures keeps { StandsFor (direction_of walk.now) (tree node.old) (tree node.new) }
     ensures body { IfOk result (λ body. IsWrapperOf body (tree node.new)) }
-    ensures plain { IsNormal (tree node.old) → IfOk result (λ body. IsCleanAround body (tree node.new)) }
+    ensures still_one { IsNormal (tree node.old) → IfOk result (λ body. IsCleanAround body (tree node.new)) }
 {
     match node {
         Node::CaptureGroup { contents, .. } => normalize(alloc, contents, walk),

@@ -1,13 +1,12 @@
 -- What matches the empty text alone becomes `Empty`, and a `Cat` loses its `Empty` parts.
-use Rattle.std.proofs.Common.{◌≡◌, ℕ, zero, suc, ◌+◌, ◌-◌, ◌≤◌, Bool, true, false, not, ◌&&◌, ◌||◌, cond, inl, inr, List, [], ◌∷◌, ◌++◌, length, Option, Some, None, refl, sym, ap, ap₂, subst, ◌∙◌, append-nil, add-zero, eqb-true, arith}
-use Rattle.std.specs.Prelude.{encode_utf8_all, IfSome, nat_le}
-use Rattle.std.specs.List.{flat_map}
-use Rattle.std.proofs.lemmas.Bool.{cases_Bool, true≢false, false≢true, and_parts, eq-eqb, leb-true, le-leb}
+use Rattle.std.proofs.Common.{◌≡◌, ℕ, ◌+◌, ◌-◌, ◌≤◌, Bool, true, false, not, ◌&&◌, ◌||◌, cond, inl, inr, List, [], ◌∷◌, length, Option, Some, None, refl, sym, ap, ap₂, subst, ◌∙◌, eqb-true, arith}
+use Rattle.std.specs.Prelude.{encode_utf8_all, nat_le}
+use Rattle.std.proofs.lemmas.Bool.{cases_Bool, true≢false, false≢true, and_parts, leb-true}
 use Rattle.std.proofs.lemmas.Str.{length-le-encodes}
 use Rattle.regress_base.specs.declared.types.Quantifier.{Quantifier}
-use Rattle.regress_tree.specs.Reading.{Direction, forwards, backwards}
-use Rattle.regress_tree.specs.Steps.{State, Step, stay, ◌then_◌, these_bytes}
-use Rattle.regress_tree.specs.Repetition.{turn, turns, moving, up_to, more_turns, repeat}
+use Rattle.regress_tree.specs.Reading.{Direction}
+use Rattle.regress_tree.specs.Steps.{State, stay, these_bytes}
+use Rattle.regress_tree.specs.Repetition.{repeat}
 use Rattle.regress_tree.specs.Lookaround.{look}
 use Rattle.regress_tree.specs.Setting.{Setting}
 use Rattle.regress_tree.specs.Matching.{steps}
@@ -18,8 +17,10 @@ use Rattle.regress_tree.specs.NodeTests.{is_none, is_empty}
 use Rattle.regress_tree.specs.Shapes.{is_cat, is_zero, some_in_row, is_byte_sequence_with, is_empty_wrapper, is_emptied_away}
 use Rattle.regress_tree.proofs.laws.Alike.{Alike-from_same}
 use Rattle.regress_tree.proofs.laws.Distinct.{same_state-refl}
-use Rattle.regress_tree.proofs.laws.Groups.{HasGroups-none, captures-none, turn-none}
+use Rattle.regress_tree.proofs.laws.ByteSequences.{these_bytes-none}
+use Rattle.regress_tree.proofs.laws.Groups.{HasGroups-none, captures-none}
 use Rattle.regress_tree.proofs.laws.Measures.{units-positive, IsLess-lighter}
+use Rattle.regress_tree.proofs.laws.Turns.{repeat-stay, repeat-none}
 use Rattle.regress_rewrite.specs.Law.{IsPart, MeansTheSame, Keeps, IsLawful}
 use Rattle.regress_rewrite.specs.Taken.{row_without, StandsForCat}
 use Rattle.regress_rewrite.specs.declared.rewrite.PassAction.{PassAction}
@@ -27,47 +28,6 @@ use Rattle.regress_rewrite.specs.declared.rewrite.PassAction.TheVariants.{Remove
 use Rattle.regress_rewrite.proofs.LawfulLemmas.{remove_lawful, cat_lawful}
 use Rattle.regress_rewrite.proofs.TakenLemmas.{without_keeps, without-less}
 use Rattle.regress_rewrite.proofs.laws.Segments.{is_empty-leaf}
-
--- Outcomes of what matches the empty text alone.
-
-these_bytes-none : (d : Direction) (bytes : List ℕ) (s : State) → these_bytes d bytes [] s ≡ stay s
-unfolding these_bytes
-these_bytes-none forwards bytes s = ap (λ k. record s { place = k } ∷ []) (add-zero s.place)
-these_bytes-none backwards bytes s =
-    ap (λ b. cond (b && true) (record s { place = s.place - 0 } ∷ []) []) (le-leb 0 s.place (omega arith))
-    ∙ ap (λ k. record s { place = k } ∷ []) (omega arith)
-
--- turns of it change nothing
-turns-stay : (n : ℕ) (s : State) → turns n stay s ≡ stay s
-turns-stay zero s = refl
-turns-stay (suc n) s = append-nil _ ∙ turns-stay n s
-
-moving-stay : (s : State) → moving stay s ≡ []
-moving-stay s = ap (λ b. cond (not b) (s ∷ []) []) (eq-eqb s.place s.place refl)
-
-up_to-stay : (greedy : Bool) (n : ℕ) (s : State) → up_to greedy n stay s ≡ stay s
-up_to-stay greedy zero s = refl
-up_to-stay true (suc n) s = ap (λ states. flat_map (up_to true n stay) states ++ s ∷ []) (moving-stay s)
-up_to-stay false (suc n) s = ap (λ states. s ∷ flat_map (up_to false n stay) states) (moving-stay s)
-
-module _ (bound : ℕ) (q : Quantifier) (start end : ℕ) where
-  repeat-stay : end ≤ start → (s : State) → repeat bound q start end stay s ≡ stay s
-  unfolding repeat
-  repeat-stay ends s =
-      ap (λ (f : Step). (turns q.min f then_ up_to q.greedy (more_turns bound q) f) s) (turn-none start end ends stay)
-      ∙ ap (flat_map (up_to q.greedy (more_turns bound q) stay)) (turns-stay q.min s)
-      ∙ append-nil _ ∙ up_to-stay q.greedy (more_turns bound q) s
-
-  more_turns-none : q.max ≡ Some 0 → more_turns bound q ≡ 0
-  more_turns-none is = rw is (omega arith)
-
-  -- no turn
-  repeat-none : q.max ≡ Some 0 → IsQuantifier q → (f : Step) (s : State) → repeat bound q start end f s ≡ stay s
-  unfolding repeat
-  repeat-none is quantifier f s =
-      let least : q.min ≤ 0 = subst (λ (max : Option ℕ). IfSome max (λ m. q.min ≤ m)) is quantifier in
-      let none : q.min ≡ 0 = omega (arith, least) in
-      ap₂ (λ (n m : ℕ). (turns n (turn start end f) then_ up_to q.greedy m (turn start end f)) s) none (more_turns-none is)
 
 -- What tests tell.
 

@@ -2,12 +2,9 @@ pub mod laws
 pub mod LawfulLemmas
 pub mod TakenLemmas
 pub mod RowLemmas
-pub mod GroupLemmas
 pub mod SweepLemmas
-pub mod CheckedLemmas
 pub mod SpliceLemmas
 pub mod SimplifyLemmas
 pub mod ChargeLemmas
-pub mod CopiesLemmas
 pub mod EmptiesLemmas
 pub mod form

@@ -1,18 +1,13 @@
--- Rows of nodes: whether some of them pass a test, and those that do not.
-use Rattle.std.proofs.Common.{◌≡◌, ◌≤◌, Bool, not, ◌||◌, List, [], ◌∷◌, ◌++◌, length, inl, inr, refl, ap, arith}
+-- Rows of nodes that do not pass a test.
+use Rattle.std.proofs.Common.{◌≡◌, ◌≤◌, Bool, not, List, [], ◌∷◌, ◌++◌, length, inl, inr, refl, ap, arith}
 use Rattle.std.proofs.lemmas.List.{length_push}
-use Rattle.std.specs.List.{list_any, filter}
+use Rattle.std.specs.List.{filter}
 use Rattle.std.proofs.lemmas.Bool.{cases_Bool}
 use Rattle.regress_tree.specs.declared.ir.node.Node.{Node}
 use Rattle.regress_tree.specs.Tree.{Tree, more_trees, tree, trees}
-use Rattle.regress_tree.specs.Shapes.{some_in_row}
 use Rattle.regress_rewrite.specs.Taken.{row_without}
 
 module _ (test : Tree → Bool) where
-  pub some_in_row-any : (nodes : List Node) → some_in_row test (trees nodes) ≡ list_any (λ n. test (tree n)) nodes
-  some_in_row-any [] = refl
-  some_in_row-any (x ∷ nodes) = ap (λ b. test (tree x) || b) (some_in_row-any nodes)
-
   pub row_without-filter : (nodes : List Node) → trees (filter (λ n. not (test (tree n))) nodes) ≡ row_without test (trees nodes)
   row_without-filter [] = refl
   row_without-filter (x ∷ nodes) = elim (cases_Bool (test (tree x))) [

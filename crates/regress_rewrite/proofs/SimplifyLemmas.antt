@@ -21,24 +21,18 @@ use Rattle.regress_tree.specs.Copies.{is_leaf}
 use Rattle.regress_tree.specs.Reading.{Direction}
 use Rattle.regress_tree.specs.Shapes.{code_point_count, gap_count, is_small_bracket, is_long_bracket, is_simplified_away}
 use Rattle.regress_tree.specs.Tree.{Tree, leaf, char_set, bracket, tree}
-use Rattle.regress_tree.specs.WellFormed.{Position, one_character, inside, last, root, IsBracket, IsSmallSet, AsOneCharacter}
+use Rattle.regress_tree.specs.WellFormed.{Position, one_character, last, IsBracket, IsSmallSet, AsOneCharacter}
 use Rattle.regress_tree.proofs.laws.Alike.{Alike-from_same}
 use Rattle.regress_tree.proofs.laws.Brackets.{gap_count-complement}
 use Rattle.regress_tree.proofs.laws.ByteSequences.{one_character-agree}
 use Rattle.regress_base.proofs.laws.Literals.{scalar_in_range}
 use Rattle.regress_tree.proofs.laws.Measures.{IsLess-lighter}
+use Rattle.regress_tree.proofs.laws.Positions.{AsOneCharacter-map}
 use Rattle.regress_rewrite.specs.declared.rewrite.PassAction.{PassAction}
 use Rattle.regress_rewrite.specs.declared.rewrite.PassAction.TheVariants.{Keep, Modified, Remove, Replace}
 use Rattle.regress_rewrite.specs.Law.{IsPart, Keeps, after, IsLawful}
 use Rattle.regress_rewrite.specs.Simplify.{bracket_of, Simplifies}
 use Rattle.regress_rewrite.proofs.LawfulLemmas.{keep_lawful, modified_lawful, replace_lawful}
-
--- what follows from P may be asked in its place
-AsOneCharacter-map : (p : Position) (P Q : Type 0) → (P → Q) → AsOneCharacter p P → AsOneCharacter p Q
-AsOneCharacter-map one_character P Q f holds = f holds
-AsOneCharacter-map inside P Q f holds = holds
-AsOneCharacter-map last P Q f holds = holds
-AsOneCharacter-map root P Q f holds = holds
 
 -- ---- the set of a bracket's code points
 

@@ -1,11 +1,9 @@
 -- Rows of nodes, and what splicing makes of them.
-use Rattle.std.proofs.Common.{◌≡◌, ℕ, ◌+◌, ◌<◌, ◌≤◌, false, ◌||◌, List, [], ◌∷◌, ◌++◌, length, get_or, take, drop, Vec, Global, vec_len, refl, sym, ap, ap₂, ◌∙◌, arith}
-use Rattle.std.specs.List.{list_any}
+use Rattle.std.proofs.Common.{◌≡◌, ℕ, ◌+◌, ◌<◌, ◌≤◌, List, [], ◌∷◌, ◌++◌, length, get_or, take, drop, Vec, Global, vec_len, sym, ap, ap₂, ◌∙◌, arith}
 use Rattle.std.proofs.lemmas.List.{take_more, length_push, take-append-drop}
 use Rattle.regress_tree.specs.declared.ir.node.Node.{Node}
 use Rattle.regress_tree.specs.declared.ir.node.Node.TheVariants.{Cat}
 use Rattle.regress_tree.specs.Tree.{row_append, tree, trees}
-use Rattle.regress_tree.specs.Shapes.{is_cat, has_cat, is_short}
 use Rattle.regress_tree.proofs.laws.Nodes.{tree-Cat}
 use Rattle.regress_tree.proofs.laws.Rows.{row_append-none, trees-append}
 use Rattle.regress_rewrite.specs.Splice.{parts_of, spliced, row_length}
@@ -67,14 +65,3 @@ module _ (flat moved : List Node) (items : trees flat ≡ spliced (trees moved))
   pub moved_items : (more : List Node) (x : Node) → trees more ≡ row_append (trees flat) (parts_of (tree x)) →
       trees more ≡ spliced (trees (moved ++ x ∷ []))
   moved_items more x is = is ∙ ap (λ ts. row_append ts (parts_of (tree x))) items ∙ sym (flat-push moved x)
-
--- What the calls find.
-
-pub is_short-from_len : (nodes : List Node) → 2 ≤ length nodes → is_short (trees nodes) ≡ false
-is_short-from_len [] long = absurd (omega (arith, long))
-is_short-from_len (x ∷ []) long = absurd (omega (arith, long))
-is_short-from_len (x ∷ y ∷ nodes) long = refl
-
-pub has_cat-any : (nodes : List Node) → has_cat (trees nodes) ≡ list_any (λ n. is_cat (tree n)) nodes
-has_cat-any [] = refl
-has_cat-any (x ∷ nodes) = ap (λ b. is_cat (tree x) || b) (has_cat-any nodes)

@@ -1,5 +1,6 @@
 -- Laws of this crate's definitions, which the crates above may cite.
 pub mod Changes
+pub mod Checked
 pub mod Keeps
 pub mod Spine
 pub mod Parts

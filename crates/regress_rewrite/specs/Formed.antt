@@ -50,6 +50,6 @@ pub record JoinsSome (d : Direction) (old new : Trees) : Type 0 where
   pub found : is_formed_away (cat old) ≡ true
 
 -- the same, by whether something was joined
-abbrev pub Joins : Direction → Bool → (old new : Trees) → Type 0
-Joins d true old new = JoinsSome d old new
-Joins d false old new = (new ≡ old) × (is_formed_away (cat old) ≡ false)
+abbrev pub JoinsBytes : Direction → Bool → (old new : Trees) → Type 0
+JoinsBytes d true old new = JoinsSome d old new
+JoinsBytes d false old new = (new ≡ old) × (is_formed_away (cat old) ≡ false)

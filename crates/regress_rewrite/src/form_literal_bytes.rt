@@ -6,7 +6,7 @@ ghost use Rattle.regress_tree.specs.SmallSets.{set_of};
 ghost use Rattle.regress_tree.specs.Walk.{direction_of};
 ghost use Rattle.regress_tree.specs.Shapes.{has_bytes, is_formed_away};
 ghost use Rattle.regress_rewrite.specs.Law.{after, IsLawful};
-ghost use Rattle.regress_rewrite.specs.Formed.{formed_character, bytes_of, part_at, HaveBytes, joined_at, Joins};
+ghost use Rattle.regress_rewrite.specs.Formed.{formed_character, bytes_of, part_at, HaveBytes, joined_at, JoinsBytes};
 
 use crate::rewrite::PassAction;
 use regress_tree::ir::{Node, Walk};
@@ -80,7 +80,7 @@ fn join_parts(parts: &mut [Node], walk: &Walk) -> Result<PassAction, AllocError>
 /// Joins neighbours from left to right, where the bytes of the earlier part come first, and answers
 /// whether there were any.
 fn join_forwards(parts: &mut [Node]) -> Result<bool, AllocError>
-    ensures joins { IfOk result (λ joined. Joins forwards joined (trees parts.old) (trees parts.new)) }
+    ensures joins { IfOk result (λ joined. JoinsBytes forwards joined (trees parts.old) (trees parts.new)) }
     ensures err { OnErr result (trees parts.new ≡ trees parts.old) }
 {
     let mut joined = false;
@@ -98,7 +98,7 @@ fn join_forwards(parts: &mut [Node]) -> Result<bool, AllocError>
 /// Joins neighbours from right to left, where the bytes of the later part come first, and answers whether
 /// there were any.
 fn join_backwards(parts: &mut [Node]) -> Result<bool, AllocError>
-    ensures joins { IfOk result (λ joined. Joins backwards joined (trees parts.old) (trees parts.new)) }
+    ensures joins { IfOk result (λ joined. JoinsBytes backwards joined (trees parts.old) (trees parts.new)) }
     ensures err { OnErr result (trees parts.new ≡ trees parts.old) }
 {
     let mut joined = false;

@@ -51,7 +51,7 @@ fn has_empties(node: &Node) -> bool
 fn remove_empty_parts(parts: &mut NodeList) -> PassAction
     ensures { StandsForCat result (row_without is_empty (trees parts.old.items)) (trees parts.new.items) }
 {
-    parts.retain(|part| !part.is_empty());
+    leave_out_empties(parts);
     if parts.len() > 1 {
         return PassAction::Modified;
     }
@@ -59,4 +59,11 @@ fn remove_empty_parts(parts: &mut NodeList) -> PassAction
         Some(part) => PassAction::Replace(part),
         None => PassAction::Remove,
     }
+}
+
+/// Leaves out each `Empty`. Linear in the parts.
+pub fn leave_out_empties(parts: &mut NodeList)
+    ensures { trees parts.new.items ≡ row_without is_empty (trees parts.old.items) }
+{
+    parts.retain(|part| !part.is_empty());
 }

@@ -45,7 +45,7 @@ pub fn may_unroll(node: &Node) -> bool
             enclosed_groups,
         } => {
             has_few_turns(quant, enclosed_groups)
-                && charge(loopee, MAX_LEVELS, MAX_CHARGE).is_some()
+                && after_charge(loopee, MAX_LEVELS, MAX_CHARGE).is_some()
         }
         _ => false,
     }
@@ -117,42 +117,36 @@ pub fn further_turns(quant: &Quantifier) -> Quantifier
 /// than so many levels, or a loop or a `StringSet` is inside.
 ///
 /// The budget is charged on the way down, so it looks at one node more than the budget at most.
-#[cycle(charge)]
-fn charge(node: &Node, levels: usize, budget: usize) -> Option<usize>
+#[cycle(after_charge)]
+fn after_charge(node: &Node, levels: usize, budget: usize) -> Option<usize>
     ensures { result ≡ after_charge levels budget (tree node.now) }
 {
     let inside = levels.checked_sub(1)?;
     let left = budget.checked_sub(1)?;
     match node {
-        Node::Cat(parts) => charge_parts(parts, inside, left),
-        Node::Alt(first, second) => charge(second, inside, charge(first, inside, left)?),
+        Node::Cat(parts) => after_charge_row(parts, inside, left),
+        Node::Alt(first, second) => after_charge(
+            second,
+            inside,
+            after_charge(first, inside, left)?,
+        ),
         Node::CaptureGroup { contents, .. } | Node::LookaroundAssertion { contents, .. } => {
-            charge(contents, inside, left)
+            after_charge(contents, inside, left)
         }
         Node::ByteSequence(bytes) => left.checked_sub(bytes.len()),
         Node::Loop { .. } | Node::Loop1CharBody { .. } | Node::StringSet { .. } => None,
-        Node::Empty
-        | Node::Goal
-        | Node::Char { .. }
-        | Node::ByteSet(_)
-        | Node::CharSet(_)
-        | Node::MatchAny
-        | Node::MatchAnyExceptLineTerminator
-        | Node::Anchor { .. }
-        | Node::WordBoundary { .. }
-        | Node::Bracket(_)
-        | Node::BackRef { .. } => Some(left),
+        _ => Some(left),
     }
 }
 
 /// What is left once copies of all parts are charged.
-#[cycle(charge)]
-fn charge_parts(parts: &[Node], levels: usize, budget: usize) -> Option<usize>
+#[cycle(after_charge)]
+fn after_charge_row(parts: &[Node], levels: usize, budget: usize) -> Option<usize>
     ensures { result ≡ after_charge_row levels budget (trees parts.now) }
 {
     let mut left = budget;
     for part in parts {
-        left = charge(part, levels, left)?;
+        left = after_charge(part, levels, left)?;
     }
     Some(left)
 }

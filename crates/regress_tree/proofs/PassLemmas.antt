@@ -1,5 +1,5 @@
 -- What passes and what fails: rows, alternatives, and what holds one node.
-use Rattle.std.proofs.Common.{◌≡◌, ◌≢◌, ℕ, ◌+◌, ◌<◌, ◌==◌, ◌||◌, ◌⊎◌, inl, inr, Bool, true, false, not, List, [], ◌∷◌, ◌++◌, length, get_or, take, drop, max, Option, refl, sym, ap, subst, ◌∙◌, suc, append-nil, append_assoc, arith}
+use Rattle.std.proofs.Common.{◌≡◌, ◌≢◌, ℕ, ◌+◌, ◌<◌, ◌==◌, ◌||◌, ◌⊎◌, inl, inr, Bool, true, false, List, [], ◌∷◌, ◌++◌, length, get_or, take, drop, max, Option, refl, sym, ap, subst, ◌∙◌, suc, append-nil, append_assoc, arith}
 use Rattle.std.specs.Option.{IfSome}
 use Rattle.std.proofs.Math.Seq.{split_at}
 use Rattle.std.proofs.lemmas.List.{take_more}
@@ -185,7 +185,3 @@ module _ (body : Tree) (before after : GroupIds) (g : Groups) (p : PassesAt insi
   pub look-fail : (negate backwards : Bool) → start < 65536 → end < 65536 → fill start end g ≡ false →
       FailsAt inside (wrapped (lookaround negate backwards start end) body) before
   look-fail negate backwards small small' other = record { refuted = λ s differ. lacks_groups small small' other s.1.1 }
-
-pub not-true : (told b : Bool) → told ≡ not b → told ≡ true → b ≡ false
-not-true told true is said = absurd (false≢true (sym is ∙ said))
-not-true told false is said = refl

@@ -8,10 +8,10 @@ use Rattle.regress_tree.specs.Shapes.{is_cat}
 use Rattle.regress_tree.specs.Tree.{Leaf, empty, goal, char, byte_sequence, byte_set, char_set, match_any, match_any_except_line_terminator, anchor, word_boundary, bracket, back_ref, string_set, Tree, Trees, leaf, cat, alt, wrapped, no_trees, more_trees, row_append}
 use Rattle.regress_tree.specs.WellFormed.{captures, captures_in_row, Position, inside, last, root, LeafMayStand, MayStand, RowMayStand, IsWellFormed}
 use Rattle.regress_tree.specs.Survey.{holds, times_held, reference, reference_in_row, fill, PassesAt, FailsAt, is_goal_leaf, is_goal, without_goal}
-use Rattle.regress_tree.proofs.laws.Rows.{MayStand-from_last}
+use Rattle.regress_tree.proofs.laws.Rows.{MayStand-from_last, RowMayStand-more, RowMayStand-parts}
 use Rattle.regress_tree.proofs.IdLemmas.{all-has, has-all}
 use Rattle.regress_tree.proofs.SurveyLemmas.{Passes-as, Fails-as, differ-held}
-use Rattle.regress_tree.proofs.StandingLemmas.{MayStand-bounded, MayStand-at, row-cons, row-parts}
+use Rattle.regress_tree.proofs.StandingLemmas.{MayStand-bounded, MayStand-at}
 
 -- The goal at the end.
 
@@ -95,14 +95,14 @@ row-last : (n : ℕ) (ts : Trees) → RowMayStand n (without_goal ts) inside →
 row-last n no_trees m = tt
 row-last n (more_trees t no_trees) m = one-last n t (is_goal t) refl m
 row-last n (more_trees t (more_trees u us)) m =
-    let parts = row-parts n t (without_goal (more_trees u us)) m in
+    let parts = RowMayStand-parts n t (without_goal (more_trees u us)) m in
     (parts.0, row-last n (more_trees u us) parts.1)
 
 last-row : (n : ℕ) (ts : Trees) → RowMayStand n ts last → RowMayStand n (without_goal ts) inside
 last-row n no_trees m = tt
 last-row n (more_trees t no_trees) m = last-one n t (is_goal t) refl m
 last-row n (more_trees t (more_trees u us)) m =
-    row-cons n t (without_goal (more_trees u us)) m.0 (last-row n (more_trees u us) m.1)
+    RowMayStand-more n t (without_goal (more_trees u us)) inside m.0 (last-row n (more_trees u us) m.1)
 
 captures-one : (t : Tree) (goes : Bool) → is_goal t ≡ goes → captures_in_row (but_goal goes t) ≡ captures_in_row (more_trees t no_trees)
 captures-one t true e = ap (λ x. captures x ++ []) (sym (goal-is t e))

@@ -1,8 +1,9 @@
 -- Where parts may stand, whatever the number of capture groups.
-use Rattle.std.proofs.Common.{ℕ, ◌≤◌, List, [], ◌++◌, max, arith}
+use Rattle.std.proofs.Common.{ℕ, ◌≤◌, List, [], ◌++◌, max, subst, arith}
 use Rattle.regress_tree.specs.Tree.{Leaf, empty, goal, char, byte_sequence, byte_set, char_set, match_any, match_any_except_line_terminator, anchor, word_boundary, bracket, back_ref, string_set, Wrapper, capture_group, loop, loop_one, lookaround, Tree, Trees, leaf, cat, alt, wrapped, no_trees, more_trees, row_append}
 use Rattle.regress_tree.specs.WellFormed.{Capture, captures, captures_in_row, captures_of_wrapper, Position, inside, last_of, position_in, LeafMayStand, WrapperMayStand, MayStand, RowMayStand}
 use Rattle.regress_tree.specs.Survey.{past_ids, reference_of, reference, reference_in_row, StandsAt}
+use Rattle.regress_tree.proofs.laws.Rows.{row_append-none, RowMayStand-append, RowMayStand-split}
 use Rattle.regress_tree.proofs.SurveyLemmas.{past-append}
 
 -- A part stands where there are as many groups as it speaks of.
@@ -132,26 +133,9 @@ stands-alt left right (a, b) =
 pub sides-stand : (left right : Tree) → StandsAt inside (alt left right) → StandsAt inside left × StandsAt inside right
 sides-stand left right s = ((s.0, s.1.1), (s.0, s.1.2))
 
-pub row-cons : (n : ℕ) (t : Tree) (ts : Trees) → MayStand n t inside → RowMayStand n ts inside → RowMayStand n (more_trees t ts) inside
-row-cons n t no_trees a b = a
-row-cons n t (more_trees u us) a b = (a, b)
-
-pub row-parts : (n : ℕ) (t : Tree) (ts : Trees) → RowMayStand n (more_trees t ts) inside → MayStand n t inside × RowMayStand n ts inside
-row-parts n t no_trees s = (s, tt)
-row-parts n t (more_trees u us) s = s
-
-row-join : (n : ℕ) (ts us : Trees) → RowMayStand n ts inside → RowMayStand n us inside → RowMayStand n (row_append ts us) inside
-row-join n no_trees us a b = b
-row-join n (more_trees t ts) us a b =
-    let parts = row-parts n t ts a in
-    row-cons n t (row_append ts us) parts.0 (row-join n ts us parts.1 b)
-
 row-split : (n : ℕ) (ts us : Trees) → RowMayStand n (row_append ts us) inside → RowMayStand n ts inside × RowMayStand n us inside
-row-split n no_trees us s = (tt, s)
-row-split n (more_trees t ts) us s =
-    let parts = row-parts n t (row_append ts us) s in
-    let rest = row-split n ts us parts.1 in
-    (row-cons n t ts parts.0 rest.0, rest.1)
+row-split n ts no_trees m = (subst (λ (us : Trees). RowMayStand n us inside) (row_append-none ts) m, tt)
+row-split n ts (more_trees u us) m = RowMayStand-split n ts u us inside m
 
 pub stands-append : (ts us : Trees) → StandsAt inside (cat ts) × StandsAt inside (cat us) → StandsAt inside (cat (row_append ts us))
 stands-append ts us (a, b) =
@@ -159,7 +143,7 @@ stands-append ts us (a, b) =
       n,
       (
         tt,
-        row-join n ts us (RowMayStand-more_groups a.0 n ts inside (omega arith) a.1.1)
+        RowMayStand-append n ts us inside (RowMayStand-more_groups a.0 n ts inside (omega arith) a.1.1)
             (RowMayStand-more_groups b.0 n us inside (omega arith) b.1.1),
       ),
     )

@@ -102,13 +102,3 @@ held-insert before after c fresh more k =
           rw (more k, old, eq-eqb k c.id e, eq-eqb c.id k (sym e))
       | inr ne ↦ rw (more k, ne_eqb k c.id ne, ne_eqb c.id k (λ e. ne (sym e))) (omega arith)
     ]
-
-pub fails-held : {A : Type 0} (before : GroupIds) (c : Capture) (cs : List Capture) → holds before c.id ≡ true → Fails A (c ∷ cs) before
-fails-held before c cs there = record {
-  refuted = λ stands differ.
-      let held : times_held before c.id ≡ 1 = ap (λ b. if b then 1 else 0) there in
-      omega (arith, held, differ c.id, times-append c.id (c ∷ []) cs, once);
-}
-  where
-    once : times c.id (c ∷ []) ≡ 1
-    once = rw (eq-eqb c.id c.id refl)

@@ -1,16 +1,15 @@
 -- Visits put together.
-use Rattle.std.proofs.Common.{◌≡◌, ℕ, zero, suc, ◌+◌, ◌-◌, ◌/◌, ◌<◌, ◌≤◌, min, Bool, true, false, refl, sym, ap, ◌∙◌, arith, rules, Vec, Box, Global, List, [], ◌∷◌, length, get_or, set, take, drop, le_refl}
+use Rattle.std.proofs.Common.{◌≡◌, ℕ, zero, suc, ◌+◌, ◌-◌, ◌/◌, ◌<◌, ◌≤◌, min, Bool, true, false, refl, sym, ap, ◌∙◌, arith, rules, Box, Global, List, [], ◌∷◌, length, get_or, set, take, drop, le_refl}
 use Rattle.std.proofs.lemmas.List.{drop_more, drop-drop, drop-set-lt, take_more_set}
 use Rattle.regress_tree.proofs.laws.Rows.{row_append-assoc, trees-append}
 use Rattle.std.proofs.Math.Nat.{add-zero, add-suc}
 use Rattle.std.proofs.Math.Numerals.{add-one}
-use Rattle.std.specs.declared.boxed.BoxedSlice.{BoxedSlice}
-use Rattle.regress_base.specs.declared.types.bracket.BracketContents.{BracketContents}
-use Rattle.regress_base.specs.declared.types.AnchorType.{AnchorType}
 use Rattle.regress_tree.specs.declared.ir.node.Node.{Node, size-Node, the_lemmas}
-use Rattle.regress_tree.specs.declared.ir.node.Node.TheVariants.{Alt, Empty, Goal, Char, ByteSequence, ByteSet, CharSet, MatchAny, MatchAnyExceptLineTerminator, Anchor, WordBoundary, Bracket, BackRef, StringSet}
-use Rattle.regress_tree.proofs.laws.Nodes.{tree-Alt, tree-Empty, tree-Goal, tree-Char, tree-ByteSequence, tree-ByteSet, tree-CharSet, tree-MatchAny, tree-MatchAnyExceptLineTerminator, tree-Anchor, tree-WordBoundary, tree-Bracket, tree-BackRef, tree-StringSet}
-use Rattle.regress_tree.specs.Tree.{Tree, Trees, more_trees, row_append, Leaf, leaf, alt, tree, trees}
+use Rattle.regress_tree.specs.declared.ir.node.Node.TheVariants.{Alt}
+use Rattle.regress_tree.proofs.laws.Nodes.{tree-Alt}
+use Rattle.regress_tree.specs.Tree.{Tree, Trees, more_trees, row_append, leaf, cat, alt, wrapped, tree, trees}
+use Rattle.std.proofs.lemmas.Bool.{false≢true}
+use Rattle.regress_tree.specs.Copies.{is_leaf}
 use Rattle.regress_tree.specs.Visits.{Visited, before_children, after_children, Inside, in_leaf, in_alt, deeper, nodes, nodes_in_row, CallsMut, AddsNoNodes}
 use Rattle.regress_tree.specs.Climbs.{Climbed, ClimbedMut, further, right_side, down}
 use Rattle.regress_tree.specs.declared.ir.walker.Walk.{Walk}
@@ -155,51 +154,12 @@ module _ {State : Type 0} (Call : State → Tree → ℕ → Bool → State → 
         let called = rw (← here) at rest_climbed.3 in
         whole rest_climbed.1 rest_climbed.0 (rw sides (after_children (in_alt first second) called)) rest_climbed.4
 
-  -- a node of a kind that holds no node
-  module _ {p : Bool} {d : ℕ} {behind : Bool} {a : State} (node : Node) where
-    at_leaf : (l : Leaf) → tree node ≡ leaf l → Inside Call p d behind (tree node) (tree node) a a
-    at_leaf l is = rw is in_leaf
-
-    pub at_Empty : node ≡ Empty → Inside Call p d behind (tree node) (tree node) a a
-    at_Empty is = at_leaf _ (ap tree is ∙ tree-Empty)
-
-    pub at_Goal : node ≡ Goal → Inside Call p d behind (tree node) (tree node) a a
-    at_Goal is = at_leaf _ (ap tree is ∙ tree-Goal)
-
-    pub at_Char : (c : ℕ) → node ≡ Char c → Inside Call p d behind (tree node) (tree node) a a
-    at_Char c is = at_leaf _ (ap tree is ∙ tree-Char c)
-
-    pub at_ByteSequence : (bytes : Vec ℕ Global) → node ≡ ByteSequence bytes → Inside Call p d behind (tree node) (tree node) a a
-    at_ByteSequence bytes is = at_leaf _ (ap tree is ∙ tree-ByteSequence bytes)
-
-    pub at_ByteSet : (bytes : Vec ℕ Global) → node ≡ ByteSet bytes → Inside Call p d behind (tree node) (tree node) a a
-    at_ByteSet bytes is = at_leaf _ (ap tree is ∙ tree-ByteSet bytes)
-
-    pub at_CharSet : (characters : Vec ℕ Global) → node ≡ CharSet characters → Inside Call p d behind (tree node) (tree node) a a
-    at_CharSet characters is = at_leaf _ (ap tree is ∙ tree-CharSet characters)
-
-    pub at_MatchAny : node ≡ MatchAny → Inside Call p d behind (tree node) (tree node) a a
-    at_MatchAny is = at_leaf _ (ap tree is ∙ tree-MatchAny)
-
-    pub at_MatchAnyExceptLineTerminator : node ≡ MatchAnyExceptLineTerminator → Inside Call p d behind (tree node) (tree node) a a
-    at_MatchAnyExceptLineTerminator is = at_leaf _ (ap tree is ∙ tree-MatchAnyExceptLineTerminator)
-
-    pub at_Anchor : (kind : AnchorType) (multiline : Bool) → node ≡ Anchor kind multiline → Inside Call p d behind (tree node) (tree node) a a
-    at_Anchor kind multiline is = at_leaf _ (ap tree is ∙ tree-Anchor kind multiline)
-
-    pub at_WordBoundary : (invert unicode_icase : Bool) → node ≡ WordBoundary invert unicode_icase → Inside Call p d behind (tree node) (tree node) a a
-    at_WordBoundary invert unicode_icase is = at_leaf _ (ap tree is ∙ tree-WordBoundary invert unicode_icase)
-
-    pub at_Bracket : (contents : BracketContents) → node ≡ Bracket contents → Inside Call p d behind (tree node) (tree node) a a
-    at_Bracket contents is = at_leaf _ (ap tree is ∙ tree-Bracket contents)
-
-    pub at_BackRef : (group : ℕ) (icase : Bool) → node ≡ BackRef group icase → Inside Call p d behind (tree node) (tree node) a a
-    at_BackRef group icase is = at_leaf _ (ap tree is ∙ tree-BackRef group icase)
-
-    pub at_StringSet : (alternatives : Vec (BoxedSlice ℕ Global) Global) (icase : Bool) → node ≡ StringSet alternatives icase → Inside Call p d behind (tree node) (tree node) a a
-    at_StringSet alternatives icase is = at_leaf _ (ap tree is ∙ tree-StringSet alternatives icase)
-
-pub ruleset at_leaves = (at_Empty, at_Goal, at_Char, at_ByteSequence, at_ByteSet, at_CharSet, at_MatchAny, at_MatchAnyExceptLineTerminator, at_Anchor, at_WordBoundary, at_Bracket, at_BackRef, at_StringSet)
+  -- a tree that holds no node
+  pub at_leaf : {p : Bool} {d : ℕ} {behind : Bool} {a : State} (t : Tree) → is_leaf t ≡ true → Inside Call p d behind t t a a
+  at_leaf (leaf l) is = in_leaf
+  at_leaf (cat parts) is = absurd (false≢true is)
+  at_leaf (alt left right) is = absurd (false≢true is)
+  at_leaf (wrapped w body) is = absurd (false≢true is)
 
 pub call_adds : {F : Type 0} (step : F → MutBor Node → MutBor Walk → Unit {0} → MutBor Node → MutBor Walk → F → Type 0)
     (unicode : Bool) (a b : F) (t u : Tree) (d : ℕ) (behind skip : Bool) → AddsNoNodes step →

@@ -7,15 +7,19 @@ pub mod ByteSequences
 pub mod ByteStates
 pub mod Characters
 pub mod Classes
+pub mod Copies
 pub mod Distinct
 pub mod Falling
 pub mod Gathered
 pub mod Groups
+pub mod Levels
 pub mod Literals
 pub mod Measures
+pub mod NodeLists
 pub mod Nodes
 pub mod Outcomes
 pub mod Places
+pub mod Positions
 pub mod Readings
 pub mod References
 pub mod Repetition
@@ -24,4 +28,4 @@ pub mod Rows
 pub mod Simulation
 pub mod Strings
 pub mod Turned
-pub mod Levels
+pub mod Turns

@@ -17,7 +17,6 @@ pub mod Measures
 pub mod Units
 pub mod Shapes
 pub mod NormalForm
-pub mod Facts
 pub mod Setting
 pub mod Spine
 pub mod NodeTests

@@ -8,7 +8,7 @@ use Rattle.regress_base.specs.declared.types.Quantifier.{Quantifier}
 use Rattle.regress_tree.specs.Measures.{levels}
 use Rattle.regress_tree.specs.NodeTests.{is_none, is_empty, match_always_fails, matches_exactly_one_char}
 use Rattle.regress_tree.specs.Units.{charge}
-use Rattle.regress_tree.specs.Tree.{Leaf, empty, char, byte_sequence, char_set, bracket, string_set, Wrapper, capture_group, loop, loop_one, lookaround, Tree, Trees, leaf, cat, alt, wrapped, no_trees, more_trees}
+use Rattle.regress_tree.specs.Tree.{Leaf, char, byte_sequence, char_set, bracket, string_set, Wrapper, capture_group, loop, loop_one, lookaround, Tree, Trees, leaf, cat, alt, wrapped, no_trees, more_trees}
 
 module _ (test : Tree → Bool) where
   -- some node of the tree passes the test, or of a row
@@ -130,8 +130,7 @@ is_cat t = false
 
 -- some tree of the row is a `Cat`
 abbrev pub has_cat : Trees → Bool
-has_cat no_trees = false
-has_cat (more_trees t ts) = is_cat t || has_cat ts
+has_cat = some_in_row is_cat
 
 -- the row has fewer than two trees
 abbrev pub is_short : Trees → Bool

@@ -13,11 +13,12 @@ use Rattle.regress_tree.specs.Steps.{State, one_character, these_bytes}
 use Rattle.regress_tree.specs.Shapes.{is_formed_away}
 use Rattle.regress_tree.specs.Tree.{Tree, leaf, char, byte_sequence, byte_set, char_set, tree}
 use Rattle.regress_tree.specs.Units.{weight_of_leaf, IsLess}
-use Rattle.regress_tree.specs.WellFormed.{Position, one_character as at_one, inside, last, root, AsOneCharacter}
+use Rattle.regress_tree.specs.WellFormed.{AsOneCharacter}
 use Rattle.regress_tree.proofs.laws.Alike.{Alike-refl, Alike-from_same}
 use Rattle.regress_tree.proofs.laws.ByteSequences.{these_bytes-one, these_bytes_before-one}
 use Rattle.regress_tree.proofs.laws.Measures.{IsLess-lighter}
 use Rattle.regress_tree.proofs.laws.Nodes.{tree-ByteSequence, tree-ByteSet}
+use Rattle.regress_tree.proofs.laws.Positions.{AsOneCharacter-from}
 use Rattle.regress_rewrite.specs.Law.{Keeps, IsLawful}
 use Rattle.regress_rewrite.specs.declared.rewrite.PassAction.TheVariants.{Keep, Replace}
 use Rattle.regress_rewrite.proofs.LawfulLemmas.{keep_lawful, replace_lawful}
@@ -26,12 +27,6 @@ encoded-steps : (d : Direction) (bytes : List ℕ) (c : ℕ) → IsScalar c → 
     these_bytes d bytes (encode_utf8 c) s ≡ one_character d (of_bytes bytes) (λ x. x == c) s
 encoded-steps forwards bytes c scalar_value s = these_bytes-one bytes c scalar_value s
 encoded-steps backwards bytes c scalar_value s = these_bytes_before-one bytes c scalar_value s
-
-always : (p : Position) (P : Type 0) → P → AsOneCharacter p P
-always at_one P holds = holds
-always inside P holds = tt
-always last P holds = tt
-always root P holds = tt
 
 pub weight-bytes : (bytes : List ℕ) → weight_of_leaf (byte_sequence bytes) ≤ 3
 weight-bytes [] = omega arith
@@ -45,7 +40,7 @@ module _ (d : Direction) (c : ℕ) (scalar_value : IsScalar c) where
       characters = c ∷ [];
       are_scalar = All-cons IsScalar c [] scalar_value (All-nil IsScalar);
       encoded = sym (append-nil _);
-      one = always p _ refl;
+      one = AsOneCharacter-from p _ refl;
     };
     captures = refl;
     account = omega (arith, length-encode c, (len_utf8_bounds c).1);

@@ -7,7 +7,7 @@ use Rattle.regress_tree.specs.declared.ir.node.Node.{Node}
 use Rattle.regress_tree.specs.Reading.{forwards, backwards}
 use Rattle.regress_tree.specs.Shapes.{has_bytes, has_neighbours}
 use Rattle.regress_tree.specs.Tree.{Tree, row, tree}
-use Rattle.regress_rewrite.specs.Formed.{part_at, HaveBytes, joined_at, JoinsSome, Joins}
+use Rattle.regress_rewrite.specs.Formed.{part_at, HaveBytes, joined_at, JoinsSome, JoinsBytes}
 use Rattle.regress_rewrite.proofs.form.PartLemmas.{HasGap, HasGap-none, join_gap, join_more, join_first}
 
 -- whether there are neighbours with bytes from a place on
@@ -78,7 +78,7 @@ module _ (i : ℕ) (old now : List Tree) where
           (join_first now (i - 1) i have gap forwards
           (ap (has_more 0) so_far.0 ∙ sym so_far.1 ∙ found ∙ have_both (i - 1) i now have back))
 
-  pub forward_end : (joined : Bool) → 1 ≤ i → length now ≤ i → ForwardSoFar joined i old now → Joins forwards joined (row old) (row now)
+  pub forward_end : (joined : Bool) → 1 ≤ i → length now ≤ i → ForwardSoFar joined i old now → JoinsBytes forwards joined (row old) (row now)
   forward_end true low end so_far = so_far
   forward_end false low end so_far =
       (ap row so_far.0, sym so_far.1 ∙ has_more-none old (i - 1) (omega (arith, low, end, ap length so_far.0)))

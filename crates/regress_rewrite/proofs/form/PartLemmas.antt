@@ -6,6 +6,7 @@ use Rattle.regress_tree.specs.Reading.{Direction}
 use Rattle.regress_tree.specs.Shapes.{has_bytes, is_formed_away}
 use Rattle.regress_tree.specs.Tree.{empty, Tree, Trees, leaf, cat, more_trees, row, row_append, copies}
 use Rattle.regress_tree.specs.Units.{IsLess}
+use Rattle.regress_tree.proofs.laws.Rows.{row-append}
 use Rattle.regress_rewrite.specs.Law.{Keeps}
 use Rattle.regress_rewrite.specs.Formed.{joined, bytes_of, part_at, HaveBytes, joined_at, JoinsSome}
 use Rattle.regress_rewrite.proofs.laws.Keeps.{Keeps-trans}
@@ -13,10 +14,6 @@ use Rattle.regress_tree.proofs.laws.Falling.{IsLess-trans}
 use Rattle.regress_rewrite.proofs.laws.Joining.{written, is_written, with_run, joined_keeps, joined_less}
 
 -- A list as a row.
-
-row-append : (ts us : List Tree) → row (ts ++ us) ≡ row_append (row ts) (row us)
-row-append [] us = refl
-row-append (t ∷ ts) us = ap (more_trees t) (row-append ts us)
 
 row-replicate : (n : ℕ) (t : Tree) → row (replicate n t) ≡ copies n t
 row-replicate zero t = refl

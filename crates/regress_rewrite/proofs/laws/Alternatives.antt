@@ -5,8 +5,8 @@ use Rattle.regress_tree.specs.Reading.{Direction}
 use Rattle.regress_tree.specs.Shapes.{has_group}
 use Rattle.regress_tree.specs.Tree.{Tree, alt}
 use Rattle.regress_tree.specs.WellFormed.{inside}
+use Rattle.regress_tree.proofs.laws.Groups.{captures-free}
 use Rattle.regress_rewrite.specs.Law.{IsPart, Keeps}
-use Rattle.regress_rewrite.proofs.GroupLemmas.{captures-free}
 use Rattle.regress_rewrite.proofs.laws.Failing.{node_fails, left_keeps, right_keeps}
 
 module _ (d : Direction) (left right : Tree) (part : IsPart (alt left right)) where

@@ -15,7 +15,7 @@ use Rattle.regress_tree.specs.Repetition.{unset, turn, turns, up_to, more_turns,
 use Rattle.regress_tree.specs.Setting.{Setting}
 use Rattle.regress_tree.specs.Matching.{steps, steps_in_row}
 use Rattle.regress_tree.specs.Tree.{Leaf, empty, goal, char, byte_sequence, byte_set, char_set, match_any, match_any_except_line_terminator, anchor, word_boundary, bracket, back_ref, string_set, Wrapper, capture_group, loop, loop_one, lookaround, Tree, Trees, leaf, cat, alt, wrapped, no_trees, more_trees, tree}
-use Rattle.regress_tree.specs.WellFormed.{captures, Position, one_character as at_one_character, inside, last, root, last_of, NotAsOneCharacter, AsOneCharacter, IsSmallSet, LeafMayStand, MayStand, RowMayStand}
+use Rattle.regress_tree.specs.WellFormed.{captures, Position, inside, last_of, NotAsOneCharacter, AsOneCharacter, IsSmallSet, LeafMayStand, MayStand, RowMayStand}
 use Rattle.regress_tree.specs.Units.{units_of_leaf, weight, IsLess}
 use Rattle.regress_tree.specs.NodeTests.{leaf_always_fails, match_always_fails}
 use Rattle.regress_tree.specs.Shapes.{some_in_row, has_group, fails_by_part, is_failed_away, is_simplified_away}
@@ -23,20 +23,21 @@ use Rattle.regress_tree.specs.Spine.{is_alt}
 use Rattle.regress_tree.proofs.laws.Accepting.{accepts_nothing}
 use Rattle.regress_tree.proofs.laws.Alike.{Alike-from_same}
 use Rattle.regress_tree.proofs.laws.ByteSequences.{one_character-agree}
+use Rattle.regress_tree.proofs.laws.Groups.{captures-free}
 use Rattle.regress_base.proofs.laws.Literals.{scalar_in_range}
 use Rattle.regress_tree.proofs.laws.Measures.{units-positive, IsLess-lighter}
-use Rattle.regress_tree.proofs.laws.Places.{left_of, right_of, IsLess-part}
+use Rattle.regress_tree.proofs.laws.Places.{left_of, right_of, RowMayStand-part, IsLess-part}
+use Rattle.regress_tree.proofs.laws.Positions.{AsOneCharacter-free}
 use Rattle.regress_tree.proofs.laws.Rows.{RowMayStand-more, MayStand-from_last}
 use Rattle.regress_rewrite.specs.Law.{IsPart, Keeps, IsLawful}
 use Rattle.regress_rewrite.specs.declared.rewrite.PassAction.TheVariants.{Replace}
-use Rattle.regress_rewrite.proofs.GroupLemmas.{captures-free}
 use Rattle.regress_rewrite.proofs.laws.Keeps.{Keeps-part}
 use Rattle.regress_rewrite.proofs.LawfulLemmas.{replace_lawful}
 
 -- ---- what fails
 
 -- From no state is there an outcome; and it weighs at least so much.
-pub record Fails (least : ℕ) (t : Tree) : Type 0 where
+pub record MatchesNothing (least : ℕ) (t : Tree) : Type 0 where
   pub none : (setting : Setting) (bytes : List ℕ) (d : Direction) (s : State) → steps setting bytes d t s ≡ []
   pub heavy : least ≤ weight t
 
@@ -50,7 +51,7 @@ unfolding one_character
 one_character-none d bytes test none s =
     one_character-agree d bytes test (λ c. false) none s ∙ moved-none s (next_character d (of_bytes bytes) s.place)
 
-leaf_fails : (l : Leaf) → leaf_always_fails l ≡ true → (n : ℕ) (p : Position) → LeafMayStand n l p → Fails 2 (leaf l)
+leaf_fails : (l : Leaf) → leaf_always_fails l ≡ true → (n : ℕ) (p : Position) → LeafMayStand n l p → MatchesNothing 2 (leaf l)
 leaf_fails empty is n p m = absurd (false≢true is)
 leaf_fails goal is n p m = absurd (false≢true is)
 leaf_fails (char c) is n p m = absurd (false≢true is)
@@ -77,7 +78,7 @@ leaf_fails (bracket invert intervals) is n p m = record {
 leaf_fails (back_ref group icase) is n p m = absurd (false≢true is)
 leaf_fails (string_set strings icase) is n p m = absurd (false≢true is)
 
-pub node_fails : (t : Tree) → match_always_fails t ≡ true → (n : ℕ) (p : Position) → MayStand n t p → Fails 2 t
+pub node_fails : (t : Tree) → match_always_fails t ≡ true → (n : ℕ) (p : Position) → MayStand n t p → MatchesNothing 2 t
 node_fails (leaf l) is n p m = leaf_fails l is n p m
 node_fails (cat parts) is n p m = absurd (false≢true is)
 node_fails (alt left right) is n p m = absurd (false≢true is)
@@ -89,31 +90,27 @@ flat_map-none : (f : Step) (states : List State) → ((s : State) → f s ≡ []
 flat_map-none f [] none = refl
 flat_map-none f (s ∷ states) none = ap₂ ◌++◌ (none s) (flat_map-none f states none)
 
-row_fails-first : (t : Tree) (ts : Trees) → Fails 2 t → Fails 4 (cat (more_trees t ts))
+row_fails-first : (t : Tree) (ts : Trees) → MatchesNothing 2 t → MatchesNothing 4 (cat (more_trees t ts))
 row_fails-first t ts first = record {
   none = λ setting bytes d s. ap (flat_map (steps_in_row setting bytes d ts)) (first.none setting bytes d s);
   heavy = omega (arith, first.heavy);
 }
 
-row_fails-later : (t : Tree) (ts : Trees) → Fails 4 (cat ts) → Fails 4 (cat (more_trees t ts))
+row_fails-later : (t : Tree) (ts : Trees) → MatchesNothing 4 (cat ts) → MatchesNothing 4 (cat (more_trees t ts))
 row_fails-later t ts later = record {
   none = λ setting bytes d s. flat_map-none (steps_in_row setting bytes d ts) (steps setting bytes d t s) (later.none setting bytes d);
   heavy = omega (arith, later.heavy);
 }
 
-row_head : (n : ℕ) (t : Tree) (ts : Trees) (p : Position) → RowMayStand n (more_trees t ts) p → (q : Position) × MayStand n t q
-row_head n t no_trees p m = (p, m)
-row_head n t (more_trees u us) p m = (inside, m.0)
-
 row_tail : (n : ℕ) (t : Tree) (ts : Trees) (p : Position) → RowMayStand n (more_trees t ts) p → RowMayStand n ts p
 row_tail n t no_trees p m = tt
 row_tail n t (more_trees u us) p m = m.1
 
-pub row_fails : (ts : Trees) → some_in_row match_always_fails ts ≡ true → (n : ℕ) (p : Position) → RowMayStand n ts p → Fails 4 (cat ts)
+pub row_fails : (ts : Trees) → some_in_row match_always_fails ts ≡ true → (n : ℕ) (p : Position) → RowMayStand n ts p → MatchesNothing 4 (cat ts)
 row_fails no_trees some n p m = absurd (false≢true some)
 row_fails (more_trees t ts) some n p m = elim (cases_Bool (match_always_fails t)) [
   | inl is ↦
-      let here = row_head n t ts p m in
+      let here = RowMayStand-part n p no_trees ts t m in
       row_fails-first t ts (node_fails t is n here.0 here.1)
   | inr is_not ↦
       let others = sym (ap (λ b. b || some_in_row match_always_fails ts) is_not) ∙ some in
@@ -133,7 +130,7 @@ repeat-none bound q start end f least none s =
     ap (flat_map (up_to q.greedy (more_turns bound q) (turn start end f)))
     (turns-none q.min least (turn start end f) (λ t. none (unset start end t)) s)
 
-pub wrapper_fails : (w : Wrapper) (body : Tree) → fails_by_part (wrapped w body) ≡ true → IsPart (wrapped w body) → Fails 4 (wrapped w body)
+pub wrapper_fails : (w : Wrapper) (body : Tree) → fails_by_part (wrapped w body) ≡ true → IsPart (wrapped w body) → MatchesNothing 4 (wrapped w body)
 wrapper_fails (capture_group id name) body is part = absurd (false≢true is)
 wrapper_fails (loop q start end) body is part =
     let both = and_parts (nat_le 1 q.min) (match_always_fails body) is in
@@ -146,7 +143,7 @@ wrapper_fails (loop q start end) body is part =
 wrapper_fails (loop_one q) body is part = absurd (false≢true is)
 wrapper_fails (lookaround negate backwards start end) body is part = absurd (false≢true is)
 
-pub tree_fails : (t : Tree) → is_alt t ≡ false → fails_by_part t ≡ true → IsPart t → Fails 4 t
+pub tree_fails : (t : Tree) → is_alt t ≡ false → fails_by_part t ≡ true → IsPart t → MatchesNothing 4 t
 tree_fails (leaf l) other is part = absurd (false≢true is)
 tree_fails (cat parts) other is part = row_fails parts is part.0 (last_of part.1) part.2.1
 tree_fails (alt left right) other is part = absurd (true≢false other)
@@ -160,14 +157,8 @@ parts_free (cat parts) is n p m = m.0
 parts_free (alt left right) is n p m = m.0
 parts_free (wrapped w body) is n p m = m.0
 
-not_as_one : (p : Position) (P : Type 0) → NotAsOneCharacter p → AsOneCharacter p P
-not_as_one at_one_character P free = absurd free
-not_as_one inside P free = tt
-not_as_one last P free = tt
-not_as_one root P free = tt
-
 no_member : (greatest : ℕ) (p : Position) → NotAsOneCharacter p → IsSmallSet [] greatest p
-no_member greatest p free = record { bounded = All-nil _; small = omega arith; some = not_as_one p _ free }
+no_member greatest p free = record { bounded = All-nil _; small = omega arith; some = AsOneCharacter-free p _ free }
 
 -- it matches nothing wherever it may not be the body of a loop over one character, and is no bracket
 record IsNothing (l : Leaf) : Type 0 where
@@ -192,7 +183,7 @@ no_byte_nothing = record {
   other = refl;
 }
 
-nothing_keeps : (d : Direction) (t : Tree) (l : Leaf) → IsNothing l → fails_by_part t ≡ true → has_group t ≡ false → Fails 4 t →
+nothing_keeps : (d : Direction) (t : Tree) (l : Leaf) → IsNothing l → fails_by_part t ≡ true → has_group t ≡ false → MatchesNothing 4 t →
     Keeps d t (leaf l)
 nothing_keeps d t l nothing is free fails = record {
   meaning = λ setting text is_text. Alike-from_same (λ s.
@@ -219,7 +210,7 @@ module _ (d : Direction) (t left : Tree) (is : fails_by_part t ≡ true) (free :
       (subst (λ (u : Tree). IsLess u t) (sym node_is) is_less)
 
   -- a set of nothing
-  fail_lawful : (node : Node) → tree node ≡ leaf (char_set []) → Fails 4 t → IsLawful is_failed_away true d t left (Replace node)
+  fail_lawful : (node : Node) → tree node ≡ leaf (char_set []) → MatchesNothing 4 t → IsLawful is_failed_away true d t left (Replace node)
   fail_lawful node node_is fails =
       replaced (leaf (char_set [])) node node_is (nothing_keeps d t (char_set []) no_character_nothing is free fails)
       (IsLess-lighter (leaf (char_set [])) t (omega arith) (omega (arith, fails.heavy)))
@@ -234,14 +225,14 @@ inside_stands : (n : ℕ) (t : Tree) (p : Position) → NotAsOneCharacter p → 
 inside_stands n t p free m = MayStand-from_last n t p free (RowMayStand-more n t no_trees p m tt)
 
 module _ (d : Direction) (first second : Tree) where
-  pub right_keeps : Fails 2 first → captures first ≡ [] → Keeps d (alt first second) second
+  pub right_keeps : MatchesNothing 2 first → captures first ≡ [] → Keeps d (alt first second) second
   right_keeps fails none =
       Keeps-part (right_of first) d second
       (λ setting text is_text. Alike-from_same (λ s.
       ap (λ states. states ++ steps setting (encode_utf8_all text) d second s) (fails.none setting (encode_utf8_all text) d s)))
       (λ n p m. inside_stands n second p m.0 m.2) (sym (ap (λ cs. cs ++ captures second) none))
 
-  pub left_keeps : Fails 2 second → captures second ≡ [] → Keeps d (alt first second) first
+  pub left_keeps : MatchesNothing 2 second → captures second ≡ [] → Keeps d (alt first second) first
   left_keeps fails none =
       Keeps-part (left_of second) d first
       (λ setting text is_text. Alike-from_same (λ s.
@@ -249,7 +240,7 @@ module _ (d : Direction) (first second : Tree) where
       ∙ append-nil _))
       (λ n p m. inside_stands n first p m.0 m.1) (sym (ap (λ cs. captures first ++ cs) none ∙ append-nil _))
 
-  both_fail : Fails 2 first → Fails 2 second → Fails 4 (alt first second)
+  both_fail : MatchesNothing 2 first → MatchesNothing 2 second → MatchesNothing 4 (alt first second)
   both_fail a b = record {
     none = λ setting bytes d s. ap₂ ◌++◌ (a.none setting bytes d s) (b.none setting bytes d s);
     heavy = omega (arith, a.heavy, b.heavy);
@@ -263,8 +254,8 @@ module _ (d : Direction) (first second : Tree) where
       IsLawful is_failed_away true d (alt first second) left (Replace node)
   sides_lawful left node is free part at_first at_second at_none =
       let frees = or_parts (has_group first) (has_group second) free in
-      let fails_first : match_always_fails first ≡ true → Fails 2 first = λ e. node_fails first e part.0 inside part.2.1 in
-      let fails_second : match_always_fails second ≡ true → Fails 2 second = λ e. node_fails second e part.0 inside part.2.2 in
+      let fails_first : match_always_fails first ≡ true → MatchesNothing 2 first = λ e. node_fails first e part.0 inside part.2.1 in
+      let fails_second : match_always_fails second ≡ true → MatchesNothing 2 second = λ e. node_fails second e part.0 inside part.2.2 in
       elim (cases_Bool (match_always_fails first)) [
         | inl first_is ↦ elim (cases_Bool (match_always_fails second)) [
           | inl second_is ↦

@@ -1,5 +1,5 @@
 -- Flattening keeps what a rewrite must keep, and makes the tree less.
-use Rattle.std.proofs.Common.{◌≡◌, ℕ, ◌<◌, ◌≤◌, Bool, true, ◌||◌, ◌++◌, refl, sym, ap₂, subst, ◌∙◌, append-nil, arith, le_refl, List, Result, Ok, Err}
+use Rattle.std.proofs.Common.{◌≡◌, ℕ, ◌<◌, ◌≤◌, Bool, true, false, ◌||◌, ◌++◌, refl, sym, ap, ap₂, subst, ◌∙◌, append-nil, arith, le_refl, List, Result, Ok, Err}
 use Rattle.std.specs.Prelude.{encode_utf8_all, IfOk}
 use Rattle.std.specs.declared.alloc.AllocError.{AllocError}
 use Rattle.std.specs.List.{flat_map}
@@ -8,13 +8,13 @@ use Rattle.std.proofs.lemmas.Bool.{false≢true, or_right}
 use mathlib.Core.Path.{fun_ext}
 use Rattle.regress_tree.specs.Reading.{Direction}
 use Rattle.regress_tree.specs.Steps.{State}
-use Rattle.regress_tree.specs.Tree.{Leaf, Tree, Trees, leaf, empty, cat, alt, wrapped, no_trees, more_trees, tree}
+use Rattle.regress_tree.specs.Tree.{Tree, Trees, leaf, empty, cat, alt, wrapped, no_trees, more_trees, tree}
 use Rattle.regress_tree.specs.Matching.{steps, steps_in_row}
 use Rattle.regress_tree.specs.Setting.{Setting}
 use Rattle.regress_tree.specs.WellFormed.{Position, inside, last_of, MayStand, RowMayStand, captures, captures_in_row}
 use Rattle.regress_tree.specs.Measures.{Measure, total, total_in_row}
 use Rattle.regress_tree.specs.Units.{sizes, unrollables, weights}
-use Rattle.regress_tree.specs.Shapes.{on_leaf, some_node, some_node_in_row, has_cat, is_short, is_flattened_away}
+use Rattle.regress_tree.specs.Shapes.{is_simplified_away, some_node, some_node_in_row, has_cat, is_short, is_flattened_away}
 use Rattle.regress_tree.proofs.laws.Alike.{Alike-from_same}
 use Rattle.regress_tree.proofs.laws.Outcomes.{flat_map-stay}
 use Rattle.regress_tree.proofs.laws.Measures.{some_node-append, total-append, IsLess-lighter}
@@ -81,18 +81,18 @@ module _ (m : Measure) where
   total-spliced no_trees = le_refl _
   total-spliced (more_trees t ts) = omega (arith, total-append m (parts_of t) (spliced ts), total-parts_of t, total-spliced ts)
 
--- tests on leaves find what they found
-module _ (test : Leaf → Bool) where
-  pub some_node-parts_of : (t : Tree) → some_node_in_row (on_leaf test) (parts_of t) ≡ some_node (on_leaf test) t
+-- a test that no `Cat` passes finds what it found
+module _ (test : Tree → Bool) (no_cat : (ts : Trees) → test (cat ts) ≡ false) where
+  some_node-parts_of : (t : Tree) → some_node_in_row test (parts_of t) ≡ some_node test t
   some_node-parts_of (leaf l) = or-false _
-  some_node-parts_of (cat parts) = refl
+  some_node-parts_of (cat parts) = sym (ap (λ b. b || some_node_in_row test parts) (no_cat parts))
   some_node-parts_of (alt left right) = or-false _
   some_node-parts_of (wrapped w body) = or-false _
 
-  pub some_node-spliced : (ts : Trees) → some_node_in_row (on_leaf test) (spliced ts) ≡ some_node_in_row (on_leaf test) ts
+  pub some_node-spliced : (ts : Trees) → some_node_in_row test (spliced ts) ≡ some_node_in_row test ts
   some_node-spliced no_trees = refl
   some_node-spliced (more_trees t ts) =
-      some_node-append (on_leaf test) (parts_of t) (spliced ts) ∙ ap₂ ◌||◌ (some_node-parts_of t) (some_node-spliced ts)
+      some_node-append test (parts_of t) (spliced ts) ∙ ap₂ ◌||◌ (some_node-parts_of t) (some_node-spliced ts)
 
 -- where there is a `Cat`, the row becomes lighter
 weight-less : (ts : Trees) → has_cat ts ≡ true → total_in_row weights (spliced ts) < total_in_row weights ts
@@ -108,7 +108,7 @@ spliced_keeps d ts = record {
   stands = λ n p m. (m.0, spliced-stand n ts p m.1);
   captures = captures-spliced ts;
   account = omega (arith, total-spliced sizes ts, total-spliced unrollables ts);
-  brackets = λ lacks. some_node-spliced _ ts ∙ lacks;
+  brackets = λ lacks. some_node-spliced is_simplified_away (λ us. refl) ts ∙ lacks;
 }
 
 -- The law.

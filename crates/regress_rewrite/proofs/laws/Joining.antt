@@ -2,24 +2,25 @@
 use Rattle.std.proofs.Common.{◌≡◌, ◌≢◌, ℕ, zero, suc, ◌+◌, ◌-◌, true, ◌||◌, List, [], ◌∷◌, ◌++◌, flat_map, length, refl, sym, ap, ap₂, ◌∙◌, append-nil, arith, length-append}
 use Rattle.std.specs.Prelude.{encode_utf8_all}
 use Rattle.std.specs.Char.{IsScalar}
-use Rattle.std.proofs.lemmas.Bool.{cond-true, and_from, le-leb, false≢true}
+use Rattle.std.proofs.lemmas.Bool.{false≢true}
 use Rattle.std.proofs.lemmas.List.Elements.{All-append, All-nil}
 use Rattle.std.proofs.lemmas.Str.{encodes-append}
 use mathlib.Core.Path.{fun_ext}
 use Rattle.regress_tree.specs.Reading.{Direction, forwards, backwards}
-use Rattle.regress_tree.specs.Steps.{State, stay, ◌then_◌, these_bytes}
+use Rattle.regress_tree.specs.Steps.{State, ◌then_◌, these_bytes}
 use Rattle.regress_tree.specs.Tree.{empty, goal, char, byte_sequence, byte_set, char_set, match_any, match_any_except_line_terminator, anchor, word_boundary, bracket, back_ref, string_set, Tree, Trees, leaf, cat, alt, wrapped, no_trees, more_trees, row_append, copies}
 use Rattle.regress_tree.specs.Matching.{steps_in_row}
 use Rattle.regress_tree.specs.Setting.{Setting}
-use Rattle.regress_tree.specs.WellFormed.{Position, one_character, inside, last, root, last_of, AsOneCharacter, AreUtf8, RowMayStand, captures_in_row}
+use Rattle.regress_tree.specs.WellFormed.{Position, inside, last_of, AsOneCharacter, AreUtf8, RowMayStand, captures_in_row}
 use Rattle.regress_tree.specs.Measures.{Measure, total_in_row}
 use Rattle.regress_tree.specs.Units.{sizes, unrollables, weights, weight_of_leaf, IsLess}
 use Rattle.regress_tree.specs.Shapes.{some_node_in_row, has_bytes, is_simplified_away}
 use Rattle.regress_tree.proofs.laws.Alike.{Alike-from_same}
 use Rattle.regress_tree.proofs.laws.Outcomes.{flat_map-then}
 use Rattle.regress_tree.proofs.laws.Measures.{some_node-append, total-append, IsLess-lighter}
+use Rattle.regress_tree.proofs.laws.Positions.{AsOneCharacter-free, last_of-free}
 use Rattle.regress_tree.proofs.laws.Rows.{steps-append, captures-append}
-use Rattle.regress_tree.proofs.laws.ByteSequences.{these_bytes-nil, these_bytes-append, these_bytes_before-append}
+use Rattle.regress_tree.proofs.laws.ByteSequences.{these_bytes-none, these_bytes-append, these_bytes_before-append}
 use Rattle.regress_rewrite.specs.Law.{Keeps}
 use Rattle.regress_rewrite.proofs.form.LeafLemmas.{weight-bytes}
 use Rattle.regress_rewrite.specs.Formed.{joined, bytes_of}
@@ -53,16 +54,6 @@ is_written (alt left right) has = absurd (false≢true has)
 is_written (wrapped w body) has = absurd (false≢true has)
 
 -- What the bytes match.
-
-these_bytes_before-nil : (bytes : List ℕ) (s : State) → these_bytes backwards bytes [] s ≡ stay s
-unfolding these_bytes
-these_bytes_before-nil bytes s =
-    let e : s.place - 0 ≡ s.place = omega arith in
-    cond-true _ _ _ (and_from _ _ (le-leb 0 s.place (omega arith)) refl) ∙ ap (λ p. record s { place = p } ∷ []) e
-
-pub these_bytes-none : (d : Direction) (bytes : List ℕ) (s : State) → these_bytes d bytes [] s ≡ stay s
-these_bytes-none forwards bytes s = these_bytes-nil bytes s
-these_bytes-none backwards bytes s = these_bytes_before-nil bytes s
 
 pub both_match : (d : Direction) (bytes a b : List ℕ) (s : State) →
     these_bytes d bytes (joined d a b) s ≡ (these_bytes d bytes a then_ these_bytes d bytes b) s
@@ -108,21 +99,15 @@ module _ (before behind : Trees) (k : ℕ) where
 
 -- Where it may stand.
 
-pub free : (p : Position) (P : Type 0) → AsOneCharacter (last_of p) P
-free one_character P = tt
-free inside P = tt
-free last P = tt
-free root P = tt
-
 AreUtf8-none : (p : Position) → AreUtf8 [] (last_of p)
-AreUtf8-none p = record { characters = []; are_scalar = All-nil IsScalar; encoded = refl; one = free p _ }
+AreUtf8-none p = record { characters = []; are_scalar = All-nil IsScalar; encoded = refl; one = AsOneCharacter-free (last_of p) _ (last_of-free p) }
 
 pub AreUtf8-append : {a b : List ℕ} {p q : Position} (r : Position) → AreUtf8 a p → AreUtf8 b q → AreUtf8 (a ++ b) (last_of r)
 AreUtf8-append {a} {b} r first second = record {
   characters = first.characters ++ second.characters;
   are_scalar = All-append IsScalar first.characters second.characters first.are_scalar second.are_scalar;
   encoded = ap₂ ◌++◌ first.encoded second.encoded ∙ sym (encodes-append first.characters second.characters);
-  one = free r _;
+  one = AsOneCharacter-free (last_of r) _ (last_of-free r);
 }
 
 AreUtf8-joined : (d : Direction) {a b : List ℕ} {p q : Position} (r : Position) → AreUtf8 a p → AreUtf8 b q →

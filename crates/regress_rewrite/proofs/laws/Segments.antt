@@ -14,20 +14,13 @@ use Rattle.regress_tree.specs.Tree.{empty, goal, char, byte_sequence, byte_set, 
 use Rattle.regress_tree.specs.Units.{sizes, unrollables}
 use Rattle.regress_tree.specs.WellFormed.{Position, inside, last_of, NotAsOneCharacter, captures, captures_in_row, RowMayStand}
 use Rattle.regress_tree.proofs.laws.Alike.{Alike-refl, Alike-trans, Alike-then, Alike-from_same}
+use Rattle.regress_tree.proofs.laws.ByteSequences.{these_bytes-none}
 use Rattle.regress_tree.proofs.laws.Measures.{some_node-append, total-append, RowLacksShape-append}
-use Rattle.regress_tree.proofs.laws.Rows.{row_append-none, steps-append, captures-append, RowMayStand-append}
+use Rattle.regress_tree.proofs.laws.Rows.{row_append-none, steps-append, captures-append, RowMayStand-append, RowMayStand-split}
 use Rattle.regress_rewrite.specs.Formed.{joined}
 use Rattle.regress_rewrite.specs.Law.{Keeps}
-use Rattle.regress_rewrite.proofs.laws.Joining.{written, joined_keeps, these_bytes-none}
+use Rattle.regress_rewrite.proofs.laws.Joining.{written, joined_keeps}
 use Rattle.regress_rewrite.proofs.laws.Keeps.{Keeps-trans}
-
-RowMayStand-split : (n : ℕ) (ts : Trees) (u : Tree) (us : Trees) (p : Position) → RowMayStand n (row_append ts (more_trees u us)) p →
-    RowMayStand n ts inside × RowMayStand n (more_trees u us) p
-RowMayStand-split n no_trees u us p m = (tt, m)
-RowMayStand-split n (more_trees t no_trees) u us p m = m
-RowMayStand-split n (more_trees t (more_trees x ts)) u us p m =
-    let later = RowMayStand-split n (more_trees x ts) u us p m.1 in
-    ((m.0, later.0), later.1)
 
 module _ (d : Direction) (u : Tree) (us vs : Trees) (keeps : Keeps d (cat (more_trees u us)) (cat vs)) where
   segment_behind : (n : ℕ) (p : Position) (zs : Trees) → NotAsOneCharacter p →

@@ -1,5 +1,5 @@
 -- Unrolling keeps what a rewrite must keep, and makes the tree less.
-use Rattle.std.proofs.Common.{◌≡◌, ℕ, zero, suc, ◌+◌, ◌-◌, ◌*◌, ◌≤◌, Bool, true, false, not, ◌&&◌, ◌||◌, nat_le, inl, inr, List, [], ◌∷◌, ◌++◌, length, Option, Some, None, refl, sym, ap, ap₂, ◌∙◌, append-nil, flat_map, mul-le-mul, arith}
+use Rattle.std.proofs.Common.{◌≡◌, ℕ, zero, suc, ◌+◌, ◌-◌, ◌*◌, ◌≤◌, Bool, true, false, ◌||◌, inl, inr, List, [], ◌∷◌, ◌++◌, length, Option, Some, None, refl, sym, ap, ap₂, ◌∙◌, append-nil, flat_map, mul-le-mul, arith}
 use Rattle.std.specs.Prelude.{encode_utf8_all}
 use Rattle.std.specs.Option.{option_eq}
 use lib.Dec.{eqb}
@@ -18,16 +18,17 @@ use Rattle.regress_tree.specs.Shapes.{has_loop, has_string_set, is_simplified_aw
 use Rattle.regress_tree.specs.Steps.{State, Step, ◌then_◌}
 use Rattle.regress_tree.specs.Tree.{Tree, Trees, leaf, cat, alt, wrapped, capture_group, loop, loop_one, lookaround, no_trees, more_trees, row_append, copies, tree, trees}
 use Rattle.regress_tree.specs.Units.{sizes, units, unrollables, loops, unrolling, charge, IsLess}
-use Rattle.regress_tree.specs.WellFormed.{captures, captures_in_row, Position, one_character, inside, last, root, last_of, NotAsOneCharacter, IsQuantifier, MayStand, RowMayStand}
+use Rattle.regress_tree.specs.WellFormed.{captures, captures_in_row, Position, inside, last_of, IsQuantifier, MayStand, RowMayStand}
 use Rattle.regress_tree.proofs.laws.Alike.{Alike-from_same}
-use Rattle.regress_tree.proofs.laws.Groups.{captures-none, turn-none}
-use Rattle.regress_tree.proofs.laws.Measures.{total-append, total-copies, units-le, some_node-copies, RowLacksShape-append}
+use Rattle.regress_tree.proofs.laws.Copies.{copies-stand, captures-copies}
+use Rattle.regress_tree.proofs.laws.Groups.{captures-none, HasNoGroup-from, turn-none}
+use Rattle.regress_tree.proofs.laws.Measures.{total-append, total-copies, loops-none, units-le, some_node-copies, RowLacksShape-append}
 use Rattle.regress_tree.proofs.laws.Outcomes.{flat_map-stay}
+use Rattle.regress_tree.proofs.laws.Positions.{last_of-free}
 use Rattle.regress_tree.proofs.laws.Rows.{row_append-none, steps-append, captures-append, trees-append, RowMayStand-append}
 use Rattle.regress_rewrite.specs.declared.rewrite.PassAction.TheVariants.{Modified}
 use Rattle.regress_rewrite.specs.Law.{IsPart, Keeps, IsLawful}
 use Rattle.regress_rewrite.specs.Unroll.{further_turns, further_loop, unrolled, unrolled_loop}
-use Rattle.regress_rewrite.proofs.CopiesLemmas.{HasNoGroup-from, loops-none, copies-stand, captures-copies}
 use Rattle.regress_rewrite.proofs.LawfulLemmas.{modified_lawful}
 
 -- The turns that may follow the least number.
@@ -53,12 +54,6 @@ pub IsQuantifier-further : (least : ℕ) (max : Option ℕ) (greedy : Bool) →
     IsQuantifier (further_turns (record { min = least; max = max; greedy = greedy }))
 IsQuantifier-further least None greedy = tt
 IsQuantifier-further least (Some max) greedy = omega arith
-
-pub inside-free : (p : Position) → NotAsOneCharacter (last_of p)
-inside-free one_character = tt
-inside-free inside = tt
-inside-free last = tt
-inside-free root = tt
 
 -- What a loop has that may be unrolled.
 pub record MayUnroll (q : Quantifier) (start end : ℕ) (body : Tree) : Type 0 where
@@ -141,7 +136,7 @@ module _ (q : Quantifier) (start end : ℕ) (body : Tree) where
   unrolled-stand : (n : ℕ) (p : Position) → MayStand n (wrapped (loop q start end) body) p → MayStand n (unrolled q start end body) p
   unrolled-stand n p m =
       let behind = with_further (λ ts. RowMayStand n ts (last_of p)) (λ none. tt)
-      (inside-free p, (IsQuantifier-further q.min q.max q.greedy, m.1.1), m.2) in
+      (last_of-free p, (IsQuantifier-further q.min q.max q.greedy, m.1.1), m.2) in
       (m.0, RowMayStand-append n (copies q.min body) (further_loop q start end body) p (copies-stand n q.min body m.2) behind)
 
   captures-unrolled : captures body ≡ [] → captures (unrolled q start end body) ≡ captures body

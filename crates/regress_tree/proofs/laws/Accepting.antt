@@ -7,13 +7,13 @@ use Rattle.regress_base.specs.Brackets.{is_accepted}
 use Rattle.regress_base.proofs.laws.Sets.{is_member-nil, is_member-cons, canonical_parts, member_above}
 use Rattle.regress_tree.specs.NodeTests.{is_none, are_all, accepts_none}
 
-not_within : (iv : Bounds) (c : ℕ) → is_within iv c ≡ true → (iv.first ≤ c) × (c ≤ iv.last)
+is_within-true : (iv : Bounds) (c : ℕ) → is_within iv c ≡ true → (iv.first ≤ c) × (c ≤ iv.last)
 unfolding is_within
-not_within iv c t = (grind (arith, nat_tests), grind (arith, nat_tests))
+is_within-true iv c t = (grind (arith, nat_tests), grind (arith, nat_tests))
 
-le-within : (iv : Bounds) (c : ℕ) → iv.first ≤ c → c ≤ iv.last → is_within iv c ≡ true
+le-is_within : (iv : Bounds) (c : ℕ) → iv.first ≤ c → c ≤ iv.last → is_within iv c ≡ true
 unfolding is_within
-le-within iv c above below = grind (arith, nat_tests)
+le-is_within iv c above below = grind (arith, nat_tests)
 
 -- Some code point is a member, or all are none.
 pub member_from : (ivs : List Bounds) → IsCanonical ivs → is_none ivs ≡ false →
@@ -23,7 +23,7 @@ member_from (iv ∷ ivs) can some =
     let p = canonical_parts 0 iv ivs can in (
       iv.first,
       omega (arith, p.interval.ordered, p.interval.in_range),
-      is_member-cons iv ivs iv.first ∙ or_left _ _ (le-within iv iv.first (omega arith) p.interval.ordered),
+      is_member-cons iv ivs iv.first ∙ or_left _ _ (le-is_within iv iv.first (omega arith) p.interval.ordered),
     )
 
 -- a number below the first interval, or between it and the others
@@ -38,7 +38,7 @@ not_member iv ivs can c where_it_is =
         let above = member_above (iv.last + 2) ivs c p.rest (sym (is_member-cons iv ivs c ∙ simp out) ∙ t) in
         elim place [ inl below ↦ omega (arith, above.0, p.interval.ordered) | inr behind ↦ omega (arith, above.0) ]
     by place (inl within) t =
-        let w = not_within iv c within in
+        let w = is_within-true iv c within in
         elim place [ inl below ↦ omega (arith, w.0) | inr behind ↦ omega (arith, w.1) ]
 
 -- some code point is no member of intervals that are not the one of all
@@ -80,7 +80,7 @@ accepts_nothing false (iv ∷ ivs) can none c h = absurd (false≢true none)
 accepts_nothing true [] can none c h = absurd (false≢true none)
 accepts_nothing true (iv ∷ []) can none c h =
     let ends = and_parts (iv.first == 0) (iv.last == code_point_max) none in
-    let within = le-within iv c (omega (arith, eqb-true iv.first 0 ends.0)) (omega (arith, eqb-true iv.last code_point_max ends.1)) in
+    let within = le-is_within iv c (omega (arith, eqb-true iv.first 0 ends.0)) (omega (arith, eqb-true iv.last code_point_max ends.1)) in
     ap not (is_member-cons iv [] c ∙ or_left _ _ within)
 accepts_nothing true (iv ∷ next ∷ ivs) can none c h = absurd (false≢true none)
 

@@ -9,9 +9,6 @@ use Rattle.regress_tree.proofs.laws.Distinct.{distinct-append-alike, distinct-fi
 pub Alike-refl : (f : Step) → Alike f f
 Alike-refl f = record { same = λ s. refl }
 
-pub Alike-sym : {f g : Step} → Alike f g → Alike g f
-Alike-sym a = record { same = λ s. sym (a.same s) }
-
 pub Alike-trans : {f g h : Step} → Alike f g → Alike g h → Alike f h
 Alike-trans a b = record { same = λ s. a.same s ∙ b.same s }
 

@@ -1,8 +1,6 @@
 -- What bytes in a row match: characters one after another where they are the UTF-8 of these.
-use Rattle.std.proofs.Common.{◌≡◌, ℕ, ◌+◌, ◌-◌, ◌==◌, Bool, true, false, cond, ◌&&◌, List, [], ◌∷◌, ◌++◌, length, drop, flat_map, Option, Some, None, option_map, option_and_then, IfSome, ◌⊎◌, inl, inr, All, encode_utf8_all, nat_le, refl, sym, ap, ◌∙◌, subst, ⊎_elim, arith, append-nil, append_assoc, nat_eq}
-use mathlib.Core.Path.{fun_ext}
+use Rattle.std.proofs.Common.{◌≡◌, ℕ, ◌+◌, ◌-◌, ◌==◌, Bool, true, false, cond, ◌&&◌, List, [], ◌∷◌, ◌++◌, length, drop, flat_map, Option, Some, None, option_map, option_and_then, IfSome, ◌⊎◌, inl, inr, nat_le, refl, sym, ap, ◌∙◌, subst, ⊎_elim, arith, add-zero, append-nil, append_assoc, nat_eq}
 use Rattle.std.proofs.lemmas.List.{length-append, drop-drop, drop_at}
-use Rattle.std.proofs.lemmas.List.Elements.{All-head, All-tail}
 use Rattle.std.proofs.lemmas.Bool.{false≢true, leb-true, le-leb, and_parts, and_from, cond-true, cond-false, cases_Bool, eq-eqb, eqb-true, ne_eqb}
 use Rattle.std.proofs.lemmas.Bool.Decides.{Decides-eqb}
 use Rattle.std.proofs.lemmas.Option.{cond_some}
@@ -13,7 +11,7 @@ use Rattle.std.specs.List.{starts_with}
 use Rattle.std.specs.Option.{option_or}
 use Rattle.regress_base.proofs.laws.Literals.{same_tests}
 use Rattle.regress_tree.specs.Reading.{Direction, forwards, backwards, Read, next_character, of_bytes, character_at, read_after, read_before_by, read_before}
-use Rattle.regress_tree.specs.Steps.{State, Step, stay, ◌then_◌, moved, one_character, these_bytes}
+use Rattle.regress_tree.specs.Steps.{State, stay, ◌then_◌, moved, one_character, these_bytes}
 use Rattle.regress_tree.proofs.laws.Characters.{character_at_from, character_at_parts}
 use Rattle.regress_tree.proofs.laws.Readings.{read_before-behind}
 
@@ -52,20 +50,18 @@ stands-append bytes k first second =
     ∙ ap (λ xs. first ++ xs) (drop-drop (length first) k bytes ∙ second_stands)
     ∙ sym (append_assoc first second rest)))
 
+-- ---- no bytes
+
+pub these_bytes-none : (d : Direction) (bytes : List ℕ) (s : State) → these_bytes d bytes [] s ≡ stay s
+unfolding these_bytes
+these_bytes-none forwards bytes s = ap (λ k. record s { place = k } ∷ []) (add-zero s.place)
+these_bytes-none backwards bytes s =
+    ap (λ b. cond (b && true) (record s { place = s.place - 0 } ∷ []) []) (le-leb 0 s.place (omega arith))
+    ∙ ap (λ k. record s { place = k } ∷ []) (omega arith)
+
 -- ---- forwards
 
-both_forwards : (s : State) (a b : Bool) (k j i : ℕ) → i ≡ j →
-    cond (a && b) (record s { place = i } ∷ []) []
-    ≡ flat_map (λ t. cond b (record t { place = j } ∷ []) []) (cond a (record s { place = k } ∷ []) [])
-both_forwards s true true k j i e = ap (λ p. record s { place = p } ∷ []) e
-both_forwards s true false k j i e = refl
-both_forwards s false b k j i e = refl
-
 module _ (bytes : List ℕ) where
-  pub these_bytes-nil : (s : State) → these_bytes forwards bytes [] s ≡ stay s
-  unfolding these_bytes
-  these_bytes-nil s = let e : s.place + 0 ≡ s.place = omega arith in ap (λ p. record s { place = p } ∷ []) e
-
   -- bytes behind bytes
   pub these_bytes-append : (first second : List ℕ) (s : State) →
       these_bytes forwards bytes (first ++ second) s ≡ (these_bytes forwards bytes first then_ these_bytes forwards bytes second) s
@@ -279,21 +275,3 @@ pub one_character-agree : (d : Direction) (bytes : List ℕ) (p q : ℕ → Bool
 unfolding one_character
 one_character-agree d bytes p q agree s =
     moved-agree p q s (next_character d (of_bytes bytes) s.place) agree (next_character-scalar d bytes s.place)
-
--- ---- characters in a row
-
-module _ (bytes : List ℕ) where
-  -- these characters, one after another
-  abbrev pub these_characters : List ℕ → Step
-  these_characters [] = stay
-  these_characters (c ∷ cs) = one_character forwards (of_bytes bytes) (λ x. x == c) then_ these_characters cs
-
-  -- the UTF-8 of characters matches them one after another
-  pub these_bytes-characters : (cs : List ℕ) → All IsScalar cs → (s : State) →
-      these_bytes forwards bytes (encode_utf8_all cs) s ≡ these_characters cs s
-  these_bytes-characters [] all s = these_bytes-nil bytes s
-  these_bytes-characters (c ∷ cs) all s =
-      these_bytes-append bytes (encode_utf8 c) (encode_utf8_all cs) s
-      ∙ ap (flat_map (these_bytes forwards bytes (encode_utf8_all cs))) (these_bytes-one bytes c (All-head IsScalar c cs all) s)
-      ∙ ap (λ f. flat_map f (one_character forwards (of_bytes bytes) (λ x. x == c) s))
-      (fun_ext (these_bytes-characters cs (All-tail IsScalar c cs all)))

@@ -1,12 +1,14 @@
--- Ranges of group ids around what has no capture group: they are empty, and forgetting what their groups have captured changes no state.
-use Rattle.std.proofs.Common.{◌≡◌, ℕ, ◌+◌, ◌≤◌, ◌==◌, Bool, false, ◌&&◌, cond, nat_le, nat_lt, inl, inr, List, [], ◌∷◌, count_by, Option, refl, ap, ap₂, ◌∙◌, le_refl, arith}
-use Rattle.std.proofs.lemmas.Bool.{cases_lt, and_left, and_right, and_from, le-leb, lt-leb, lt-ltb, le-ltb, eq-eqb, cond-false}
+-- What has no capture group. Ranges of group ids around it are empty, and forgetting what their groups have captured changes no state.
+use Rattle.std.proofs.Common.{◌≡◌, ℕ, ◌+◌, ◌≤◌, ◌==◌, Bool, false, ◌&&◌, cond, nat_le, nat_lt, inl, inr, List, [], ◌∷◌, ◌++◌, count_by, Option, refl, ap, ap₂, ◌∙◌, le_refl, arith}
+use Rattle.std.proofs.lemmas.Bool.{true≢false, cases_lt, and_left, and_right, and_from, or_parts, le-leb, lt-leb, lt-ltb, le-ltb, eq-eqb, cond-false}
 use Rattle.std.proofs.lemmas.List.Sums.{sum_by-cons}
 use mathlib.Core.Path.{fun_ext}
+use Rattle.regress_tree.specs.Copies.{HasNoGroup, NoneHasGroup}
 use Rattle.regress_tree.specs.Repetition.{unset_from, unset, turn}
+use Rattle.regress_tree.specs.Shapes.{is_group, on_wrapper, has_group, some_node_in_row}
 use Rattle.regress_tree.specs.Steps.{Span, State, Step}
-use Rattle.regress_tree.specs.Tree.{Tree}
-use Rattle.regress_tree.specs.WellFormed.{Capture, captures, HasGroups}
+use Rattle.regress_tree.specs.Tree.{Wrapper, capture_group, loop, loop_one, lookaround, Tree, Trees, leaf, cat, alt, wrapped, no_trees, more_trees}
+use Rattle.regress_tree.specs.WellFormed.{Capture, captures, captures_in_row, captures_of_wrapper, Position, inside, last_of, position_in, MayStand, RowMayStand, HasGroups}
 
 -- no number lies in a range that ends where it starts, or before
 none_within : (start end k : ℕ) → end ≤ start → (nat_le start k && nat_lt k end) ≡ false
@@ -37,6 +39,59 @@ captures-none start end t has ends = by (captures t) (λ k. has k ∙ ap (λ (b 
         let one = ap (λ (b : Bool). cond {A = ℕ} b 1 0) (eq-eqb c.id c.id refl) in
         let split = sum_by-cons (λ (d : Capture). cond {A = ℕ} (d.id == c.id) 1 0) c cs in
         absurd (omega (arith, one, split, counts c.id))
+
+-- ---- what has no group inside
+
+no_group : (w : Wrapper) → is_group w ≡ false → captures_of_wrapper w ≡ []
+no_group (capture_group id name) none = absurd (true≢false none)
+no_group (loop quantifier start end) none = refl
+no_group (loop_one quantifier) none = refl
+no_group (lookaround negate backwards start end) none = refl
+
+mutual
+  pub captures-free : (t : Tree) → has_group t ≡ false → captures t ≡ []
+  captures-free (leaf l) none = refl
+  captures-free (cat parts) none = captures_in_row-free parts none
+  captures-free (alt left right) none =
+      let sides = or_parts (has_group left) (has_group right) none in
+      ap₂ ◌++◌ (captures-free left sides.0) (captures-free right sides.1)
+  captures-free (wrapped w body) none =
+      let both = or_parts (is_group w) (has_group body) none in
+      ap₂ ◌++◌ (no_group w both.0) (captures-free body both.1)
+
+  captures_in_row-free : (ts : Trees) → some_node_in_row (on_wrapper is_group) ts ≡ false → captures_in_row ts ≡ []
+  captures_in_row-free no_trees none = refl
+  captures_in_row-free (more_trees t ts) none =
+      let both = or_parts (has_group t) (some_node_in_row (on_wrapper is_group) ts) none in
+      ap₂ ◌++◌ (captures-free t both.0) (captures_in_row-free ts both.1)
+
+-- and what captures nothing has empty ranges of groups
+
+append_none : {X : Type 0} (xs ys : List X) → xs ++ ys ≡ [] → (xs ≡ []) × (ys ≡ [])
+append_none [] ys none = (refl, none)
+append_none (x ∷ xs) ys none = absurd (cc)
+
+mutual
+  pub HasNoGroup-from : (n : ℕ) (t : Tree) (p : Position) → MayStand n t p → captures t ≡ [] → HasNoGroup t
+  HasNoGroup-from n (leaf l) p m none = tt
+  HasNoGroup-from n (cat parts) p m none = NoneHasGroup-from n parts (last_of p) m.1 none
+  HasNoGroup-from n (alt left right) p m none =
+      let sides = append_none (captures left) (captures right) none in
+      (HasNoGroup-from n left inside m.1 sides.0, HasNoGroup-from n right inside m.2 sides.1)
+  HasNoGroup-from n (wrapped (capture_group id name) body) p m none = absurd (cc)
+  HasNoGroup-from n (wrapped (loop q start end) body) p m none =
+      (HasGroups-none start end body m.1.1 none, HasNoGroup-from n body inside m.2 none)
+  HasNoGroup-from n (wrapped (loop_one q) body) p m none = (tt, HasNoGroup-from n body (position_in (loop_one q)) m.2 none)
+  HasNoGroup-from n (wrapped (lookaround negate backwards start end) body) p m none =
+      (HasGroups-none start end body m.1 none, HasNoGroup-from n body inside m.2 none)
+
+  NoneHasGroup-from : (n : ℕ) (ts : Trees) (p : Position) → RowMayStand n ts p → captures_in_row ts ≡ [] → NoneHasGroup ts
+  NoneHasGroup-from n no_trees p m none = tt
+  NoneHasGroup-from n (more_trees t no_trees) p m none =
+      (HasNoGroup-from n t p m (append_none (captures t) [] none).0, tt)
+  NoneHasGroup-from n (more_trees t (more_trees u us)) p m none =
+      let both = append_none (captures t) (captures_in_row (more_trees u us)) none in
+      (HasNoGroup-from n t inside m.0 both.0, NoneHasGroup-from n (more_trees u us) p m.1 both.1)
 
 -- ---- forgetting nothing
 

@@ -1,13 +1,13 @@
 -- Laws of sums over a tree and of tests on its nodes, for whatever a node counts and whatever is tested.
-use Rattle.std.proofs.Common.{◌≡◌, ℕ, zero, suc, ◌+◌, ◌*◌, ◌≤◌, ◌<◌, inl, inr, Bool, false, ◌||◌, [], ◌∷◌, refl, sym, ap, ap₂, ◌∙◌, arith}
+use Rattle.std.proofs.Common.{◌≡◌, ℕ, zero, suc, ◌+◌, ◌*◌, ◌≤◌, ◌<◌, inl, inr, Bool, false, ◌||◌, [], ◌∷◌, refl, sym, ap, ap₂, ◌∙◌, max, arith}
 use Rattle.std.proofs.Math.Bool.{or_assoc, or-false}
 use Rattle.std.proofs.Math.Nat.{mul-add}
-use Rattle.std.proofs.lemmas.Bool.{or_parts, cases_lt}
+use Rattle.std.proofs.lemmas.Bool.{false≢true, or_parts, cases_lt}
 use Rattle.regress_tree.specs.Tree.{Leaf, empty, goal, char, byte_sequence, byte_set, char_set, match_any, match_any_except_line_terminator, anchor, word_boundary, bracket, back_ref, string_set, Wrapper, capture_group, loop, loop_one, lookaround, Tree, Trees, leaf, cat, alt, wrapped, no_trees, more_trees, row_append, copies}
 use Rattle.regress_tree.specs.WellFormed.{Position, inside, last_of, position_in, LeafMayStand, MayStand, RowMayStand}
-use Rattle.regress_tree.specs.Measures.{Measure, total, total_in_row}
-use Rattle.regress_tree.specs.Units.{charge_of_leaf, charges, charge, units_of_leaf, sizes, units, weight_of_leaf, weight_of_wrapper, weights, weight, loops, IsLess}
-use Rattle.regress_tree.specs.Shapes.{some_node, some_node_in_row, some_node_inside, LacksShape, RowLacksShape, LacksInside}
+use Rattle.regress_tree.specs.Measures.{Measure, total, total_in_row, levels_of_deepest}
+use Rattle.regress_tree.specs.Units.{charge_of_leaf, charges, charge, units_of_leaf, sizes, units, unrollables, weight_of_leaf, weight_of_wrapper, weights, weight, loops, IsLess}
+use Rattle.regress_tree.specs.Shapes.{on_wrapper, some_node, some_node_in_row, some_node_inside, LacksShape, RowLacksShape, LacksInside, some_in_row, is_loop, has_loop}
 
 -- ---- sums
 
@@ -53,6 +53,10 @@ module _ (k : ℕ) (m m' : Measure) (each : IsAtMost k m m') where
     total_in_row-le n (more_trees t no_trees) p stands = joined _ 0 _ 0 (total-le n t p stands) (omega arith)
     total_in_row-le n (more_trees t (more_trees u us)) p stands =
         joined _ _ _ _ (total-le n t inside stands.0) (total_in_row-le n (more_trees u us) p stands.1)
+
+pub levels-append : (ts us : Trees) → levels_of_deepest (row_append ts us) ≡ max (levels_of_deepest ts) (levels_of_deepest us)
+levels-append no_trees us = omega arith
+levels-append (more_trees t ts) us = omega (arith, levels-append ts us)
 
 -- ---- units, charges and weights
 
@@ -147,6 +151,11 @@ module _ (test : Tree → Bool) where
       ap (λ b. some_node test t || b) (some_node-append ts us)
       ∙ sym (or_assoc (some_node test t) (some_node_in_row test ts) (some_node_in_row test us))
 
+  pub some_in_row-append : (ts us : Trees) → some_in_row test (row_append ts us) ≡ (some_in_row test ts || some_in_row test us)
+  some_in_row-append no_trees us = refl
+  some_in_row-append (more_trees t ts) us =
+      ap (λ b. test t || b) (some_in_row-append ts us) ∙ sym (or_assoc (test t) (some_in_row test ts) (some_in_row test us))
+
   pub some_node-copies : (n : ℕ) (t : Tree) → some_node test t ≡ false → some_node_in_row test (copies n t) ≡ false
   some_node-copies zero t none = refl
   some_node-copies (suc n) t none = ap₂ ◌||◌ none (some_node-copies n t none)
@@ -162,3 +171,22 @@ module _ (test : Tree → Bool) where
 
   pub RowLacksShape-append : (ts us : Trees) → RowLacksShape test ts → RowLacksShape test us → RowLacksShape test (row_append ts us)
   RowLacksShape-append ts us first second = some_node-append ts us ∙ ap₂ ◌||◌ first second
+
+-- what has no loop has none that may be unrolled
+mutual
+  pub loops-none : (t : Tree) → has_loop t ≡ false → loops t ≡ 0
+  loops-none (leaf l) none = refl
+  loops-none (cat parts) none = omega (arith, loops-none_in_row parts none)
+  loops-none (alt left right) none =
+      let sides = or_parts (has_loop left) (has_loop right) none in
+      omega (arith, loops-none left sides.0, loops-none right sides.1)
+  loops-none (wrapped (capture_group id name) body) none = omega (arith, loops-none body none)
+  loops-none (wrapped (loop q start end) body) none = absurd (false≢true (sym none))
+  loops-none (wrapped (loop_one q) body) none = absurd (false≢true (sym none))
+  loops-none (wrapped (lookaround negate backwards start end) body) none = omega (arith, loops-none body none)
+
+  loops-none_in_row : (ts : Trees) → some_node_in_row (on_wrapper is_loop) ts ≡ false → total_in_row unrollables ts ≡ 0
+  loops-none_in_row no_trees none = refl
+  loops-none_in_row (more_trees t ts) none =
+      let both = or_parts (has_loop t) (some_node_in_row (on_wrapper is_loop) ts) none in
+      omega (arith, loops-none t both.0, loops-none_in_row ts both.1)

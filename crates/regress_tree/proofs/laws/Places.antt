@@ -100,7 +100,7 @@ module _ (t u : Tree) (stands : (n : ℕ) (p : Position) → MayStand n t p → 
   MayStand-put same (right_of left) n p m = (m.0, m.1, stands n inside m.2)
   MayStand-put same (inside_of w) n p m = (m.0, WrapperMayStand-around n w t u same m.1, stands n (position_in w) m.2)
 
-RowMayStand-part : (n : ℕ) (p : Position) (before behind : Trees) (t : Tree) → RowMayStand n (row_append before (more_trees t behind)) p →
+pub RowMayStand-part : (n : ℕ) (p : Position) (before behind : Trees) (t : Tree) → RowMayStand n (row_append before (more_trees t behind)) p →
     (q : Position) × MayStand n t q
 RowMayStand-part n p no_trees no_trees t m = (p, m)
 RowMayStand-part n p no_trees (more_trees y behind) t m = (inside, m.0)

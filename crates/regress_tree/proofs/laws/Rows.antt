@@ -10,6 +10,7 @@ use Rattle.regress_tree.specs.Matching.{steps, steps_in_row}
 use Rattle.regress_tree.specs.Setting.{Setting}
 use Rattle.regress_tree.specs.WellFormed.{captures, captures_in_row, Position, one_character, inside, last, root, NotAsOneCharacter, AsOneCharacter, GoalMayStand, last_of, LeafMayStand, MayStand, RowMayStand}
 use Rattle.regress_tree.proofs.laws.Outcomes.{flat_map-then}
+use Rattle.regress_tree.proofs.laws.Positions.{AsOneCharacter-free}
 
 pub row_append-none : (ts : Trees) → row_append ts no_trees ≡ ts
 row_append-none no_trees = refl
@@ -19,7 +20,7 @@ pub row_append-assoc : (ts us vs : Trees) → row_append (row_append ts us) vs �
 row_append-assoc no_trees us vs = refl
 row_append-assoc (more_trees t ts) us vs = ap (more_trees t) (row_append-assoc ts us vs)
 
-row-append : (ts us : List Tree) → row (ts ++ us) ≡ row_append (row ts) (row us)
+pub row-append : (ts us : List Tree) → row (ts ++ us) ≡ row_append (row ts) (row us)
 row-append [] us = refl
 row-append (t ∷ ts) us = ap (more_trees t) (row-append ts us)
 
@@ -42,12 +43,6 @@ captures-append (more_trees t ts) us =
 
 -- What may stand as the last part of a `Cat` may stand where the `Cat` does.
 
-not_as_one : (q : Position) (P : Type 0) → NotAsOneCharacter q → AsOneCharacter q P
-not_as_one one_character P free = absurd free
-not_as_one inside P free = tt
-not_as_one last P free = tt
-not_as_one root P free = tt
-
 LeafMayStand-wider : (n : ℕ) (p q : Position) → NotAsOneCharacter q → (GoalMayStand p → GoalMayStand q) →
     (l : Leaf) → LeafMayStand n l p → LeafMayStand n l q
 LeafMayStand-wider n p q free ends empty m = free
@@ -57,15 +52,15 @@ LeafMayStand-wider n p q free ends (byte_sequence bytes) m = record {
   characters = m.characters;
   are_scalar = m.are_scalar;
   encoded = m.encoded;
-  one = not_as_one q _ free;
+  one = AsOneCharacter-free q _ free;
 }
-LeafMayStand-wider n p q free ends (byte_set bytes) m = record { bounded = m.bounded; small = m.small; some = not_as_one q _ free }
-LeafMayStand-wider n p q free ends (char_set characters) m = record { bounded = m.bounded; small = m.small; some = not_as_one q _ free }
+LeafMayStand-wider n p q free ends (byte_set bytes) m = record { bounded = m.bounded; small = m.small; some = AsOneCharacter-free q _ free }
+LeafMayStand-wider n p q free ends (char_set characters) m = record { bounded = m.bounded; small = m.small; some = AsOneCharacter-free q _ free }
 LeafMayStand-wider n p q free ends match_any m = tt
 LeafMayStand-wider n p q free ends match_any_except_line_terminator m = tt
 LeafMayStand-wider n p q free ends (anchor kind multiline) m = free
 LeafMayStand-wider n p q free ends (word_boundary invert unicode_icase) m = free
-LeafMayStand-wider n p q free ends (bracket invert intervals) m = record { canonical = m.canonical; some = not_as_one q _ free }
+LeafMayStand-wider n p q free ends (bracket invert intervals) m = record { canonical = m.canonical; some = AsOneCharacter-free q _ free }
 LeafMayStand-wider n p q free ends (back_ref group icase) m = record { free = free; low = m.low; high = m.high }
 LeafMayStand-wider n p q free ends (string_set strings icase) m = record { free = free; bounded = m.bounded }
 
@@ -118,3 +113,18 @@ RowMayStand-append n no_trees us p first second = second
 RowMayStand-append n (more_trees t no_trees) us p first second = RowMayStand-more n t us p first second
 RowMayStand-append n (more_trees t (more_trees u ts)) us p first second =
     RowMayStand-more n t (row_append (more_trees u ts) us) p first.0 (RowMayStand-append n (more_trees u ts) us p first.1 second)
+
+-- A row of what may stand, taken apart.
+
+pub RowMayStand-parts : (n : ℕ) (t : Tree) (ts : Trees) → RowMayStand n (more_trees t ts) inside →
+    MayStand n t inside × RowMayStand n ts inside
+RowMayStand-parts n t no_trees m = (m, tt)
+RowMayStand-parts n t (more_trees u us) m = m
+
+pub RowMayStand-split : (n : ℕ) (ts : Trees) (u : Tree) (us : Trees) (p : Position) → RowMayStand n (row_append ts (more_trees u us)) p →
+    RowMayStand n ts inside × RowMayStand n (more_trees u us) p
+RowMayStand-split n no_trees u us p m = (tt, m)
+RowMayStand-split n (more_trees t no_trees) u us p m = m
+RowMayStand-split n (more_trees t (more_trees x ts)) u us p m =
+    let later = RowMayStand-split n (more_trees x ts) u us p m.1 in
+    ((m.0, later.0), later.1)

@@ -1,16 +1,27 @@
 -- Rows of trees turned: the last one first.
-use Rattle.std.proofs.Common.{◌≡◌, ℕ, List, [], ◌++◌, flat_map, sym, ap, subst, ◌∙◌, append-nil}
+use Rattle.std.proofs.Common.{◌≡◌, ℕ, List, [], ◌++◌, flat_map, refl, sym, ap, subst, ◌∙◌, append-nil}
 use mathlib.Core.Path.{fun_ext}
 use Rattle.std.specs.List.Sorted.{IsPermutation}
 use Rattle.std.proofs.lemmas.List.Sorted.{IsPermutation-refl, IsPermutation-trans, IsPermutation-append_comm, IsPermutation-append_left}
 use Rattle.regress_tree.specs.Reading.{Direction}
 use Rattle.regress_tree.specs.Steps.{State, ◌then_◌}
-use Rattle.regress_tree.specs.Tree.{Tree, Trees, no_trees, more_trees, row_reverse}
+use Rattle.regress_tree.specs.Tree.{Tree, Trees, no_trees, more_trees, row_append, row_reverse}
 use Rattle.regress_tree.specs.Matching.{steps, steps_in_row}
 use Rattle.regress_tree.specs.Setting.{Setting}
 use Rattle.regress_tree.specs.WellFormed.{captures, captures_in_row, inside, RowMayStand}
 use Rattle.regress_tree.proofs.laws.Outcomes.{flat_map-stay}
-use Rattle.regress_tree.proofs.laws.Rows.{steps-append, captures-append, RowMayStand-append}
+use Rattle.regress_tree.proofs.laws.Rows.{row_append-none, row_append-assoc, steps-append, captures-append, RowMayStand-append}
+
+pub row_reverse-append : (ts us : Trees) → row_reverse (row_append ts us) ≡ row_append (row_reverse us) (row_reverse ts)
+row_reverse-append no_trees us = sym (row_append-none (row_reverse us))
+row_reverse-append (more_trees t ts) us =
+    ap (λ vs. row_append vs (more_trees t no_trees)) (row_reverse-append ts us)
+    ∙ row_append-assoc (row_reverse us) (row_reverse ts) (more_trees t no_trees)
+
+pub row_reverse-twice : (ts : Trees) → row_reverse (row_reverse ts) ≡ ts
+row_reverse-twice no_trees = refl
+row_reverse-twice (more_trees t ts) =
+    row_reverse-append (row_reverse ts) (more_trees t no_trees) ∙ ap (more_trees t) (row_reverse-twice ts)
 
 -- a row turned matches as the others turned and then its first part
 pub steps-row_reverse : (setting : Setting) (bytes : List ℕ) (d : Direction) (t : Tree) (ts : Trees) (s : State) →

@@ -97,7 +97,6 @@ fn visit_after<F: FnMut(&mut Node, &mut Walk)>(n: &mut Node, walk: &Walk, func: 
 
 /// Visits what lies inside a node.
 #[cycle(visit_mut)]
-#[tactic(auto, using(crate::proofs::VisitLemmas::at_leaves))]
 fn visit_inside<F: FnMut(&mut Node, &mut Walk)>(
     postorder: bool,
     n: &mut Node,
@@ -125,19 +124,7 @@ fn visit_inside<F: FnMut(&mut Node, &mut Walk)>(
             contents,
             ..
         } => visit_mut(postorder, contents, &inner.looking(*backwards), func),
-        Node::Empty
-        | Node::Goal
-        | Node::Char { .. }
-        | Node::ByteSequence(_)
-        | Node::ByteSet(_)
-        | Node::CharSet(_)
-        | Node::MatchAny
-        | Node::MatchAnyExceptLineTerminator
-        | Node::Anchor { .. }
-        | Node::WordBoundary { .. }
-        | Node::Bracket(_)
-        | Node::BackRef { .. }
-        | Node::StringSet { .. } => {}
+        _ => {}
     }
 }
 

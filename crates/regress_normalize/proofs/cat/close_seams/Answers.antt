@@ -5,7 +5,8 @@ use Rattle.regress_tree.specs.Reading.{Direction, forwards, backwards}
 use Rattle.regress_tree.specs.Tree.{Trees, row_reverse, trees}
 use Rattle.regress_tree.proofs.laws.Reversed.{trees-reversed}
 use Rattle.regress_normalize.specs.Packed.{Packs, IsPacked}
-use Rattle.regress_normalize.proofs.PackedLemmas.{row_reverse-twice, IsPacked-turned}
+use Rattle.regress_tree.proofs.laws.Turned.{row_reverse-twice}
+use Rattle.regress_normalize.proofs.PackedLemmas.{IsPacked-turned}
 use Rattle.regress_normalize.proofs.CatLemmas.{on_ok_map}
 use Rattle.regress_normalize.proofs.cat.close_seams.Goals as goal
 

@@ -5,7 +5,7 @@ use Rattle.std.proofs.lemmas.Iterator.Search.{any_from_yields_List}
 use Rattle.regress_tree.specs.NodeTests.{is_empty}
 use Rattle.regress_tree.specs.Shapes.{has_bytes, has_neighbours}
 use Rattle.regress_tree.specs.Tree.{tree, trees}
-use Rattle.regress_normalize.proofs.CatLemmas.{some_in_row-any}
+use Rattle.regress_tree.proofs.laws.NodeLists.{some_in_row-any}
 use Rattle.regress_normalize.proofs.cat.has_seams.Goals as goal
 
 pub returns-then-any : goal.returns-then-any

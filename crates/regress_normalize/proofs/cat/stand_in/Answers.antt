@@ -1,5 +1,5 @@
 use Rattle.std.proofs.Common.{refl, arith}
-use Rattle.regress_normalize.proofs.CatLemmas.{is_short-from_len}
+use Rattle.regress_tree.proofs.laws.NodeLists.{is_short-from_len}
 use Rattle.regress_normalize.proofs.cat.stand_in.Goals as goal
 
 pub returns-then-len-gt1-clause-none : goal.returns-then-len-gt1-clause-none

@@ -16,7 +16,7 @@ use Rattle.regress_normalize.specs.PartFacts.{HasRowFacts}
 use Rattle.regress_normalize.specs.Steps.{StandsFor}
 use Rattle.regress_normalize.proofs.NormalLemmas.{IsNormal-reattach}
 use Rattle.regress_tree.specs.NormalForm.{IsNormal}
-use Rattle.regress_normalize.proofs.TraversalLemmas.{StandsFor-reattach, StandsFor-normalized, StandsFor-only_part, IsPart-stands, Normalized-after, Normalized-error, stands_inside, wraps, wraps_clean, Normalized-finished, Finished-error, plain_up, units-reattach, units_up, onto_up, stands_up, IsPart_up, stands_left, both_sides, taken, more_normal, StandsFor-part}
+use Rattle.regress_normalize.proofs.TraversalLemmas.{StandsFor-reattach, StandsFor-normalized, StandsFor-only_part, IsPart-stands, Normalized-after, Normalized-error, stands_inside, wraps, wraps_clean, Normalized-finished, Finished-error, still_one_up, units-reattach, units_up, onto_up, stands_up, IsPart_up, stands_left, both_sides, taken, more_normal, StandsFor-part}
 use Rattle.regress_normalize.proofs.traversal.+normalize.Goals as goal
 
 pub normalize-normalize_last-requires : goal.normalize-normalize_last-requires
@@ -54,7 +54,7 @@ normalize-returns-in-Ok t c =
     (λ normal.
     let kept = subst (λ (u : Tree). IsNormal u) (sym (so_far.left normal)) normal in
     let last_old = IsNormal-reattach above node (subst (λ (u : Tree). IsNormal u) (sym c.go_down.ensures.whole) normal) in
-    (kept, c.in-Ok.ensures.plain last_old))
+    (kept, c.in-Ok.ensures.still_one last_old))
 
 pub normalize-returns-in-Err : goal.normalize-returns-in-Err
 normalize-returns-in-Err t c =
@@ -119,8 +119,8 @@ normalize_body-returns-in-CaptureGroup-clause-body t c =
     let w = capture_group c.in-CaptureGroup.id (option_map string_bytes c.in-CaptureGroup.name) in
     rw (c.in-CaptureGroup.is, out-CaptureGroup) (simp tree-CaptureGroup (wraps _ w _ _ _ (rw contents_is at c.normalize.ensures)))
 
-pub normalize_body-returns-in-CaptureGroup-clause-plain : goal.normalize_body-returns-in-CaptureGroup-clause-plain
-normalize_body-returns-in-CaptureGroup-clause-plain t c normal =
+pub normalize_body-returns-in-CaptureGroup-clause-still_one : goal.normalize_body-returns-in-CaptureGroup-clause-still_one
+normalize_body-returns-in-CaptureGroup-clause-still_one t c normal =
     let normal' = rw (c.in-CaptureGroup.is, tree-CaptureGroup) at normal in
     let contents_is = rw (c.in-CaptureGroup.is, out-CaptureGroup) at c.deref_mut.ensures.value in
     let w = capture_group c.in-CaptureGroup.id (option_map string_bytes c.in-CaptureGroup.name) in
@@ -138,8 +138,8 @@ normalize_body-returns-in-Loop-clause-body t c =
     let w = loop c.in-Loop.quant c.in-Loop.enclosed_groups.start c.in-Loop.enclosed_groups.end in
     rw (c.in-Loop.is, out-Loop) (simp tree-Loop (wraps _ w _ _ _ (rw loopee_is at c.normalize-in-Loop.ensures)))
 
-pub normalize_body-returns-in-Loop-clause-plain : goal.normalize_body-returns-in-Loop-clause-plain
-normalize_body-returns-in-Loop-clause-plain t c normal =
+pub normalize_body-returns-in-Loop-clause-still_one : goal.normalize_body-returns-in-Loop-clause-still_one
+normalize_body-returns-in-Loop-clause-still_one t c normal =
     let normal' = rw (c.in-Loop.is, tree-Loop) at normal in
     let loopee_is = rw (c.in-Loop.is, out-Loop) at c.deref_mut-in-Loop.ensures.value in
     let w = loop c.in-Loop.quant c.in-Loop.enclosed_groups.start c.in-Loop.enclosed_groups.end in
@@ -158,8 +158,8 @@ normalize_body-returns-in-Loop1CharBody-clause-body t c =
     rw (c.in-Loop1CharBody.is, out-Loop1CharBody)
     (simp tree-Loop1CharBody (wraps _ (loop_one c.in-Loop1CharBody.quant) _ _ _ (rw loopee_is at c.normalize-in-Loop1CharBody.ensures)))
 
-pub normalize_body-returns-in-Loop1CharBody-clause-plain : goal.normalize_body-returns-in-Loop1CharBody-clause-plain
-normalize_body-returns-in-Loop1CharBody-clause-plain t c normal =
+pub normalize_body-returns-in-Loop1CharBody-clause-still_one : goal.normalize_body-returns-in-Loop1CharBody-clause-still_one
+normalize_body-returns-in-Loop1CharBody-clause-still_one t c normal =
     let normal' = rw (c.in-Loop1CharBody.is, tree-Loop1CharBody) at normal in
     let loopee_is = rw (c.in-Loop1CharBody.is, out-Loop1CharBody) at c.deref_mut-in-Loop1CharBody.ensures.value in
     rw (c.in-Loop1CharBody.is, out-Loop1CharBody)
@@ -189,8 +189,8 @@ normalize_body-returns-in-LookaroundAssertion-clause-body t c =
     rw (at.is, out) (rw (tree_with c.normalize-in-LookaroundAssertion.new.node)
     (wraps (direction_of c.args.walk.now) w _ _ _ here))
 
-pub normalize_body-returns-in-LookaroundAssertion-clause-plain : goal.normalize_body-returns-in-LookaroundAssertion-clause-plain
-normalize_body-returns-in-LookaroundAssertion-clause-plain t c normal =
+pub normalize_body-returns-in-LookaroundAssertion-clause-still_one : goal.normalize_body-returns-in-LookaroundAssertion-clause-still_one
+normalize_body-returns-in-LookaroundAssertion-clause-still_one t c normal =
     let at = c.in-LookaroundAssertion in
     let out = out-LookaroundAssertion at.negate at.backwards at.start_group at.end_group at.contents in
     let contents_is = rw (at.is, out) at c.deref_mut-in-LookaroundAssertion.ensures.value in
@@ -283,8 +283,8 @@ normalize_up-loop-alloc-preserved t c =
       normal = c.in-Ok.ensures.normal;
       facts = c.in-Ok.ensures.facts;
       smaller = omega (arith, units_up (tree l.above) (tree l.node) _ _ shifted, l.invariant.smaller);
-      plain = λ clean.
-          plain_up (tree l.above) (tree l.node) _ _ shifted _ _ _ c.in-Ok.here l.invariant.stands c.in-Ok.ensures clean.0;
+      still_one = λ clean.
+          still_one_up (tree l.above) (tree l.node) _ _ shifted _ _ _ c.in-Ok.here l.invariant.stands c.in-Ok.ensures clean.0;
     }
 
 pub normalize_up-returns-in-Err : goal.normalize_up-returns-in-Err
@@ -299,4 +299,4 @@ pub normalize_last-returns-in_ok-body-in-CaptureGroup : goal.normalize_last-retu
 normalize_last-returns-in_ok-body-in-CaptureGroup t c =
     rw (sym c.if-take_only_part.ensures)
     (Normalized-finished _ (direction_of c.args.walk.now) _ _ _ _ c.normalize_body.ensures.keeps c.finish_wrapper.ensures
-    c.in_ok-body-in-CaptureGroup.ensures.plain)
+    c.in_ok-body-in-CaptureGroup.ensures.still_one)

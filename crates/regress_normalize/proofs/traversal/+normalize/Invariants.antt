@@ -6,7 +6,7 @@ use Rattle.regress_tree.specs.Tree.{tree, trees, cat}
 use Rattle.regress_tree.specs.Units.{units, units_in_row}
 use Rattle.regress_tree.specs.Walk.{direction_of}
 use Rattle.regress_normalize.specs.Normalized.{RowIsNormal}
-use Rattle.regress_normalize.specs.PartFacts.{HasFacts, IsPlain, HasRowFacts}
+use Rattle.regress_normalize.specs.PartFacts.{HasFacts, IsStillOne, HasRowFacts}
 use Rattle.regress_normalize.specs.Steps.{StandsFor}
 use Rattle.regress_normalize.proofs.TraversalLemmas.{units_above, units_left}
 use Rattle.regress_normalize.proofs.traversal.+normalize.Given as goal
@@ -19,7 +19,7 @@ invariant-normalize_up-loop-alloc l =
       stands : StandsFor (direction_of l.walk) old (reattach (tree l.above) (tree l.node));
       normal : IsNormal (tree l.node);
       facts : HasFacts l.right (tree l.node);
-      plain : IsNormal old × IsPlain l.fn.last (tree l.initial.node) → IsPlain l.right (tree l.node);
+      still_one : IsNormal old × IsStillOne l.fn.last (tree l.initial.node) → IsStillOne l.right (tree l.node);
       smaller : units_above (tree l.above) ≤ units_above (tree l.initial.above);
     }
 

@@ -9,7 +9,7 @@ use Rattle.regress_tree.proofs.laws.Nodes.{tree-Alt, tree-CaptureGroup, tree-Loo
 use Rattle.regress_tree.proofs.laws.Places.{inside_of}
 use Rattle.regress_rewrite.specs.Law.{IsPart}
 use Rattle.regress_tree.specs.Spine.{is_alt, spine_length}
-use Rattle.regress_rewrite.proofs.CheckedLemmas.{sum_of}
+use Rattle.regress_rewrite.proofs.laws.Checked.{sum_of}
 use Rattle.regress_tree.proofs.laws.Levels.{out-Alt, out-CaptureGroup, out-Loop, out-Loop1CharBody, out-LookaroundAssertion, alt_of}
 use Rattle.regress_rewrite.proofs.laws.Keeps.{IsPart-kept}
 use Rattle.regress_rewrite.proofs.SweepLemmas.{Swept-error, Swept-put, Swept-walk}

@@ -6,7 +6,7 @@ use Rattle.regress_tree.specs.Tree.{tree}
 use Rattle.regress_tree.specs.NodeTests.{match_always_fails}
 use Rattle.regress_tree.specs.Shapes.{fails_by_part}
 use Rattle.regress_tree.proofs.laws.Nodes.{tree-Cat}
-use Rattle.regress_rewrite.proofs.RowLemmas.{some_in_row-any}
+use Rattle.regress_tree.proofs.laws.NodeLists.{some_in_row-any}
 use Rattle.regress_rewrite.proofs.propagate_early_fails.fails_by_part.Goals as goal
 
 pub returns-in-Cat : goal.returns-in-Cat

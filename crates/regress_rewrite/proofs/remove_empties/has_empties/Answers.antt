@@ -6,7 +6,7 @@ use Rattle.regress_tree.specs.Tree.{tree}
 use Rattle.regress_tree.specs.NodeTests.{is_empty}
 use Rattle.regress_tree.specs.Shapes.{is_emptied_away}
 use Rattle.regress_tree.proofs.laws.Nodes.{tree-Cat}
-use Rattle.regress_rewrite.proofs.RowLemmas.{some_in_row-any}
+use Rattle.regress_tree.proofs.laws.NodeLists.{some_in_row-any}
 use Rattle.regress_rewrite.proofs.remove_empties.has_empties.Goals as goal
 
 pub returns-in-Cat : goal.returns-in-Cat

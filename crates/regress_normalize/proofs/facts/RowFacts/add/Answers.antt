@@ -4,7 +4,8 @@ use mir.Val.{bool_byte}
 use Rattle.regress_tree.specs.Measures.{levels}
 use Rattle.regress_tree.specs.NodeTests.{match_always_fails}
 use Rattle.regress_tree.specs.Shapes.{on_leaf, on_wrapper, is_group, is_loop, is_string_set, is_cat}
-use Rattle.regress_normalize.proofs.FactsLemmas.{around, counted, charge-more, deepest-more, around-charge, around-levels, some_node-more, some_in_row-more, sum_of, greater}
+use Rattle.regress_rewrite.proofs.laws.Checked.{sum_of}
+use Rattle.regress_normalize.proofs.FactsLemmas.{around, counted, charge-more, deepest-more, around-charge, around-levels, some_node-more, some_in_row-more, greater}
 use Rattle.regress_normalize.proofs.facts.RowFacts.add.Goals as goal
 
 pub returns : goal.returns

@@ -1,10 +1,12 @@
 -- Each answer puts the visits of the calls together.
-use Rattle.std.proofs.Common.{rules, ◌∙◌, sym, ap, refl, le_refl, le_trans, drop, ◌+◌, ◌∷◌}
+use Rattle.std.proofs.Common.{◌≡◌, true, arith, rules, ◌∙◌, sym, ap, refl, le_refl, le_trans, drop, ◌+◌, ◌∷◌}
 use Rattle.std.proofs.lemmas.List.{drop_more, drop_all}
+use Rattle.regress_tree.specs.declared.ir.node.Node.{the_lemmas}
 use Rattle.regress_tree.specs.Tree.{tree}
+use Rattle.regress_tree.specs.Copies.{is_leaf}
 use Rattle.regress_tree.specs.Visits.{Calls, before_children, without_children, after_children, in_cat, in_wrapped, no_more, one_more}
 use Rattle.regress_tree.proofs.laws.Nodes.{tree-Cat, tree-CaptureGroup, tree-Loop, tree-Loop1CharBody, tree-LookaroundAssertion}
-use Rattle.regress_tree.proofs.VisitLemmas.{at_WordBoundary, in_Alt, right_smaller, down_next, further_next, after_next}
+use Rattle.regress_tree.proofs.VisitLemmas.{at_leaf, in_Alt, right_smaller, down_next, further_next, after_next}
 use Rattle.regress_tree.proofs.ir.visit.+visit.Goals as goal
 
 pub visit_inside-returns-in-Cat-clause-visited : goal.visit_inside-returns-in-Cat-clause-visited
@@ -47,8 +49,10 @@ visit_inside-returns-in-Loop1CharBody-clause-visited g t c =
     rw (c.in-Loop1CharBody.is, tree-Loop1CharBody)
     (in_wrapped (rw (c.deref-in-Loop1CharBody.ensures, inner.depth, inner.direction, inner.unicode) at c.visit-in-Loop1CharBody.ensures.visited))
 
-pub visit_inside-returns-10-clause-visited : goal.visit_inside-returns-10-clause-visited
-visit_inside-returns-10-clause-visited g t c = search (rules, at_WordBoundary)
+pub visit_inside-returns-in_default : goal.visit_inside-returns-in_default
+visit_inside-returns-in_default g t c =
+    let holds_none : is_leaf (tree c.args.n.now) ≡ true = first_of (search (rules, the_lemmas), grind (arith, the_lemmas)) in
+    record { callable = c.requires; visited = at_leaf _ (tree c.args.n.now) holds_none }
 
 pub visit_before-returns-in_default : goal.visit_before-returns-in_default
 visit_before-returns-in_default g t c =

@@ -1,19 +1,22 @@
 -- Each answer puts the visits of the calls together.
-use Rattle.std.proofs.Common.{rules, arith, ◌∙◌, ap, ◌≡◌, false, length-set, [], take, drop}
+use Rattle.std.proofs.Common.{rules, arith, ◌∙◌, ap, ◌≡◌, true, false, length-set, [], take, drop}
 use Rattle.std.proofs.lemmas.List.{drop_all, take_all}
 use Rattle.regress_tree.proofs.laws.Rows.{row_append-none}
-use Rattle.regress_tree.specs.declared.ir.node.Node.{Node}
+use Rattle.regress_tree.specs.declared.ir.node.Node.{Node, the_lemmas}
 use Rattle.regress_tree.specs.Tree.{tree, no_trees}
+use Rattle.regress_tree.specs.Copies.{is_leaf}
 use Rattle.regress_tree.specs.Visits.{CallsMut, Visited, before_children, without_children, after_children, in_cat, in_alt, in_wrapped, no_more, one_more}
 use Rattle.regress_tree.specs.Climbs.{further}
 use Rattle.regress_tree.proofs.laws.Nodes.{tree-Cat, tree-Alt, tree-CaptureGroup, tree-Loop, tree-Loop1CharBody, tree-LookaroundAssertion}
 use Rattle.regress_tree.proofs.laws.Levels.{out-Cat, out-Alt, out-CaptureGroup, out-Loop, out-Loop1CharBody, out-LookaroundAssertion, alt_of}
-use Rattle.regress_tree.proofs.VisitLemmas.{at_WordBoundary, further_next, nodes_down, levels_down, before_down, after_down, call_adds, next_is, nodes_next, unvisited_next, visited_next}
+use Rattle.regress_tree.proofs.VisitLemmas.{at_leaf, further_next, nodes_down, levels_down, before_down, after_down, call_adds, next_is, nodes_next, unvisited_next, visited_next}
 use Rattle.regress_tree.proofs.ir.visit_mut.+visit_mut.Goals.{visit_before-else-loop-here-test, visit_before-then-loop-here-test+then-not-shift, visit_after-then-loop-levels-test+else-shift, visit_after-else-loop-levels-test}
 use Rattle.regress_tree.proofs.ir.visit_mut.+visit_mut.Goals as goal
 
-pub visit_inside-returns-10-clause-visited : goal.visit_inside-returns-10-clause-visited
-visit_inside-returns-10-clause-visited g t c = search (rules, at_WordBoundary)
+pub visit_inside-returns-in_default : goal.visit_inside-returns-in_default
+visit_inside-returns-in_default g t c =
+    let holds_none : is_leaf (tree c.args.n.now) ≡ true = first_of (search (rules, the_lemmas), grind (arith, the_lemmas)) in
+    record { callable = c.requires.callable; visited = at_leaf _ (tree c.args.n.now) holds_none }
 
 pub visit_inside-returns-in-Cat-clause-visited : goal.visit_inside-returns-in-Cat-clause-visited
 visit_inside-returns-in-Cat-clause-visited g t c =

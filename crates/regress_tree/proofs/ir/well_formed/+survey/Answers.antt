@@ -1,14 +1,14 @@
 -- Each answer is a lemma on plain trees, at the values of the call.
 use Rattle.std.proofs.Common.{◌≡◌, ◌<◌, true, false, length, inl, inr, rules, arith, sym, ap, subst, ◌∙◌}
 use Rattle.std.specs.Prelude.{option_map, string_bytes}
-use Rattle.std.proofs.lemmas.Bool.{false≢true}
+use Rattle.std.proofs.lemmas.Bool.{false≢true, not-true}
 use Rattle.regress_tree.specs.Tree.{tree, wrapped, capture_group, loop, lookaround}
 use Rattle.regress_tree.proofs.laws.Nodes.{tree-CaptureGroup, tree-Loop, tree-LookaroundAssertion}
 use Rattle.regress_tree.proofs.laws.Levels.{alt_of}
 use Rattle.regress_tree.specs.declared.ir.node.Node.{the_lemmas}
 use Rattle.regress_tree.specs.WellFormed.{inside}
 use Rattle.regress_tree.specs.Survey.{fill, PassesAt, FailsAt}
-use Rattle.regress_tree.proofs.PassLemmas.{SpineSurveyed, spine-start, spine-next, spine-last, spine-fail, spine-fail-last, parts-next, parts-fail, group-pass, loop-pass, loop-fail, look-pass, look-fail, not-true}
+use Rattle.regress_tree.proofs.PassLemmas.{SpineSurveyed, spine-start, spine-next, spine-last, spine-fail, spine-fail-last, parts-next, parts-fail, group-pass, loop-pass, loop-fail, look-pass, look-fail}
 use Rattle.regress_tree.proofs.ir.well_formed.+survey.Goals as goal
 use Rattle.regress_tree.proofs.ir.well_formed.+survey.Goals.{survey_other-else-is_quantifier-via-then-is_quantifier+else-are, survey_other-else-is_quantifier-via-else-is_quantifier}
 
@@ -78,7 +78,7 @@ survey_other-returns-in_ok-survey-in-CaptureGroup t c =
     ap tree at.is ∙ tree-CaptureGroup at.id at.contents at.name
     ∙ ap (λ n. wrapped (capture_group at.id name) (tree n)) (sym c.deref-in-CaptureGroup.ensures) in
     let named = c.is_name.ensures.0 (search rules) in
-    let fresh = not-true c.insert.result _ c.insert.ensures.new (search rules) in
+    let fresh = not-true _ (sym c.insert.ensures.new ∙ search rules) in
     subst (λ x. PassesAt inside x c.args.ids.now c.survey.new.ids c.with.result) (sym is)
     (rw c.with.ensures
     (group-pass at.id name (tree body) c.args.ids.now c.insert.new.self c.survey.new.ids groups named (omega arith) fresh

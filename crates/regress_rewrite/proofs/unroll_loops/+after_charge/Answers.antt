@@ -3,10 +3,10 @@ use Rattle.std.proofs.lemmas.List.{drop_more}
 use Rattle.regress_tree.specs.Tree.{tree, trees}
 use Rattle.regress_rewrite.specs.Unroll.{after_charge_row}
 use Rattle.regress_rewrite.proofs.ChargeLemmas.{after_charge-more}
-use Rattle.regress_rewrite.proofs.unroll_loops.+charge.Goals as goal
+use Rattle.regress_rewrite.proofs.unroll_loops.+after_charge.Goals as goal
 
-pub charge_parts-loop-part-preserved : goal.charge_parts-loop-part-preserved
-charge_parts-loop-part-preserved t c =
+pub after_charge_row-loop-part-preserved : goal.after_charge_row-loop-part-preserved
+after_charge_row-loop-part-preserved t c =
     let l = c.loop-part in
     let parts = c.args.parts.now in
     let behind = drop (l.part-index + 1) parts in

@@ -1,0 +1,71 @@
+-- What is asked of the body of a loop over one character, and of no other part.
+use Rattle.std.proofs.Common.{◌≡◌, ℕ, true, [], ◌∷◌, refl}
+use Rattle.std.proofs.lemmas.Bool.{false≢true, not-true}
+use Rattle.regress_tree.specs.NodeTests.{leaf_matches_exactly_one_char, matches_exactly_one_char}
+use Rattle.regress_tree.specs.Tree.{Leaf, empty, goal, char, byte_sequence, byte_set, char_set, match_any, match_any_except_line_terminator, anchor, word_boundary, bracket, back_ref, string_set, Tree, leaf, cat, alt, wrapped}
+use Rattle.regress_tree.specs.WellFormed.{captures, Position, one_character, inside, last, root, last_of, NotAsOneCharacter, AsOneCharacter, LeafMayStand, MayStand}
+use Rattle.regress_tree.proofs.laws.Accepting.{accepts_some}
+
+-- nothing is asked elsewhere,
+pub AsOneCharacter-free : (p : Position) (P : Type 0) → NotAsOneCharacter p → AsOneCharacter p P
+AsOneCharacter-free one_character P free = absurd free
+AsOneCharacter-free inside P free = tt
+AsOneCharacter-free last P free = tt
+AsOneCharacter-free root P free = tt
+
+-- what holds may be asked anywhere,
+pub AsOneCharacter-from : (p : Position) (P : Type 0) → P → AsOneCharacter p P
+AsOneCharacter-from one_character P holds = holds
+AsOneCharacter-from inside P holds = tt
+AsOneCharacter-from last P holds = tt
+AsOneCharacter-from root P holds = tt
+
+-- and what follows from P may be asked in its place
+pub AsOneCharacter-map : (p : Position) (P Q : Type 0) → (P → Q) → AsOneCharacter p P → AsOneCharacter p Q
+AsOneCharacter-map one_character P Q f holds = f holds
+AsOneCharacter-map inside P Q f holds = holds
+AsOneCharacter-map last P Q f holds = holds
+AsOneCharacter-map root P Q f holds = holds
+
+-- a part of a `Cat` is no such body
+pub last_of-free : (p : Position) → NotAsOneCharacter (last_of p)
+last_of-free one_character = tt
+last_of-free inside = tt
+last_of-free last = tt
+last_of-free root = tt
+
+-- What matches exactly one character may be one wherever it stands, whatever the number of capture groups.
+
+leaf-one_character : (n k : ℕ) (l : Leaf) (p : Position) → leaf_matches_exactly_one_char l ≡ true → LeafMayStand n l p →
+    LeafMayStand k l one_character
+leaf-one_character n k empty p one m = absurd (false≢true one)
+leaf-one_character n k goal p one m = absurd (false≢true one)
+leaf-one_character n k (char c) p one m = m
+leaf-one_character n k (byte_sequence bytes) p one m = absurd (false≢true one)
+leaf-one_character n k (byte_set bytes) p one m = absurd (false≢true one)
+leaf-one_character n k (char_set []) p one m = absurd (false≢true one)
+leaf-one_character n k (char_set (c ∷ cs)) p one m = record { bounded = m.bounded; small = m.small; some = λ none. cc }
+leaf-one_character n k match_any p one m = m
+leaf-one_character n k match_any_except_line_terminator p one m = m
+leaf-one_character n k (anchor kind multiline) p one m = absurd (false≢true one)
+leaf-one_character n k (word_boundary invert unicode_icase) p one m = absurd (false≢true one)
+leaf-one_character n k (bracket invert intervals) p one m = record {
+  canonical = m.canonical;
+  some = accepts_some invert intervals m.canonical (not-true _ one);
+}
+leaf-one_character n k (back_ref group icase) p one m = absurd (false≢true one)
+leaf-one_character n k (string_set strings icase) p one m = absurd (false≢true one)
+
+pub MayStand-one_character : (n k : ℕ) (t : Tree) (p : Position) → matches_exactly_one_char t ≡ true → MayStand n t p →
+    MayStand k t one_character
+MayStand-one_character n k (leaf l) p one m = leaf-one_character n k l p one m
+MayStand-one_character n k (cat parts) p one m = absurd (false≢true one)
+MayStand-one_character n k (alt left right) p one m = absurd (false≢true one)
+MayStand-one_character n k (wrapped w body) p one m = absurd (false≢true one)
+
+-- such a body has no group
+pub captures-one_character : (n : ℕ) (t : Tree) → MayStand n t one_character → captures t ≡ []
+captures-one_character n (leaf l) m = refl
+captures-one_character n (cat parts) m = absurd m.0
+captures-one_character n (alt left right) m = absurd m.0
+captures-one_character n (wrapped w body) m = absurd m.0
