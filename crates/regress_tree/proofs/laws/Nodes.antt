@@ -1,15 +1,12 @@
 -- The tree of a node, kind by kind.
-use Rattle.std.specs.Prelude.{◌≡◌, ℕ, Bool, map, Option, option_map, string_bytes, String}
-use Rattle.std.specs.Box.{boxed_slice_items}
-use Rattle.std.specs.declared.boxed.BoxedSlice.{BoxedSlice}
+use Rattle.std.specs.Prelude.{◌≡◌, ℕ, Bool, Option, option_map, string_bytes, String}
 use Rattle.std.proofs.Common.{Vec, Box, Global, sym, ap, ◌∙◌}
 use Rattle.regress_tree.specs.declared.ir.node.Node.{Node, Node-F, fold-roll-Node}
-use Rattle.regress_tree.specs.declared.ir.node.Node.TheVariants.{Empty, Goal, Char, ByteSequence, ByteSet, CharSet, Cat, Alt, MatchAny, MatchAnyExceptLineTerminator, Anchor, WordBoundary, CaptureGroup, Bracket, Loop, Loop1CharBody, LookaroundAssertion, BackRef, StringSet, rolls-Empty, rolls-Goal, rolls-Char, rolls-ByteSequence, rolls-ByteSet, rolls-CharSet, rolls-Cat, rolls-Alt, rolls-MatchAny, rolls-MatchAnyExceptLineTerminator, rolls-Anchor, rolls-WordBoundary, rolls-CaptureGroup, rolls-Bracket, rolls-Loop, rolls-Loop1CharBody, rolls-LookaroundAssertion, rolls-BackRef, rolls-StringSet}
-use Rattle.regress_base.specs.declared.types.AnchorType.{AnchorType}
+use Rattle.regress_tree.specs.declared.ir.node.Node.TheVariants.{Empty, Goal, Char, ByteSequence, ByteSet, CharSet, Cat, Alt, CaptureGroup, Bracket, Loop, Loop1CharBody, LookaroundAssertion, BackRef, rolls-Empty, rolls-Goal, rolls-Char, rolls-ByteSequence, rolls-ByteSet, rolls-CharSet, rolls-Cat, rolls-Alt, rolls-CaptureGroup, rolls-Bracket, rolls-Loop, rolls-Loop1CharBody, rolls-LookaroundAssertion, rolls-BackRef}
 use Rattle.regress_base.specs.declared.types.Quantifier.{Quantifier}
 use Rattle.regress_base.specs.declared.types.bracket.BracketContents.{BracketContents}
 use Rattle.std.specs.declared.ops.Range.{Range}
-use Rattle.regress_tree.specs.Tree.{Tree, tree, trees, tree_of_level, leaf, empty, goal, char, byte_sequence, byte_set, char_set, cat, alt, match_any, match_any_except_line_terminator, anchor, word_boundary, bracket, back_ref, string_set, wrapped, capture_group, loop, loop_one, lookaround}
+use Rattle.regress_tree.specs.Tree.{Tree, tree, trees, tree_of_level, leaf, empty, goal, char, byte_sequence, byte_set, char_set, cat, alt, bracket, back_ref, wrapped, capture_group, loop, loop_one, lookaround}
 
 pub tree-Empty : tree Empty ≡ leaf empty
 tree-Empty = ap tree (sym rolls-Empty) ∙ fold-roll-Node Tree tree_of_level Node-F.Empty
@@ -36,24 +33,10 @@ tree-Cat parts = ap tree (sym (rolls-Cat parts)) ∙ fold-roll-Node Tree tree_of
 pub tree-Alt : (left right : Box Node Global) → tree (Alt left right) ≡ alt (tree left.value) (tree right.value)
 tree-Alt left right = ap tree (sym (rolls-Alt left right)) ∙ fold-roll-Node Tree tree_of_level (Node-F.Alt left right)
 
-pub tree-MatchAny : tree MatchAny ≡ leaf match_any
-tree-MatchAny = ap tree (sym rolls-MatchAny) ∙ fold-roll-Node Tree tree_of_level Node-F.MatchAny
-
-pub tree-MatchAnyExceptLineTerminator : tree MatchAnyExceptLineTerminator ≡ leaf match_any_except_line_terminator
-tree-MatchAnyExceptLineTerminator =
-    ap tree (sym rolls-MatchAnyExceptLineTerminator) ∙ fold-roll-Node Tree tree_of_level Node-F.MatchAnyExceptLineTerminator
-
 pub tree-CaptureGroup : (id : ℕ) (contents : Box Node Global) (name : Option (String Global)) →
     tree (CaptureGroup id contents name) ≡ wrapped (capture_group id (option_map string_bytes name)) (tree contents.value)
 tree-CaptureGroup id contents name =
     ap tree (sym (rolls-CaptureGroup id contents name)) ∙ fold-roll-Node Tree tree_of_level (Node-F.CaptureGroup id contents name)
-
-pub tree-Anchor : (kind : AnchorType) (multiline : Bool) → tree (Anchor kind multiline) ≡ leaf (anchor kind multiline)
-tree-Anchor kind multiline = ap tree (sym (rolls-Anchor kind multiline)) ∙ fold-roll-Node Tree tree_of_level (Node-F.Anchor kind multiline)
-
-pub tree-WordBoundary : (invert unicode_icase : Bool) → tree (WordBoundary invert unicode_icase) ≡ leaf (word_boundary invert unicode_icase)
-tree-WordBoundary invert unicode_icase =
-    ap tree (sym (rolls-WordBoundary invert unicode_icase)) ∙ fold-roll-Node Tree tree_of_level (Node-F.WordBoundary invert unicode_icase)
 
 pub tree-Bracket : (contents : BracketContents) → tree (Bracket contents) ≡ leaf (bracket contents.invert contents.cps)
 tree-Bracket contents = ap tree (sym (rolls-Bracket contents)) ∙ fold-roll-Node Tree tree_of_level (Node-F.Bracket contents)
@@ -76,8 +59,3 @@ tree-LookaroundAssertion negate backwards start end contents =
 
 pub tree-BackRef : (group : ℕ) (icase : Bool) → tree (BackRef group icase) ≡ leaf (back_ref group icase)
 tree-BackRef group icase = ap tree (sym (rolls-BackRef group icase)) ∙ fold-roll-Node Tree tree_of_level (Node-F.BackRef group icase)
-
-pub tree-StringSet : (alternatives : Vec (BoxedSlice ℕ Global) Global) (icase : Bool) →
-    tree (StringSet alternatives icase) ≡ leaf (string_set (map boxed_slice_items alternatives.items) icase)
-tree-StringSet alternatives icase =
-    ap tree (sym (rolls-StringSet alternatives icase)) ∙ fold-roll-Node Tree tree_of_level (Node-F.StringSet alternatives icase)

@@ -1,7 +1,8 @@
 -- One behind the other.
-use Rattle.std.proofs.Common.{sym, ap, ◌∙◌}
+use Rattle.std.proofs.Common.{ap, rules, ◌∙◌}
 use Rattle.regress_tree.specs.NodeTests.{is_empty}
 use Rattle.regress_tree.specs.Shapes.{some_in_row}
+use Rattle.regress_tree.specs.Tree.{trees}
 use Rattle.regress_normalize.proofs.CatLemmas.{left_out_packs, without_none}
 use Rattle.regress_normalize.proofs.PackedLemmas.{Packs-trans}
 use Rattle.regress_normalize.proofs.cat.close_in_text_order.Goals as goal
@@ -15,6 +16,7 @@ returns-clause-packs c d = Packs-trans d _ _ _ (left_out_packs d _ _ c.leave_out
 
 pub returns-clause-packed : goal.returns-clause-packed
 returns-clause-packed c = record {
-  no_empty = c.join_neighbours.ensures.empties ∙ ap (some_in_row is_empty) c.leave_out_empties.ensures ∙ without_none _;
-  no_neighbours = sym c.have_neighbours_bytes.ensures ∙ c.if-have_neighbours_bytes.false;
+  no_empty = c.join_neighbours.ensures.empties ∙ ap (some_in_row is_empty) c.leave_out_empties.ensures
+      ∙ without_none (trees c.args.parts.now.items);
+  no_neighbours = search rules;
 }
