@@ -3,12 +3,13 @@ use Rattle.std.proofs.Common.{◌≡◌, ℕ, zero, suc, ◌+◌, ◌<◌, ◌�
 use Rattle.std.proofs.lemmas.Bool.{cond-true, cond-false}
 use Rattle.std.proofs.lemmas.Option.{none-some}
 use Rattle.regress_base.specs.Table.{Table}
-use Rattle.regress_lexical.specs.Source.{Source, Found, ◌>>=◌, is_at}
+use Rattle.regress_lexical.specs.Source.{Source, Found, ◌>>=◌, found_map, is_at}
 use Rattle.regress_classes.specs.ClassRows.{one_point}
-use Rattle.regress_classes.specs.ClassSets.{Value, only, joined, unless_of_strings, Operand, value_of, set_character_at, operand_at, part_behind, parts_by, parts_at, are_at, operands_by, operands_at, contents_behind, contents_at, class_set_by}
+use Rattle.regress_classes.specs.ClassSets.{Value, only, joined, from_left, common, without, unless_of_strings, Operand, value_of, set_character_at, operand_at, part_behind, parts_by, are_at, operands_by, contents_behind, contents_at, class_set_by}
+use Rattle.regress_classes.specs.ClassViews.{parts_onto, operands_onto}
 use Rattle.regress_lexical.proofs.laws.Sources.{found_then, then_same, cond_same}
 use Rattle.regress_lexical.proofs.laws.Behind.{behind_shorter, Ends}
-use Rattle.regress_classes.proofs.laws.ClassSets.{operand_at-shortens, part_behind-ends}
+use Rattle.regress_classes.proofs.laws.ClassSets.{operand_at-shortens, part_behind-ends, parts_joined, operands_joined}
 
 module _ (table : Table) (unicode : Bool) (inner : Source → Found (Bool × Value)) (inner_ends : (t : Source) → Ends (inner t) t) (in_negated : Bool) where
   -- ---- no bound
@@ -33,67 +34,70 @@ module _ (table : Table) (unicode : Bool) (inner : Source → Found (Bool × Val
         behind_shorter first.0.1 x.1 ((part_behind-ends table unicode inner inner_ends in_negated first.0).each x first.2),
       )
 
-  parts_by-same : (n m : ℕ) (value : Value) (t : Source) → length t < n → length t < m →
-      parts_by table unicode inner in_negated n value t ≡ parts_by table unicode inner in_negated m value t
+  parts_by-same : (n m : ℕ) (t : Source) → length t < n → length t < m →
+      parts_by table unicode inner in_negated n t ≡ parts_by table unicode inner in_negated m t
   unfolding parts_by
-  parts_by-same zero m value t h k = absurd (omega arith)
-  parts_by-same (suc n) zero value t h k = absurd (omega arith)
-  parts_by-same (suc n) (suc m) value t h k =
+  parts_by-same zero m t h k = absurd (omega arith)
+  parts_by-same (suc n) zero t h k = absurd (omega arith)
+  parts_by-same (suc n) (suc m) t h k =
       cond_same (is_at 93 t) _ _ _ _ (λ closes. refl)
       (λ goes_on. then_same (operand_at table unicode inner in_negated t >>= part_behind table unicode inner in_negated) _ _
-      (λ x found. let shorter = part_shortens t x found in parts_by-same n m (joined value x.0) x.1 (omega arith) (omega arith)))
+      (λ x found.
+      let shorter = part_shortens t x found in
+      ap (found_map (λ parts. x.0 ∷ parts)) (parts_by-same n m x.1 (omega arith) (omega arith))))
 
   pub parts_closed : (value : Value) (t : Source) → is_at 93 t ≡ true →
-      parts_at table unicode inner in_negated value t ≡ Some (value, drop 1 t)
-  unfolding parts_by
+      parts_onto table unicode inner in_negated value t ≡ Some (value, drop 1 t)
   parts_closed value t closes =
-      ap (λ n. parts_by table unicode inner in_negated n value t) (add-one (length t)) ∙ cond-true _ _ _ closes
+      ap (λ n. found_map (from_left joined value) (parts_by table unicode inner in_negated n t)) (add-one (length t))
+      ∙ parts_joined table unicode inner in_negated (length t) value t ∙ cond-true _ _ _ closes
 
   pub parts_go_on : (value : Value) (t : Source) → is_at 93 t ≡ false →
-      parts_at table unicode inner in_negated value t
+      parts_onto table unicode inner in_negated value t
       ≡ operand_at table unicode inner in_negated t >>= part_behind table unicode inner in_negated
-      >>= λ (x : Value × Source). parts_at table unicode inner in_negated (joined value x.0) x.1
-  unfolding parts_by
+      >>= λ (x : Value × Source). parts_onto table unicode inner in_negated (joined value x.0) x.1
   parts_go_on value t goes_on =
-      ap (λ n. parts_by table unicode inner in_negated n value t) (add-one (length t)) ∙ cond-false _ _ _ goes_on
+      ap (λ n. found_map (from_left joined value) (parts_by table unicode inner in_negated n t)) (add-one (length t))
+      ∙ parts_joined table unicode inner in_negated (length t) value t ∙ cond-false _ _ _ goes_on
       ∙ then_same (operand_at table unicode inner in_negated t >>= part_behind table unicode inner in_negated) _ _
       (λ x found. let shorter = part_shortens t x found in
-      parts_by-same (length t) (length x.1 + 1) (joined value x.0) x.1 shorter (omega arith))
+      ap (found_map (from_left joined (joined value x.0))) (parts_by-same (length t) (length x.1 + 1) x.1 shorter (omega arith)))
 
   both_shorten : (c : ℕ) (t : Source) → are_at c t ≡ true → length (drop 2 t) ≤ length t
   both_shorten c t e = omega (arith, length-drop 2 t)
 
-  operands_by-same : (n m c : ℕ) (f : Value → Value → Value) (value : Value) (t : Source) → length t < n → length t < m →
-      operands_by table unicode inner in_negated n c f value t ≡ operands_by table unicode inner in_negated m c f value t
+  operands_by-same : (n m c : ℕ) (t : Source) → length t < n → length t < m →
+      operands_by table unicode inner in_negated n c t ≡ operands_by table unicode inner in_negated m c t
   unfolding operands_by
-  operands_by-same zero m c f value t h k = absurd (omega arith)
-  operands_by-same (suc n) zero c f value t h k = absurd (omega arith)
-  operands_by-same (suc n) (suc m) c f value t h k =
+  operands_by-same zero m c t h k = absurd (omega arith)
+  operands_by-same (suc n) zero c t h k = absurd (omega arith)
+  operands_by-same (suc n) (suc m) c t h k =
       then_same (operand_at table unicode inner in_negated t) _ _
       (λ x found.
       let shorter = operand_shortens t x found in
       cond_same (is_at 93 x.1) _ _ _ _ (λ closes. refl)
       (λ goes_on. cond_same (are_at c x.1) _ _ _ _
       (λ more. let rest = both_shorten c x.1 more in
-      operands_by-same n m c f (f value (value_of x.0)) (drop 2 x.1) (omega arith) (omega arith))
+      ap (found_map (λ others. value_of x.0 ∷ others)) (operands_by-same n m c (drop 2 x.1) (omega arith) (omega arith)))
       (λ none. refl)))
 
   -- one operand, and what stands behind it
   pub operands_go_on : (c : ℕ) (f : Value → Value → Value) (value : Value) (t : Source) →
-      operands_at table unicode inner in_negated c f value t
+      operands_onto table unicode inner in_negated c f value t
       ≡ operand_at table unicode inner in_negated t >>= λ (x : Operand × Source).
       cond (is_at 93 x.1) (Some (f value (value_of x.0), drop 1 x.1))
-      (cond (are_at c x.1) (operands_at table unicode inner in_negated c f (f value (value_of x.0)) (drop 2 x.1)) None)
-  unfolding operands_by
+      (cond (are_at c x.1) (operands_onto table unicode inner in_negated c f (f value (value_of x.0)) (drop 2 x.1)) None)
   operands_go_on c f value t =
-      ap (λ n. operands_by table unicode inner in_negated n c f value t) (add-one (length t))
+      ap (λ n. found_map (from_left f value) (operands_by table unicode inner in_negated n c t)) (add-one (length t))
+      ∙ operands_joined table unicode inner in_negated (length t) c f value t
       ∙ then_same (operand_at table unicode inner in_negated t) _ _
       (λ x found.
       let shorter = operand_shortens t x found in
       cond_same (is_at 93 x.1) _ _ _ _ (λ closes. refl)
       (λ goes_on. cond_same (are_at c x.1) _ _ _ _
       (λ more. let rest = both_shorten c x.1 more in
-      operands_by-same (length t) (length (drop 2 x.1) + 1) c f (f value (value_of x.0)) (drop 2 x.1) (omega arith) (omega arith))
+      ap (found_map (from_left f (f value (value_of x.0))))
+      (operands_by-same (length t) (length (drop 2 x.1) + 1) c (drop 2 x.1) (omega arith) (omega arith)))
       (λ none. refl)))
 
   -- ---- rows of contents
@@ -103,29 +107,41 @@ module _ (table : Table) (unicode : Bool) (inner : Source → Found (Bool × Val
       ap (contents_at table unicode inner in_negated) e
       ∙ ap (λ (first : Found Operand). first >>= contents_behind table unicode inner in_negated) (no_operand [] refl)
 
+  -- operands joined by `&&`, behind the first one, or by `--`
+  pub intersection_read : (first : Operand) (t mid : Source) → are_at 38 t ≡ true → mid ≡ drop 2 t →
+      contents_behind table unicode inner in_negated (first, t) ≡ operands_onto table unicode inner in_negated 38 common (value_of first) mid
+  intersection_read first t mid both moved =
+      cond-true _ _ _ both ∙ ap (operands_onto table unicode inner in_negated 38 common (value_of first)) (sym moved)
+
+  pub subtraction_read : (first : Operand) (t mid : Source) → are_at 38 t ≡ false → are_at 45 t ≡ true → mid ≡ drop 2 t →
+      contents_behind table unicode inner in_negated (first, t) ≡ operands_onto table unicode inner in_negated 45 without (value_of first) mid
+  subtraction_read first t mid no_intersection both moved =
+      cond-false _ _ _ no_intersection ∙ cond-true _ _ _ both
+      ∙ ap (operands_onto table unicode inner in_negated 45 without (value_of first)) (sym moved)
+
   -- a single `&` behind the first operand
   pub ampersand_read : (first : Operand) (t mid : Source) → are_at 38 t ≡ false → are_at 45 t ≡ false → is_at 38 t ≡ true → mid ≡ drop 1 t →
       contents_behind table unicode inner in_negated (first, t)
-      ≡ parts_at table unicode inner in_negated (joined (value_of first) (only (one_point 38))) mid
+      ≡ parts_onto table unicode inner in_negated (joined (value_of first) (only (one_point 38))) mid
   ampersand_read first t mid no_intersection no_subtraction single moved =
       cond-false _ _ _ no_intersection ∙ cond-false _ _ _ no_subtraction ∙ cond-true _ _ _ single
-      ∙ ap (parts_at table unicode inner in_negated (joined (value_of first) (only (one_point 38)))) (sym moved)
+      ∙ ap (parts_onto table unicode inner in_negated (joined (value_of first) (only (one_point 38)))) (sym moved)
 
   -- a first part, and those behind it
   pub first_part_read : (first : Operand) (t mid : Source) (part : Value × Source) → are_at 38 t ≡ false → are_at 45 t ≡ false → is_at 38 t ≡ false →
       mid ≡ t → part_behind table unicode inner in_negated (first, mid) ≡ Some part →
-      contents_behind table unicode inner in_negated (first, t) ≡ parts_at table unicode inner in_negated part.0 part.1
+      contents_behind table unicode inner in_negated (first, t) ≡ parts_onto table unicode inner in_negated part.0 part.1
   first_part_read first t mid part no_intersection no_subtraction no_ampersand same found =
       cond-false _ _ _ no_intersection ∙ cond-false _ _ _ no_subtraction ∙ cond-false _ _ _ no_ampersand
-      ∙ ap (λ (x : Found Value). x >>= λ (y : Value × Source). parts_at table unicode inner in_negated y.0 y.1)
+      ∙ ap (λ (x : Found Value). x >>= λ (y : Value × Source). parts_onto table unicode inner in_negated y.0 y.1)
       (ap (λ (u : Source). part_behind table unicode inner in_negated (first, u)) (sym same) ∙ found)
 
   pub no_first : (value : Value) (t : Source) → is_at 93 t ≡ false → operand_at table unicode inner in_negated t ≡ None →
-      parts_at table unicode inner in_negated value t ≡ None
+      parts_onto table unicode inner in_negated value t ≡ None
   no_first value t goes_on none =
       parts_go_on value t goes_on
       ∙ ap (λ (first : Found Operand). first >>= part_behind table unicode inner in_negated
-      >>= λ (x : Value × Source). parts_at table unicode inner in_negated (joined value x.0) x.1) none
+      >>= λ (x : Value × Source). parts_onto table unicode inner in_negated (joined value x.0) x.1) none
 
   part_read : (t : Source) (first : Operand × Source) (part : Found Value) → operand_at table unicode inner in_negated t ≡ Some first →
       part_behind table unicode inner in_negated first ≡ part →
@@ -134,18 +150,18 @@ module _ (table : Table) (unicode : Bool) (inner : Source → Found (Bool × Val
 
   pub no_part : (value : Value) (t : Source) (first : Operand × Source) → is_at 93 t ≡ false →
       operand_at table unicode inner in_negated t ≡ Some first → part_behind table unicode inner in_negated first ≡ None →
-      parts_at table unicode inner in_negated value t ≡ None
+      parts_onto table unicode inner in_negated value t ≡ None
   no_part value t first goes_on found none =
       parts_go_on value t goes_on
-      ∙ ap (λ (part : Found Value). part >>= λ (x : Value × Source). parts_at table unicode inner in_negated (joined value x.0) x.1)
+      ∙ ap (λ (part : Found Value). part >>= λ (x : Value × Source). parts_onto table unicode inner in_negated (joined value x.0) x.1)
       (part_read t first None found none)
 
   pub one_part : (value : Value) (t : Source) (first : Operand × Source) (part : Value × Source) → is_at 93 t ≡ false →
       operand_at table unicode inner in_negated t ≡ Some first → part_behind table unicode inner in_negated first ≡ Some part →
-      parts_at table unicode inner in_negated value t ≡ parts_at table unicode inner in_negated (joined value part.0) part.1
+      parts_onto table unicode inner in_negated value t ≡ parts_onto table unicode inner in_negated (joined value part.0) part.1
   one_part value t first part goes_on found e =
       parts_go_on value t goes_on
-      ∙ ap (λ (part : Found Value). part >>= λ (x : Value × Source). parts_at table unicode inner in_negated (joined value x.0) x.1)
+      ∙ ap (λ (part : Found Value). part >>= λ (x : Value × Source). parts_onto table unicode inner in_negated (joined value x.0) x.1)
       (part_read t first (Some part) found e)
 
   pub parts_end : (t : Source) (first : Operand × Source) (part : Value × Source) → operand_at table unicode inner in_negated t ≡ Some first →
@@ -157,17 +173,17 @@ module _ (table : Table) (unicode : Bool) (inner : Source → Found (Bool × Val
   behind_operand : (c : ℕ) (f : Value → Value → Value) (value : Value) → Operand × Source → Found Value
   behind_operand c f value x =
       cond (is_at 93 x.1) (Some (f value (value_of x.0), drop 1 x.1))
-      (cond (are_at c x.1) (operands_at table unicode inner in_negated c f (f value (value_of x.0)) (drop 2 x.1)) None)
+      (cond (are_at c x.1) (operands_onto table unicode inner in_negated c f (f value (value_of x.0)) (drop 2 x.1)) None)
 
   pub no_last : (c : ℕ) (f : Value → Value → Value) (value : Value) (t : Source) → operand_at table unicode inner in_negated t ≡ None →
-      operands_at table unicode inner in_negated c f value t ≡ None
+      operands_onto table unicode inner in_negated c f value t ≡ None
   unfolding behind_operand
   no_last c f value t none =
       operands_go_on c f value t ∙ ap (λ (x : Found Operand). x >>= behind_operand c f value) none
 
   pub last_read : (c : ℕ) (f : Value → Value → Value) (value : Value) (t : Source) (x : Operand × Source) (rest : Source) →
       operand_at table unicode inner in_negated t ≡ Some x → is_at 93 x.1 ≡ true → rest ≡ drop 1 x.1 →
-      operands_at table unicode inner in_negated c f value t ≡ Some (f value (value_of x.0), rest)
+      operands_onto table unicode inner in_negated c f value t ≡ Some (f value (value_of x.0), rest)
   unfolding behind_operand
   last_read c f value t x rest found closes moved =
       operands_go_on c f value t ∙ ap (λ (y : Found Operand). y >>= behind_operand c f value) found ∙ cond-true _ _ _ closes
@@ -175,15 +191,15 @@ module _ (table : Table) (unicode : Bool) (inner : Source → Found (Bool × Val
 
   pub more_read : (c : ℕ) (f : Value → Value → Value) (value : Value) (t : Source) (x : Operand × Source) (rest : Source) →
       operand_at table unicode inner in_negated t ≡ Some x → is_at 93 x.1 ≡ false → are_at c x.1 ≡ true → rest ≡ drop 2 x.1 →
-      operands_at table unicode inner in_negated c f value t ≡ operands_at table unicode inner in_negated c f (f value (value_of x.0)) rest
+      operands_onto table unicode inner in_negated c f value t ≡ operands_onto table unicode inner in_negated c f (f value (value_of x.0)) rest
   unfolding behind_operand
   more_read c f value t x rest found goes_on more moved =
       operands_go_on c f value t ∙ ap (λ (y : Found Operand). y >>= behind_operand c f value) found ∙ cond-false _ _ _ goes_on
-      ∙ cond-true _ _ _ more ∙ ap (operands_at table unicode inner in_negated c f (f value (value_of x.0))) (sym moved)
+      ∙ cond-true _ _ _ more ∙ ap (operands_onto table unicode inner in_negated c f (f value (value_of x.0))) (sym moved)
 
   pub none_read : (c : ℕ) (f : Value → Value → Value) (value : Value) (t : Source) (x : Operand × Source) →
       operand_at table unicode inner in_negated t ≡ Some x → is_at 93 x.1 ≡ false → are_at c x.1 ≡ false →
-      operands_at table unicode inner in_negated c f value t ≡ None
+      operands_onto table unicode inner in_negated c f value t ≡ None
   unfolding behind_operand
   none_read c f value t x found goes_on none =
       operands_go_on c f value t ∙ ap (λ (y : Found Operand). y >>= behind_operand c f value) found ∙ cond-false _ _ _ goes_on

@@ -40,6 +40,11 @@ joined a b = record {
   levels = max a.levels b.levels;
 }
 
+-- what a first one comes to with each of the others, from the left on
+abbrev pub from_left : (Value → Value → Value) → Value → List Value → Value
+from_left f first [] = first
+from_left f first (next ∷ rest) = from_left f (f first next) rest
+
 abbrev pub is_among : List (List ℕ) → List ℕ → Bool
 is_among strings s = list_any (λ other. bytes_eq other s) strings
 
@@ -195,30 +200,29 @@ module _ (table : Table) (unicode : Bool) where
     abbrev pub part_behind : Operand × Source → Found Value
     part_behind (first, t) = if is_at (char "-") t then range_at first (drop 1 t) else Some (value_of first, t)
 
-    -- The parts up to `]`, behind what is held already. The number bounds how many.
-    unfoldable pub parts_by : ℕ → Value → Source → Found Value
-    parts_by zero value t = None
-    parts_by (suc n) value t =
-        if is_at (char "]") t then Some (value, drop 1 t)
-        else operand_at t >>= part_behind >>= λ (part, rest). parts_by n (joined value part) rest
+    -- The parts up to `]`. The number bounds how many.
+    unfoldable pub parts_by : ℕ → Source → Found (List Value)
+    parts_by zero t = None
+    parts_by (suc n) t =
+        if is_at (char "]") t then Some ([], drop 1 t)
+        else operand_at t >>= part_behind >>= λ (part, rest). found_map (λ parts. part ∷ parts) (parts_by n rest)
 
-    abbrev pub parts_at : Value → Source → Found Value
-    parts_at value t = parts_by (length t + 1) value t
+    abbrev pub parts_at : Source → Found (List Value)
+    parts_at t = parts_by (length t + 1) t
 
     -- ---- operators
 
-    -- The operands behind an operator of two code points c, up to `]`, with c c between them, from the left on. The number
-    -- bounds how many.
-    unfoldable pub operands_by : ℕ → (c : ℕ) → (Value → Value → Value) → Value → Source → Found Value
-    operands_by zero c f value t = None
-    operands_by (suc n) c f value t =
+    -- The operands behind an operator of two code points c, up to `]`, with c c between them. The number bounds how many.
+    unfoldable pub operands_by : ℕ → (c : ℕ) → Source → Found (List Value)
+    operands_by zero c t = None
+    operands_by (suc n) c t =
         operand_at t >>= λ (operand, rest).
-        (if is_at (char "]") rest then Some (f value (value_of operand), drop 1 rest)
-        else if are_at c rest then operands_by n c f (f value (value_of operand)) (drop 2 rest)
+        (if is_at (char "]") rest then Some (value_of operand ∷ [], drop 1 rest)
+        else if are_at c rest then found_map (λ others. value_of operand ∷ others) (operands_by n c (drop 2 rest))
         else None)
 
-    abbrev pub operands_at : (c : ℕ) → (Value → Value → Value) → Value → Source → Found Value
-    operands_at c f value t = operands_by (length t + 1) c f value t
+    abbrev pub operands_at : (c : ℕ) → Source → Found (List Value)
+    operands_at c t = operands_by (length t + 1) c t
 
     -- ---- what a class holds: one of five forms
 
@@ -226,13 +230,14 @@ module _ (table : Table) (unicode : Bool) where
     abbrev pub contents_behind : Operand × Source → Found Value
     contents_behind (first, t) =
         -- operands joined by `&&`
-        if are_at (char "&") t then operands_at (char "&") common (value_of first) (drop 2 t)
+        if are_at (char "&") t then found_map (from_left common (value_of first)) (operands_at (char "&") (drop 2 t))
         -- operands joined by `--`
-        else if are_at (char "-") t then operands_at (char "-") without (value_of first) (drop 2 t)
+        else if are_at (char "-") t then found_map (from_left without (value_of first)) (operands_at (char "-") (drop 2 t))
         -- parts, of which the first takes a single `&` along: that is a member too, and begins no range
-        else if is_at (char "&") t then parts_at (joined (value_of first) (only (one_point (char "&")))) (drop 1 t)
+        else if is_at (char "&") t
+        then found_map (λ parts. from_left joined (value_of first) (only (one_point (char "&")) ∷ parts)) (parts_at (drop 1 t))
         -- a first part, then parts, and where it is an operand and none follow, that operand alone
-        else part_behind (first, t) >>= λ (part, rest). parts_at part rest
+        else part_behind (first, t) >>= λ (part, rest). found_map (from_left joined part) (parts_at rest)
 
     -- all of it, up to its `]`: nothing, or what a first operand begins
     abbrev pub contents_at : Source → Found Value

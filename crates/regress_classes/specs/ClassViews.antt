@@ -2,6 +2,7 @@
 use Rattle.std.specs.Prelude.{◌≡◌, ℕ, Vec, Bool, not, ◌&&◌, ◌||◌, max, List, map, filter, Some, None}
 use Rattle.std.specs.declared.alloc.Global.{Global}
 use Rattle.regress_base.specs.Intervals.{Bounds, is_member, IsCanonical}
+use Rattle.regress_base.specs.Table.{Table}
 use Rattle.regress_unicode.specs.TableOf.{table_of}
 use Rattle.regress_classes.specs.declared.class.Class.{Class as CodeClass}
 use Rattle.regress_classes.specs.declared.class_atom.ClassAtom.{ClassAtom as CodeClassAtom}
@@ -20,8 +21,8 @@ use Rattle.regress_classes.specs.declared.class_sets.Operator.{Operator}
 use Rattle.regress_classes.specs.declared.class_sets.Operator.TheVariants as operators
 use Rattle.regress_classes.specs.ClassRows.{ClassAtom, point, set, class_members, complement_if}
 use Rattle.regress_classes.specs.Properties.{Property, of_points, of_strings}
-use Rattle.regress_classes.specs.ClassSets.{Value, joined, is_among, common, without, Operand, character, class, class_set_by}
-use Rattle.regress_lexical.specs.Source.{Source, Found, IsCodePoint, char}
+use Rattle.regress_classes.specs.ClassSets.{Value, joined, from_left, is_among, common, without, Operand, character, class, parts_at, operands_at, class_set_by}
+use Rattle.regress_lexical.specs.Source.{Source, Found, found_map, IsCodePoint, char}
 
 -- an atom of a class
 abbrev pub class_atom_of : CodeClassAtom → ClassAtom
@@ -82,6 +83,15 @@ IsOperand (operands.Class held) operand = (value : Value) × (operand ≡ class 
 -- what reads classes inside of this one, and whether that is negated
 abbrev pub inner_of : Surroundings → Source → Found (Bool × Value)
 inner_of around = class_set_by (table_of around.tables.now) around.unicode around.levels
+
+module _ (table : Table) (unicode : Bool) (inner : Source → Found (Bool × Value)) (in_negated : Bool) where
+  -- the parts that are read, joined to what is held already
+  abbrev pub parts_onto : Value → Source → Found Value
+  parts_onto held t = found_map (from_left joined held) (parts_at table unicode inner in_negated t)
+
+  -- what is held already with the operands that are read behind an operator
+  abbrev pub operands_onto : (c : ℕ) → (Value → Value → Value) → Value → Source → Found Value
+  operands_onto c f held t = found_map (from_left f held) (operands_at table unicode inner in_negated c t)
 
 -- an operator: twice its sign is written, and what it makes of two values
 abbrev pub sign_of : Operator → ℕ

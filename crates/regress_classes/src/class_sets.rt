@@ -1,8 +1,8 @@
 //! Classes with the flag v.
 ghost use Rattle.std.specs.Prelude.{◌≡◌, ◌<◌, ◌+◌, ◌-◌, ◌^◌, Bool, true, false, drop, [], ◌∷◌, if◌then◌else◌, IfOk, OnOk, OnErr};
-ghost use Rattle.regress_classes.specs.ClassSets.{Value as Written, Operand as WrittenOperand, nested, are_at, operand_at, part_behind, parts_at, operands_at, contents_behind, contents_at, class_set_by};
+ghost use Rattle.regress_classes.specs.ClassSets.{Value as Written, Operand as WrittenOperand, nested, are_at, operand_at, part_behind, contents_behind, contents_at, class_set_by};
 ghost use Rattle.regress_lexical.specs.Reads.{ReadsAs};
-ghost use Rattle.regress_classes.specs.ClassViews.{IsValue, IsUnion, Joins, IsOperand, IsClassSetRead, inner_of, sign_of, applied};
+ghost use Rattle.regress_classes.specs.ClassViews.{IsValue, IsUnion, Joins, IsOperand, IsClassSetRead, inner_of, parts_onto, operands_onto, sign_of, applied};
 ghost use Rattle.regress_lexical.specs.Views.{source};
 ghost use Rattle.regress_unicode.specs.TableOf.{table_of};
 
@@ -192,7 +192,7 @@ fn read_parts(
     mut union: Union,
 ) -> Result<Value, ParseFault>
     ensures { (held : Written) → IsUnion union held → ReadsAs IsValue (source cursor.new) result
-        (parts_at (table_of around.now.tables.now) around.now.unicode (inner_of around.now) around.now.negated held (source cursor.old)) }
+        (parts_onto (table_of around.now.tables.now) around.now.unicode (inner_of around.now) around.now.negated held (source cursor.old)) }
 {
     while !cursor.is_at(']') {
         if cursor.rest.is_empty() {
@@ -239,7 +239,7 @@ fn read_operands(
     operator: Operator,
 ) -> Result<Value, ParseFault>
     ensures { (held : Written) → IsValue value held → ReadsAs IsValue (source cursor.new) result
-        (operands_at (table_of around.now.tables.now) around.now.unicode (inner_of around.now) around.now.negated
+        (operands_onto (table_of around.now.tables.now) around.now.unicode (inner_of around.now) around.now.negated
         (sign_of operator) (applied operator) held (source cursor.old)) }
 {
     let mut chain = Chain::new(value, operator);

@@ -9,9 +9,10 @@ use Rattle.regress_base.specs.Table.{Table}
 use Rattle.regress_lexical.specs.Source.{Source, Found, ◌>>=◌, found_map, is_at, first_row}
 use Rattle.regress_classes.specs.Properties.{Property, of_points, of_strings, property_at}
 use Rattle.regress_classes.specs.ClassRows.{class_letter, class_members, one_point, points_between}
-use Rattle.regress_classes.specs.ClassSets.{Value, has_strings, only, joined, common, without, value_of_strings, nested, unless_of_strings, Operand, character, value_of, is_set_syntax, is_double, begins_double, is_reserved, escaped_character_at, set_character_at, strings_by, quoted_at, property_operand, operand_rows, escaped_operand_at, operand_at, range_of, part_behind, parts_by, are_at, operands_by, contents_behind, contents_at, class_set_by, class_set_at}
+use Rattle.regress_classes.specs.ClassSets.{Value, has_strings, only, joined, from_left, common, without, value_of_strings, nested, unless_of_strings, Operand, character, value_of, is_set_syntax, is_double, begins_double, is_reserved, escaped_character_at, set_character_at, strings_by, quoted_at, property_operand, operand_rows, escaped_operand_at, operand_at, range_of, part_behind, parts_by, are_at, operands_by, contents_behind, contents_at, class_set_by, class_set_at}
 use Rattle.regress_classes.specs.ClassSets as ClassSets
 use Rattle.regress_classes.proofs.laws.ClassStrings.{level_of_strings}
+use Rattle.regress_classes.proofs.laws.ClassSets.{parts_joined, operands_joined}
 use Rattle.regress_syntax.specs.Marks.{Mark, nests}
 use Rattle.regress_syntax.specs.Scan.{plain, class, marks, is_quiet}
 use Rattle.regress_lexical.proofs.laws.Digits.{and_both, drop_one_more}
@@ -234,15 +235,18 @@ module _ (table : Table) where
           (λ _. gives_some (value_of first, t) refl)
 
       gives_parts_by : (n depth before : ℕ) (value : Value) (t : Source) →
-          Gives (within table depth before value.levels t) (behind_class table depth before) (parts_by table unicode inner in_negated n value t)
+          Gives (within table depth before value.levels t) (behind_class table depth before)
+          (found_map (from_left joined value) (parts_by table unicode inner in_negated n t))
       unfolding parts_by
       gives_parts_by zero depth before value t = gives_none
       gives_parts_by (suc n) depth before value t =
-          gives_cond (is_at 93 t) _ _ (λ e. gives_some (value, drop 1 t) (pass_close depth before value.levels t e))
+          subst (Gives (within table depth before value.levels t) (behind_class table depth before))
+          (sym (parts_joined table unicode inner in_negated n value t))
+          (gives_cond (is_at 93 t) _ _ (λ e. gives_some (value, drop 1 t) (pass_close depth before value.levels t e))
           (λ _. gives_then (behind_part table depth before value.levels) (operand_at table unicode inner in_negated t >>= part_behind table unicode inner in_negated) _
           (gives_then _ (operand_at table unicode inner in_negated t) _ (gives_operand_at depth before value.levels t)
           (gives_part_behind depth before value.levels))
-          (λ x. gives_parts_by n depth before (joined value x.0) x.1))
+          (λ x. gives_parts_by n depth before (joined value x.0) x.1)))
 
       -- ---- operators
 
@@ -256,17 +260,20 @@ module _ (table : Table) where
 
       gives_operands_by : (n depth before c : ℕ) (f : Value → Value → Value) (value : Value) (t : Source) → is_quiet c ≡ true →
           ((a b : Value) → (f a b).levels ≡ max a.levels b.levels) →
-          Gives (within table depth before value.levels t) (behind_class table depth before) (operands_by table unicode inner in_negated n c f value t)
+          Gives (within table depth before value.levels t) (behind_class table depth before)
+          (found_map (from_left f value) (operands_by table unicode inner in_negated n c t))
       unfolding operands_by
       gives_operands_by zero depth before c f value t quiet deeper = gives_none
       gives_operands_by (suc n) depth before c f value t quiet deeper =
-          gives_then _ (operand_at table unicode inner in_negated t) _ (gives_operand_at depth before value.levels t)
+          subst (Gives (within table depth before value.levels t) (behind_class table depth before))
+          (sym (operands_joined table unicode inner in_negated n c f value t))
+          (gives_then _ (operand_at table unicode inner in_negated t) _ (gives_operand_at depth before value.levels t)
           (λ x. gives_after (same_within depth before _ (f value (value_of x.0)).levels x.1 (sym (deeper value (value_of x.0))))
           (gives_cond (is_at 93 x.1) _ _ (λ e. gives_some (f value (value_of x.0), drop 1 x.1) (pass_close depth before _ x.1 e))
           (λ _. gives_cond (are_at c x.1) _ _
           (λ e. gives_after (pass_signs depth before _ c x.1 quiet e)
           (gives_operands_by n depth before c f (f value (value_of x.0)) (drop 2 x.1) quiet deeper))
-          (λ _. gives_none))))
+          (λ _. gives_none)))))
 
       gives_contents_behind : (depth before : ℕ) (x : Operand × Source) →
           Gives (behind_operand table depth before 0 x.0 x.1) (behind_class table depth before) (contents_behind table unicode inner in_negated x)

@@ -1,15 +1,62 @@
 -- Classes with the flag v, read from the front of a source.
-use Rattle.std.proofs.Common.{ℕ, zero, suc, ◌+◌, Bool, true, false, ◌&&◌, ◌||◌, ◌==◌, cond, List, [], ◌∷◌, ◌++◌, length, drop, Option, Some, None}
+use Rattle.std.proofs.Common.{◌≡◌, ℕ, zero, suc, ◌+◌, Bool, true, false, ◌&&◌, ◌||◌, ◌==◌, cond, List, [], ◌∷◌, ◌++◌, length, drop, Option, Some, None, refl, ap, ◌∙◌}
 use Rattle.regress_base.specs.Intervals.{Bounds}
 use Rattle.regress_base.specs.Limits.{max_nesting_depth}
 use Rattle.regress_base.specs.Table.{Table}
-use Rattle.regress_lexical.specs.Source.{Source, Found, is_at, first_row}
+use Rattle.regress_lexical.specs.Source.{Source, Found, ◌>>=◌, found_map, is_at, first_row}
 use Rattle.regress_classes.specs.Properties.{Property, of_points, of_strings, property_at}
 use Rattle.regress_classes.specs.ClassRows.{class_letter, class_members, one_point}
-use Rattle.regress_classes.specs.ClassSets.{Value, has_strings, only, joined, common, without, unless_of_strings, Operand, character, class, value_of, is_set_syntax, is_double, begins_double, is_reserved, escaped_character_at, set_character_at, strings_by, quoted_at, property_operand, operand_rows, escaped_operand_at, operand_at, range_of, range_at, part_behind, parts_by, are_at, operands_by, contents_behind, contents_at, class_set_by, class_set_at}
+use Rattle.regress_classes.specs.ClassSets.{Value, has_strings, only, joined, from_left, common, without, unless_of_strings, Operand, character, class, value_of, is_set_syntax, is_double, begins_double, is_reserved, escaped_character_at, set_character_at, strings_by, quoted_at, property_operand, operand_rows, escaped_operand_at, operand_at, range_of, range_at, part_behind, parts_by, parts_at, are_at, operands_by, operands_at, contents_behind, contents_at, class_set_by, class_set_at}
 use Rattle.regress_classes.proofs.laws.Pieces.{property_at-ends}
 use Rattle.regress_lexical.proofs.laws.Behind.{IsBehind, behind_same, behind_drop, Ends, ends_none, ends_some, one-ends, ends_behind, ends_more, ends_then, ends_map, ends_cond, escape_at-ends}
-use Rattle.regress_lexical.proofs.laws.Sources.{EachRow, no_more, ◌also◌, first_row-has}
+use Rattle.regress_lexical.proofs.laws.Sources.{EachRow, no_more, ◌also◌, first_row-has, then_same}
+
+-- ---- to read behind what is held is to join the list to it
+
+map_cond : {A B : Type 0} (f : A → B) (b : Bool) (x y : Found A) → found_map f (cond b x y) ≡ cond b (found_map f x) (found_map f y)
+map_cond f true x y = refl
+map_cond f false x y = refl
+
+map_then : {A B C : Type 0} (f : B → C) (found : Found A) (next : A × Source → Found B) →
+    found_map f (found >>= next) ≡ found >>= λ x. found_map f (next x)
+map_then f None next = refl
+map_then f (Some x) next = refl
+
+map_map : {A B C : Type 0} (f : B → C) (g : A → B) (found : Found A) → found_map f (found_map g found) ≡ found_map (λ a. f (g a)) found
+map_map f g None = refl
+map_map f g (Some x) = refl
+
+module _ (table : Table) (unicode : Bool) (inner : Source → Found (Bool × Value)) (in_negated : Bool) where
+  pub parts_joined : (n : ℕ) (held : Value) (t : Source) →
+      found_map (from_left joined held) (parts_by table unicode inner in_negated (suc n) t)
+      ≡ cond (is_at 93 t) (Some (held, drop 1 t))
+      (operand_at table unicode inner in_negated t >>= part_behind table unicode inner in_negated
+      >>= λ (x : Value × Source). found_map (from_left joined (joined held x.0)) (parts_by table unicode inner in_negated n x.1))
+  unfolding parts_by
+  parts_joined n held t =
+      map_cond (from_left joined held) (is_at 93 t) _ _
+      ∙ ap (cond (is_at 93 t) (Some (held, drop 1 t)))
+      (map_then (from_left joined held) (operand_at table unicode inner in_negated t >>= part_behind table unicode inner in_negated) _
+      ∙ then_same (operand_at table unicode inner in_negated t >>= part_behind table unicode inner in_negated) _ _
+      (λ x found. map_map (from_left joined held) (λ parts. x.0 ∷ parts) (parts_by table unicode inner in_negated n x.1)))
+
+  pub operands_joined : (n c : ℕ) (f : Value → Value → Value) (held : Value) (t : Source) →
+      found_map (from_left f held) (operands_by table unicode inner in_negated (suc n) c t)
+      ≡ operand_at table unicode inner in_negated t >>= λ (x : Operand × Source).
+      cond (is_at 93 x.1) (Some (f held (value_of x.0), drop 1 x.1))
+      (cond (are_at c x.1)
+      (found_map (from_left f (f held (value_of x.0))) (operands_by table unicode inner in_negated n c (drop 2 x.1)))
+      None)
+  unfolding operands_by
+  operands_joined n c f held t =
+      map_then (from_left f held) (operand_at table unicode inner in_negated t) _
+      ∙ then_same (operand_at table unicode inner in_negated t) _ _
+      (λ x found.
+      map_cond (from_left f held) (is_at 93 x.1) _ _
+      ∙ ap (cond (is_at 93 x.1) (Some (f held (value_of x.0), drop 1 x.1)))
+      (map_cond (from_left f held) (are_at c x.1) _ _
+      ∙ ap (λ y. cond (are_at c x.1) y None)
+      (map_map (from_left f held) (λ others. value_of x.0 ∷ others) (operands_by table unicode inner in_negated n c (drop 2 x.1)))))
 
 -- ---- what stands behind an operand
 
@@ -99,35 +146,43 @@ module _ (table : Table) (unicode : Bool) where
         ends_cond (is_at 45 t) _ _ t (ends_behind _ t (drop 1 t) (behind_drop 1 t) (range_at-ends first (drop 1 t)))
         (ends_some (value_of first, t) t (behind_same t))
 
-    pub parts_by-ends : (n : ℕ) (value : Value) (t : Source) → Ends (parts_by table unicode inner in_negated n value t) t
+    parts_by-ends : (n : ℕ) (t : Source) → Ends (parts_by table unicode inner in_negated n t) t
     unfolding parts_by
-    parts_by-ends zero value t = ends_none t
-    parts_by-ends (suc n) value t =
+    parts_by-ends zero t = ends_none t
+    parts_by-ends (suc n) t =
         ends_cond (is_at 93 t) _ _ t (ends_some _ t (behind_drop 1 t))
         (ends_then _ _ t (ends_then (operand_at table unicode inner in_negated t) _ t (operand_at-ends t) part_behind-ends)
-        (λ x. parts_by-ends n (joined value x.0) x.1))
+        (λ x. ends_map _ (parts_by table unicode inner in_negated n x.1) x.1 (parts_by-ends n x.1)))
 
-    pub operands_by-ends : (n c : ℕ) (f : Value → Value → Value) (value : Value) (t : Source) →
-        Ends (operands_by table unicode inner in_negated n c f value t) t
+    operands_by-ends : (n c : ℕ) (t : Source) → Ends (operands_by table unicode inner in_negated n c t) t
     unfolding operands_by
-    operands_by-ends zero c f value t = ends_none t
-    operands_by-ends (suc n) c f value t =
+    operands_by-ends zero c t = ends_none t
+    operands_by-ends (suc n) c t =
         ends_then (operand_at table unicode inner in_negated t) _ t (operand_at-ends t)
         (λ x. ends_cond (is_at 93 x.1) _ _ x.1 (ends_some _ x.1 (behind_drop 1 x.1))
         (ends_cond (are_at c x.1) _ _ x.1
-        (ends_behind _ x.1 (drop 2 x.1) (behind_drop 2 x.1) (operands_by-ends n c f (f value (value_of x.0)) (drop 2 x.1)))
+        (ends_behind _ x.1 (drop 2 x.1) (behind_drop 2 x.1)
+        (ends_map _ (operands_by table unicode inner in_negated n c (drop 2 x.1)) (drop 2 x.1) (operands_by-ends n c (drop 2 x.1))))
         (ends_none x.1)))
+
+    parts_onto-ends : (held : List Value → Value) (t : Source) → Ends (found_map held (parts_at table unicode inner in_negated t)) t
+    parts_onto-ends held t = ends_map held (parts_at table unicode inner in_negated t) t (parts_by-ends (length t + 1) t)
+
+    operands_onto-ends : (c : ℕ) (held : List Value → Value) (t : Source) →
+        Ends (found_map held (operands_at table unicode inner in_negated c (drop 2 t))) t
+    operands_onto-ends c held t =
+        ends_behind _ t (drop 2 t) (behind_drop 2 t)
+        (ends_map held (operands_at table unicode inner in_negated c (drop 2 t)) (drop 2 t) (operands_by-ends (length (drop 2 t) + 1) c (drop 2 t)))
 
     pub contents_behind-ends : (x : Operand × Source) → Ends (contents_behind table unicode inner in_negated x) x.1
     contents_behind-ends (first, t) =
-        ends_cond (are_at 38 t) _ _ t
-        (ends_behind _ t (drop 2 t) (behind_drop 2 t) (operands_by-ends _ 38 common (value_of first) (drop 2 t)))
-        (ends_cond (are_at 45 t) _ _ t
-        (ends_behind _ t (drop 2 t) (behind_drop 2 t) (operands_by-ends _ 45 without (value_of first) (drop 2 t)))
+        ends_cond (are_at 38 t) _ _ t (operands_onto-ends 38 (from_left common (value_of first)) t)
+        (ends_cond (are_at 45 t) _ _ t (operands_onto-ends 45 (from_left without (value_of first)) t)
         (ends_cond (is_at 38 t) _ _ t
-        (ends_behind _ t (drop 1 t) (behind_drop 1 t) (parts_by-ends _ (joined (value_of first) (only (one_point 38))) (drop 1 t)))
+        (ends_behind _ t (drop 1 t) (behind_drop 1 t)
+        (parts_onto-ends (from_left joined (joined (value_of first) (only (one_point 38)))) (drop 1 t)))
         (ends_then (part_behind table unicode inner in_negated (first, t)) _ t (part_behind-ends (first, t))
-        (λ x. parts_by-ends (length x.1 + 1) x.0 x.1))))
+        (λ x. parts_onto-ends (from_left joined x.0) x.1))))
 
     pub contents_at-ends : (t : Source) → Ends (contents_at table unicode inner in_negated t) t
     contents_at-ends t =

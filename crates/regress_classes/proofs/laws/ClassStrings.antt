@@ -7,10 +7,10 @@ use Rattle.std.specs.Str.{bytes_eq}
 use Rattle.regress_base.specs.Intervals.{Bounds, code_point_max}
 use Rattle.regress_base.specs.Limits.{max_nesting_depth}
 use Rattle.regress_base.specs.Table.{Table, Named, named, is_string, IsLawful}
-use Rattle.regress_lexical.specs.Source.{Source, Found, ◌>>=◌, IsCodePoint, is_at, first_row}
+use Rattle.regress_lexical.specs.Source.{Source, Found, ◌>>=◌, found_map, IsCodePoint, is_at, first_row}
 use Rattle.regress_classes.specs.Properties.{Property, of_points, of_strings, list_named, strings_named, lone_value, value_in, closed_property, property_at, property_word_at}
 use Rattle.regress_classes.specs.ClassRows.{class_letter, class_members, one_point, complement_if}
-use Rattle.regress_classes.specs.ClassSets.{Value, has_strings, nothing, only, joined, common, without, is_among, value_of_string, value_of_strings, nested, unless_of_strings, Operand, character, class, value_of, is_set_syntax, is_double, begins_double, is_reserved, escaped_character_at, set_character_at, strings_by, quoted_at, property_operand, operand_rows, escaped_operand_at, operand_at, range_of, part_behind, parts_by, are_at, operands_by, contents_behind, contents_at, class_set_by, class_set_at}
+use Rattle.regress_classes.specs.ClassSets.{Value, has_strings, nothing, only, joined, from_left, common, without, is_among, value_of_string, value_of_strings, nested, unless_of_strings, Operand, character, class, value_of, is_set_syntax, is_double, begins_double, is_reserved, escaped_character_at, set_character_at, strings_by, quoted_at, property_operand, operand_rows, escaped_operand_at, operand_at, range_of, part_behind, parts_by, are_at, operands_by, contents_behind, contents_at, class_set_by, class_set_at}
 use Rattle.regress_lexical.proofs.laws.Digits.{and_both}
 use Rattle.regress_lexical.proofs.laws.Behind.{Ends, ends_then, behind_all}
 use Rattle.regress_lexical.proofs.laws.InRange.{Finds, finds_none, finds_some, finds_cond, finds_then, finds_map, escape_at-in_range}
@@ -156,6 +156,12 @@ strings_by-in_range (suc n) unicode s t h all =
 
 -- ---- whatever is kept
 
+from_left-kept : (P : Value → Type 0) (f : Value → Value → Value) → ((a b : Value) → P a → P b → P (f a b)) →
+    (held : Value) (others : List Value) → P held → All P others → P (from_left f held others)
+from_left-kept P f keeps held [] h all = h
+from_left-kept P f keeps held (next ∷ rest) h all =
+    from_left-kept P f keeps (f held next) rest (keeps held next h (All-head P next rest all)) (All-drop P 1 (next ∷ rest) all)
+
 module _ (P : Value → Type 0) (kept : IsKept P) where
   value_of-kept : (x : Operand) → Holds P x → P (value_of x)
   value_of-kept (character c) h = kept.points (one_point c)
@@ -229,31 +235,36 @@ module _ (P : Value → Type 0) (kept : IsKept P) where
       behind_ends : (x : Operand × Source) → Ends (part_behind table unicode inner in_negated x) x.1
       behind_ends = part_behind-ends table unicode inner inner_ends in_negated
 
-      parts_by-kept : (n : ℕ) (value : Value) (t : Source) → P value → All IsCodePoint t →
-          Finds P (parts_by table unicode inner in_negated n value t)
+      parts_by-kept : (n : ℕ) (t : Source) → All IsCodePoint t → Finds (All P) (parts_by table unicode inner in_negated n t)
       unfolding parts_by
-      parts_by-kept zero value t h all = finds_none _
-      parts_by-kept (suc n) value t h all =
-          finds_cond _ (is_at 93 t) _ _ (λ _. finds_some _ (value, drop 1 t) h)
-          (λ _. finds_next P P _ _ t
+      parts_by-kept zero t all = finds_none _
+      parts_by-kept (suc n) t all =
+          finds_cond _ (is_at 93 t) _ _ (λ _. finds_some _ ([], drop 1 t) (All-nil P))
+          (λ _. finds_next P (All P) _ _ t
           (finds_next (Holds P) P (operand_at table unicode inner in_negated t) _ t (operand_at-kept t all) (operand_ends t) all
           part_behind-kept)
           (ends_then _ _ t (operand_ends t) behind_ends) all
-          (λ x k rest. parts_by-kept n (joined value x.0) x.1 (kept.joins value x.0 h k) rest))
+          (λ x k rest. finds_map (All P) (All P) (λ parts. x.0 ∷ parts) (parts_by table unicode inner in_negated n x.1)
+          (λ parts. All-cons P x.0 parts k) (parts_by-kept n x.1 rest)))
 
-      operands_by-kept : (n c : ℕ) (f : Value → Value → Value) (value : Value) (t : Source) →
-          ((a b : Value) → P a → P b → P (f a b)) → P value → All IsCodePoint t →
-          Finds P (operands_by table unicode inner in_negated n c f value t)
+      operands_by-kept : (n c : ℕ) (t : Source) → All IsCodePoint t → Finds (All P) (operands_by table unicode inner in_negated n c t)
       unfolding operands_by
-      operands_by-kept zero c f value t keeps h all = finds_none _
-      operands_by-kept (suc n) c f value t keeps h all =
-          finds_next (Holds P) P (operand_at table unicode inner in_negated t) _ t (operand_at-kept t all) (operand_ends t) all
+      operands_by-kept zero c t all = finds_none _
+      operands_by-kept (suc n) c t all =
+          finds_next (Holds P) (All P) (operand_at table unicode inner in_negated t) _ t (operand_at-kept t all) (operand_ends t) all
           (λ x k rest.
-          let made = keeps value (value_of x.0) h (value_of-kept x.0 k) in
-          finds_cond _ (is_at 93 x.1) _ _ (λ _. finds_some _ (f value (value_of x.0), drop 1 x.1) made)
+          let has = value_of-kept x.0 k in
+          finds_cond _ (is_at 93 x.1) _ _ (λ _. finds_some _ (value_of x.0 ∷ [], drop 1 x.1) (All-cons P (value_of x.0) [] has (All-nil P)))
           (λ _. finds_cond _ (are_at c x.1) _ _
-          (λ _. operands_by-kept n c f (f value (value_of x.0)) (drop 2 x.1) keeps made (All-drop IsCodePoint 2 x.1 rest))
+          (λ _. finds_map (All P) (All P) (λ others. value_of x.0 ∷ others) (operands_by table unicode inner in_negated n c (drop 2 x.1))
+          (λ others. All-cons P (value_of x.0) others has) (operands_by-kept n c (drop 2 x.1) (All-drop IsCodePoint 2 x.1 rest)))
           (λ _. finds_none _)))
+
+      -- what is held already, with what is read
+      onto-kept : (f : Value → Value → Value) (held : Value) (found : Found (List Value)) → ((a b : Value) → P a → P b → P (f a b)) →
+          P held → Finds (All P) found → Finds P (found_map (from_left f held) found)
+      onto-kept f held found keeps h all =
+          finds_map (All P) P (from_left f held) found (λ others. from_left-kept P f keeps held others h) all
 
       contents_behind-kept : (x : Operand × Source) → Holds P x.0 → All IsCodePoint x.1 →
           Finds P (contents_behind table unicode inner in_negated x)
@@ -262,15 +273,15 @@ module _ (P : Value → Type 0) (kept : IsKept P) where
           let one = All-drop IsCodePoint 1 t all in
           let two = All-drop IsCodePoint 2 t all in
           finds_cond _ (are_at 38 t) _ _
-          (λ _. operands_by-kept _ 38 common (value_of first) (drop 2 t) kept.intersects held two)
+          (λ _. onto-kept common (value_of first) _ kept.intersects held (operands_by-kept _ 38 (drop 2 t) two))
           (λ _. finds_cond _ (are_at 45 t) _ _
-          (λ _. operands_by-kept _ 45 without (value_of first) (drop 2 t) kept.subtracts held two)
+          (λ _. onto-kept without (value_of first) _ kept.subtracts held (operands_by-kept _ 45 (drop 2 t) two))
           (λ _. finds_cond _ (is_at 38 t) _ _
-          (λ _. parts_by-kept _ (joined (value_of first) (only (one_point 38))) (drop 1 t)
-          (kept.joins (value_of first) (only (one_point 38)) held (kept.points (one_point 38))) one)
+          (λ _. onto-kept joined (joined (value_of first) (only (one_point 38))) _ kept.joins
+          (kept.joins (value_of first) (only (one_point 38)) held (kept.points (one_point 38))) (parts_by-kept _ (drop 1 t) one))
           (λ _. finds_next P P (part_behind table unicode inner in_negated (first, t)) _ t
           (part_behind-kept (first, t) h all) (behind_ends (first, t)) all
-          (λ x k rest. parts_by-kept (length x.1 + 1) x.0 x.1 k rest))))
+          (λ x k rest. onto-kept joined x.0 _ kept.joins k (parts_by-kept (length x.1 + 1) x.1 rest)))))
 
       contents_at-kept : (t : Source) → All IsCodePoint t → Finds P (contents_at table unicode inner in_negated t)
       contents_at-kept t all =

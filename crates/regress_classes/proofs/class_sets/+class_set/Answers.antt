@@ -16,7 +16,7 @@ use Rattle.regress_classes.proofs.laws.ClassSets.{class_set_by-ends}
 use Rattle.regress_classes.proofs.laws.ClassStrings.{class_set_by-levels}
 use Rattle.regress_lexical.proofs.laws.Sources.{length-none}
 use Rattle.regress_classes.proofs.ClassOperandLemmas.{nested_read, escape_read, character_read}
-use Rattle.regress_classes.proofs.ClassContentsLemmas.{no_operand, operand_shortens, parts_closed, no_contents, ampersand_read, first_part_read, no_first, no_part, one_part, parts_end, no_last, last_read, more_read, none_read, no_levels, class_read, read_on}
+use Rattle.regress_classes.proofs.ClassContentsLemmas.{no_operand, operand_shortens, parts_closed, no_contents, intersection_read, subtraction_read, ampersand_read, first_part_read, no_first, no_part, one_part, parts_end, no_last, last_read, more_read, none_read, no_levels, class_read, read_on}
 use Rattle.regress_classes.proofs.ClassSetLemmas.{nothing-joined}
 use Rattle.regress_classes.proofs.class_sets.+class_set.Goals as goal
 use Rattle.regress_classes.proofs.class_sets.+class_set.Goals.{read_class_set-else-negated-via-then-negated+else-has_strings, read_class_set-else-negated-via-else-negated}
@@ -103,6 +103,29 @@ read_contents-returns-then-is_empty t c =
     on_syntax c.syntax.result
     (no_contents (table_of around.tables.now) around.unicode (inner_of around) (ends around) around.negated (source c.args.cursor.now)
     (sym same ∙ length-none (source c.try_consume.new.self) (sym c.if-is_empty.ensures)))
+
+pub read_behind-returns-in_ok-value : goal.read_behind-returns-in_ok-value
+read_behind-returns-in_ok-value t c = λ operand is.
+    let around = c.args.around.now in
+    subst (ReadsAs IsValue (source c.read_operands.new.cursor) c.read_operands.result)
+    (sym (intersection_read (table_of around.tables.now) around.unicode (inner_of around) (ends around) around.negated operand
+    (source c.args.cursor.now) (source c.try_consume_both.new.cursor)
+    (sym c.try_consume_both.ensures.found ∙ c.if-try_consume_both.true)
+    (c.try_consume_both.ensures.moves ∙ cond-true _ _ _ c.if-try_consume_both.true)))
+    (c.read_operands.ensures (value_of operand) (c.in_ok-value.ensures operand is))
+
+pub read_behind-returns-in_ok-value-2 : goal.read_behind-returns-in_ok-value-2
+read_behind-returns-in_ok-value-2 t c = λ operand is.
+    let around = c.args.around.now in
+    let here = source c.args.cursor.now in
+    let same : source c.try_consume_both.new.cursor ≡ here = c.try_consume_both.ensures.moves ∙ cond-false _ _ _ c.if-try_consume_both.false in
+    let second = c.try_consume_both-else-try_consume_both in
+    subst (ReadsAs IsValue (source c.read_operands-then-try_consume_both-2.new.cursor) c.read_operands-then-try_consume_both-2.result)
+    (sym (subtraction_read (table_of around.tables.now) around.unicode (inner_of around) (ends around) around.negated operand here
+    (source second.new.cursor) (sym c.try_consume_both.ensures.found ∙ c.if-try_consume_both.false)
+    (ap (are_at 45) (sym same) ∙ sym second.ensures.found ∙ c.if-try_consume_both-2.true)
+    (second.ensures.moves ∙ cond-true _ _ _ c.if-try_consume_both-2.true ∙ ap (λ (u : Source). drop 2 u) same)))
+    (c.read_operands-then-try_consume_both-2.ensures (value_of operand) (c.in_ok-value-2.ensures operand is))
 
 pub read_behind-returns-in_ok-add_point : goal.read_behind-returns-in_ok-add_point
 read_behind-returns-in_ok-add_point t c = λ operand is.

@@ -1,7 +1,7 @@
 use Rattle.std.proofs.Common.{◌≡◌, ◌+◌, ◌*◌, length}
 use Rattle.regress_unicode.specs.TableOf.{table_of}
-use Rattle.regress_classes.specs.ClassSets.{Value, parts_at, operands_at}
-use Rattle.regress_classes.specs.ClassViews.{IsValue, IsUnion, IsChain, inner_of, sign_of, applied}
+use Rattle.regress_classes.specs.ClassSets.{Value}
+use Rattle.regress_classes.specs.ClassViews.{IsValue, IsUnion, IsChain, inner_of, parts_onto, operands_onto, sign_of, applied}
 use Rattle.regress_lexical.specs.Views.{source}
 use Rattle.regress_classes.proofs.ClassContentsLemmas.{ReadFrom}
 use Rattle.regress_classes.proofs.class_sets.+class_set.Given as goal
@@ -31,7 +31,7 @@ decreases-read_contents l = 8 * l.around.now.levels + 5
 abbrev pub invariant-read_parts-loop-union : goal.invariant-read_parts-loop-union
 invariant-read_parts-loop-union l =
     (held : Value) → IsUnion l.fn.union held →
-    ReadFrom IsUnion (parts_at (table_of l.around.tables.now) l.around.unicode (inner_of l.around) l.around.negated) held (source l.fn.cursor)
+    ReadFrom IsUnion (parts_onto (table_of l.around.tables.now) l.around.unicode (inner_of l.around) l.around.negated) held (source l.fn.cursor)
     (source l.cursor) l.union
 
 abbrev pub decreases-read_parts-loop-union : goal.decreases-read_parts-loop-union
@@ -42,7 +42,7 @@ invariant-read_operands-loop-chain l =
     (held : Value) → IsValue l.fn.value held →
     (l.chain.operator ≡ l.operator)
     × ReadFrom IsChain
-    (operands_at (table_of l.around.tables.now) l.around.unicode (inner_of l.around) l.around.negated (sign_of l.operator) (applied l.operator))
+    (operands_onto (table_of l.around.tables.now) l.around.unicode (inner_of l.around) l.around.negated (sign_of l.operator) (applied l.operator))
     held (source l.fn.cursor) (source l.cursor) l.chain
 
 abbrev pub decreases-read_operands-loop-chain : goal.decreases-read_operands-loop-chain
