@@ -14,7 +14,9 @@ use Rattle.regress_tree.specs.WellFormed.{Capture, captures, captures_in_row, Ha
 use Rattle.regress_tree.proofs.laws.Turned.{captures-row_reverse}
 use Rattle.regress_syntax.specs.Syntax.{Name, Atom, literal, dot, anchor, boundary, class_escape, class, class_set, string_property, back_reference, Group, grouping, modified, capture, look, Pattern, Terms, Item, one, either, no_terms, more_terms, atom, group, opened_by, counts, counts_of_times, counts_of_terms, counts_of_term, counts_of_item, names, names_of_group, names_of_terms, names_of_item}
 use Rattle.regress_syntax.specs.Meaning.{is_in_class, direction_of_group, referred}
-use Rattle.regress_parse.specs.TreeOf.{turned, joined, tree_of_group, tree_of_times, references, class_parts, alternation, tree_of_atom, tree_of_pattern, trees_of_terms, tree_of_item, tree_of}
+use Rattle.regress_parse.specs.TreeOf.{turned, joined, tree_of_group, tree_of_times, references, alternation, tree_of_atom, tree_of_pattern, trees_of_terms, tree_of_item, tree_of}
+use Rattle.regress_parse.specs.ClassParts.{class_parts}
+use Rattle.regress_parse.proofs.ClassTreeLemmas.{tree_of_class-parts}
 use Rattle.regress_parse.proofs.PartLemmas.{alternation-has, references-have, class_parts-have}
 
 -- the groups of these names, with ids from n on
@@ -98,7 +100,8 @@ captures-tree_of_atom table all (boundary flags inverted) = refl
 captures-tree_of_atom table all (class_escape flags kind negated) = refl
 captures-tree_of_atom table all (class flags inverted members) = refl
 captures-tree_of_atom table all (class_set flags negated value) =
-    captures-alternation (class_parts flags.icase negated value (intervals_of (is_in_class table flags false value.members)))
+    ap captures (tree_of_class-parts flags.icase negated value (intervals_of (is_in_class table flags false value.members)))
+    ∙ captures-alternation (class_parts flags.icase negated value (intervals_of (is_in_class table flags false value.members)))
     (class_parts-have CapturesNothing flags.icase negated value (intervals_of (is_in_class table flags false value.members)) refl refl refl)
 captures-tree_of_atom table all (string_property flags written) = refl
 captures-tree_of_atom table all (back_reference flags to) =

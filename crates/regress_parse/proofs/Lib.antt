@@ -4,6 +4,7 @@ pub mod ReaderLemmas
 pub mod GrammarLemmas
 pub mod CountLemmas
 pub mod StringLemmas
+pub mod ClassTreeLemmas
 pub mod BuildLemmas
 pub mod SoFarLemmas
 pub mod AlternativesLemmas

@@ -19,7 +19,9 @@ use Rattle.regress_syntax.specs.Syntax.{Atom, literal, dot, anchor, boundary, cl
 use Rattle.regress_syntax.specs.Meaning.{is_in_class, longest_first, along, direction_of_group, group_steps, referred, any_reference, times_steps, atom_steps, pattern_steps, terms_steps, item_steps}
 use Rattle.regress_classes.specs.ClassRows.{members_of}
 use Rattle.regress_classes.specs.ClassSets.{Value, has_strings}
-use Rattle.regress_parse.specs.TreeOf.{turned, joined, tree_of_group, tree_of_times, leaf_of_members, references, strings_part, bracket_part, empty_part, class_parts, alternation, tree_of_atom, tree_of_pattern, trees_of_terms, tree_of_item, tree_of}
+use Rattle.regress_parse.specs.ClassParts.{strings_part, bracket_part, empty_part}
+use Rattle.regress_parse.proofs.ClassTreeLemmas.{tree_of_class-parts}
+use Rattle.regress_parse.specs.TreeOf.{turned, joined, tree_of_group, tree_of_times, leaf_of_members, references, alternation, tree_of_class, tree_of_atom, tree_of_pattern, trees_of_terms, tree_of_item, tree_of}
 use Rattle.regress_parse.specs.Accepted.{Means}
 use Rattle.regress_tree.proofs.laws.Assertions.{Simulates-anchor, Simulates-boundary}
 use Rattle.regress_tree.proofs.laws.Classes.{agreeing_simulates, is_accepted-scalar}
@@ -238,16 +240,16 @@ module _ (setting : Setting) (text : List ℕ) (is_text : IsText text) where
         TreeSimulates setting text d
         (any_string d (of_characters text) (stands_for setting.table icase setting.flags.unicode) (longest_first value.strings)
         or_ one_character d (of_characters text) q or_ cond value.has_empty stay fail)
-        (alternation (class_parts icase negated value (intervals_of p)))
+        (tree_of_class icase negated value (intervals_of p))
     class_set_simulates icase negated value e =
         let strings = strings_part icase (longest_first value.strings) in
         let bracket' = bracket_part (not (has_strings value)) negated (intervals_of p) in
         let empty' = empty_part value.has_empty in
-        alternation_simulates d _ (strings ++ bracket' ++ empty')
+        subst (TreeSimulates setting text d _) (sym (tree_of_class-parts icase negated value (intervals_of p))) (alternation_simulates d _ (strings ++ bracket' ++ empty')
         (all_simulate d _ _ (strings ++ bracket') empty'
         (all_simulate d _ _ strings bracket' (strings_part_simulates d icase (longest_first value.strings))
         (bracket_part_simulates (not (has_strings value)) negated (intervals_of p) (bracket_simulates d negated p q e)))
-        (empty_part_simulates d value.has_empty))
+        (empty_part_simulates d value.has_empty)))
 
 module _ (setting : Setting) (names : List (Option Name)) (text : List ℕ) (is_text : IsText text) where
   atom_simulates : (d : Direction) (a : Atom) →

@@ -5,7 +5,8 @@ use Rattle.regress_base.specs.Intervals.{Bounds}
 use Rattle.regress_tree.specs.Tree.{Tree, leaf, alt, empty, char_set, bracket, back_ref, string_set}
 use Rattle.regress_classes.specs.ClassSets.{Value, has_strings}
 use Rattle.regress_syntax.specs.Meaning.{longest_first}
-use Rattle.regress_parse.specs.TreeOf.{alternation, references, strings_part, bracket_part, empty_part, class_parts}
+use Rattle.regress_parse.specs.TreeOf.{alternation, references}
+use Rattle.regress_parse.specs.ClassParts.{strings_part, bracket_part, empty_part, class_parts}
 
 module _ (P : Tree → Type 0) where
   pub alternation-has : P (leaf (char_set [])) → ((t u : Tree) → P t → P u → P (alt t u)) → (ts : List Tree) → All P ts → P (alternation ts)

@@ -164,6 +164,11 @@ longest_first_of_length n ss =
     ]
 
 -- Strings that fall, and of each length that occurs are these in their order, are these with the longest first.
+-- where there are strings, some stand there
+pub some_longest : (s : List ℕ) (ss : List (List ℕ)) → longest_first (s ∷ ss) ≡ [] → ⊥
+some_longest s ss none =
+    let e = ap (of_length (length s)) (sym none) ∙ longest_first_of_length (length s) (s ∷ ss) ∙ of_own_length s ss in cc
+
 longest_first_is : (P : List ℕ → Type 0) (ss us : List (List ℕ)) → All P ss → All P us → AreFalling us →
     ((x : List ℕ) → P x → of_length (length x) us ≡ of_length (length x) ss) → us ≡ longest_first ss
 longest_first_is P ss us hs ks f same =

@@ -1,5 +1,5 @@
 -- The tree of a derived pattern is well formed.
-use Rattle.std.proofs.Common.{◌≡◌, ◌≢◌, ℕ, ◌+◌, ◌≤◌, Bool, true, false, cond, nat_le, List, [], ◌∷◌, length, All, IsTrue, Option, Some, None, option_map, encode_utf8_all, subst, arith}
+use Rattle.std.proofs.Common.{◌≡◌, ◌≢◌, ℕ, ◌+◌, ◌≤◌, Bool, true, false, cond, nat_le, List, [], ◌∷◌, length, All, IsTrue, Option, Some, None, option_map, encode_utf8_all, sym, subst, arith}
 use Rattle.std.specs.Option.{IfSome}
 use Rattle.std.proofs.lemmas.Bool.{leb-true}
 use Rattle.std.proofs.lemmas.List.Elements.{All-nil, All-cons, All-head, All-weaker}
@@ -26,9 +26,11 @@ use Rattle.regress_syntax.specs.Grammar.{IsPattern, AreTerms, IsItem}
 use Rattle.regress_classes.proofs.laws.ClassStrings.{OfCodePoints}
 use Rattle.regress_syntax.proofs.laws.NameEnds.{IsName}
 use Rattle.regress_syntax.proofs.laws.Rows.{head_at-ends, times_at-ends, times_at-ordered}
-use Rattle.regress_parse.specs.TreeOf.{turned, joined, tree_of_group, tree_of_times, leaf_of_members, references, class_parts, alternation, tree_of_atom, tree_of_pattern, trees_of_terms, tree_of_item, tree_of}
+use Rattle.regress_parse.specs.TreeOf.{turned, joined, tree_of_group, tree_of_times, leaf_of_members, references, alternation, tree_of_class, tree_of_atom, tree_of_pattern, trees_of_terms, tree_of_item, tree_of}
 use Rattle.regress_parse.specs.Accepted.{IsDerived, own_context}
 use Rattle.regress_parse.proofs.CodePointLemmas.{AreCodePoints, rest_of, behind_found, IsGoodTarget, IsGoodAtom, IsGoodGroup, head_at-good}
+use Rattle.regress_parse.specs.ClassParts.{class_parts}
+use Rattle.regress_parse.proofs.ClassTreeLemmas.{tree_of_class-parts}
 use Rattle.regress_parse.proofs.PartLemmas.{alternation-has, references-have, class_parts-have}
 use Rattle.regress_parse.proofs.StringLemmas.{All-longest_first}
 use Rattle.regress_parse.proofs.GroupLemmas.{length-names, HasGroups-tree_of_item, HasGroups-tree_of_pattern, length-captures-tree_of, count_id-tree_of}
@@ -92,12 +94,12 @@ module _ (m : ℕ) where
   strings_may_stand icase strings bounded = record { free = tt; bounded = bounded }
 
   class_set_may_stand : (icase negated : Bool) (p : ℕ → Bool) (value : Value) → OfCodePoints value.strings →
-      MayStand m (alternation (class_parts icase negated value (intervals_of p))) inside
+      MayStand m (tree_of_class icase negated value (intervals_of p)) inside
   class_set_may_stand icase negated p value bounded =
-      alternation_may_stand (class_parts icase negated value (intervals_of p))
+      subst (λ t. MayStand m t inside) (sym (tree_of_class-parts icase negated value (intervals_of p))) (alternation_may_stand (class_parts icase negated value (intervals_of p))
       (class_parts-have (λ t. MayStand m t inside) icase negated value (intervals_of p)
       (strings_may_stand icase (longest_first value.strings) (All-longest_first (All IsCodePoint) value.strings bounded))
-      (bracket_may_stand negated p) tt)
+      (bracket_may_stand negated p) tt))
 
 module _ (m : ℕ) (table : Table) (lawful : IsLawful table) where
   literal_may_stand : (icase unicode : Bool) (c : ℕ) → IsCodePoint c →

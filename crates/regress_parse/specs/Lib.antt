@@ -1,5 +1,6 @@
 pub mod Reader
 pub mod TreeOf
+pub mod ClassParts
 pub mod Accepted
 pub mod Parsing
 -- what the public contracts cite of the crates below, passed on, so that a caller names one library

@@ -9,7 +9,7 @@ use Rattle.regress_base.specs.Table.{Table}
 use Rattle.regress_tree.specs.Tree.{Leaf, empty, goal, char, char_set, match_any, match_any_except_line_terminator, word_boundary, bracket, back_ref, string_set, Tree, Trees, leaf, cat, alt, wrapped, capture_group, loop, lookaround, no_trees, more_trees, row_reverse}
 use Rattle.regress_tree.specs.Tree as tree
 use Rattle.regress_classes.specs.ClassRows.{members_of}
-use Rattle.regress_classes.specs.ClassSets.{Value, has_strings}
+use Rattle.regress_classes.specs.ClassSets.{Value}
 use Rattle.regress_syntax.specs.Syntax.{Name, Atom, literal, dot, anchor, boundary, class_escape, class, class_set, string_property, back_reference, Group, grouping, modified, capture, look, Pattern, Terms, Item, one, either, no_terms, more_terms, atom, group, opened_by, counts_of_item, counts_of_terms, counts_of_term, names}
 use Rattle.regress_syntax.specs.Meaning.{is_in_class, longest_first, direction_of_group, referred}
 
@@ -61,26 +61,23 @@ alternation (t ∷ next ∷ ts) = alt t (alternation (next ∷ ts))
 abbrev pub references : (icase : Bool) → List ℕ → List Tree
 references icase = map (λ k. leaf (back_ref k icase))
 
--- the strings of a class, if it has any
-abbrev pub strings_part : (icase : Bool) → List (List ℕ) → List Tree
-strings_part icase [] = []
-strings_part icase (s ∷ ss) = leaf (string_set (s ∷ ss) icase) ∷ []
+-- a tree, and behind it the empty string, if that is there
+abbrev pub or_empty : (has_empty : Bool) → Tree → Tree
+or_empty false t = t
+or_empty true t = alt t (leaf empty)
 
--- the bracket of a class, if a character may pass it or it stands alone
-abbrev pub bracket_part : (alone negated : Bool) → List Bounds → List Tree
-bracket_part alone negated members =
-    if alone || negated || not (length members == 0) then leaf (bracket negated members) ∷ [] else []
+-- strings and code points of a class, where it has some
+abbrev pub strings_or_points : (has_strings has_points has_empty : Bool) → (strings points : Leaf) → Tree
+strings_or_points false false has_empty strings points = if has_empty then leaf empty else leaf points
+strings_or_points false true has_empty strings points = or_empty has_empty (leaf points)
+strings_or_points true false has_empty strings points = or_empty has_empty (leaf strings)
+strings_or_points true true has_empty strings points = alt (leaf strings) (or_empty has_empty (leaf points))
 
--- the empty string of a class, if it is there
-abbrev pub empty_part : Bool → List Tree
-empty_part has_empty = if has_empty then leaf empty ∷ [] else []
-
--- The parts of a class with the flag v, in the order in which they are tried. Once closed its code points are these.
-abbrev pub class_parts : (icase negated : Bool) → Value → (closed : List Bounds) → List Tree
-class_parts icase negated value closed =
-    strings_part icase (longest_first value.strings)
-    ++ bracket_part (not (has_strings value)) negated closed
-    ++ empty_part value.has_empty
+-- A class with the flag v, whose code points are these once they are closed. If negated it has some outside of them.
+abbrev pub tree_of_class : (icase negated : Bool) → Value → (closed : List Bounds) → Tree
+tree_of_class icase negated value closed =
+    strings_or_points (not (length value.strings == 0)) (negated || not (length closed == 0)) value.has_empty
+    (string_set (longest_first value.strings) icase) (bracket negated closed)
 
 module _ (table : Table) (names : List (Option Name)) where
   abbrev pub tree_of_atom : Atom → Tree
@@ -93,7 +90,7 @@ module _ (table : Table) (names : List (Option Name)) where
       leaf (bracket false (intervals_of (is_in_class table flags negated (members_of kind))))
   tree_of_atom (class flags inverted members) = leaf (bracket inverted (intervals_of (is_in_class table flags false members)))
   tree_of_atom (class_set flags negated value) =
-      alternation (class_parts flags.icase negated value (intervals_of (is_in_class table flags false value.members)))
+      tree_of_class flags.icase negated value (intervals_of (is_in_class table flags false value.members))
   tree_of_atom (string_property flags written) = leaf (string_set written flags.icase)
   tree_of_atom (back_reference flags to) = alternation (references flags.icase (referred names to))
 

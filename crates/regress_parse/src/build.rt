@@ -12,7 +12,8 @@ ghost use Rattle.regress_syntax.specs.Syntax.{dot, anchor, boundary};
 ghost use Rattle.regress_syntax.specs.Rows.{point_property};
 ghost use Rattle.regress_syntax.specs.Views.{context_of, names_in, direction_if, group_of};
 ghost use Rattle.regress_classes.specs.ClassViews.{IsValue, HasMembers, strings_of};
-ghost use Rattle.regress_parse.specs.TreeOf.{turned, joined, leaf_of_members, leaf_of_literal, references, strings_part, bracket_part, empty_part, class_parts, alternation, tree_of_atom, tree_of_group, tree_of_times};
+ghost use Rattle.regress_parse.specs.ClassParts.{strings_part, bracket_part, empty_part};
+ghost use Rattle.regress_parse.specs.TreeOf.{turned, joined, leaf_of_members, leaf_of_literal, references, alternation, tree_of_class, tree_of_atom, tree_of_group, tree_of_times};
 ghost use Rattle.regress_parse.specs.Parsing.{alternatives};
 
 use regress_base::charclasses::CharacterClassType;
@@ -172,8 +173,8 @@ pub(crate) fn make_class_set(
     scope: &Scope,
 ) -> Result<Node, AllocError>
     ensures { (written : WrittenValue) → IsValue value written → IfOk result (λ node. tree node ≡
-        alternation (class_parts scope.now.flags.icase negated written
-        (intervals_of (is_in_class (table_of scope.now.tables.now) scope.now.flags false written.members)))) }
+        tree_of_class scope.now.flags.icase negated written
+        (intervals_of (is_in_class (table_of scope.now.tables.now) scope.now.flags false written.members))) }
 {
     let alone = !value.has_strings();
     let has_empty = value.has_empty;

@@ -1,8 +1,12 @@
-use Rattle.std.proofs.Common.{◌≡◌, not, ◌++◌, map, ap, ap₂, subst, ◌∙◌}
+use Rattle.std.proofs.Common.{◌≡◌, false, not, ◌++◌, map, ap, ap₂, sym, subst, ◌∙◌}
 use Rattle.std.specs.Result.{IfOk}
 use Rattle.regress_tree.specs.Tree.{tree}
-use Rattle.regress_syntax.specs.Meaning.{longest_first}
-use Rattle.regress_parse.specs.TreeOf.{alternation, strings_part, bracket_part, empty_part}
+use Rattle.regress_base.specs.Intervals.{intervals_of}
+use Rattle.regress_unicode.specs.TableOf.{table_of}
+use Rattle.regress_syntax.specs.Meaning.{is_in_class, longest_first}
+use Rattle.regress_parse.specs.TreeOf.{alternation}
+use Rattle.regress_parse.specs.ClassParts.{strings_part, bracket_part, empty_part}
+use Rattle.regress_parse.proofs.ClassTreeLemmas.{tree_of_class-parts}
 use Rattle.regress_parse.proofs.build.make_class_set.Goals as goal
 
 pub returns : goal.returns
@@ -16,4 +20,6 @@ returns c = λ written is.
     let bracket = c.in_ok-push_bracket.ensures
     ∙ ap₂ (λ ts one. ts ++ one) strings (ap₂ (λ b ivs. bracket_part b c.args.negated ivs) alone closed) in
     let whole = c.in_ok-push_empty.ensures ∙ ap₂ (λ ts b. ts ++ empty_part b) bracket is.has_empty in
-    subst (λ ts. IfOk c.make_alternation.result (λ node. tree node ≡ alternation ts)) whole c.make_alternation.ensures
+    let parted = tree_of_class-parts flags.icase c.args.negated written
+    (intervals_of (is_in_class (table_of c.args.scope.now.tables.now) flags false written.members)) in
+    subst (λ t. IfOk c.make_alternation.result (λ node. tree node ≡ t)) (ap alternation whole ∙ sym parted) c.make_alternation.ensures
