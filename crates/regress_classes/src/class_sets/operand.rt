@@ -42,7 +42,7 @@ impl Operand {
 }
 
 /// Reads an escape, behind its backslash.
-pub(super) fn read_escaped(
+pub(super) fn read_escaped_operand(
     cursor: &mut Cursor,
     around: &Surroundings,
 ) -> Result<Operand, ParseFault>
