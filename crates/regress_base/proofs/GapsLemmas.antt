@@ -235,12 +235,3 @@ pub gaps_full : (out new : List Bounds) (start i : ℕ) (ivs : List Bounds) → 
 gaps_full out new start i ivs ended so_far full kept =
     kept ∙ sym (append-nil out) ∙ ap (λ l. out ++ l) (sym (gaps_from-full start full))
     ∙ gaps_done out start i ivs (gaps_from 0 ivs) ended so_far
-
--- what lies in the gaps lies not in the intervals
-pub members_minus : (ivs dropped kept : List Bounds) (c : ℕ) → IsCanonical ivs → IsComplement dropped kept
-    → (is_member ivs c && is_member kept c) ≡ (is_member ivs c && not (is_member dropped c))
-members_minus ivs dropped kept c can away =
-    elim (cases_lt code_point_max c) [
-      | inl past ↦ (let none = no_member_past_end ivs c can past in and_left _ _ none ∙ sym (and_left _ _ none))
-      | inr within ↦ ap (λ b. is_member ivs c && b) (away c within)
-    ]

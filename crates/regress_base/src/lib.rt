@@ -6,5 +6,6 @@ pub mod bytesearch;
 pub mod charclasses;
 pub mod codepointset;
 mod interval;
+pub mod sets;
 pub mod types;
 pub mod util;

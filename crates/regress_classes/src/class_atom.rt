@@ -46,14 +46,14 @@ pub fn read_class_atom<'a>(
     ensures in_range { IfOk result IsClassAtomInRange }
 {
     match cursor.next() {
-        Some(c) if c == u32::from('\\') => read_escaped(cursor, tables, unicode),
+        Some(c) if c == u32::from('\\') => read_escaped_atom(cursor, tables, unicode),
         Some(c) if c != u32::from(']') => Ok(ClassAtom::Point(c)),
         _ => Err(syntax(cursor.alloc, UNBALANCED_BRACKET)),
     }
 }
 
 /// Reads an escape, behind its backslash (ECMA-262, ClassEscape with annex B).
-fn read_escaped<'a>(
+fn read_escaped_atom<'a>(
     cursor: &mut Cursor,
     tables: &'a Tables,
     unicode: bool,

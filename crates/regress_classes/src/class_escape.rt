@@ -1,5 +1,5 @@
 //! Classes by an escape.
-ghost use Rattle.std.specs.Prelude.{◌≡◌, ◌||◌, ◌++◌, ℕ, IfOk, OnOk};
+ghost use Rattle.std.specs.Prelude.{◌≡◌, ◌++◌, ℕ, IfOk};
 ghost use Rattle.regress_base.specs.Classes.{white_space, line_terminators};
 ghost use Rattle.regress_base.specs.Intervals.{is_member, IsCanonical};
 ghost use Rattle.regress_classes.specs.ClassRows.{class_letter, members_of, class_members};
@@ -76,22 +76,4 @@ pub fn class_members(
 {
     let set = class_escape_set(alloc, kind)?;
     if negated { set.inverted() } else { Ok(set) }
-}
-
-/// Adds the intervals one by one.
-pub fn add_intervals(set: &mut CodePointSet, intervals: &[Interval]) -> Result<(), AllocError>
-    ensures { OnOk result ((c : ℕ) →
-        is_member set.new c ≡ (is_member set.old c || is_member intervals.now c)) }
-{
-    for interval in intervals {
-        set.add(*interval)?;
-    }
-    Ok(())
-}
-
-/// What the type of a set says of it, for a proof that needs it. It does nothing else.
-pub fn set_is_canonical(set: &CodePointSet)
-    ensures { IsCanonical set.now }
-{
-    let _ = set.intervals();
 }

@@ -15,7 +15,7 @@ mod value;
 
 use chain::Chain;
 use character::read_set_character;
-use operand::{Operand, read_escaped};
+use operand::{Operand, read_escaped_operand};
 use regress_base::codepointset::Interval;
 use regress_lexical::cursor::Cursor;
 use regress_lexical::fault::{
@@ -284,7 +284,7 @@ fn read_operand(cursor: &mut Cursor, around: &Surroundings) -> Result<Operand, P
         return Ok(Operand::Class(class.into_nested()?));
     }
     if cursor.try_consume('\\') {
-        return read_escaped(cursor, around);
+        return read_escaped_operand(cursor, around);
     }
     let character = read_set_character(cursor, around.unicode)?;
     Ok(Operand::Character(character))

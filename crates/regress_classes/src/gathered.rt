@@ -4,8 +4,8 @@ ghost use Rattle.regress_base.specs.Intervals.{IsCanonical, IsInterval, is_membe
 ghost use Rattle.std.specs.List.Sorted.{IsNonDecreasingBy};
 ghost use Rattle.regress_classes.specs.ClassViews.{HasMembers};
 
-use crate::class_escape::{add_intervals, set_is_canonical};
 use regress_base::codepointset::{CodePointSet, Interval, is_canonical};
+use regress_base::sets::{add_intervals, set_is_canonical};
 use std::alloc::{AllocError, Global};
 use std::marker::Model;
 

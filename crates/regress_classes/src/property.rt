@@ -46,14 +46,14 @@ pub fn read_property<'a>(
     if !cursor.try_consume('{') {
         return Err(syntax(cursor.alloc, PROPERTY_WITHOUT_BRACE));
     }
-    match read_named(cursor, sets, tables)? {
+    match read_braced(cursor, sets, tables)? {
         Some(property) if cursor.try_consume('}') => Ok(property),
         _ => Err(syntax(cursor.alloc, INVALID_PROPERTY)),
     }
 }
 
 /// Reads what stands between the braces, and looks it up.
-fn read_named<'a>(
+fn read_braced<'a>(
     cursor: &mut Cursor,
     sets: bool,
     tables: &'a Tables,

@@ -18,8 +18,8 @@ ghost use Rattle.regress_parse.specs.Parsing.{alternatives};
 
 use regress_base::charclasses::CharacterClassType;
 use regress_base::codepointset::CodePointSet;
+use regress_base::sets::set_is_canonical;
 use regress_base::types::{BracketContents, CaptureGroupID};
-use regress_classes::class_escape::set_is_canonical;
 use regress_syntax::{Group, Name, Scope, Value, class_escape_set};
 use regress_tree::ir::{AnchorType, Node, NodeList, Quantifier};
 use regress_unicode::{add_icase_code_points, expand_code_point};

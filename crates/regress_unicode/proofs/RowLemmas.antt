@@ -36,11 +36,6 @@ below_image low (row ∷ rows) c h lt =
     let rest : image rows c ≡ c = below_image (row.start + row.length) rows c parts.rest (omega (arith, parts.above)) in
     grind (arith, nat_tests, parts.above, rest)
 
-pub order_lower : (low low' : ℕ) (rows : List FoldRow) → low' ≤ low → IsTrue (is_in_order_from low rows) →
-    IsTrue (is_in_order_from low' rows)
-order_lower low low' [] le h = h
-order_lower low low' (row ∷ rows) le h = let parts = order_parts low row rows h in grind (arith, nat_tests, parts.above, parts.rest)
-
 -- each row begins at `low` or above
 pub order_at : (low : ℕ) (rows : List FoldRow) (k : ℕ) (d : FoldRow) → IsTrue (is_in_order_from low rows) → k < length rows →
     low ≤ (get_or rows k d).start

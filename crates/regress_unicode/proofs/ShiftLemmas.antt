@@ -142,10 +142,6 @@ pub intervals_all : (s : Shift) (ivs : List Bounds) (i c : ℕ) (old so_far : Bo
     so_far ≡ (old || lands s (is_member (take i ivs)) c) → so_far ≡ (old || lands s (is_member ivs) c)
 intervals_all s ivs i c old so_far le is = is ∙ ap (λ xs. old || lands s (is_member xs) c) (take_all i ivs le)
 
-pub rows_none : (way : FoldRow → Shift) (p : ℕ → Bool) (c : ℕ) (old : Bool) → old ≡ (old || lands_by way [] p c)
-unfolding lands_by
-rows_none way p c old = sym (or-false old)
-
 pub rows_more : (way : FoldRow → Shift) (p : ℕ → Bool) (rows : List FoldRow) (i c : ℕ) (row : FoldRow) (shift : Shift)
     (old so_far new : Bool) → i < length rows → row ≡ get_or rows i row → shift ≡ way row →
     so_far ≡ (old || lands_by way (take i rows) p c) → new ≡ (so_far || lands shift p c) →
@@ -156,10 +152,6 @@ rows_more way p rows i c row shift old so_far new lt is is_shift is_so_far is_ne
     let here : lands shift p c ≡ lands (way (get_or rows i row)) p c = ap (λ s. lands s p c) is_shift ∙ ap (λ r. lands (way r) p c) is in
     is_new ∙ rw (is_so_far, here, more) (sym (or_assoc old (list_any (λ r. lands (way r) p c) (take i rows))
     (lands (way (get_or rows i row)) p c)))
-
-pub rows_all : (way : FoldRow → Shift) (p : ℕ → Bool) (rows : List FoldRow) (i c : ℕ) (old so_far : Bool) → length rows ≤ i →
-    so_far ≡ (old || lands_by way (take i rows) p c) → so_far ≡ (old || lands_by way rows p c)
-rows_all way p rows i c old so_far le is = is ∙ ap (λ rs. old || lands_by way rs p c) (take_all i rows le)
 
 -- ---- intervals off the run
 

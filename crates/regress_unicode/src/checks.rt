@@ -1,7 +1,7 @@
 //! The tests of a table's parts, each for one refusal.
 ghost use Rattle.std.specs.Prelude.{◌≡◌, ◌≢◌, ℕ, ◌+◌, ◌<◌, ◌≤◌, ◌↔◌, ◌⊎◌, true, false, nat_le, length, slice_index, IsTrue, IfOk, IfErr, MatchResult, MatchBool, All, alloc_error};
 ghost use Rattle.std.specs.List.{list_all};
-ghost use Rattle.regress_base.specs.Intervals.{is_member, IsCanonical};
+ghost use Rattle.regress_base.specs.Intervals.{is_member};
 ghost use Rattle.regress_base.specs.Classes.{word_characters};
 ghost use Rattle.regress_unicode.specs.declared.tables_error.TablesError.TheVariants.{RangeOrder, TargetOutOfRange, NotIdempotent, ClassTooLarge, Memory};
 ghost use Rattle.regress_unicode.specs.FoldRows.{image as image_of, is_in_order, are_targets_in_range};
@@ -12,6 +12,7 @@ ghost use Rattle.regress_unicode.specs.Parts.{sets_of};
 use super::images::image;
 use super::{FoldRange, TablesError, Which};
 use regress_base::codepointset::{CODE_POINT_MAX, CodePointSet};
+use regress_base::sets::set_is_canonical;
 use std::alloc::{AllocError, Global};
 
 /// Refuses rows that do not ascend, or share a code point.
@@ -165,13 +166,6 @@ fn are_code_points(string: &[u32]) -> bool
     ensures { result ≡ list_all (λ c. nat_le c CODE_POINT_MAX) string.now }
 {
     string.iter().all(|c| *c <= CODE_POINT_MAX)
-}
-
-/// What the type of a set says of it, for a proof that needs it. It does nothing else.
-pub(super) fn set_is_canonical(set: &CodePointSet)
-    ensures { IsCanonical set.now }
-{
-    let _ = set.intervals();
 }
 
 /// What [`set_is_canonical`] tells, for each entry.

@@ -6,10 +6,10 @@ ghost use Rattle.regress_unicode.specs.Shifts.{IsShift, lands, lands_by, forward
 ghost use Rattle.regress_base.specs.Table.{is_in_closure};
 ghost use Rattle.regress_unicode.specs.TableOf.{table_of};
 
-use super::checks::set_is_canonical;
 use super::shift::Shift;
 use super::{FoldRange, Tables};
 use regress_base::codepointset::{CodePointSet, Interval};
+use regress_base::sets::{add_intervals, set_is_canonical};
 use std::alloc::{AllocError, Global};
 
 /// All code points whose fold is the fold of a member. What is closed stays as it is.
@@ -43,7 +43,7 @@ fn add_images(alloc: Global, set: &mut CodePointSet, rows: &[FoldRange]) -> Resu
         is_member set.new c ≡ (is_member set.old c || lands_by forward rows.now (is_member set.old) c)) }
 {
     let images = images(alloc, rows, set.intervals())?;
-    add_all(set, &images)
+    add_intervals(set, &images)
 }
 
 /// Adds what moves to the members.
@@ -54,18 +54,7 @@ fn add_sources(alloc: Global, set: &mut CodePointSet, rows: &[FoldRange]) -> Res
     ensures nonempty { OnOk result (All (λ row. 1 ≤ row.length) rows.now) }
 {
     let sources = sources(alloc, rows, set.intervals())?;
-    add_all(set, &sources)
-}
-
-/// Adds all of the intervals.
-fn add_all(set: &mut CodePointSet, intervals: &[Interval]) -> Result<(), AllocError>
-    ensures { OnOk result ((c : ℕ) →
-        is_member set.new c ≡ (is_member set.old c || is_member intervals.now c)) }
-{
-    for interval in intervals {
-        set.add(*interval)?;
-    }
-    Ok(())
+    add_intervals(set, &sources)
 }
 
 /// The images of what moves in the intervals. One walk over the rows and the intervals, which both

@@ -6,10 +6,11 @@ ghost use Rattle.regress_unicode.specs.Refusals.{IsFirstDue, place};
 
 use super::checks::{
     check_classes, check_idempotent, check_order, check_targets, have_strings, have_word_ascii,
-    moved_images, set_is_canonical, sets_are_canonical,
+    moved_images, sets_are_canonical,
 };
 use super::{FoldRange, Tables, TablesError, Which};
 use regress_base::codepointset::CodePointSet;
+use regress_base::sets::set_is_canonical;
 use std::alloc::Global;
 
 /// Refuses rows that make no map of cases. It looks at each code point of the rows, and sorts those

@@ -194,18 +194,6 @@ put_lists (y ∷ ys) (suc place) c x within =
     let rest = put_lists ys place c x (omega arith) in
     grind (arith, nat_tests, rest)
 
--- a number that stands there
-pub lists-at : (xs : List ℕ) (place c : ℕ) → place < length xs → get_or xs place c ≡ c → lists xs c ≡ true
-lists-at [] place c within at = absurd (omega arith)
-lists-at (x ∷ xs) zero c within at = ap (λ y. lists (x ∷ xs) y) (sym at) ∙ lists-head x xs
-lists-at (x ∷ xs) (suc place) c within at = lists-tail x xs c (lists-at xs place c (omega arith) at)
-
-pub lists_again : (xs : List ℕ) (c x : ℕ) → lists xs c ≡ true → lists xs x ≡ (lists xs x || (x == c))
-lists_again xs c x there = elim (cases_eq x c) [
-  | inl same ↦ (let here : lists xs x ≡ true = subst (λ (n : ℕ). lists xs n ≡ true) (sym same) there in rw here refl)
-  | inr other ↦ (let no : (x == c) ≡ false = grind (arith, nat_tests, other) in grind (arith, nat_tests, no))
-]
-
 -- what was found of an image so far: the target, and then a source more
 pub listed_source : (x source : ℕ) (old new target before here more : Bool) → source ≤ code_point_max
     → old ≡ (nat_le x code_point_max && (target || before)) → new ≡ (old || (x == source)) → here ≡ (x == source) → more ≡ (before || here)

@@ -12,10 +12,11 @@ use super::Surroundings;
 use super::character::read_escaped_character;
 use super::strings::read_quoted;
 use super::value::Value;
-use crate::class_escape::{class_letter, class_members, set_is_canonical};
+use crate::class_escape::{class_letter, class_members};
 use crate::property::{Property, is_property_letter, read_property};
 use regress_base::charclasses::CharacterClassType;
 use regress_base::codepointset::CodePointSet;
+use regress_base::sets::set_is_canonical;
 use regress_lexical::cursor::Cursor;
 use regress_lexical::fault::{INCOMPLETE_SET_ESCAPE, INVALID_ESCAPE, ParseFault, syntax};
 use std::alloc::{AllocError, Global};
@@ -41,7 +42,7 @@ impl Operand {
 }
 
 /// Reads an escape, behind its backslash.
-pub(super) fn read_escaped(
+pub(super) fn read_escaped_operand(
     cursor: &mut Cursor,
     around: &Surroundings,
 ) -> Result<Operand, ParseFault>

@@ -59,12 +59,12 @@ pub read_operand-returns-then-try_consume-2 : goal.read_operand-returns-then-try
 read_operand-returns-then-try_consume-2 t c =
     let around = c.args.around.now in
     let same : source c.try_consume.new.self ≡ source c.args.cursor.now = c.try_consume.ensures.moves ∙ cond-false _ _ _ c.if-try_consume.false in
-    subst (ReadsAs IsOperand (source c.read_escaped.new.cursor) c.read_escaped.result)
+    subst (ReadsAs IsOperand (source c.read_escaped_operand.new.cursor) c.read_escaped_operand.result)
     (sym (escape_read (table_of around.tables.now) around.unicode (inner_of around) around.negated (source c.args.cursor.now)
     (source c.try_consume-2.new.self) (sym c.try_consume.ensures.found ∙ c.if-try_consume.false)
     (ap (is_at 92) (sym same) ∙ sym c.try_consume-2.ensures.found ∙ c.if-try_consume-2.true)
     (c.try_consume-2.ensures.moves ∙ cond-true _ _ _ c.if-try_consume-2.true ∙ ap (λ (u : Source). drop 1 u) same)))
-    c.read_escaped.ensures
+    c.read_escaped_operand.ensures
 
 pub read_operand-returns-in_err-character : goal.read_operand-returns-in_err-character
 read_operand-returns-in_err-character t c =

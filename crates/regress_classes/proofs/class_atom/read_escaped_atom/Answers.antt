@@ -6,7 +6,7 @@ use Rattle.regress_lexical.specs.Source.{IsCodePoint}
 use Rattle.regress_classes.specs.ClassViews.{class_atom_of}
 use Rattle.regress_lexical.proofs.laws.Behind.{behind_all, escape_at-ends}
 use Rattle.regress_classes.proofs.laws.Pieces.{class_control_at-ends}
-use Rattle.regress_classes.proofs.class_atom.read_escaped.Goals as goal
+use Rattle.regress_classes.proofs.class_atom.read_escaped_atom.Goals as goal
 
 pub invariant_of-cursor-then-not-unicode : goal.invariant_of-cursor-then-not-unicode
 invariant_of-cursor-then-not-unicode c =

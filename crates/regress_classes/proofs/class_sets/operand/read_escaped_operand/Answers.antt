@@ -5,7 +5,7 @@ use Rattle.regress_classes.specs.ClassRows.{class_members}
 use Rattle.regress_classes.specs.ClassSets.{only, class}
 use Rattle.regress_lexical.specs.Views.{source}
 use Rattle.regress_classes.proofs.ClassOperandLemmas.{class_escape_read}
-use Rattle.regress_classes.proofs.class_sets.operand.read_escaped.Goals as goal
+use Rattle.regress_classes.proofs.class_sets.operand.read_escaped_operand.Goals as goal
 
 pub returns-in_ok-class_value : goal.returns-in_ok-class_value
 returns-in_ok-class_value c =

@@ -1,0 +1,17 @@
+//! The characters of a text.
+ghost use Rattle.std.specs.Prelude.{◌≡◌, ◌≤◌, All, IfOk, chars};
+
+use crate::interval::CODE_POINT_MAX;
+use std::alloc::{AllocError, Global};
+
+/// The characters of a text in order, none above U+10FFFF. The error is want of memory.
+pub fn code_points(alloc: Global, text: &str) -> Result<Vec<u32>, AllocError>
+    ensures characters { IfOk result (λ points. points.items ≡ chars text.now) }
+    ensures in_range { IfOk result (λ points. All (λ c. c ≤ CODE_POINT_MAX) points.items) }
+{
+    let mut points = Vec::new(alloc);
+    for c in text.chars() {
+        points.push(u32::from(c))?;
+    }
+    Ok(points)
+}
