@@ -1,0 +1,72 @@
+-- What tests of the constants tell: the pairs of a canonical set are intervals, rows can be packed, strings stand where
+-- their places say.
+use Rattle.std.proofs.Common.{◌≡◌, ℕ, ℤ, pos, negsuc, ◌+◌, ◌^◌, ◌≤◌, ◌<◌, ◌≤ℤ◌, ◌⊎◌, inl, inr, Bool, true, ◌&&◌, ◌||◌, ◌==◌, nat_le, nat_lt, IsTrue, List, [], ◌∷◌, map, All, length, slice_range, arith}
+use Rattle.std.specs.List.{list_all}
+use Rattle.std.proofs.lemmas.Bool.Decides.{nat_tests}
+use Rattle.std.proofs.lemmas.Int.{ints}
+use Rattle.std.proofs.lemmas.List.Sums.{AllPass-from_list_all}
+use Rattle.std.proofs.lemmas.List.Elements.{All-cons, All-nil}
+use Rattle.regress_base.specs.Intervals.{IsInterval, IsCanonical, is_canonical_from}
+use Rattle.regress_unicode.specs.FoldRows.{FoldRow, IsPackableRow, IsModulo}
+use Rattle.regress_ucd.specs.Data.{bounds, are_places, AreStringsAt}
+
+intervals_from : (low : ℕ) (pairs : List (ℕ × ℕ)) → IsTrue (is_canonical_from low (map bounds pairs)) →
+    All (λ p. IsInterval (bounds p)) pairs
+intervals_from low [] h = All-nil
+intervals_from low (p ∷ pairs) h =
+    let here : IsInterval (bounds p) = record { ordered = grind (arith, nat_tests, h); in_range = grind (arith, nat_tests, h) } in
+    let rest : IsTrue (is_canonical_from (p.1 + 2) (map bounds pairs)) = grind (arith, nat_tests, h) in
+    All-cons (λ p. IsInterval (bounds p)) p pairs here (intervals_from (p.1 + 2) pairs rest)
+
+pub canonical_intervals : (pairs : List (ℕ × ℕ)) → IsCanonical (map bounds pairs) → All (λ p. IsInterval (bounds p)) pairs
+canonical_intervals pairs h = intervals_from 0 pairs h
+
+-- ---- rows
+
+-- a delta of less than 2 ^ 27, either way
+abbrev pub is_short : ℤ → Bool
+is_short (pos n) = nat_lt n (2 ^ 27)
+is_short (negsuc n) = nat_lt n (2 ^ 27)
+
+abbrev pub is_packable : FoldRow → Bool
+is_packable row =
+    (nat_le 1 row.length && nat_le row.length 4096) && (nat_lt (row.start + row.length) (2 ^ 20) &&
+    (is_short row.delta && (row.modulo == 1 || row.modulo == 2)))
+
+short_low : (d : ℤ) → is_short d ≡ true → negsuc (2 ^ 27 - 1) ≤ℤ d
+short_low (pos n) h = omega (arith, ints)
+short_low (negsuc n) h = let lt : n < 2 ^ 27 = grind (arith, nat_tests, h) in omega (arith, ints, lt)
+
+short_high : (d : ℤ) → is_short d ≡ true → d ≤ℤ pos (2 ^ 27 - 1)
+short_high (pos n) h = let lt : n < 2 ^ 27 = grind (arith, nat_tests, h) in omega (arith, ints, lt)
+short_high (negsuc n) h = omega (arith, ints)
+
+pub packable : (row : FoldRow) → is_packable row ≡ true → IsPackableRow row
+packable row h =
+    let short : is_short row.delta ≡ true = grind (nat_tests, h) in
+    let modulo : (row.modulo ≡ 1) ⊎ (row.modulo ≡ 2) = grind (arith, nat_tests, h) in
+    record {
+      span = record {
+        nonempty = grind (arith, nat_tests, h);
+        short = grind (arith, nat_tests, h);
+        low = grind (arith, nat_tests, h);
+      };
+      delta_low = short_low row.delta short;
+      delta_high = short_high row.delta short;
+      modulo = elim modulo [ | inl one ↦ inl one | inr two ↦ inr (inl two) ];
+    }
+
+-- ---- strings
+
+abbrev pub are_strings_at : List (ℕ × ℕ) → (count from to : ℕ) → Bool
+are_strings_at places count from to =
+    are_places (length places) from to && list_all (λ place. are_places count place.0 place.1) (slice_range places from to)
+
+pub strings_stand : (places : List (ℕ × ℕ)) (points : List ℕ) (from to : ℕ) → are_strings_at places (length points) from to ≡ true →
+    AreStringsAt places points from to
+strings_stand places points from to h =
+    let all : IsTrue (list_all (λ place. are_places (length points) place.0 place.1) (slice_range places from to)) = grind (nat_tests, h) in
+    record {
+      places = grind (nat_tests, h);
+      points = AllPass-from_list_all (λ place. are_places (length points) place.0 place.1) (slice_range places from to) all;
+    }
