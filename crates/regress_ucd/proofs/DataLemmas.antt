@@ -1,14 +1,14 @@
 -- What tests of the constants tell: the pairs of a canonical set are intervals, rows can be packed, strings stand where
 -- their places say.
-use Rattle.std.proofs.Common.{◌≡◌, ℕ, ℤ, pos, negsuc, ◌+◌, ◌^◌, ◌≤◌, ◌<◌, ◌≤ℤ◌, ◌⊎◌, inl, inr, Bool, true, ◌&&◌, ◌||◌, ◌==◌, nat_le, nat_lt, IsTrue, List, [], ◌∷◌, map, All, length, slice_range, arith}
+use Rattle.std.proofs.Common.{◌≡◌, ℕ, ℤ, pos, negsuc, ◌+◌, ◌^◌, ◌≤◌, ◌<◌, ◌≤ℤ◌, ◌⊎◌, inl, inr, Bool, true, ◌&&◌, ◌||◌, ◌==◌, nat_le, nat_lt, IsTrue, List, [], ◌∷◌, map, All, length, slice_range, sym, subst, arith}
 use Rattle.std.specs.List.{list_all}
 use Rattle.std.proofs.lemmas.Bool.Decides.{nat_tests}
 use Rattle.std.proofs.lemmas.Int.{ints}
 use Rattle.std.proofs.lemmas.List.Sums.{AllPass-from_list_all}
-use Rattle.std.proofs.lemmas.List.Elements.{All-cons, All-nil}
+use Rattle.std.proofs.lemmas.List.Elements.{All-cons, All-nil, All-weaker}
 use Rattle.regress_base.specs.Intervals.{IsInterval, IsCanonical, is_canonical_from}
 use Rattle.regress_unicode.specs.FoldRows.{FoldRow, IsPackableRow, IsModulo}
-use Rattle.regress_ucd.specs.Data.{bounds, are_places, AreStringsAt}
+use Rattle.regress_ucd.specs.Data.{bounds, set_at, is_set_at, are_places, AreStringsAt}
 
 intervals_from : (low : ℕ) (pairs : List (ℕ × ℕ)) → IsTrue (is_canonical_from low (map bounds pairs)) →
     All (λ p. IsInterval (bounds p)) pairs
@@ -53,20 +53,42 @@ packable row h =
       };
       delta_low = short_low row.delta short;
       delta_high = short_high row.delta short;
-      modulo = elim modulo [ | inl one ↦ inl one | inr two ↦ inr (inl two) ];
+      modulo = elim modulo [ inl one ↦ inl one | inr two ↦ inr (inl two) ];
     }
 
--- ---- strings
+-- ---- places, in lists whose lengths are known
 
-abbrev pub are_strings_at : List (ℕ × ℕ) → (count from to : ℕ) → Bool
-are_strings_at places count from to =
-    are_places (length places) from to && list_all (λ place. are_places count place.0 place.1) (slice_range places from to)
+abbrev pub is_set_in : List (ℕ × ℕ) → (count from to : ℕ) → Bool
+is_set_in intervals count from to = are_places count from to && is_canonical_from 0 (set_at intervals from to)
 
-pub strings_stand : (places : List (ℕ × ℕ)) (points : List ℕ) (from to : ℕ) → are_strings_at places (length points) from to ≡ true →
-    AreStringsAt places points from to
-strings_stand places points from to h =
+pub set_stands : (intervals : List (ℕ × ℕ)) (count from to : ℕ) → length intervals ≡ count →
+    IsTrue (is_set_in intervals count from to) → IsTrue (is_set_at intervals from to)
+set_stands intervals count from to is h = subst (λ (n : ℕ). IsTrue (is_set_in intervals n from to)) (sym is) h
+
+pub sets_stand : {A : Type 0} (intervals : List (ℕ × ℕ)) (names : List (A × ℕ × ℕ)) (count : ℕ) → length intervals ≡ count →
+    IsTrue (list_all (λ n. is_set_in intervals count n.1 n.2) names) → All (λ n. IsTrue (is_set_at intervals n.1 n.2)) names
+sets_stand intervals names count is h =
+    All-weaker (λ n. is_set_in intervals count n.1 n.2 ≡ true) (λ n. IsTrue (is_set_at intervals n.1 n.2))
+    (λ n e. set_stands intervals count n.1 n.2 is e) names (AllPass-from_list_all (λ n. is_set_in intervals count n.1 n.2) names h)
+
+abbrev pub are_strings_in : List (ℕ × ℕ) → (of_places of_points from to : ℕ) → Bool
+are_strings_in places of_places of_points from to =
+    are_places of_places from to && list_all (λ place. are_places of_points place.0 place.1) (slice_range places from to)
+
+strings_stand_at : (places : List (ℕ × ℕ)) (points : List ℕ) (from to : ℕ) →
+    are_strings_in places (length places) (length points) from to ≡ true → AreStringsAt places points from to
+strings_stand_at places points from to h =
     let all : IsTrue (list_all (λ place. are_places (length points) place.0 place.1) (slice_range places from to)) = grind (nat_tests, h) in
     record {
       places = grind (nat_tests, h);
       points = AllPass-from_list_all (λ place. are_places (length points) place.0 place.1) (slice_range places from to) all;
     }
+
+pub strings_stand : {A : Type 0} (places : List (ℕ × ℕ)) (points : List ℕ) (names : List (A × ℕ × ℕ)) (of_places of_points : ℕ) →
+    length places ≡ of_places → length points ≡ of_points →
+    IsTrue (list_all (λ n. are_strings_in places of_places of_points n.1 n.2) names) →
+    All (λ n. AreStringsAt places points n.1 n.2) names
+strings_stand places points names of_places of_points is are h =
+    All-weaker (λ n. are_strings_in places of_places of_points n.1 n.2 ≡ true) (λ n. AreStringsAt places points n.1 n.2)
+    (λ n e. strings_stand_at places points n.1 n.2 (rw (is, are) e)) names
+    (AllPass-from_list_all (λ n. are_strings_in places of_places of_points n.1 n.2) names h)

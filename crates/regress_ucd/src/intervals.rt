@@ -2,6 +2,9 @@
 //!
 //! Made by tools/make_unicode_tables from the data of Unicode 15.0.0.
 
+/// How many INTERVALS lists.
+pub(super) const INTERVALS_COUNT: usize = 21083;
+
 /// First and last code points.
 pub(super) static INTERVALS: &[(u32, u32)] = &[
     (0x0, 0x1F),

@@ -5,7 +5,6 @@ ghost use Rattle.regress_unicode.specs.FoldRows.{IsPackableRow};
 ghost use Rattle.regress_unicode.specs.Parts.{sets_of, strings_of};
 ghost use Rattle.regress_ucd.specs.Data.{bounds, row, set_at, strings_at, is_set_at, are_places, AreStringsAt, named_set, named_strings};
 
-
 use regress_base::codepointset::{CodePointSet, Interval};
 use regress_unicode::FoldRange;
 use std::alloc::{AllocError, Global};
