@@ -1,6 +1,6 @@
 -- What tests of the constants tell: the pairs of a canonical set are intervals, rows can be packed, strings stand where
 -- their places say.
-use Rattle.std.proofs.Common.{◌≡◌, ℕ, ℤ, pos, negsuc, ◌+◌, ◌^◌, ◌≤◌, ◌<◌, ◌≤ℤ◌, ◌⊎◌, inl, inr, Bool, true, ◌&&◌, ◌||◌, ◌==◌, nat_le, nat_lt, IsTrue, List, [], ◌∷◌, map, All, length, slice_range, sym, subst, arith}
+use Rattle.std.proofs.Common.{◌≡◌, ℕ, ℤ, pos, negsuc, ◌+◌, ◌^◌, ◌≤◌, ◌<◌, ◌≤ℤ◌, ◌⊎◌, inl, inr, Bool, true, ◌&&◌, ◌||◌, ◌==◌, nat_le, nat_lt, IsTrue, List, [], ◌∷◌, map, All, length, slice_range, take, drop, zero, suc, ◌-◌, refl, sym, ap, subst, ◌∙◌, arith}
 use Rattle.std.specs.List.{list_all}
 use Rattle.std.proofs.lemmas.Bool.Decides.{nat_tests}
 use Rattle.std.proofs.lemmas.Int.{ints}
@@ -12,7 +12,7 @@ use Rattle.regress_ucd.specs.Data.{bounds, set_at, is_set_at, are_places, AreStr
 
 intervals_from : (low : ℕ) (pairs : List (ℕ × ℕ)) → IsTrue (is_canonical_from low (map bounds pairs)) →
     All (λ p. IsInterval (bounds p)) pairs
-intervals_from low [] h = All-nil
+intervals_from low [] h = All-nil (λ p. IsInterval (bounds p))
 intervals_from low (p ∷ pairs) h =
     let here : IsInterval (bounds p) = record { ordered = grind (arith, nat_tests, h); in_range = grind (arith, nat_tests, h) } in
     let rest : IsTrue (is_canonical_from (p.1 + 2) (map bounds pairs)) = grind (arith, nat_tests, h) in
@@ -43,7 +43,7 @@ short_high (negsuc n) h = omega (arith, ints)
 
 pub packable : (row : FoldRow) → is_packable row ≡ true → IsPackableRow row
 packable row h =
-    let short : is_short row.delta ≡ true = grind (nat_tests, h) in
+    let short : is_short row.delta ≡ true = grind (arith, nat_tests, h) in
     let modulo : (row.modulo ≡ 1) ⊎ (row.modulo ≡ 2) = grind (arith, nat_tests, h) in
     record {
       span = record {
@@ -65,11 +65,49 @@ pub set_stands : (intervals : List (ℕ × ℕ)) (count from to : ℕ) → lengt
     IsTrue (is_set_in intervals count from to) → IsTrue (is_set_at intervals from to)
 set_stands intervals count from to is h = subst (λ (n : ℕ). IsTrue (is_set_in intervals n from to)) (sym is) h
 
+drop-nil : (b : ℕ) → drop b ([] {A = ℕ × ℕ}) ≡ []
+drop-nil zero = refl
+drop-nil (suc b) = refl
+
+drop_again : (xs : List (ℕ × ℕ)) (a b : ℕ) → drop b (drop a xs) ≡ drop (a + b) xs
+drop_again xs zero b = refl
+drop_again [] (suc a) b = drop-nil b
+drop_again (x ∷ xs) (suc a) b = drop_again xs a b
+
+dropped : (xs left : List (ℕ × ℕ)) (at to : ℕ) → at ≤ to → left ≡ drop at xs → drop (to - at) left ≡ drop to xs
+dropped xs left at to le is =
+    let sum : at + (to - at) ≡ to = omega (arith, le) in
+    ap (drop (to - at)) is ∙ drop_again xs at (to - at) ∙ ap (λ k. drop k xs) sum
+
+-- One walk over the intervals: each set stands behind where the one before it begins, or there.
+abbrev pub are_sets_from : {A : Type 0} → (count at : ℕ) → List (ℕ × ℕ) → List (A × ℕ × ℕ) → Bool
+are_sets_from count at left [] = true
+are_sets_from count at left (n ∷ names) =
+    nat_le at n.1 && (are_places count n.1 n.2 && (is_canonical_from 0 (map bounds (take (n.2 - n.1) (drop (n.1 - at) left)))
+    && are_sets_from count n.1 (drop (n.1 - at) left) names))
+
+sets_from : {A : Type 0} (intervals : List (ℕ × ℕ)) (count at : ℕ) (left : List (ℕ × ℕ)) (names : List (A × ℕ × ℕ)) →
+    length intervals ≡ count → left ≡ drop at intervals → IsTrue (are_sets_from count at left names) →
+    All (λ n. IsTrue (is_set_at intervals n.1 n.2)) names
+sets_from {A} intervals count at left [] is here h = All-nil (λ (n : A × ℕ × ℕ). IsTrue (is_set_at intervals n.1 n.2))
+sets_from intervals count at left (n ∷ names) is here h =
+    let up : nat_le at n.1 ≡ true = grind (arith, nat_tests, h) in
+    let places : are_places count n.1 n.2 ≡ true = grind (arith, nat_tests, h) in
+    let canonical : is_canonical_from 0 (map bounds (take (n.2 - n.1) (drop (n.1 - at) left))) ≡ true = grind (arith, nat_tests, h) in
+    let rest : are_sets_from count n.1 (drop (n.1 - at) left) names ≡ true = grind (arith, nat_tests, h) in
+    let le : at ≤ n.1 = grind (arith, nat_tests, up) in
+    let there : drop (n.1 - at) left ≡ drop n.1 intervals = dropped intervals left at n.1 le here in
+    let set : is_set_in intervals count n.1 n.2 ≡ true = both (are_places count n.1 n.2) _ places
+    (subst (λ (xs : List (ℕ × ℕ)). is_canonical_from 0 (map bounds (take (n.2 - n.1) xs)) ≡ true) there canonical) in
+    All-cons (λ n. IsTrue (is_set_at intervals n.1 n.2)) n names (set_stands intervals count n.1 n.2 is set)
+    (sets_from intervals count n.1 (drop (n.1 - at) left) names is there rest)
+  where
+    both : (a b : Bool) → a ≡ true → b ≡ true → (a && b) ≡ true
+    both a b x y = rw (x, y)
+
 pub sets_stand : {A : Type 0} (intervals : List (ℕ × ℕ)) (names : List (A × ℕ × ℕ)) (count : ℕ) → length intervals ≡ count →
-    IsTrue (list_all (λ n. is_set_in intervals count n.1 n.2) names) → All (λ n. IsTrue (is_set_at intervals n.1 n.2)) names
-sets_stand intervals names count is h =
-    All-weaker (λ n. is_set_in intervals count n.1 n.2 ≡ true) (λ n. IsTrue (is_set_at intervals n.1 n.2))
-    (λ n e. set_stands intervals count n.1 n.2 is e) names (AllPass-from_list_all (λ n. is_set_in intervals count n.1 n.2) names h)
+    IsTrue (are_sets_from count 0 intervals names) → All (λ n. IsTrue (is_set_at intervals n.1 n.2)) names
+sets_stand intervals names count is h = sets_from intervals count 0 intervals names is refl h
 
 abbrev pub are_strings_in : List (ℕ × ℕ) → (of_places of_points from to : ℕ) → Bool
 are_strings_in places of_places of_points from to =
@@ -78,9 +116,9 @@ are_strings_in places of_places of_points from to =
 strings_stand_at : (places : List (ℕ × ℕ)) (points : List ℕ) (from to : ℕ) →
     are_strings_in places (length places) (length points) from to ≡ true → AreStringsAt places points from to
 strings_stand_at places points from to h =
-    let all : IsTrue (list_all (λ place. are_places (length points) place.0 place.1) (slice_range places from to)) = grind (nat_tests, h) in
+    let all : IsTrue (list_all (λ place. are_places (length points) place.0 place.1) (slice_range places from to)) = grind (arith, nat_tests, h) in
     record {
-      places = grind (nat_tests, h);
+      places = grind (arith, nat_tests, h);
       points = AllPass-from_list_all (λ place. are_places (length points) place.0 place.1) (slice_range places from to) all;
     }
 

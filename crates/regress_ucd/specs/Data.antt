@@ -1,7 +1,6 @@
 -- What the constants say, as plain data.
-use Rattle.std.specs.Prelude.{◌≡◌, ℕ, ◌≤◌, Bool, ◌&&◌, nat_le, IsTrue, List, map, All, length, slice_range, ℤ}
-use Rattle.std.specs.List.{list_all}
-use Rattle.regress_base.specs.Intervals.{Bounds, IsInterval, is_canonical_from, code_point_max}
+use Rattle.std.specs.Prelude.{ℕ, Bool, ◌&&◌, nat_le, IsTrue, List, map, All, length, slice_range, ℤ}
+use Rattle.regress_base.specs.Intervals.{Bounds, is_canonical_from}
 use Rattle.regress_unicode.specs.FoldRows.{FoldRow}
 use Rattle.regress_base.specs.Table.{Named}
 
@@ -38,6 +37,6 @@ abbrev pub named_strings : List (ℕ × ℕ) → List ℕ → List ℕ → ℕ �
 named_strings places points name from to = record { name = name; value = strings_at places points from to }
 
 -- strings stand there, each with its code points
-pub record AreStringsAt (places : List (ℕ × ℕ)) (points : List ℕ) (from to : ℕ) : Type 0 where
-  pub places : IsTrue (are_places (length places) from to)
-  pub points : All (λ place. IsTrue (are_places (length points) place.0 place.1)) (slice_range places from to)
+pub record AreStringsAt (listed : List (ℕ × ℕ)) (code_points : List ℕ) (from to : ℕ) : Type 0 where
+  pub places : IsTrue (are_places (length listed) from to)
+  pub points : All (λ place. IsTrue (are_places (length code_points) place.0 place.1)) (slice_range listed from to)

@@ -11,26 +11,26 @@ use Rattle.regress_ucd.proofs.whole.unicode_tables.Goals as goal
 pub rows-requires : goal.rows-requires
 rows-requires c = folds
 
-pub rows-2-requires : goal.rows-2-requires
-rows-2-requires c = uppers
+pub rows-requires-2 : goal.rows-requires-2
+rows-requires-2 c = uppers
 
 pub set_at-requires : goal.set_at-requires
 set_at-requires c = id_start
 
-pub set_at-2-requires : goal.set_at-2-requires
-set_at-2-requires c = id_continue
+pub set_at-requires-2 : goal.set_at-requires-2
+set_at-requires-2 c = id_continue
 
 pub named_sets-requires : goal.named_sets-requires
 named_sets-requires c = general_category
 
-pub named_sets-2-requires : goal.named_sets-2-requires
-named_sets-2-requires c = script
+pub named_sets-requires-2 : goal.named_sets-requires-2
+named_sets-requires-2 c = script
 
-pub named_sets-3-requires : goal.named_sets-3-requires
-named_sets-3-requires c = script_extensions
+pub named_sets-requires-3 : goal.named_sets-requires-3
+named_sets-requires-3 c = script_extensions
 
-pub named_sets-4-requires : goal.named_sets-4-requires
-named_sets-4-requires c = binary
+pub named_sets-requires-4 : goal.named_sets-requires-4
+named_sets-requires-4 c = binary
 
 pub named_strings-requires : goal.named_strings-requires
 named_strings-requires c = strings
