@@ -65,14 +65,16 @@ pub set_stands : (intervals : List (ℕ × ℕ)) (count from to : ℕ) → lengt
     IsTrue (is_set_in intervals count from to) → IsTrue (is_set_at intervals from to)
 set_stands intervals count from to is h = subst (λ (n : ℕ). IsTrue (is_set_in intervals n from to)) (sym is) h
 
-drop-nil : (b : ℕ) → drop b ([] {A = ℕ × ℕ}) ≡ []
-drop-nil zero = refl
-drop-nil (suc b) = refl
+drop_none : (b : ℕ) → drop {A = ℕ × ℕ} b [] ≡ []
+drop_none zero = refl
+drop_none (suc b) = refl
 
 drop_again : (xs : List (ℕ × ℕ)) (a b : ℕ) → drop b (drop a xs) ≡ drop (a + b) xs
-drop_again xs zero b = refl
-drop_again [] (suc a) b = drop-nil b
-drop_again (x ∷ xs) (suc a) b = drop_again xs a b
+drop_again xs zero b = let same : b ≡ 0 + b = omega arith in ap (λ k. drop k xs) same
+drop_again [] (suc a) b = drop_none b ∙ sym (drop_none (suc a + b))
+drop_again (x ∷ xs) (suc a) b =
+    let same : suc (a + b) ≡ suc a + b = omega arith in
+    drop_again xs a b ∙ ap (λ k. drop k (x ∷ xs)) same
 
 dropped : (xs left : List (ℕ × ℕ)) (at to : ℕ) → at ≤ to → left ≡ drop at xs → drop (to - at) left ≡ drop to xs
 dropped xs left at to le is =
@@ -80,34 +82,41 @@ dropped xs left at to le is =
     ap (drop (to - at)) is ∙ drop_again xs at (to - at) ∙ ap (λ k. drop k xs) sum
 
 -- One walk over the intervals: each set stands behind where the one before it begins, or there.
-abbrev pub are_sets_from : {A : Type 0} → (count at : ℕ) → List (ℕ × ℕ) → List (A × ℕ × ℕ) → Bool
+abbrev pub are_sets_from : (count at : ℕ) → List (ℕ × ℕ) → List (ℕ × ℕ) → Bool
 are_sets_from count at left [] = true
-are_sets_from count at left (n ∷ names) =
-    nat_le at n.1 && (are_places count n.1 n.2 && (is_canonical_from 0 (map bounds (take (n.2 - n.1) (drop (n.1 - at) left)))
-    && are_sets_from count n.1 (drop (n.1 - at) left) names))
+are_sets_from count at left (p ∷ places) =
+    nat_le at p.0 && (are_places count p.0 p.1 && (is_canonical_from 0 (map bounds (take (p.1 - p.0) (drop (p.0 - at) left)))
+    && are_sets_from count p.0 (drop (p.0 - at) left) places))
 
-sets_from : {A : Type 0} (intervals : List (ℕ × ℕ)) (count at : ℕ) (left : List (ℕ × ℕ)) (names : List (A × ℕ × ℕ)) →
-    length intervals ≡ count → left ≡ drop at intervals → IsTrue (are_sets_from count at left names) →
-    All (λ n. IsTrue (is_set_at intervals n.1 n.2)) names
-sets_from {A} intervals count at left [] is here h = All-nil (λ (n : A × ℕ × ℕ). IsTrue (is_set_at intervals n.1 n.2))
-sets_from intervals count at left (n ∷ names) is here h =
-    let up : nat_le at n.1 ≡ true = grind (arith, nat_tests, h) in
-    let places : are_places count n.1 n.2 ≡ true = grind (arith, nat_tests, h) in
-    let canonical : is_canonical_from 0 (map bounds (take (n.2 - n.1) (drop (n.1 - at) left))) ≡ true = grind (arith, nat_tests, h) in
-    let rest : are_sets_from count n.1 (drop (n.1 - at) left) names ≡ true = grind (arith, nat_tests, h) in
-    let le : at ≤ n.1 = grind (arith, nat_tests, up) in
-    let there : drop (n.1 - at) left ≡ drop n.1 intervals = dropped intervals left at n.1 le here in
-    let set : is_set_in intervals count n.1 n.2 ≡ true = both (are_places count n.1 n.2) _ places
-    (subst (λ (xs : List (ℕ × ℕ)). is_canonical_from 0 (map bounds (take (n.2 - n.1) xs)) ≡ true) there canonical) in
-    All-cons (λ n. IsTrue (is_set_at intervals n.1 n.2)) n names (set_stands intervals count n.1 n.2 is set)
-    (sets_from intervals count n.1 (drop (n.1 - at) left) names is there rest)
-  where
-    both : (a b : Bool) → a ≡ true → b ≡ true → (a && b) ≡ true
-    both a b x y = rw (x, y)
+both : (a b : Bool) → a ≡ true → b ≡ true → (a && b) ≡ true
+both a b x y = rw (x, y)
 
-pub sets_stand : {A : Type 0} (intervals : List (ℕ × ℕ)) (names : List (A × ℕ × ℕ)) (count : ℕ) → length intervals ≡ count →
-    IsTrue (are_sets_from count 0 intervals names) → All (λ n. IsTrue (is_set_at intervals n.1 n.2)) names
-sets_stand intervals names count is h = sets_from intervals count 0 intervals names is refl h
+sets_step : (intervals : List (ℕ × ℕ)) (count at : ℕ) (left : List (ℕ × ℕ)) (p : ℕ × ℕ) (places : List (ℕ × ℕ)) →
+    length intervals ≡ count → left ≡ drop at intervals → IsTrue (are_sets_from count at left (p ∷ places)) →
+    (drop (p.0 - at) left ≡ drop p.0 intervals → IsTrue (are_sets_from count p.0 (drop (p.0 - at) left) places) →
+    All (λ p. IsTrue (is_set_at intervals p.0 p.1)) places) → All (λ p. IsTrue (is_set_at intervals p.0 p.1)) (p ∷ places)
+sets_step intervals count at left p places is here h others =
+    let up : nat_le at p.0 ≡ true = grind (arith, nat_tests, h) in
+    let fit : are_places count p.0 p.1 ≡ true = grind (arith, nat_tests, h) in
+    let canonical : is_canonical_from 0 (map bounds (take (p.1 - p.0) (drop (p.0 - at) left))) ≡ true = grind (arith, nat_tests, h) in
+    let rest : are_sets_from count p.0 (drop (p.0 - at) left) places ≡ true = grind (arith, nat_tests, h) in
+    let le : at ≤ p.0 = grind (arith, nat_tests, up) in
+    let there : drop (p.0 - at) left ≡ drop p.0 intervals = dropped intervals left at p.0 le here in
+    let set : is_set_in intervals count p.0 p.1 ≡ true = both (are_places count p.0 p.1) _ fit
+    (subst (λ (xs : List (ℕ × ℕ)). is_canonical_from 0 (map bounds (take (p.1 - p.0) xs)) ≡ true) there canonical) in
+    All-cons (λ p. IsTrue (is_set_at intervals p.0 p.1)) p places (set_stands intervals count p.0 p.1 is set) (others there rest)
+
+sets_from : (intervals : List (ℕ × ℕ)) (count at : ℕ) (left places : List (ℕ × ℕ)) →
+    length intervals ≡ count → left ≡ drop at intervals → IsTrue (are_sets_from count at left places) →
+    All (λ p. IsTrue (is_set_at intervals p.0 p.1)) places
+sets_from intervals count at left [] is here h = All-nil (λ p. IsTrue (is_set_at intervals p.0 p.1))
+sets_from intervals count at left (p ∷ places) is here h =
+    sets_step intervals count at left p places is here h (λ there rest.
+    sets_from intervals count p.0 (drop (p.0 - at) left) places is there rest)
+
+pub sets_stand : (intervals places : List (ℕ × ℕ)) (count : ℕ) → length intervals ≡ count →
+    IsTrue (are_sets_from count 0 intervals places) → All (λ p. IsTrue (is_set_at intervals p.0 p.1)) places
+sets_stand intervals places count is h = sets_from intervals count 0 intervals places is refl h
 
 abbrev pub are_strings_in : List (ℕ × ℕ) → (of_places of_points from to : ℕ) → Bool
 are_strings_in places of_places of_points from to =
@@ -122,11 +131,11 @@ strings_stand_at places points from to h =
       points = AllPass-from_list_all (λ place. are_places (length points) place.0 place.1) (slice_range places from to) all;
     }
 
-pub strings_stand : {A : Type 0} (places : List (ℕ × ℕ)) (points : List ℕ) (names : List (A × ℕ × ℕ)) (of_places of_points : ℕ) →
+pub strings_stand : (places : List (ℕ × ℕ)) (points : List ℕ) (names : List (ℕ × ℕ)) (of_places of_points : ℕ) →
     length places ≡ of_places → length points ≡ of_points →
-    IsTrue (list_all (λ n. are_strings_in places of_places of_points n.1 n.2) names) →
-    All (λ n. AreStringsAt places points n.1 n.2) names
+    IsTrue (list_all (λ n. are_strings_in places of_places of_points n.0 n.1) names) →
+    All (λ n. AreStringsAt places points n.0 n.1) names
 strings_stand places points names of_places of_points is are h =
-    All-weaker (λ n. are_strings_in places of_places of_points n.1 n.2 ≡ true) (λ n. AreStringsAt places points n.1 n.2)
-    (λ n e. strings_stand_at places points n.1 n.2 (rw (is, are) e)) names
-    (AllPass-from_list_all (λ n. are_strings_in places of_places of_points n.1 n.2) names h)
+    All-weaker (λ n. are_strings_in places of_places of_points n.0 n.1 ≡ true) (λ n. AreStringsAt places points n.0 n.1)
+    (λ n e. strings_stand_at places points n.0 n.1 (rw (is, are) e)) names
+    (AllPass-from_list_all (λ n. are_strings_in places of_places of_points n.0 n.1) names h)

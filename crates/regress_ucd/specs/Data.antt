@@ -40,3 +40,11 @@ named_strings places points name from to = record { name = name; value = strings
 pub record AreStringsAt (listed : List (ℕ × ℕ)) (code_points : List ℕ) (from to : ℕ) : Type 0 where
   pub places : IsTrue (are_places (length listed) from to)
   pub points : All (λ place. IsTrue (are_places (length code_points) place.0 place.1)) (slice_range listed from to)
+
+-- a canonical set stands at each of the places
+abbrev pub AreSets : List (ℕ × ℕ) → List (ℕ × ℕ) → Type 0
+AreSets intervals places = All (λ p. IsTrue (is_set_at intervals p.0 p.1)) places
+
+-- strings stand at each of the places
+abbrev pub AreStrings : List (ℕ × ℕ) → List ℕ → List (ℕ × ℕ) → Type 0
+AreStrings listed code_points places = All (λ p. AreStringsAt listed code_points p.0 p.1) places

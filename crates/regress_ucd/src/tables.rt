@@ -3,7 +3,7 @@ ghost use Rattle.std.specs.Prelude.{◌≡◌, All, IfOk, map, IsTrue, length, s
 ghost use Rattle.regress_base.specs.Intervals.{IsCanonical, IsInterval};
 ghost use Rattle.regress_unicode.specs.FoldRows.{IsPackableRow};
 ghost use Rattle.regress_unicode.specs.Parts.{sets_of, strings_of};
-ghost use Rattle.regress_ucd.specs.Data.{bounds, row, set_at, strings_at, is_set_at, are_places, AreStringsAt, named_set, named_strings};
+ghost use Rattle.regress_ucd.specs.Data.{bounds, row, set_at, strings_at, is_set_at, are_places, AreStringsAt, AreSets, AreStrings, named_set, named_strings};
 
 use regress_base::codepointset::{CodePointSet, Interval};
 use regress_unicode::FoldRange;
@@ -63,7 +63,7 @@ pub(super) fn named_sets(
     intervals: &[(u32, u32)],
     names: &[(&str, usize, usize)],
 ) -> Result<Vec<(String, CodePointSet)>, AllocError>
-    requires { All (λ n. IsTrue (is_set_at intervals.now n.1 n.2)) names.now }
+    requires { AreSets intervals.now (map (λ n. (n.1, n.2)) names.now) }
     ensures { IfOk result (λ entries. sets_of entries.items ≡ map (λ n. named_set intervals.now n.0.now n.1 n.2) names.now) }
 {
     let mut entries = Vec::new(alloc);
@@ -123,7 +123,7 @@ pub(super) fn named_strings(
     places: &[(usize, usize)],
     names: &[(&str, usize, usize)],
 ) -> Result<Vec<(String, Vec<Vec<u32>>)>, AllocError>
-    requires { All (λ n. AreStringsAt places.now points.now n.1 n.2) names.now }
+    requires { AreStrings places.now points.now (map (λ n. (n.1, n.2)) names.now) }
     ensures { IfOk result (λ entries. strings_of entries.items ≡ map (λ n. named_strings places.now points.now n.0.now n.1 n.2) names.now) }
 {
     let mut entries = Vec::new(alloc);

@@ -1,6 +1,6 @@
 -- What the constants keep.
 use Rattle.regress_ucd.proofs.ConstantsLemmas.{folds, uppers, id_start, id_continue, general_category, script, script_extensions, binary, strings}
-use Rattle.std.proofs.Common.{◌≡◌, ◌∙◌}
+use Rattle.std.proofs.Common.{◌≡◌, ◌∙◌, refl}
 use Rattle.std.proofs.lemmas.Result.{IfOk-weaker}
 use Rattle.regress_unicode.specs.Parts.{parts_from, table_from}
 use Rattle.regress_unicode.specs.TableOf.{table_of}
