@@ -1,11 +1,11 @@
 -- What tests of the constants tell: the pairs of a canonical set are intervals, rows can be packed, strings stand where
 -- their places say.
-use Rattle.std.proofs.Common.{◌≡◌, ℕ, ℤ, pos, negsuc, ◌+◌, ◌^◌, ◌≤◌, ◌<◌, ◌≤ℤ◌, ◌⊎◌, inl, inr, Bool, true, ◌&&◌, ◌||◌, ◌==◌, nat_le, nat_lt, IsTrue, List, [], ◌∷◌, map, All, length, slice_range, take, drop, zero, suc, ◌-◌, refl, sym, ap, subst, ◌∙◌, arith}
+use Rattle.std.proofs.Common.{◌≡◌, ℕ, ℤ, pos, negsuc, ◌+◌, ◌^◌, ◌≤◌, ◌<◌, ◌≤ℤ◌, ◌⊎◌, inl, inr, Bool, true, ◌&&◌, ◌||◌, ◌==◌, nat_le, nat_lt, IsTrue, List, [], ◌∷◌, map, All, length, get_or, slice_range, take, drop, zero, suc, ◌-◌, refl, sym, ap, subst, ◌∙◌, arith}
 use Rattle.std.specs.List.{list_all}
 use Rattle.std.proofs.lemmas.Bool.Decides.{nat_tests}
 use Rattle.std.proofs.lemmas.Int.{ints}
 use Rattle.std.proofs.lemmas.List.Sums.{AllPass-from_list_all}
-use Rattle.std.proofs.lemmas.List.Elements.{All-cons, All-nil, All-weaker}
+use Rattle.std.proofs.lemmas.List.Elements.{All-cons, All-nil, All-head, All-tail, All-weaker}
 use Rattle.regress_base.specs.Intervals.{IsInterval, IsCanonical, is_canonical_from}
 use Rattle.regress_unicode.specs.FoldRows.{FoldRow, IsPackableRow, IsModulo}
 use Rattle.regress_ucd.specs.Data.{bounds, set_at, is_set_at, are_places, AreStringsAt}
@@ -139,3 +139,12 @@ strings_stand places points names of_places of_points is are h =
     All-weaker (λ n. are_strings_in places of_places of_points n.0 n.1 ≡ true) (λ n. AreStringsAt places points n.0 n.1)
     (λ n e. strings_stand_at places points n.0 n.1 (rw (is, are) e)) names
     (AllPass-from_list_all (λ n. are_strings_in places of_places of_points n.0 n.1) names h)
+
+-- ---- the places of a name
+
+pub places_at : {A : Type 0} (P : ℕ × ℕ → Type 0) (names : List (A × ℕ × ℕ)) (k : ℕ) (d : A × ℕ × ℕ) →
+    All P (map (λ n. (n.1, n.2)) names) → k < length names → P ((get_or names k d).1, (get_or names k d).2)
+places_at P [] k d h lt = absurd (omega (arith, lt))
+places_at P (n ∷ names) zero d h lt = All-head P (n.1, n.2) (map (λ n. (n.1, n.2)) names) h
+places_at P (n ∷ names) (suc k) d h lt =
+    places_at P names k d (All-tail P (n.1, n.2) (map (λ n. (n.1, n.2)) names) h) (omega (arith, lt))
