@@ -1,0 +1,46 @@
+-- What the constants keep, looked through.
+use Rattle.std.proofs.Common.{◌≡◌, ℕ, ℤ, ◌≤◌, ◌<◌, ◌+◌, Bool, true, ◌&&◌, ◌||◌, nat_le, nat_lt, ◌==◌, IsTrue, List, map, All, length, slice_range, refl, arith}
+use Rattle.std.specs.List.{list_all}
+use Rattle.std.proofs.lemmas.Bool.Decides.{nat_tests}
+use Rattle.std.proofs.lemmas.List.Sums.{AllPass-from_list_all}
+use Rattle.std.proofs.lemmas.List.Elements.{All-weaker}
+use Rattle.regress_base.specs.Intervals.{is_canonical_from}
+use Rattle.regress_unicode.specs.FoldRows.{FoldRow, IsPackableRow}
+use Rattle.regress_ucd.specs.declared.cases.TheConstants.{FOLDS, UPPERS}
+use Rattle.regress_ucd.specs.declared.intervals.TheConstants.{INTERVALS, INTERVALS_COUNT}
+use Rattle.regress_ucd.specs.declared.names.TheConstants.{ID_START, ID_CONTINUE, GENERAL_CATEGORY, SCRIPT, SCRIPT_EXTENSIONS, BINARY}
+use Rattle.regress_ucd.specs.declared.strings.TheConstants.{STRING_NAMES, STRINGS, STRINGS_COUNT, POINTS, POINTS_COUNT}
+use Rattle.regress_ucd.specs.Data.{row, set_at, is_set_at, are_places, AreSets, AreStrings}
+use Rattle.regress_ucd.proofs.DataLemmas.{packable, is_packable, set_stands, sets_stand, strings_stand}
+
+pub folds : All (λ r. IsPackableRow (row r)) FOLDS.now
+folds = All-weaker (λ r. is_packable (row r) ≡ true) (λ r. IsPackableRow (row r)) (λ r h. packable (row r) h) FOLDS.now
+    (AllPass-from_list_all (λ r. is_packable (row r)) FOLDS.now refl)
+
+pub uppers : All (λ r. IsPackableRow (row r)) UPPERS.now
+uppers = All-weaker (λ r. is_packable (row r) ≡ true) (λ r. IsPackableRow (row r)) (λ r h. packable (row r) h) UPPERS.now
+    (AllPass-from_list_all (λ r. is_packable (row r)) UPPERS.now refl)
+
+intervals_count : length INTERVALS.now ≡ INTERVALS_COUNT
+intervals_count = refl
+
+pub id_start : IsTrue (is_set_at INTERVALS.now ID_START.0 ID_START.1)
+id_start = set_stands INTERVALS.now INTERVALS_COUNT ID_START.0 ID_START.1 intervals_count refl
+
+pub id_continue : IsTrue (is_set_at INTERVALS.now ID_CONTINUE.0 ID_CONTINUE.1)
+id_continue = set_stands INTERVALS.now INTERVALS_COUNT ID_CONTINUE.0 ID_CONTINUE.1 intervals_count refl
+
+pub general_category : AreSets INTERVALS.now (map (λ n. (n.1, n.2)) GENERAL_CATEGORY.now)
+general_category = sets_stand INTERVALS.now (map (λ n. (n.1, n.2)) GENERAL_CATEGORY.now) INTERVALS_COUNT intervals_count refl
+
+pub script : AreSets INTERVALS.now (map (λ n. (n.1, n.2)) SCRIPT.now)
+script = sets_stand INTERVALS.now (map (λ n. (n.1, n.2)) SCRIPT.now) INTERVALS_COUNT intervals_count refl
+
+pub script_extensions : AreSets INTERVALS.now (map (λ n. (n.1, n.2)) SCRIPT_EXTENSIONS.now)
+script_extensions = sets_stand INTERVALS.now (map (λ n. (n.1, n.2)) SCRIPT_EXTENSIONS.now) INTERVALS_COUNT intervals_count refl
+
+pub binary : AreSets INTERVALS.now (map (λ n. (n.1, n.2)) BINARY.now)
+binary = sets_stand INTERVALS.now (map (λ n. (n.1, n.2)) BINARY.now) INTERVALS_COUNT intervals_count refl
+
+pub strings : AreStrings STRINGS.now POINTS.now (map (λ n. (n.1, n.2)) STRING_NAMES.now)
+strings = strings_stand STRINGS.now POINTS.now (map (λ n. (n.1, n.2)) STRING_NAMES.now) STRINGS_COUNT POINTS_COUNT refl refl refl

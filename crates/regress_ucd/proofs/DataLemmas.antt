@@ -1,0 +1,150 @@
+-- What tests of the constants tell: the pairs of a canonical set are intervals, rows can be packed, strings stand where
+-- their places say.
+use Rattle.std.proofs.Common.{◌≡◌, ℕ, ℤ, pos, negsuc, ◌+◌, ◌^◌, ◌≤◌, ◌<◌, ◌≤ℤ◌, ◌⊎◌, inl, inr, Bool, true, ◌&&◌, ◌||◌, ◌==◌, nat_le, nat_lt, IsTrue, List, [], ◌∷◌, map, All, length, get_or, slice_range, take, drop, zero, suc, ◌-◌, refl, sym, ap, subst, ◌∙◌, arith}
+use Rattle.std.specs.List.{list_all}
+use Rattle.std.proofs.lemmas.Bool.Decides.{nat_tests}
+use Rattle.std.proofs.lemmas.Int.{ints}
+use Rattle.std.proofs.lemmas.List.Sums.{AllPass-from_list_all}
+use Rattle.std.proofs.lemmas.List.Elements.{All-cons, All-nil, All-head, All-tail, All-weaker}
+use Rattle.regress_base.specs.Intervals.{IsInterval, IsCanonical, is_canonical_from}
+use Rattle.regress_unicode.specs.FoldRows.{FoldRow, IsPackableRow, IsModulo}
+use Rattle.regress_ucd.specs.Data.{bounds, set_at, is_set_at, are_places, AreStringsAt}
+
+intervals_from : (low : ℕ) (pairs : List (ℕ × ℕ)) → IsTrue (is_canonical_from low (map bounds pairs)) →
+    All (λ p. IsInterval (bounds p)) pairs
+intervals_from low [] h = All-nil (λ p. IsInterval (bounds p))
+intervals_from low (p ∷ pairs) h =
+    let here : IsInterval (bounds p) = record { ordered = grind (arith, nat_tests, h); in_range = grind (arith, nat_tests, h) } in
+    let rest : IsTrue (is_canonical_from (p.1 + 2) (map bounds pairs)) = grind (arith, nat_tests, h) in
+    All-cons (λ p. IsInterval (bounds p)) p pairs here (intervals_from (p.1 + 2) pairs rest)
+
+pub canonical_intervals : (pairs : List (ℕ × ℕ)) → IsCanonical (map bounds pairs) → All (λ p. IsInterval (bounds p)) pairs
+canonical_intervals pairs h = intervals_from 0 pairs h
+
+-- ---- rows
+
+-- a delta of less than 2 ^ 27, either way
+abbrev pub is_short : ℤ → Bool
+is_short (pos n) = nat_lt n (2 ^ 27)
+is_short (negsuc n) = nat_lt n (2 ^ 27)
+
+abbrev pub is_packable : FoldRow → Bool
+is_packable row =
+    (nat_le 1 row.length && nat_le row.length 4096) && (nat_lt (row.start + row.length) (2 ^ 20) &&
+    (is_short row.delta && (row.modulo == 1 || row.modulo == 2)))
+
+short_low : (d : ℤ) → is_short d ≡ true → negsuc (2 ^ 27 - 1) ≤ℤ d
+short_low (pos n) h = omega (arith, ints)
+short_low (negsuc n) h = let lt : n < 2 ^ 27 = grind (arith, nat_tests, h) in omega (arith, ints, lt)
+
+short_high : (d : ℤ) → is_short d ≡ true → d ≤ℤ pos (2 ^ 27 - 1)
+short_high (pos n) h = let lt : n < 2 ^ 27 = grind (arith, nat_tests, h) in omega (arith, ints, lt)
+short_high (negsuc n) h = omega (arith, ints)
+
+pub packable : (row : FoldRow) → is_packable row ≡ true → IsPackableRow row
+packable row h =
+    let short : is_short row.delta ≡ true = grind (arith, nat_tests, h) in
+    let modulo : (row.modulo ≡ 1) ⊎ (row.modulo ≡ 2) = grind (arith, nat_tests, h) in
+    record {
+      span = record {
+        nonempty = grind (arith, nat_tests, h);
+        short = grind (arith, nat_tests, h);
+        low = grind (arith, nat_tests, h);
+      };
+      delta_low = short_low row.delta short;
+      delta_high = short_high row.delta short;
+      modulo = elim modulo [ inl one ↦ inl one | inr two ↦ inr (inl two) ];
+    }
+
+-- ---- places, in lists whose lengths are known
+
+abbrev pub is_set_in : List (ℕ × ℕ) → (count from to : ℕ) → Bool
+is_set_in intervals count from to = are_places count from to && is_canonical_from 0 (set_at intervals from to)
+
+pub set_stands : (intervals : List (ℕ × ℕ)) (count from to : ℕ) → length intervals ≡ count →
+    IsTrue (is_set_in intervals count from to) → IsTrue (is_set_at intervals from to)
+set_stands intervals count from to is h = subst (λ (n : ℕ). IsTrue (is_set_in intervals n from to)) (sym is) h
+
+drop_none : (b : ℕ) → drop {A = ℕ × ℕ} b [] ≡ []
+drop_none zero = refl
+drop_none (suc b) = refl
+
+drop_again : (xs : List (ℕ × ℕ)) (a b : ℕ) → drop b (drop a xs) ≡ drop (a + b) xs
+drop_again xs zero b = let same : b ≡ 0 + b = omega arith in ap (λ k. drop k xs) same
+drop_again [] (suc a) b = drop_none b ∙ sym (drop_none (suc a + b))
+drop_again (x ∷ xs) (suc a) b =
+    let same : suc (a + b) ≡ suc a + b = omega arith in
+    drop_again xs a b ∙ ap (λ k. drop k (x ∷ xs)) same
+
+dropped : (xs left : List (ℕ × ℕ)) (at to : ℕ) → at ≤ to → left ≡ drop at xs → drop (to - at) left ≡ drop to xs
+dropped xs left at to le is =
+    let sum : at + (to - at) ≡ to = omega (arith, le) in
+    ap (drop (to - at)) is ∙ drop_again xs at (to - at) ∙ ap (λ k. drop k xs) sum
+
+-- One walk over the intervals: each set stands behind where the one before it begins, or there.
+abbrev pub are_sets_from : (count at : ℕ) → List (ℕ × ℕ) → List (ℕ × ℕ) → Bool
+are_sets_from count at left [] = true
+are_sets_from count at left (p ∷ places) =
+    nat_le at p.0 && (are_places count p.0 p.1 && (is_canonical_from 0 (map bounds (take (p.1 - p.0) (drop (p.0 - at) left)))
+    && are_sets_from count p.0 (drop (p.0 - at) left) places))
+
+both : (a b : Bool) → a ≡ true → b ≡ true → (a && b) ≡ true
+both a b x y = rw (x, y)
+
+sets_step : (intervals : List (ℕ × ℕ)) (count at : ℕ) (left : List (ℕ × ℕ)) (p : ℕ × ℕ) (places : List (ℕ × ℕ)) →
+    length intervals ≡ count → left ≡ drop at intervals → IsTrue (are_sets_from count at left (p ∷ places)) →
+    (drop (p.0 - at) left ≡ drop p.0 intervals → IsTrue (are_sets_from count p.0 (drop (p.0 - at) left) places) →
+    All (λ p. IsTrue (is_set_at intervals p.0 p.1)) places) → All (λ p. IsTrue (is_set_at intervals p.0 p.1)) (p ∷ places)
+sets_step intervals count at left p places is here h others =
+    let up : nat_le at p.0 ≡ true = grind (arith, nat_tests, h) in
+    let fit : are_places count p.0 p.1 ≡ true = grind (arith, nat_tests, h) in
+    let canonical : is_canonical_from 0 (map bounds (take (p.1 - p.0) (drop (p.0 - at) left))) ≡ true = grind (arith, nat_tests, h) in
+    let rest : are_sets_from count p.0 (drop (p.0 - at) left) places ≡ true = grind (arith, nat_tests, h) in
+    let le : at ≤ p.0 = grind (arith, nat_tests, up) in
+    let there : drop (p.0 - at) left ≡ drop p.0 intervals = dropped intervals left at p.0 le here in
+    let set : is_set_in intervals count p.0 p.1 ≡ true = both (are_places count p.0 p.1) _ fit
+    (subst (λ (xs : List (ℕ × ℕ)). is_canonical_from 0 (map bounds (take (p.1 - p.0) xs)) ≡ true) there canonical) in
+    All-cons (λ p. IsTrue (is_set_at intervals p.0 p.1)) p places (set_stands intervals count p.0 p.1 is set) (others there rest)
+
+sets_from : (intervals : List (ℕ × ℕ)) (count at : ℕ) (left places : List (ℕ × ℕ)) →
+    length intervals ≡ count → left ≡ drop at intervals → IsTrue (are_sets_from count at left places) →
+    All (λ p. IsTrue (is_set_at intervals p.0 p.1)) places
+sets_from intervals count at left [] is here h = All-nil (λ p. IsTrue (is_set_at intervals p.0 p.1))
+sets_from intervals count at left (p ∷ places) is here h =
+    sets_step intervals count at left p places is here h (λ there rest.
+    sets_from intervals count p.0 (drop (p.0 - at) left) places is there rest)
+
+pub sets_stand : (intervals places : List (ℕ × ℕ)) (count : ℕ) → length intervals ≡ count →
+    IsTrue (are_sets_from count 0 intervals places) → All (λ p. IsTrue (is_set_at intervals p.0 p.1)) places
+sets_stand intervals places count is h = sets_from intervals count 0 intervals places is refl h
+
+abbrev pub are_strings_in : List (ℕ × ℕ) → (of_places of_points from to : ℕ) → Bool
+are_strings_in places of_places of_points from to =
+    are_places of_places from to && list_all (λ place. are_places of_points place.0 place.1) (slice_range places from to)
+
+strings_stand_at : (places : List (ℕ × ℕ)) (points : List ℕ) (from to : ℕ) →
+    are_strings_in places (length places) (length points) from to ≡ true → AreStringsAt places points from to
+strings_stand_at places points from to h =
+    let all : IsTrue (list_all (λ place. are_places (length points) place.0 place.1) (slice_range places from to)) = grind (arith, nat_tests, h) in
+    record {
+      places = grind (arith, nat_tests, h);
+      points = AllPass-from_list_all (λ place. are_places (length points) place.0 place.1) (slice_range places from to) all;
+    }
+
+pub strings_stand : (places : List (ℕ × ℕ)) (points : List ℕ) (names : List (ℕ × ℕ)) (of_places of_points : ℕ) →
+    length places ≡ of_places → length points ≡ of_points →
+    IsTrue (list_all (λ n. are_strings_in places of_places of_points n.0 n.1) names) →
+    All (λ n. AreStringsAt places points n.0 n.1) names
+strings_stand places points names of_places of_points is are h =
+    All-weaker (λ n. are_strings_in places of_places of_points n.0 n.1 ≡ true) (λ n. AreStringsAt places points n.0 n.1)
+    (λ n e. strings_stand_at places points n.0 n.1 (rw (is, are) e)) names
+    (AllPass-from_list_all (λ n. are_strings_in places of_places of_points n.0 n.1) names h)
+
+-- ---- the places of a name
+
+pub places_at : {A : Type 0} (P : ℕ × ℕ → Type 0) (names : List (A × ℕ × ℕ)) (k : ℕ) (d : A × ℕ × ℕ) →
+    All P (map (λ n. (n.1, n.2)) names) → k < length names → P ((get_or names k d).1, (get_or names k d).2)
+places_at P [] k d h lt = absurd (omega (arith, lt))
+places_at P (n ∷ names) zero d h lt = All-head P (n.1, n.2) (map (λ n. (n.1, n.2)) names) h
+places_at P (n ∷ names) (suc k) d h lt =
+    places_at P names k d (All-tail P (n.1, n.2) (map (λ n. (n.1, n.2)) names) h) (omega (arith, lt))

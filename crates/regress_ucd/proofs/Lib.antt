@@ -1,0 +1,3 @@
+pub mod DataLemmas
+pub mod ConstantsLemmas
+pub mod WholeLemmas

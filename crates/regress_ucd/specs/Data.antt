@@ -1,0 +1,50 @@
+-- What the constants say, as plain data.
+use Rattle.std.specs.Prelude.{ℕ, Bool, ◌&&◌, nat_le, IsTrue, List, map, All, length, slice_range, ℤ}
+use Rattle.regress_base.specs.Intervals.{Bounds, is_canonical_from}
+use Rattle.regress_unicode.specs.FoldRows.{FoldRow}
+use Rattle.regress_base.specs.Table.{Named}
+
+-- an interval, by its first and its last code point
+abbrev pub bounds : ℕ × ℕ → Bounds
+bounds pair = record { first = pair.0; last = pair.1 }
+
+-- a row of a map of cases, by start, length, delta and modulo
+abbrev pub row : ℕ × ℕ × ℤ × ℕ → FoldRow
+row r = record { start = r.0; length = r.1; delta = r.2; modulo = r.3 }
+
+-- the set whose intervals stand from one place up to the other
+abbrev pub set_at : List (ℕ × ℕ) → ℕ → ℕ → List Bounds
+set_at intervals from to = map bounds (slice_range intervals from to)
+
+-- the string whose code points stand from one place up to the other
+abbrev pub strings_at : List (ℕ × ℕ) → List ℕ → ℕ → ℕ → List (List ℕ)
+strings_at places points from to = map (λ place. slice_range points place.0 place.1) (slice_range places from to)
+
+-- the places are in order, and in a list of that length
+abbrev pub are_places : ℕ → ℕ → ℕ → Bool
+are_places count from to = nat_le from to && nat_le to count
+
+-- whether a canonical set stands there
+abbrev pub is_set_at : List (ℕ × ℕ) → ℕ → ℕ → Bool
+is_set_at intervals from to = are_places (length intervals) from to && is_canonical_from 0 (set_at intervals from to)
+
+-- a set under a name
+abbrev pub named_set : List (ℕ × ℕ) → List ℕ → ℕ → ℕ → Named (List Bounds)
+named_set intervals name from to = record { name = name; value = set_at intervals from to }
+
+-- strings under a name
+abbrev pub named_strings : List (ℕ × ℕ) → List ℕ → List ℕ → ℕ → ℕ → Named (List (List ℕ))
+named_strings places points name from to = record { name = name; value = strings_at places points from to }
+
+-- strings stand there, each with its code points
+pub record AreStringsAt (listed : List (ℕ × ℕ)) (code_points : List ℕ) (from to : ℕ) : Type 0 where
+  pub places : IsTrue (are_places (length listed) from to)
+  pub points : All (λ place. IsTrue (are_places (length code_points) place.0 place.1)) (slice_range listed from to)
+
+-- a canonical set stands at each of the places
+abbrev pub AreSets : List (ℕ × ℕ) → List (ℕ × ℕ) → Type 0
+AreSets intervals places = All (λ p. IsTrue (is_set_at intervals p.0 p.1)) places
+
+-- strings stand at each of the places
+abbrev pub AreStrings : List (ℕ × ℕ) → List ℕ → List (ℕ × ℕ) → Type 0
+AreStrings listed code_points places = All (λ p. AreStringsAt listed code_points p.0 p.1) places

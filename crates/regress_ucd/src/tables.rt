@@ -1,0 +1,138 @@
+//! The table of the constants.
+ghost use Rattle.std.specs.Prelude.{◌≡◌, All, IfOk, map, IsTrue, length, slice_range};
+ghost use Rattle.regress_base.specs.Intervals.{IsCanonical, IsInterval};
+ghost use Rattle.regress_unicode.specs.FoldRows.{IsPackableRow};
+ghost use Rattle.regress_unicode.specs.Parts.{sets_of, strings_of};
+ghost use Rattle.regress_ucd.specs.Data.{bounds, row, set_at, strings_at, is_set_at, are_places, AreStringsAt, AreSets, AreStrings, named_set, named_strings};
+
+use regress_base::codepointset::{CodePointSet, Interval};
+use regress_unicode::FoldRange;
+use std::alloc::{AllocError, Global};
+
+/// The rows that the constants list.
+pub(super) fn rows(
+    alloc: Global,
+    listed: &[(u32, u32, i32, u8)],
+) -> Result<Vec<FoldRange>, AllocError>
+    requires { All (λ r. IsPackableRow (row r)) listed.now }
+    ensures { IfOk result (λ rows. rows.items ≡ map row listed.now) }
+{
+    listed
+        .iter()
+        .map(|(start, length, delta, modulo)| FoldRange::from(*start, *length, *delta, *modulo))
+        .collect(alloc)
+}
+
+/// The intervals with these ends.
+fn intervals(alloc: Global, pairs: &[(u32, u32)]) -> Result<Vec<Interval>, AllocError>
+    requires { All (λ p. IsInterval (bounds p)) pairs.now }
+    ensures { IfOk result (λ intervals. intervals.items ≡ map bounds pairs.now) }
+{
+    pairs
+        .iter()
+        .map(|(first, last)| Interval::new(*first, *last))
+        .collect(alloc)
+}
+
+/// The set with these intervals.
+#[tactic(auto, using(crate::proofs::DataLemmas::canonical_intervals))]
+fn set(alloc: Global, pairs: &[(u32, u32)]) -> Result<CodePointSet, AllocError>
+    requires { IsCanonical (map bounds pairs.now) }
+    ensures { IfOk result (λ set. set ≡ map bounds pairs.now) }
+{
+    let intervals = intervals(alloc, pairs)?;
+    Ok(CodePointSet::from_sorted_disjoint_intervals(intervals))
+}
+
+/// The set whose intervals stand from one place up to the other.
+pub(super) fn set_at(
+    alloc: Global,
+    intervals: &[(u32, u32)],
+    from: usize,
+    to: usize,
+) -> Result<CodePointSet, AllocError>
+    requires { IsTrue (is_set_at intervals.now from to) }
+    ensures { IfOk result (λ set. set ≡ set_at intervals.now from to) }
+{
+    set(alloc, &intervals[from..to])
+}
+
+/// The sets of these names.
+pub(super) fn named_sets(
+    alloc: Global,
+    intervals: &[(u32, u32)],
+    names: &[(&str, usize, usize)],
+) -> Result<Vec<(String, CodePointSet)>, AllocError>
+    requires { AreSets intervals.now (map (λ n. (n.1, n.2)) names.now) }
+    ensures { IfOk result (λ entries. sets_of entries.items ≡ map (λ n. named_set intervals.now n.0.now n.1 n.2) names.now) }
+{
+    let mut entries = Vec::new(alloc);
+    for entry in names {
+        let (name, from, to) = *entry;
+        entries.push((
+            String::from_str(alloc, name)?,
+            set_at(alloc, intervals, from, to)?,
+        ))?;
+    }
+    Ok(entries)
+}
+
+/// The string whose code points stand from one place up to the other.
+fn string_at(alloc: Global, points: &[u32], from: usize, to: usize) -> Result<Vec<u32>, AllocError>
+    requires { IsTrue (are_places (length points.now) from to) }
+    ensures { IfOk result (λ string. string.items ≡ slice_range points.now from to) }
+{
+    Vec::from_slice(alloc, &points[from..to])
+}
+
+/// The strings whose code points stand at these places.
+fn strings(
+    alloc: Global,
+    points: &[u32],
+    places: &[(usize, usize)],
+) -> Result<Vec<Vec<u32>>, AllocError>
+    requires { All (λ p. IsTrue (are_places (length points.now) p.0 p.1)) places.now }
+    ensures { IfOk result (λ strings. map (λ string. string.items) strings.items ≡ map (λ p. slice_range points.now p.0 p.1) places.now) }
+{
+    let mut strings = Vec::new(alloc);
+    for place in places {
+        let (from, to) = *place;
+        strings.push(string_at(alloc, points, from, to)?)?;
+    }
+    Ok(strings)
+}
+
+/// The strings whose places stand from one place up to the other.
+fn strings_at(
+    alloc: Global,
+    points: &[u32],
+    places: &[(usize, usize)],
+    from: usize,
+    to: usize,
+) -> Result<Vec<Vec<u32>>, AllocError>
+    requires { AreStringsAt places.now points.now from to }
+    ensures { IfOk result (λ strings. map (λ string. string.items) strings.items ≡ strings_at places.now points.now from to) }
+{
+    strings(alloc, points, &places[from..to])
+}
+
+/// The strings of these names.
+pub(super) fn named_strings(
+    alloc: Global,
+    points: &[u32],
+    places: &[(usize, usize)],
+    names: &[(&str, usize, usize)],
+) -> Result<Vec<(String, Vec<Vec<u32>>)>, AllocError>
+    requires { AreStrings places.now points.now (map (λ n. (n.1, n.2)) names.now) }
+    ensures { IfOk result (λ entries. strings_of entries.items ≡ map (λ n. named_strings places.now points.now n.0.now n.1 n.2) names.now) }
+{
+    let mut entries = Vec::new(alloc);
+    for entry in names {
+        let (name, from, to) = *entry;
+        entries.push((
+            String::from_str(alloc, name)?,
+            strings_at(alloc, points, places, from, to)?,
+        ))?;
+    }
+    Ok(entries)
+}
