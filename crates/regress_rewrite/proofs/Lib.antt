@@ -4,6 +4,7 @@ pub mod TakenLemmas
 pub mod RowLemmas
 pub mod GroupLemmas
 pub mod SweepLemmas
+pub mod PassesLemmas
 pub mod CheckedLemmas
 pub mod SpliceLemmas
 pub mod SimplifyLemmas

@@ -1,0 +1,46 @@
+-- What a rewrite is shown, put together.
+use Rattle.std.proofs.Common.{◌≡◌, ◌≢◌, ℕ, ◌+◌, ◌<◌, Bool, true, false, ◌||◌, Result, Ok, Err, refl, sym, ap, subst, ◌∙◌}
+use Rattle.std.specs.declared.alloc.AllocError.{AllocError}
+use Rattle.std.specs.Result.{IsErr}
+use Rattle.std.proofs.lemmas.Bool.{false≢true}
+use Rattle.regress_tree.specs.declared.ir.walker.Walk.{Walk}
+use Rattle.regress_tree.specs.Tree.{Tree, Trees, leaf, cat, alt, wrapped, no_trees, more_trees}
+use Rattle.regress_tree.specs.Spine.{reattach}
+use Rattle.regress_tree.specs.Visits.{Visited, Inside, RowVisited, after_children, in_leaf, in_cat, in_alt, in_wrapped, no_more, one_more, deeper, turned_by}
+use Rattle.regress_tree.specs.Climbs.{ClimbedMut}
+use Rattle.regress_rewrite.specs.declared.rewrite.PassAction.{PassAction}
+use Rattle.regress_rewrite.specs.Passes.{Applied, is_answered, SweptFrom, Passed, again}
+use Rattle.regress_rewrite.proofs.laws.Changes.{joined}
+
+-- what is joined to a change is an error where it was one
+pub answered-joined : (changed : Bool) (answer : Result Bool AllocError) → is_answered (joined changed answer) ≡ is_answered answer
+answered-joined changed (Ok b) = refl
+answered-joined changed (Err e) = refl
+
+module _ {R : Type 0} (step : R → Tree → Walk → Result PassAction AllocError → Tree → R → Type 0) (unicode : Bool) where
+  -- After an error a walk comes by and changes nothing.
+  mutual
+    pub stays : (t : Tree) (d : ℕ) (behind : Bool) (a : R) → Visited (Applied step unicode) true d behind t t (a, false) (a, false)
+    stays t d behind a = after_children {skip = false} (inside_stays t d behind a) (refl, refl, refl)
+
+    inside_stays : (t : Tree) (d : ℕ) (behind : Bool) (a : R) → Inside (Applied step unicode) true d behind t t (a, false) (a, false)
+    inside_stays (leaf l) d behind a = in_leaf
+    inside_stays (cat parts) d behind a = in_cat (row_stays parts (deeper d) behind a)
+    inside_stays (alt left right) d behind a = in_alt (stays left (deeper d) behind a) (stays right (deeper d) behind a)
+    inside_stays (wrapped w body) d behind a = in_wrapped (stays body (deeper d) (turned_by w behind) a)
+
+    pub row_stays : (ts : Trees) (d : ℕ) (behind : Bool) (a : R) → RowVisited (Applied step unicode) true d behind ts ts (a, false) (a, false)
+    row_stays no_trees d behind a = no_more
+    row_stays (more_trees t ts) d behind a = one_more (stays t d behind a) (row_stays ts d behind a)
+
+  -- and so do the calls on the way up
+  pub way_stays : (above t : Tree) (depth : ℕ) (behind : Bool) (a : R) →
+      ClimbedMut (Applied step unicode) above depth behind t (reattach above t) (a, false) (a, false)
+  way_stays (leaf l) t depth behind a = (refl, refl)
+  way_stays (cat parts) t depth behind a = (refl, refl)
+  way_stays (alt left above) t depth behind a = ((a, false), alt left t, false, (refl, refl, refl), way_stays above (alt left t) depth behind a)
+  way_stays (wrapped w body) t depth behind a = (refl, refl)
+
+pub not_answered : (answer : Result Bool AllocError) → IsErr answer → is_answered answer ≡ false
+not_answered (Ok b) err = absurd (false≢true err)
+not_answered (Err e) err = refl
