@@ -1,10 +1,14 @@
 -- What a rewrite is shown, put together.
-use Rattle.std.proofs.Common.{◌≡◌, ◌≢◌, ℕ, ◌+◌, ◌<◌, Bool, true, false, ◌||◌, Result, Ok, Err, refl, sym, ap, subst, ◌∙◌}
+use Rattle.std.proofs.Common.{◌≡◌, ◌≢◌, ℕ, ◌+◌, ◌<◌, Bool, true, false, ◌||◌, Result, Ok, Err, List, take, drop, inl, inr, arith, refl, sym, ap, subst, ◌∙◌}
 use Rattle.std.specs.declared.alloc.AllocError.{AllocError}
 use Rattle.std.specs.Result.{IsErr}
 use Rattle.std.proofs.lemmas.Bool.{false≢true}
 use Rattle.regress_tree.specs.declared.ir.walker.Walk.{Walk}
-use Rattle.regress_tree.specs.Tree.{Tree, Trees, leaf, cat, alt, wrapped, no_trees, more_trees}
+use Rattle.regress_tree.specs.Tree.{Tree, Trees, leaf, cat, alt, wrapped, no_trees, more_trees, row_append, tree, trees}
+use Rattle.regress_tree.specs.declared.ir.node.Node.{Node}
+use Rattle.regress_tree.specs.Units.{IsLess, loops, weight}
+use Rattle.regress_tree.proofs.laws.Rows.{trees-append}
+use Rattle.std.proofs.lemmas.List.{take-append-drop}
 use Rattle.regress_tree.specs.Spine.{reattach}
 use Rattle.regress_tree.specs.Visits.{Visited, Inside, RowVisited, after_children, in_leaf, in_cat, in_alt, in_wrapped, no_more, one_more, deeper, turned_by}
 use Rattle.regress_tree.specs.Climbs.{ClimbedMut}
@@ -19,19 +23,23 @@ answered-joined changed (Err e) = refl
 
 module _ {R : Type 0} (step : R → Tree → Walk → Result PassAction AllocError → Tree → R → Type 0) (unicode : Bool) where
   -- After an error a walk comes by and changes nothing.
-  mutual
-    pub stays : (t : Tree) (d : ℕ) (behind : Bool) (a : R) → Visited (Applied step unicode) true d behind t t (a, false) (a, false)
-    stays t d behind a = after_children {skip = false} (inside_stays t d behind a) (refl, refl, refl)
+  after : (t : Tree) (d : ℕ) (behind : Bool) (a : R) → Inside (Applied step unicode) true d behind t t (a, false) (a, false) →
+      Visited (Applied step unicode) true d behind t t (a, false) (a, false)
+  after t d behind a inside = after_children {skip = false} inside (refl, refl, refl)
 
+  mutual
     inside_stays : (t : Tree) (d : ℕ) (behind : Bool) (a : R) → Inside (Applied step unicode) true d behind t t (a, false) (a, false)
     inside_stays (leaf l) d behind a = in_leaf
     inside_stays (cat parts) d behind a = in_cat (row_stays parts (deeper d) behind a)
-    inside_stays (alt left right) d behind a = in_alt (stays left (deeper d) behind a) (stays right (deeper d) behind a)
-    inside_stays (wrapped w body) d behind a = in_wrapped (stays body (deeper d) (turned_by w behind) a)
+    inside_stays (alt left right) d behind a = in_alt (after left (deeper d) behind a (inside_stays left (deeper d) behind a)) (after right (deeper d) behind a (inside_stays right (deeper d) behind a))
+    inside_stays (wrapped w body) d behind a = in_wrapped (after body (deeper d) (turned_by w behind) a (inside_stays body (deeper d) (turned_by w behind) a))
 
     pub row_stays : (ts : Trees) (d : ℕ) (behind : Bool) (a : R) → RowVisited (Applied step unicode) true d behind ts ts (a, false) (a, false)
     row_stays no_trees d behind a = no_more
-    row_stays (more_trees t ts) d behind a = one_more (stays t d behind a) (row_stays ts d behind a)
+    row_stays (more_trees t ts) d behind a = one_more (after t d behind a (inside_stays t d behind a)) (row_stays ts d behind a)
+
+  pub stays : (t : Tree) (d : ℕ) (behind : Bool) (a : R) → Visited (Applied step unicode) true d behind t t (a, false) (a, false)
+  stays t d behind a = after t d behind a (inside_stays t d behind a)
 
   -- and so do the calls on the way up
   pub way_stays : (above t : Tree) (depth : ℕ) (behind : Bool) (a : R) →
@@ -44,3 +52,16 @@ module _ {R : Type 0} (step : R → Tree → Walk → Result PassAction AllocErr
 pub not_answered : (answer : Result Bool AllocError) → IsErr answer → is_answered answer ≡ false
 not_answered (Ok b) err = absurd (false≢true err)
 not_answered (Err e) err = refl
+
+pub less_differs : (t u : Tree) → IsLess u t → u ≢ t
+less_differs t u less same =
+    elim less.less [
+      | inl fewer ↦ omega (arith, ap loops same, fewer)
+      | inr lighter ↦ omega (arith, ap weight same, lighter.1)
+    ]
+
+-- what was swept of a row, and the rest as it was
+pub row_whole : (now old : List Node) (i : ℕ) → drop i now ≡ drop i old → trees now ≡ row_append (trees (take i now)) (trees (drop i old))
+row_whole now old i same =
+    ap trees (sym (take-append-drop i now)) ∙ trees-append (take i now) (drop i now)
+    ∙ ap (λ ns. row_append (trees (take i now)) (trees ns)) same

@@ -1,7 +1,7 @@
 //! Running a rewrite over a tree.
 ghost use Rattle.std.specs.Prelude.{◌≡◌, ◌≢◌, ◌≤◌, ℕ, Bool, true, false, IsTrue, IfOk, OnOk, OnErr, MatchBool};
 ghost use Rattle.regress_tree.specs.Reading.{forwards};
-ghost use Rattle.regress_tree.specs.Tree.{Tree, tree, trees, leaf, empty, cat};
+ghost use Rattle.regress_tree.specs.Tree.{Tree, tree, trees, leaf, empty, cat, alt};
 ghost use Rattle.regress_tree.specs.Walk.{direction_of};
 ghost use Rattle.regress_tree.specs.WellFormed.{IsWellFormed, captures};
 ghost use Rattle.regress_tree.specs.Units.{account, IsLess};
@@ -156,10 +156,7 @@ fn sweep_inside<R: Rewrite>(node: &mut Node, pass: &mut R, walk: &Walk) -> Resul
 {
     match node {
         Node::Cat(parts) => sweep_parts(parts, pass, walk),
-        Node::Alt(left, right) => {
-            let changed = sweep(left, pass, walk)?;
-            Ok(changed | sweep(right, pass, walk)?)
-        }
+        Node::Alt(left, right) => sweep_sides(left, right, pass, walk),
         Node::CaptureGroup { contents, .. } => sweep(contents, pass, walk),
         Node::Loop { loopee, .. } => sweep(loopee, pass, walk),
         Node::Loop1CharBody { loopee, .. } => sweep(loopee, pass, walk),
@@ -182,6 +179,25 @@ fn sweep_inside<R: Rewrite>(node: &mut Node, pass: &mut R, walk: &Walk) -> Resul
         | Node::BackRef { .. }
         | Node::StringSet { .. } => Ok(false),
     }
+}
+
+/// Sweeps the sides of an `Alt`.
+#[cycle(sweep)]
+fn sweep_sides<R: Rewrite>(
+    left: &mut Node,
+    right: &mut Node,
+    pass: &mut R,
+    walk: &Walk,
+) -> Result<bool, AllocError>
+    requires { IsPart (alt (tree left.old) (tree right.old)) }
+    ensures visited { (depth : ℕ) → walk.now.depth ≡ deeper depth →
+        Inside (Applied R.step walk.now.unicode) true depth walk.now.in_lookbehind (alt (tree left.old) (tree right.old))
+        (alt (tree left.new) (tree right.new)) (pass.old, true) (pass.new, is_answered result) }
+    ensures swept { SweptOf (LacksInside R.removes) R.is_exact (direction_of walk.now)
+        (alt (tree left.old) (tree right.old)) (alt (tree left.new) (tree right.new)) result }
+{
+    let changed = sweep(left, pass, walk)?;
+    Ok(changed | sweep(right, pass, walk)?)
 }
 
 /// Sweeps the parts of a `Cat`.

@@ -1,8 +1,8 @@
 -- Each answer is a lemma on plain trees, at the values of the call.
-use Rattle.std.proofs.Common.{rules, arith, ◌∙◌, sym, ap, subst, refl, length-set}
+use Rattle.std.proofs.Common.{rules, arith, ◌≡◌, ◌+◌, ◌∙◌, true, false, [], take, drop, sym, ap, subst, refl, length-set}
 use Rattle.std.specs.Prelude.{option_map, string_bytes}
 use Rattle.regress_tree.specs.declared.ir.node.Node.{Node}
-use Rattle.regress_tree.specs.Tree.{Tree, tree, capture_group, loop, loop_one, lookaround}
+use Rattle.regress_tree.specs.Tree.{Tree, no_trees, tree, capture_group, loop, loop_one, lookaround}
 use Rattle.regress_tree.specs.Walk.{direction_of}
 use Rattle.regress_tree.specs.Units.{units}
 use Rattle.regress_tree.specs.Visits.{in_cat, in_alt, in_wrapped, no_more, one_more, after_children}
@@ -10,18 +10,24 @@ use Rattle.regress_tree.proofs.laws.Nodes.{tree-Cat, tree-Alt, tree-CaptureGroup
 use Rattle.regress_tree.proofs.laws.Places.{inside_of}
 use Rattle.regress_rewrite.specs.Law.{IsPart}
 use Rattle.regress_tree.specs.Spine.{is_alt, spine_length}
-use Rattle.regress_rewrite.proofs.CheckedLemmas.{sum_of}
 use Rattle.regress_tree.proofs.laws.Levels.{out-Cat, out-Alt, out-CaptureGroup, out-Loop, out-Loop1CharBody, out-LookaroundAssertion, alt_of}
 use Rattle.regress_rewrite.proofs.laws.Keeps.{IsPart-kept}
 use Rattle.regress_rewrite.proofs.SweepLemmas.{Swept-error, Swept-put, Swept-walk}
 use Rattle.regress_rewrite.proofs.laws.Spine.{IsPart-reattach, IsPart-down, units_down, levels_down, down_next, down_last}
 use Rattle.regress_rewrite.proofs.laws.Parts.{IsPart-at, units_at, parts_next, unvisited-next}
+use Rattle.regress_tree.specs.Climbs.{further}
+use Rattle.regress_rewrite.specs.Passes.{Applied}
+use Rattle.regress_rewrite.proofs.PassesLemmas.{stays, row_stays, way_stays, not_answered, row_whole}
+use Rattle.regress_tree.proofs.laws.Rows.{row_append-none}
+use Rattle.std.proofs.lemmas.List.{drop_all, take_all}
+use Rattle.regress_tree.proofs.VisitLemmas.{further-inside, further_next, after_down, next_is, visited_next, at_Empty, at_Goal, at_Char, at_ByteSequence, at_ByteSet, at_CharSet, at_MatchAny, at_MatchAnyExceptLineTerminator, at_Anchor, at_WordBoundary, at_Bracket, at_BackRef, at_StringSet}
+use Rattle.regress_rewrite.proofs.pass.+sweep.Goals.{sweep_down-then-loop-levels-test+else-shift, sweep_down-else-loop-levels-test}
 use Rattle.regress_rewrite.proofs.pass.+sweep.Goals as goal
 
 pub sweep_down-sweep-requires : goal.sweep_down-sweep-requires
 sweep_down-sweep-requires g t c κs lives =
     let l = c.loop-levels in
-    let shifted = c.loop-levels-test.ensures in
+    let shifted = c.if-shift.ensures in
     let node = c.deref_mut.result.now in
     let left_is = rw (c.in-Alt.is, out-Alt) at c.deref_mut.ensures.value in
     let top_is = alt_of c.shift.new.onto c.in-Alt.left c.in-Alt.field-1 node c.in-Alt.is left_is in
@@ -32,16 +38,24 @@ sweep_down-sweep-requires g t c κs lives =
 pub sweep_down-loop-levels-preserved-in-Alt : goal.sweep_down-loop-levels-preserved-in-Alt
 sweep_down-loop-levels-preserved-in-Alt g t c =
     let l = c.loop-levels in
-    let shifted = c.loop-levels-test.ensures in
+    let shifted = c.if-shift.ensures in
     let node = c.deref_mut.result.now in
     let left_is = rw (c.in-Alt.is, out-Alt) at c.deref_mut.ensures.value in
     let top_is = alt_of c.shift.new.onto c.in-Alt.left c.in-Alt.field-1 node c.in-Alt.is left_is in
-    let sum = sum_of _ _ _ c.checked_add.result c.checked_add.ensures c.in_ok-levels.ensures.value in
+    let levels : l.levels + 1 ≡ spine_length (tree c.shift.new.onto) = levels_down _ (tree l.node) (tree l.above) _ _ shifted l.invariant.levels in
+    let levels = levels ∙ ap spine_length top_is in
+    let depth = further-inside _ _ c.args.walk.now.depth _ refl c.inside.ensures.depth c.inside.ensures.same in
+    let first = rw (depth, left_is, c.inside.ensures.direction, c.inside.ensures.unicode) at c.in_ok-changed.ensures.visited in
     let smaller = units_down (tree l.node) (tree l.above) _ _ (tree node) _ shifted top_is in
     let here = Swept-walk _ c.args.walk.now c.inside.result c.inside.ensures.direction c.in_ok-changed.ensures.swept in
     rw (c.in-Alt.is, out-Alt, tree-Alt)
     (record {
-      levels = sum ∙ levels_down _ (tree l.node) (tree l.above) _ _ shifted l.invariant.levels ∙ ap spine_length top_is;
+      levels = levels;
+      visited = λ t u b e second climbed.
+          after_down (Applied g.R.Rewrite.step c.args.walk.now.unicode) (further l.levels c.args.walk.now.depth) c.args.walk.now.depth
+          c.args.walk.now.in_lookbehind (tree l.node) (tree l.above) _ _ (tree node) _ _ shifted top_is
+          _ _ b e t u _ (ap (λ k. further k c.args.walk.now.depth) l.invariant.levels) (λ x m whole rest. l.invariant.visited x u m e whole rest)
+          (rw (← further_next l.levels _ c.args.walk.now.depth refl) at first) (rw (← further_next l.levels _ c.args.walk.now.depth refl) at second) climbed;
       smaller = omega (arith, smaller, l.invariant.smaller);
       swept = down_next _ _ g.R.Rewrite.removes _ l.changed _ (tree l.node) (tree l.above) _ _ (tree node) _ _ shifted top_is
           l.invariant.swept here;
@@ -55,32 +69,54 @@ sweep_down-returns-in_err-changed-clause-swept g t c =
     let top_is = alt_of c.shift.new.onto c.in-Alt.left c.in-Alt.field-1 node c.in-Alt.is left_is in
     let here = Swept-walk _ c.args.walk.now c.inside.result c.inside.ensures.direction c.sweep.ensures.swept in
     rw (c.in-Alt.is, out-Alt, tree-Alt)
-    (Swept-error _ _ _ c.from_residual-in_err-changed.ensures.0 refl
-    (down_next _ _ g.R.Rewrite.removes _ l.changed _ (tree l.node) (tree l.above) _ _ (tree node) _ _ c.loop-levels-test.ensures top_is
+    (Swept-error _ _ _ c.from_residual.ensures.0 refl
+    (down_next _ _ g.R.Rewrite.removes _ l.changed _ (tree l.node) (tree l.above) _ _ (tree node) _ _ c.if-shift.ensures top_is
     l.invariant.swept here))
 
 pub sweep_down-sweep_one-requires : goal.sweep_down-sweep_one-requires
 sweep_down-sweep_one-requires g t c κs lives =
     let l = c.loop-levels in
-    let stays = c.loop-levels-test.ensures in
+    let n_is : tree c.loop-levels-test.node ≡ tree l.node =
+    elim c.loop-levels-test.branch [
+      | sweep_down-then-loop-levels-test+else-shift w ↦ ap tree w.node-is ∙ w.if-shift.ensures.1
+      | sweep_down-else-loop-levels-test w ↦ ap tree w.node-is
+    ] in
     let part = IsPart-reattach (tree l.above) (tree l.node) (IsPart-kept _ l.invariant.swept.keeps c.requires.part) in
-    let part' = subst (λ (x : Tree). IsPart x) (sym stays.1) part in
-    (omega (arith, ap units stays.1, l.invariant.smaller), (search rules, (part', ap is_alt stays.1 ∙ stays.0)))
+    let part' = subst (λ (x : Tree). IsPart x) (sym n_is) part in
+    (omega (arith, ap units n_is, l.invariant.smaller), (search rules, (part', c.inside-2.ensures.children)))
 
 pub sweep_down-returns-in_err-sweep_one-clause-swept : goal.sweep_down-returns-in_err-sweep_one-clause-swept
 sweep_down-returns-in_err-sweep_one-clause-swept g t c =
     let l = c.loop-levels in
-    let stays = c.loop-levels-test.ensures in
+    let n_is : tree c.loop-levels-test.node ≡ tree l.node =
+    elim c.loop-levels-test.branch [
+      | sweep_down-then-loop-levels-test+else-shift w ↦ ap tree w.node-is ∙ w.if-shift.ensures.1
+      | sweep_down-else-loop-levels-test w ↦ ap tree w.node-is
+    ] in
+    let above_is : tree c.loop-levels-test.above ≡ tree l.above =
+    elim c.loop-levels-test.branch [
+      | sweep_down-then-loop-levels-test+else-shift w ↦ ap tree w.above-is ∙ w.if-shift.ensures.2
+      | sweep_down-else-loop-levels-test w ↦ ap tree w.above-is
+    ] in
     let here = Swept-walk _ c.args.walk.now c.inside-2.result c.inside-2.ensures.direction c.sweep_one.ensures.swept in
     Swept-error _ _ _ c.from_residual-in_err-sweep_one.ensures.0 refl
-    (down_last _ _ g.R.Rewrite.removes _ l.changed _ (tree c.shift.new.onto) _ _ (rw (stays.1, stays.2) l.invariant.swept) here)
+    (down_last _ _ g.R.Rewrite.removes _ l.changed _ (tree c.loop-levels-test.above) _ _ (rw (n_is, above_is) l.invariant.swept) here)
 
 pub sweep_down-returns-clause-swept : goal.sweep_down-returns-clause-swept
 sweep_down-returns-clause-swept g t c =
     let l = c.loop-levels in
-    let stays = c.loop-levels-test.ensures in
+    let n_is : tree c.loop-levels-test.node ≡ tree l.node =
+    elim c.loop-levels-test.branch [
+      | sweep_down-then-loop-levels-test+else-shift w ↦ ap tree w.node-is ∙ w.if-shift.ensures.1
+      | sweep_down-else-loop-levels-test w ↦ ap tree w.node-is
+    ] in
+    let above_is : tree c.loop-levels-test.above ≡ tree l.above =
+    elim c.loop-levels-test.branch [
+      | sweep_down-then-loop-levels-test+else-shift w ↦ ap tree w.above-is ∙ w.if-shift.ensures.2
+      | sweep_down-else-loop-levels-test w ↦ ap tree w.above-is
+    ] in
     let here = Swept-walk _ c.args.walk.now c.inside-2.result c.inside-2.ensures.direction c.in_ok-sweep_one.ensures.swept in
-    down_last _ _ g.R.Rewrite.removes _ l.changed _ (tree c.shift.new.onto) _ _ (rw (stays.1, stays.2) l.invariant.swept) here
+    down_last _ _ g.R.Rewrite.removes _ l.changed _ (tree c.loop-levels-test.above) _ _ (rw (n_is, above_is) l.invariant.swept) here
 
 pub sweep_inside-returns-in-CaptureGroup-clause-swept : goal.sweep_inside-returns-in-CaptureGroup-clause-swept
 sweep_inside-returns-in-CaptureGroup-clause-swept g t c =
@@ -137,6 +173,11 @@ sweep_parts-loop-i-preserved g t c =
     record {
       length = length-set l.parts.items l.i c.sweep.new.node ∙ l.invariant.length;
       unvisited = unvisited-next l.parts.items old l.i c.sweep.new.node l.invariant.unvisited;
+      visited = λ ts b rest.
+          rw (visited_next l.parts.items old l.i (search rules) node c.index_mut.ensures.value l.invariant.unvisited c.sweep.new.node ts)
+          (l.invariant.visited _ b
+          (rw (next_is l.parts.items old l.i (search rules) node c.index_mut.ensures.value l.invariant.unvisited)
+          (one_more c.in_ok-changed.ensures.visited rest)));
       swept = parts_next l.parts.items l.i (search rules) node c.index_mut.ensures.value g.R.Rewrite.removes _ _ old l.changed
           c.sweep.new.node _ l.invariant.swept c.in_ok-changed.ensures.swept;
     }
@@ -172,3 +213,75 @@ sweep_inside-returns-in-LookaroundAssertion-clause-visited g t c depth is =
     let tree_with = λ (new : Node). tree-LookaroundAssertion at.negate at.backwards at.start_group at.end_group (record at.contents { value = new }) in
     rw (at.is, out) (rw (tree_with at.contents.value, tree_with c.sweep-in-LookaroundAssertion.new.node)
     (in_wrapped (rw (contents_is, looking.depth, looks, looking.unicode, is) at c.sweep-in-LookaroundAssertion.ensures.visited)))
+
+pub sweep_inside-returns-in-Empty-clause-visited : goal.sweep_inside-returns-in-Empty-clause-visited
+sweep_inside-returns-in-Empty-clause-visited g t c depth is = search (rules, at_Empty)
+
+pub sweep_inside-returns-in-Empty-2-clause-visited : goal.sweep_inside-returns-in-Empty-2-clause-visited
+sweep_inside-returns-in-Empty-2-clause-visited g t c depth is = search (rules, at_Goal)
+
+pub sweep_inside-returns-in-Empty-3-clause-visited : goal.sweep_inside-returns-in-Empty-3-clause-visited
+sweep_inside-returns-in-Empty-3-clause-visited g t c depth is = search (rules, at_Char)
+
+pub sweep_inside-returns-in-Empty-4-clause-visited : goal.sweep_inside-returns-in-Empty-4-clause-visited
+sweep_inside-returns-in-Empty-4-clause-visited g t c depth is = search (rules, at_ByteSequence)
+
+pub sweep_inside-returns-in-Empty-5-clause-visited : goal.sweep_inside-returns-in-Empty-5-clause-visited
+sweep_inside-returns-in-Empty-5-clause-visited g t c depth is = search (rules, at_ByteSet)
+
+pub sweep_inside-returns-in-Empty-6-clause-visited : goal.sweep_inside-returns-in-Empty-6-clause-visited
+sweep_inside-returns-in-Empty-6-clause-visited g t c depth is = search (rules, at_CharSet)
+
+pub sweep_inside-returns-in-Empty-7-clause-visited : goal.sweep_inside-returns-in-Empty-7-clause-visited
+sweep_inside-returns-in-Empty-7-clause-visited g t c depth is = search (rules, at_MatchAny)
+
+pub sweep_inside-returns-in-Empty-8-clause-visited : goal.sweep_inside-returns-in-Empty-8-clause-visited
+sweep_inside-returns-in-Empty-8-clause-visited g t c depth is = search (rules, at_MatchAnyExceptLineTerminator)
+
+pub sweep_inside-returns-in-Empty-9-clause-visited : goal.sweep_inside-returns-in-Empty-9-clause-visited
+sweep_inside-returns-in-Empty-9-clause-visited g t c depth is = search (rules, at_Anchor)
+
+pub sweep_inside-returns-in-Empty-10-clause-visited : goal.sweep_inside-returns-in-Empty-10-clause-visited
+sweep_inside-returns-in-Empty-10-clause-visited g t c depth is = search (rules, at_WordBoundary)
+
+pub sweep_inside-returns-in-Empty-11-clause-visited : goal.sweep_inside-returns-in-Empty-11-clause-visited
+sweep_inside-returns-in-Empty-11-clause-visited g t c depth is = search (rules, at_Bracket)
+
+pub sweep_inside-returns-in-Empty-12-clause-visited : goal.sweep_inside-returns-in-Empty-12-clause-visited
+sweep_inside-returns-in-Empty-12-clause-visited g t c depth is = search (rules, at_BackRef)
+
+pub sweep_inside-returns-in-Empty-13-clause-visited : goal.sweep_inside-returns-in-Empty-13-clause-visited
+sweep_inside-returns-in-Empty-13-clause-visited g t c depth is = search (rules, at_StringSet)
+
+pub sweep_inside-returns-in-Alt-clause-visited : goal.sweep_inside-returns-in-Alt-clause-visited
+sweep_inside-returns-in-Alt-clause-visited g t c depth is =
+    let at = c.in-Alt in
+    let left_is = rw (at.is, out-Alt) at c.deref_mut.ensures.value in
+    let right_is = rw (at.is, out-Alt) at c.deref_mut-in-Alt.ensures.value in
+    let tree_with = λ (x y : Node). tree-Alt (record at.left { value = x }) (record at.right { value = y }) in
+    rw (at.is, out-Alt) (rw (tree_with at.left.value at.right.value, tree_with c.sweep_sides.new.left c.sweep_sides.new.right)
+    (rw (left_is, right_is) at (c.sweep_sides.ensures.visited depth is)))
+
+pub sweep_inside-returns-in-Alt-clause-swept : goal.sweep_inside-returns-in-Alt-clause-swept
+sweep_inside-returns-in-Alt-clause-swept g t c =
+    let at = c.in-Alt in
+    let left_is = rw (at.is, out-Alt) at c.deref_mut.ensures.value in
+    let right_is = rw (at.is, out-Alt) at c.deref_mut-in-Alt.ensures.value in
+    let tree_with = λ (x y : Node). tree-Alt (record at.left { value = x }) (record at.right { value = y }) in
+    rw (at.is, out-Alt) (rw (tree_with at.left.value at.right.value, tree_with c.sweep_sides.new.left c.sweep_sides.new.right)
+    (rw (left_is, right_is) at c.sweep_sides.ensures.swept))
+
+pub sweep_parts-returns-clause-visited : goal.sweep_parts-returns-clause-visited
+sweep_parts-returns-clause-visited g t c =
+    let l = c.loop-i in
+    let old = c.args.parts.now.items in
+    let done : drop l.i old ≡ [] = drop_all l.i old (search rules) in
+    let all : take l.i l.parts.items ≡ l.parts.items = take_all l.i l.parts.items (search rules) in
+    let whole = l.invariant.visited no_trees (l.pass, true) (rw done no_more) in
+    rw (all, row_append-none) at whole
+
+pub sweep-returns-in-Err-clause-visited : goal.sweep-returns-in-Err-clause-visited
+sweep-returns-in-Err-clause-visited g t c =
+    rw c.relink.ensures
+    (c.in-Err.ensures.visited _ _ (way_stays g.R.Rewrite.step c.args.walk.now.unicode (tree c.sweep_down.new.above) (tree c.sweep_down.new.node)
+    c.args.walk.now.depth c.args.walk.now.in_lookbehind c.sweep_down.new.pass))

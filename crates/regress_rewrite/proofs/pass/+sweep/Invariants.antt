@@ -54,5 +54,8 @@ decreases-sweep_one g l = 5 * units (tree l.node.now) + 1
 abbrev pub decreases-sweep_inside : goal.decreases-sweep_inside
 decreases-sweep_inside g l = 5 * units (tree l.node.now)
 
+abbrev pub decreases-sweep_sides : goal.decreases-sweep_sides
+decreases-sweep_sides g l = 5 * (units (tree l.left.now) + units (tree l.right.now)) + 4
+
 abbrev pub decreases-sweep_parts : goal.decreases-sweep_parts
 decreases-sweep_parts g l = 5 * units_in_row (trees l.parts.now.items) + 4

@@ -1,5 +1,5 @@
 -- One alternative more.
-use Rattle.std.proofs.Common.{true, false, refl, rules}
+use Rattle.std.proofs.Common.{true, false, refl}
 use Rattle.regress_tree.specs.Tree.{tree}
 use Rattle.regress_tree.proofs.VisitLemmas.{further-inside}
 use Rattle.regress_rewrite.proofs.PassesLemmas.{way_stays}
@@ -10,7 +10,10 @@ use Rattle.regress_rewrite.proofs.pass.rewrite_up.Goals as goal
 pub rewrite-requires : goal.rewrite-requires
 rewrite-requires g c =
     let l = c.loop-levels in
-    (IsPart-up _ _ (tree l.above) (tree l.node) _ _ c.loop-levels-test.ensures l.invariant.swept.keeps c.requires.part, search rules)
+    record {
+      part = IsPart-up _ _ (tree l.above) (tree l.node) _ _ c.loop-levels-test.ensures l.invariant.swept.keeps c.requires.part;
+      fresh = c.inside.ensures.children;
+    }
 
 pub loop-levels-preserved : goal.loop-levels-preserved
 loop-levels-preserved g c =
