@@ -1,5 +1,5 @@
 -- What a rewrite is shown, put together.
-use Rattle.std.proofs.Common.{◌≡◌, ◌≢◌, ℕ, ◌+◌, ◌<◌, Bool, true, false, ◌||◌, Result, Ok, Err, List, take, drop, inl, inr, arith, refl, sym, ap, subst, ◌∙◌}
+use Rattle.std.proofs.Common.{◌≡◌, ◌≢◌, ℕ, ◌+◌, ◌<◌, Bool, true, false, ◌||◌, Result, Ok, Err, List, take, drop, inl, inr, arith, refl, sym, ap, ap₂, subst, ◌∙◌}
 use Rattle.std.specs.declared.alloc.AllocError.{AllocError}
 use Rattle.std.specs.Result.{IsErr}
 use Rattle.std.proofs.lemmas.Bool.{false≢true}
@@ -15,6 +15,12 @@ use Rattle.regress_tree.specs.Climbs.{ClimbedMut}
 use Rattle.regress_rewrite.specs.declared.rewrite.PassAction.{PassAction}
 use Rattle.regress_rewrite.specs.Passes.{Applied, is_answered, SweptFrom, Passed, again}
 use Rattle.regress_rewrite.proofs.laws.Changes.{joined}
+use Rattle.regress_tree.specs.Reading.{Direction}
+use Rattle.regress_tree.specs.Shapes.{LacksShape, LacksInside}
+use Rattle.regress_tree.proofs.laws.Places.{left_of, right_of}
+use Rattle.regress_rewrite.specs.Sweep.{Swept, SweptOf}
+use Rattle.regress_rewrite.proofs.SweepLemmas.{Swept-put, Swept-then}
+use Rattle.std.proofs.lemmas.Bool.{or_parts}
 
 -- what is joined to a change is an error where it was one
 pub answered-joined : (changed : Bool) (answer : Result Bool AllocError) → is_answered (joined changed answer) ≡ is_answered answer
@@ -65,3 +71,26 @@ pub row_whole : (now old : List Node) (i : ℕ) → drop i now ≡ drop i old �
 row_whole now old i same =
     ap trees (sym (take-append-drop i now)) ∙ trees-append (take i now) (drop i now)
     ∙ ap (λ ns. row_append (trees (take i now)) (trees ns)) same
+
+-- The two sides of an `Alt`.
+module _ (exact : Bool) (d : Direction) (shape : Tree → Bool) (left left' right : Tree) (changed : Bool) where
+  sides_lack : LacksInside shape (alt left right) → LacksShape shape left × LacksShape shape right
+  sides_lack lacks = or_parts _ _ lacks
+
+  pub left_swept : {answer : Result Bool AllocError} → SweptOf (LacksShape shape) exact d left left' answer →
+      Swept (LacksInside shape (alt left right)) (LacksShape shape left') exact d (alt left right) (alt left' right) answer
+  left_swept first =
+      let there = Swept-put exact (left_of right) d first in
+      record {
+        keeps = there.keeps;
+        changed = there.changed;
+        removed = there.removed;
+        left = λ is_exact lacks. there.left is_exact (sides_lack lacks).0;
+      }
+
+  pub sides_swept : (right' : Tree) (answer : Result Bool AllocError) → SweptOf (LacksShape shape) exact d left left' (Ok changed) →
+      SweptOf (LacksShape shape) exact d right right' answer →
+      SweptOf (LacksInside shape) exact d (alt left right) (alt left' right') (joined changed answer)
+  sides_swept right' answer first second =
+      Swept-then exact d (left_swept first) (Swept-put exact (right_of left') d second) (λ lacks same. (sides_lack lacks).1)
+      (λ a b. ap₂ ◌||◌ a b)
