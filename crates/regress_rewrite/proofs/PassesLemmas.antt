@@ -19,7 +19,8 @@ use Rattle.regress_tree.specs.Reading.{Direction}
 use Rattle.regress_tree.specs.Shapes.{LacksShape, LacksInside}
 use Rattle.regress_tree.proofs.laws.Places.{left_of, right_of}
 use Rattle.regress_rewrite.specs.Sweep.{Swept, SweptOf}
-use Rattle.regress_rewrite.proofs.SweepLemmas.{Swept-put, Swept-then}
+use Rattle.regress_rewrite.proofs.SweepLemmas.{Swept-put, Swept-then, Swept-same}
+use Rattle.regress_tree.proofs.laws.Measures.{LacksShape-here, LacksShape-inside, LacksShape-from}
 use Rattle.std.proofs.lemmas.Bool.{or_parts}
 
 -- what is joined to a change is an error where it was one
@@ -94,3 +95,21 @@ module _ (exact : Bool) (d : Direction) (shape : Tree → Bool) (left left' righ
   sides_swept right' answer first second =
       Swept-then exact d (left_swept first) (Swept-put exact (right_of left') d second) (λ lacks same. (sides_lack lacks).1)
       (λ a b. ap₂ ◌||◌ a b)
+
+-- What lies inside is swept, and then the node is rewritten.
+module _ (exact : Bool) (d : Direction) (shape : Tree → Bool) (t u v : Tree) (changed : Bool) where
+  inside_swept : SweptOf (LacksInside shape) exact d t u (Ok changed) →
+      Swept (LacksShape shape t) (LacksInside shape u) exact d t u (Ok changed)
+  inside_swept first = record {
+    keeps = first.keeps;
+    changed = first.changed;
+    removed = first.removed;
+    left = λ is_exact lacks. first.left is_exact (LacksShape-inside shape t lacks);
+  }
+
+  pub node_swept : (answer : Result Bool AllocError) → SweptOf (LacksInside shape) exact d t u (Ok changed) →
+      SweptOf (λ x. shape x ≡ false) exact d u v answer → SweptOf (LacksShape shape) exact d t v (joined changed answer)
+  node_swept answer first second =
+      Swept-then exact d (inside_swept first) (Swept-same exact d second)
+      (λ lacks same. LacksShape-here shape u (subst (λ (x : Tree). LacksShape shape x) (sym same) lacks))
+      (λ inside this. subst (λ (x : Tree). LacksShape shape x) (sym this.1) (LacksShape-from shape u inside (sym (ap shape this.1) ∙ this.0)))

@@ -17,7 +17,7 @@ use Rattle.regress_rewrite.proofs.laws.Spine.{IsPart-reattach, IsPart-down, unit
 use Rattle.regress_rewrite.proofs.laws.Parts.{IsPart-at, units_at, parts_next, unvisited-next}
 use Rattle.regress_tree.specs.Climbs.{further}
 use Rattle.regress_rewrite.specs.Passes.{Applied}
-use Rattle.regress_rewrite.proofs.PassesLemmas.{stays, row_stays, way_stays, not_answered, row_whole}
+use Rattle.regress_rewrite.proofs.PassesLemmas.{stays, left_swept, sides_swept, node_swept, row_stays, way_stays, not_answered, row_whole}
 use Rattle.regress_tree.proofs.laws.Rows.{row_append-none}
 use Rattle.std.proofs.lemmas.List.{drop_all, take_all}
 use Rattle.regress_tree.proofs.VisitLemmas.{further-inside, further_next, after_down, next_is, visited_next, at_Empty, at_Goal, at_Char, at_ByteSequence, at_ByteSet, at_CharSet, at_MatchAny, at_MatchAnyExceptLineTerminator, at_Anchor, at_WordBoundary, at_Bracket, at_BackRef, at_StringSet}
@@ -48,18 +48,17 @@ sweep_down-loop-levels-preserved-in-Alt g t c =
     let first = rw (depth, left_is, c.inside.ensures.direction, c.inside.ensures.unicode) at c.in_ok-changed.ensures.visited in
     let smaller = units_down (tree l.node) (tree l.above) _ _ (tree node) _ shifted top_is in
     let here = Swept-walk _ c.args.walk.now c.inside.result c.inside.ensures.direction c.in_ok-changed.ensures.swept in
-    rw (c.in-Alt.is, out-Alt, tree-Alt)
-    (record {
-      levels = levels;
+    record {
+      levels = rw (c.in-Alt.is, out-Alt, tree-Alt) levels;
       visited = λ t u b e second climbed.
           after_down (Applied g.R.Rewrite.step c.args.walk.now.unicode) (further l.levels c.args.walk.now.depth) c.args.walk.now.depth
           c.args.walk.now.in_lookbehind (tree l.node) (tree l.above) _ _ (tree node) _ _ shifted top_is
           _ _ b e t u _ (ap (λ k. further k c.args.walk.now.depth) l.invariant.levels) (λ x m whole rest. l.invariant.visited x u m e whole rest)
-          (rw (← further_next l.levels _ c.args.walk.now.depth refl) at first) (rw (← further_next l.levels _ c.args.walk.now.depth refl) at second) climbed;
+          (rw (← further_next l.levels _ c.args.walk.now.depth refl) at first) (rw (← further_next l.levels _ c.args.walk.now.depth refl) at second) (rw (c.in-Alt.is, out-Alt, tree-Alt) at climbed);
       smaller = omega (arith, smaller, l.invariant.smaller);
-      swept = down_next _ _ g.R.Rewrite.removes _ l.changed _ (tree l.node) (tree l.above) _ _ (tree node) _ _ shifted top_is
-          l.invariant.swept here;
-    })
+      swept = rw (c.in-Alt.is, out-Alt, tree-Alt) (down_next _ _ g.R.Rewrite.removes _ l.changed _ (tree l.node) (tree l.above) _ _ (tree node) _ _ shifted top_is
+          l.invariant.swept here);
+    }
 
 pub sweep_down-returns-in_err-changed-clause-swept : goal.sweep_down-returns-in_err-changed-clause-swept
 sweep_down-returns-in_err-changed-clause-swept g t c =
@@ -122,7 +121,7 @@ pub sweep_inside-returns-in-CaptureGroup-clause-swept : goal.sweep_inside-return
 sweep_inside-returns-in-CaptureGroup-clause-swept g t c =
     let contents_is = rw (c.in-CaptureGroup.is, out-CaptureGroup) at c.deref_mut-in-CaptureGroup.ensures.value in
     let place = inside_of (capture_group c.in-CaptureGroup.id (option_map string_bytes c.in-CaptureGroup.name)) in
-    rw (c.in-CaptureGroup.is, out-CaptureGroup) (simp tree-CaptureGroup (Swept-put _ place _ (rw contents_is at c.sweep-in-CaptureGroup.ensures.swept)))
+    rw (c.in-CaptureGroup.is, out-CaptureGroup) (simp tree-CaptureGroup (Swept-put _ place _ (rw contents_is at c.sweep.ensures.swept)))
 
 pub sweep_inside-returns-in-Loop-clause-swept : goal.sweep_inside-returns-in-Loop-clause-swept
 sweep_inside-returns-in-Loop-clause-swept g t c =
@@ -190,7 +189,7 @@ pub sweep_inside-returns-in-CaptureGroup-clause-visited : goal.sweep_inside-retu
 sweep_inside-returns-in-CaptureGroup-clause-visited g t c depth is =
     let contents_is = rw (c.in-CaptureGroup.is, out-CaptureGroup) at c.deref_mut-in-CaptureGroup.ensures.value in
     rw (c.in-CaptureGroup.is, out-CaptureGroup)
-    (simp tree-CaptureGroup (in_wrapped (rw (contents_is, is) at c.sweep-in-CaptureGroup.ensures.visited)))
+    (simp tree-CaptureGroup (in_wrapped (rw (contents_is, is) at c.sweep.ensures.visited)))
 
 pub sweep_inside-returns-in-Loop-clause-visited : goal.sweep_inside-returns-in-Loop-clause-visited
 sweep_inside-returns-in-Loop-clause-visited g t c depth is =
@@ -285,3 +284,67 @@ sweep-returns-in-Err-clause-visited g t c =
     rw c.relink.ensures
     (c.in-Err.ensures.visited _ _ (way_stays g.R.Rewrite.step c.args.walk.now.unicode (tree c.sweep_down.new.above) (tree c.sweep_down.new.node)
     c.args.walk.now.depth c.args.walk.now.in_lookbehind c.sweep_down.new.pass))
+
+pub sweep_sides-returns-clause-swept : goal.sweep_sides-returns-clause-swept
+sweep_sides-returns-clause-swept g t c =
+    sides_swept _ _ g.R.Rewrite.removes _ _ _ _ _ _ c.in_ok-changed.ensures.swept c.in_ok-sweep.ensures.swept
+
+pub sweep_sides-returns-clause-visited : goal.sweep_sides-returns-clause-visited
+sweep_sides-returns-clause-visited g t c depth is =
+    in_alt (rw is at c.in_ok-changed.ensures.visited) (rw is at c.in_ok-sweep.ensures.visited)
+
+pub sweep_one-returns-clause-swept : goal.sweep_one-returns-clause-swept
+sweep_one-returns-clause-swept g t c =
+    let inside = Swept-walk _ c.args.walk.now c.inside.result c.inside.ensures.direction c.in_ok-changed.ensures.swept in
+    node_swept _ _ g.R.Rewrite.removes _ _ _ _ _ inside c.in_ok-rewrite.ensures.swept
+
+pub sweep_one-returns-clause-visited : goal.sweep_one-returns-clause-visited
+sweep_one-returns-clause-visited g t c =
+    let inner = c.inside.ensures in
+    after_children (rw (inner.direction, inner.unicode) at (c.in_ok-changed.ensures.visited c.args.walk.now.depth inner.depth))
+    (c.in_ok-rewrite.ensures.applied false)
+
+pub sweep_one-returns-in_err-changed-clause-visited : goal.sweep_one-returns-in_err-changed-clause-visited
+sweep_one-returns-in_err-changed-clause-visited g t c =
+    let inner = c.inside.ensures in
+    let inside = rw (inner.direction, inner.unicode) at (c.sweep_inside.ensures.visited c.args.walk.now.depth inner.depth) in
+    rw (not_answered _ c.from_residual.ensures.0) (after_children {skip = false} inside (refl, refl, refl))
+
+pub sweep_one-returns-in_err-rewrite-clause-visited : goal.sweep_one-returns-in_err-rewrite-clause-visited
+sweep_one-returns-in_err-rewrite-clause-visited g t c =
+    let inner = c.inside.ensures in
+    rw (not_answered _ c.from_residual-in_err-rewrite.ensures.0)
+    (after_children (rw (inner.direction, inner.unicode) at (c.in_ok-changed.ensures.visited c.args.walk.now.depth inner.depth))
+    (c.rewrite.ensures.applied false))
+
+pub sweep_sides-returns-in_err-changed-clause-visited : goal.sweep_sides-returns-in_err-changed-clause-visited
+sweep_sides-returns-in_err-changed-clause-visited g t c depth is =
+    rw (not_answered _ c.from_residual.ensures.0)
+    (in_alt (rw is at c.sweep.ensures.visited) (stays g.R.Rewrite.step c.args.walk.now.unicode _ _ _ _))
+
+pub sweep_sides-returns-in_err-changed-clause-swept : goal.sweep_sides-returns-in_err-changed-clause-swept
+sweep_sides-returns-in_err-changed-clause-swept g t c =
+    Swept-error _ _ _ c.from_residual.ensures.0 refl
+    (left_swept _ _ g.R.Rewrite.removes (tree c.args.left.now) (tree c.sweep.new.left) (tree c.args.right.now) false c.sweep.ensures.swept)
+
+pub sweep_sides-returns-in_err-sweep-clause-visited : goal.sweep_sides-returns-in_err-sweep-clause-visited
+sweep_sides-returns-in_err-sweep-clause-visited g t c depth is =
+    rw (not_answered _ c.from_residual-in_err-sweep.ensures.0)
+    (in_alt (rw is at c.in_ok-changed.ensures.visited) (rw is at c.sweep-2.ensures.visited))
+
+pub sweep_sides-returns-in_err-sweep-clause-swept : goal.sweep_sides-returns-in_err-sweep-clause-swept
+sweep_sides-returns-in_err-sweep-clause-swept g t c =
+    Swept-error _ _ _ c.from_residual-in_err-sweep.ensures.0 refl
+    (sides_swept _ _ g.R.Rewrite.removes _ _ _ _ _ _ c.in_ok-changed.ensures.swept c.sweep-2.ensures.swept)
+
+pub sweep_parts-returns-in_err-changed-clause-visited : goal.sweep_parts-returns-in_err-changed-clause-visited
+sweep_parts-returns-in_err-changed-clause-visited g t c = ?
+
+pub sweep_down-returns-in_err-changed-clause-visited : goal.sweep_down-returns-in_err-changed-clause-visited
+sweep_down-returns-in_err-changed-clause-visited g t c = ?
+
+pub sweep_down-returns-in_err-sweep_one-clause-visited : goal.sweep_down-returns-in_err-sweep_one-clause-visited
+sweep_down-returns-in_err-sweep_one-clause-visited g t c = ?
+
+pub sweep_down-returns-clause-visited : goal.sweep_down-returns-clause-visited
+sweep_down-returns-clause-visited g t c = ?

@@ -12,3 +12,12 @@ loop-changed-smaller g c =
     let n = length (captures (tree c.args.r.now.node)) in
     changes_left-falls (account (tree c.args.r.now.node)) (tree c.loop-changed.r.node) (tree c.sweep.new.node)
     n root (swept.keeps.stands n root (so_far.stands n root c.requires.stands)) so_far.account swept.keeps.account swept.changed
+
+pub returns-clause-passed : goal.returns-clause-passed
+returns-clause-passed g c = ?
+
+pub returns-in_err-sweep-clause-passed : goal.returns-in_err-sweep-clause-passed
+returns-in_err-sweep-clause-passed g c = ?
+
+pub loop-changed-preserved : goal.loop-changed-preserved
+loop-changed-preserved g c = ?
