@@ -45,7 +45,7 @@ sweep_down-loop-levels-preserved-in-Alt g t c =
     let levels : l.levels + 1 ≡ spine_length (tree c.shift.new.onto) = levels_down _ (tree l.node) (tree l.above) _ _ shifted l.invariant.levels in
     let levels = levels ∙ ap spine_length top_is in
     let depth = further-inside _ _ c.args.walk.now.depth _ refl c.inside.ensures.depth c.inside.ensures.same in
-    let first = rw (depth, left_is, c.inside.ensures.direction, c.inside.ensures.unicode) at c.in_ok-changed.ensures.visited in
+    let first = rw (depth, c.inside.ensures.direction, c.inside.ensures.unicode) at c.in_ok-changed.ensures.visited in
     let smaller = units_down (tree l.node) (tree l.above) _ _ (tree node) _ shifted top_is in
     let here = Swept-walk _ c.args.walk.now c.inside.result c.inside.ensures.direction c.in_ok-changed.ensures.swept in
     record {
@@ -301,36 +301,36 @@ sweep_one-returns-clause-swept g t c =
 pub sweep_one-returns-clause-visited : goal.sweep_one-returns-clause-visited
 sweep_one-returns-clause-visited g t c =
     let inner = c.inside.ensures in
-    after_children (rw (inner.direction, inner.unicode) at (c.in_ok-changed.ensures.visited c.args.walk.now.depth inner.depth))
+    after_children {skip = false} (rw (inner.direction, inner.unicode) at (c.in_ok-changed.ensures.visited c.args.walk.now.depth inner.depth))
     (c.in_ok-rewrite.ensures.applied false)
 
 pub sweep_one-returns-in_err-changed-clause-visited : goal.sweep_one-returns-in_err-changed-clause-visited
 sweep_one-returns-in_err-changed-clause-visited g t c =
     let inner = c.inside.ensures in
-    let inside = rw (inner.direction, inner.unicode) at (c.sweep_inside.ensures.visited c.args.walk.now.depth inner.depth) in
+    let inside = rw (inner.direction, inner.unicode) at (c.in_err-changed.ensures.visited c.args.walk.now.depth inner.depth) in
     rw (not_answered _ c.from_residual.ensures.0) (after_children {skip = false} inside (refl, refl, refl))
 
 pub sweep_one-returns-in_err-rewrite-clause-visited : goal.sweep_one-returns-in_err-rewrite-clause-visited
 sweep_one-returns-in_err-rewrite-clause-visited g t c =
     let inner = c.inside.ensures in
     rw (not_answered _ c.from_residual-in_err-rewrite.ensures.0)
-    (after_children (rw (inner.direction, inner.unicode) at (c.in_ok-changed.ensures.visited c.args.walk.now.depth inner.depth))
-    (c.rewrite.ensures.applied false))
+    (after_children {skip = false} (rw (inner.direction, inner.unicode) at (c.in_ok-changed.ensures.visited c.args.walk.now.depth inner.depth))
+    (c.in_err-rewrite.ensures.applied false))
 
 pub sweep_sides-returns-in_err-changed-clause-visited : goal.sweep_sides-returns-in_err-changed-clause-visited
 sweep_sides-returns-in_err-changed-clause-visited g t c depth is =
     rw (not_answered _ c.from_residual.ensures.0)
-    (in_alt (rw is at c.sweep.ensures.visited) (stays g.R.Rewrite.step c.args.walk.now.unicode _ _ _ _))
+    (in_alt (rw is at c.in_err-changed.ensures.visited) (stays g.R.Rewrite.step c.args.walk.now.unicode _ _ _ _))
 
 pub sweep_sides-returns-in_err-changed-clause-swept : goal.sweep_sides-returns-in_err-changed-clause-swept
 sweep_sides-returns-in_err-changed-clause-swept g t c =
     Swept-error _ _ _ c.from_residual.ensures.0 refl
-    (left_swept _ _ g.R.Rewrite.removes (tree c.args.left.now) (tree c.sweep.new.left) (tree c.args.right.now) false c.sweep.ensures.swept)
+    (left_swept _ _ g.R.Rewrite.removes (tree c.args.left.now) (tree c.sweep.new.node) (tree c.args.right.now) false c.sweep.ensures.swept)
 
 pub sweep_sides-returns-in_err-sweep-clause-visited : goal.sweep_sides-returns-in_err-sweep-clause-visited
 sweep_sides-returns-in_err-sweep-clause-visited g t c depth is =
     rw (not_answered _ c.from_residual-in_err-sweep.ensures.0)
-    (in_alt (rw is at c.in_ok-changed.ensures.visited) (rw is at c.sweep-2.ensures.visited))
+    (in_alt (rw is at c.in_ok-changed.ensures.visited) (rw is at c.in_err-sweep.ensures.visited))
 
 pub sweep_sides-returns-in_err-sweep-clause-swept : goal.sweep_sides-returns-in_err-sweep-clause-swept
 sweep_sides-returns-in_err-sweep-clause-swept g t c =
