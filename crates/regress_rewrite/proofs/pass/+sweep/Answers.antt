@@ -1,8 +1,8 @@
 -- Each answer is a lemma on plain trees, at the values of the call.
-use Rattle.std.proofs.Common.{rules, arith, ◌≡◌, ◌+◌, ◌∙◌, true, false, [], take, drop, sym, ap, subst, refl, length-set}
+use Rattle.std.proofs.Common.{rules, arith, ◌≡◌, ◌+◌, ◌∙◌, true, false, [], take, drop, set, sym, ap, subst, refl, length-set}
 use Rattle.std.specs.Prelude.{option_map, string_bytes}
 use Rattle.regress_tree.specs.declared.ir.node.Node.{Node}
-use Rattle.regress_tree.specs.Tree.{Tree, no_trees, tree, capture_group, loop, loop_one, lookaround}
+use Rattle.regress_tree.specs.Tree.{Tree, no_trees, tree, trees, capture_group, loop, loop_one, lookaround}
 use Rattle.regress_tree.specs.Walk.{direction_of}
 use Rattle.regress_tree.specs.Units.{units}
 use Rattle.regress_tree.specs.Visits.{in_cat, in_alt, in_wrapped, no_more, one_more, after_children}
@@ -338,10 +338,34 @@ sweep_sides-returns-in_err-sweep-clause-swept g t c =
     (sides_swept _ _ g.R.Rewrite.removes _ _ _ _ _ _ c.in_ok-changed.ensures.swept c.sweep-2.ensures.swept)
 
 pub sweep_parts-returns-in_err-changed-clause-visited : goal.sweep_parts-returns-in_err-changed-clause-visited
-sweep_parts-returns-in_err-changed-clause-visited g t c = ?
+sweep_parts-returns-in_err-changed-clause-visited g t c =
+    let l = c.loop-i in
+    let old = c.args.parts.now.items in
+    let new = c.sweep.new.node in
+    let at = c.index_mut.ensures.value in
+    let rest = trees (drop (l.i + 1) old) in
+    let unvisited = unvisited-next l.parts.items old l.i new l.invariant.unvisited in
+    let stay = row_stays g.R.Rewrite.step c.args.walk.now.unicode rest c.args.walk.now.depth c.args.walk.now.in_lookbehind _ in
+    let first = rw (next_is l.parts.items old l.i (search rules) c.index_mut.result.now at l.invariant.unvisited)
+    (one_more c.in_err-changed.ensures.visited stay) in
+    rw (not_answered _ c.from_residual.ensures.0, row_whole (set l.parts.items l.i new) old (l.i + 1) unvisited,
+    visited_next l.parts.items old l.i (search rules) c.index_mut.result.now at l.invariant.unvisited new rest)
+    (l.invariant.visited _ _ first)
 
 pub sweep_down-returns-in_err-changed-clause-visited : goal.sweep_down-returns-in_err-changed-clause-visited
-sweep_down-returns-in_err-changed-clause-visited g t c = ?
+sweep_down-returns-in_err-changed-clause-visited g t c u b climbed =
+    let l = c.loop-levels in
+    let shifted = c.if-shift.ensures in
+    let node = c.deref_mut.result.now in
+    let left_is = rw (c.in-Alt.is, out-Alt) at c.deref_mut.ensures.value in
+    let top_is = alt_of c.shift.new.onto c.in-Alt.left c.in-Alt.field-1 node c.in-Alt.is left_is in
+    let depth = further-inside _ _ c.args.walk.now.depth _ refl c.inside.ensures.depth c.inside.ensures.same in
+    let first = rw (depth, c.inside.ensures.direction, c.inside.ensures.unicode) at c.in_err-changed.ensures.visited in
+    after_down (Applied g.R.Rewrite.step c.args.walk.now.unicode) (further l.levels c.args.walk.now.depth) c.args.walk.now.depth
+    c.args.walk.now.in_lookbehind (tree l.node) (tree l.above) _ _ (tree node) _ _ shifted top_is
+    _ _ _ b _ u _ (ap (λ k. further k c.args.walk.now.depth) l.invariant.levels) (λ x m whole rest. l.invariant.visited x u m b whole rest)
+    (rw (← further_next l.levels _ c.args.walk.now.depth refl) at first) (stays g.R.Rewrite.step c.args.walk.now.unicode _ _ _ _)
+    (rw (c.in-Alt.is, out-Alt, tree-Alt, not_answered _ c.from_residual.ensures.0) at climbed)
 
 pub sweep_down-returns-in_err-sweep_one-clause-visited : goal.sweep_down-returns-in_err-sweep_one-clause-visited
 sweep_down-returns-in_err-sweep_one-clause-visited g t c = ?
