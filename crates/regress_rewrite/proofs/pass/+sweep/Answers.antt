@@ -342,14 +342,14 @@ sweep_parts-returns-in_err-changed-clause-visited g t c =
     let l = c.loop-i in
     let old = c.args.parts.now.items in
     let new = c.sweep.new.node in
-    let at = c.index_mut.ensures.value in
+    let found = c.index_mut.ensures.value in
     let rest = trees (drop (l.i + 1) old) in
     let unvisited = unvisited-next l.parts.items old l.i new l.invariant.unvisited in
     let stay = row_stays g.R.Rewrite.step c.args.walk.now.unicode rest c.args.walk.now.depth c.args.walk.now.in_lookbehind _ in
-    let first = rw (next_is l.parts.items old l.i (search rules) c.index_mut.result.now at l.invariant.unvisited)
+    let first = rw (next_is l.parts.items old l.i (search rules) c.index_mut.result.now found l.invariant.unvisited)
     (one_more c.in_err-changed.ensures.visited stay) in
     rw (not_answered _ c.from_residual.ensures.0, row_whole (set l.parts.items l.i new) old (l.i + 1) unvisited,
-    visited_next l.parts.items old l.i (search rules) c.index_mut.result.now at l.invariant.unvisited new rest)
+    visited_next l.parts.items old l.i (search rules) c.index_mut.result.now found l.invariant.unvisited new rest)
     (l.invariant.visited _ _ first)
 
 pub sweep_down-returns-in_err-changed-clause-visited : goal.sweep_down-returns-in_err-changed-clause-visited
