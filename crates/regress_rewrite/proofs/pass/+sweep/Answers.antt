@@ -1,8 +1,9 @@
 -- Each answer is a lemma on plain trees, at the values of the call.
 use Rattle.std.proofs.Common.{rules, arith, ◌≡◌, ◌+◌, ◌∙◌, true, false, [], take, drop, set, sym, ap, subst, refl, length-set}
 use Rattle.std.specs.Prelude.{option_map, string_bytes}
-use Rattle.regress_tree.specs.declared.ir.node.Node.{Node}
-use Rattle.regress_tree.specs.Tree.{Tree, no_trees, tree, trees, capture_group, loop, loop_one, lookaround}
+use Rattle.regress_tree.specs.declared.ir.node.Node.{Node, the_lemmas}
+use Rattle.regress_tree.specs.Tree.{Tree, no_trees, more_trees, tree, trees, capture_group, loop, loop_one, lookaround}
+use Rattle.regress_tree.specs.Copies.{is_leaf}
 use Rattle.regress_tree.specs.Walk.{direction_of}
 use Rattle.regress_tree.specs.Units.{units}
 use Rattle.regress_tree.specs.Visits.{in_cat, in_alt, in_wrapped, no_more, one_more, after_children}
@@ -20,7 +21,7 @@ use Rattle.regress_rewrite.specs.Passes.{Applied}
 use Rattle.regress_rewrite.proofs.PassesLemmas.{stays, left_swept, sides_swept, node_swept, row_stays, way_stays, not_answered, row_whole}
 use Rattle.regress_tree.proofs.laws.Rows.{row_append-none}
 use Rattle.std.proofs.lemmas.List.{drop_all, take_all}
-use Rattle.regress_tree.proofs.VisitLemmas.{further-inside, further_next, after_down, next_is, visited_next, at_Empty, at_Goal, at_Char, at_ByteSequence, at_ByteSet, at_CharSet, at_MatchAny, at_MatchAnyExceptLineTerminator, at_Anchor, at_WordBoundary, at_Bracket, at_BackRef, at_StringSet}
+use Rattle.regress_tree.proofs.VisitLemmas.{further-inside, further_next, after_down, next_is, visited_next, at_leaf}
 use Rattle.regress_rewrite.proofs.pass.+sweep.Goals.{sweep_down-then-loop-levels-test+else-shift, sweep_down-else-loop-levels-test}
 use Rattle.regress_rewrite.proofs.pass.+sweep.Goals as goal
 
@@ -214,43 +215,69 @@ sweep_inside-returns-in-LookaroundAssertion-clause-visited g t c depth is =
     (in_wrapped (rw (contents_is, looking.depth, looks, looking.unicode, is) at c.sweep-in-LookaroundAssertion.ensures.visited)))
 
 pub sweep_inside-returns-in-Empty-clause-visited : goal.sweep_inside-returns-in-Empty-clause-visited
-sweep_inside-returns-in-Empty-clause-visited g t c depth is = search (rules, at_Empty)
+sweep_inside-returns-in-Empty-clause-visited g t c depth is =
+    let holds_none : is_leaf (tree c.args.node.now) ≡ true = first_of (search (rules, the_lemmas), grind (arith, the_lemmas)) in
+    at_leaf _ (tree c.args.node.now) holds_none
 
 pub sweep_inside-returns-in-Empty-2-clause-visited : goal.sweep_inside-returns-in-Empty-2-clause-visited
-sweep_inside-returns-in-Empty-2-clause-visited g t c depth is = search (rules, at_Goal)
+sweep_inside-returns-in-Empty-2-clause-visited g t c depth is =
+    let holds_none : is_leaf (tree c.args.node.now) ≡ true = first_of (search (rules, the_lemmas), grind (arith, the_lemmas)) in
+    at_leaf _ (tree c.args.node.now) holds_none
 
 pub sweep_inside-returns-in-Empty-3-clause-visited : goal.sweep_inside-returns-in-Empty-3-clause-visited
-sweep_inside-returns-in-Empty-3-clause-visited g t c depth is = search (rules, at_Char)
+sweep_inside-returns-in-Empty-3-clause-visited g t c depth is =
+    let holds_none : is_leaf (tree c.args.node.now) ≡ true = first_of (search (rules, the_lemmas), grind (arith, the_lemmas)) in
+    at_leaf _ (tree c.args.node.now) holds_none
 
 pub sweep_inside-returns-in-Empty-4-clause-visited : goal.sweep_inside-returns-in-Empty-4-clause-visited
-sweep_inside-returns-in-Empty-4-clause-visited g t c depth is = search (rules, at_ByteSequence)
+sweep_inside-returns-in-Empty-4-clause-visited g t c depth is =
+    let holds_none : is_leaf (tree c.args.node.now) ≡ true = first_of (search (rules, the_lemmas), grind (arith, the_lemmas)) in
+    at_leaf _ (tree c.args.node.now) holds_none
 
 pub sweep_inside-returns-in-Empty-5-clause-visited : goal.sweep_inside-returns-in-Empty-5-clause-visited
-sweep_inside-returns-in-Empty-5-clause-visited g t c depth is = search (rules, at_ByteSet)
+sweep_inside-returns-in-Empty-5-clause-visited g t c depth is =
+    let holds_none : is_leaf (tree c.args.node.now) ≡ true = first_of (search (rules, the_lemmas), grind (arith, the_lemmas)) in
+    at_leaf _ (tree c.args.node.now) holds_none
 
 pub sweep_inside-returns-in-Empty-6-clause-visited : goal.sweep_inside-returns-in-Empty-6-clause-visited
-sweep_inside-returns-in-Empty-6-clause-visited g t c depth is = search (rules, at_CharSet)
+sweep_inside-returns-in-Empty-6-clause-visited g t c depth is =
+    let holds_none : is_leaf (tree c.args.node.now) ≡ true = first_of (search (rules, the_lemmas), grind (arith, the_lemmas)) in
+    at_leaf _ (tree c.args.node.now) holds_none
 
 pub sweep_inside-returns-in-Empty-7-clause-visited : goal.sweep_inside-returns-in-Empty-7-clause-visited
-sweep_inside-returns-in-Empty-7-clause-visited g t c depth is = search (rules, at_MatchAny)
+sweep_inside-returns-in-Empty-7-clause-visited g t c depth is =
+    let holds_none : is_leaf (tree c.args.node.now) ≡ true = first_of (search (rules, the_lemmas), grind (arith, the_lemmas)) in
+    at_leaf _ (tree c.args.node.now) holds_none
 
 pub sweep_inside-returns-in-Empty-8-clause-visited : goal.sweep_inside-returns-in-Empty-8-clause-visited
-sweep_inside-returns-in-Empty-8-clause-visited g t c depth is = search (rules, at_MatchAnyExceptLineTerminator)
+sweep_inside-returns-in-Empty-8-clause-visited g t c depth is =
+    let holds_none : is_leaf (tree c.args.node.now) ≡ true = first_of (search (rules, the_lemmas), grind (arith, the_lemmas)) in
+    at_leaf _ (tree c.args.node.now) holds_none
 
 pub sweep_inside-returns-in-Empty-9-clause-visited : goal.sweep_inside-returns-in-Empty-9-clause-visited
-sweep_inside-returns-in-Empty-9-clause-visited g t c depth is = search (rules, at_Anchor)
+sweep_inside-returns-in-Empty-9-clause-visited g t c depth is =
+    let holds_none : is_leaf (tree c.args.node.now) ≡ true = first_of (search (rules, the_lemmas), grind (arith, the_lemmas)) in
+    at_leaf _ (tree c.args.node.now) holds_none
 
 pub sweep_inside-returns-in-Empty-10-clause-visited : goal.sweep_inside-returns-in-Empty-10-clause-visited
-sweep_inside-returns-in-Empty-10-clause-visited g t c depth is = search (rules, at_WordBoundary)
+sweep_inside-returns-in-Empty-10-clause-visited g t c depth is =
+    let holds_none : is_leaf (tree c.args.node.now) ≡ true = first_of (search (rules, the_lemmas), grind (arith, the_lemmas)) in
+    at_leaf _ (tree c.args.node.now) holds_none
 
 pub sweep_inside-returns-in-Empty-11-clause-visited : goal.sweep_inside-returns-in-Empty-11-clause-visited
-sweep_inside-returns-in-Empty-11-clause-visited g t c depth is = search (rules, at_Bracket)
+sweep_inside-returns-in-Empty-11-clause-visited g t c depth is =
+    let holds_none : is_leaf (tree c.args.node.now) ≡ true = first_of (search (rules, the_lemmas), grind (arith, the_lemmas)) in
+    at_leaf _ (tree c.args.node.now) holds_none
 
 pub sweep_inside-returns-in-Empty-12-clause-visited : goal.sweep_inside-returns-in-Empty-12-clause-visited
-sweep_inside-returns-in-Empty-12-clause-visited g t c depth is = search (rules, at_BackRef)
+sweep_inside-returns-in-Empty-12-clause-visited g t c depth is =
+    let holds_none : is_leaf (tree c.args.node.now) ≡ true = first_of (search (rules, the_lemmas), grind (arith, the_lemmas)) in
+    at_leaf _ (tree c.args.node.now) holds_none
 
 pub sweep_inside-returns-in-Empty-13-clause-visited : goal.sweep_inside-returns-in-Empty-13-clause-visited
-sweep_inside-returns-in-Empty-13-clause-visited g t c depth is = search (rules, at_StringSet)
+sweep_inside-returns-in-Empty-13-clause-visited g t c depth is =
+    let holds_none : is_leaf (tree c.args.node.now) ≡ true = first_of (search (rules, the_lemmas), grind (arith, the_lemmas)) in
+    at_leaf _ (tree c.args.node.now) holds_none
 
 pub sweep_inside-returns-in-Alt-clause-visited : goal.sweep_inside-returns-in-Alt-clause-visited
 sweep_inside-returns-in-Alt-clause-visited g t c depth is =
@@ -345,12 +372,12 @@ sweep_parts-returns-in_err-changed-clause-visited g t c =
     let found = c.index_mut.ensures.value in
     let rest = trees (drop (l.i + 1) old) in
     let unvisited = unvisited-next l.parts.items old l.i new l.invariant.unvisited in
-    let stay = row_stays g.R.Rewrite.step c.args.walk.now.unicode rest c.args.walk.now.depth c.args.walk.now.in_lookbehind _ in
-    let first = rw (next_is l.parts.items old l.i (search rules) c.index_mut.result.now found l.invariant.unvisited)
-    (one_more c.in_err-changed.ensures.visited stay) in
+    let stay = row_stays g.R.Rewrite.step c.args.walk.now.unicode rest c.args.walk.now.depth c.args.walk.now.in_lookbehind c.sweep.new.pass in
     rw (not_answered _ c.from_residual.ensures.0, row_whole (set l.parts.items l.i new) old (l.i + 1) unvisited,
     visited_next l.parts.items old l.i (search rules) c.index_mut.result.now found l.invariant.unvisited new rest)
-    (l.invariant.visited _ _ first)
+    (l.invariant.visited (more_trees (tree new) rest) (c.sweep.new.pass, false)
+    (rw (next_is l.parts.items old l.i (search rules) c.index_mut.result.now found l.invariant.unvisited)
+    (one_more c.in_err-changed.ensures.visited stay)))
 
 pub sweep_down-returns-in_err-changed-clause-visited : goal.sweep_down-returns-in_err-changed-clause-visited
 sweep_down-returns-in_err-changed-clause-visited g t c u b climbed =
@@ -368,7 +395,37 @@ sweep_down-returns-in_err-changed-clause-visited g t c u b climbed =
     (rw (c.in-Alt.is, out-Alt, tree-Alt, not_answered _ c.from_residual.ensures.0) at climbed)
 
 pub sweep_down-returns-in_err-sweep_one-clause-visited : goal.sweep_down-returns-in_err-sweep_one-clause-visited
-sweep_down-returns-in_err-sweep_one-clause-visited g t c = ?
+sweep_down-returns-in_err-sweep_one-clause-visited g t c u b climbed =
+    let l = c.loop-levels in
+    let n_is : tree c.loop-levels-test.node ≡ tree l.node =
+    elim c.loop-levels-test.branch [
+      | sweep_down-then-loop-levels-test+else-shift w ↦ ap tree w.node-is ∙ w.if-shift.ensures.1
+      | sweep_down-else-loop-levels-test w ↦ ap tree w.node-is
+    ] in
+    let above_is : tree c.loop-levels-test.above ≡ tree l.above =
+    elim c.loop-levels-test.branch [
+      | sweep_down-then-loop-levels-test+else-shift w ↦ ap tree w.above-is ∙ w.if-shift.ensures.2
+      | sweep_down-else-loop-levels-test w ↦ ap tree w.above-is
+    ] in
+    let inner = c.inside-2.ensures in
+    let depth = further-inside _ _ c.args.walk.now.depth _ refl inner.depth inner.same in
+    let last = rw (n_is, depth, inner.direction, inner.unicode) at c.in_err-sweep_one.ensures.visited in
+    l.invariant.visited (tree c.sweep_one.new.node) u (c.sweep_one.new.pass, false) b last (rw (above_is, not_answered _ c.from_residual-in_err-sweep_one.ensures.0) at climbed)
 
 pub sweep_down-returns-clause-visited : goal.sweep_down-returns-clause-visited
-sweep_down-returns-clause-visited g t c = ?
+sweep_down-returns-clause-visited g t c u b climbed =
+    let l = c.loop-levels in
+    let n_is : tree c.loop-levels-test.node ≡ tree l.node =
+    elim c.loop-levels-test.branch [
+      | sweep_down-then-loop-levels-test+else-shift w ↦ ap tree w.node-is ∙ w.if-shift.ensures.1
+      | sweep_down-else-loop-levels-test w ↦ ap tree w.node-is
+    ] in
+    let above_is : tree c.loop-levels-test.above ≡ tree l.above =
+    elim c.loop-levels-test.branch [
+      | sweep_down-then-loop-levels-test+else-shift w ↦ ap tree w.above-is ∙ w.if-shift.ensures.2
+      | sweep_down-else-loop-levels-test w ↦ ap tree w.above-is
+    ] in
+    let inner = c.inside-2.ensures in
+    let depth = further-inside _ _ c.args.walk.now.depth _ refl inner.depth inner.same in
+    let last = rw (n_is, depth, inner.direction, inner.unicode) at c.in_ok-sweep_one.ensures.visited in
+    l.invariant.visited (tree c.sweep_one.new.node) u (c.sweep_one.new.pass, true) b last (rw above_is at climbed)
