@@ -1,10 +1,10 @@
 -- What a rewrite is shown, put together.
-use Rattle.std.proofs.Common.{◌≡◌, ◌≢◌, ℕ, ◌+◌, ◌<◌, Bool, true, false, ◌||◌, Result, Ok, Err, List, take, drop, inl, inr, arith, refl, sym, ap, ap₂, subst, ◌∙◌}
+use Rattle.std.proofs.Common.{◌≡◌, ◌≢◌, ℕ, Bool, true, false, ◌||◌, Result, Ok, Err, List, take, drop, inl, inr, arith, refl, sym, ap, ap₂, subst, ◌∙◌}
 use Rattle.std.specs.declared.alloc.AllocError.{AllocError}
 use Rattle.std.specs.Result.{IsErr}
 use Rattle.std.proofs.lemmas.Bool.{false≢true}
 use Rattle.regress_tree.specs.declared.ir.walker.Walk.{Walk}
-use Rattle.regress_tree.specs.Tree.{Tree, Trees, leaf, cat, alt, wrapped, no_trees, more_trees, row_append, tree, trees}
+use Rattle.regress_tree.specs.Tree.{Tree, Trees, leaf, cat, alt, wrapped, no_trees, more_trees, row_append, trees}
 use Rattle.regress_tree.specs.declared.ir.node.Node.{Node}
 use Rattle.regress_tree.specs.Units.{IsLess, loops, weight}
 use Rattle.regress_tree.proofs.laws.Rows.{trees-append}
@@ -13,7 +13,7 @@ use Rattle.regress_tree.specs.Spine.{reattach}
 use Rattle.regress_tree.specs.Visits.{Visited, Inside, RowVisited, after_children, in_leaf, in_cat, in_alt, in_wrapped, no_more, one_more, deeper, turned_by}
 use Rattle.regress_tree.specs.Climbs.{ClimbedMut}
 use Rattle.regress_rewrite.specs.declared.rewrite.PassAction.{PassAction}
-use Rattle.regress_rewrite.specs.Passes.{Applied, is_answered, SweptFrom, Passed, again}
+use Rattle.regress_rewrite.specs.Passes.{Applied, is_answered}
 use Rattle.regress_rewrite.proofs.laws.Changes.{joined}
 use Rattle.regress_tree.specs.Reading.{Direction}
 use Rattle.regress_tree.specs.Shapes.{LacksShape, LacksInside}

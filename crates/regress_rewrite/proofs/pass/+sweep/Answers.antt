@@ -10,7 +10,7 @@ use Rattle.regress_tree.specs.Visits.{in_cat, in_alt, in_wrapped, no_more, one_m
 use Rattle.regress_tree.proofs.laws.Nodes.{tree-Cat, tree-Alt, tree-CaptureGroup, tree-Loop, tree-Loop1CharBody, tree-LookaroundAssertion}
 use Rattle.regress_tree.proofs.laws.Places.{inside_of}
 use Rattle.regress_rewrite.specs.Law.{IsPart}
-use Rattle.regress_tree.specs.Spine.{is_alt, spine_length}
+use Rattle.regress_tree.specs.Spine.{spine_length}
 use Rattle.regress_tree.proofs.laws.Levels.{out-Cat, out-Alt, out-CaptureGroup, out-Loop, out-Loop1CharBody, out-LookaroundAssertion, alt_of}
 use Rattle.regress_rewrite.proofs.laws.Keeps.{IsPart-kept}
 use Rattle.regress_rewrite.proofs.SweepLemmas.{Swept-error, Swept-put, Swept-walk}
@@ -373,8 +373,11 @@ sweep_parts-returns-in_err-changed-clause-visited g t c =
     let rest = trees (drop (l.i + 1) old) in
     let unvisited = unvisited-next l.parts.items old l.i new l.invariant.unvisited in
     let stay = row_stays g.R.Rewrite.step c.args.walk.now.unicode rest c.args.walk.now.depth c.args.walk.now.in_lookbehind c.sweep.new.pass in
-    rw (not_answered _ c.from_residual.ensures.0, row_whole (set l.parts.items l.i new) old (l.i + 1) unvisited,
-    visited_next l.parts.items old l.i (search rules) c.index_mut.result.now found l.invariant.unvisited new rest)
+    rw (
+      not_answered _ c.from_residual.ensures.0,
+      row_whole (set l.parts.items l.i new) old (l.i + 1) unvisited,
+      visited_next l.parts.items old l.i (search rules) c.index_mut.result.now found l.invariant.unvisited new rest,
+    )
     (l.invariant.visited (more_trees (tree new) rest) (c.sweep.new.pass, false)
     (rw (next_is l.parts.items old l.i (search rules) c.index_mut.result.now found l.invariant.unvisited)
     (one_more c.in_err-changed.ensures.visited stay)))

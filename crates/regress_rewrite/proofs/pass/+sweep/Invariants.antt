@@ -1,5 +1,5 @@
 -- What the sweeps so far have made of the whole.
-use Rattle.std.proofs.Common.{◌≡◌, ◌≤◌, ◌+◌, ◌*◌, Bool, true, Ok, length, take, drop}
+use Rattle.std.proofs.Common.{◌≡◌, ◌≤◌, ◌+◌, ◌*◌, true, Ok, length, take, drop}
 use Rattle.regress_tree.specs.Tree.{Tree, Trees, tree, trees, row_append}
 use Rattle.regress_tree.specs.Visits.{Visited, RowVisited}
 use Rattle.regress_tree.specs.Climbs.{ClimbedMut, further}

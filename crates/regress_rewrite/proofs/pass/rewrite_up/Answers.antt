@@ -38,9 +38,14 @@ returns-in-Err-clause-climbed g c =
     let depth = further-inside _ _ c.args.walk.now.depth _ levels c.inside.ensures.depth c.inside.ensures.same in
     let called = rw (shifted.is, depth, c.inside.ensures.direction, c.inside.ensures.unicode) at (c.in-Err.ensures.applied false) in
     rw c.relink.ensures
-    (l.invariant.climbed _ _ (rw shifted.was ((c.rewrite.new.pass, false), tree c.rewrite.new.node, false, called,
-    way_stays g.R.Rewrite.step c.args.walk.now.unicode (tree c.shift.new.from) (tree c.rewrite.new.node) c.args.walk.now.depth
-    c.args.walk.now.in_lookbehind c.rewrite.new.pass)))
+    (l.invariant.climbed _ _ (rw shifted.was (
+      (c.rewrite.new.pass, false),
+      tree c.rewrite.new.node,
+      false,
+      called,
+      way_stays g.R.Rewrite.step c.args.walk.now.unicode (tree c.shift.new.from) (tree c.rewrite.new.node) c.args.walk.now.depth
+          c.args.walk.now.in_lookbehind c.rewrite.new.pass,
+    )))
 
 pub returns-in-Err-clause-swept : goal.returns-in-Err-clause-swept
 returns-in-Err-clause-swept g c =

@@ -1,4 +1,4 @@
-use Rattle.std.proofs.Common.{◌≡◌, true, false, length}
+use Rattle.std.proofs.Common.{◌≡◌, rules, true, false, length}
 use Rattle.regress_tree.specs.Tree.{tree}
 use Rattle.regress_tree.specs.WellFormed.{captures, root}
 use Rattle.regress_tree.specs.Units.{account}
@@ -41,5 +41,5 @@ loop-changed-preserved g c =
     record {
       flags = l.invariant.flags;
       passed = λ u b going rest. l.invariant.passed u b going (again visited differs rest);
-      swept = ?;
+      swept = search rules;
     }
