@@ -21,7 +21,7 @@ use Rattle.regress_rewrite.specs.Passes.{Applied}
 use Rattle.regress_rewrite.proofs.PassesLemmas.{stays, left_swept, sides_swept, node_swept, row_stays, way_stays, not_answered, row_whole}
 use Rattle.regress_tree.proofs.laws.Rows.{row_append-none}
 use Rattle.std.proofs.lemmas.List.{drop_all, take_all}
-use Rattle.regress_tree.proofs.VisitLemmas.{further-inside, further_next, after_down, next_is, visited_next, at_leaf}
+use Rattle.regress_tree.proofs.laws.Visits.{further-inside, further_next, after_down, next_is, visited_next, at_leaf}
 use Rattle.regress_rewrite.proofs.pass.+sweep.Goals.{sweep_down-then-loop-levels-test+else-shift, sweep_down-else-loop-levels-test}
 use Rattle.regress_rewrite.proofs.pass.+sweep.Goals as goal
 

@@ -1,7 +1,7 @@
 -- One alternative more.
 use Rattle.std.proofs.Common.{true, false, refl}
 use Rattle.regress_tree.specs.Tree.{tree}
-use Rattle.regress_tree.proofs.VisitLemmas.{further-inside}
+use Rattle.regress_tree.proofs.laws.Visits.{further-inside}
 use Rattle.regress_rewrite.proofs.PassesLemmas.{way_stays}
 use Rattle.regress_rewrite.proofs.SweepLemmas.{Swept-error, Swept-walk}
 use Rattle.regress_rewrite.proofs.laws.Spine.{IsPart-up, levels_up, up_next}
