@@ -3,6 +3,7 @@ pub mod LawfulLemmas
 pub mod TakenLemmas
 pub mod RowLemmas
 pub mod SweepLemmas
+pub mod PassesLemmas
 pub mod SpliceLemmas
 pub mod SimplifyLemmas
 pub mod ChargeLemmas

@@ -1,5 +1,6 @@
 pub mod Law
 pub mod Sweep
+pub mod Passes
 pub mod Splice
 pub mod Formed
 pub mod Taken

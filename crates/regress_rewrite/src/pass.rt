@@ -1,14 +1,17 @@
 //! Running a rewrite over a tree.
-ghost use Rattle.std.specs.Prelude.{◌≡◌, ◌≢◌, ◌≤◌, false, IsTrue, IfOk, OnOk, OnErr, MatchBool};
+ghost use Rattle.std.specs.Prelude.{◌≡◌, ◌≢◌, ◌≤◌, ℕ, Bool, true, false, IsTrue, IfOk, OnOk, OnErr, MatchBool};
 ghost use Rattle.regress_tree.specs.Reading.{forwards};
-ghost use Rattle.regress_tree.specs.Tree.{tree, trees, leaf, empty, cat};
+ghost use Rattle.regress_tree.specs.Tree.{Tree, tree, trees, leaf, empty, cat, alt};
 ghost use Rattle.regress_tree.specs.Walk.{direction_of};
 ghost use Rattle.regress_tree.specs.WellFormed.{IsWellFormed, captures};
 ghost use Rattle.regress_tree.specs.Units.{account, IsLess};
 ghost use Rattle.regress_tree.specs.Shapes.{LacksShape, LacksInside, is_simplified_away};
 ghost use Rattle.regress_rewrite.specs.Law.{IsPart, MeansTheSame};
 ghost use Rattle.regress_rewrite.specs.Sweep.{Swept, SweptOf};
-ghost use Rattle.regress_tree.specs.Spine.{is_alt, reattach, spine_length, LeftsLackShape};
+ghost use Rattle.regress_rewrite.specs.Passes.{Applied, Passed, is_answered};
+ghost use Rattle.regress_tree.specs.Spine.{reattach, spine_length, LeftsLackShape};
+ghost use Rattle.regress_tree.specs.Visits.{Visited, Inside, RowVisited, deeper};
+ghost use Rattle.regress_tree.specs.Climbs.{ClimbedMut};
 
 use crate::rewrite::{PassAction, Rewrite};
 use regress_tree::ir::spine::{relink, shift};
@@ -30,6 +33,9 @@ pub fn run_pass<R: Rewrite>(r: &mut Regex, pass: &mut R) -> Result<bool, AllocEr
     ensures brackets { LacksShape is_simplified_away (tree r.old.node) → LacksShape is_simplified_away (tree r.new.node) }
     ensures flags { r.new.flags ≡ r.old.flags }
 
+    // What the rewrite is shown, and in which order. An error is the rewrite's own.
+    ensures passed { Passed R.step r.old.flags.unicode pass.old (tree r.old.node) (tree r.new.node) pass.new (is_answered result) }
+
     // What is removed, and what is left as it was.
     ensures changed { IfOk result (λ changed. MatchBool changed (tree r.new.node ≢ tree r.old.node) (tree r.new.node ≡ tree r.old.node)) }
     ensures less { IfOk result (λ changed. IsTrue changed → IsLess (tree r.new.node) (tree r.old.node)) }
@@ -48,7 +54,9 @@ pub fn run_pass<R: Rewrite>(r: &mut Regex, pass: &mut R) -> Result<bool, AllocEr
 #[cycle(sweep)]
 fn sweep<R: Rewrite>(node: &mut Node, pass: &mut R, walk: &Walk) -> Result<bool, AllocError>
     requires { IsPart (tree node.old) }
-    ensures { SweptOf (LacksShape R.removes) R.is_exact (direction_of walk.now) (tree node.old) (tree node.new) result }
+    ensures visited { Visited (Applied R.step walk.now.unicode) true walk.now.depth walk.now.in_lookbehind
+        (tree node.old) (tree node.new) (pass.old, true) (pass.new, is_answered result) }
+    ensures swept { SweptOf (LacksShape R.removes) R.is_exact (direction_of walk.now) (tree node.old) (tree node.new) result }
 {
     let mut above = Node::Empty;
     let mut levels = 0;
@@ -78,10 +86,13 @@ fn sweep_down<R: Rewrite>(
         (LacksShape R.removes (tree node.new) × LeftsLackShape R.removes (tree above.new)) R.is_exact
         (direction_of walk.now) (tree node.old) (reattach (tree above.new) (tree node.new)) result }
     ensures levels { OnOk result (levels.new ≡ spine_length (tree above.new)) }
+    ensures visited { (u : Tree) (b : R × Bool) → ClimbedMut (Applied R.step walk.now.unicode) (tree above.new) walk.now.depth walk.now.in_lookbehind
+        (tree node.new) u (pass.new, is_answered result) b →
+        Visited (Applied R.step walk.now.unicode) true walk.now.depth walk.now.in_lookbehind (tree node.old) u (pass.old, true) b }
 {
     let mut changed = false;
-    while shift(node, above) {
-        *levels = levels.checked_add(1).ok_or(AllocError)?;
+    while *levels < usize::MAX && shift(node, above) {
+        *levels += 1;
         if let Node::Alt(left, _) = above {
             changed |= sweep(left, pass, &walk.inside(*levels))?;
         }
@@ -99,7 +110,9 @@ fn rewrite_up<R: Rewrite>(
 ) -> Result<bool, AllocError>
     requires part { IsPart (reattach (tree above) (tree node.old)) }
     requires levels { levels ≡ spine_length (tree above) }
-    ensures { Swept (LacksShape R.removes (reattach (tree above) (tree node.old)))
+    ensures climbed { ClimbedMut (Applied R.step walk.now.unicode) (tree above) walk.now.depth walk.now.in_lookbehind
+        (tree node.old) (tree node.new) (pass.old, true) (pass.new, is_answered result) }
+    ensures swept { Swept (LacksShape R.removes (reattach (tree above) (tree node.old)))
         ((LacksShape R.removes (tree node.old) × LeftsLackShape R.removes (tree above)) → LacksShape R.removes (tree node.new))
         R.is_exact (direction_of walk.now) (reattach (tree above) (tree node.old)) (tree node.new) result }
 {
@@ -119,26 +132,31 @@ fn rewrite_up<R: Rewrite>(
     Ok(changed)
 }
 
-/// Sweeps what lies inside a node that is no `Alt`, and rewrites the node.
+/// Sweeps what lies inside a node, and rewrites the node.
 #[cycle(sweep)]
 fn sweep_one<R: Rewrite>(node: &mut Node, pass: &mut R, walk: &Walk) -> Result<bool, AllocError>
     requires part { IsPart (tree node.old) }
-    requires other { is_alt (tree node.old) ≡ false }
-    ensures { SweptOf (LacksShape R.removes) R.is_exact (direction_of walk.now) (tree node.old) (tree node.new) result }
+    requires fresh { walk.now.skip_children ≡ false }
+    ensures visited { Visited (Applied R.step walk.now.unicode) true walk.now.depth walk.now.in_lookbehind
+        (tree node.old) (tree node.new) (pass.old, true) (pass.new, is_answered result) }
+    ensures swept { SweptOf (LacksShape R.removes) R.is_exact (direction_of walk.now) (tree node.old) (tree node.new) result }
 {
     let changed = sweep_inside(node, pass, &walk.inside(1))?;
     Ok(changed | rewrite(node, pass, walk)?)
 }
 
-/// Sweeps what lies inside a node that is no `Alt`.
+/// Sweeps what lies inside a node.
 #[cycle(sweep)]
 fn sweep_inside<R: Rewrite>(node: &mut Node, pass: &mut R, walk: &Walk) -> Result<bool, AllocError>
-    requires part { IsPart (tree node.old) }
-    requires other { is_alt (tree node.old) ≡ false }
-    ensures { SweptOf (LacksInside R.removes) R.is_exact (direction_of walk.now) (tree node.old) (tree node.new) result }
+    requires { IsPart (tree node.old) }
+    ensures visited { (depth : ℕ) → walk.now.depth ≡ deeper depth →
+        Inside (Applied R.step walk.now.unicode) true depth walk.now.in_lookbehind
+        (tree node.old) (tree node.new) (pass.old, true) (pass.new, is_answered result) }
+    ensures swept { SweptOf (LacksInside R.removes) R.is_exact (direction_of walk.now) (tree node.old) (tree node.new) result }
 {
     match node {
         Node::Cat(parts) => sweep_parts(parts, pass, walk),
+        Node::Alt(left, right) => sweep_sides(left, right, pass, walk),
         Node::CaptureGroup { contents, .. } => sweep(contents, pass, walk),
         Node::Loop { loopee, .. } => sweep(loopee, pass, walk),
         Node::Loop1CharBody { loopee, .. } => sweep(loopee, pass, walk),
@@ -147,8 +165,7 @@ fn sweep_inside<R: Rewrite>(node: &mut Node, pass: &mut R, walk: &Walk) -> Resul
             contents,
             ..
         } => sweep(contents, pass, &walk.looking(*backwards)),
-        Node::Alt(..)
-        | Node::Empty
+        Node::Empty
         | Node::Goal
         | Node::Char { .. }
         | Node::ByteSequence(_)
@@ -164,6 +181,25 @@ fn sweep_inside<R: Rewrite>(node: &mut Node, pass: &mut R, walk: &Walk) -> Resul
     }
 }
 
+/// Sweeps the sides of an `Alt`.
+#[cycle(sweep)]
+fn sweep_sides<R: Rewrite>(
+    left: &mut Node,
+    right: &mut Node,
+    pass: &mut R,
+    walk: &Walk,
+) -> Result<bool, AllocError>
+    requires { IsPart (alt (tree left.old) (tree right.old)) }
+    ensures visited { (depth : ℕ) → walk.now.depth ≡ deeper depth →
+        Inside (Applied R.step walk.now.unicode) true depth walk.now.in_lookbehind (alt (tree left.old) (tree right.old))
+        (alt (tree left.new) (tree right.new)) (pass.old, true) (pass.new, is_answered result) }
+    ensures swept { SweptOf (LacksInside R.removes) R.is_exact (direction_of walk.now)
+        (alt (tree left.old) (tree right.old)) (alt (tree left.new) (tree right.new)) result }
+{
+    let changed = sweep(left, pass, walk)?;
+    Ok(changed | sweep(right, pass, walk)?)
+}
+
 /// Sweeps the parts of a `Cat`.
 #[cycle(sweep)]
 fn sweep_parts<R: Rewrite>(
@@ -172,7 +208,9 @@ fn sweep_parts<R: Rewrite>(
     walk: &Walk,
 ) -> Result<bool, AllocError>
     requires { IsPart (cat (trees parts.old.items)) }
-    ensures { SweptOf (LacksInside R.removes) R.is_exact (direction_of walk.now)
+    ensures visited { RowVisited (Applied R.step walk.now.unicode) true walk.now.depth walk.now.in_lookbehind
+        (trees parts.old.items) (trees parts.new.items) (pass.old, true) (pass.new, is_answered result) }
+    ensures swept { SweptOf (LacksInside R.removes) R.is_exact (direction_of walk.now)
         (cat (trees parts.old.items)) (cat (trees parts.new.items)) result }
 {
     let mut changed = false;
@@ -184,8 +222,11 @@ fn sweep_parts<R: Rewrite>(
 
 /// Applies the rewrite to one node, and does what it answers.
 fn rewrite<R: Rewrite>(node: &mut Node, pass: &mut R, walk: &Walk) -> Result<bool, AllocError>
-    requires { IsPart (tree node.old) }
-    ensures { SweptOf (λ t. R.removes t ≡ false) R.is_exact (direction_of walk.now) (tree node.old) (tree node.new) result }
+    requires part { IsPart (tree node.old) }
+    requires fresh { walk.now.skip_children ≡ false }
+    ensures applied { (skip : Bool) → Applied R.step walk.now.unicode (pass.old, true) (tree node.old) walk.now.depth walk.now.in_lookbehind
+        (pass.new, is_answered result) (tree node.new) skip }
+    ensures swept { SweptOf (λ t. R.removes t ≡ false) R.is_exact (direction_of walk.now) (tree node.old) (tree node.new) result }
 {
     match pass.apply(node, walk)? {
         PassAction::Keep => return Ok(false),

@@ -1,7 +1,10 @@
 //! The law of a rewrite.
-ghost use Rattle.std.specs.Prelude.{◌≡◌, Bool, IfOk, OnErr};
+ghost use Rattle.std.specs.Prelude.{◌≡◌, Bool, Result, IfOk, OnErr};
+ghost use Rattle.std.specs.declared.alloc.AllocError.{AllocError};
 ghost use Rattle.regress_tree.specs.Tree.{Tree, tree};
 ghost use Rattle.regress_tree.specs.Walk.{direction_of};
+ghost use Rattle.regress_tree.specs.declared.ir.walker.Walk.{Walk};
+ghost use Rattle.regress_rewrite.specs.declared.rewrite.PassAction.{PassAction};
 ghost use Rattle.regress_rewrite.specs.Law.{IsPart, IsLawful};
 
 use regress_tree::ir::{Node, Walk};
@@ -29,6 +32,10 @@ pub trait Rewrite {
     /// Whether it leaves each node as it is that has none of these shapes.
     ghost is_exact: { Bool };
 
+    /// What it says of a call, which `run_pass` then says of all that it makes: the rewrite before, the tree of
+    /// the node, the walk, the answer, the tree that the call left, the rewrite after it. It may say nothing.
+    ghost step: { Self → Tree → Walk → Result PassAction AllocError → Tree → Self → Type 0 } = { λ before t walk answer left after. Unit {0} };
+
     /// Looks at a node, whose children have been looked at before.
     fn apply(&mut self, node: &mut Node, walk: &Walk) -> Result<PassAction, AllocError>
         requires { IsPart (tree node.old) }
@@ -39,5 +46,7 @@ pub trait Rewrite {
         ensures lawful { IfOk result (IsLawful removes is_exact (direction_of walk.now) (tree node.old) (tree node.new)) }
 
         // Want of memory leaves the node.
-        ensures err { OnErr result (tree node.new ≡ tree node.old) };
+        ensures err { OnErr result (tree node.new ≡ tree node.old) }
+
+        ensures step { step self.old (tree node.old) walk.now result (tree node.new) self.new };
 }

@@ -1,5 +1,4 @@
 pub mod laws
-pub mod VisitLemmas
 mod BracketLemmas
 mod DisplayLemmas
 mod DuplicateLemmas

@@ -29,3 +29,4 @@ pub mod Simulation
 pub mod Strings
 pub mod Turned
 pub mod Turns
+pub mod Visits

@@ -1,26 +1,34 @@
 -- Each answer is a lemma on plain trees, at the values of the call.
-use Rattle.std.proofs.Common.{rules, arith, ◌∙◌, sym, ap, subst, refl, length-set}
+use Rattle.std.proofs.Common.{rules, arith, ◌≡◌, ◌+◌, ◌∙◌, true, false, [], take, drop, set, sym, ap, subst, refl, length-set}
 use Rattle.std.specs.Prelude.{option_map, string_bytes}
-use Rattle.regress_tree.specs.declared.ir.node.Node.{Node}
-use Rattle.regress_tree.specs.Tree.{Tree, tree, capture_group, loop, loop_one, lookaround}
+use Rattle.regress_tree.specs.declared.ir.node.Node.{Node, the_lemmas}
+use Rattle.regress_tree.specs.Tree.{Tree, no_trees, more_trees, tree, trees, capture_group, loop, loop_one, lookaround}
+use Rattle.regress_tree.specs.Copies.{is_leaf}
 use Rattle.regress_tree.specs.Walk.{direction_of}
 use Rattle.regress_tree.specs.Units.{units}
-use Rattle.regress_tree.proofs.laws.Nodes.{tree-Alt, tree-CaptureGroup, tree-Loop, tree-Loop1CharBody, tree-LookaroundAssertion}
+use Rattle.regress_tree.specs.Visits.{in_cat, in_alt, in_wrapped, no_more, one_more, after_children}
+use Rattle.regress_tree.proofs.laws.Nodes.{tree-Cat, tree-Alt, tree-CaptureGroup, tree-Loop, tree-Loop1CharBody, tree-LookaroundAssertion}
 use Rattle.regress_tree.proofs.laws.Places.{inside_of}
 use Rattle.regress_rewrite.specs.Law.{IsPart}
-use Rattle.regress_tree.specs.Spine.{is_alt, spine_length}
-use Rattle.regress_rewrite.proofs.laws.Checked.{sum_of}
-use Rattle.regress_tree.proofs.laws.Levels.{out-Alt, out-CaptureGroup, out-Loop, out-Loop1CharBody, out-LookaroundAssertion, alt_of}
+use Rattle.regress_tree.specs.Spine.{spine_length}
+use Rattle.regress_tree.proofs.laws.Levels.{out-Cat, out-Alt, out-CaptureGroup, out-Loop, out-Loop1CharBody, out-LookaroundAssertion, alt_of}
 use Rattle.regress_rewrite.proofs.laws.Keeps.{IsPart-kept}
 use Rattle.regress_rewrite.proofs.SweepLemmas.{Swept-error, Swept-put, Swept-walk}
 use Rattle.regress_rewrite.proofs.laws.Spine.{IsPart-reattach, IsPart-down, units_down, levels_down, down_next, down_last}
 use Rattle.regress_rewrite.proofs.laws.Parts.{IsPart-at, units_at, parts_next, unvisited-next}
+use Rattle.regress_tree.specs.Climbs.{further}
+use Rattle.regress_rewrite.specs.Passes.{Applied}
+use Rattle.regress_rewrite.proofs.PassesLemmas.{stays, left_swept, sides_swept, node_swept, row_stays, way_stays, not_answered, row_whole}
+use Rattle.regress_tree.proofs.laws.Rows.{row_append-none}
+use Rattle.std.proofs.lemmas.List.{drop_all, take_all}
+use Rattle.regress_tree.proofs.laws.Visits.{further-inside, further_next, after_down, next_is, visited_next, at_leaf}
+use Rattle.regress_rewrite.proofs.pass.+sweep.Goals.{sweep_down-then-loop-levels-test+else-shift, sweep_down-else-loop-levels-test}
 use Rattle.regress_rewrite.proofs.pass.+sweep.Goals as goal
 
 pub sweep_down-sweep-requires : goal.sweep_down-sweep-requires
 sweep_down-sweep-requires g t c κs lives =
-    let l = c.loop-changed in
-    let shifted = c.loop-changed-test.ensures in
+    let l = c.loop-levels in
+    let shifted = c.if-shift.ensures in
     let node = c.deref_mut.result.now in
     let left_is = rw (c.in-Alt.is, out-Alt) at c.deref_mut.ensures.value in
     let top_is = alt_of c.shift.new.onto c.in-Alt.left c.in-Alt.field-1 node c.in-Alt.is left_is in
@@ -28,86 +36,115 @@ sweep_down-sweep-requires g t c κs lives =
     let part = IsPart-down (tree l.node) (tree l.above) _ _ (tree node) _ shifted top_is _ _ l.invariant.swept.keeps c.requires.part in
     (omega (arith, smaller, l.invariant.smaller), (search rules, part))
 
-pub sweep_down-loop-changed-preserved-in-Alt : goal.sweep_down-loop-changed-preserved-in-Alt
-sweep_down-loop-changed-preserved-in-Alt g t c =
-    let l = c.loop-changed in
-    let shifted = c.loop-changed-test.ensures in
+pub sweep_down-loop-levels-preserved-in-Alt : goal.sweep_down-loop-levels-preserved-in-Alt
+sweep_down-loop-levels-preserved-in-Alt g t c =
+    let l = c.loop-levels in
+    let shifted = c.if-shift.ensures in
     let node = c.deref_mut.result.now in
     let left_is = rw (c.in-Alt.is, out-Alt) at c.deref_mut.ensures.value in
     let top_is = alt_of c.shift.new.onto c.in-Alt.left c.in-Alt.field-1 node c.in-Alt.is left_is in
-    let sum = sum_of _ _ _ c.checked_add.result c.checked_add.ensures c.in_ok-levels.ensures.value in
+    let levels : l.levels + 1 ≡ spine_length (tree c.shift.new.onto) = levels_down _ (tree l.node) (tree l.above) _ _ shifted l.invariant.levels in
+    let levels = levels ∙ ap spine_length top_is in
+    let depth = further-inside _ _ c.args.walk.now.depth _ refl c.inside.ensures.depth c.inside.ensures.same in
+    let first = rw (depth, c.inside.ensures.direction, c.inside.ensures.unicode) at c.in_ok-changed.ensures.visited in
     let smaller = units_down (tree l.node) (tree l.above) _ _ (tree node) _ shifted top_is in
-    let here = Swept-walk _ c.args.walk.now c.inside.result c.inside.ensures.direction c.in_ok-changed.ensures in
-    rw (c.in-Alt.is, out-Alt, tree-Alt)
-    (record {
-      levels = sum ∙ levels_down _ (tree l.node) (tree l.above) _ _ shifted l.invariant.levels ∙ ap spine_length top_is;
+    let here = Swept-walk _ c.args.walk.now c.inside.result c.inside.ensures.direction c.in_ok-changed.ensures.swept in
+    record {
+      levels = rw (c.in-Alt.is, out-Alt, tree-Alt) levels;
+      visited = λ t u b e second climbed.
+          after_down (Applied g.R.Rewrite.step c.args.walk.now.unicode) (further l.levels c.args.walk.now.depth) c.args.walk.now.depth
+          c.args.walk.now.in_lookbehind (tree l.node) (tree l.above) _ _ (tree node) _ _ shifted top_is
+          _ _ b e t u _ (ap (λ k. further k c.args.walk.now.depth) l.invariant.levels) (λ x m whole rest. l.invariant.visited x u m e whole rest)
+          (rw (← further_next l.levels _ c.args.walk.now.depth refl) at first) (rw (← further_next l.levels _ c.args.walk.now.depth refl) at second) (rw (c.in-Alt.is, out-Alt, tree-Alt) at climbed);
       smaller = omega (arith, smaller, l.invariant.smaller);
-      swept = down_next _ _ g.R.Rewrite.removes _ l.changed _ (tree l.node) (tree l.above) _ _ (tree node) _ _ shifted top_is
-          l.invariant.swept here;
-    })
+      swept = rw (c.in-Alt.is, out-Alt, tree-Alt) (down_next _ _ g.R.Rewrite.removes _ l.changed _ (tree l.node) (tree l.above) _ _ (tree node) _ _ shifted top_is
+          l.invariant.swept here);
+    }
 
 pub sweep_down-returns-in_err-changed-clause-swept : goal.sweep_down-returns-in_err-changed-clause-swept
 sweep_down-returns-in_err-changed-clause-swept g t c =
-    let l = c.loop-changed in
+    let l = c.loop-levels in
     let node = c.deref_mut.result.now in
     let left_is = rw (c.in-Alt.is, out-Alt) at c.deref_mut.ensures.value in
     let top_is = alt_of c.shift.new.onto c.in-Alt.left c.in-Alt.field-1 node c.in-Alt.is left_is in
-    let here = Swept-walk _ c.args.walk.now c.inside.result c.inside.ensures.direction c.sweep.ensures in
+    let here = Swept-walk _ c.args.walk.now c.inside.result c.inside.ensures.direction c.sweep.ensures.swept in
     rw (c.in-Alt.is, out-Alt, tree-Alt)
-    (Swept-error _ _ _ c.from_residual-in_err-changed.ensures.0 refl
-    (down_next _ _ g.R.Rewrite.removes _ l.changed _ (tree l.node) (tree l.above) _ _ (tree node) _ _ c.loop-changed-test.ensures top_is
+    (Swept-error _ _ _ c.from_residual.ensures.0 refl
+    (down_next _ _ g.R.Rewrite.removes _ l.changed _ (tree l.node) (tree l.above) _ _ (tree node) _ _ c.if-shift.ensures top_is
     l.invariant.swept here))
 
 pub sweep_down-sweep_one-requires : goal.sweep_down-sweep_one-requires
 sweep_down-sweep_one-requires g t c κs lives =
-    let l = c.loop-changed in
-    let stays = c.loop-changed-test.ensures in
+    let l = c.loop-levels in
+    let n_is : tree c.loop-levels-test.node ≡ tree l.node =
+    elim c.loop-levels-test.branch [
+      | sweep_down-then-loop-levels-test+else-shift w ↦ ap tree w.node-is ∙ w.if-shift.ensures.1
+      | sweep_down-else-loop-levels-test w ↦ ap tree w.node-is
+    ] in
     let part = IsPart-reattach (tree l.above) (tree l.node) (IsPart-kept _ l.invariant.swept.keeps c.requires.part) in
-    let part' = subst (λ (x : Tree). IsPart x) (sym stays.1) part in
-    (omega (arith, ap units stays.1, l.invariant.smaller), (search rules, (part', ap is_alt stays.1 ∙ stays.0)))
+    let part' = subst (λ (x : Tree). IsPart x) (sym n_is) part in
+    (omega (arith, ap units n_is, l.invariant.smaller), (search rules, (part', c.inside-2.ensures.children)))
 
 pub sweep_down-returns-in_err-sweep_one-clause-swept : goal.sweep_down-returns-in_err-sweep_one-clause-swept
 sweep_down-returns-in_err-sweep_one-clause-swept g t c =
-    let l = c.loop-changed in
-    let stays = c.loop-changed-test.ensures in
-    let here = Swept-walk _ c.args.walk.now c.inside-2.result c.inside-2.ensures.direction c.sweep_one.ensures in
+    let l = c.loop-levels in
+    let n_is : tree c.loop-levels-test.node ≡ tree l.node =
+    elim c.loop-levels-test.branch [
+      | sweep_down-then-loop-levels-test+else-shift w ↦ ap tree w.node-is ∙ w.if-shift.ensures.1
+      | sweep_down-else-loop-levels-test w ↦ ap tree w.node-is
+    ] in
+    let above_is : tree c.loop-levels-test.above ≡ tree l.above =
+    elim c.loop-levels-test.branch [
+      | sweep_down-then-loop-levels-test+else-shift w ↦ ap tree w.above-is ∙ w.if-shift.ensures.2
+      | sweep_down-else-loop-levels-test w ↦ ap tree w.above-is
+    ] in
+    let here = Swept-walk _ c.args.walk.now c.inside-2.result c.inside-2.ensures.direction c.sweep_one.ensures.swept in
     Swept-error _ _ _ c.from_residual-in_err-sweep_one.ensures.0 refl
-    (down_last _ _ g.R.Rewrite.removes _ l.changed _ (tree c.shift.new.onto) _ _ (rw (stays.1, stays.2) l.invariant.swept) here)
+    (down_last _ _ g.R.Rewrite.removes _ l.changed _ (tree c.loop-levels-test.above) _ _ (rw (n_is, above_is) l.invariant.swept) here)
 
 pub sweep_down-returns-clause-swept : goal.sweep_down-returns-clause-swept
 sweep_down-returns-clause-swept g t c =
-    let l = c.loop-changed in
-    let stays = c.loop-changed-test.ensures in
-    let here = Swept-walk _ c.args.walk.now c.inside-2.result c.inside-2.ensures.direction c.in_ok-sweep_one.ensures in
-    down_last _ _ g.R.Rewrite.removes _ l.changed _ (tree c.shift.new.onto) _ _ (rw (stays.1, stays.2) l.invariant.swept) here
+    let l = c.loop-levels in
+    let n_is : tree c.loop-levels-test.node ≡ tree l.node =
+    elim c.loop-levels-test.branch [
+      | sweep_down-then-loop-levels-test+else-shift w ↦ ap tree w.node-is ∙ w.if-shift.ensures.1
+      | sweep_down-else-loop-levels-test w ↦ ap tree w.node-is
+    ] in
+    let above_is : tree c.loop-levels-test.above ≡ tree l.above =
+    elim c.loop-levels-test.branch [
+      | sweep_down-then-loop-levels-test+else-shift w ↦ ap tree w.above-is ∙ w.if-shift.ensures.2
+      | sweep_down-else-loop-levels-test w ↦ ap tree w.above-is
+    ] in
+    let here = Swept-walk _ c.args.walk.now c.inside-2.result c.inside-2.ensures.direction c.in_ok-sweep_one.ensures.swept in
+    down_last _ _ g.R.Rewrite.removes _ l.changed _ (tree c.loop-levels-test.above) _ _ (rw (n_is, above_is) l.invariant.swept) here
 
-pub sweep_inside-returns-in-CaptureGroup : goal.sweep_inside-returns-in-CaptureGroup
-sweep_inside-returns-in-CaptureGroup g t c =
-    let contents_is = rw (c.in-CaptureGroup.is, out-CaptureGroup) at c.deref_mut.ensures.value in
+pub sweep_inside-returns-in-CaptureGroup-clause-swept : goal.sweep_inside-returns-in-CaptureGroup-clause-swept
+sweep_inside-returns-in-CaptureGroup-clause-swept g t c =
+    let contents_is = rw (c.in-CaptureGroup.is, out-CaptureGroup) at c.deref_mut-in-CaptureGroup.ensures.value in
     let place = inside_of (capture_group c.in-CaptureGroup.id (option_map string_bytes c.in-CaptureGroup.name)) in
-    rw (c.in-CaptureGroup.is, out-CaptureGroup) (simp tree-CaptureGroup (Swept-put _ place _ (rw contents_is at c.sweep.ensures)))
+    rw (c.in-CaptureGroup.is, out-CaptureGroup) (simp tree-CaptureGroup (Swept-put _ place _ (rw contents_is at c.sweep.ensures.swept)))
 
-pub sweep_inside-returns-in-Loop : goal.sweep_inside-returns-in-Loop
-sweep_inside-returns-in-Loop g t c =
+pub sweep_inside-returns-in-Loop-clause-swept : goal.sweep_inside-returns-in-Loop-clause-swept
+sweep_inside-returns-in-Loop-clause-swept g t c =
     let loopee_is = rw (c.in-Loop.is, out-Loop) at c.deref_mut-in-Loop.ensures.value in
     let place = inside_of (loop c.in-Loop.quant c.in-Loop.enclosed_groups.start c.in-Loop.enclosed_groups.end) in
-    rw (c.in-Loop.is, out-Loop) (simp tree-Loop (Swept-put _ place _ (rw loopee_is at c.sweep-in-Loop.ensures)))
+    rw (c.in-Loop.is, out-Loop) (simp tree-Loop (Swept-put _ place _ (rw loopee_is at c.sweep-in-Loop.ensures.swept)))
 
-pub sweep_inside-returns-in-Loop1CharBody : goal.sweep_inside-returns-in-Loop1CharBody
-sweep_inside-returns-in-Loop1CharBody g t c =
+pub sweep_inside-returns-in-Loop1CharBody-clause-swept : goal.sweep_inside-returns-in-Loop1CharBody-clause-swept
+sweep_inside-returns-in-Loop1CharBody-clause-swept g t c =
     let loopee_is = rw (c.in-Loop1CharBody.is, out-Loop1CharBody) at c.deref_mut-in-Loop1CharBody.ensures.value in
     let place = inside_of (loop_one c.in-Loop1CharBody.quant) in
     rw (c.in-Loop1CharBody.is, out-Loop1CharBody)
-    (simp tree-Loop1CharBody (Swept-put _ place _ (rw loopee_is at c.sweep-in-Loop1CharBody.ensures)))
+    (simp tree-Loop1CharBody (Swept-put _ place _ (rw loopee_is at c.sweep-in-Loop1CharBody.ensures.swept)))
 
-pub sweep_inside-returns-in-LookaroundAssertion : goal.sweep_inside-returns-in-LookaroundAssertion
-sweep_inside-returns-in-LookaroundAssertion g t c =
+pub sweep_inside-returns-in-LookaroundAssertion-clause-swept : goal.sweep_inside-returns-in-LookaroundAssertion-clause-swept
+sweep_inside-returns-in-LookaroundAssertion-clause-swept g t c =
     let at = c.in-LookaroundAssertion in
     let out = out-LookaroundAssertion at.negate at.backwards at.start_group at.end_group at.contents in
     let contents_is = rw (at.is, out) at c.deref_mut-in-LookaroundAssertion.ensures.value in
     let looks = rw (at.is, out) at c.looking.ensures.direction in
     let place = inside_of (lookaround at.negate at.backwards at.start_group at.end_group) in
-    let here = rw looks at (rw contents_is at c.sweep-in-LookaroundAssertion.ensures) in
+    let here = rw looks at (rw contents_is at c.sweep-in-LookaroundAssertion.ensures.swept) in
     let tree_with = λ (new : Node). tree-LookaroundAssertion at.negate at.backwards at.start_group at.end_group (record at.contents { value = new }) in
     rw (at.is, out) (rw (tree_with at.contents.value, tree_with c.sweep-in-LookaroundAssertion.new.node)
     (Swept-put _ place (direction_of c.args.walk.now) here))
@@ -120,13 +157,13 @@ sweep_parts-sweep-requires g t c κs lives =
     let smaller = units_at l.parts.items l.i (search rules) node c.index_mut.ensures.value c.args.parts.now.items l.invariant.unvisited in
     (omega (arith, smaller), (search rules, part))
 
-pub sweep_parts-returns-in_err-changed : goal.sweep_parts-returns-in_err-changed
-sweep_parts-returns-in_err-changed g t c =
+pub sweep_parts-returns-in_err-changed-clause-swept : goal.sweep_parts-returns-in_err-changed-clause-swept
+sweep_parts-returns-in_err-changed-clause-swept g t c =
     let l = c.loop-i in
     let node = c.index_mut.result.now in
     Swept-error _ _ _ c.from_residual.ensures.0 refl
     (parts_next l.parts.items l.i (search rules) node c.index_mut.ensures.value g.R.Rewrite.removes _ _ c.args.parts.now.items l.changed
-    c.sweep.new.node _ l.invariant.swept c.sweep.ensures)
+    c.sweep.new.node _ l.invariant.swept c.sweep.ensures.swept)
 
 pub sweep_parts-loop-i-preserved : goal.sweep_parts-loop-i-preserved
 sweep_parts-loop-i-preserved g t c =
@@ -136,6 +173,262 @@ sweep_parts-loop-i-preserved g t c =
     record {
       length = length-set l.parts.items l.i c.sweep.new.node ∙ l.invariant.length;
       unvisited = unvisited-next l.parts.items old l.i c.sweep.new.node l.invariant.unvisited;
+      visited = λ ts b rest.
+          rw (visited_next l.parts.items old l.i (search rules) node c.index_mut.ensures.value l.invariant.unvisited c.sweep.new.node ts)
+          (l.invariant.visited _ b
+          (rw (next_is l.parts.items old l.i (search rules) node c.index_mut.ensures.value l.invariant.unvisited)
+          (one_more c.in_ok-changed.ensures.visited rest)));
       swept = parts_next l.parts.items l.i (search rules) node c.index_mut.ensures.value g.R.Rewrite.removes _ _ old l.changed
-          c.sweep.new.node _ l.invariant.swept c.in_ok-changed.ensures;
+          c.sweep.new.node _ l.invariant.swept c.in_ok-changed.ensures.swept;
     }
+
+pub sweep_inside-returns-in-Cat-clause-visited : goal.sweep_inside-returns-in-Cat-clause-visited
+sweep_inside-returns-in-Cat-clause-visited g t c depth is =
+    rw (c.in-Cat.is, out-Cat) (simp tree-Cat (in_cat (rw (c.in-Cat.is, out-Cat, is) at c.sweep_parts.ensures.visited)))
+
+pub sweep_inside-returns-in-CaptureGroup-clause-visited : goal.sweep_inside-returns-in-CaptureGroup-clause-visited
+sweep_inside-returns-in-CaptureGroup-clause-visited g t c depth is =
+    let contents_is = rw (c.in-CaptureGroup.is, out-CaptureGroup) at c.deref_mut-in-CaptureGroup.ensures.value in
+    rw (c.in-CaptureGroup.is, out-CaptureGroup)
+    (simp tree-CaptureGroup (in_wrapped (rw (contents_is, is) at c.sweep.ensures.visited)))
+
+pub sweep_inside-returns-in-Loop-clause-visited : goal.sweep_inside-returns-in-Loop-clause-visited
+sweep_inside-returns-in-Loop-clause-visited g t c depth is =
+    let loopee_is = rw (c.in-Loop.is, out-Loop) at c.deref_mut-in-Loop.ensures.value in
+    rw (c.in-Loop.is, out-Loop) (simp tree-Loop (in_wrapped (rw (loopee_is, is) at c.sweep-in-Loop.ensures.visited)))
+
+pub sweep_inside-returns-in-Loop1CharBody-clause-visited : goal.sweep_inside-returns-in-Loop1CharBody-clause-visited
+sweep_inside-returns-in-Loop1CharBody-clause-visited g t c depth is =
+    let loopee_is = rw (c.in-Loop1CharBody.is, out-Loop1CharBody) at c.deref_mut-in-Loop1CharBody.ensures.value in
+    rw (c.in-Loop1CharBody.is, out-Loop1CharBody)
+    (simp tree-Loop1CharBody (in_wrapped (rw (loopee_is, is) at c.sweep-in-Loop1CharBody.ensures.visited)))
+
+pub sweep_inside-returns-in-LookaroundAssertion-clause-visited : goal.sweep_inside-returns-in-LookaroundAssertion-clause-visited
+sweep_inside-returns-in-LookaroundAssertion-clause-visited g t c depth is =
+    let at = c.in-LookaroundAssertion in
+    let looking = c.looking.ensures in
+    let out = out-LookaroundAssertion at.negate at.backwards at.start_group at.end_group at.contents in
+    let contents_is = rw (at.is, out) at c.deref_mut-in-LookaroundAssertion.ensures.value in
+    let looks = rw (at.is, out) at looking.direction in
+    let tree_with = λ (new : Node). tree-LookaroundAssertion at.negate at.backwards at.start_group at.end_group (record at.contents { value = new }) in
+    rw (at.is, out) (rw (tree_with at.contents.value, tree_with c.sweep-in-LookaroundAssertion.new.node)
+    (in_wrapped (rw (contents_is, looking.depth, looks, looking.unicode, is) at c.sweep-in-LookaroundAssertion.ensures.visited)))
+
+pub sweep_inside-returns-in-Empty-clause-visited : goal.sweep_inside-returns-in-Empty-clause-visited
+sweep_inside-returns-in-Empty-clause-visited g t c depth is =
+    let holds_none : is_leaf (tree c.args.node.now) ≡ true = first_of (search (rules, the_lemmas), grind (arith, the_lemmas)) in
+    at_leaf _ (tree c.args.node.now) holds_none
+
+pub sweep_inside-returns-in-Empty-2-clause-visited : goal.sweep_inside-returns-in-Empty-2-clause-visited
+sweep_inside-returns-in-Empty-2-clause-visited g t c depth is =
+    let holds_none : is_leaf (tree c.args.node.now) ≡ true = first_of (search (rules, the_lemmas), grind (arith, the_lemmas)) in
+    at_leaf _ (tree c.args.node.now) holds_none
+
+pub sweep_inside-returns-in-Empty-3-clause-visited : goal.sweep_inside-returns-in-Empty-3-clause-visited
+sweep_inside-returns-in-Empty-3-clause-visited g t c depth is =
+    let holds_none : is_leaf (tree c.args.node.now) ≡ true = first_of (search (rules, the_lemmas), grind (arith, the_lemmas)) in
+    at_leaf _ (tree c.args.node.now) holds_none
+
+pub sweep_inside-returns-in-Empty-4-clause-visited : goal.sweep_inside-returns-in-Empty-4-clause-visited
+sweep_inside-returns-in-Empty-4-clause-visited g t c depth is =
+    let holds_none : is_leaf (tree c.args.node.now) ≡ true = first_of (search (rules, the_lemmas), grind (arith, the_lemmas)) in
+    at_leaf _ (tree c.args.node.now) holds_none
+
+pub sweep_inside-returns-in-Empty-5-clause-visited : goal.sweep_inside-returns-in-Empty-5-clause-visited
+sweep_inside-returns-in-Empty-5-clause-visited g t c depth is =
+    let holds_none : is_leaf (tree c.args.node.now) ≡ true = first_of (search (rules, the_lemmas), grind (arith, the_lemmas)) in
+    at_leaf _ (tree c.args.node.now) holds_none
+
+pub sweep_inside-returns-in-Empty-6-clause-visited : goal.sweep_inside-returns-in-Empty-6-clause-visited
+sweep_inside-returns-in-Empty-6-clause-visited g t c depth is =
+    let holds_none : is_leaf (tree c.args.node.now) ≡ true = first_of (search (rules, the_lemmas), grind (arith, the_lemmas)) in
+    at_leaf _ (tree c.args.node.now) holds_none
+
+pub sweep_inside-returns-in-Empty-7-clause-visited : goal.sweep_inside-returns-in-Empty-7-clause-visited
+sweep_inside-returns-in-Empty-7-clause-visited g t c depth is =
+    let holds_none : is_leaf (tree c.args.node.now) ≡ true = first_of (search (rules, the_lemmas), grind (arith, the_lemmas)) in
+    at_leaf _ (tree c.args.node.now) holds_none
+
+pub sweep_inside-returns-in-Empty-8-clause-visited : goal.sweep_inside-returns-in-Empty-8-clause-visited
+sweep_inside-returns-in-Empty-8-clause-visited g t c depth is =
+    let holds_none : is_leaf (tree c.args.node.now) ≡ true = first_of (search (rules, the_lemmas), grind (arith, the_lemmas)) in
+    at_leaf _ (tree c.args.node.now) holds_none
+
+pub sweep_inside-returns-in-Empty-9-clause-visited : goal.sweep_inside-returns-in-Empty-9-clause-visited
+sweep_inside-returns-in-Empty-9-clause-visited g t c depth is =
+    let holds_none : is_leaf (tree c.args.node.now) ≡ true = first_of (search (rules, the_lemmas), grind (arith, the_lemmas)) in
+    at_leaf _ (tree c.args.node.now) holds_none
+
+pub sweep_inside-returns-in-Empty-10-clause-visited : goal.sweep_inside-returns-in-Empty-10-clause-visited
+sweep_inside-returns-in-Empty-10-clause-visited g t c depth is =
+    let holds_none : is_leaf (tree c.args.node.now) ≡ true = first_of (search (rules, the_lemmas), grind (arith, the_lemmas)) in
+    at_leaf _ (tree c.args.node.now) holds_none
+
+pub sweep_inside-returns-in-Empty-11-clause-visited : goal.sweep_inside-returns-in-Empty-11-clause-visited
+sweep_inside-returns-in-Empty-11-clause-visited g t c depth is =
+    let holds_none : is_leaf (tree c.args.node.now) ≡ true = first_of (search (rules, the_lemmas), grind (arith, the_lemmas)) in
+    at_leaf _ (tree c.args.node.now) holds_none
+
+pub sweep_inside-returns-in-Empty-12-clause-visited : goal.sweep_inside-returns-in-Empty-12-clause-visited
+sweep_inside-returns-in-Empty-12-clause-visited g t c depth is =
+    let holds_none : is_leaf (tree c.args.node.now) ≡ true = first_of (search (rules, the_lemmas), grind (arith, the_lemmas)) in
+    at_leaf _ (tree c.args.node.now) holds_none
+
+pub sweep_inside-returns-in-Empty-13-clause-visited : goal.sweep_inside-returns-in-Empty-13-clause-visited
+sweep_inside-returns-in-Empty-13-clause-visited g t c depth is =
+    let holds_none : is_leaf (tree c.args.node.now) ≡ true = first_of (search (rules, the_lemmas), grind (arith, the_lemmas)) in
+    at_leaf _ (tree c.args.node.now) holds_none
+
+pub sweep_inside-returns-in-Alt-clause-visited : goal.sweep_inside-returns-in-Alt-clause-visited
+sweep_inside-returns-in-Alt-clause-visited g t c depth is =
+    let at = c.in-Alt in
+    let left_is = rw (at.is, out-Alt) at c.deref_mut.ensures.value in
+    let right_is = rw (at.is, out-Alt) at c.deref_mut-in-Alt.ensures.value in
+    let tree_with = λ (x y : Node). tree-Alt (record at.left { value = x }) (record at.right { value = y }) in
+    rw (at.is, out-Alt) (rw (tree_with at.left.value at.right.value, tree_with c.sweep_sides.new.left c.sweep_sides.new.right)
+    (rw (left_is, right_is) at (c.sweep_sides.ensures.visited depth is)))
+
+pub sweep_inside-returns-in-Alt-clause-swept : goal.sweep_inside-returns-in-Alt-clause-swept
+sweep_inside-returns-in-Alt-clause-swept g t c =
+    let at = c.in-Alt in
+    let left_is = rw (at.is, out-Alt) at c.deref_mut.ensures.value in
+    let right_is = rw (at.is, out-Alt) at c.deref_mut-in-Alt.ensures.value in
+    let tree_with = λ (x y : Node). tree-Alt (record at.left { value = x }) (record at.right { value = y }) in
+    rw (at.is, out-Alt) (rw (tree_with at.left.value at.right.value, tree_with c.sweep_sides.new.left c.sweep_sides.new.right)
+    (rw (left_is, right_is) at c.sweep_sides.ensures.swept))
+
+pub sweep_parts-returns-clause-visited : goal.sweep_parts-returns-clause-visited
+sweep_parts-returns-clause-visited g t c =
+    let l = c.loop-i in
+    let old = c.args.parts.now.items in
+    let done : drop l.i old ≡ [] = drop_all l.i old (search rules) in
+    let all : take l.i l.parts.items ≡ l.parts.items = take_all l.i l.parts.items (search rules) in
+    let whole = l.invariant.visited no_trees (l.pass, true) (rw done no_more) in
+    rw (all, row_append-none) at whole
+
+pub sweep-returns-in-Err-clause-visited : goal.sweep-returns-in-Err-clause-visited
+sweep-returns-in-Err-clause-visited g t c =
+    rw c.relink.ensures
+    (c.in-Err.ensures.visited _ _ (way_stays g.R.Rewrite.step c.args.walk.now.unicode (tree c.sweep_down.new.above) (tree c.sweep_down.new.node)
+    c.args.walk.now.depth c.args.walk.now.in_lookbehind c.sweep_down.new.pass))
+
+pub sweep_sides-returns-clause-swept : goal.sweep_sides-returns-clause-swept
+sweep_sides-returns-clause-swept g t c =
+    sides_swept _ _ g.R.Rewrite.removes _ _ _ _ _ _ c.in_ok-changed.ensures.swept c.in_ok-sweep.ensures.swept
+
+pub sweep_sides-returns-clause-visited : goal.sweep_sides-returns-clause-visited
+sweep_sides-returns-clause-visited g t c depth is =
+    in_alt (rw is at c.in_ok-changed.ensures.visited) (rw is at c.in_ok-sweep.ensures.visited)
+
+pub sweep_one-returns-clause-swept : goal.sweep_one-returns-clause-swept
+sweep_one-returns-clause-swept g t c =
+    let inside = Swept-walk _ c.args.walk.now c.inside.result c.inside.ensures.direction c.in_ok-changed.ensures.swept in
+    node_swept _ _ g.R.Rewrite.removes _ _ _ _ _ inside c.in_ok-rewrite.ensures.swept
+
+pub sweep_one-returns-clause-visited : goal.sweep_one-returns-clause-visited
+sweep_one-returns-clause-visited g t c =
+    let inner = c.inside.ensures in
+    after_children {skip = false} (rw (inner.direction, inner.unicode) at (c.in_ok-changed.ensures.visited c.args.walk.now.depth inner.depth))
+    (c.in_ok-rewrite.ensures.applied false)
+
+pub sweep_one-returns-in_err-changed-clause-visited : goal.sweep_one-returns-in_err-changed-clause-visited
+sweep_one-returns-in_err-changed-clause-visited g t c =
+    let inner = c.inside.ensures in
+    let inside = rw (inner.direction, inner.unicode) at (c.in_err-changed.ensures.visited c.args.walk.now.depth inner.depth) in
+    rw (not_answered _ c.from_residual.ensures.0) (after_children {skip = false} inside (refl, refl, refl))
+
+pub sweep_one-returns-in_err-rewrite-clause-visited : goal.sweep_one-returns-in_err-rewrite-clause-visited
+sweep_one-returns-in_err-rewrite-clause-visited g t c =
+    let inner = c.inside.ensures in
+    rw (not_answered _ c.from_residual-in_err-rewrite.ensures.0)
+    (after_children {skip = false} (rw (inner.direction, inner.unicode) at (c.in_ok-changed.ensures.visited c.args.walk.now.depth inner.depth))
+    (c.in_err-rewrite.ensures.applied false))
+
+pub sweep_sides-returns-in_err-changed-clause-visited : goal.sweep_sides-returns-in_err-changed-clause-visited
+sweep_sides-returns-in_err-changed-clause-visited g t c depth is =
+    rw (not_answered _ c.from_residual.ensures.0)
+    (in_alt (rw is at c.in_err-changed.ensures.visited) (stays g.R.Rewrite.step c.args.walk.now.unicode _ _ _ _))
+
+pub sweep_sides-returns-in_err-changed-clause-swept : goal.sweep_sides-returns-in_err-changed-clause-swept
+sweep_sides-returns-in_err-changed-clause-swept g t c =
+    Swept-error _ _ _ c.from_residual.ensures.0 refl
+    (left_swept _ _ g.R.Rewrite.removes (tree c.args.left.now) (tree c.sweep.new.node) (tree c.args.right.now) false c.sweep.ensures.swept)
+
+pub sweep_sides-returns-in_err-sweep-clause-visited : goal.sweep_sides-returns-in_err-sweep-clause-visited
+sweep_sides-returns-in_err-sweep-clause-visited g t c depth is =
+    rw (not_answered _ c.from_residual-in_err-sweep.ensures.0)
+    (in_alt (rw is at c.in_ok-changed.ensures.visited) (rw is at c.in_err-sweep.ensures.visited))
+
+pub sweep_sides-returns-in_err-sweep-clause-swept : goal.sweep_sides-returns-in_err-sweep-clause-swept
+sweep_sides-returns-in_err-sweep-clause-swept g t c =
+    Swept-error _ _ _ c.from_residual-in_err-sweep.ensures.0 refl
+    (sides_swept _ _ g.R.Rewrite.removes _ _ _ _ _ _ c.in_ok-changed.ensures.swept c.sweep-2.ensures.swept)
+
+pub sweep_parts-returns-in_err-changed-clause-visited : goal.sweep_parts-returns-in_err-changed-clause-visited
+sweep_parts-returns-in_err-changed-clause-visited g t c =
+    let l = c.loop-i in
+    let old = c.args.parts.now.items in
+    let new = c.sweep.new.node in
+    let found = c.index_mut.ensures.value in
+    let rest = trees (drop (l.i + 1) old) in
+    let unvisited = unvisited-next l.parts.items old l.i new l.invariant.unvisited in
+    let stay = row_stays g.R.Rewrite.step c.args.walk.now.unicode rest c.args.walk.now.depth c.args.walk.now.in_lookbehind c.sweep.new.pass in
+    rw (
+      not_answered _ c.from_residual.ensures.0,
+      row_whole (set l.parts.items l.i new) old (l.i + 1) unvisited,
+      visited_next l.parts.items old l.i (search rules) c.index_mut.result.now found l.invariant.unvisited new rest,
+    )
+    (l.invariant.visited (more_trees (tree new) rest) (c.sweep.new.pass, false)
+    (rw (next_is l.parts.items old l.i (search rules) c.index_mut.result.now found l.invariant.unvisited)
+    (one_more c.in_err-changed.ensures.visited stay)))
+
+pub sweep_down-returns-in_err-changed-clause-visited : goal.sweep_down-returns-in_err-changed-clause-visited
+sweep_down-returns-in_err-changed-clause-visited g t c u b climbed =
+    let l = c.loop-levels in
+    let shifted = c.if-shift.ensures in
+    let node = c.deref_mut.result.now in
+    let left_is = rw (c.in-Alt.is, out-Alt) at c.deref_mut.ensures.value in
+    let top_is = alt_of c.shift.new.onto c.in-Alt.left c.in-Alt.field-1 node c.in-Alt.is left_is in
+    let depth = further-inside _ _ c.args.walk.now.depth _ refl c.inside.ensures.depth c.inside.ensures.same in
+    let first = rw (depth, c.inside.ensures.direction, c.inside.ensures.unicode) at c.in_err-changed.ensures.visited in
+    after_down (Applied g.R.Rewrite.step c.args.walk.now.unicode) (further l.levels c.args.walk.now.depth) c.args.walk.now.depth
+    c.args.walk.now.in_lookbehind (tree l.node) (tree l.above) _ _ (tree node) _ _ shifted top_is
+    _ _ _ b _ u _ (ap (λ k. further k c.args.walk.now.depth) l.invariant.levels) (λ x m whole rest. l.invariant.visited x u m b whole rest)
+    (rw (← further_next l.levels _ c.args.walk.now.depth refl) at first) (stays g.R.Rewrite.step c.args.walk.now.unicode _ _ _ _)
+    (rw (c.in-Alt.is, out-Alt, tree-Alt, not_answered _ c.from_residual.ensures.0) at climbed)
+
+pub sweep_down-returns-in_err-sweep_one-clause-visited : goal.sweep_down-returns-in_err-sweep_one-clause-visited
+sweep_down-returns-in_err-sweep_one-clause-visited g t c u b climbed =
+    let l = c.loop-levels in
+    let n_is : tree c.loop-levels-test.node ≡ tree l.node =
+    elim c.loop-levels-test.branch [
+      | sweep_down-then-loop-levels-test+else-shift w ↦ ap tree w.node-is ∙ w.if-shift.ensures.1
+      | sweep_down-else-loop-levels-test w ↦ ap tree w.node-is
+    ] in
+    let above_is : tree c.loop-levels-test.above ≡ tree l.above =
+    elim c.loop-levels-test.branch [
+      | sweep_down-then-loop-levels-test+else-shift w ↦ ap tree w.above-is ∙ w.if-shift.ensures.2
+      | sweep_down-else-loop-levels-test w ↦ ap tree w.above-is
+    ] in
+    let inner = c.inside-2.ensures in
+    let depth = further-inside _ _ c.args.walk.now.depth _ refl inner.depth inner.same in
+    let last = rw (n_is, depth, inner.direction, inner.unicode) at c.in_err-sweep_one.ensures.visited in
+    l.invariant.visited (tree c.sweep_one.new.node) u (c.sweep_one.new.pass, false) b last (rw (above_is, not_answered _ c.from_residual-in_err-sweep_one.ensures.0) at climbed)
+
+pub sweep_down-returns-clause-visited : goal.sweep_down-returns-clause-visited
+sweep_down-returns-clause-visited g t c u b climbed =
+    let l = c.loop-levels in
+    let n_is : tree c.loop-levels-test.node ≡ tree l.node =
+    elim c.loop-levels-test.branch [
+      | sweep_down-then-loop-levels-test+else-shift w ↦ ap tree w.node-is ∙ w.if-shift.ensures.1
+      | sweep_down-else-loop-levels-test w ↦ ap tree w.node-is
+    ] in
+    let above_is : tree c.loop-levels-test.above ≡ tree l.above =
+    elim c.loop-levels-test.branch [
+      | sweep_down-then-loop-levels-test+else-shift w ↦ ap tree w.above-is ∙ w.if-shift.ensures.2
+      | sweep_down-else-loop-levels-test w ↦ ap tree w.above-is
+    ] in
+    let inner = c.inside-2.ensures in
+    let depth = further-inside _ _ c.args.walk.now.depth _ refl inner.depth inner.same in
+    let last = rw (n_is, depth, inner.direction, inner.unicode) at c.in_ok-sweep_one.ensures.visited in
+    l.invariant.visited (tree c.sweep_one.new.node) u (c.sweep_one.new.pass, true) b last (rw above_is at climbed)

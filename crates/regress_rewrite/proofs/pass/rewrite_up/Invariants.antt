@@ -1,6 +1,8 @@
 -- What the rewriting of the alternatives so far has made of the whole.
-use Rattle.std.proofs.Common.{◌≡◌, Ok}
-use Rattle.regress_tree.specs.Tree.{tree}
+use Rattle.std.proofs.Common.{◌≡◌, true, Ok}
+use Rattle.regress_tree.specs.Tree.{Tree, tree}
+use Rattle.regress_tree.specs.Climbs.{ClimbedMut}
+use Rattle.regress_rewrite.specs.Passes.{Applied}
 use Rattle.regress_tree.specs.Walk.{direction_of}
 use Rattle.regress_tree.specs.Shapes.{LacksShape}
 use Rattle.regress_tree.specs.Spine.{reattach, spine_length, LeftsLackShape}
@@ -14,6 +16,9 @@ invariant-loop-levels g l =
     let old = reattach (tree l.initial.above) (tree l.initial.node) in
     record {
       levels : l.levels ≡ spine_length (tree l.above);
+      climbed : (u : Tree) (b : _) →
+          ClimbedMut (Applied g.R.Rewrite.step l.walk.unicode) (tree l.above) l.walk.depth l.walk.in_lookbehind (tree l.node) u (l.pass, true) b →
+          ClimbedMut (Applied g.R.Rewrite.step l.walk.unicode) (tree l.initial.above) l.walk.depth l.walk.in_lookbehind (tree l.initial.node) u (l.initial.pass, true) b;
       swept : UpSwept g.R.Rewrite.is_exact (direction_of l.walk) shape old start (tree l.above) (tree l.node) (Ok l.changed);
     }
 

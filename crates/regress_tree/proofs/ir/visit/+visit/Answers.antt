@@ -6,7 +6,7 @@ use Rattle.regress_tree.specs.Tree.{tree}
 use Rattle.regress_tree.specs.Copies.{is_leaf}
 use Rattle.regress_tree.specs.Visits.{Calls, before_children, without_children, after_children, in_cat, in_wrapped, no_more, one_more}
 use Rattle.regress_tree.proofs.laws.Nodes.{tree-Cat, tree-CaptureGroup, tree-Loop, tree-Loop1CharBody, tree-LookaroundAssertion}
-use Rattle.regress_tree.proofs.VisitLemmas.{at_leaf, in_Alt, right_smaller, down_next, further_next, after_next}
+use Rattle.regress_tree.proofs.laws.Visits.{at_leaf, in_Alt, right_smaller, down_next, further_next, after_next}
 use Rattle.regress_tree.proofs.ir.visit.+visit.Goals as goal
 
 pub visit_inside-returns-in-Cat-clause-visited : goal.visit_inside-returns-in-Cat-clause-visited

@@ -9,7 +9,7 @@ use Rattle.regress_tree.specs.Visits.{CallsMut, Visited, before_children, withou
 use Rattle.regress_tree.specs.Climbs.{further}
 use Rattle.regress_tree.proofs.laws.Nodes.{tree-Cat, tree-Alt, tree-CaptureGroup, tree-Loop, tree-Loop1CharBody, tree-LookaroundAssertion}
 use Rattle.regress_tree.proofs.laws.Levels.{out-Cat, out-Alt, out-CaptureGroup, out-Loop, out-Loop1CharBody, out-LookaroundAssertion, alt_of}
-use Rattle.regress_tree.proofs.VisitLemmas.{at_leaf, further_next, nodes_down, levels_down, before_down, after_down, call_adds, next_is, nodes_next, unvisited_next, visited_next}
+use Rattle.regress_tree.proofs.laws.Visits.{at_leaf, further_next, nodes_down, levels_down, before_down, after_down, call_adds, next_is, nodes_next, unvisited_next, visited_next}
 use Rattle.regress_tree.proofs.ir.visit_mut.+visit_mut.Goals.{visit_before-else-loop-here-test, visit_before-then-loop-here-test+then-not-shift, visit_after-then-loop-levels-test+else-shift, visit_after-else-loop-levels-test}
 use Rattle.regress_tree.proofs.ir.visit_mut.+visit_mut.Goals as goal
 

@@ -1,7 +1,7 @@
 use Rattle.std.proofs.Common.{arith, ap, ◌≡◌, ◌-◌}
 use Rattle.regress_tree.specs.Tree.{tree}
 use Rattle.regress_tree.specs.Spine.{spine_length}
-use Rattle.regress_tree.proofs.VisitLemmas.{further-inside}
+use Rattle.regress_tree.proofs.laws.Visits.{further-inside}
 use Rattle.regress_tree.proofs.ir.visit_mut.climb.Goals as goal
 
 pub loop-levels-preserved : goal.loop-levels-preserved

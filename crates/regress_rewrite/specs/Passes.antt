@@ -1,0 +1,37 @@
+-- What a pass shows to a rewrite, and what becomes of the answers.
+use Rattle.std.specs.Prelude.{◌≡◌, ◌≢◌, ℕ, Bool, true, false, Result, Ok, Err}
+use Rattle.std.specs.declared.alloc.AllocError.{AllocError}
+use Rattle.regress_tree.specs.declared.ir.walker.Walk.{Walk}
+use Rattle.regress_tree.specs.Tree.{Tree}
+use Rattle.regress_tree.specs.Visits.{Visited}
+use Rattle.regress_rewrite.specs.declared.rewrite.PassAction.{PassAction}
+use Rattle.regress_rewrite.specs.Law.{after}
+
+-- the tree in the node's place after the answer, where the call left `left` there
+abbrev pub made : Result PassAction AllocError → Tree → Tree
+made (Ok action) left = after action left
+made (Err e) left = left
+
+abbrev pub is_answered : {A : Type 0} → Result A AllocError → Bool
+is_answered (Ok x) = true
+is_answered (Err e) = false
+
+module _ {R : Type 0} (step : R → Tree → Walk → Result PassAction AllocError → Tree → R → Type 0) (unicode : Bool) where
+  -- A call on a node of the tree t, at that depth and in a lookbehind or not. It takes the rewrite from the state a to b, and what
+  -- it answers is done, which leaves the tree u. After an error there are no calls, and the tree stays.
+  abbrev pub Applied : R × Bool → Tree → ℕ → Bool → R × Bool → Tree → Bool → Type 0
+  Applied (a, true) t depth behind (b, going) u skip =
+      (answer : Result PassAction AllocError) × (left : Tree)
+      × step a t (record { skip_children = false; depth = depth; in_lookbehind = behind; unicode = unicode }) answer left b
+      × (u ≡ made answer left) × (going ≡ is_answered answer)
+  Applied (a, false) t depth behind (b, going) u skip = (b ≡ a) × (going ≡ false) × (u ≡ t)
+
+  -- A sweep is a walk with such calls, children before parents. It tells whether each call answered an action.
+  abbrev pub SweptFrom : (a : R) (t u : Tree) (b : R) (going : Bool) → Type 0
+  SweptFrom a t u b going = Visited Applied true 0 false t u (a, true) (b, going)
+
+  -- Sweeps, until one leaves the tree as it was or meets an error.
+  pub data Passed : (a : R) (t u : Tree) (b : R) (going : Bool) → Type 0 where
+    unchanged : {a b : R} {t : Tree} → SweptFrom a t t b true → Passed a t t b true
+    stopped : {a b : R} {t u : Tree} → SweptFrom a t u b false → Passed a t u b false
+    again : {a b c : R} {t u v : Tree} {going : Bool} → SweptFrom a t u b true → u ≢ t → Passed b u v c going → Passed a t v c going
