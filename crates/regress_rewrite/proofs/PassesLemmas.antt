@@ -23,11 +23,6 @@ use Rattle.regress_rewrite.proofs.SweepLemmas.{Swept-put, Swept-then, Swept-same
 use Rattle.regress_tree.proofs.laws.Measures.{LacksShape-here, LacksShape-inside, LacksShape-from}
 use Rattle.std.proofs.lemmas.Bool.{or_parts}
 
--- what is joined to a change is an error where it was one
-pub answered-joined : (changed : Bool) (answer : Result Bool AllocError) → is_answered (joined changed answer) ≡ is_answered answer
-answered-joined changed (Ok b) = refl
-answered-joined changed (Err e) = refl
-
 module _ {R : Type 0} (step : R → Tree → Walk → Result PassAction AllocError → Tree → R → Type 0) (unicode : Bool) where
   -- After an error a walk comes by and changes nothing.
   after : (t : Tree) (d : ℕ) (behind : Bool) (a : R) → Inside (Applied step unicode) true d behind t t (a, false) (a, false) →
