@@ -17,8 +17,8 @@ is_answered (Ok x) = true
 is_answered (Err e) = false
 
 module _ {R : Type 0} (step : R → Tree → Walk → Result PassAction AllocError → Tree → R → Type 0) (unicode : Bool) where
-  -- A call on a node of the tree t, at that depth and in a lookbehind or not. It takes the rewrite from the state a to b, and what
-  -- it answers is done, which leaves the tree u. After an error there are no calls, and the tree stays.
+  -- A call on a node of the tree t, at that depth and in a lookbehind or not. It takes the rewrite from the state a to
+  -- b, and what it answers is done, which leaves the tree u. After an error there are no calls, and the tree stays.
   abbrev pub Applied : R × Bool → Tree → ℕ → Bool → R × Bool → Tree → Bool → Type 0
   Applied (a, true) t depth behind (b, going) u skip =
       (answer : Result PassAction AllocError) × (left : Tree)
