@@ -104,8 +104,8 @@ module _ (setting : Setting) (t : Source) (gives : GivesMarks setting.flags.unic
       (cases_lt max_capture_groups (counts p).groups)
     where
       by : (p : Pattern) → IsDerived setting t p → Exceeds kind nothing_counted 0 (pattern_part setting.table found_names p) → Says kind p
-      by p h (inl (is, many)) = inl (is, many)
-      by p h (inr (inl (is, many))) = inr (inl (is, many))
+      by p h (inl (is, many)) = inl (is, omega (arith, many))
+      by p h (inr (inl (is, many))) = inr (inl (is, omega (arith, many)))
       by p h (inr (inr deep)) = absurd (omega (arith, few, deep, marks-levels p h))
 
   -- the names of a pattern that is read are apart where the scan's are
