@@ -5,7 +5,7 @@ ghost use Rattle.regress_classes.specs.ClassRows.{complement_if, atom_members, b
 ghost use Rattle.regress_base.specs.Table.{Table};
 ghost use Rattle.regress_unicode.specs.TableOf.{table_of};
 ghost use Rattle.regress_lexical.specs.Source.{char};
-ghost use Rattle.regress_lexical.specs.Fault.{RefusedOnlyIf};
+ghost use Rattle.regress_lexical.specs.Fault.{FailsOnlyIf};
 ghost use Rattle.regress_lexical.specs.Reads.{ReadsAs};
 ghost use Rattle.regress_classes.specs.ClassViews.{class_atom_of, IsClassAtomInRange, HasMembers, Adds, IsClassRead};
 ghost use Rattle.regress_lexical.specs.Views.{source};
@@ -15,7 +15,7 @@ use crate::class_escape::class_members;
 use crate::gathered::Gathered;
 use regress_base::codepointset::{CodePointSet, Interval};
 use regress_lexical::cursor::Cursor;
-use regress_lexical::fault::{INVALID_RANGE, ParseFault, REVERSED_RANGE, syntax};
+use regress_lexical::fault::{Fault, FaultKind, refused};
 use regress_unicode::Tables;
 use std::alloc::{AllocError, Global};
 
@@ -27,7 +27,7 @@ pub struct Class {
 }
 
 /// Reads a class, behind its `[` (ECMA-262, CharacterClass with annex B).
-pub fn read_class(cursor: &mut Cursor, tables: &Tables, unicode: bool) -> Result<Class, ParseFault>
+pub fn read_class(cursor: &mut Cursor, tables: &Tables, unicode: bool) -> Result<Class, Fault>
     ensures { ReadsAs IsClassRead (source cursor.new) result (class_at (table_of tables.now) unicode (source cursor.old)) }
 {
     let inverted = cursor.try_consume('^');
@@ -40,7 +40,7 @@ fn read_parts(
     cursor: &mut Cursor,
     tables: &Tables,
     unicode: bool,
-) -> Result<CodePointSet, ParseFault>
+) -> Result<CodePointSet, Fault>
     ensures { let t = source cursor.old in
         ReadsAs (λ set members. HasMembers members set) (source cursor.new) result (class_parts_by (table_of tables.now) unicode (length t + 1) t) }
 {
@@ -58,7 +58,7 @@ fn read_part(
     tables: &Tables,
     unicode: bool,
     set: &mut Gathered,
-) -> Result<(), ParseFault>
+) -> Result<(), Fault>
     ensures { ReadsAs (λ _ members. Adds members set.old set.new) (source cursor.new) result (class_part_at (table_of tables.now) unicode (source cursor.old)) }
 {
     if let Some(interval) = take_plain_part(cursor) {
@@ -101,12 +101,13 @@ fn read_any_part(
     tables: &Tables,
     unicode: bool,
     set: &mut Gathered,
-) -> Result<(), ParseFault>
+) -> Result<(), Fault>
     ensures { ReadsAs (λ _ members. Adds members set.old set.new) (source cursor.new) result (class_part_at (table_of tables.now) unicode (source cursor.old)) }
 {
+    let left = cursor.rest.len();
     let first = read_class_atom(cursor, tables, unicode)?;
     if try_consume_hyphen(cursor) {
-        read_range(cursor, tables, unicode, first, set)
+        read_range(cursor, tables, unicode, first, left, set)
     } else {
         add_atom(set, cursor.alloc, first)?;
         Ok(())
@@ -133,44 +134,46 @@ fn begins_range(source: &[u32]) -> bool
     }
 }
 
-/// Reads the last atom of a range, behind its hyphen, and adds what the range holds.
+/// Reads the last atom of a range, behind its hyphen, and adds what the range holds. `left` tells where it begins.
 fn read_range(
     cursor: &mut Cursor,
     tables: &Tables,
     unicode: bool,
     first: ClassAtom,
+    left: usize,
     set: &mut Gathered,
-) -> Result<(), ParseFault>
+) -> Result<(), Fault>
     requires { IsClassAtomInRange first }
     ensures { ReadsAs (λ _ members. Adds members set.old set.new) (source cursor.new) result (range_at (table_of tables.now) unicode (class_atom_of first.entry) (source cursor.old)) }
 {
     let last = read_class_atom(cursor, tables, unicode)?;
-    add_range(set, cursor.alloc, unicode, first, last)
+    add_range(set, cursor.alloc, unicode, left, first, last)
 }
 
-/// Adds what two atoms with a hyphen between them hold.
+/// Adds what two atoms with a hyphen between them hold, the first of which is where `left` tells.
 fn add_range(
     set: &mut Gathered,
     alloc: Global,
     unicode: bool,
+    left: usize,
     first: ClassAtom,
     last: ClassAtom,
-) -> Result<(), ParseFault>
+) -> Result<(), Fault>
     requires first_in_range { IsClassAtomInRange first }
     requires last_in_range { IsClassAtomInRange last }
     ensures ok { OnOk result ((members : List Bounds)
         × (range_of unicode (class_atom_of first.entry) (class_atom_of last.entry) ≡ Some members) × Adds members set.old set.new) }
-    ensures err { RefusedOnlyIf result (range_of unicode (class_atom_of first.entry) (class_atom_of last.entry) ≡ None) }
+    ensures err { FailsOnlyIf result (range_of unicode (class_atom_of first.entry) (class_atom_of last.entry) ≡ None) }
 {
     if let (ClassAtom::Point(a), ClassAtom::Point(b)) = (first, last) {
         if a > b {
-            return Err(syntax(alloc, REVERSED_RANGE));
+            return Err(refused(left, FaultKind::ReversedRange));
         }
         set.add(Interval::new(a, b))?;
         return Ok(());
     }
     if unicode {
-        return Err(syntax(alloc, INVALID_RANGE));
+        return Err(refused(left, FaultKind::InvalidRange));
     }
     add_atom(set, alloc, first)?;
     add_atom(set, alloc, ClassAtom::Point(u32::from('-')))?;

@@ -14,9 +14,7 @@ use regress_base::codepointset::CodePointSet;
 use regress_lexical::cursor::Cursor;
 use regress_lexical::digits::{control, is_decimal, is_letter};
 use regress_lexical::escape::{escape_fault, read_escape};
-use regress_lexical::fault::{
-    INVALID_PROPERTY, ParseFault, UNBALANCED_BRACKET, UNTERMINATED_ESCAPE, syntax,
-};
+use regress_lexical::fault::{Fault, FaultKind};
 use regress_unicode::Tables;
 
 /// An atom of a class.
@@ -41,14 +39,14 @@ pub fn read_class_atom<'a>(
     cursor: &mut Cursor,
     tables: &'a Tables,
     unicode: bool,
-) -> Result<ClassAtom<'a>, ParseFault>
+) -> Result<ClassAtom<'a>, Fault>
     ensures value { Reads class_atom_of (source cursor.new) result (class_atom_at (table_of tables.now) unicode (source cursor.old)) }
     ensures in_range { IfOk result IsClassAtomInRange }
 {
     match cursor.next() {
         Some(c) if c == u32::from('\\') => read_escaped_atom(cursor, tables, unicode),
         Some(c) if c != u32::from(']') => Ok(ClassAtom::Point(c)),
-        _ => Err(syntax(cursor.alloc, UNBALANCED_BRACKET)),
+        _ => Err(cursor.refuse(FaultKind::UnbalancedBracket)),
     }
 }
 
@@ -57,12 +55,12 @@ fn read_escaped_atom<'a>(
     cursor: &mut Cursor,
     tables: &'a Tables,
     unicode: bool,
-) -> Result<ClassAtom<'a>, ParseFault>
+) -> Result<ClassAtom<'a>, Fault>
     ensures value { Reads class_atom_of (source cursor.new) result (class_escape_at (table_of tables.now) unicode (source cursor.old)) }
     ensures in_range { IfOk result IsClassAtomInRange }
 {
     let Some((c, rest)) = cursor.rest.split_first() else {
-        return Err(syntax(cursor.alloc, UNTERMINATED_ESCAPE));
+        return Err(cursor.refuse(FaultKind::UnterminatedEscape));
     };
     let c = *c;
     if let Some((kind, negated)) = class_letter(c) {
@@ -83,7 +81,7 @@ fn read_escaped_atom<'a>(
         read_class_property(cursor, tables, c == u32::from('P'))
     } else {
         let Some((point, behind)) = read_escape(cursor.rest, unicode) else {
-            return Err(syntax(cursor.alloc, escape_fault(cursor.rest)));
+            return Err(cursor.refuse(escape_fault(cursor.rest)));
         };
         cursor.rest = behind;
         Ok(ClassAtom::Point(point))
@@ -95,14 +93,14 @@ fn read_class_property<'a>(
     cursor: &mut Cursor,
     tables: &'a Tables,
     negated: bool,
-) -> Result<ClassAtom<'a>, ParseFault>
+) -> Result<ClassAtom<'a>, Fault>
     ensures value { Reads class_atom_of (source cursor.new) result
         (class_property_at (table_of tables.now) negated (source cursor.old)) }
     ensures in_range { IfOk result IsClassAtomInRange }
 {
     match read_property(cursor, false, tables)? {
         Property::Points(set) => Ok(ClassAtom::Property { set, negated }),
-        Property::Strings(_) => Err(syntax(cursor.alloc, INVALID_PROPERTY)),
+        Property::Strings(_) => Err(cursor.refuse(FaultKind::InvalidProperty)),
     }
 }
 

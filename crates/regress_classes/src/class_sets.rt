@@ -18,10 +18,7 @@ use character::read_set_character;
 use operand::{Operand, read_escaped_operand};
 use regress_base::codepointset::Interval;
 use regress_lexical::cursor::Cursor;
-use regress_lexical::fault::{
-    EMPTY_OPERAND, INVALID_NEGATED_CLASS, INVALID_SET_RANGE, ParseFault, TOO_DEEP, UNBALANCED_SET,
-    UNEXPECTED_IN_INTERSECTION, UNEXPECTED_IN_SUBTRACTION, syntax,
-};
+use regress_lexical::fault::{Fault, FaultKind};
 use regress_unicode::Tables;
 use std::alloc::AllocError;
 use union::Union;
@@ -79,11 +76,11 @@ impl Operator {
         }
     }
 
-    /// The text of the fault where something else stands behind an operand.
-    fn unexpected(self) -> &'static str {
+    /// The fault where something else stands behind an operand.
+    fn unexpected(self) -> FaultKind {
         match self {
-            Operator::Intersection => UNEXPECTED_IN_INTERSECTION,
-            Operator::Subtraction => UNEXPECTED_IN_SUBTRACTION,
+            Operator::Intersection => FaultKind::UnexpectedInIntersection,
+            Operator::Subtraction => FaultKind::UnexpectedInSubtraction,
         }
     }
 }
@@ -96,12 +93,12 @@ pub fn read_class_set(
     tables: &Tables,
     unicode: bool,
     levels: u32,
-) -> Result<ClassSet, ParseFault>
+) -> Result<ClassSet, Fault>
     ensures value { ReadsAs IsClassSetRead (source cursor.new) result (class_set_by (table_of tables.now) unicode levels (source cursor.old)) }
     ensures levels { IfOk result (λ class. class.value.levels < levels) }
 {
     if levels == 0 {
-        return Err(syntax(cursor.alloc, TOO_DEEP));
+        return Err(cursor.refuse(FaultKind::TooDeep));
     }
     let negated = cursor.try_consume('^');
     let around = Surroundings {
@@ -112,14 +109,14 @@ pub fn read_class_set(
     };
     let value = read_contents(cursor, &around)?;
     if negated && value.has_strings() {
-        return Err(syntax(cursor.alloc, INVALID_NEGATED_CLASS));
+        return Err(cursor.refuse(FaultKind::InvalidNegatedClass));
     }
     Ok(ClassSet { negated, value })
 }
 
 /// Reads what a class holds, up to its `]`.
 #[cycle(class_set)]
-fn read_contents(cursor: &mut Cursor, around: &Surroundings) -> Result<Value, ParseFault>
+fn read_contents(cursor: &mut Cursor, around: &Surroundings) -> Result<Value, Fault>
     ensures { ReadsAs IsValue (source cursor.new) result
         (contents_at (table_of around.now.tables.now) around.now.unicode (inner_of around.now) around.now.negated (source cursor.old)) }
 {
@@ -127,7 +124,7 @@ fn read_contents(cursor: &mut Cursor, around: &Surroundings) -> Result<Value, Pa
         return Ok(Value::new(cursor.alloc));
     }
     if cursor.rest.is_empty() {
-        return Err(syntax(cursor.alloc, UNBALANCED_SET));
+        return Err(cursor.refuse(FaultKind::UnbalancedSet));
     }
     let first = read_operand(cursor, around)?;
     read_behind(cursor, around, first)
@@ -139,7 +136,7 @@ fn read_behind(
     cursor: &mut Cursor,
     around: &Surroundings,
     first: Operand,
-) -> Result<Value, ParseFault>
+) -> Result<Value, Fault>
     requires { (operand : WrittenOperand) × IsOperand first operand }
     ensures { (operand : WrittenOperand) → IsOperand first operand → ReadsAs IsValue (source cursor.new) result
         (contents_behind (table_of around.now.tables.now) around.now.unicode (inner_of around.now) around.now.negated (operand, source cursor.old)) }
@@ -190,13 +187,13 @@ fn read_parts(
     cursor: &mut Cursor,
     around: &Surroundings,
     mut union: Union,
-) -> Result<Value, ParseFault>
+) -> Result<Value, Fault>
     ensures { (held : Written) → IsUnion union held → ReadsAs IsValue (source cursor.new) result
         (parts_onto (table_of around.now.tables.now) around.now.unicode (inner_of around.now) around.now.negated held (source cursor.old)) }
 {
     while !cursor.is_at(']') {
         if cursor.rest.is_empty() {
-            return Err(syntax(cursor.alloc, UNBALANCED_SET));
+            return Err(cursor.refuse(FaultKind::UnbalancedSet));
         }
         let first = read_operand(cursor, around)?;
         read_part_behind(cursor, around, first, &mut union)?;
@@ -212,7 +209,7 @@ fn read_part_behind(
     around: &Surroundings,
     first: Operand,
     union: &mut Union,
-) -> Result<(), ParseFault>
+) -> Result<(), Fault>
     requires { (operand : WrittenOperand) × IsOperand first operand }
     ensures { (operand : WrittenOperand) → IsOperand first operand → ReadsAs (λ _ part. Joins part union.old union.new) (source cursor.new) result
         (part_behind (table_of around.now.tables.now) around.now.unicode (inner_of around.now) around.now.negated (operand, source cursor.old)) }
@@ -222,11 +219,11 @@ fn read_part_behind(
         return Ok(());
     }
     let Operand::Character(a) = first else {
-        return Err(syntax(cursor.alloc, INVALID_SET_RANGE));
+        return Err(cursor.refuse(FaultKind::InvalidSetRange));
     };
     match read_operand(cursor, around)? {
         Operand::Character(b) if a <= b => Ok(union.add(Interval::new(a, b))?),
-        _ => Err(syntax(cursor.alloc, INVALID_SET_RANGE)),
+        _ => Err(cursor.refuse(FaultKind::InvalidSetRange)),
     }
 }
 
@@ -237,7 +234,7 @@ fn read_operands(
     around: &Surroundings,
     value: Value,
     operator: Operator,
-) -> Result<Value, ParseFault>
+) -> Result<Value, Fault>
     ensures { (held : Written) → IsValue value held → ReadsAs IsValue (source cursor.new) result
         (operands_onto (table_of around.now.tables.now) around.now.unicode (inner_of around.now) around.now.negated
         (sign_of operator) (applied operator) held (source cursor.old)) }
@@ -254,7 +251,7 @@ fn read_operands(
 }
 
 /// Moves past an operator. The fault comes where none comes next.
-fn consume_operator(cursor: &mut Cursor, operator: Operator) -> Result<(), ParseFault>
+fn consume_operator(cursor: &mut Cursor, operator: Operator) -> Result<(), Fault>
     ensures ok { OnOk result ((are_at (sign_of operator) (source cursor.old) ≡ true) × (source cursor.new ≡ drop 2 (source cursor.old))) }
     ensures err { OnErr result (are_at (sign_of operator) (source cursor.old) ≡ false) }
 {
@@ -262,22 +259,22 @@ fn consume_operator(cursor: &mut Cursor, operator: Operator) -> Result<(), Parse
         return Ok(());
     }
     let is_half = cursor.rest.is_empty() || cursor.is_at(operator.sign());
-    let text = if is_half {
-        UNBALANCED_SET
+    let kind = if is_half {
+        FaultKind::UnbalancedSet
     } else {
         operator.unexpected()
     };
-    Err(syntax(cursor.alloc, text))
+    Err(cursor.refuse(kind))
 }
 
 /// Reads an operand (this project's profile of ECMA-262, ClassSetOperand).
 #[cycle(class_set)]
-fn read_operand(cursor: &mut Cursor, around: &Surroundings) -> Result<Operand, ParseFault>
+fn read_operand(cursor: &mut Cursor, around: &Surroundings) -> Result<Operand, Fault>
     ensures { ReadsAs IsOperand (source cursor.new) result
         (operand_at (table_of around.now.tables.now) around.now.unicode (inner_of around.now) around.now.negated (source cursor.old)) }
 {
     if cursor.rest.is_empty() {
-        return Err(syntax(cursor.alloc, EMPTY_OPERAND));
+        return Err(cursor.refuse(FaultKind::EmptyOperand));
     }
     if cursor.try_consume('[') {
         let class = read_class_set(cursor, around.tables, around.unicode, around.levels)?;

@@ -10,7 +10,7 @@ ghost use Rattle.regress_unicode.specs.TableOf.{table_of};
 use regress_base::codepointset::CodePointSet;
 use regress_lexical::cursor::Cursor;
 use regress_lexical::digits::{Read, is_decimal, is_letter};
-use regress_lexical::fault::{INVALID_PROPERTY, PROPERTY_WITHOUT_BRACE, ParseFault, syntax};
+use regress_lexical::fault::{Fault, FaultKind};
 use regress_unicode::Tables;
 use std::alloc::AllocError;
 
@@ -40,15 +40,15 @@ pub fn read_property<'a>(
     cursor: &mut Cursor,
     sets: bool,
     tables: &'a Tables,
-) -> Result<Property<'a>, ParseFault>
+) -> Result<Property<'a>, Fault>
     ensures { Reads property_of (source cursor.new) result (property_at sets (table_of tables.now) (source cursor.old)) }
 {
     if !cursor.try_consume('{') {
-        return Err(syntax(cursor.alloc, PROPERTY_WITHOUT_BRACE));
+        return Err(cursor.refuse(FaultKind::PropertyWithoutBrace));
     }
     match read_braced(cursor, sets, tables)? {
         Some(property) if cursor.try_consume('}') => Ok(property),
-        _ => Err(syntax(cursor.alloc, INVALID_PROPERTY)),
+        _ => Err(cursor.refuse(FaultKind::InvalidProperty)),
     }
 }
 

@@ -46,7 +46,6 @@ pub use Rattle.regress_tree.specs.SmallSets
 pub use Rattle.regress_literal.specs.Literal
 -- Patterns.
 pub use Rattle.regress_lexical.specs.Source
-pub use Rattle.regress_lexical.specs.Fault
 pub use Rattle.regress_syntax.specs.SettingOf
 pub use Rattle.regress_syntax.specs.Syntax
 pub use Rattle.regress_syntax.specs.Grammar
@@ -54,5 +53,6 @@ pub use Rattle.regress_syntax.specs.Meaning
 pub use Rattle.regress_syntax.specs.SameNames
 pub use Rattle.regress_parse.specs.TreeOf
 pub use Rattle.regress_parse.specs.Accepted
+pub use Rattle.regress_parse.specs.Fault
 -- Rewriting.
 pub use Rattle.regress_rewrite.specs.Law

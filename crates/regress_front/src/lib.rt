@@ -19,8 +19,7 @@ pub mod literal {
 
 /// From the text of a pattern to its tree.
 pub mod parse {
-    pub use regress_parse::try_parse;
-    pub use regress_syntax::{Error, ParseFault};
+    pub use regress_parse::{Error, ParseFault, PlacedFault, try_parse, try_parse_with_place};
 }
 
 /// Rewriting of trees.

@@ -1,19 +1,25 @@
--- When a pattern is refused, and what is told then.
-use Rattle.std.specs.Prelude.{◌≡◌, ℕ, List, string_bytes, Result, Ok, Err}
-use Rattle.regress_lexical.specs.declared.fault.ParseFault.{ParseFault}
-use Rattle.regress_lexical.specs.declared.fault.ParseFault.TheVariants.{Syntax, Memory}
+-- When a pattern is refused.
+use Rattle.std.specs.Prelude.{Result, Ok, Err}
+use Rattle.regress_lexical.specs.declared.fault.FaultKind.{FaultKind}
+use Rattle.regress_lexical.specs.declared.fault.Fault.{Fault}
+use Rattle.regress_lexical.specs.declared.fault.Fault.TheVariants.{Refused, Memory}
 
 -- a fault of the pattern says this, and want of memory nothing
-abbrev pub OnSyntax : ParseFault → Type 0 → Type 0
-OnSyntax (Syntax e) P = P
-OnSyntax (Memory e) P = Unit {0}
+abbrev pub OnRefused : Fault → Type 0 → Type 0
+OnRefused (Refused r) P = P
+OnRefused (Memory e) P = Unit {0}
 
--- A fault of the pattern is answered only if this holds.
-abbrev pub RefusedOnlyIf : {X : Type 0} → Result X ParseFault → Type 0 → Type 0
-RefusedOnlyIf (Ok x) P = Unit {0}
-RefusedOnlyIf (Err fault) P = OnSyntax fault P
+-- the same, by its kind
+abbrev pub OnKind : Fault → (FaultKind → Type 0) → Type 0
+OnKind (Refused r) P = P r.kind
+OnKind (Memory e) P = Unit {0}
 
--- a fault of the pattern is told in this text, by its bytes
-abbrev pub Tells : List ℕ → ParseFault → Type 0
-Tells text (Syntax e) = string_bytes e.text ≡ text
-Tells text (Memory e) = Unit {0}
+-- a fault of the pattern comes only if this holds
+abbrev pub FailsOnlyIf : {X : Type 0} → Result X Fault → Type 0 → Type 0
+FailsOnlyIf (Ok x) P = Unit {0}
+FailsOnlyIf (Err fault) P = OnRefused fault P
+
+-- a fault of the pattern is of a kind of which this holds
+abbrev pub FailsBy : {X : Type 0} → Result X Fault → (FaultKind → Type 0) → Type 0
+FailsBy (Ok x) P = Unit {0}
+FailsBy (Err fault) P = OnKind fault P

@@ -4,7 +4,7 @@ ghost use Rattle.std.proofs.Props.{props};
 ghost use Rattle.regress_lexical.specs.Source.{IsCodePoint, is_special, is_plain};
 
 use crate::digits::is_letter;
-use crate::fault::{ParseFault, UNBALANCED, syntax};
+use crate::fault::{Fault, FaultKind, refused};
 use crate::quantifier::may_begin;
 use std::alloc::Global;
 
@@ -44,16 +44,24 @@ pub fn is_plain(c: u32) -> bool
 #[derive(Drop)]
 pub struct Cursor<'a> {
     pub rest: &'a [u32],
-    /// Where the texts of faults find memory.
+    /// Where what is read finds memory.
     pub alloc: Global,
     pub ghost in_range: { All IsCodePoint rest.now } by { Prim.hlevel props },
 }
 
 impl Cursor<'_> {
-    ghost use Rattle.std.specs.Prelude.{◌≡◌, [], ◌∷◌, drop, if◌then◌else◌, IfSome, IfNone, OnOk, OnErr, true, false};
+    ghost use Rattle.std.specs.Prelude.{◌≡◌, [], ◌∷◌, drop, length, if◌then◌else◌, IfSome, IfNone, OnOk, OnErr, true, false};
     ghost use Rattle.regress_lexical.specs.Beginnings.{may_begin};
     ghost use Rattle.regress_lexical.specs.Source.{is_at, ends_alternative, closing};
     ghost use Rattle.regress_lexical.specs.Views.{source};
+    ghost use Rattle.regress_lexical.specs.declared.fault.Fault.TheVariants.{Refused};
+
+    /// A fault of the pattern, here.
+    pub fn refuse(&self, kind: FaultKind) -> Fault
+        ensures { result ≡ Refused (record { kind = kind; left = length (source self.now) }) }
+    {
+        refused(self.rest.len(), kind)
+    }
 
     /// Whether `c` comes next.
     pub fn is_at(&self, c: char) -> bool
@@ -113,14 +121,14 @@ impl Cursor<'_> {
     }
 
     /// Moves past the parenthesis that closes a group. The fault comes where none comes next.
-    pub fn consume_closing(&mut self) -> Result<(), ParseFault>
+    pub fn consume_closing(&mut self) -> Result<(), Fault>
         ensures ok { OnOk result (source self.old ≡ closing ∷ source self.new) }
         ensures err { OnErr result (is_at closing (source self.old) ≡ false) }
     {
         if self.try_consume(')') {
             Ok(())
         } else {
-            Err(syntax(self.alloc, UNBALANCED))
+            Err(self.refuse(FaultKind::UnbalancedParenthesis))
         }
     }
 }

@@ -23,7 +23,7 @@ use crate::digits::{
     Read, after, control, digit, hex_length, is_decimal, is_letter, is_octal, number_from,
     octal_length, read_hex,
 };
-use crate::fault::{INVALID_ESCAPE, INVALID_UNICODE_ESCAPE};
+use crate::fault::FaultKind;
 
 /// The code points that stand for themselves behind a backslash.
 const SYNTAX_CHARACTERS: [u32; 15] = [
@@ -206,9 +206,9 @@ pub fn read_escape<'a>(source: &'a [u32], unicode: bool) -> Read<'a, u32>
 }
 
 /// Why there is no escape behind a backslash.
-pub fn escape_fault(source: &[u32]) -> &'static str {
+pub fn escape_fault(source: &[u32]) -> FaultKind {
     match source {
-        [c, ..] if *c == u32::from('u') => INVALID_UNICODE_ESCAPE,
-        _ => INVALID_ESCAPE,
+        [c, ..] if *c == u32::from('u') => FaultKind::InvalidUnicodeEscape,
+        _ => FaultKind::InvalidEscape,
     }
 }

@@ -10,5 +10,5 @@ pub mod modifiers;
 pub mod quantifier;
 
 pub use cursor::Cursor;
-pub use fault::{Error, ParseFault};
+pub use fault::{Fault, FaultKind, Refusal};
 pub use modifiers::Change;

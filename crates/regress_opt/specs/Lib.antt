@@ -9,7 +9,7 @@ pub use Rattle.regress_tree.specs.WellFormed
 pub use Rattle.regress_tree.specs.Units
 pub use Rattle.regress_tree.specs.Shapes
 pub use Rattle.regress_lexical.specs.Source
-pub use Rattle.regress_lexical.specs.Fault
+pub use Rattle.regress_parse.specs.Fault
 pub use Rattle.regress_syntax.specs.Syntax
 pub use Rattle.regress_syntax.specs.Grammar
 pub use Rattle.regress_syntax.specs.Meaning

@@ -7,16 +7,16 @@ ghost use Rattle.regress_tree.specs.Tree.{tree};
 ghost use Rattle.regress_tree.specs.WellFormed.{IsWellFormed, captures};
 ghost use Rattle.regress_tree.specs.Units.{units, unrolling, loops};
 ghost use Rattle.regress_tree.specs.NormalForm.{IsNormal};
-ghost use Rattle.regress_lexical.specs.Fault.{RefusedOnlyIf};
+ghost use Rattle.regress_parse.specs.Fault.{RefusedOnlyIf, Tells};
 ghost use Rattle.regress_syntax.specs.Syntax.{Pattern};
 ghost use Rattle.regress_parse.specs.TreeOf.{tree_of};
-ghost use Rattle.regress_parse.specs.Accepted.{IsAccepted, NoneIsAccepted, OneIsDerived, OfAccepted, Means};
+ghost use Rattle.regress_parse.specs.Accepted.{IsAccepted, NoneIsAccepted, IsTrueOf, OneIsDerived, OfAccepted, Means};
 ghost use Rattle.regress_opt.specs.Optimized.{IsOptimized};
 
 use crate::optimizer::optimize;
 use regress_base::types::Flags;
-use regress_parse::try_parse;
-use regress_syntax::ParseFault;
+use regress_parse::{ParseFault, try_parse};
+
 use regress_tree::ir::Regex;
 use regress_unicode::Tables;
 use std::alloc::{AllocError, Global};
@@ -36,6 +36,7 @@ pub fn parse_and_optimize(
     // limits.
     ensures accepted { IfOk result (λ _. (p : Pattern) × IsAccepted (setting_of flags tables.now) pattern.now p) }
     ensures refused { RefusedOnlyIf result (NoneIsAccepted (setting_of flags tables.now) pattern.now) }
+    ensures told { Tells result (IsTrueOf (setting_of flags tables.now) pattern.now) }
     ensures only { OneIsDerived (setting_of flags tables.now) pattern.now }
 
     // It is in normal form, and as it was parsed where that is.

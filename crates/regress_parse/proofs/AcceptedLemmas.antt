@@ -1,22 +1,23 @@
 -- What the reading function finds in a whole source is what the source stands for, since a scan finds the groups and names
 -- of every pattern that the grammar derives.
-use Rattle.std.proofs.Common.{◌≡◌, ◌+◌, ◌<◌, ℕ, min, List, [], length, Option, Some, inl, inr, refl, sym, ap, ap₂, ◌∙◌, subst, arith}
+use Rattle.std.proofs.Common.{◌≡◌, ◌+◌, ◌<◌, ℕ, ◌≤◌, ◌⊎◌, ⊎_elim, min, List, [], length, Option, Some, inl, inr, refl, sym, ap, ap₂, ◌∙◌, subst, arith}
 use Rattle.std.proofs.lemmas.Option.{same_Some}
-use Rattle.std.proofs.lemmas.Bool.{false≢true}
-use Rattle.regress_base.specs.Limits.{max_capture_groups}
+use Rattle.std.proofs.lemmas.Bool.{false≢true, cases_lt}
+use Rattle.regress_base.specs.Limits.{max_capture_groups, max_nesting_depth}
 use Rattle.regress_tree.specs.Setting.{Setting}
+use Rattle.regress_lexical.specs.declared.fault.FaultKind.{FaultKind}
 use Rattle.regress_lexical.specs.Source.{Source}
-use Rattle.regress_syntax.specs.Syntax.{Name, Pattern, nothing_counted, counts, names}
+use Rattle.regress_syntax.specs.Syntax.{Name, Pattern, nothing_counted, counts, names, levels}
 use Rattle.regress_syntax.specs.Rows.{Context}
 use Rattle.regress_syntax.specs.Grammar.{IsPattern}
 use Rattle.regress_syntax.specs.SameNames.{NoneConflict}
 use Rattle.regress_syntax.specs.Paths.{NoMarksConflict, are_marks_apart}
-use Rattle.regress_syntax.specs.Scan.{GivesMarks, plain, marks, named_by, deepest, IsRefusedByMarks}
+use Rattle.regress_syntax.specs.Scan.{GivesMarks, plain, marks, named_by, deepest, MarksShow}
 use Rattle.regress_syntax.proofs.laws.SameNames.{apart_by_marks}
 use Rattle.regress_syntax.proofs.laws.Scan.{named_by-pattern, deepest-whole}
 use Rattle.regress_parse.specs.Reader.{pattern_at}
-use Rattle.regress_parse.specs.Parsing.{Fits, pattern_part}
-use Rattle.regress_parse.specs.Accepted.{own_context, IsDerived, IsWithinLimits, IsAccepted}
+use Rattle.regress_parse.specs.Parsing.{Fits, Exceeds, pattern_part}
+use Rattle.regress_parse.specs.Accepted.{own_context, IsDerived, IsWithinLimits, IsAccepted, NoneIsAccepted, Says, IsTrueOf}
 use Rattle.regress_parse.proofs.GrammarLemmas.{pattern_at-sound, pattern_at-complete}
 use Rattle.regress_parse.proofs.GroupLemmas.{length-names}
 
@@ -51,9 +52,17 @@ module _ (setting : Setting) (t : Source) (gives : GivesMarks setting.flags.unic
       ap₂ (λ (n : ℕ) (ns : List (Option Name)). record { setting = setting; groups = n; names = ns })
       (e ∙ ap (λ ns. min (length ns) max_capture_groups) same) same
 
-  pub reads_derived : (p : Pattern) → IsDerived setting t p → IsWithinLimits p → pattern_at (scanned most) t ≡ Some (p, [])
-  reads_derived p h limits =
-      let groups : (counts p).groups ≡ most = omega (arith, groups_found (own_context setting p) p refl refl h, limits.groups) in
+  -- its levels are those of the marks
+  marks-levels : (p : Pattern) → IsDerived setting t p → deepest 1 (marks setting.flags.unicode_sets setting.table plain t) ≡ levels p
+  marks-levels p h = ap (deepest 1) (sym (gives (own_context setting p) p refl refl h)) ∙ deepest-whole p
+
+  deep-levels : (p : Pattern) → IsDerived setting t p →
+      max_nesting_depth < deepest 1 (marks setting.flags.unicode_sets setting.table plain t) → max_nesting_depth < levels p
+  deep-levels p h deep = omega (arith, deep, marks-levels p h)
+
+  pub reads_derived : (p : Pattern) → IsDerived setting t p → (counts p).groups ≤ max_capture_groups → pattern_at (scanned most) t ≡ Some (p, [])
+  reads_derived p h few =
+      let groups : (counts p).groups ≡ most = omega (arith, groups_found (own_context setting p) p refl refl h, few) in
       pattern_at-complete (scanned most) p t []
       (subst (λ ctx. IsPattern ctx p t []) (own_is (own_context setting p) p refl refl h most groups) h)
 
@@ -75,16 +84,29 @@ module _ (setting : Setting) (t : Source) (gives : GivesMarks setting.flags.unic
       (own_is (own_context setting r) r refl refl d all (groups_found (own_context setting r) r refl refl d)) d) in
       ap (λ (x : Pattern × Source). x.0) (same_Some (p, []) (q, []) (sym (read p h) ∙ read q k))
 
-  -- what the scan refuses is accepted nowhere
-  pub marks-refuse : IsRefusedByMarks (marks setting.flags.unicode_sets setting.table plain t) → (p : Pattern) → IsAccepted setting t p → ⊥
-  marks-refuse (inl conflicts) p h =
-      let same = gives (own_context setting p) p refl refl h.derived in
-      false≢true (sym conflicts ∙ ap are_marks_apart (sym same) ∙ apart_by_marks p ∙ h.names)
-  marks-refuse (inr (inl deep)) p h =
-      let same = gives (own_context setting p) p refl refl h.derived in
-      omega (arith, deep, ap (deepest 1) same, deepest-whole p, h.limits.levels)
-  marks-refuse (inr (inr many)) p h =
-      omega (arith, many, groups_found (own_context setting p) p refl refl h.derived, h.limits.groups)
+  -- what the scan says of the marks is so of each pattern that is derived
+  pub marks-say : (kind : FaultKind) → MarksShow (marks setting.flags.unicode_sets setting.table plain t) kind → (p : Pattern) → IsDerived setting t p →
+      Says kind p
+  marks-say kind (inl (is, inl conflicts)) p h =
+      let same = gives (own_context setting p) p refl refl h in
+      inr (inr (inr (is, inl (λ apart. false≢true (sym conflicts ∙ ap are_marks_apart (sym same) ∙ apart_by_marks p ∙ apart)))))
+  marks-say kind (inl (is, inr deep)) p h = inr (inr (inr (is, inr (deep-levels p h deep))))
+  marks-say kind (inr (inl (is, deep))) p h = inr (inr (inl (is, deep-levels p h deep)))
+  marks-say kind (inr (inr (is, many))) p h = inl (is, omega (arith, many, groups_found (own_context setting p) p refl refl h))
+
+  -- what the parser says past a scan that was content
+  pub reading-says : deepest 1 (marks setting.flags.unicode_sets setting.table plain t) ≤ max_nesting_depth → (kind : FaultKind) →
+      ((p : Pattern) → pattern_at (scanned most) t ≡ Some (p, []) →
+      Exceeds kind nothing_counted 0 (pattern_part setting.table found_names p)) → IsTrueOf setting t kind
+  reading-says few kind refused p h =
+      ⊎_elim (λ (many : max_capture_groups < (counts p).groups). inr many)
+      (λ (within : (counts p).groups ≤ max_capture_groups). inl (by p h (refused p (reads_derived p h within))))
+      (cases_lt max_capture_groups (counts p).groups)
+    where
+      by : (p : Pattern) → IsDerived setting t p → Exceeds kind nothing_counted 0 (pattern_part setting.table found_names p) → Says kind p
+      by p h (inl (is, many)) = inl (is, omega (arith, many))
+      by p h (inr (inl (is, many))) = inr (inl (is, omega (arith, many)))
+      by p h (inr (inr deep)) = absurd (omega (arith, few, deep, marks-levels p h))
 
   -- the names of a pattern that is read are apart where the scan's are
   pub marks-apart : (p : Pattern) → NoMarksConflict (marks setting.flags.unicode_sets setting.table plain t) → IsDerived setting t p →
@@ -93,8 +115,17 @@ module _ (setting : Setting) (t : Source) (gives : GivesMarks setting.flags.unic
       sym (apart_by_marks p) ∙ ap are_marks_apart (gives (own_context setting p) p refl refl h) ∙ apart
 
 module _ (setting : Setting) (names : List (Option Name)) where
-  pub limits-fit : (p : Pattern) → IsWithinLimits p → Fits nothing_counted 0 (pattern_part setting.table names p)
-  limits-fit p h = record { groups = omega (arith, h.groups); loops = omega (arith, h.loops); levels = omega (arith, h.levels) }
-
   pub fit-limits : (p : Pattern) → Fits nothing_counted 0 (pattern_part setting.table names p) → IsWithinLimits p
   fit-limits p h = record { groups = omega (arith, h.groups); loops = omega (arith, h.loops); levels = omega (arith, h.levels) }
+
+-- what a fault says of a pattern leaves it refused
+pub true-refuses : (setting : Setting) (t : Source) (kind : FaultKind) → IsTrueOf setting t kind → NoneIsAccepted setting t
+true-refuses setting t kind told p h = by (told p h.derived)
+  where
+    by : Says kind p ⊎ (max_capture_groups < (counts p).groups) → ⊥
+    by (inl (inl (_, many))) = omega (arith, many, h.limits.groups)
+    by (inl (inr (inl (_, many)))) = omega (arith, many, h.limits.loops)
+    by (inl (inr (inr (inl (_, deep))))) = omega (arith, deep, h.limits.levels)
+    by (inl (inr (inr (inr (_, inl conflict))))) = conflict h.names
+    by (inl (inr (inr (inr (_, inr deep))))) = omega (arith, deep, h.limits.levels)
+    by (inr many) = omega (arith, many, h.limits.groups)

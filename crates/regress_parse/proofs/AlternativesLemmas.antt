@@ -10,16 +10,17 @@ use Rattle.regress_tree.specs.Tree.{Tree, tree, alt}
 use Rattle.regress_lexical.specs.Source.{Source, Found, ◌>>=◌, bar, is_at}
 use Rattle.regress_syntax.specs.Syntax.{Name, Pattern, Terms, one, either, Counts, added, counts, counts_of_terms, levels, levels_of_terms}
 use Rattle.regress_syntax.specs.Rows.{Context}
-use Rattle.regress_lexical.proofs.laws.Sources.{found_then, chosen, to_each, from_each, on_syntax_then}
+use Rattle.regress_lexical.proofs.laws.Sources.{found_then, chosen, to_each, from_each, on_kind_then}
 use Rattle.regress_parse.specs.Reader.{pattern_at, terms_at}
 use Rattle.regress_parse.specs.TreeOf.{joined, tree_of_pattern, trees_of_terms}
 use Rattle.regress_base.specs.Limits.{max_nesting_depth}
-use Rattle.regress_parse.specs.Parsing.{text, counted, alternatives, Fits, pattern_part, terms_part, Builds, Yields}
+use Rattle.regress_parse.specs.Parsing.{text, counted, alternatives, Fits, Exceeds, pattern_part, terms_part, Builds, Yields}
 use Rattle.regress_parse.specs.declared.parser.Parser.{Parser}
-use Rattle.regress_lexical.specs.declared.fault.ParseFault.{ParseFault}
+use Rattle.regress_lexical.specs.declared.fault.Fault.{Fault}
+use Rattle.regress_lexical.specs.declared.fault.FaultKind.{FaultKind}
 use Rattle.regress_parse.proofs.ParserLemmas.{built}
 use Rattle.regress_parse.proofs.BuildLemmas.{alternatives-push}
-use Rattle.regress_parse.proofs.CountLemmas.{Fits-inside}
+use Rattle.regress_parse.proofs.CountLemmas.{Fits-inside, Exceeds-around}
 use Rattle.regress_parse.proofs.ReaderLemmas.{pattern_at-is, terms_at-shortens, others_of}
 
 -- a pattern behind alternatives
@@ -223,20 +224,20 @@ module _ (table : Table) (names : List (Option Name)) (d : Direction) (ctx : Con
   alternatives-node t now nodes final h = ap (alternatives (map tree nodes)) h.node ∙ h.nodes (one h.last)
 
 -- a first alternative that is none, or too much, is so for the pattern
-pub first-fail : (table : Table) (names : List (Option Name)) (ctx : Context) (depth : ℕ) (t : Source) (before : Counts) →
-    IfSome (terms_at ctx t) (λ x. Fits before (depth + 1) (terms_part table names x.0) → ⊥) →
-    IfSome (pattern_at ctx t) (λ x. Fits before depth (pattern_part table names x.0) → ⊥)
-first-fail table names ctx depth t before refused =
-    from_each (pattern_at ctx t) _ (λ x found fits.
+pub first-fail : (table : Table) (names : List (Option Name)) (ctx : Context) (kind : FaultKind) (depth : ℕ) (t : Source) (before : Counts) →
+    IfSome (terms_at ctx t) (λ x. Exceeds kind before (depth + 1) (terms_part table names x.0)) →
+    IfSome (pattern_at ctx t) (λ x. Exceeds kind before depth (pattern_part table names x.0))
+first-fail table names ctx kind depth t before refused =
+    from_each (pattern_at ctx t) _ (λ x found.
     let first = found_then (terms_at ctx t) (others_of ctx) x (sym (pattern_at-is ctx t) ∙ found) in
     let less = first_terms ctx first.0.0 first.0.1 x first.2 in
-    to_each (terms_at ctx t) _ refused first.0 first.1
-    (Fits-inside before before depth (depth + 1) (pattern_part table names x.0) (terms_part table names first.0.0)
-    (omega (arith, less.groups)) (omega (arith, less.loops)) (omega (arith, less.levels)) fits))
+    Exceeds-around kind before before depth (depth + 1) (pattern_part table names x.0) (terms_part table names first.0.0)
+    (omega (arith, less.groups)) (omega (arith, less.loops)) (omega (arith, less.levels))
+    (to_each (terms_at ctx t) _ refused first.0 first.1))
 
 -- no bar behind the first alternative: it is the pattern
 pub lone-yields : (table : Table) (names : List (Option Name)) (d : Direction) (ctx : Context) (depth : ℕ) (t : Source) (before : Counts) (new : Parser)
-    (r : Result Node ParseFault) → is_at bar (text new) ≡ false →
+    (r : Result Node Fault) → is_at bar (text new) ≡ false →
     Yields (terms_part table names) d (depth + 1) before new r (terms_at ctx t) →
     Yields (pattern_part table names) d depth before new r (pattern_at ctx t)
 lone-yields table names d ctx depth t before new (Ok node) none read =
@@ -251,22 +252,23 @@ lone-yields table names d ctx depth t before new (Ok node) none read =
       counts = h.counts;
       rest = b.rest;
     })
-lone-yields table names d ctx depth t before new (Err fault) none read = on_syntax_then fault (first-fail table names ctx depth t before) read
+lone-yields table names d ctx depth t before new (Err fault) none read =
+    on_kind_then fault (λ kind. first-fail table names ctx kind depth t before) read
 
 -- so is a later one
-pub alternatives-fail : (table : Table) (names : List (Option Name)) (d : Direction) (ctx : Context) (depth : ℕ) (t0 : Source) (before : Counts)
+pub alternatives-fail : (table : Table) (names : List (Option Name)) (d : Direction) (ctx : Context) (kind : FaultKind) (depth : ℕ) (t0 : Source) (before : Counts)
     (t : Source) (now : Counts) (nodes : List Node) (final : Node) → AlternativesSoFar table names d ctx depth t0 before t now nodes final →
-    is_at bar t ≡ true → IfSome (terms_at ctx (drop 1 t)) (λ x. Fits now (depth + 1) (terms_part table names x.0) → ⊥) →
-    IfSome (pattern_at ctx t0) (λ x. Fits before depth (pattern_part table names x.0) → ⊥)
-alternatives-fail table names d ctx depth t0 before t now nodes final h more refused =
+    is_at bar t ≡ true → IfSome (terms_at ctx (drop 1 t)) (λ x. Exceeds kind now (depth + 1) (terms_part table names x.0)) →
+    IfSome (pattern_at ctx t0) (λ x. Exceeds kind before depth (pattern_part table names x.0))
+alternatives-fail table names d ctx kind depth t0 before t now nodes final h more refused =
     let all = h.done ++ h.last ∷ [] in
     let at = here table names d ctx depth t0 before t now nodes final h in
-    from_each (pattern_at ctx t0) _ (λ x found fits.
+    from_each (pattern_at ctx t0) _ (λ x found.
     let rest = found_then (pattern_at ctx (drop 1 t)) (behind_all all) x
     (sym (reads_on table names d ctx depth t0 before t now nodes final h more) ∙ found) in
     let same = ap (λ (z : Pattern × Source). z.0) (same_Some (eithers all rest.0.0, rest.0.1) x rest.2) in
-    to_each (pattern_at ctx (drop 1 t)) _ (first-fail table names ctx depth (drop 1 t) now refused) rest.0 rest.1
-    (Fits-inside before now depth depth (pattern_part table names x.0) (pattern_part table names rest.0.0)
+    Exceeds-around kind before now depth depth (pattern_part table names x.0) (pattern_part table names rest.0.0)
     (omega (arith, at.groups, ap (λ p. (counts p).groups) same, groups-eithers all rest.0.0))
     (omega (arith, at.loops, ap (λ p. (counts p).loops) same, loops-eithers all rest.0.0))
-    (omega (arith, ap levels same, levels-inside all rest.0.0)) fits))
+    (omega (arith, ap levels same, levels-inside all rest.0.0))
+    (to_each (pattern_at ctx (drop 1 t)) _ (first-fail table names ctx kind depth (drop 1 t) now refused) rest.0 rest.1))

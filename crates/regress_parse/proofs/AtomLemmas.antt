@@ -3,10 +3,10 @@ use Rattle.std.proofs.Common.{◌≡◌, ℕ, ◌<◌, ◌≤◌, ◌&&◌, Bool
 use Rattle.std.specs.Option.{IfSome}
 use Rattle.regress_base.specs.Intervals.{Bounds}
 use Rattle.regress_tree.specs.declared.ir.node.Node.{Node}
-use Rattle.regress_lexical.specs.declared.fault.ParseFault.{ParseFault}
+use Rattle.regress_lexical.specs.declared.fault.Fault.{Fault}
 use Rattle.regress_lexical.specs.Source.{Source, Found}
 use Rattle.regress_lexical.specs.Reads.{ReadsAs}
-use Rattle.regress_lexical.proofs.laws.Sources.{on_syntax_then}
+use Rattle.regress_lexical.proofs.laws.Sources.{on_refused_then}
 use Rattle.regress_syntax.specs.Syntax.{Atom, class, levels_of_atom}
 use Rattle.regress_syntax.specs.Rows.{Context, atom_allows, point_property}
 use Rattle.regress_classes.specs.ClassRows.{complement}
@@ -33,9 +33,9 @@ module _ (ctx : Context) where
       (class ctx.setting.flags negated members) refl refl
 
   -- what reads an item with no class in it reads it whatever levels are left
-  pub with_no_levels : (left : ℕ) (allowed : Bool) (new : Source) (r : Result Node ParseFault) (found : Found Atom) →
+  pub with_no_levels : (left : ℕ) (allowed : Bool) (new : Source) (r : Result Node Fault) (found : Found Atom) →
       ReadsAs (IsNode ctx 0 allowed) new r found → ReadsAtom ctx left allowed new r found
   with_no_levels left allowed new (Ok node) found h =
       (h.0, h.1, record { node = h.2.node; levels = omega (arith, h.2.levels); allows = h.2.allows })
   with_no_levels left allowed new (Err fault) found h =
-      on_syntax_then fault (λ none. subst (λ (f : Found Atom). IfSome f (λ x. left < levels_of_atom x.0)) (sym none) tt) h
+      on_refused_then fault (λ none. subst (λ (f : Found Atom). IfSome f (λ x. left < levels_of_atom x.0)) (sym none) tt) h

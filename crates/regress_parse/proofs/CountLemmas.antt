@@ -1,7 +1,8 @@
 -- What is counted, and what keeps the limits.
-use Rattle.std.proofs.Common.{◌≡◌, ℕ, ◌+◌, ◌≤◌, ap₂, arith}
+use Rattle.std.proofs.Common.{◌≡◌, inl, inr, ℕ, ◌+◌, ◌≤◌, ap₂, arith}
 use Rattle.regress_syntax.specs.Syntax.{Counts, added, nothing_counted}
-use Rattle.regress_parse.specs.Parsing.{Part, Fits}
+use Rattle.regress_lexical.specs.declared.fault.FaultKind.{FaultKind}
+use Rattle.regress_parse.specs.Parsing.{Part, Fits, Exceeds}
 
 pub added-assoc : (a b c : Counts) → added (added a b) c ≡ added a (added b c)
 added-assoc a b c =
@@ -25,3 +26,12 @@ Fits-inside before mid depth deep whole part g l d fits = record {
   loops = omega (arith, fits.loops);
   levels = omega (arith, fits.levels);
 }
+
+-- What is past a limit behind less, and no deeper, is so behind more.
+pub Exceeds-around : (kind : FaultKind) (before mid : Counts) (depth deep : ℕ) (whole part : Part) →
+    mid.groups + part.counts.groups ≤ before.groups + whole.counts.groups →
+    mid.loops + part.counts.loops ≤ before.loops + whole.counts.loops →
+    deep + part.levels ≤ depth + whole.levels → Exceeds kind mid deep part → Exceeds kind before depth whole
+Exceeds-around kind before mid depth deep whole part g l d (inl many) = inl (many.0, omega (arith, g, many.1))
+Exceeds-around kind before mid depth deep whole part g l d (inr (inl many)) = inr (inl (many.0, omega (arith, l, many.1)))
+Exceeds-around kind before mid depth deep whole part g l d (inr (inr more)) = inr (inr (omega (arith, d, more)))

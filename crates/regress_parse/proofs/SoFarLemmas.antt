@@ -11,17 +11,18 @@ use Rattle.regress_tree.proofs.laws.Nodes.{tree-Empty}
 use Rattle.regress_lexical.specs.Source.{Source, Found, ◌>>=◌, ends_alternative}
 use Rattle.regress_syntax.specs.Syntax.{Name, Terms, no_terms, more_terms, Counts, added, counts_of_terms, counts_of_term, levels_of_terms}
 use Rattle.regress_syntax.specs.Rows.{Context}
-use Rattle.regress_lexical.proofs.laws.Sources.{found_then, to_each, from_each, on_syntax_then}
+use Rattle.regress_lexical.proofs.laws.Sources.{found_then, to_each, from_each, on_kind_then}
 use Rattle.regress_parse.specs.Reader.{Term, terms_at, term_at}
 use Rattle.regress_parse.specs.TreeOf.{trees_of_terms, joined}
-use Rattle.regress_parse.specs.Parsing.{text, counted, Fits, terms_part, term_part, Builds, Yields}
+use Rattle.regress_parse.specs.Parsing.{text, counted, Fits, Exceeds, terms_part, term_part, Builds, Yields}
 use Rattle.regress_parse.specs.declared.parser.Parser.{Parser}
-use Rattle.regress_lexical.specs.declared.fault.ParseFault.{ParseFault}
+use Rattle.regress_lexical.specs.declared.fault.Fault.{Fault}
+use Rattle.regress_lexical.specs.declared.fault.FaultKind.{FaultKind}
 use Rattle.regress_base.specs.Limits.{max_nesting_depth}
 use Rattle.regress_parse.proofs.ParserLemmas.{built}
 use Rattle.regress_parse.proofs.BuildLemmas.{trees-push}
 use Rattle.regress_parse.proofs.ReaderLemmas.{terms_at-is, term_at-shortens, more_of}
-use Rattle.regress_parse.proofs.CountLemmas.{Fits-inside, added-nothing}
+use Rattle.regress_parse.proofs.CountLemmas.{Fits-inside, Exceeds-around, added-nothing}
 
 -- terms before others
 abbrev pub append : Terms → Terms → Terms
@@ -152,11 +153,11 @@ module _ (table : Table) (names : List (Option Name)) (d : Direction) where
         ∙ ap (λ ts. Some (ts, t)) (append-none h.terms)
 
     -- a term that is none, or too much, is so for the alternative
-    pub terms-fail : (t : Source) (now : Counts) (parts : List Node) → TermsSoFar t now parts →
-        ends_alternative t ≡ false → IfSome (term_at ctx t) (λ x. Fits now depth (term_part table names x.0) → ⊥) →
-        IfSome (terms_at ctx t0) (λ x. Fits before depth (terms_part table names x.0) → ⊥)
-    terms-fail t now parts h goes_on refused =
-        from_each (terms_at ctx t0) _ (λ x found fits.
+    pub terms-fail : (kind : FaultKind) (t : Source) (now : Counts) (parts : List Node) → TermsSoFar t now parts →
+        ends_alternative t ≡ false → IfSome (term_at ctx t) (λ x. Exceeds kind now depth (term_part table names x.0)) →
+        IfSome (terms_at ctx t0) (λ x. Exceeds kind before depth (terms_part table names x.0))
+    terms-fail kind t now parts h goes_on refused =
+        from_each (terms_at ctx t0) _ (λ x found.
         let read = found_then (terms_at ctx t) (behind h.terms) x (sym h.reads ∙ found) in
         let whole = found_then (term_at ctx t) (more_of ctx) read.0
         (sym (cond-false (ends_alternative t) _ _ goes_on) ∙ sym (terms_at-is ctx t) ∙ read.1) in
@@ -166,25 +167,23 @@ module _ (table : Table) (names : List (Option Name)) (d : Direction) where
         let all : append h.terms read.0.0 ≡ x.0 = ap (λ (z : Terms × Source). z.0) (same_Some _ _ read.2) in
         let now_groups = ap (λ (c : Counts). c.groups) h.counts in
         let now_loops = ap (λ (c : Counts). c.loops) h.counts in
-        to_each (term_at ctx t) _ refused whole.0 whole.1 (record {
-          groups = omega (
-            arith,
-            fits.groups,
-            now_groups,
-            ap (λ ts. (counts_of_terms ts).groups) first,
-            ap (λ ts. (counts_of_terms ts).groups) all,
-            groups-append h.terms read.0.0,
-          );
-          loops = omega (
-            arith,
-            fits.loops,
-            now_loops,
-            ap (λ ts. (counts_of_terms ts).loops) first,
-            ap (λ ts. (counts_of_terms ts).loops) all,
-            loops-append h.terms read.0.0,
-          );
-          levels = omega (arith, fits.levels, ap levels_of_terms first, ap levels_of_terms all, levels-append h.terms read.0.0);
-        }))
+        Exceeds-around kind before now depth depth (terms_part table names x.0) (term_part table names whole.0.0)
+        (omega (
+          arith,
+          now_groups,
+          ap (λ ts. (counts_of_terms ts).groups) first,
+          ap (λ ts. (counts_of_terms ts).groups) all,
+          groups-append h.terms read.0.0,
+        ))
+        (omega (
+          arith,
+          now_loops,
+          ap (λ ts. (counts_of_terms ts).loops) first,
+          ap (λ ts. (counts_of_terms ts).loops) all,
+          loops-append h.terms read.0.0,
+        ))
+        (omega (arith, ap levels_of_terms first, ap levels_of_terms all, levels-append h.terms read.0.0))
+        (to_each (term_at ctx t) _ refused whole.0 whole.1))
 
 module _ (table : Table) (names : List (Option Name)) (d : Direction) (ctx : Context) (depth : ℕ) (old : Parser) where
   none-fit : depth ≤ max_nesting_depth → Fits (counted old) depth (terms_part table names no_terms)
@@ -208,15 +207,15 @@ module _ (table : Table) (names : List (Option Name)) (d : Direction) (ctx : Con
       })
 
   -- a first term that is none, or too much, is so for the alternative
-  pub first_term-fails : ends_alternative (text old) ≡ false → depth ≤ max_nesting_depth →
-      IfSome (term_at ctx (text old)) (λ x. Fits (counted old) depth (term_part table names x.0) → ⊥) →
-      IfSome (terms_at ctx (text old)) (λ x. Fits (counted old) depth (terms_part table names x.0) → ⊥)
-  first_term-fails goes_on deep refused =
-      terms-fail table names d ctx depth (text old) (counted old) (text old) (counted old) []
+  pub first_term-fails : (kind : FaultKind) → ends_alternative (text old) ≡ false → depth ≤ max_nesting_depth →
+      IfSome (term_at ctx (text old)) (λ x. Exceeds kind (counted old) depth (term_part table names x.0)) →
+      IfSome (terms_at ctx (text old)) (λ x. Exceeds kind (counted old) depth (terms_part table names x.0))
+  first_term-fails kind goes_on deep refused =
+      terms-fail table names d ctx depth (text old) (counted old) kind (text old) (counted old) []
       (terms-start table names d ctx depth (text old) (counted old) (none-fit deep)) goes_on refused
 
   -- an alternative of one term
-  pub one_term-yields : (new : Parser) (r : Result Node ParseFault) → ends_alternative (text old) ≡ false →
+  pub one_term-yields : (new : Parser) (r : Result Node Fault) → ends_alternative (text old) ≡ false →
       ends_alternative (text new) ≡ true → depth ≤ max_nesting_depth →
       Yields (term_part table names) d depth (counted old) new r (term_at ctx (text old)) →
       Yields (terms_part table names) d depth (counted old) new r (terms_at ctx (text old))
@@ -234,4 +233,4 @@ module _ (table : Table) (names : List (Option Name)) (d : Direction) (ctx : Con
         rest = b.rest;
       })
   one_term-yields new (Err fault) goes_on ends deep read =
-      on_syntax_then fault (first_term-fails goes_on deep) read
+      on_kind_then fault (λ kind. first_term-fails kind goes_on deep) read

@@ -1,11 +1,13 @@
 -- An item, its quantifier, and the group that an item may be, from what is read of them.
-use Rattle.std.proofs.Common.{◌≡◌, ℕ, ◌+◌, ◌<◌, ◌≤◌, ◌==◌, Bool, true, false, [], ◌∷◌, drop, Option, Some, None, Result, Ok, Err, refl, sym, ap, ap₂, ◌∙◌, subst, arith, eqb-true, List}
+use Rattle.std.proofs.Common.{◌≡◌, inl, inr, ℕ, ◌+◌, ◌<◌, ◌≤◌, ◌==◌, Bool, true, false, [], ◌∷◌, drop, Option, Some, None, Result, Ok, Err, refl, sym, ap, ap₂, ◌∙◌, subst, arith, eqb-true, List}
 use Rattle.std.specs.Option.{IfSome, IsSomeAnd}
 use Rattle.std.specs.Result.{IfOk}
 use Rattle.std.proofs.lemmas.Bool.{cond-false}
 use Rattle.regress_tree.specs.declared.ir.node.Node.{Node}
 use Rattle.regress_tree.specs.Reading.{Direction}
-use Rattle.regress_lexical.specs.declared.fault.ParseFault.{ParseFault}
+use Rattle.regress_lexical.specs.declared.fault.Fault.{Fault}
+use Rattle.regress_lexical.specs.declared.fault.FaultKind.{FaultKind}
+use Rattle.regress_lexical.specs.declared.fault.FaultKind.TheVariants.{TooManyLoops}
 use Rattle.std.proofs.lemmas.Option.{same_Some, cond_some}
 use Rattle.regress_base.specs.Table.{Table}
 use Rattle.regress_base.specs.declared.types.Quantifier.{Quantifier}
@@ -13,15 +15,15 @@ use Rattle.regress_lexical.specs.Source.{Source, Found, ◌>>=◌, found_map, op
 use Rattle.regress_lexical.specs.Beginnings.{may_begin}
 use Rattle.regress_syntax.specs.Syntax.{Name, Atom, Group, Pattern, Item, one, either, literal, atom, group, Counts, added, counts_of_item, opened_by, levels, levels_of_atom}
 use Rattle.regress_syntax.specs.Rows.{Context, context_inside, Head, single, opens, head_of_item, allows, group_at, head_at, times_at}
-use Rattle.regress_lexical.proofs.laws.Sources.{found_then, from_each, to_each, on_syntax_then}
+use Rattle.regress_lexical.proofs.laws.Sources.{found_then, from_each, to_each, on_kind_then, on_each_kind}
 use Rattle.regress_syntax.proofs.laws.Plain.{plain_head, no_times}
 use Rattle.regress_syntax.proofs.laws.Scan.{one_level}
 use Rattle.regress_parse.specs.Reader.{Term, closed, item_behind, quantified, pattern_at, item_at, term_at}
 use Rattle.regress_base.specs.Limits.{max_loops, max_nesting_depth}
-use Rattle.regress_parse.specs.Parsing.{Fits, pattern_part, term_part, item_part, atom_at, ReadsAtom, Builds, Yields, text, counted}
+use Rattle.regress_parse.specs.Parsing.{Fits, Exceeds, pattern_part, term_part, item_part, atom_at, ReadsAtom, Builds, Yields, text, counted}
 use Rattle.regress_parse.specs.TreeOf.{tree_of_atom}
 use Rattle.regress_parse.specs.declared.parser.Parser.{Parser}
-use Rattle.regress_parse.proofs.CountLemmas.{Fits-inside, added-nothing}
+use Rattle.regress_parse.proofs.CountLemmas.{Fits-inside, Exceeds-around, added-nothing}
 use Rattle.regress_parse.proofs.ParserLemmas.{built}
 use Rattle.regress_parse.proofs.ReaderLemmas.{item_at-is, term_at-is}
 
@@ -31,9 +33,9 @@ front_is k (c ∷ t) rest e same = ap₂ (λ d u. d ∷ u) (eqb-true c k e) (sym
 
 module _ (table : Table) (names : List (Option Name)) (ctx : Context) where
   -- no pattern fits where no level is left
-  pub too_deep : (before : Counts) (depth : ℕ) (found : Found Pattern) → max_nesting_depth ≤ depth →
-      IfSome found (λ x. Fits before depth (pattern_part table names x.0) → ⊥)
-  too_deep before depth found full = from_each found _ (λ x _ fits. omega (arith, fits.levels, one_level x.0))
+  pub too_deep : (kind : FaultKind) (before : Counts) (depth : ℕ) (found : Found Pattern) → max_nesting_depth ≤ depth →
+      IfSome found (λ x. Exceeds kind before depth (pattern_part table names x.0))
+  too_deep kind before depth found full = from_each found _ (λ x _. inr (inr (omega (arith, full, one_level x.0))))
 
   -- ---- an item, behind what it begins with
 
@@ -105,19 +107,18 @@ module _ (table : Table) (names : List (Option Name)) (ctx : Context) where
   opened_same kind t x found = head-same (opens kind, t) x found
 
   -- an item that is none, or too much, is so for the term
-  pub times-fail : (found : Found Item) (before : Counts) (depth : ℕ) →
-      IfSome found (λ x. Fits before depth (item_part table names x.0) → ⊥) →
-      IfSome (found >>= quantified ctx) (λ x. Fits before depth (term_part table names x.0) → ⊥)
-  times-fail found before depth refused =
-      from_each (found >>= quantified ctx) _ (λ x read fits.
+  pub times-fail : (kind : FaultKind) (found : Found Item) (before : Counts) (depth : ℕ) →
+      IfSome found (λ x. Exceeds kind before depth (item_part table names x.0)) →
+      IfSome (found >>= quantified ctx) (λ x. Exceeds kind before depth (term_part table names x.0))
+  times-fail kind found before depth refused =
+      from_each (found >>= quantified ctx) _ (λ x read.
       let item = found_then found (quantified ctx) x read in
       let times = found_then (times_at ctx (allows ctx.setting.flags.unicode (head_of_item item.0.0)) item.0.1)
       (λ (q : Option Quantifier × Source). Some ((item.0.0, q.0), q.1)) x item.2 in
       let same : (item.0.0, times.0.0) ≡ x.0 = ap (λ (z : Term × Source). z.0) (same_Some _ x times.2) in
-      let whole = subst (λ (z : Term). Fits before depth (term_part table names z)) (sym same) fits in
-      to_each found _ refused item.0 item.1
-      (Fits-inside before before depth depth (term_part table names (item.0.0, times.0.0)) (item_part table names item.0.0)
-      (omega arith) (omega arith) (omega arith) whole))
+      subst (λ (z : Term). Exceeds kind before depth (term_part table names z)) same
+      (Exceeds-around kind before before depth depth (term_part table names (item.0.0, times.0.0)) (item_part table names item.0.0)
+      (omega arith) (omega arith) (omega arith) (to_each found _ refused item.0 item.1)))
 
   -- what is read of the quantifier behind an item
   pub times_read : (found : Found Item) (x : Item × Source) (allowed : Bool) (times : Found (Option Quantifier)) → found ≡ Some x →
@@ -129,11 +130,12 @@ module _ (table : Table) (names : List (Option Name)) (ctx : Context) where
       ∙ ap (found_map (λ (q : Option Quantifier). (x.0, q))) behind
 
   -- one loop too many is too many for the term
-  pub times-too_many : (found : Found Term) (rest : Source) (x : Item) (q : Quantifier) (before : Counts) (depth : ℕ) → found ≡ Some ((x, Some q), rest) →
-      max_loops < before.loops + (counts_of_item x).loops + 1 → IfSome found (λ x. Fits before depth (term_part table names x.0) → ⊥)
-  times-too_many found rest x q before depth read many =
-      subst (λ found. IfSome found (λ x. Fits before depth (term_part table names x.0) → ⊥)) (sym read)
-      (λ (fits : Fits before depth (term_part table names (x, Some q))). omega (arith, fits.loops, many))
+  pub times-too_many : (kind : FaultKind) → kind ≡ TooManyLoops → (found : Found Term) (rest : Source) (x : Item) (q : Quantifier) (before : Counts) (depth : ℕ) → found ≡ Some ((x, Some q), rest) →
+      max_loops < before.loops + (counts_of_item x).loops + 1 →
+      IfSome found (λ x. Exceeds kind before depth (term_part table names x.0))
+  times-too_many kind told found rest x q before depth read many =
+      subst (λ found. IfSome found (λ x. Exceeds kind before depth (term_part table names x.0))) (sym read)
+      (inr (inl (told, omega (arith, many))))
 
   -- no quantifier can begin: the item is the term
   pub builds_alone : (d : Direction) (depth : ℕ) (before : Counts) (new : Parser) (node : Node) (x : Item) (rest : Source) →
@@ -145,7 +147,7 @@ module _ (table : Table) (names : List (Option Name)) (ctx : Context) where
     rest = b.rest;
   }
 
-  pub alone : (d : Direction) (depth : ℕ) (before : Counts) (new : Parser) (r : Result Node ParseFault) (found : Found Item) →
+  pub alone : (d : Direction) (depth : ℕ) (before : Counts) (new : Parser) (r : Result Node Fault) (found : Found Item) →
       may_begin (text new) ≡ false → Yields (item_part table names) d depth before new r found →
       Yields (term_part table names) d depth before new r (found >>= quantified ctx)
   alone d depth before new (Ok node) found none h =
@@ -154,10 +156,10 @@ module _ (table : Table) (names : List (Option Name)) (ctx : Context) where
       subst (λ (f : Found Term). IsSomeAnd f (λ y. Builds d depth before new node (term_part table names y.0) y.1))
       (sym (times_read found x.0 _ _ x.1 refl (no_times ctx _ x.0.1 free)))
       (builds_alone d depth before new node x.0.0 x.0.1 x.2)
-  alone d depth before new (Err fault) found none h = on_syntax_then fault (times-fail found before depth) h
+  alone d depth before new (Err fault) found none h = on_kind_then fault (λ kind. times-fail kind found before depth) h
 
   -- an item with no pattern inside, as an item
-  pub atom_yields : (d : Direction) (depth left : ℕ) (allowed : Bool) (old new : Parser) (r : Result Node ParseFault) (t : Source) →
+  pub atom_yields : (d : Direction) (depth left : ℕ) (allowed : Bool) (old new : Parser) (r : Result Node Fault) (t : Source) →
       is_at opening t ≡ false → depth + left ≡ max_nesting_depth → counted new ≡ counted old →
       ReadsAtom ctx left allowed (text new) r (atom_at ctx t) →
       table ≡ ctx.setting.table → names ≡ ctx.names →
@@ -176,17 +178,17 @@ module _ (table : Table) (names : List (Option Name)) (ctx : Context) where
         rest = refl;
       })
   atom_yields d depth left allowed old new (Err fault) t none all same h tables all_names =
-      on_syntax_then fault
-      (λ deep. subst (λ (f : Found Item). IfSome f (λ y. Fits (counted old) depth (item_part table names y.0) → ⊥))
-      (sym (atom_item t none)) (over (atom_at ctx t) deep)) h
+      on_each_kind fault
+      (λ kind deep. subst (λ (f : Found Item). IfSome f (λ y. Exceeds kind (counted old) depth (item_part table names y.0)))
+      (sym (atom_item t none)) (over kind (atom_at ctx t) deep)) h
     where
-      over : (found : Found Atom) → IfSome found (λ x. left < levels_of_atom x.0) →
-          IfSome (found_map atom found) (λ y. Fits (counted old) depth (item_part table names y.0) → ⊥)
-      over None deep = tt
-      over (Some x) deep = λ fits. omega (arith, fits.levels, deep, all)
+      over : (kind : FaultKind) (found : Found Atom) → IfSome found (λ x. left < levels_of_atom x.0) →
+          IfSome (found_map atom found) (λ y. Exceeds kind (counted old) depth (item_part table names y.0))
+      over kind None deep = tt
+      over kind (Some x) deep = inr (inr (omega (arith, deep, all)))
 
   -- whether a quantifier may stand behind it
-  pub atom_allowed : (left : ℕ) (allowed : Bool) (new : Source) (r : Result Node ParseFault) (t : Source) → is_at opening t ≡ false →
+  pub atom_allowed : (left : ℕ) (allowed : Bool) (new : Source) (r : Result Node Fault) (t : Source) → is_at opening t ≡ false →
       ReadsAtom ctx left allowed new r (atom_at ctx t) →
       IfOk r (λ node. (x : Item × Source) → item_at ctx t ≡ Some x → allowed ≡ allows ctx.setting.flags.unicode (head_of_item x.0))
   atom_allowed left allowed new (Ok node) t none h =
@@ -194,4 +196,3 @@ module _ (table : Table) (names : List (Option Name)) (ctx : Context) where
       let same = same_Some _ x (sym (atom_item t none ∙ ap (found_map atom) h.1) ∙ found) in
       sym h.2.allows ∙ ap (λ (y : Item × Source). allows ctx.setting.flags.unicode (head_of_item y.0)) same
   atom_allowed left allowed new (Err fault) t none h = tt
-  -- ---- a group

@@ -1,11 +1,13 @@
 -- Which patterns are accepted, and what it is for a tree to mean what its pattern does.
-use Rattle.std.specs.Prelude.{◌≡◌, ℕ, ◌≤◌, List, [], map, encode_utf8_all}
+use Rattle.std.specs.Prelude.{◌≡◌, ◌⊎◌, ℕ, ◌<◌, ◌≤◌, List, [], map, encode_utf8_all}
 use Rattle.regress_base.specs.Limits.{max_capture_groups, max_loops, max_nesting_depth}
 use Rattle.regress_tree.specs.Reading.{IsText, forwards}
 use Rattle.regress_tree.specs.Steps.{State, IsStateOf, byte_state}
 use Rattle.regress_tree.specs.Matching.{matches}
 use Rattle.regress_tree.specs.Setting.{Setting}
 use Rattle.regress_tree.specs.Tree.{Tree}
+use Rattle.regress_lexical.specs.declared.fault.FaultKind.{FaultKind}
+use Rattle.regress_lexical.specs.declared.fault.FaultKind.TheVariants.{TooManyGroups, TooManyLoops, TooDeep, DuplicateName}
 use Rattle.regress_lexical.specs.Source.{Source}
 use Rattle.regress_syntax.specs.Syntax.{Pattern, counts, names, levels}
 use Rattle.regress_syntax.specs.Meaning.{meaning}
@@ -36,6 +38,20 @@ pub record IsAccepted (setting : Setting) (source : Source) (p : Pattern) : Type
 -- The source stands for no pattern within the limits.
 abbrev pub NoneIsAccepted : Setting → Source → Type 0
 NoneIsAccepted setting source = (p : Pattern) → IsAccepted setting source p → ⊥
+
+-- What a fault of this kind says of a pattern that the source stands for. No other kind comes then. Past the limit of
+-- levels, groups that are apart may be told to conflict.
+abbrev pub Says : FaultKind → Pattern → Type 0
+Says kind p =
+    ((kind ≡ TooManyGroups) × (max_capture_groups < (counts p).groups))
+    ⊎ ((kind ≡ TooManyLoops) × (max_loops < (counts p).loops))
+    ⊎ ((kind ≡ TooDeep) × (max_nesting_depth < levels p))
+    ⊎ ((kind ≡ DuplicateName) × ((NoneConflict p → ⊥) ⊎ (max_nesting_depth < levels p)))
+
+-- The fault says what is so of whatever the source stands for, unless that has more groups than the rows know of.
+abbrev pub IsTrueOf : Setting → Source → FaultKind → Type 0
+IsTrueOf setting source kind =
+    (p : Pattern) → IsDerived setting source p → Says kind p ⊎ (max_capture_groups < (counts p).groups)
 
 -- It stands for one pattern at most, within the limits or not.
 abbrev pub OneIsDerived : Setting → Source → Type 0

@@ -2,6 +2,7 @@ pub mod Reader
 pub mod TreeOf
 pub mod ClassParts
 pub mod Accepted
+pub mod Fault
 pub mod Parsing
 -- what the public contracts cite of the crates below, passed on, so that a caller names one library
 pub use Rattle.regress_base.specs.Table
@@ -10,7 +11,6 @@ pub use Rattle.regress_tree.specs.Setting
 pub use Rattle.regress_tree.specs.Tree
 pub use Rattle.regress_tree.specs.WellFormed
 pub use Rattle.regress_lexical.specs.Source
-pub use Rattle.regress_lexical.specs.Fault
 pub use Rattle.regress_syntax.specs.Syntax
 pub use Rattle.regress_syntax.specs.Rows
 pub use Rattle.regress_syntax.specs.Grammar

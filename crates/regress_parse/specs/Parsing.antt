@@ -1,13 +1,20 @@
 -- How the parser's values stand to what the grammar reads. No public contract cites this.
-use Rattle.std.specs.Prelude.{◌≡◌, ℕ, ◌+◌, ◌<◌, ◌≤◌, Bool, ◌||◌, List, [], ◌∷◌, Option, Some, None, IfSome, Result, Ok, Err}
+use Rattle.std.specs.Prelude.{◌≡◌, ◌⊎◌, ℕ, ◌+◌, ◌<◌, ◌≤◌, Bool, ◌||◌, List, [], ◌∷◌, Option, Some, None, IfSome, string_bytes, Result, Ok, Err}
 use Rattle.std.specs.Option.{IsSomeAnd}
 use Rattle.regress_tree.specs.declared.ir.node.Node.{Node}
 use Rattle.regress_tree.specs.Reading.{Direction, forwards}
 use Rattle.regress_base.specs.Table.{Table}
 use Rattle.regress_unicode.specs.TableOf.{table_of}
 use Rattle.regress_tree.specs.Tree.{Tree, tree, alt}
-use Rattle.regress_lexical.specs.declared.fault.ParseFault.{ParseFault}
-use Rattle.regress_lexical.specs.Fault.{OnSyntax}
+use Rattle.regress_lexical.specs.declared.fault.Fault.{Fault}
+use Rattle.regress_lexical.specs.declared.fault.Fault.TheVariants.{Refused}
+use Rattle.regress_lexical.specs.declared.fault.Refusal.{Refusal}
+use Rattle.regress_parse.specs.declared.fault.PlacedFault.{PlacedFault}
+use Rattle.regress_parse.specs.declared.fault.PlacedFault.TheVariants.{Syntax, Memory}
+use Rattle.regress_parse.specs.Fault.{text_of}
+use Rattle.regress_lexical.specs.declared.fault.FaultKind.{FaultKind}
+use Rattle.regress_lexical.specs.declared.fault.FaultKind.TheVariants.{TooManyGroups, TooManyLoops}
+use Rattle.regress_lexical.specs.Fault.{OnRefused, OnKind}
 use Rattle.regress_lexical.specs.Source.{Source, Found, char, is_at}
 use Rattle.regress_syntax.specs.Syntax.{Name, Atom, Pattern, Terms, Item, Counts, nothing_counted, added, counts, counts_of_terms, counts_of_term, counts_of_item, levels, levels_of_atom, levels_of_terms, levels_of_item}
 use Rattle.regress_syntax.specs.Rows.{Context, atom_allows, atom_by}
@@ -51,6 +58,13 @@ pub record Fits (before : Counts) (depth : ℕ) (part : Part) : Type 0 where
   pub groups : before.groups + part.counts.groups ≤ max_capture_groups
   pub loops : before.loops + part.counts.loops ≤ max_loops
   pub levels : depth + part.levels ≤ max_nesting_depth
+
+-- The part is past the limit of which a fault of this kind speaks, or past that of levels.
+abbrev pub Exceeds : FaultKind → (before : Counts) → (depth : ℕ) → Part → Type 0
+Exceeds kind before depth part =
+    ((kind ≡ TooManyGroups) × (max_capture_groups < before.groups + part.counts.groups))
+    ⊎ ((kind ≡ TooManyLoops) × (max_loops < before.loops + part.counts.loops))
+    ⊎ (max_nesting_depth < depth + part.levels)
 
 -- what the parser has counted
 abbrev pub counted : Parser → Counts
@@ -99,23 +113,31 @@ pub record IsNode (ctx : Context) (most : ℕ) (allowed : Bool) (built : Node) (
   pub allows : atom_allows a ≡ allowed
 
 -- What a call answers that reads an atom: its node, or a fault where there is none or too many levels lie in it.
-abbrev pub ReadsAtom : Context → (left : ℕ) → (allowed : Bool) → Source → Result Node ParseFault → Found Atom → Type 0
+abbrev pub ReadsAtom : Context → (left : ℕ) → (allowed : Bool) → Source → Result Node Fault → Found Atom → Type 0
 ReadsAtom ctx left allowed new (Ok node) found = (a : Atom) × (found ≡ Some (a, new)) × IsNode ctx left allowed node a
-ReadsAtom ctx left allowed new (Err fault) found = OnSyntax fault (IfSome found (λ x. left < levels_of_atom x.0))
+ReadsAtom ctx left allowed new (Err fault) found = OnRefused fault (IfSome found (λ x. left < levels_of_atom x.0))
 
--- What a call of the parser answers: what the grammar reads, or a fault where it reads nothing or too much.
-abbrev pub Yields : {A : Type 0} → (A → Part) → Direction → ℕ → Counts → Parser → Result Node ParseFault → Found A → Type 0
+-- What a call of the parser answers: what the grammar reads, or a fault where it reads nothing, or what is past the limit
+-- of which the fault speaks, or that of levels.
+abbrev pub Yields : {A : Type 0} → (A → Part) → Direction → ℕ → Counts → Parser → Result Node Fault → Found A → Type 0
 Yields part d depth before new (Ok node) found = IsSomeAnd found (λ x. Builds d depth before new node (part x.0) x.1)
-Yields part d depth before new (Err fault) found = OnSyntax fault (IfSome found (λ x. Fits before depth (part x.0) → ⊥))
+Yields part d depth before new (Err fault) found =
+    OnKind fault (λ kind. IfSome found (λ x. Exceeds kind before depth (part x.0)))
 
--- What parsing a whole source answers: the pattern that it is there, within the limits, or a fault where it is none.
-abbrev pub YieldsWhole : Context → Source → Result Node ParseFault → Type 0
+-- What parsing a whole source answers: the pattern that it is there, within the limits, or a fault where it is none, as above.
+abbrev pub YieldsWhole : Context → Source → Result Node Fault → Type 0
 YieldsWhole ctx t (Ok node) =
     (p : Pattern) × (pattern_at ctx t ≡ Some (p, [])) × Fits nothing_counted 0 (pattern_part ctx.setting.table ctx.names p)
     × (tree node ≡ tree_of_pattern ctx.setting.table ctx.names forwards 0 p)
 YieldsWhole ctx t (Err fault) =
-    OnSyntax fault ((p : Pattern) → pattern_at ctx t ≡ Some (p, []) →
-    Fits nothing_counted 0 (pattern_part ctx.setting.table ctx.names p) → ⊥)
+    OnKind fault (λ kind. (p : Pattern) → pattern_at ctx t ≡ Some (p, []) →
+    Exceeds kind nothing_counted 0 (pattern_part ctx.setting.table ctx.names p))
+
+-- The fault of a pattern of that length is told so, or memory was wanting for that.
+abbrev pub IsPlaced : ℕ → Fault → PlacedFault → Type 0
+IsPlaced length fault (Syntax e place) =
+    (r : Refusal) × (fault ≡ Refused r) × (string_bytes e.text ≡ text_of r.kind) × (place ≤ length)
+IsPlaced length fault (Memory e) = Unit {0}
 
 -- alternatives before a last one
 abbrev pub alternatives : List Tree → Tree → Tree

@@ -22,23 +22,21 @@ use regress_lexical::cursor::is_plain;
 use regress_lexical::digits::{is_between, is_letter};
 use regress_lexical::escape::{escape_fault, read_escape};
 use regress_lexical::quantifier::read_quantifier;
-use regress_syntax::fault::{
-    INCOMPLETE_ESCAPE, INVALID_ATOM, INVALID_BRACED_QUANTIFIER, INVALID_ESCAPE, TOO_DEEP, syntax,
-};
+use regress_syntax::fault::FaultKind;
 use regress_syntax::{
-    Cursor, ParseFault, Scope, has_references_by_name, read_group_number, read_reference,
+    Cursor, Fault, Scope, has_references_by_name, read_group_number, read_reference,
 };
 use regress_tree::ir::{AnchorType, Node};
 
 /// Reads an item that holds no pattern. The fault comes where there is none, and where more levels of classes lie in it
 /// than are left.
-pub(crate) fn read_atom(cursor: &mut Cursor, scope: &Scope, left: u32) -> Result<Node, ParseFault>
+pub(crate) fn read_atom(cursor: &mut Cursor, scope: &Scope, left: u32) -> Result<Node, Fault>
     ensures { ReadsAtom (context_of scope.now) left (not (is_anchor (source cursor.old))) (source cursor.new) result
         (atom_at (context_of scope.now) (source cursor.old)) }
 {
     let front = cursor.rest;
     let Some(c) = cursor.next() else {
-        return Err(syntax(cursor.alloc, INVALID_ATOM));
+        return Err(cursor.refuse(FaultKind::InvalidAtom));
     };
     if c == u32::from('[') {
         read_brackets(cursor, scope, left)
@@ -58,7 +56,7 @@ pub(crate) fn begins_anchor(source: &[u32]) -> bool
 }
 
 /// Reads an item that is no class between brackets, behind its first code point `c`, which is at `front`.
-fn read_other(cursor: &mut Cursor, scope: &Scope, c: u32, front: &[u32]) -> Result<Node, ParseFault>
+fn read_other(cursor: &mut Cursor, scope: &Scope, c: u32, front: &[u32]) -> Result<Node, Fault>
     requires code_point { IsCodePoint c }
     requires no_class { (c == char "[") ≡ false }
     requires front { front.now ≡ c ∷ source cursor.now }
@@ -78,12 +76,12 @@ fn read_other(cursor: &mut Cursor, scope: &Scope, c: u32, front: &[u32]) -> Resu
     } else if is_plain(c) {
         Ok(make_literal(cursor.alloc, c, scope)?)
     } else {
-        Err(syntax(cursor.alloc, INVALID_ATOM))
+        Err(cursor.refuse(FaultKind::InvalidAtom))
     }
 }
 
 /// Reads a class, behind its `[`.
-fn read_brackets(cursor: &mut Cursor, scope: &Scope, left: u32) -> Result<Node, ParseFault>
+fn read_brackets(cursor: &mut Cursor, scope: &Scope, left: u32) -> Result<Node, Fault>
     ensures { ReadsAtom (context_of scope.now) left true (source cursor.new) result (brackets_at (context_of scope.now) (source cursor.old)) }
 {
     if !scope.flags.unicode_sets {
@@ -93,33 +91,33 @@ fn read_brackets(cursor: &mut Cursor, scope: &Scope, left: u32) -> Result<Node, 
     let class = read_class_set(cursor, scope.tables, scope.flags.unicode, MAX_NESTING_DEPTH)?;
     // The scan in front has refused these already.
     if class.value.levels > left {
-        return Err(syntax(cursor.alloc, TOO_DEEP));
+        return Err(cursor.refuse(FaultKind::TooDeep));
     }
     Ok(make_class_set(cursor.alloc, class.negated, class.value, scope)?)
 }
 
 /// A brace or `]` that stands for itself. A `{` does only where it begins no quantifier, which wants a look at all of
 /// it.
-fn read_brace(cursor: &mut Cursor, scope: &Scope, c: u32, front: &[u32]) -> Result<Node, ParseFault>
+fn read_brace(cursor: &mut Cursor, scope: &Scope, c: u32, front: &[u32]) -> Result<Node, Fault>
     requires code_point { IsCodePoint c }
     requires front { front.now ≡ c ∷ source cursor.now }
     ensures { ReadsAs (IsNode (context_of scope.now) 0 true) (source cursor.new) result (brace_by (context_of scope.now) c (source cursor.old)) }
 {
     if scope.flags.unicode {
-        Err(syntax(cursor.alloc, INVALID_ATOM))
+        Err(cursor.refuse(FaultKind::InvalidAtom))
     } else if read_quantifier(front).is_some() {
-        Err(syntax(cursor.alloc, INVALID_BRACED_QUANTIFIER))
+        Err(cursor.refuse(FaultKind::InvalidBracedQuantifier))
     } else {
         Ok(make_literal(cursor.alloc, c, scope)?)
     }
 }
 
 /// Reads an escape, behind its backslash.
-fn read_escaped(cursor: &mut Cursor, scope: &Scope) -> Result<Node, ParseFault>
+fn read_escaped(cursor: &mut Cursor, scope: &Scope) -> Result<Node, Fault>
     ensures { ReadsAs (IsNode (context_of scope.now) 0 true) (source cursor.new) result (escaped_at (context_of scope.now) (source cursor.old)) }
 {
     let Some(c) = cursor.rest.first().copied() else {
-        return Err(syntax(cursor.alloc, INCOMPLETE_ESCAPE));
+        return Err(cursor.refuse(FaultKind::IncompleteEscape));
     };
     let rest = &cursor.rest[1..];
     if let Some((kind, negated)) = class_letter(c) {
@@ -169,7 +167,7 @@ fn begins_number(c: u32) -> bool
 }
 
 /// Reads a reference by number, which begins with `c`, or where there are not so many groups the escape of a character.
-fn read_numbered(cursor: &mut Cursor, scope: &Scope, c: u32) -> Result<Node, ParseFault>
+fn read_numbered(cursor: &mut Cursor, scope: &Scope, c: u32) -> Result<Node, Fault>
     requires front { source cursor.now ≡ c ∷ drop 1 (source cursor.now) }
     requires digit { begins_number c ≡ true }
     ensures { ReadsAs (IsNode (context_of scope.now) 0 true) (source cursor.new) result
@@ -183,13 +181,13 @@ fn read_numbered(cursor: &mut Cursor, scope: &Scope, c: u32) -> Result<Node, Par
         });
     }
     if scope.flags.unicode {
-        return Err(syntax(cursor.alloc, INVALID_ESCAPE));
+        return Err(cursor.refuse(FaultKind::InvalidEscape));
     }
     read_character(cursor, scope, c)
 }
 
 /// Reads a reference by name, behind `\k`.
-fn read_named(cursor: &mut Cursor, scope: &Scope) -> Result<Node, ParseFault>
+fn read_named(cursor: &mut Cursor, scope: &Scope) -> Result<Node, Fault>
     ensures { ReadsAs (IsNode (context_of scope.now) 0 true) (source cursor.new) result (named_at (context_of scope.now) (source cursor.old)) }
 {
     let groups = read_reference(cursor, scope)?;
@@ -214,26 +212,26 @@ fn begins_with_letter(source: &[u32]) -> bool
 }
 
 /// Reads the escape of one character, which begins with `c`.
-fn read_character(cursor: &mut Cursor, scope: &Scope, c: u32) -> Result<Node, ParseFault>
+fn read_character(cursor: &mut Cursor, scope: &Scope, c: u32) -> Result<Node, Fault>
     requires { source cursor.now ≡ c ∷ drop 1 (source cursor.now) }
     ensures { ReadsAs (IsNode (context_of scope.now) 0 true) (source cursor.new) result
         (character_at (context_of scope.now) c (drop 1 (source cursor.old))) }
 {
     let Some((found, rest)) = read_escape(cursor.rest, scope.flags.unicode) else {
-        return Err(syntax(cursor.alloc, escape_fault(cursor.rest)));
+        return Err(cursor.refuse(escape_fault(cursor.rest)));
     };
     cursor.rest = rest;
     Ok(make_literal(cursor.alloc, found, scope)?)
 }
 
 /// Reads a property, behind `\p` or `\P`.
-fn read_property_atom(cursor: &mut Cursor, scope: &Scope, negated: bool) -> Result<Node, ParseFault>
+fn read_property_atom(cursor: &mut Cursor, scope: &Scope, negated: bool) -> Result<Node, Fault>
     ensures { ReadsAs (IsNode (context_of scope.now) 0 true) (source cursor.new) result
         (property_atom_at (context_of scope.now) negated (source cursor.old)) }
 {
     match read_property(cursor, scope.flags.unicode_sets, scope.tables)? {
         Property::Points(set) => Ok(make_property(cursor.alloc, set, negated, scope)?),
-        Property::Strings(_) if negated => Err(syntax(cursor.alloc, INVALID_ESCAPE)),
+        Property::Strings(_) if negated => Err(cursor.refuse(FaultKind::InvalidEscape)),
         Property::Strings(strings) => {
             let copies = Vec::from_clones(cursor.alloc, strings)?;
             Ok(make_strings(cursor.alloc, copies, scope.flags.icase)?)

@@ -3,8 +3,10 @@
 
 mod atom;
 mod build;
+mod fault;
 mod parser;
 mod pattern;
 mod rows;
 
-pub use pattern::try_parse;
+pub use fault::{Error, ParseFault, PlacedFault};
+pub use pattern::{try_parse, try_parse_with_place};

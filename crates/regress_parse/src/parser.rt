@@ -3,8 +3,8 @@ ghost use Rattle.std.specs.Prelude.{◌≤◌};
 ghost use Rattle.regress_base.specs.Limits.{max_capture_groups, max_loops};
 
 use regress_base::types::{CaptureGroupID, LoopID, MAX_CAPTURE_GROUPS, MAX_LOOPS};
-use regress_syntax::fault::{TOO_MANY_GROUPS, TOO_MANY_LOOPS, syntax};
-use regress_syntax::{Cursor, Group, ParseFault, Scope};
+use regress_syntax::fault::FaultKind;
+use regress_syntax::{Cursor, Group, Fault, Scope};
 
 /// What is still to read, and how many groups and loops were counted before it.
 #[derive(Drop)]
@@ -57,20 +57,22 @@ impl<'a> Around<'a> {
 }
 
 impl Parser<'_> {
-    ghost use Rattle.std.specs.Prelude.{◌≡◌, ◌+◌, ◌<◌, OnOk, OnErr};
+    ghost use Rattle.std.specs.Prelude.{◌≡◌, ◌+◌, ◌<◌, OnOk};
+    ghost use Rattle.regress_lexical.specs.Fault.{FailsBy};
+    ghost use Rattle.regress_lexical.specs.declared.fault.FaultKind.TheVariants.{TooManyGroups, TooManyLoops};
     ghost use Rattle.regress_syntax.specs.Syntax.{added, one_loop, opened_by, counts_of_group};
     ghost use Rattle.regress_syntax.specs.Views.{group_of};
     ghost use Rattle.regress_parse.specs.Parsing.{text, counted};
 
     /// Counts a group, if it captures. The fault comes where it is one too many.
-    pub(crate) fn count_group(&mut self, kind: &Group) -> Result<(), ParseFault>
+    pub(crate) fn count_group(&mut self, kind: &Group) -> Result<(), Fault>
         ensures ok { OnOk result (counted self.new ≡ added (counted self.old) (counts_of_group (group_of kind.now))) }
-        ensures err { OnErr result (max_capture_groups < self.old.group_count + opened_by (group_of kind.now)) }
+        ensures err { FailsBy result (λ told. (told ≡ TooManyGroups) × (max_capture_groups < self.old.group_count + opened_by (group_of kind.now))) }
         ensures text { text self.new ≡ text self.old }
     {
         if let Group::Capture(_) = kind {
             if usize::from(self.group_count) >= MAX_CAPTURE_GROUPS {
-                return Err(syntax(self.cursor.alloc, TOO_MANY_GROUPS));
+                return Err(self.cursor.refuse(FaultKind::TooManyGroups));
             }
             self.group_count += 1;
         }
@@ -78,13 +80,13 @@ impl Parser<'_> {
     }
 
     /// Counts a loop. The fault comes where it is one too many.
-    pub(crate) fn count_loop(&mut self) -> Result<(), ParseFault>
+    pub(crate) fn count_loop(&mut self) -> Result<(), Fault>
         ensures ok { OnOk result (counted self.new ≡ added (counted self.old) one_loop) }
-        ensures err { OnErr result (max_loops < self.old.loop_count + 1) }
+        ensures err { FailsBy result (λ told. (told ≡ TooManyLoops) × (max_loops < self.old.loop_count + 1)) }
         ensures text { text self.new ≡ text self.old }
     {
         if usize::from(self.loop_count) >= MAX_LOOPS {
-            return Err(syntax(self.cursor.alloc, TOO_MANY_LOOPS));
+            return Err(self.cursor.refuse(FaultKind::TooManyLoops));
         }
         self.loop_count += 1;
         Ok(())

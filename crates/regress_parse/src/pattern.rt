@@ -1,21 +1,23 @@
 //! From a whole pattern to its tree.
-ghost use Rattle.std.specs.Prelude.{◌≡◌, All, IfOk};
+ghost use Rattle.std.specs.Prelude.{◌≡◌, All, length, IfOk};
 ghost use Rattle.regress_unicode.specs.TableOf.{table_of};
 ghost use Rattle.regress_syntax.specs.SettingOf.{setting_of};
 ghost use Rattle.regress_tree.specs.Tree.{tree};
 ghost use Rattle.regress_tree.specs.WellFormed.{IsWellFormed};
-ghost use Rattle.regress_lexical.specs.Fault.{RefusedOnlyIf};
+ghost use Rattle.regress_lexical.specs.Fault.{FailsBy};
 ghost use Rattle.regress_lexical.specs.Source.{IsCodePoint};
 ghost use Rattle.regress_syntax.specs.Syntax.{Pattern};
 ghost use Rattle.regress_syntax.specs.Views.{context_of};
 ghost use Rattle.regress_parse.specs.TreeOf.{tree_of};
-ghost use Rattle.regress_parse.specs.Accepted.{IsAccepted, NoneIsAccepted, OneIsDerived, OfAccepted, Means};
+ghost use Rattle.regress_parse.specs.Accepted.{IsAccepted, NoneIsAccepted, IsTrueOf, OneIsDerived, OfAccepted, Means};
+ghost use Rattle.regress_parse.specs.Fault.{RefusedOnlyIf, Tells, unplaced, IsPlacedWithin};
 ghost use Rattle.regress_parse.specs.Parsing.{YieldsWhole};
 
+use crate::fault::{ParseFault, PlacedFault, place};
 use crate::parser::{Around, Parser};
 use regress_base::types::Flags;
-use regress_syntax::fault::{UNBALANCED, syntax};
-use regress_syntax::{Cursor, ParseFault, Scope, scan_groups};
+
+use regress_syntax::{Cursor, Fault, FaultKind, Scope, scan_groups};
 use regress_tree::ir::{Node, Regex};
 use regress_unicode::Tables;
 use std::alloc::Global;
@@ -53,9 +55,60 @@ pub fn try_parse(
     ensures accepted { IfOk result (λ r. (p : Pattern)
         × IsAccepted (setting_of flags tables.now) pattern.now p × (tree r.node ≡ tree_of (table_of tables.now) p)) }
     ensures refused { RefusedOnlyIf result (NoneIsAccepted (setting_of flags tables.now) pattern.now) }
+    ensures told { Tells result (IsTrueOf (setting_of flags tables.now) pattern.now) }
     ensures only { OneIsDerived (setting_of flags tables.now) pattern.now }
 
     // What the tree is good for.
+    ensures meaning { let setting = setting_of flags tables.now in
+        IfOk result (λ r. OfAccepted setting pattern.now (Means setting (tree r.node))) }
+    ensures well_formed { IfOk result (λ r. IsWellFormed (tree r.node)) }
+    ensures flags { IfOk result (λ r. r.flags ≡ flags) }
+{
+    Ok(try_parse_with_place(alloc, pattern, flags, tables)?)
+}
+
+/// Answers what `try_parse` does, and with a fault of the pattern its place.
+pub fn try_parse_with_place(
+    alloc: Global,
+    pattern: &[u32],
+    flags: Flags,
+    tables: &Tables,
+) -> Result<Regex, PlacedFault>
+    requires { All IsCodePoint pattern.now }
+
+    // Whatever memory there is: a tree only where the grammar and the limits have one, and a fault
+    // of the pattern only where they have none.
+    ensures accepted { IfOk result (λ r. (p : Pattern)
+        × IsAccepted (setting_of flags tables.now) pattern.now p × (tree r.node ≡ tree_of (table_of tables.now) p)) }
+    ensures refused { RefusedOnlyIf (unplaced result) (NoneIsAccepted (setting_of flags tables.now) pattern.now) }
+    ensures told { Tells (unplaced result) (IsTrueOf (setting_of flags tables.now) pattern.now) }
+    ensures place { IsPlacedWithin (length pattern.now) result }
+    ensures only { OneIsDerived (setting_of flags tables.now) pattern.now }
+
+    // What the tree is good for.
+    ensures meaning { let setting = setting_of flags tables.now in
+        IfOk result (λ r. OfAccepted setting pattern.now (Means setting (tree r.node))) }
+    ensures well_formed { IfOk result (λ r. IsWellFormed (tree r.node)) }
+    ensures flags { IfOk result (λ r. r.flags ≡ flags) }
+{
+    match parse(alloc, pattern, flags, tables) {
+        Ok(regex) => Ok(regex),
+        Err(fault) => Err(place(alloc, fault, pattern.len())),
+    }
+}
+
+/// The tree, or the kind of the fault and how many code points are left there.
+fn parse(
+    alloc: Global,
+    pattern: &[u32],
+    flags: Flags,
+    tables: &Tables,
+) -> Result<Regex, Fault>
+    requires { All IsCodePoint pattern.now }
+    ensures accepted { IfOk result (λ r. (p : Pattern)
+        × IsAccepted (setting_of flags tables.now) pattern.now p × (tree r.node ≡ tree_of (table_of tables.now) p)) }
+    ensures told { FailsBy result (IsTrueOf (setting_of flags tables.now) pattern.now) }
+    ensures only { OneIsDerived (setting_of flags tables.now) pattern.now }
     ensures meaning { let setting = setting_of flags tables.now in
         IfOk result (λ r. OfAccepted setting pattern.now (Means setting (tree r.node))) }
     ensures well_formed { IfOk result (λ r. IsWellFormed (tree r.node)) }
@@ -76,7 +129,7 @@ pub fn try_parse(
 }
 
 /// Parses the whole source, up to its end.
-fn parse_body(alloc: Global, pattern: &[u32], scope: &Scope) -> Result<Node, ParseFault>
+fn parse_body(alloc: Global, pattern: &[u32], scope: &Scope) -> Result<Node, Fault>
     requires { All IsCodePoint pattern.now }
     ensures { YieldsWhole (context_of scope.now) pattern.now result }
 {
@@ -97,6 +150,6 @@ fn parse_body(alloc: Global, pattern: &[u32], scope: &Scope) -> Result<Node, Par
     if parser.cursor.rest.is_empty() {
         Ok(body)
     } else {
-        Err(syntax(alloc, UNBALANCED))
+        Err(parser.cursor.refuse(FaultKind::UnbalancedParenthesis))
     }
 }

@@ -13,19 +13,19 @@ use crate::build::{make_alt, make_cat, make_group, make_literal, make_loop};
 use crate::parser::{Around, Parser};
 use regress_base::types::{CaptureGroupID, MAX_NESTING_DEPTH};
 use regress_lexical::quantifier::may_begin;
-use regress_syntax::fault::{TOO_DEEP, syntax};
-use regress_syntax::{Group, ParseFault, read_group, read_times};
+use regress_syntax::fault::FaultKind;
+use regress_syntax::{Group, Fault, read_group, read_times};
 use regress_tree::ir::Node;
 
 impl Parser<'_> {
     /// Reads alternatives up to a `)` or the end (ECMA-262, Disjunction).
     #[cycle(parser)]
-    pub(crate) fn consume_disjunction(&mut self, around: &Around) -> Result<Node, ParseFault>
+    pub(crate) fn consume_disjunction(&mut self, around: &Around) -> Result<Node, Fault>
         ensures value { Yields (pattern_part (table_in around.now) (names_around around.now)) (direction_of around.now) around.now.depth (counted self.old) self.new result
             (pattern_at (context_in around.now) (text self.old)) }
     {
         if around.depth >= MAX_NESTING_DEPTH {
-            return Err(syntax(self.cursor.alloc, TOO_DEEP));
+            return Err(self.cursor.refuse(FaultKind::TooDeep));
         }
         let inside = Around {
             depth: around.depth + 1,
@@ -46,7 +46,7 @@ impl Parser<'_> {
 
     /// Reads terms up to the end of the alternative (ECMA-262, Alternative). One term alone needs no list.
     #[cycle(parser)]
-    fn consume_alternative(&mut self, around: &Around) -> Result<Node, ParseFault>
+    fn consume_alternative(&mut self, around: &Around) -> Result<Node, Fault>
         requires { around.now.depth ≤ max_nesting_depth }
         ensures value { Yields (terms_part (table_in around.now) (names_around around.now)) (direction_of around.now) around.now.depth (counted self.old) self.new result
             (terms_at (context_in around.now) (text self.old)) }
@@ -64,7 +64,7 @@ impl Parser<'_> {
     /// Reads the terms behind the first one, up to the end of the alternative. Most are characters that stand for
     /// themselves, which need no look at the other rows.
     #[cycle(parser)]
-    fn consume_terms(&mut self, first: Node, around: &Around) -> Result<Node, ParseFault>
+    fn consume_terms(&mut self, first: Node, around: &Around) -> Result<Node, Fault>
         requires { around.now.depth ≤ max_nesting_depth }
         ensures value { (t : Source) (before : Counts) (x : Term) → ends_alternative t ≡ false →
             term_at (context_in around.now) t ≡ Some (x, text self.old) →
@@ -86,7 +86,7 @@ impl Parser<'_> {
 
     /// Reads an item and the quantifier behind it (ECMA-262, Term).
     #[cycle(parser)]
-    fn consume_term(&mut self, around: &Around) -> Result<Node, ParseFault>
+    fn consume_term(&mut self, around: &Around) -> Result<Node, Fault>
         requires { around.now.depth ≤ max_nesting_depth }
         ensures value { Yields (term_part (table_in around.now) (names_around around.now)) (direction_of around.now) around.now.depth (counted self.old) self.new result
             (term_at (context_in around.now) (text self.old)) }
@@ -112,7 +112,7 @@ impl Parser<'_> {
         allowed: bool,
         first: CaptureGroupID,
         around: &Around,
-    ) -> Result<Node, ParseFault>
+    ) -> Result<Node, Fault>
         ensures value { (x : Item) (before : Counts) → before.groups ≡ first → allowed ≡ allows around.now.scope.flags.unicode (head_of_item x) →
             Builds (direction_of around.now) around.now.depth before self.old item (item_part (table_in around.now) (names_around around.now) x) (text self.old) →
             Yields (term_part (table_in around.now) (names_around around.now)) (direction_of around.now) around.now.depth before self.new result
@@ -131,7 +131,7 @@ impl Parser<'_> {
 
     /// Reads a group, behind what opens it.
     #[cycle(parser)]
-    fn consume_group(&mut self, kind: Group, around: &Around) -> Result<Node, ParseFault>
+    fn consume_group(&mut self, kind: Group, around: &Around) -> Result<Node, Fault>
         ensures value { Yields (item_part (table_in around.now) (names_around around.now)) (direction_of around.now) around.now.depth (counted self.old) self.new result
             (item_behind pattern_at (context_in around.now) (opens (group_of kind), text self.old)) }
     {

@@ -6,7 +6,7 @@ use regress_base::codepointset::CODE_POINT_MAX;
 use regress_base::types::Flags;
 use regress_notation::{Fault, Promise, check};
 use regress_opt::parse_and_optimize;
-use regress_syntax::ParseFault;
+use regress_parse::ParseFault;
 use regress_unicode::Tables;
 use std::alloc::{AllocError, Global};
 

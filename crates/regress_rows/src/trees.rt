@@ -6,7 +6,7 @@ use crate::parsing::{points_in, told, tree_of};
 use regress_base::types::Flags;
 use regress_notation::{Fault, Promise, check};
 use regress_opt::{optimize, parse_and_optimize};
-use regress_syntax::ParseFault;
+use regress_parse::ParseFault;
 use regress_tree::ir::Regex;
 use regress_tree_rows::{
     Census, asked, check_kept, first_part, in_one_line, is_changed, is_normal, is_same, parts,

@@ -7,11 +7,12 @@ use Rattle.std.proofs.lemmas.List.Elements.{filter-append}
 use Rattle.std.proofs.lemmas.List.{map-append}
 use Rattle.regress_base.specs.Limits.{max_nesting_depth}
 use Rattle.regress_base.specs.Table.{Table}
+use Rattle.regress_lexical.specs.declared.fault.FaultKind.TheVariants.{DuplicateName}
 use Rattle.regress_lexical.specs.Source.{Source}
 use Rattle.regress_syntax.specs.Marks.{Mark, opens, captures, closes, next, nests}
 use Rattle.regress_syntax.specs.SameNames.{same_name}
 use Rattle.regress_syntax.specs.Paths.{Path, Place, enter, CaptureAt, groups_by, at_the_start, conflict, are_apart, are_marks_apart}
-use Rattle.regress_syntax.specs.Scan.{IsRefusedByMarks, named_by, Mode, plain, escape, class, class_escape, marks, mode_behind, mark_at, deepest}
+use Rattle.regress_syntax.specs.Scan.{MarksShow, named_by, Mode, plain, escape, class, class_escape, marks, mode_behind, mark_at, deepest}
 use Rattle.regress_syntax.specs.Numbering.{names_of}
 use Rattle.regress_syntax.specs.Scanning.{depth_of, bears_name, capture_of, path_of, place_of, Behind}
 use Rattle.regress_syntax.specs.declared.scan.scanner.Scanner.{Scanner}
@@ -146,10 +147,14 @@ apart_behind all scanner behind few =
 
 -- two groups that conflict, or seem to past the limit
 pub refused_behind : (all : List Mark) (scanner : Scanner) → Behind all [] scanner → are_apart (map capture_of scanner.named.items) ≡ false →
-    IsRefusedByMarks all
+    MarksShow all DuplicateName
 refused_behind all scanner behind conflicts =
-    ⊎_elim (λ (many : max_nesting_depth < deepest 1 all). inr (inl many))
-    (λ (few : deepest 1 all ≤ max_nesting_depth). inl (apart_behind all scanner behind few ∙ conflicts)) (cases_lt max_nesting_depth (deepest 1 all))
+    inl (
+      refl,
+      ⊎_elim (λ (many : max_nesting_depth < deepest 1 all). inr many)
+          (λ (few : deepest 1 all ≤ max_nesting_depth). inl (apart_behind all scanner behind few ∙ conflicts))
+          (cases_lt max_nesting_depth (deepest 1 all)),
+    )
 
 -- ---- from one code point to the next
 

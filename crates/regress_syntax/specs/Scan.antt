@@ -3,6 +3,8 @@ use Rattle.std.specs.Prelude.{◌≡◌, ◌⊎◌, ◌<◌, ℕ, ◌+◌, ◌-�
 use Rattle.std.specs.Option.{option_to_list}
 use Rattle.regress_base.specs.Limits.{max_capture_groups, max_nesting_depth}
 use Rattle.regress_base.specs.Table.{Table}
+use Rattle.regress_lexical.specs.declared.fault.FaultKind.{FaultKind}
+use Rattle.regress_lexical.specs.declared.fault.FaultKind.TheVariants.{DuplicateName, TooDeep, TooManyGroups}
 use Rattle.regress_lexical.specs.Source.{Source, char, opening, closing, bar, question_mark, is_at}
 use Rattle.regress_syntax.specs.Names.{group_name_at}
 use Rattle.regress_syntax.specs.Syntax.{Name, Pattern}
@@ -85,7 +87,9 @@ deepest n (closes ∷ ms) = max n (deepest (max 1 (n - 1)) ms)
 deepest n (next ∷ ms) = max n (deepest n ms)
 deepest n (nests levels ∷ ms) = max (n + levels) (deepest n ms)
 
--- Two groups conflict, or the levels or the groups are more than the limit.
-abbrev pub IsRefusedByMarks : List Mark → Type 0
-IsRefusedByMarks ms =
-    (are_marks_apart ms ≡ false) ⊎ (max_nesting_depth < deepest 1 ms) ⊎ (max_capture_groups < length (named_by ms))
+-- What a fault of this kind says of the marks. Past the limit of levels, groups that are apart may seem to conflict.
+abbrev pub MarksShow : List Mark → FaultKind → Type 0
+MarksShow ms kind =
+    ((kind ≡ DuplicateName) × ((are_marks_apart ms ≡ false) ⊎ (max_nesting_depth < deepest 1 ms)))
+    ⊎ ((kind ≡ TooDeep) × (max_nesting_depth < deepest 1 ms))
+    ⊎ ((kind ≡ TooManyGroups) × (max_capture_groups < length (named_by ms)))

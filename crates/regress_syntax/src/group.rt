@@ -7,7 +7,7 @@ ghost use Rattle.regress_unicode.specs.TableOf.{table_of};
 
 use crate::names::{Name, read_group_name};
 use regress_lexical::cursor::Cursor;
-use regress_lexical::fault::{INVALID_GROUP_NAME, INVALID_MODIFIER, ParseFault, syntax};
+use regress_lexical::fault::{Fault, FaultKind};
 use regress_lexical::modifiers::{Change, read_modifiers};
 use regress_unicode::Tables;
 
@@ -41,7 +41,7 @@ impl Group {
 }
 
 /// Reads what a parenthesis opens, behind it.
-pub fn read_group(cursor: &mut Cursor, tables: &Tables) -> Result<Group, ParseFault>
+pub fn read_group(cursor: &mut Cursor, tables: &Tables) -> Result<Group, Fault>
     ensures { Reads (λ kind. opens (group_of kind)) (source cursor.new) result (group_at (table_of tables.now) (source cursor.old)) }
 {
     if cursor.try_consume('?') {
@@ -52,7 +52,7 @@ pub fn read_group(cursor: &mut Cursor, tables: &Tables) -> Result<Group, ParseFa
 }
 
 /// Reads what stands behind `(?`.
-fn read_behind_mark(cursor: &mut Cursor, tables: &Tables) -> Result<Group, ParseFault>
+fn read_behind_mark(cursor: &mut Cursor, tables: &Tables) -> Result<Group, Fault>
     ensures { Reads (λ kind. opens (group_of kind)) (source cursor.new) result (behind_mark_at (table_of tables.now) (source cursor.old)) }
 {
     if cursor.try_consume(':') {
@@ -75,7 +75,7 @@ fn read_behind_mark(cursor: &mut Cursor, tables: &Tables) -> Result<Group, Parse
 }
 
 /// Reads a lookbehind or a name, from its `<` on.
-fn read_behind_angle(cursor: &mut Cursor, tables: &Tables) -> Result<Group, ParseFault>
+fn read_behind_angle(cursor: &mut Cursor, tables: &Tables) -> Result<Group, Fault>
     ensures { Reads (λ kind. opens (group_of kind)) (source cursor.new) result (angle_at (table_of tables.now) (source cursor.old)) }
 {
     match cursor.rest {
@@ -98,7 +98,7 @@ fn read_behind_angle(cursor: &mut Cursor, tables: &Tables) -> Result<Group, Pars
 }
 
 /// Reads the name of a capture group.
-fn read_named(cursor: &mut Cursor, tables: &Tables) -> Result<Group, ParseFault>
+fn read_named(cursor: &mut Cursor, tables: &Tables) -> Result<Group, Fault>
     ensures { Reads (λ kind. opens (group_of kind)) (source cursor.new) result (named_group_at (table_of tables.now) (source cursor.old)) }
 {
     match read_group_name(cursor.alloc, cursor.rest, tables)? {
@@ -106,12 +106,12 @@ fn read_named(cursor: &mut Cursor, tables: &Tables) -> Result<Group, ParseFault>
             cursor.rest = rest;
             Ok(Group::Capture(Some(name)))
         }
-        None => Err(syntax(cursor.alloc, INVALID_GROUP_NAME)),
+        None => Err(cursor.refuse(FaultKind::InvalidGroupName)),
     }
 }
 
 /// Reads modifiers. At the end of the pattern a name is wanting.
-fn read_modified(cursor: &mut Cursor) -> Result<Group, ParseFault>
+fn read_modified(cursor: &mut Cursor) -> Result<Group, Fault>
     ensures { AlwaysReads (λ kind. opens (group_of kind)) (source cursor.new) result (modified_at (source cursor.old)) }
 {
     match read_modifiers(cursor.rest) {
@@ -119,7 +119,7 @@ fn read_modified(cursor: &mut Cursor) -> Result<Group, ParseFault>
             cursor.rest = rest;
             Ok(Group::Modified(change))
         }
-        None if cursor.rest.is_empty() => Err(syntax(cursor.alloc, INVALID_GROUP_NAME)),
-        None => Err(syntax(cursor.alloc, INVALID_MODIFIER)),
+        None if cursor.rest.is_empty() => Err(cursor.refuse(FaultKind::InvalidGroupName)),
+        None => Err(cursor.refuse(FaultKind::InvalidModifier)),
     }
 }

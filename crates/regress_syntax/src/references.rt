@@ -1,6 +1,5 @@
 //! References to groups.
-ghost use Rattle.std.specs.Prelude.{◌≡◌, ◌||◌, true, IfOk, ◌++◌, string_bytes, encode_utf8_all};
-ghost use Rattle.regress_lexical.specs.Fault.{Tells};
+ghost use Rattle.std.specs.Prelude.{◌≡◌, ◌||◌, true, IfOk, string_bytes, encode_utf8_all};
 ghost use Rattle.regress_lexical.specs.Escapes.{begins_with_digit};
 ghost use Rattle.regress_lexical.specs.Reads.{answered, ReadsAs};
 ghost use Rattle.regress_syntax.specs.Numbering.{group_number_at};
@@ -12,7 +11,7 @@ use crate::names::read_group_name;
 use crate::scope::Scope;
 use regress_lexical::cursor::Cursor;
 use regress_lexical::digits::{Read, read_count};
-use regress_lexical::fault::{Error, INVALID_REFERENCE, ParseFault, UNKNOWN_NAME, syntax};
+use regress_lexical::fault::{Fault, FaultKind};
 use std::alloc::{AllocError, Global};
 
 /// Reads the number of a group by the whole run of digits, where there are so many groups.
@@ -35,34 +34,26 @@ pub fn has_references_by_name(scope: &Scope) -> bool
 }
 
 /// Reads a reference by name, behind `\k`: the groups of that name, by their numbers from 1.
-pub fn read_reference<'a>(cursor: &mut Cursor, scope: &Scope<'a>) -> Result<&'a [u32], ParseFault>
+pub fn read_reference<'a>(cursor: &mut Cursor, scope: &Scope<'a>) -> Result<&'a [u32], Fault>
     ensures { ReadsAs (λ numbers. AreReferences (context_of scope.now) numbers.now) (source cursor.new) result (named_at (context_of scope.now) (source cursor.old)) }
 {
     let Some((name, rest)) = read_group_name(cursor.alloc, cursor.rest, scope.tables)? else {
-        return Err(syntax(cursor.alloc, INVALID_REFERENCE));
+        return Err(cursor.refuse(FaultKind::InvalidReference));
     };
     let numbers = scope.groups.numbers_of(&name);
     if numbers.is_empty() {
-        return Err(unknown_name(cursor.alloc, &name));
+        let name = name_text(cursor.alloc, &name)?;
+        return Err(cursor.refuse(FaultKind::UnknownName(name)));
     }
     cursor.rest = rest;
     Ok(numbers)
 }
 
-/// No group has this name.
-fn unknown_name(alloc: Global, name: &[char]) -> ParseFault
-    ensures { Tells (UNKNOWN_NAME.now ++ encode_utf8_all name.now) result }
+/// The name in UTF-8.
+fn name_text(alloc: Global, name: &[char]) -> Result<String, AllocError>
+    ensures { IfOk result (λ text. string_bytes text ≡ encode_utf8_all name.now) }
 {
-    match unknown_name_text(alloc, name) {
-        Ok(text) => ParseFault::Syntax(Error { text }),
-        Err(fault) => ParseFault::Memory(fault),
-    }
-}
-
-fn unknown_name_text(alloc: Global, name: &[char]) -> Result<String, AllocError>
-    ensures { IfOk result (λ text. string_bytes text ≡ UNKNOWN_NAME.now ++ encode_utf8_all name.now) }
-{
-    let mut text = String::from_str(alloc, UNKNOWN_NAME)?;
+    let mut text = String::new(alloc);
     for c in name {
         text.push(*c)?;
     }

@@ -2,10 +2,10 @@
 ghost use Rattle.std.specs.Prelude.{◌≡◌, ◌≤◌, min, length, IfOk};
 ghost use Rattle.regress_base.specs.Limits.{max_capture_groups, max_nesting_depth};
 ghost use Rattle.regress_unicode.specs.TableOf.{table_of};
-ghost use Rattle.regress_lexical.specs.Fault.{RefusedOnlyIf};
+ghost use Rattle.regress_lexical.specs.Fault.{FailsBy};
 ghost use Rattle.regress_syntax.specs.Numbering.{names_of};
 ghost use Rattle.regress_syntax.specs.Paths.{NoMarksConflict};
-ghost use Rattle.regress_syntax.specs.Scan.{GivesMarks, plain, marks, named_by, deepest, IsRefusedByMarks};
+ghost use Rattle.regress_syntax.specs.Scan.{GivesMarks, plain, marks, named_by, deepest, MarksShow};
 ghost use Rattle.regress_syntax.specs.Views.{names_in};
 
 mod mark;
@@ -15,7 +15,7 @@ mod scanner;
 use crate::groups::Groups;
 use crate::names::Name;
 use mark::{Mode, read_mark, skip_quiet};
-use regress_lexical::fault::{ParseFault, TOO_MANY_GROUPS, syntax};
+use regress_lexical::fault::{Fault, FaultKind, refused};
 use regress_unicode::Tables;
 use scanner::Scanner;
 use std::alloc::Global;
@@ -28,18 +28,18 @@ pub fn scan(
     pattern: &[u32],
     sets: bool,
     tables: &Tables,
-) -> Result<Groups, ParseFault>
+) -> Result<Groups, Fault>
     ensures names { IfOk result (λ groups. names_in groups ≡ named_by (marks sets (table_of tables.now) plain pattern.now)) }
     ensures count { IfOk result (λ groups. groups.count ≡ min (length (names_in groups)) max_capture_groups) }
     ensures apart { IfOk result (λ groups. NoMarksConflict (marks sets (table_of tables.now) plain pattern.now)) }
     ensures levels { IfOk result (λ _. deepest 1 (marks sets (table_of tables.now) plain pattern.now) ≤ max_nesting_depth) }
-    ensures refused { RefusedOnlyIf result (IsRefusedByMarks (marks sets (table_of tables.now) plain pattern.now)) }
+    ensures refused { FailsBy result (MarksShow (marks sets (table_of tables.now) plain pattern.now)) }
     ensures whole { GivesMarks sets (table_of tables.now) pattern.now }
 {
     let names = find_names(alloc, pattern, sets, tables)?;
     // The number of each has 32 bits.
     if names.len() > u32::MAX as usize {
-        return Err(syntax(alloc, TOO_MANY_GROUPS));
+        return Err(refused(0, FaultKind::TooManyGroups));
     }
     Ok(Groups::new(alloc, names)?)
 }
@@ -50,11 +50,11 @@ fn find_names(
     pattern: &[u32],
     sets: bool,
     tables: &Tables,
-) -> Result<Vec<Option<Name>>, ParseFault>
+) -> Result<Vec<Option<Name>>, Fault>
     ensures names { IfOk result (λ names. names_of names.items ≡ named_by (marks sets (table_of tables.now) plain pattern.now)) }
     ensures apart { IfOk result (λ names. NoMarksConflict (marks sets (table_of tables.now) plain pattern.now)) }
     ensures levels { IfOk result (λ _. deepest 1 (marks sets (table_of tables.now) plain pattern.now) ≤ max_nesting_depth) }
-    ensures refused { RefusedOnlyIf result (IsRefusedByMarks (marks sets (table_of tables.now) plain pattern.now)) }
+    ensures refused { FailsBy result (MarksShow (marks sets (table_of tables.now) plain pattern.now)) }
 {
     let mut scanner = Scanner::new(alloc)?;
     let mut mode = Mode::Plain;

@@ -6,7 +6,7 @@ ghost use Rattle.regress_lexical.specs.Views.{source};
 
 use crate::scope::Scope;
 use regress_lexical::cursor::Cursor;
-use regress_lexical::fault::{INVALID_QUANTIFIER, NO_QUANTIFIER, ParseFault, syntax};
+use regress_lexical::fault::{Fault, FaultKind};
 use regress_lexical::quantifier::{is_ordered, may_begin, read_quantifier};
 use regress_tree::ir::Quantifier;
 
@@ -17,7 +17,7 @@ pub fn read_times(
     cursor: &mut Cursor,
     scope: &Scope,
     allowed: bool,
-) -> Result<Option<Quantifier>, ParseFault>
+) -> Result<Option<Quantifier>, Fault>
     ensures { AlwaysReads (λ q. q) (source cursor.new) result (times_at (context_of scope.now) allowed (source cursor.old)) }
 {
     if !may_begin(cursor.rest) {
@@ -25,15 +25,15 @@ pub fn read_times(
     }
     let Some((quantifier, rest)) = read_quantifier(cursor.rest) else {
         if scope.flags.unicode && cursor.is_at('{') {
-            return Err(syntax(cursor.alloc, INVALID_QUANTIFIER));
+            return Err(cursor.refuse(FaultKind::InvalidQuantifier));
         }
         return Ok(None);
     };
     if !allowed {
-        return Err(syntax(cursor.alloc, NO_QUANTIFIER));
+        return Err(cursor.refuse(FaultKind::QuantifierNotAllowed));
     }
     if !is_ordered(quantifier) {
-        return Err(syntax(cursor.alloc, INVALID_QUANTIFIER));
+        return Err(cursor.refuse(FaultKind::InvalidQuantifier));
     }
     cursor.rest = rest;
     Ok(Some(quantifier))

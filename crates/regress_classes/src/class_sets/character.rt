@@ -8,12 +8,12 @@ ghost use Rattle.regress_lexical.specs.Views.{source};
 use regress_lexical::cursor::Cursor;
 use regress_lexical::digits::is_letter;
 use regress_lexical::escape::{escape_fault, read_escape};
-use regress_lexical::fault::{INCOMPLETE_SET_ESCAPE, INVALID_SET_CHARACTER, ParseFault, syntax};
+use regress_lexical::fault::{Fault, FaultKind};
 
 /// Reads a character (this project's profile of ECMA-262, ClassSetCharacter). The fault comes where a code point doesn't
 /// stand for itself, or where a backslash begins no escape of a character.
 #[tactic(auto, unfolding(crate::specs::ClassSets::set_character_at))]
-pub(super) fn read_set_character(cursor: &mut Cursor, unicode: bool) -> Result<u32, ParseFault>
+pub(super) fn read_set_character(cursor: &mut Cursor, unicode: bool) -> Result<u32, Fault>
     ensures value { AlwaysReads (λ c. c) (source cursor.new) result (set_character_at unicode (source cursor.old)) }
     ensures in_range { IfOk result IsCodePoint }
 {
@@ -25,17 +25,17 @@ pub(super) fn read_set_character(cursor: &mut Cursor, unicode: bool) -> Result<u
             cursor.rest = rest;
             Ok(*c)
         }
-        _ => Err(syntax(cursor.alloc, INVALID_SET_CHARACTER)),
+        _ => Err(cursor.refuse(FaultKind::InvalidSetCharacter)),
     }
 }
 
 /// Reads the escape of a character, behind its backslash.
-pub(super) fn read_escaped_character(cursor: &mut Cursor, unicode: bool) -> Result<u32, ParseFault>
+pub(super) fn read_escaped_character(cursor: &mut Cursor, unicode: bool) -> Result<u32, Fault>
     ensures value { AlwaysReads (λ c. c) (source cursor.new) result (escaped_character_at unicode (source cursor.old)) }
     ensures in_range { IfOk result IsCodePoint }
 {
     let Some((c, rest)) = cursor.rest.split_first() else {
-        return Err(syntax(cursor.alloc, INCOMPLETE_SET_ESCAPE));
+        return Err(cursor.refuse(FaultKind::IncompleteSetEscape));
     };
     let c = *c;
     if c == u32::from('b') {
@@ -47,7 +47,7 @@ pub(super) fn read_escaped_character(cursor: &mut Cursor, unicode: bool) -> Resu
         return Ok(c);
     }
     let Some((point, behind)) = read_escape(cursor.rest, unicode) else {
-        return Err(syntax(cursor.alloc, escape_fault(cursor.rest)));
+        return Err(cursor.refuse(escape_fault(cursor.rest)));
     };
     cursor.rest = behind;
     Ok(point)

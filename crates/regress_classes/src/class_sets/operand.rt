@@ -18,7 +18,7 @@ use regress_base::charclasses::CharacterClassType;
 use regress_base::codepointset::CodePointSet;
 use regress_base::sets::set_is_canonical;
 use regress_lexical::cursor::Cursor;
-use regress_lexical::fault::{INCOMPLETE_SET_ESCAPE, INVALID_ESCAPE, ParseFault, syntax};
+use regress_lexical::fault::{Fault, FaultKind};
 use std::alloc::{AllocError, Global};
 
 /// A character, which may be an end of a range, or what holds some of them and strings.
@@ -45,12 +45,12 @@ impl Operand {
 pub(super) fn read_escaped_operand(
     cursor: &mut Cursor,
     around: &Surroundings,
-) -> Result<Operand, ParseFault>
+) -> Result<Operand, Fault>
     ensures { ReadsAs IsOperand (source cursor.new) result
         (escaped_operand_at (table_of around.now.tables.now) around.now.unicode around.now.negated (source cursor.old)) }
 {
     let Some((c, rest)) = cursor.rest.split_first() else {
-        return Err(syntax(cursor.alloc, INCOMPLETE_SET_ESCAPE));
+        return Err(cursor.refuse(FaultKind::IncompleteSetEscape));
     };
     let c = *c;
     if let Some((kind, negated)) = class_letter(c) {
@@ -82,7 +82,7 @@ fn read_property_operand(
     cursor: &mut Cursor,
     around: &Surroundings,
     negated: bool,
-) -> Result<Operand, ParseFault>
+) -> Result<Operand, Fault>
     ensures { ReadsAs IsOperand (source cursor.new) result
         (property_operand_at (table_of around.now.tables.now) around.now.negated negated (source cursor.old)) }
 {
@@ -93,7 +93,7 @@ fn read_property_operand(
         }
         Property::Strings(strings) => {
             if around.negated || negated {
-                return Err(syntax(cursor.alloc, INVALID_ESCAPE));
+                return Err(cursor.refuse(FaultKind::InvalidEscape));
             }
             let value = string_value(cursor.alloc, strings)?;
             Ok(Operand::Class(value))

@@ -5,9 +5,10 @@ use Rattle.std.specs.Result.{IfOk}
 use Rattle.std.proofs.Common.{subst}
 use Rattle.std.proofs.lemmas.Bool.{ne_eqb, false≢true}
 use Rattle.std.proofs.lemmas.Option.{none-some, same_Some}
-use Rattle.regress_lexical.specs.declared.fault.ParseFault.{ParseFault}
-use Rattle.regress_lexical.specs.declared.fault.ParseFault.TheVariants.{Syntax, Memory}
-use Rattle.regress_lexical.specs.Fault.{OnSyntax}
+use Rattle.regress_lexical.specs.declared.fault.Fault.{Fault}
+use Rattle.regress_lexical.specs.declared.fault.FaultKind.{FaultKind}
+use Rattle.regress_lexical.specs.declared.fault.Fault.TheVariants.{Refused, Memory}
+use Rattle.regress_lexical.specs.Fault.{OnRefused, OnKind}
 use Rattle.regress_lexical.specs.Source.{Source, Found, ◌>>=◌, Row, first_row, is_at}
 
 -- what is found behind something
@@ -65,13 +66,22 @@ some_and None P h = absurd h
 some_and (Some x) P h = (x, refl, h)
 
 -- what holds whatever the fault
-pub on_syntax : {P : Type 0} (fault : ParseFault) → P → OnSyntax fault P
-on_syntax (Syntax e) h = h
-on_syntax (Memory e) h = tt
+pub on_refused : {P : Type 0} (fault : Fault) → P → OnRefused fault P
+on_refused (Refused r) h = h
+on_refused (Memory e) h = tt
 
-pub on_syntax_then : {P Q : Type 0} (fault : ParseFault) → (P → Q) → OnSyntax fault P → OnSyntax fault Q
-on_syntax_then (Syntax e) f h = f h
-on_syntax_then (Memory e) f h = tt
+pub on_refused_then : {P Q : Type 0} (fault : Fault) → (P → Q) → OnRefused fault P → OnRefused fault Q
+on_refused_then (Refused r) f h = f h
+on_refused_then (Memory e) f h = tt
+
+pub on_kind_then : {P Q : FaultKind → Type 0} (fault : Fault) → ((kind : FaultKind) → P kind → Q kind) → OnKind fault P → OnKind fault Q
+on_kind_then (Refused r) f h = f r.kind h
+on_kind_then (Memory e) f h = tt
+
+-- of whatever kind
+pub on_each_kind : {P : Type 0} {Q : FaultKind → Type 0} (fault : Fault) → ((kind : FaultKind) → P → Q kind) → OnRefused fault P → OnKind fault Q
+on_each_kind (Refused r) f h = f r.kind h
+on_each_kind (Memory e) f h = tt
 
 -- what follows for each value from two facts follows for an answer
 pub ok_from_both : {X E : Type 0} (r : Result X E) (P Q R : X → Type 0) → ((x : X) → P x → Q x → R x) → IfOk r P → IfOk r Q → IfOk r R

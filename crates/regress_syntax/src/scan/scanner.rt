@@ -2,18 +2,18 @@
 ghost use Rattle.std.specs.Prelude.{◌≡◌, ◌<◌, ◌≤◌, ◌+◌, ◌-◌, ◌^◌, min, max, List, ◌∷◌, [], ◌++◌, filter, length, map, not, option_map, IfOk, OnOk};
 ghost use Rattle.std.specs.List.{IsAllAdjacentAnswer};
 ghost use Rattle.regress_base.specs.Limits.{max_nesting_depth};
-ghost use Rattle.regress_lexical.specs.Fault.{RefusedOnlyIf};
+ghost use Rattle.regress_lexical.specs.Fault.{FailsBy};
 ghost use Rattle.regress_syntax.specs.Numbering.{names_of};
 ghost use Rattle.regress_syntax.specs.Marks.{Mark as Written};
 ghost use Rattle.regress_syntax.specs.Paths.{CaptureAt, NoMarksConflict, conflict, enter};
-ghost use Rattle.regress_syntax.specs.Scan.{named_by, deepest, IsRefusedByMarks};
+ghost use Rattle.regress_syntax.specs.Scan.{named_by, deepest, MarksShow};
 ghost use Rattle.regress_syntax.specs.Scanning.{mark_of, capture_of, bears_name, path_of, place_of, highest_at, Behind};
 
 use super::mark::Mark;
 use super::path::Path;
 use crate::names::Name;
 use regress_base::types::MAX_NESTING_DEPTH;
-use regress_lexical::fault::{DUPLICATE_NAME, ParseFault, TOO_DEEP, syntax};
+use regress_lexical::fault::{Fault, FaultKind, refused};
 use std::alloc::{AllocError, Global};
 
 /// What was found in front of a place of the pattern.
@@ -117,20 +117,20 @@ impl Scanner {
 
     /// The names of all capture groups, at the end of the pattern. The fault comes where two groups conflict, else where
     /// there were too many levels.
-    pub(super) fn finish(self) -> Result<Vec<Option<Name>>, ParseFault>
+    pub(super) fn finish(self) -> Result<Vec<Option<Name>>, Fault>
         ensures names { (all : List Written) → Behind all [] self → IfOk result (λ names. names_of names.items ≡ named_by all) }
         ensures apart { (all : List Written) → Behind all [] self → IfOk result (λ _. NoMarksConflict all) }
         ensures levels { (all : List Written) → Behind all [] self → IfOk result (λ _. deepest 1 all ≤ max_nesting_depth) }
-        ensures refused { (all : List Written) → Behind all [] self → RefusedOnlyIf result (IsRefusedByMarks all) }
+        ensures refused { (all : List Written) → Behind all [] self → FailsBy result (MarksShow all) }
     {
         let mut named = self.named;
         named.sort()?;
         // Paths that differ past the limit alone count as one: the pattern is refused in any case.
         if !are_neighbours_apart(&named) {
-            return Err(syntax(self.alloc, DUPLICATE_NAME));
+            return Err(refused(0, FaultKind::DuplicateName));
         }
         if self.deepest > MAX_NESTING_DEPTH as usize {
-            return Err(syntax(self.alloc, TOO_DEEP));
+            return Err(refused(0, FaultKind::TooDeep));
         }
         Ok(self.names)
     }

@@ -3,7 +3,7 @@ use Rattle.std.proofs.Common.{None, Some, refl}
 use Rattle.std.proofs.lemmas.Result.{err_from_is_err_and}
 use Rattle.regress_unicode.specs.TableOf.{table_of}
 use Rattle.regress_lexical.specs.Views.{source}
-use Rattle.regress_lexical.proofs.laws.Sources.{on_syntax_then}
+use Rattle.regress_lexical.proofs.laws.Sources.{on_refused_then}
 use Rattle.regress_classes.proofs.ClassLemmas.{class_is}
 use Rattle.regress_classes.proofs.class.read_class.Goals as goal
 
@@ -11,7 +11,7 @@ pub returns-in_err-set : goal.returns-in_err-set
 returns-in_err-set c =
     let p = err_from_is_err_and c.from_residual.result c.from_residual.ensures.1 in
     let caret = c.try_consume-inverted in
-    rw (p.1, p.2) (on_syntax_then c.in_err-set.field-0.0
+    rw (p.1, p.2) (on_refused_then c.in_err-set.field-0.0
     (class_is (table_of c.args.tables.now) c.args.unicode caret.result (source c.args.cursor.now) (source caret.new.self) None caret.ensures.found caret.ensures.moves)
     c.in_err-set.ensures)
 

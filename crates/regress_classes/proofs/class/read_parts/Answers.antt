@@ -5,7 +5,7 @@ use Rattle.std.proofs.lemmas.Result.{err_from_is_err_and}
 use Rattle.regress_unicode.specs.TableOf.{table_of}
 use Rattle.regress_lexical.specs.Source.{Source, is_at}
 use Rattle.regress_lexical.specs.Views.{source}
-use Rattle.regress_lexical.proofs.laws.Sources.{on_syntax_then}
+use Rattle.regress_lexical.proofs.laws.Sources.{on_refused_then}
 use Rattle.regress_classes.proofs.laws.Pieces.{class_part_at-shortens}
 use Rattle.regress_classes.proofs.ClassLemmas.{one_more_read, all_read, none_behind}
 use Rattle.regress_classes.proofs.class.read_parts.Goals as goal
@@ -24,7 +24,7 @@ loop-cursor-preserved c =
 pub returns-in_err-read_part : goal.returns-in_err-read_part
 returns-in_err-read_part c =
     let p = err_from_is_err_and c.from_residual.result c.from_residual.ensures.1 in
-    rw (p.1, p.2) (on_syntax_then c.in_err-read_part.field-0.0
+    rw (p.1, p.2) (on_refused_then c.in_err-read_part.field-0.0
     (none_behind (table_of c.args.tables.now) c.args.unicode _ (source c.loop-cursor.cursor) c.loop-cursor.gathered c.loop-cursor.invariant
     (sym c.is_at.ensures ∙ c.loop-cursor-test.true))
     c.in_err-read_part.ensures)

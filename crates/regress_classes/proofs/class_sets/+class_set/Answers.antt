@@ -10,7 +10,7 @@ use Rattle.regress_lexical.specs.Reads.{ReadsAs}
 use Rattle.regress_lexical.specs.Source.{Source, is_at}
 use Rattle.regress_classes.specs.ClassViews.{IsValue, IsUnion, IsChain, IsOperand, inner_of, sign_of, applied}
 use Rattle.regress_lexical.specs.Views.{source}
-use Rattle.regress_lexical.proofs.laws.Sources.{on_syntax, on_syntax_then}
+use Rattle.regress_lexical.proofs.laws.Sources.{on_refused, on_refused_then}
 use Rattle.regress_lexical.proofs.laws.Behind.{Ends}
 use Rattle.regress_classes.proofs.laws.ClassSets.{class_set_by-ends}
 use Rattle.regress_classes.proofs.laws.ClassStrings.{class_set_by-levels}
@@ -29,7 +29,7 @@ ends around = class_set_by-ends (table_of around.tables.now) around.unicode arou
 pub read_operand-returns-then-is_empty : goal.read_operand-returns-then-is_empty
 read_operand-returns-then-is_empty t c =
     let around = c.args.around.now in
-    on_syntax c.syntax.result
+    on_refused c.refuse.result
     (no_operand (table_of around.tables.now) around.unicode (inner_of around) (ends around) around.negated (source c.args.cursor.now)
     (length-none (source c.args.cursor.now) (sym c.if-is_empty.ensures)))
 
@@ -37,7 +37,7 @@ pub read_operand-returns-in_err-class : goal.read_operand-returns-in_err-class
 read_operand-returns-in_err-class t c =
     let p = err_from_is_err_and c.from_residual.result c.from_residual.ensures.1 in
     let around = c.args.around.now in
-    rw (p.1, p.2) (on_syntax_then c.in_err-class.field-0.0
+    rw (p.1, p.2) (on_refused_then c.in_err-class.field-0.0
     (nested_read (table_of around.tables.now) around.unicode (inner_of around) around.negated (source c.args.cursor.now)
     (source c.try_consume.new.self) None (sym c.try_consume.ensures.found ∙ c.if-try_consume.true)
     (c.try_consume.ensures.moves ∙ cond-true _ _ _ c.if-try_consume.true))
@@ -73,7 +73,7 @@ read_operand-returns-in_err-character t c =
     let same : source c.try_consume.new.self ≡ source c.args.cursor.now = c.try_consume.ensures.moves ∙ cond-false _ _ _ c.if-try_consume.false in
     let still : source c.try_consume-2.new.self ≡ source c.args.cursor.now =
     c.try_consume-2.ensures.moves ∙ cond-false _ _ _ c.if-try_consume-2.false ∙ same in
-    rw (p.1, p.2) (on_syntax c.in_err-character.field-0.0
+    rw (p.1, p.2) (on_refused c.in_err-character.field-0.0
     (character_read (table_of around.tables.now) around.unicode (inner_of around) around.negated (source c.args.cursor.now) None
     (sym c.try_consume.ensures.found ∙ c.if-try_consume.false)
     (ap (is_at 92) (sym same) ∙ sym c.try_consume-2.ensures.found ∙ c.if-try_consume-2.false)
@@ -100,7 +100,7 @@ pub read_contents-returns-then-is_empty : goal.read_contents-returns-then-is_emp
 read_contents-returns-then-is_empty t c =
     let around = c.args.around.now in
     let same : source c.try_consume.new.self ≡ source c.args.cursor.now = c.try_consume.ensures.moves ∙ cond-false _ _ _ c.if-try_consume.false in
-    on_syntax c.syntax.result
+    on_refused c.refuse.result
     (no_contents (table_of around.tables.now) around.unicode (inner_of around) (ends around) around.negated (source c.args.cursor.now)
     (sym same ∙ length-none (source c.try_consume.new.self) (sym c.if-is_empty.ensures)))
 
@@ -178,12 +178,12 @@ read_part_behind-returns-then-not-try_consume t c = λ operand is. (
 pub read_parts-returns-then-is_empty : goal.read_parts-returns-then-is_empty
 read_parts-returns-then-is_empty t c = λ held is.
     let around = c.args.around.now in
-    let l = c.loop-union in
+    let l = c.loop-cursor in
     let so_far = l.invariant held is in
-    on_syntax c.syntax.result
+    on_refused c.refuse.result
     (so_far.whole
     ∙ no_first (table_of around.tables.now) around.unicode (inner_of around) (ends around) around.negated so_far.value (source l.cursor)
-    (sym c.is_at.ensures ∙ c.loop-union-test.true)
+    (sym c.is_at.ensures ∙ c.loop-cursor-test.true)
     (no_operand (table_of around.tables.now) around.unicode (inner_of around) (ends around) around.negated (source l.cursor)
     (length-none (source l.cursor) (sym c.if-is_empty.ensures))))
 
@@ -191,56 +191,56 @@ pub read_parts-returns-in_err-first : goal.read_parts-returns-in_err-first
 read_parts-returns-in_err-first t c = λ held is.
     let p = err_from_is_err_and c.from_residual.result c.from_residual.ensures.1 in
     let around = c.args.around.now in
-    let l = c.loop-union in
+    let l = c.loop-cursor in
     let so_far = l.invariant held is in
-    rw (p.1, p.2) (on_syntax_then c.in_err-first.field-0.0
+    rw (p.1, p.2) (on_refused_then c.in_err-first.field-0.0
     (λ none. so_far.whole
     ∙ no_first (table_of around.tables.now) around.unicode (inner_of around) (ends around) around.negated so_far.value (source l.cursor)
-    (sym c.is_at.ensures ∙ c.loop-union-test.true) none)
+    (sym c.is_at.ensures ∙ c.loop-cursor-test.true) none)
     c.in_err-first.ensures)
 
 pub read_parts-returns-in_err-read_part_behind : goal.read_parts-returns-in_err-read_part_behind
 read_parts-returns-in_err-read_part_behind t c = λ held is.
     let p = err_from_is_err_and c.from_residual-in_err-read_part_behind.result c.from_residual-in_err-read_part_behind.ensures.1 in
     let around = c.args.around.now in
-    let l = c.loop-union in
+    let l = c.loop-cursor in
     let so_far = l.invariant held is in
     let first = c.in_ok-first.ensures in
-    rw (p.1, p.2) (on_syntax_then c.in_err-read_part_behind.field-0.0
+    rw (p.1, p.2) (on_refused_then c.in_err-read_part_behind.field-0.0
     (λ none. so_far.whole
     ∙ no_part (table_of around.tables.now) around.unicode (inner_of around) (ends around) around.negated so_far.value (source l.cursor)
-    (first.0, source c.read_operand.new.cursor) (sym c.is_at.ensures ∙ c.loop-union-test.true) first.1 none)
+    (first.0, source c.read_operand.new.cursor) (sym c.is_at.ensures ∙ c.loop-cursor-test.true) first.1 none)
     (c.in_err-read_part_behind.ensures first.0 first.2))
 
-pub read_parts-loop-union-smaller : goal.read_parts-loop-union-smaller
-read_parts-loop-union-smaller t c =
+pub read_parts-loop-cursor-smaller : goal.read_parts-loop-cursor-smaller
+read_parts-loop-cursor-smaller t c =
     let around = c.args.around.now in
-    let l = c.loop-union in
+    let l = c.loop-cursor in
     let first = c.in_ok-first.ensures in
     let part = c.in_ok-read_part_behind.ensures first.0 first.2 in
     parts_end (table_of around.tables.now) around.unicode (inner_of around) (ends around) around.negated (source l.cursor)
     (first.0, source c.read_operand.new.cursor) (part.0, source c.read_part_behind.new.cursor) first.1 part.1
 
-pub read_parts-loop-union-preserved : goal.read_parts-loop-union-preserved
-read_parts-loop-union-preserved t c = λ held is.
+pub read_parts-loop-cursor-preserved : goal.read_parts-loop-cursor-preserved
+read_parts-loop-cursor-preserved t c = λ held is.
     let around = c.args.around.now in
-    let l = c.loop-union in
+    let l = c.loop-cursor in
     let so_far = l.invariant held is in
     let first = c.in_ok-first.ensures in
     let part = c.in_ok-read_part_behind.ensures first.0 first.2 in
     read_on IsUnion _ held (joined so_far.value part.0) (source c.args.cursor.now) (source l.cursor) (source c.read_part_behind.new.cursor) l.union
     c.read_part_behind.new.union so_far
     (one_part (table_of around.tables.now) around.unicode (inner_of around) (ends around) around.negated so_far.value (source l.cursor)
-    (first.0, source c.read_operand.new.cursor) (part.0, source c.read_part_behind.new.cursor) (sym c.is_at.ensures ∙ c.loop-union-test.true)
+    (first.0, source c.read_operand.new.cursor) (part.0, source c.read_part_behind.new.cursor) (sym c.is_at.ensures ∙ c.loop-cursor-test.true)
     first.1 part.1)
     (part.2 so_far.value so_far.is)
 
 pub read_parts-returns : goal.read_parts-returns
 read_parts-returns t c = λ held is.
     let around = c.args.around.now in
-    let l = c.loop-union in
+    let l = c.loop-cursor in
     let so_far = l.invariant held is in
-    let closes = sym c.is_at.ensures ∙ c.loop-union-test.false in (
+    let closes = sym c.is_at.ensures ∙ c.loop-cursor-test.false in (
       so_far.value,
       so_far.whole
           ∙ parts_closed (table_of around.tables.now) around.unicode (inner_of around) (ends around) around.negated so_far.value (source l.cursor)
@@ -264,7 +264,7 @@ read_operands-returns-in_err-read_operand t c = λ held is.
     let around = c.args.around.now in
     let l = c.loop-chain in
     let so_far = (l.invariant held is).1 in
-    rw (p.1, p.2) (on_syntax_then c.in_err-read_operand.field-0.0
+    rw (p.1, p.2) (on_refused_then c.in_err-read_operand.field-0.0
     (λ none. so_far.whole
     ∙ no_last (table_of around.tables.now) around.unicode (inner_of around) (ends around) around.negated (sign_of c.args.operator)
     (applied c.args.operator) so_far.value (source l.cursor) none)
@@ -294,7 +294,7 @@ read_operands-returns-in_err-consume_operator t c = λ held is.
     let so_far = (l.invariant held is).1 in
     let operand = c.in_ok-read_operand.ensures in
     let same : source c.try_consume.new.self ≡ source c.read_operand.new.cursor = c.try_consume.ensures.moves ∙ cond-false _ _ _ c.if-try_consume.false in
-    rw (p.1, p.2) (on_syntax c.in_err-consume_operator.field-0.0
+    rw (p.1, p.2) (on_refused c.in_err-consume_operator.field-0.0
     (so_far.whole
     ∙ none_read (table_of around.tables.now) around.unicode (inner_of around) (ends around) around.negated (sign_of c.args.operator)
     (applied c.args.operator) so_far.value (source l.cursor) (operand.0, source c.read_operand.new.cursor) operand.1
@@ -341,12 +341,12 @@ read_operands-loop-chain-preserved t c = λ held is.
 
 pub read_class_set-returns-then-levels-eq0-clause-value : goal.read_class_set-returns-then-levels-eq0-clause-value
 read_class_set-returns-then-levels-eq0-clause-value t c =
-    on_syntax c.syntax.result (no_levels (table_of c.args.tables.now) c.args.unicode c.args.levels (source c.args.cursor.now) c.if-levels-eq0.true)
+    on_refused c.refuse.result (no_levels (table_of c.args.tables.now) c.args.unicode c.args.levels (source c.args.cursor.now) c.if-levels-eq0.true)
 
 pub read_class_set-returns-in_err-value-clause-value : goal.read_class_set-returns-in_err-value-clause-value
 read_class_set-returns-in_err-value-clause-value t c =
     let p = err_from_is_err_and c.from_residual.result c.from_residual.ensures.1 in
-    rw (p.1, p.2) (on_syntax_then c.in_err-value.field-0.0
+    rw (p.1, p.2) (on_refused_then c.in_err-value.field-0.0
     (class_read (table_of c.args.tables.now) c.args.unicode c.args.levels (c.args.levels - 1) (source c.args.cursor.now)
     (source c.try_consume-negated.new.self) c.try_consume-negated.result None (omega (arith, c.if-levels-eq0.false))
     c.try_consume-negated.ensures.found c.try_consume-negated.ensures.moves)
@@ -356,7 +356,7 @@ pub read_class_set-returns-then-has_strings-clause-value : goal.read_class_set-r
 read_class_set-returns-then-has_strings-clause-value t c =
     let found = c.in_ok-value.ensures in
     let rest = source c.read_contents.new.cursor in
-    on_syntax c.syntax-then-has_strings.result
+    on_refused c.refuse-then-has_strings.result
     (class_read (table_of c.args.tables.now) c.args.unicode c.args.levels (c.args.levels - 1) (source c.args.cursor.now)
     (source c.try_consume-negated.new.self) c.try_consume-negated.result (Some (found.0, rest)) (omega (arith, c.if-levels-eq0.false))
     c.try_consume-negated.ensures.found c.try_consume-negated.ensures.moves found.1

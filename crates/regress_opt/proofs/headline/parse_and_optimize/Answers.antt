@@ -8,7 +8,7 @@ use Rattle.regress_tree.specs.Tree.{Tree, tree}
 use Rattle.regress_tree.specs.WellFormed.{captures}
 use Rattle.regress_tree.specs.Units.{units, unrolling, loops}
 use Rattle.regress_tree.specs.NormalForm.{IsNormal}
-use Rattle.regress_lexical.specs.declared.fault.ParseFault.{ParseFault}
+use Rattle.regress_parse.specs.declared.fault.ParseFault.{ParseFault}
 use Rattle.regress_syntax.specs.Syntax.{Pattern}
 use Rattle.regress_parse.specs.TreeOf.{tree_of}
 use Rattle.regress_parse.specs.Accepted.{IsAccepted, OneIsDerived}

@@ -3,7 +3,7 @@ use Rattle.std.proofs.Common.{◌<◌, ◌∙◌, refl, sym, ap, subst, arith}
 use Rattle.std.specs.Option.{IfSome}
 use Rattle.std.proofs.lemmas.Bool.{cond-true, cond-false}
 use Rattle.regress_lexical.specs.Source.{Found, found_map}
-use Rattle.regress_lexical.proofs.laws.Sources.{on_syntax}
+use Rattle.regress_lexical.proofs.laws.Sources.{on_refused}
 use Rattle.regress_syntax.specs.Syntax.{Atom, class, class_set, levels_of_atom}
 use Rattle.regress_syntax.specs.Views.{names_in}
 use Rattle.regress_unicode.specs.TableOf.{table_of}
@@ -29,7 +29,7 @@ returns-then-class-left c =
     let flags = c.args.scope.now.flags in
     let found = c.in_ok-class-2.ensures.value in
     let here = cond-true _ _ _ c.if-not-scope.false ∙ ap (found_map (λ (negated, value). class_set flags negated value)) found.1 in
-    on_syntax c.syntax.result
+    on_refused c.refuse.result
     (subst (λ (f : Found Atom). IfSome f (λ x. c.args.left < levels_of_atom x.0)) (sym here) (omega (arith, found.2.1.levels)))
 
 pub returns : goal.returns

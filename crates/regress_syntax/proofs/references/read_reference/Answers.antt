@@ -5,7 +5,7 @@ use Rattle.regress_syntax.specs.Syntax.{by_name, back_reference}
 use Rattle.regress_syntax.specs.Views.{context_of}
 use Rattle.regress_lexical.specs.Views.{source}
 use Rattle.regress_syntax.proofs.ReferenceLemmas.{named-some, named-unknown}
-use Rattle.regress_lexical.proofs.laws.Sources.{on_syntax, length-none, length-some}
+use Rattle.regress_lexical.proofs.laws.Sources.{on_refused, length-none, length-some}
 use Rattle.regress_lexical.proofs.laws.Behind.{behind_all}
 use Rattle.regress_syntax.proofs.laws.NameEnds.{group_name_at-ends}
 use Rattle.regress_syntax.proofs.references.read_reference.Goals as goal
@@ -17,7 +17,7 @@ returns-then-is_empty c =
     let found : group_name_at ctx.setting.table (source c.args.cursor.now) ≡ Some (name, c.in-Some.rest.now) =
     sym c.in_ok-name.ensures ∙ ap (option_map (λ found. (found.0.items, found.1.now))) c.in-Some.is in
     let numbers = c.numbers_of-numbers.ensures ∙ ap (λ (name : List ℕ). groups_named name 1 ctx.names) c.deref.ensures.value in
-    on_syntax c.unknown_name.result
+    on_refused c.refuse-then-is_empty.result
     (named-unknown ctx (source c.args.cursor.now) name c.in-Some.rest.now found
     (sym numbers ∙ length-none _ (sym c.is_empty.ensures ∙ c.if-is_empty.true)))
 

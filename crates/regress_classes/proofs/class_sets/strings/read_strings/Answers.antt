@@ -4,7 +4,7 @@ use Rattle.std.proofs.lemmas.Bool.{cond-true, cond-false}
 use Rattle.std.proofs.lemmas.Result.{err_from_is_err_and}
 use Rattle.regress_classes.specs.ClassSets.{value_of_strings}
 use Rattle.regress_lexical.specs.Views.{source}
-use Rattle.regress_lexical.proofs.laws.Sources.{on_syntax}
+use Rattle.regress_lexical.proofs.laws.Sources.{on_refused}
 use Rattle.regress_lexical.proofs.laws.Sources.{length-none}
 use Rattle.regress_classes.proofs.ClassStringLemmas.{character_shortens, character_at_end, no_strings, more_character, more_string, all_strings_read, no_character}
 use Rattle.regress_classes.proofs.class_sets.strings.read_strings.Goals as goal
@@ -25,7 +25,7 @@ pub returns-then-is_empty : goal.returns-then-is_empty
 returns-then-is_empty c =
     let l = c.loop-cursor in
     let same : source c.try_consume.new.self ≡ source l.cursor = c.try_consume.ensures.moves ∙ cond-false _ _ _ c.if-try_consume.false in
-    on_syntax c.syntax.result
+    on_refused c.refuse.result
     (no_character c.args.unicode (source c.args.cursor.now) (source l.cursor) l.string.items l.value l.invariant
     (sym c.is_at.ensures ∙ c.loop-cursor-test.true) (sym c.try_consume.ensures.found ∙ c.if-try_consume.false)
     (character_at_end c.args.unicode (source l.cursor) (sym same ∙ length-none (source c.try_consume.new.self) (sym c.if-is_empty.ensures))))
@@ -36,7 +36,7 @@ returns-in_err-read_set_character c =
     let l = c.loop-cursor in
     let same : source c.try_consume.new.self ≡ source l.cursor = c.try_consume.ensures.moves ∙ cond-false _ _ _ c.if-try_consume.false in
     let none = c.in_err-read_set_character.ensures.value in
-    rw (p.1, p.2) (on_syntax c.in_err-read_set_character.field-0.0
+    rw (p.1, p.2) (on_refused c.in_err-read_set_character.field-0.0
     (no_character c.args.unicode (source c.args.cursor.now) (source l.cursor) l.string.items l.value l.invariant
     (sym c.is_at.ensures ∙ c.loop-cursor-test.true) (sym c.try_consume.ensures.found ∙ c.if-try_consume.false) (rw same at none)))
 

@@ -1,13 +1,14 @@
 -- Each answer is a lemma on what was read, at the values of the call.
 use Rattle.std.proofs.Common.{◌≡◌, ◌+◌, ◌-◌, Bool, false, not, ◌∷◌, Some, None, Ok, Err, length, refl, sym, ap, ◌∙◌, subst, arith, length-drop}
 use Rattle.std.proofs.lemmas.Result.{err_from_is_err_and}
+use Rattle.regress_lexical.specs.declared.fault.FaultKind.TheVariants.{TooDeep}
 use Rattle.regress_lexical.specs.Source.{Source, Found, opening, is_at, ends_alternative, bar as the_bar}
 use Rattle.regress_syntax.specs.Syntax.{literal, atom}
 use Rattle.regress_syntax.specs.Rows.{opens, allows, head_at}
 use Rattle.regress_syntax.specs.Views.{group_of}
 use Rattle.regress_base.specs.Limits.{max_nesting_depth}
 use Rattle.regress_lexical.specs.Views.{source}
-use Rattle.regress_lexical.proofs.laws.Sources.{at_front, on_syntax, on_syntax_then}
+use Rattle.regress_lexical.proofs.laws.Sources.{at_front, on_kind_then, on_each_kind}
 use Rattle.regress_syntax.proofs.laws.Rows.{head_at-shortens}
 use Rattle.regress_parse.specs.TreeOf.{joined}
 use Rattle.regress_parse.specs.Reader.{Term, item_behind, pattern_at, terms_at, term_at, item_at, with_times}
@@ -46,8 +47,8 @@ consume_alternative-returns-in_err-first t c =
     let around = c.args.around.now in
     let old = c.args.self.now in
     record {
-      value = rw (p.1, p.2) (on_syntax_then c.in_err-first.field-0.0
-          (first_term-fails (table_in around) (names_around around) (direction_of around) (context_in around) around.depth old
+      value = rw (p.1, p.2) (on_kind_then c.in_err-first.field-0.0
+          (λ kind. first_term-fails (table_in around) (names_around around) (direction_of around) (context_in around) around.depth old kind
           (sym c.ends_alternative.ensures ∙ c.if-ends_alternative.false) c.requires)
           c.in_err-first.ensures.value);
     }
@@ -117,8 +118,8 @@ consume_terms-returns-in_err-consume_term t c =
       value = λ t before x begins first b.
           let h = subst (λ (u : Source). TermsSoFar (table_in around) (names_around around) (direction_of around) (context_in around) around.depth
           t before u (counted l.self) l.parts.items) (sym here) (l.invariant.0 t before x begins first b) in
-          rw (p.1, p.2) (on_syntax_then c.in_err-consume_term.field-0.0
-          (terms-fail _ _ _ _ _ _ _ (source c.next_plain.new.self) (counted l.self) l.parts.items h goes_on)
+          rw (p.1, p.2) (on_kind_then c.in_err-consume_term.field-0.0
+          (λ kind. terms-fail _ _ _ _ _ _ _ kind (source c.next_plain.new.self) (counted l.self) l.parts.items h goes_on)
           c.in_err-consume_term.ensures.value);
     }
 
@@ -169,7 +170,7 @@ pub consume_disjunction-returns-then-around-ge-MAX_NESTING_DEPTH : goal.consume_
 consume_disjunction-returns-then-around-ge-MAX_NESTING_DEPTH t c =
     let around = c.args.around.now in
     record {
-      value = on_syntax c.syntax.result (too_deep (table_in around) (names_around around) (context_in around) (counted c.args.self.now) around.depth
+      value = rw c.refuse.ensures (too_deep (table_in around) (names_around around) (context_in around) TooDeep (counted c.args.self.now) around.depth
           (pattern_at (context_in around) (text c.args.self.now)) c.if-around-ge-MAX_NESTING_DEPTH.true);
     }
 
@@ -188,8 +189,8 @@ consume_disjunction-returns-in_err-last t c =
     let p = err_from_is_err_and c.from_residual.result c.from_residual.ensures.1 in
     let around = c.args.around.now in
     record {
-      value = rw (p.1, p.2) (on_syntax_then c.in_err-last.field-0.0
-          (first-fail (table_in around) (names_around around) (context_in around) around.depth (text c.args.self.now) (counted c.args.self.now))
+      value = rw (p.1, p.2) (on_kind_then c.in_err-last.field-0.0
+          (λ kind. first-fail (table_in around) (names_around around) (context_in around) kind around.depth (text c.args.self.now) (counted c.args.self.now))
           c.in_err-last.ensures.value);
     }
 
@@ -210,8 +211,8 @@ consume_disjunction-returns-in_err-last-2 t c =
     let l = c.loop-inside in
     let past = c.loop-inside-test.ensures in
     record {
-      value = rw (p.1, p.2) (on_syntax_then c.in_err-last-2.field-0.0
-          (λ refused. alternatives-fail _ _ _ _ _ _ _ (text l.self) (counted l.self) l.before.items l.last l.invariant (sym past.found)
+      value = rw (p.1, p.2) (on_kind_then c.in_err-last-2.field-0.0
+          (λ kind refused. alternatives-fail _ _ _ _ kind _ _ _ (text l.self) (counted l.self) l.before.items l.last l.invariant (sym past.found)
           (rw past.moves at refused))
           c.in_err-last-2.ensures.value);
     }
@@ -256,8 +257,8 @@ consume_term-returns-in_err-kind t c =
     let here = source c.try_consume.new.self in
     let front : text old ≡ opening ∷ here = front_is opening (text old) here (sym past.found) past.moves in
     record {
-      value = rw (p.1, p.2) (on_syntax_then c.in_err-kind.field-0.0
-          (λ none. rw (no_term (table_in around) (names_around around) (context_in around) (text old)
+      value = rw (p.1, p.2) (on_each_kind c.in_err-kind.field-0.0
+          (λ kind none. rw (no_term (table_in around) (names_around around) (context_in around) (text old)
           (ap (head_at (context_in around)) front ∙ opening_head (table_in around) (names_around around) (context_in around) here ∙ none)) tt)
           c.in_err-kind.ensures);
     }
@@ -287,7 +288,7 @@ consume_term-returns-in_err-item t c =
     ap (item_at ctx) front ∙ opening_item (table_in around) (names_around around) ctx here (opens (group_of c.in_ok-kind.kind), there) c.in_ok-kind.ensures in
     record {
       value = rw (p.1, p.2, term_at-is ctx (text old), same)
-          (on_syntax_then c.in_err-item.field-0.0 (times-fail (table_in around) (names_around around) ctx _ (counted old) around.depth) c.in_err-item.ensures.value);
+          (on_kind_then c.in_err-item.field-0.0 (λ kind. times-fail (table_in around) (names_around around) ctx kind _ (counted old) around.depth) c.in_err-item.ensures.value);
     }
 
 pub consume_term-returns-then-try_consume : goal.consume_term-returns-then-try_consume
@@ -330,7 +331,7 @@ consume_term-returns-in_err-item-2 t c =
     (sym c.begins_anchor-allowed.ensures) c.in_err-item-2.ensures in
     record {
       value = rw (p.1, p.2, ← same, term_at-is ctx here)
-          (on_syntax_then c.in_err-item-2.field-0.0 (times-fail (table_in around) (names_around around) ctx _ (counted old) around.depth)
+          (on_kind_then c.in_err-item-2.field-0.0 (λ kind. times-fail (table_in around) (names_around around) ctx kind _ (counted old) around.depth)
           (atom_yields (table_in around) (names_around around) ctx (direction_of around) around.depth (max_nesting_depth - around.depth)
           (not c.begins_anchor-allowed.result) old old (Err c.in_err-item-2.field-0.0) here none
           all refl read refl refl));

@@ -2,7 +2,7 @@
 use Rattle.std.proofs.Common.{◌≡◌, ◌+◌, Some, None, Ok, refl, sym, ap, ap₂, ◌∙◌, arith}
 use Rattle.std.proofs.lemmas.Result.{err_from_is_err_and}
 use Rattle.regress_lexical.specs.Views.{source}
-use Rattle.regress_lexical.proofs.laws.Sources.{on_syntax}
+use Rattle.regress_lexical.proofs.laws.Sources.{on_refused, on_kind_then, on_each_kind}
 use Rattle.regress_syntax.specs.Syntax.{Counts, added, one_loop, counts_of_item}
 use Rattle.regress_tree.specs.Tree.{tree}
 use Rattle.regress_parse.specs.TreeOf.{tree_of_times}
@@ -34,9 +34,9 @@ returns-in_err-times c =
     let old = c.args.self.now in
     record {
       value = λ x before first allowed b.
-          rw (p.1, p.2) (on_syntax c.in_err-times.field-0.0
-          (let none = c.in_err-times.ensures in
-          rw (times_read table names ctx (Some (x, text old)) (x, text old) c.args.allowed None refl allowed none) tt));
+          rw (p.1, p.2) (on_each_kind c.in_err-times.field-0.0
+          (λ kind none. rw (times_read table names ctx (Some (x, text old)) (x, text old) c.args.allowed None refl allowed none) tt)
+          (on_refused c.in_err-times.field-0.0 c.in_err-times.ensures));
     }
 
 pub returns-in_default : goal.returns-in_default
@@ -71,9 +71,10 @@ returns-in_err-count_loop c =
       value = λ x before first allowed b.
           let read = times_read table names ctx (Some (x, text old)) (x, text old) c.args.allowed (Some (Some c.in-Some.quantifier, source c.read_times.new.cursor)) refl allowed
           (c.in_ok-times.ensures ∙ ap (λ q. Some (q, source c.read_times.new.cursor)) c.in-Some.is) in
-          rw (p.1, p.2) (on_syntax c.in_err-count_loop.field-0.0
-          (times-too_many table names ctx _ _ x c.in-Some.quantifier before around.depth read
-          (omega (arith, ap (λ (n : Counts). n.loops) b.counts, c.in_err-count_loop.ensures.err))));
+          rw (p.1, p.2) (on_kind_then c.in_err-count_loop.field-0.0
+          (λ kind told. times-too_many table names ctx kind told.0 _ _ x c.in-Some.quantifier before around.depth read
+          (omega (arith, ap (λ (n : Counts). n.loops) b.counts, told.1)))
+          c.in_err-count_loop.ensures.err);
     }
 
 pub returns : goal.returns

@@ -1,5 +1,5 @@
 use Rattle.std.proofs.Common.{◌∙◌, arith}
-use Rattle.regress_lexical.proofs.laws.Sources.{on_syntax}
+use Rattle.regress_lexical.proofs.laws.Sources.{on_refused}
 use Rattle.regress_syntax.proofs.ConflictLemmas.{apart_in_any_order, conflict_in_any_order}
 use Rattle.regress_syntax.proofs.ScannerLemmas.{apart_behind, refused_behind, levels_behind}
 use Rattle.regress_syntax.proofs.scan.scanner.Scanner.finish.Goals as goal
@@ -8,7 +8,7 @@ pub returns-then-not-are_neighbours_apart-clause-refused : goal.returns-then-not
 returns-then-not-are_neighbours_apart-clause-refused c = λ all behind.
     let near = c.if-not-are_neighbours_apart.ensures in
     let here = rw c.deref.ensures.value at near in
-    on_syntax c.syntax.result
+    rw c.refused.ensures
     (refused_behind all c.args.self behind
     (conflict_in_any_order c.args.self.named.items c.sort.new.self.items c.in_ok-sort.ensures.permutation here))
 

@@ -1,4 +1,4 @@
-use Rattle.std.proofs.Common.{◌+◌, ◌<◌, [], Ok, Err, refl, sym, ap, ap₂, ◌∙◌, subst, arith}
+use Rattle.std.proofs.Common.{◌+◌, ◌<◌, [], Ok, Err, inl, refl, sym, ap, ap₂, ◌∙◌, subst, arith}
 use Rattle.std.proofs.lemmas.Result.{err_from_is_err_and}
 use Rattle.regress_base.specs.Limits.{max_capture_groups}
 use Rattle.regress_tree.specs.Reading.{forwards}
@@ -8,29 +8,29 @@ use Rattle.regress_tree.specs.WellFormed.{IsWellFormed}
 use Rattle.regress_tree.proofs.laws.Nodes.{tree-Cat, tree-Goal}
 use Rattle.regress_syntax.specs.Syntax.{counts}
 use Rattle.regress_syntax.specs.Views.{names_in}
-use Rattle.regress_lexical.proofs.laws.Sources.{on_syntax_then}
+use Rattle.regress_lexical.proofs.laws.Sources.{on_kind_then}
 use Rattle.regress_parse.specs.Parsing.{YieldsWhole}
 use Rattle.regress_parse.specs.TreeOf.{tree_of, tree_of_pattern}
 use Rattle.regress_parse.specs.Accepted.{Means}
-use Rattle.regress_parse.proofs.AcceptedLemmas.{found_names, scanned, most, scanned-is, names_found, reads_derived, derived_reads, same_derived, marks-refuse, marks-apart, limits-fit, fit-limits}
+use Rattle.regress_parse.proofs.AcceptedLemmas.{found_names, scanned, most, scanned-is, names_found, derived_reads, same_derived, marks-say, reading-says, marks-apart, fit-limits}
 use Rattle.regress_parse.proofs.GrammarLemmas.{pattern_at-sound}
 use Rattle.regress_parse.proofs.MeaningLemmas.{tree_of-means}
 use Rattle.regress_parse.proofs.WellFormedLemmas.{tree_of-well_formed}
-use Rattle.regress_parse.proofs.pattern.try_parse.Goals as goal
+use Rattle.regress_parse.proofs.pattern.parse.Goals as goal
 
-pub returns-in_err-groups-clause-refused : goal.returns-in_err-groups-clause-refused
-returns-in_err-groups-clause-refused c =
+pub returns-in_err-groups-clause-told : goal.returns-in_err-groups-clause-told
+returns-in_err-groups-clause-told c =
     let p = err_from_is_err_and c.from_residual.result c.from_residual.ensures.1 in
-    rw (p.1, p.2) (on_syntax_then c.in_err-groups.field-0.0
-    (marks-refuse (setting_of c.args.flags c.args.tables.now) c.args.pattern.now c.in_err-groups.ensures.whole)
+    rw (p.1, p.2) (on_kind_then c.in_err-groups.field-0.0
+    (λ kind shown p h. inl (marks-say (setting_of c.args.flags c.args.tables.now) c.args.pattern.now c.in_err-groups.ensures.whole kind shown p h))
     c.in_err-groups.ensures.refused)
 
 pub returns-in_err-groups-clause-only : goal.returns-in_err-groups-clause-only
 returns-in_err-groups-clause-only c =
     same_derived (setting_of c.args.flags c.args.tables.now) c.args.pattern.now c.in_err-groups.ensures.whole
 
-pub returns-in_err-body-clause-refused : goal.returns-in_err-body-clause-refused
-returns-in_err-body-clause-refused c =
+pub returns-in_err-body-clause-told : goal.returns-in_err-body-clause-told
+returns-in_err-body-clause-told c =
     let p = err_from_is_err_and c.from_residual-in_err-body.result c.from_residual-in_err-body.ensures.1 in
     let setting = setting_of c.args.flags c.args.tables.now in
     let t = c.args.pattern.now in
@@ -38,10 +38,7 @@ returns-in_err-body-clause-refused c =
     let same = scanned-is setting t found.whole c.in_ok-groups.groups.count (names_in c.in_ok-groups.groups) found.names found.count in
     let yields : YieldsWhole (scanned setting t found.whole (most setting t found.whole)) t (Err c.in_err-body.field-0.0) =
     subst (λ ctx. YieldsWhole ctx t (Err c.in_err-body.field-0.0)) same c.in_err-body.ensures in
-    rw (p.1, p.2) (on_syntax_then c.in_err-body.field-0.0
-    (λ refused q accepted. refused q (reads_derived setting t found.whole q accepted.derived accepted.limits)
-    (limits-fit setting (found_names setting t found.whole) q accepted.limits))
-    yields)
+    rw (p.1, p.2) (on_kind_then c.in_err-body.field-0.0 (reading-says setting t found.whole found.levels) yields)
 
 pub returns-in_err-body-clause-only : goal.returns-in_err-body-clause-only
 returns-in_err-body-clause-only c =

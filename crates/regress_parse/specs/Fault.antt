@@ -1,0 +1,78 @@
+-- What is told of a pattern that is refused.
+use Rattle.std.specs.Prelude.{◌≡◌, ℕ, ◌≤◌, List, [], ◌++◌, codes, string_bytes, Result, Ok, Err}
+use Rattle.regress_lexical.specs.declared.fault.FaultKind.{FaultKind}
+use Rattle.regress_lexical.specs.declared.fault.FaultKind.TheVariants.{UnbalancedParenthesis, TooDeep, TooManyGroups, TooManyLoops, IncompleteEscape, UnterminatedEscape, InvalidEscape, InvalidUnicodeEscape, InvalidBracedQuantifier, InvalidAtom, QuantifierNotAllowed, InvalidQuantifier, UnbalancedBracket, ReversedRange, InvalidRange, UnbalancedSet, InvalidSetRange, UnexpectedInIntersection, UnexpectedInSubtraction, EmptyOperand, IncompleteSetEscape, StringsWithoutBrace, UnbalancedStrings, InvalidSetCharacter, InvalidNegatedClass, PropertyWithoutBrace, InvalidProperty, InvalidGroupName, InvalidModifier, InvalidReference, UnknownName, DuplicateName}
+use Rattle.regress_parse.specs.declared.fault.ParseFault.{ParseFault}
+use Rattle.regress_parse.specs.declared.fault.ParseFault.TheVariants.{Syntax, Memory}
+use Rattle.regress_parse.specs.declared.fault.PlacedFault.{PlacedFault}
+use Rattle.regress_parse.specs.declared.fault.PlacedFault.TheVariants.{Syntax as PlacedSyntax, Memory as PlacedMemory}
+
+-- the words for a fault of each kind
+abbrev pub words : FaultKind → List ℕ
+words UnbalancedParenthesis = codes "Unbalanced parenthesis"
+words TooDeep = codes "Regular expression is too deeply nested"
+words TooManyGroups = codes "Capture group count limit exceeded"
+words TooManyLoops = codes "Loop count limit exceeded"
+words IncompleteEscape = codes "Incomplete escape"
+words UnterminatedEscape = codes "Unterminated escape"
+words InvalidEscape = codes "Invalid character escape"
+words InvalidUnicodeEscape = codes "Invalid unicode escape"
+words InvalidBracedQuantifier = codes "Invalid braced quantifier"
+words InvalidAtom = codes "Invalid atom character"
+words QuantifierNotAllowed = codes "Quantifier not allowed here"
+words InvalidQuantifier = codes "Invalid quantifier"
+words UnbalancedBracket = codes "Unbalanced bracket"
+words ReversedRange = codes "Range values reversed, start char code is greater than end char code."
+words InvalidRange = codes "Invalid character range"
+words UnbalancedSet = codes "Unbalanced class set bracket"
+words InvalidSetRange = codes "Invalid class set range"
+words UnexpectedInIntersection = codes "Unexpected character in class set intersection"
+words UnexpectedInSubtraction = codes "Unexpected character in class set subtraction"
+words EmptyOperand = codes "Empty class set operand"
+words IncompleteSetEscape = codes "Incomplete class set escape"
+words StringsWithoutBrace = codes "Invalid class set escape: expected {"
+words UnbalancedStrings = codes "Unbalanced class set string disjunction"
+words InvalidSetCharacter = codes "Invalid class set character"
+words InvalidNegatedClass = codes "Invalid negated class"
+words PropertyWithoutBrace = codes "Invalid character at property escape start"
+words InvalidProperty = codes "Invalid property name"
+words InvalidGroupName = codes "Invalid token at named capture group identifier"
+words InvalidModifier = codes "Invalid group modifier"
+words InvalidReference = codes "Invalid named backreference syntax"
+words (UnknownName name) = codes "Backreference to invalid named capture group: "
+words DuplicateName = codes "Duplicate capture group name"
+
+-- the name behind them, in UTF-8
+abbrev pub name_behind : FaultKind → List ℕ
+name_behind (UnknownName name) = string_bytes name
+name_behind other = []
+
+abbrev pub text_of : FaultKind → List ℕ
+text_of kind = words kind ++ name_behind kind
+
+-- A fault of the pattern is answered only if this holds.
+abbrev pub RefusedOnlyIf : {X : Type 0} → Result X ParseFault → Type 0 → Type 0
+RefusedOnlyIf (Ok x) P = Unit {0}
+RefusedOnlyIf (Err (Syntax e)) P = P
+RefusedOnlyIf (Err (Memory e)) P = Unit {0}
+
+-- A fault of the pattern is answered in the text of a kind of which this holds.
+abbrev pub Tells : {X : Type 0} → Result X ParseFault → (FaultKind → Type 0) → Type 0
+Tells (Ok x) P = Unit {0}
+Tells (Err (Syntax e)) P = (kind : FaultKind) × (string_bytes e.text ≡ text_of kind) × P kind
+Tells (Err (Memory e)) P = Unit {0}
+
+-- the fault without its place
+abbrev pub without_place : PlacedFault → ParseFault
+without_place (PlacedSyntax e place) = Syntax e
+without_place (PlacedMemory e) = Memory e
+
+abbrev pub unplaced : {X : Type 0} → Result X PlacedFault → Result X ParseFault
+unplaced (Ok x) = Ok x
+unplaced (Err fault) = Err (without_place fault)
+
+-- The place of a fault is within a pattern of that length, or at its end.
+abbrev pub IsPlacedWithin : {X : Type 0} → ℕ → Result X PlacedFault → Type 0
+IsPlacedWithin length (Ok x) = Unit {0}
+IsPlacedWithin length (Err (PlacedSyntax e place)) = place ≤ length
+IsPlacedWithin length (Err (PlacedMemory e)) = Unit {0}

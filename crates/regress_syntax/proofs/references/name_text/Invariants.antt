@@ -1,0 +1,6 @@
+-- The characters so far are written.
+use Rattle.std.proofs.Common.{◌≡◌, take, string_bytes, encode_utf8_all}
+use Rattle.regress_syntax.proofs.references.name_text.Given as goal
+
+abbrev pub invariant-loop-c : goal.invariant-loop-c
+invariant-loop-c l = string_bytes l.text ≡ encode_utf8_all (take l.c-index l.name)
