@@ -12,7 +12,7 @@ use Rattle.regress_normalize.specs.PartFacts.{HasFacts, IsStillOne, HasRowFacts}
 use Rattle.regress_normalize.specs.declared.facts.PartFacts.{PartFacts}
 use Rattle.regress_normalize.specs.declared.facts.RowFacts.{RowFacts}
 
--- `Goal` is a part of it, or it is a set of nothing
+-- it or a part of it is `Goal`, or it is a set of nothing
 abbrev pub HasGoal : Tree → Type 0
 HasGoal t = (some_in_row is_goal (parts_of t) ≡ true) ⊎ (t ≡ leaf (byte_set []))
 
