@@ -14,8 +14,9 @@ use Rattle.regress_rewrite.proofs.laws.Keeps.{Keeps-refl}
 use Rattle.regress_rewrite.proofs.laws.Emptying.{emptied_keeps}
 use Rattle.regress_rewrite.proofs.laws.Alternatives.{left_alone, right_alone}
 use Rattle.regress_normalize.specs.declared.facts.PartFacts.{PartFacts}
-use Rattle.regress_normalize.specs.Normalized.{Normalized, IsAltOf}
+use Rattle.regress_normalize.specs.Normalized.{HasGoal, Normalized, IsAltOf}
 use Rattle.regress_normalize.specs.PartFacts.{HasFacts, IsStillOne}
+use Rattle.regress_normalize.proofs.GoalLemmas.{alt_goal}
 use Rattle.regress_normalize.proofs.NormalLemmas.{IsNormal-alt, empty_normal}
 
 module _ (left right : Tree) where
@@ -47,10 +48,14 @@ module _ (d : Direction) (t : Tree) (left_facts right_facts : PartFacts) (sides 
   other : {P : Type 0} (shape : Tree → Bool) → shape (alt first second) ≡ true → (IsNormal t → shape t ≡ false) → IsNormal t → P
   other shape some lacks normal = absurd (false≢true (sym (lacks normal) ∙ ap shape sides.is ∙ some))
 
+  no_goal : {P : Type 0} → HasGoal t → P
+  no_goal has = absurd (alt_goal first second (subst (λ (u : Tree). HasGoal u) sides.is has))
+
   pub sides_empty : (facts : PartFacts) → (is_empty first && is_empty second) ≡ true → HasFacts facts (leaf empty) →
       Normalized d t (leaf empty) (Ok facts)
   sides_empty facts empties has = record {
     keeps = emptied_keeps d t (ap is_cat sides.is) (ap is_emptied_away sides.is ∙ empties) part;
+    goal = λ has_goal. no_goal has_goal;
     normal = empty_normal;
     facts = has;
     left = λ normal. other is_emptied_away empties (λ n. LacksShape-here is_emptied_away t n.emptied) normal;
@@ -73,6 +78,7 @@ module _ (d : Direction) (t : Tree) (left_facts right_facts : PartFacts) (sides 
         let left_fails = sym sides.left_has.always_fails ∙ fails in
         record {
           keeps = rw (sides.is, is) (right_alone d first second whole_part left_fails left_free);
+          goal = λ has_goal. no_goal has_goal;
           normal = subst (λ (u : Tree). IsNormal u) (sym is) sides.right_normal;
           facts = subst (λ (u : Tree). HasFacts facts u) (sym is) has;
           left = λ normal. failed (or_left _ _ left_fails) normal;
@@ -84,6 +90,7 @@ module _ (d : Direction) (t : Tree) (left_facts right_facts : PartFacts) (sides 
         let right_fails = sym sides.right_has.always_fails ∙ fails in
         record {
           keeps = rw (sides.is, is) (left_alone d first second whole_part right_fails right_free);
+          goal = λ has_goal. no_goal has_goal;
           normal = subst (λ (u : Tree). IsNormal u) (sym is) sides.left_normal;
           facts = subst (λ (u : Tree). HasFacts facts u) (sym is) has;
           left = λ normal. failed (or_right _ _ right_fails) normal;
@@ -97,6 +104,7 @@ module _ (d : Direction) (t : Tree) (left_facts right_facts : PartFacts) (sides 
       Normalized d t t answer
   alt_stays answer no_empties may has many = record {
     keeps = Keeps-refl d t;
+    goal = λ has_goal. has_goal;
     normal = by answer;
     facts = subst (λ (u : Tree). IfOk answer (λ facts. HasFacts facts u)) (sym sides.is) has;
     left = λ normal. refl;

@@ -5,7 +5,7 @@ use Rattle.std.specs.declared.alloc.AllocError.{AllocError}
 use Rattle.std.proofs.Math.Bool.{and-false, or-false}
 use Rattle.std.proofs.lemmas.Bool.{cases_Bool, or_parts, true≢false, false≢true}
 use Rattle.regress_tree.specs.Measures.{total_in_row, levels, levels_of_deepest}
-use Rattle.regress_tree.specs.NodeTests.{is_empty, match_always_fails}
+use Rattle.regress_tree.specs.NodeTests.{is_empty, is_goal, match_always_fails}
 use Rattle.regress_tree.specs.NormalForm.{IsNormal}
 use Rattle.regress_tree.specs.Reading.{Direction}
 use Rattle.regress_tree.specs.Shapes.{on_leaf, on_wrapper, some_node, some_node_in_row, some_in_row, has_group, is_group, is_loop, is_string_set, is_cat, has_cat, is_short, RowLacksShape, is_flattened_away, is_formed_away, is_emptied_away, is_failed_away}
@@ -17,11 +17,12 @@ use Rattle.regress_rewrite.specs.Splice.{parts_of, spliced}
 use Rattle.regress_rewrite.proofs.laws.Failing.{fails_keeps}
 use Rattle.regress_rewrite.proofs.laws.Flattening.{some_node-spliced}
 use Rattle.regress_rewrite.proofs.laws.Keeps.{Keeps-trans, Keeps-no_part, Keeps-one_part}
-use Rattle.regress_normalize.specs.Normalized.{Normalized, RowIsNormal, IsCatOf}
+use Rattle.regress_normalize.specs.Normalized.{HasGoal, Normalized, RowIsNormal, IsCatOf}
 use Rattle.regress_normalize.specs.Packed.{IsPacked, IsRowPacked, IsFactsOf}
 use Rattle.regress_normalize.specs.PartFacts.{HasFacts, HasRowFacts}
 use Rattle.regress_normalize.specs.declared.facts.PartFacts.{PartFacts}
 use Rattle.regress_normalize.specs.declared.facts.RowFacts.{RowFacts}
+use Rattle.regress_normalize.proofs.GoalLemmas.{cat_goal, only_goal}
 use Rattle.regress_normalize.proofs.NormalLemmas.{Kind, simplified, flattened, unrolled, promoted, formed, emptied, failed, shape, lacks, normal_from, empty_normal, nothing_normal}
 use Rattle.regress_normalize.proofs.PackedLemmas.{RowIsNormal-append}
 
@@ -247,6 +248,7 @@ module _ (d : Direction) (row : RowFacts) (ts : Trees) (given : AreParts row ts)
       let free : has_group (cat ts) ≡ false = sym given.facts.has_group ∙ both.1 in
       record {
         keeps = fails_keeps d (cat ts) refl fails free part;
+        goal = λ has_goal. inr refl;
         normal = nothing_normal;
         facts = has;
         left = λ normal.
@@ -254,7 +256,11 @@ module _ (d : Direction) (row : RowFacts) (ts : Trees) (given : AreParts row ts)
         still_one = λ normal. no_one f.was_one_character many _;
       }
 
-  module _ (new : Trees) (keeps : Keeps d (cat ts) (cat new)) (left : has_cat ts ≡ false → IsPacked ts → new ≡ ts) where
+  module _ (new : Trees) (keeps : Keeps d (cat ts) (cat new)) (left : has_cat ts ≡ false → IsPacked ts → new ≡ ts)
+      (goals : some_in_row is_goal ts ≡ true → some_in_row is_goal new ≡ true) where
+    row_goal : HasGoal (cat ts) → HasGoal (cat new)
+    row_goal has_goal = inl (goals (cat_goal ts has_goal))
+
     left_whole : IsNormal (cat ts) → new ≡ ts
     left_whole normal =
         let clean = clean_row ts normal in
@@ -268,6 +274,7 @@ module _ (d : Direction) (row : RowFacts) (ts : Trees) (given : AreParts row ts)
     err_normalized (Ok f) err = absurd (false≢true err)
     err_normalized (Err e) err = record {
       keeps = keeps;
+      goal = row_goal;
       normal = tt;
       facts = tt;
       left = λ normal. ap cat (left_whole normal);
@@ -279,6 +286,7 @@ module _ (d : Direction) (row : RowFacts) (ts : Trees) (given : AreParts row ts)
           Normalized d (cat ts) (cat new) r
       cat_normalized long (Ok f) is = record {
         keeps = keeps;
+        goal = row_goal;
         normal = new_cat_normal d row ts new taken given.each given.facts done lasting long;
         facts = new_cat_facts d row ts new taken given.each given.facts done lasting long f is;
         left = λ normal. ap cat (left_whole normal);
@@ -286,6 +294,7 @@ module _ (d : Direction) (row : RowFacts) (ts : Trees) (given : AreParts row ts)
       }
       cat_normalized long (Err e) is = record {
         keeps = keeps;
+        goal = row_goal;
         normal = tt;
         facts = tt;
         left = λ normal. ap cat (left_whole normal);
@@ -301,6 +310,8 @@ module _ (d : Direction) (row : RowFacts) (ts : Trees) (given : AreParts row ts)
         empty_normalized (inl none) is f has many =
             subst (λ (u : Tree). Normalized d (cat ts) u (Ok f)) (sym none.1) (record {
               keeps = Keeps-trans d (subst (λ (us : Trees). Keeps d (cat ts) (cat us)) none.0 keeps) (Keeps-no_part d);
+              goal = λ has_goal.
+                  absurd (false≢true (sym (ap (some_in_row is_goal) none.0) ∙ cat_goal new (row_goal has_goal)));
               normal = empty_normal;
               facts = has;
               left = λ normal. absurd (not_left (ap is_short none.0) normal);
@@ -312,11 +323,15 @@ module _ (d : Direction) (row : RowFacts) (ts : Trees) (given : AreParts row ts)
         alone_keeps : new ≡ more_trees t no_trees → Keeps d (cat ts) t
         alone_keeps one = Keeps-trans d (subst (λ (us : Trees). Keeps d (cat ts) (cat us)) one keeps) (Keeps-one_part d t)
 
+        alone_goal : new ≡ more_trees t no_trees → HasGoal (cat ts) → HasGoal t
+        alone_goal one has_goal = only_goal t (subst (λ (us : Trees). HasGoal (cat us)) one (row_goal has_goal))
+
         pub alone_normalized : Stands → is_empty t ≡ false → (r : Result PartFacts AllocError) → IfOk r (IsFactsOf row taken 0) →
             Normalized d (cat ts) t r
         alone_normalized (inl none) some r is = absurd (true≢false (sym (ap is_empty none.1) ∙ some))
         alone_normalized (inr one) some (Ok f) is = record {
           keeps = alone_keeps one;
+          goal = alone_goal one;
           normal = one_normal d row ts new taken given.each given.facts done lasting t one;
           facts = one_facts d row ts new taken given.each given.facts done lasting t one f is;
           left = λ normal. absurd (not_left (ap is_short one) normal);
@@ -324,6 +339,7 @@ module _ (d : Direction) (row : RowFacts) (ts : Trees) (given : AreParts row ts)
         }
         alone_normalized (inr one) some (Err e) is = record {
           keeps = alone_keeps one;
+          goal = alone_goal one;
           normal = tt;
           facts = tt;
           left = λ normal. absurd (not_left (ap is_short one) normal);

@@ -23,6 +23,7 @@ use Rattle.regress_normalize.specs.declared.facts.PartFacts.{PartFacts}
 use Rattle.regress_normalize.specs.Normalized.{Normalized}
 use Rattle.regress_normalize.specs.PartFacts.{StandsAsOne, HasFacts}
 use Rattle.regress_normalize.specs.Steps.{Clears}
+use Rattle.regress_normalize.proofs.GoalLemmas.{cleared_goal}
 use Rattle.regress_normalize.proofs.NormalLemmas.{IsNormal-leaf}
 
 -- ---- what holds no node
@@ -140,6 +141,7 @@ module _ (old simplified formed new : Tree) (part : IsPart old) (first : Clears 
       Normalized d old new (Ok facts)
   leaf_finished d facts no_bracket no_literal no_empty has was = record {
     keeps = Keeps-trans d (first.keeps d) (Keeps-trans d (second.keeps d) (third.keeps d));
+    goal = cleared_goal old simplified new first same;
     normal = leaf_normal new third.leaf
         (LacksShape-here is_simplified_away new
         ((third.keeps d).brackets ((second.keeps d).brackets (leaf_lacks is_simplified_away simplified first.leaf no_bracket))))
@@ -153,13 +155,17 @@ module _ (old simplified formed new : Tree) (part : IsPart old) (first : Clears 
 
 -- after an error
 module _ (d : Direction) (old simplified : Tree) (first : Clears is_simplified_away old simplified) where
+  at_first : IsNormal old → simplified ≡ old
+  at_first normal = first.left (LacksShape-here is_simplified_away old normal.simplified)
+
   pub simplified_error : (answer : Result PartFacts AllocError) → IsErr answer → Normalized d old simplified answer
   simplified_error (Ok facts) err = absurd (false≢true err)
   simplified_error (Err e) err = record {
     keeps = first.keeps d;
+    goal = cleared_goal old simplified simplified first at_first;
     normal = tt;
     facts = tt;
-    left = λ normal. first.left (LacksShape-here is_simplified_away old normal.simplified);
+    left = at_first;
     still_one = λ normal. tt;
   }
 
@@ -168,10 +174,13 @@ module _ (d : Direction) (old simplified : Tree) (first : Clears is_simplified_a
   formed_error formed second (Ok facts) err = absurd (false≢true err)
   formed_error formed second (Err e) err = record {
     keeps = Keeps-trans d (first.keeps d) (second.keeps d);
+    goal = cleared_goal old simplified formed first at_second;
     normal = tt;
     facts = tt;
-    left = λ normal.
-        let one = first.left (LacksShape-here is_simplified_away old normal.simplified) in
-        second.left (ap is_formed_away one ∙ LacksShape-here is_formed_away old normal.formed) ∙ one;
+    left = at_second;
     still_one = λ normal. tt;
   }
+    where
+      at_second : IsNormal old → formed ≡ old
+      at_second normal =
+          second.left (ap is_formed_away (at_first normal) ∙ LacksShape-here is_formed_away old normal.formed) ∙ at_first normal

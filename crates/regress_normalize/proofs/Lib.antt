@@ -5,5 +5,6 @@ pub mod FinishLemmas
 pub mod WrapperLemmas
 pub mod LeafLemmas
 pub mod NormalLemmas
+pub mod GoalLemmas
 pub mod AltLemmas
 pub mod TraversalLemmas

@@ -3,10 +3,10 @@ use Rattle.std.proofs.Common.{◌≡◌, ℕ, ◌+◌, Bool, true, false, ◌&&�
 use Rattle.std.proofs.Math.Bool.{and-false, or_assoc, or-false}
 use Rattle.std.proofs.lemmas.Bool.{or_parts, true≢false}
 use Rattle.regress_tree.specs.Measures.{total_in_row, levels_of_deepest}
-use Rattle.regress_tree.specs.NodeTests.{is_empty, match_always_fails}
+use Rattle.regress_tree.specs.NodeTests.{is_empty, is_goal, match_always_fails}
 use Rattle.regress_tree.specs.NormalForm.{IsNormal}
 use Rattle.regress_tree.specs.Reading.{Direction, forwards, backwards}
-use Rattle.regress_tree.specs.Shapes.{on_leaf, on_wrapper, some_node_in_row, some_in_row, first_in_row, has_neighbours, has_bytes, is_cat, is_string_set}
+use Rattle.regress_tree.specs.Shapes.{on_leaf, on_wrapper, some_node_in_row, some_in_row, first_in_row, last_in_row, has_neighbours, has_bytes, is_cat, is_string_set}
 use Rattle.regress_tree.specs.Tree.{Tree, Trees, byte_sequence, leaf, empty, cat, no_trees, more_trees, row_append, row_reverse}
 use Rattle.regress_tree.specs.Units.{charges}
 use Rattle.regress_tree.proofs.laws.Measures.{some_node-append, some_in_row-append, total-append, levels-append}
@@ -47,6 +47,7 @@ Packs-refl d ts = record {
   wrappers = λ test. refl;
   string_sets = refl;
   fails = refl;
+  goals = refl;
 }
 
 pub Packs-trans : (d : Direction) (ts us vs : Trees) → Packs d ts us → Packs d us vs → Packs d ts vs
@@ -60,6 +61,7 @@ Packs-trans d ts us vs a b = record {
   wrappers = λ test. b.wrappers test ∙ a.wrappers test;
   string_sets = b.string_sets ∙ a.string_sets;
   fails = b.fails ∙ a.fails;
+  goals = b.goals ∙ a.goals;
 }
 
 module _ (d : Direction) (u : Tree) (us vs : Trees) (packs : Packs d (more_trees u us) vs) (xs zs : Trees) where
@@ -120,6 +122,7 @@ module _ (d : Direction) (u : Tree) (us vs : Trees) (packs : Packs d (more_trees
     wrappers = λ test. some_node-around (on_wrapper test) (packs.wrappers test);
     string_sets = some_node-around (on_leaf is_string_set) packs.string_sets;
     fails = some_in_row-around match_always_fails packs.fails;
+    goals = some_in_row-around is_goal packs.goals;
   }
 
 -- ---- what is packed
@@ -135,6 +138,7 @@ empty_packs d = record {
   wrappers = λ test. refl;
   string_sets = refl;
   fails = refl;
+  goals = refl;
 }
 
 longer_normal : (a b : List ℕ) → IsNormal (written a) → IsNormal (written (a ++ b))
@@ -155,6 +159,7 @@ pair_packs forwards a b = record {
   wrappers = λ test. refl;
   string_sets = refl;
   fails = refl;
+  goals = refl;
 }
 pair_packs backwards a b = record {
   keeps = pair_keeps backwards b a;
@@ -166,6 +171,7 @@ pair_packs backwards a b = record {
   wrappers = λ test. refl;
   string_sets = refl;
   fails = refl;
+  goals = refl;
 }
 
 -- ---- turned
@@ -216,12 +222,6 @@ takes_packs d before behind old part new takes =
     (sym takes.is) (joins d before behind (bytes_of old) (bytes_of part))))
 
 -- ---- nothing to pack
-
--- whether the last tree of the row passes the test
-abbrev last_in_row : (Tree → Bool) → Trees → Bool
-last_in_row test no_trees = false
-last_in_row test (more_trees t no_trees) = test t
-last_in_row test (more_trees t (more_trees u us)) = last_in_row test (more_trees u us)
 
 has_neighbours-push : (test : Tree → Bool) (ts : Trees) (t : Tree) →
     has_neighbours test (row_append ts (more_trees t no_trees)) ≡ (has_neighbours test ts || (last_in_row test ts && test t))

@@ -23,6 +23,7 @@ use Rattle.regress_normalize.specs.declared.facts.PartFacts.{PartFacts}
 use Rattle.regress_normalize.specs.Normalized.{Finished, Normalized, IsCleanAround, RowIsNormal, IsWrapperOf, IsAltOf}
 use Rattle.regress_normalize.specs.PartFacts.{HasFacts, IsStillOne}
 use Rattle.regress_normalize.specs.Steps.{StandsFor, IsAltOnto}
+use Rattle.regress_normalize.proofs.GoalLemmas.{only_goal, put_goal}
 use Rattle.regress_normalize.proofs.NormalLemmas.{IsNormal-part, IsNormal-reattach}
 use Rattle.regress_normalize.proofs.PackedLemmas.{RowIsNormal-append}
 
@@ -31,6 +32,7 @@ use Rattle.regress_normalize.proofs.PackedLemmas.{RowIsNormal-append}
 pub StandsFor-then : (d : Direction) (t u v : Tree) → StandsFor d t u → StandsFor d u v → StandsFor d t v
 StandsFor-then d t u v first second = record {
   keeps = Keeps-trans d first.keeps second.keeps;
+  goal = λ has_goal. second.goal (first.goal has_goal);
   left = λ normal.
       let same = first.left normal in
       second.left (subst (λ (x : Tree). IsNormal x) (sym same) normal) ∙ same;
@@ -39,6 +41,7 @@ StandsFor-then d t u v first second = record {
 pub StandsFor-put : (p : Place) (d : Direction) (t u : Tree) → StandsFor (direction_at p d) t u → StandsFor d (put p t) (put p u)
 StandsFor-put p d t u stands = record {
   keeps = Keeps-put p d stands.keeps;
+  goal = put_goal t u stands.left p;
   left = λ normal. ap (put p) (stands.left (IsNormal-part p t normal));
 }
 
@@ -50,7 +53,7 @@ StandsFor-reattach d (alt left above) t u stands =
 StandsFor-reattach d (wrapped w body) t u stands = stands
 
 pub StandsFor-normalized : (d : Direction) (t u : Tree) (answer : Result PartFacts AllocError) → Normalized d t u answer → StandsFor d t u
-StandsFor-normalized d t u answer normalized = record { keeps = normalized.keeps; left = normalized.left }
+StandsFor-normalized d t u answer normalized = record { keeps = normalized.keeps; goal = normalized.goal; left = normalized.left }
 
 pub IsPart-stands : (d : Direction) (t u : Tree) → StandsFor d t u → IsPart t → IsPart u
 IsPart-stands d t u stands part = IsPart-kept d stands.keeps part
@@ -61,6 +64,7 @@ Normalized-after d t u v answer first second =
     let both = StandsFor-then d t u v first (StandsFor-normalized d u v answer second) in
     record {
       keeps = both.keeps;
+      goal = both.goal;
       normal = second.normal;
       facts = second.facts;
       left = both.left;
@@ -72,6 +76,7 @@ pub Normalized-finished : (clean : Type 0) (d : Direction) (t u v : Tree) (answe
     Finished clean d u v answer → (IsNormal t → clean) → Normalized d t v answer
 Normalized-finished clean d t u v answer first second is_clean = record {
   keeps = Keeps-trans d first.keeps second.keeps;
+  goal = λ has_goal. second.goal (first.goal has_goal);
   normal = second.normal;
   facts = second.facts;
   left = λ normal. second.left (is_clean normal) ∙ first.left normal;
@@ -83,19 +88,20 @@ pub Normalized-error : (d : Direction) (t u : Tree) (answer : Result PartFacts A
     Normalized d t u answer
 Normalized-error d t u (Ok facts) err stands = absurd (false≢true err)
 Normalized-error d t u (Err e) err stands =
-    record { keeps = stands.keeps; normal = tt; facts = tt; left = stands.left; still_one = λ normal. tt }
+    record { keeps = stands.keeps; goal = stands.goal; normal = tt; facts = tt; left = stands.left; still_one = λ normal. tt }
 
 -- the same beside something else that is known before
 pub Finished-error : (known : Type 0) (d : Direction) (t u : Tree) (answer : Result PartFacts AllocError) → IsErr answer → StandsFor d t u →
     Finished (IsNormal t × known) d t u answer
 Finished-error known d t u (Ok facts) err stands = absurd (false≢true err)
 Finished-error known d t u (Err e) err stands =
-    record { keeps = stands.keeps; normal = tt; facts = tt; left = λ clean. stands.left clean.0; still_one = λ clean. tt }
+    record { keeps = stands.keeps; goal = stands.goal; normal = tt; facts = tt; left = λ clean. stands.left clean.0; still_one = λ clean. tt }
 
 -- a part in the place of a `Cat` of one
 pub StandsFor-only_part : (d : Direction) (t part : Tree) → t ≡ cat (more_trees part no_trees) → StandsFor d t part
 StandsFor-only_part d t part is = subst (λ (u : Tree). StandsFor d u part) (sym is) (record {
   keeps = Keeps-one_part d part;
+  goal = only_goal part;
   left = λ normal. absurd (true≢false (LacksShape-here is_flattened_away (cat (more_trees part no_trees)) normal.flattened));
 })
 

@@ -23,7 +23,7 @@ use Rattle.regress_rewrite.proofs.laws.Failing.{fails_keeps}
 use Rattle.regress_rewrite.proofs.laws.Keeps.{Keeps-refl, Keeps-trans, Keeps-put, IsPart-part, IsPart-kept}
 use Rattle.regress_rewrite.proofs.laws.Promotion.{promoted_keeps}
 use Rattle.regress_rewrite.proofs.laws.Unrolling.{MayUnroll-from, unrolled_keeps, unrolled-without}
-use Rattle.regress_normalize.specs.Normalized.{Finished, Normalized, IsCleanAround, IsWrapperOf, RowIsNormal}
+use Rattle.regress_normalize.specs.Normalized.{HasGoal, Finished, Normalized, IsCleanAround, IsWrapperOf, RowIsNormal}
 use Rattle.regress_normalize.specs.PartFacts.{HasFacts, HasRowFacts}
 use Rattle.regress_normalize.specs.Wrapped.{IsLoopOf, in_form, TakesForm, IsPlanned, HasFinishedParts}
 use Rattle.regress_normalize.specs.declared.facts.PartFacts.{PartFacts}
@@ -31,6 +31,7 @@ use Rattle.regress_normalize.specs.declared.facts.RowFacts.{RowFacts}
 use Rattle.regress_normalize.specs.declared.wrapper.LoopForm.{LoopForm}
 use Rattle.regress_normalize.specs.declared.wrapper.LoopForm.TheVariants.{OneCharacter, Empty, AlwaysFails, Stays}
 use Rattle.regress_normalize.specs.declared.wrapper.LoopPlan.{LoopPlan}
+use Rattle.regress_normalize.proofs.GoalLemmas.{wrapped_goal}
 use Rattle.regress_normalize.proofs.NormalLemmas.{empty_normal, nothing_normal}
 use Rattle.regress_normalize.proofs.PackedLemmas.{RowIsNormal-append}
 
@@ -54,12 +55,13 @@ IsNormal-wrapped w body normal lacks = record {
   failed = ap₂ ◌||◌ lacks.failed normal.failed;
 }
 
-module _ (clean : Type 0) (d : Direction) (t : Tree) where
+module _ (clean : Type 0) (d : Direction) (t : Tree) (no_goal : HasGoal t → ⊥) where
   -- there was something to do
   pub finished-changed : (clean → ⊥) → (new : Tree) (facts : PartFacts) → Keeps d t new → IsNormal new → HasFacts facts new →
       Finished clean d t new (Ok facts)
   finished-changed other new facts keeps normal has = record {
     keeps = keeps;
+    goal = λ has_goal. absurd (no_goal has_goal);
     normal = normal;
     facts = has;
     left = λ is_clean. absurd (other is_clean);
@@ -69,6 +71,7 @@ module _ (clean : Type 0) (d : Direction) (t : Tree) where
   pub finished-changed_error : (clean → ⊥) → (new : Tree) (e : AllocError) → Keeps d t new → Finished clean d t new (Err e)
   finished-changed_error other new e keeps = record {
     keeps = keeps;
+    goal = λ has_goal. absurd (no_goal has_goal);
     normal = tt;
     facts = tt;
     left = λ is_clean. absurd (other is_clean);
@@ -80,6 +83,7 @@ module _ (clean : Type 0) (d : Direction) (t : Tree) where
       Finished clean d t new answer
   finished-then other mid new answer keeps rest = record {
     keeps = Keeps-trans d keeps rest.keeps;
+    goal = λ has_goal. absurd (no_goal has_goal);
     normal = rest.normal;
     facts = rest.facts;
     left = λ is_clean. absurd (other is_clean);
@@ -89,12 +93,14 @@ module _ (clean : Type 0) (d : Direction) (t : Tree) where
 -- ---- a loop that is not unrolled
 
 -- what is emptied becomes `Empty`
-pub emptied_finished : (clean : Type 0) (d : Direction) (t : Tree) → (clean → IsNormal t) → is_cat t ≡ false → is_emptied_away t ≡ true → IsPart t →
-    (facts : PartFacts) → HasFacts facts (leaf empty) → Finished clean d t (leaf empty) (Ok facts)
-emptied_finished clean d t normal other is part facts has =
-    finished-changed clean d t
+pub emptied_finished : (clean : Type 0) (d : Direction) (w : Wrapper) (body : Tree) → (clean → IsNormal (wrapped w body)) →
+    is_emptied_away (wrapped w body) ≡ true → IsPart (wrapped w body) →
+    (facts : PartFacts) → HasFacts facts (leaf empty) → Finished clean d (wrapped w body) (leaf empty) (Ok facts)
+emptied_finished clean d w body normal is part facts has =
+    let t = wrapped w body in
+    finished-changed clean d t (wrapped_goal w body)
     (λ is_clean. true≢false (sym is ∙ LacksShape-here is_emptied_away t (normal is_clean).emptied))
-    (leaf empty) facts (emptied_keeps d t other is part) empty_normal has
+    (leaf empty) facts (emptied_keeps d t refl is part) empty_normal has
 
 module _ (facts : PartFacts) (q : Quantifier) (start end : ℕ) (body : Tree) (normal : IsNormal body) (has : HasFacts facts body) where
   abbrev around : Tree
@@ -120,20 +126,21 @@ module _ (facts : PartFacts) (q : Quantifier) (start end : ℕ) (body : Tree) (n
         new.was_one_character ≡ false → may_unroll q start end body ≡ false →
         Finished (IsCleanAround facts around) d around (in_form form q start end body) (Ok new)
     form_finished (OneCharacter room) takes new_has many stays =
-        finished-changed (IsCleanAround facts around) d around (not_clean takes) (wrapped (loop_one q) body) new
+        finished-changed (IsCleanAround facts around) d around (wrapped_goal (loop q start end) body) (not_clean takes) (wrapped (loop_one q) body) new
         (promoted_keeps d q start end body (one takes) part)
         (IsNormal-wrapped (loop_one q) body normal (record { unrolled = refl; promoted = refl; emptied = refl; failed = refl }))
         new_has
     form_finished Empty takes new_has many stays =
-        emptied_finished (IsCleanAround facts around) d around (λ clean. clean.0) refl takes part new new_has
+        emptied_finished (IsCleanAround facts around) d (loop q start end) body (λ clean. clean.0) takes part new new_has
     form_finished AlwaysFails takes new_has many stays =
-        finished-changed (IsCleanAround facts around) d around
+        finished-changed (IsCleanAround facts around) d around (wrapped_goal (loop q start end) body)
         (λ clean. true≢false
         (sym (and_from (fails_by_part around) (not (has_group around)) takes.0 (ap not takes.1))
         ∙ LacksShape-here is_failed_away around clean.0.failed))
         (leaf (byte_set [])) new (fails_keeps d around refl takes.0 takes.1 part) nothing_normal new_has
     form_finished Stays takes new_has many stays = record {
       keeps = Keeps-refl d around;
+      goal = λ has_goal. has_goal;
       normal = IsNormal-wrapped (loop q start end) body normal
           (record { unrolled = stays; promoted = takes.0; emptied = takes.1; failed = takes.2 });
       facts = new_has;
@@ -244,19 +251,24 @@ module _ (facts : PartFacts) (q : Quantifier) (start end : ℕ) (body : Tree) (h
     }
 
 -- a loop that is unrolled, and the row that it becomes
-module _ (d : Direction) (t mid : Tree) (parts : Result RowFacts AllocError) (finished : HasFinishedParts d t mid parts) where
+module _ (d : Direction) (t mid : Tree) (parts : Result RowFacts AllocError) (finished : HasFinishedParts d t mid parts)
+    (facts : PartFacts) (holds : IsWrapperOf facts t) where
+  no_goal : HasGoal t → ⊥
+  no_goal has_goal = wrapped_goal holds.wrapper holds.body (subst (λ (u : Tree). HasGoal u) holds.is has_goal)
+
   pub row_finished : (new : Tree) (answer : Result PartFacts AllocError) → Normalized d mid new answer → Finished ⊥ d t new answer
-  row_finished new answer = finished-then ⊥ d t (λ none. none) mid new answer finished.keeps
+  row_finished new answer = finished-then ⊥ d t no_goal (λ none. none) mid new answer finished.keeps
 
   pub row_error : (answer : Result PartFacts AllocError) → IsErr answer → Finished ⊥ d t mid answer
-  row_error (Ok facts) err = absurd (false≢true err)
-  row_error (Err e) err = finished-changed_error ⊥ d t (λ none. none) mid e finished.keeps
+  row_error (Ok known) err = absurd (false≢true err)
+  row_error (Err e) err = finished-changed_error ⊥ d t no_goal (λ none. none) mid e finished.keeps
 
 -- what is clean in a narrower sense
 pub finished_narrower : (wide narrow : Type 0) (d : Direction) (t new : Tree) (answer : Result PartFacts AllocError) → (narrow → wide) →
     Finished wide d t new answer → Finished narrow d t new answer
 finished_narrower wide narrow d t new answer narrower finished = record {
   keeps = finished.keeps;
+  goal = finished.goal;
   normal = finished.normal;
   facts = finished.facts;
   left = λ clean. finished.left (narrower clean);

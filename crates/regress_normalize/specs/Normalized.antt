@@ -1,17 +1,25 @@
 -- What normalizing makes of a part.
-use Rattle.std.specs.Prelude.{◌≡◌, Result, IfOk, OnOk}
+use Rattle.std.specs.Prelude.{◌≡◌, ◌⊎◌, true, [], Result, IfOk, OnOk}
 use Rattle.std.specs.declared.alloc.AllocError.{AllocError}
+use Rattle.regress_tree.specs.NodeTests.{is_goal}
 use Rattle.regress_tree.specs.NormalForm.{IsNormal}
 use Rattle.regress_tree.specs.Reading.{Direction}
-use Rattle.regress_tree.specs.Tree.{Wrapper, Tree, Trees, leaf, cat, alt, wrapped, no_trees, more_trees}
+use Rattle.regress_tree.specs.Shapes.{some_in_row}
+use Rattle.regress_tree.specs.Tree.{byte_set, Wrapper, Tree, Trees, leaf, cat, alt, wrapped, no_trees, more_trees}
 use Rattle.regress_rewrite.specs.Law.{Keeps}
+use Rattle.regress_rewrite.specs.Splice.{parts_of}
 use Rattle.regress_normalize.specs.PartFacts.{HasFacts, IsStillOne, HasRowFacts}
 use Rattle.regress_normalize.specs.declared.facts.PartFacts.{PartFacts}
 use Rattle.regress_normalize.specs.declared.facts.RowFacts.{RowFacts}
 
+-- it or a part of it is `Goal`, or it is a set of nothing
+abbrev pub HasGoal : Tree → Type 0
+HasGoal t = (some_in_row is_goal (parts_of t) ≡ true) ⊎ (t ≡ leaf (byte_set []))
+
 -- The new tree stands for the old one, whatever is answered. Unless memory was wanting it is in normal form and has the facts.
 pub record Finished (clean : Type 0) (d : Direction) (old new : Tree) (answer : Result PartFacts AllocError) : Type 0 where
   pub keeps : Keeps d old new
+  pub goal : HasGoal old → HasGoal new
   pub normal : OnOk answer (IsNormal new)
   pub facts : IfOk answer (λ facts. HasFacts facts new)
   -- and what is clean is left as it is

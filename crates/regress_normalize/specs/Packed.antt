@@ -1,7 +1,7 @@
 -- What packing makes of a row: an `Empty` is left out, and two neighbouring byte sequences become one.
 use Rattle.std.specs.Prelude.{◌≡◌, ℕ, ◌+◌, ◌≤◌, Bool, true, false, ◌++◌, max}
 use Rattle.regress_tree.specs.Measures.{total_in_row, levels_of_deepest}
-use Rattle.regress_tree.specs.NodeTests.{is_empty, match_always_fails}
+use Rattle.regress_tree.specs.NodeTests.{is_empty, is_goal, match_always_fails}
 use Rattle.regress_tree.specs.Reading.{Direction, forwards, backwards}
 use Rattle.regress_tree.specs.Shapes.{on_leaf, on_wrapper, some_node_in_row, some_in_row, has_neighbours, has_bytes, has_cat, is_string_set}
 use Rattle.regress_tree.specs.Tree.{Wrapper, Tree, Trees, leaf, byte_sequence, cat, row_reverse}
@@ -30,6 +30,7 @@ pub record Packs (d : Direction) (old new : Trees) : Type 0 where
   pub wrappers : (test : Wrapper → Bool) → some_node_in_row (on_wrapper test) new ≡ some_node_in_row (on_wrapper test) old
   pub string_sets : some_node_in_row (on_leaf is_string_set) new ≡ some_node_in_row (on_leaf is_string_set) old
   pub fails : some_in_row match_always_fails new ≡ some_in_row match_always_fails old
+  pub goals : some_in_row is_goal new ≡ some_in_row is_goal old
 
 -- There is nothing to pack.
 pub record IsPacked (ts : Trees) : Type 0 where

@@ -5,12 +5,14 @@ use Rattle.regress_tree.specs.NormalForm.{IsNormal}
 use Rattle.regress_tree.specs.Reading.{Direction}
 use Rattle.regress_tree.specs.Tree.{Tree, alt}
 use Rattle.regress_rewrite.specs.Law.{Keeps}
+use Rattle.regress_normalize.specs.Normalized.{HasGoal}
 use Rattle.regress_normalize.specs.PartFacts.{HasFacts}
 use Rattle.regress_normalize.specs.declared.facts.PartFacts.{PartFacts}
 
 -- What normalizing some of a tree keeps, whatever it answers.
 pub record StandsFor (d : Direction) (old new : Tree) : Type 0 where
   pub keeps : Keeps d old new
+  pub goal : HasGoal old → HasGoal new
   -- what is in normal form is left as it is
   pub left : IsNormal old → new ≡ old
 

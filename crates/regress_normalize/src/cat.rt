@@ -1,6 +1,6 @@
 //! A `Cat` whose parts are in normal form.
 ghost use Rattle.std.specs.Prelude.{◌≡◌, ◌⊎◌, ◌≤◌, ◌||◌, true, false, MatchBool, IfOk, OnOk, OnErr, IfSome, None};
-ghost use Rattle.regress_tree.specs.NodeTests.{is_empty};
+ghost use Rattle.regress_tree.specs.NodeTests.{is_empty, is_goal};
 ghost use Rattle.regress_tree.specs.Reading.{Direction};
 ghost use Rattle.regress_tree.specs.Shapes.{has_bytes, has_cat, has_neighbours, some_in_row, is_short};
 ghost use Rattle.regress_tree.specs.Tree.{leaf, empty, cat, no_trees, more_trees, tree, trees};
@@ -85,6 +85,7 @@ fn pack(alloc: Global, parts: &mut NodeList, walk: &Walk) -> Result<usize, Alloc
     ensures keeps { Keeps (direction_of walk.now) (cat (trees parts.old.items)) (cat (trees parts.new.items)) }
     ensures packed { IfOk result (IsRowPacked (direction_of walk.now) (trees parts.old.items) (trees parts.new.items)) }
     ensures left { has_cat (trees parts.old.items) ≡ false → IsPacked (trees parts.old.items) → trees parts.new.items ≡ trees parts.old.items }
+    ensures goal { some_in_row is_goal (trees parts.old.items) ≡ true → some_in_row is_goal (trees parts.new.items) ≡ true }
 {
     splice_cats(alloc, parts)?;
     let len = parts.len();

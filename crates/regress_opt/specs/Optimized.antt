@@ -1,15 +1,17 @@
 -- What `optimize` makes of a tree, as it is answered beside it.
-use Rattle.std.specs.Prelude.{◌≡◌, ◌≤◌, ◌+◌, ◌*◌, Result, OnOk}
+use Rattle.std.specs.Prelude.{◌≡◌, ◌⊎◌, true, ◌≤◌, ◌+◌, ◌*◌, Result, OnOk}
 use Rattle.std.specs.declared.alloc.AllocError.{AllocError}
 use Rattle.regress_tree.specs.declared.ir.node.Regex.{Regex}
 use Rattle.regress_tree.specs.Reading.{forwards}
+use Rattle.regress_tree.specs.NodeTests.{match_always_fails}
+use Rattle.regress_tree.specs.Shapes.{ends_in_goal}
 use Rattle.regress_tree.specs.Tree.{tree}
 use Rattle.regress_tree.specs.WellFormed.{IsWellFormed, captures}
 use Rattle.regress_tree.specs.Units.{units, unrolling, loops, account}
 use Rattle.regress_tree.specs.NormalForm.{IsNormal}
 use Rattle.regress_rewrite.specs.Law.{MeansTheSame}
 
--- The tree means the same, in normal form unless memory was wanting, and as it was where it had that form.
+-- The tree means the same and ends in `Goal` as it did, in normal form unless memory was wanting, and as it was where it had that form.
 pub record IsOptimized (old : Regex) (answer : Regex × Result (Unit {0}) AllocError) : Type 0 where
   pub meaning : MeansTheSame forwards (tree old.node) (tree answer.0.node)
   pub well_formed : IsWellFormed (tree answer.0.node)
@@ -17,5 +19,6 @@ pub record IsOptimized (old : Regex) (answer : Regex × Result (Unit {0}) AllocE
   pub account : account (tree answer.0.node) ≤ account (tree old.node)
   pub units : units (tree answer.0.node) ≤ units (tree old.node) + unrolling * loops (tree old.node)
   pub flags : answer.0.flags ≡ old.flags
+  pub goal : (ends_in_goal (tree answer.0.node) ≡ ends_in_goal (tree old.node)) ⊎ (match_always_fails (tree answer.0.node) ≡ true)
   pub normal : OnOk answer.1 (IsNormal (tree answer.0.node))
   pub left : IsNormal (tree old.node) → tree answer.0.node ≡ tree old.node

@@ -1,8 +1,10 @@
 //! From the text of a pattern to its tree in normal form.
-ghost use Rattle.std.specs.Prelude.{◌≡◌, ◌≤◌, ◌+◌, ◌*◌, All, IfOk, OnOk, IsOkAnd, MatchResult};
+ghost use Rattle.std.specs.Prelude.{◌≡◌, ◌⊎◌, true, ◌≤◌, ◌+◌, ◌*◌, All, IfOk, OnOk, IsOkAnd, MatchResult};
 ghost use Rattle.regress_base.specs.Intervals.{code_point_max};
 ghost use Rattle.regress_unicode.specs.TableOf.{table_of};
 ghost use Rattle.regress_syntax.specs.SettingOf.{setting_of};
+ghost use Rattle.regress_tree.specs.NodeTests.{match_always_fails};
+ghost use Rattle.regress_tree.specs.Shapes.{ends_in_goal};
 ghost use Rattle.regress_tree.specs.Tree.{tree};
 ghost use Rattle.regress_tree.specs.WellFormed.{IsWellFormed, captures};
 ghost use Rattle.regress_tree.specs.Units.{units, unrolling, loops};
@@ -49,6 +51,8 @@ pub fn parse_and_optimize(
     ensures meaning { let setting = setting_of flags tables.now in
         IfOk result (λ r. OfAccepted setting pattern.now (Means setting (tree r.0.node))) }
     ensures flags { IfOk result (λ r. r.0.flags ≡ flags) }
+    // It ends in `Goal`, or always fails.
+    ensures goal { IfOk result (λ r. (ends_in_goal (tree r.0.node) ≡ true) ⊎ (match_always_fails (tree r.0.node) ≡ true)) }
 
     // It is well formed, with the pattern's groups under their ids and names, and has grown by at most
     // what unrolling adds for each loop.

@@ -1,6 +1,8 @@
 //! The tree of a pattern in normal form.
-ghost use Rattle.std.specs.Prelude.{◌≡◌, ◌≤◌, ◌+◌, ◌*◌, OnOk};
+ghost use Rattle.std.specs.Prelude.{◌≡◌, ◌⊎◌, true, ◌≤◌, ◌+◌, ◌*◌, OnOk};
 ghost use Rattle.regress_tree.specs.Reading.{forwards};
+ghost use Rattle.regress_tree.specs.NodeTests.{match_always_fails};
+ghost use Rattle.regress_tree.specs.Shapes.{ends_in_goal};
 ghost use Rattle.regress_tree.specs.Tree.{tree};
 ghost use Rattle.regress_tree.specs.WellFormed.{IsWellFormed, captures};
 ghost use Rattle.regress_tree.specs.Units.{units, unrolling, loops, account};
@@ -25,6 +27,8 @@ pub fn optimize(alloc: Global, r: &mut Regex) -> Result<(), AllocError>
     ensures account { account (tree r.new.node) ≤ account (tree r.old.node) }
     ensures units { units (tree r.new.node) ≤ units (tree r.old.node) + unrolling * loops (tree r.old.node) }
     ensures flags { r.new.flags ≡ r.old.flags }
+    // It ends in `Goal` exactly where the old one did, or always fails.
+    ensures goal { (ends_in_goal (tree r.new.node) ≡ ends_in_goal (tree r.old.node)) ⊎ (match_always_fails (tree r.new.node) ≡ true) }
 
     // The normal form.
     ensures normal { OnOk result (IsNormal (tree r.new.node)) }

@@ -4,10 +4,12 @@ use Rattle.std.specs.Prelude.{if◌then◌else◌}
 use Rattle.std.proofs.lemmas.Bool.{false≢true, cond-true, cond-false, and_parts}
 use Rattle.regress_tree.specs.declared.ir.groups.GroupIds.{GroupIds}
 use Rattle.regress_tree.specs.declared.ir.groups.Groups.{Groups}
+use Rattle.regress_tree.specs.NodeTests.{is_goal}
 use Rattle.regress_tree.specs.Shapes.{is_cat}
 use Rattle.regress_tree.specs.Tree.{Leaf, empty, goal, char, byte_sequence, byte_set, char_set, match_any, match_any_except_line_terminator, anchor, word_boundary, bracket, back_ref, string_set, Tree, Trees, leaf, cat, alt, wrapped, no_trees, more_trees, row_append}
 use Rattle.regress_tree.specs.WellFormed.{captures, captures_in_row, Position, inside, last, root, LeafMayStand, MayStand, RowMayStand, IsWellFormed}
-use Rattle.regress_tree.specs.Survey.{holds, times_held, reference, reference_in_row, fill, PassesAt, FailsAt, is_goal_leaf, is_goal, without_goal}
+use Rattle.regress_tree.specs.Survey.{holds, times_held, reference, reference_in_row, fill, PassesAt, FailsAt, without_goal}
+use Rattle.regress_tree.proofs.laws.Goal.{goal-is, leaf-inside, last-inside}
 use Rattle.regress_tree.proofs.laws.Rows.{MayStand-from_last, RowMayStand-more, RowMayStand-parts}
 use Rattle.regress_tree.proofs.IdLemmas.{all-has, has-all}
 use Rattle.regress_tree.proofs.SurveyLemmas.{Passes-as, Fails-as, differ-held}
@@ -25,50 +27,6 @@ pub keep-last : (us : Trees) (t : Tree) → is_goal t ≡ false →
 keep-last no_trees t e = cond-false _ no_trees (more_trees t no_trees) e
 keep-last (more_trees u no_trees) t e = ap (more_trees u) (cond-false _ no_trees (more_trees t no_trees) e)
 keep-last (more_trees u (more_trees v vs)) t e = ap (more_trees u) (keep-last (more_trees v vs) t e)
-
-goal_leaf-is : (l : Leaf) → is_goal_leaf l ≡ true → l ≡ goal
-goal_leaf-is empty e = absurd (false≢true e)
-goal_leaf-is goal e = refl
-goal_leaf-is (char c) e = absurd (false≢true e)
-goal_leaf-is (byte_sequence bytes) e = absurd (false≢true e)
-goal_leaf-is (byte_set bytes) e = absurd (false≢true e)
-goal_leaf-is (char_set characters) e = absurd (false≢true e)
-goal_leaf-is match_any e = absurd (false≢true e)
-goal_leaf-is match_any_except_line_terminator e = absurd (false≢true e)
-goal_leaf-is (anchor kind multiline) e = absurd (false≢true e)
-goal_leaf-is (word_boundary invert unicode_icase) e = absurd (false≢true e)
-goal_leaf-is (bracket invert intervals) e = absurd (false≢true e)
-goal_leaf-is (back_ref group icase) e = absurd (false≢true e)
-goal_leaf-is (string_set strings icase) e = absurd (false≢true e)
-
-goal-is : (t : Tree) → is_goal t ≡ true → t ≡ leaf goal
-goal-is (leaf l) e = ap leaf (goal_leaf-is l e)
-goal-is (cat parts) e = absurd (false≢true e)
-goal-is (alt left right) e = absurd (false≢true e)
-goal-is (wrapped w body) e = absurd (false≢true e)
-
--- what is no goal may stand inside wherever it stands
-leaf-inside : (n : ℕ) (l : Leaf) (p : Position) → is_goal_leaf l ≡ false → LeafMayStand n l p → LeafMayStand n l inside
-leaf-inside n empty p e m = tt
-leaf-inside n goal p e m = absurd (false≢true (sym e))
-leaf-inside n (char c) p e m = m
-leaf-inside n (byte_sequence bytes) p e m =
-    record { characters = m.characters; are_scalar = m.are_scalar; encoded = m.encoded; one = tt }
-leaf-inside n (byte_set bytes) p e m = record { bounded = m.bounded; small = m.small; some = tt }
-leaf-inside n (char_set characters) p e m = record { bounded = m.bounded; small = m.small; some = tt }
-leaf-inside n match_any p e m = tt
-leaf-inside n match_any_except_line_terminator p e m = tt
-leaf-inside n (anchor kind multiline) p e m = tt
-leaf-inside n (word_boundary invert unicode_icase) p e m = tt
-leaf-inside n (bracket invert intervals) p e m = record { canonical = m.canonical; some = tt }
-leaf-inside n (back_ref group icase) p e m = record { free = tt; low = m.low; high = m.high }
-leaf-inside n (string_set strings icase) p e m = record { free = tt; bounded = m.bounded }
-
-last-inside : (n : ℕ) (t : Tree) → is_goal t ≡ false → MayStand n t last → MayStand n t inside
-last-inside n (leaf l) e m = leaf-inside n l last e m
-last-inside n (cat parts) e m = m
-last-inside n (alt left right) e m = m
-last-inside n (wrapped w body) e m = m
 
 root-inside : (n : ℕ) (t : Tree) → is_goal t ≡ false → is_cat t ≡ false → MayStand n t root → MayStand n t inside
 root-inside n (leaf l) e f m = leaf-inside n l root e m

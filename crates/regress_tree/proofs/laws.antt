@@ -11,6 +11,7 @@ pub mod Copies
 pub mod Distinct
 pub mod Falling
 pub mod Gathered
+pub mod Goal
 pub mod Groups
 pub mod Levels
 pub mod Literals

@@ -1,7 +1,7 @@
 -- Tests on one node.
 use Rattle.std.specs.Prelude.{Bool, true, false, not, ◌&&◌, ◌==◌, List, [], ◌∷◌}
 use Rattle.regress_base.specs.Intervals.{Bounds, code_point_max}
-use Rattle.regress_tree.specs.Tree.{Leaf, empty, char, byte_sequence, byte_set, char_set, match_any, match_any_except_line_terminator, bracket, Tree, leaf, cat, row_reverse}
+use Rattle.regress_tree.specs.Tree.{Leaf, empty, goal, char, byte_sequence, byte_set, char_set, match_any, match_any_except_line_terminator, bracket, Tree, leaf, cat, row_reverse}
 
 -- there is no member
 abbrev pub is_none : {X : Type 0} → List X → Bool
@@ -27,6 +27,15 @@ is_empty_leaf l = false
 abbrev pub is_empty : Tree → Bool
 is_empty (leaf l) = is_empty_leaf l
 is_empty t = false
+
+abbrev pub is_goal_leaf : Leaf → Bool
+is_goal_leaf goal = true
+is_goal_leaf l = false
+
+-- it is `Goal`
+abbrev pub is_goal : Tree → Bool
+is_goal (leaf l) = is_goal_leaf l
+is_goal t = false
 
 abbrev pub leaf_matches_exactly_one_char : Leaf → Bool
 leaf_matches_exactly_one_char (char c) = true

@@ -6,7 +6,7 @@ use Rattle.regress_base.specs.Intervals.{Bounds, code_point_max}
 use Rattle.regress_base.specs.Limits.{max_char_set_length}
 use Rattle.regress_base.specs.declared.types.Quantifier.{Quantifier}
 use Rattle.regress_tree.specs.Measures.{levels}
-use Rattle.regress_tree.specs.NodeTests.{is_none, is_empty, match_always_fails, matches_exactly_one_char}
+use Rattle.regress_tree.specs.NodeTests.{is_none, is_empty, is_goal, match_always_fails, matches_exactly_one_char}
 use Rattle.regress_tree.specs.Units.{charge}
 use Rattle.regress_tree.specs.Tree.{Leaf, char, byte_sequence, char_set, bracket, string_set, Wrapper, capture_group, loop, loop_one, lookaround, Tree, Trees, leaf, cat, alt, wrapped, no_trees, more_trees}
 
@@ -65,6 +65,16 @@ some_in_row test (more_trees t ts) = test t || some_in_row test ts
 abbrev pub first_in_row : (Tree → Bool) → Trees → Bool
 first_in_row test no_trees = false
 first_in_row test (more_trees t ts) = test t
+
+abbrev pub last_in_row : (Tree → Bool) → Trees → Bool
+last_in_row test no_trees = false
+last_in_row test (more_trees t no_trees) = test t
+last_in_row test (more_trees t (more_trees u us)) = last_in_row test (more_trees u us)
+
+-- the last part of a `Cat`, or any other tree itself, is `Goal`
+abbrev pub ends_in_goal : Tree → Bool
+ends_in_goal (cat parts) = last_in_row is_goal parts
+ends_in_goal t = is_goal t
 
 -- two neighbours in the row pass the test
 abbrev pub has_neighbours : (Tree → Bool) → Trees → Bool

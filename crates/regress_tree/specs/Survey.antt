@@ -4,6 +4,7 @@ use Rattle.regress_base.specs.ByteBitmap.{contains}
 use Rattle.regress_base.specs.declared.bytesearch.bitmap.ByteBitmap.{ByteBitmap}
 use Rattle.regress_tree.specs.declared.ir.groups.GroupIds.{GroupIds}
 use Rattle.regress_tree.specs.declared.ir.groups.Groups.{Groups}
+use Rattle.regress_tree.specs.NodeTests.{is_goal}
 use Rattle.regress_tree.specs.Tree.{Leaf, empty, goal, char, byte_sequence, byte_set, char_set, match_any, match_any_except_line_terminator, anchor, word_boundary, bracket, back_ref, string_set, Tree, Trees, leaf, cat, alt, wrapped, no_trees, more_trees}
 use Rattle.regress_tree.specs.WellFormed.{Capture, captures, Position, MayStand}
 
@@ -109,14 +110,6 @@ abbrev pub FailsAt : Position → Tree → GroupIds → Type 0
 FailsAt p t = Fails (StandsAt p t) (captures t)
 
 -- The goal at the end.
-
-abbrev pub is_goal_leaf : Leaf → Bool
-is_goal_leaf goal = true
-is_goal_leaf l = false
-
-abbrev pub is_goal : Tree → Bool
-is_goal (leaf l) = is_goal_leaf l
-is_goal t = false
 
 -- the row, but for a goal that is its last part
 abbrev pub without_goal : Trees → Trees

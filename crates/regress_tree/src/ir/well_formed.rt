@@ -6,7 +6,8 @@ ghost use Rattle.regress_tree.specs.Tree.{tree, trees, cat};
 ghost use Rattle.regress_tree.specs.WellFormed.{IsQuantifier, IsSmallSet, AreUtf8, root, inside, one_character};
 ghost use Rattle.regress_tree.specs.Spine.{is_alt};
 ghost use Rattle.regress_tree.specs.Copies.{is_leaf};
-ghost use Rattle.regress_tree.specs.Survey.{Tells, reference, StandsAt, PassesAt, FailsAt, is_goal, without_goal};
+ghost use Rattle.regress_tree.specs.NodeTests.{is_goal};
+ghost use Rattle.regress_tree.specs.Survey.{Tells, reference, StandsAt, PassesAt, FailsAt, without_goal};
 
 use super::brackets::accepts_none;
 use super::groups::{GroupIds, Groups};

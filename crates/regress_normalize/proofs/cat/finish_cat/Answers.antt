@@ -38,8 +38,9 @@ returns-in_err-taken c =
     let parts = parts_of_cat c.args.row.now (tree c.args.node.now) ts c.requires.parts (ap tree c.in-Cat.is ∙ tree-Cat c.in-Cat.parts) in
     let keeps = rw c.in-Cat.parts-is at c.pack.ensures.keeps in
     let left = rw c.in-Cat.parts-is at c.pack.ensures.left in
+    let goals = rw c.in-Cat.parts-is at c.pack.ensures.goal in
     rw (c.in-Cat.is, out-Cat) (simp tree-Cat
-    (err_normalized d c.args.row.now ts parts (trees c.pack.new.parts.items) keeps left c.from_residual.result c.from_residual.ensures.0))
+    (err_normalized d c.args.row.now ts parts (trees c.pack.new.parts.items) keeps left goals c.from_residual.result c.from_residual.ensures.0))
 
 pub returns-in_default-stand_in : goal.returns-in_default-stand_in
 returns-in_default-stand_in c =
@@ -49,12 +50,13 @@ returns-in_default-stand_in c =
     let parts = parts_of_cat row (tree c.args.node.now) ts c.requires.parts (ap tree c.in-Cat.is ∙ tree-Cat c.in-Cat.parts) in
     let keeps = rw c.in-Cat.parts-is at c.pack.ensures.keeps in
     let left = rw c.in-Cat.parts-is at c.pack.ensures.left in
+    let goals = rw c.in-Cat.parts-is at c.pack.ensures.goal in
     let done = rw c.in-Cat.parts-is at c.in_ok-taken.ensures.packed in
     let lasting = sym c.always_fails.ensures ∙ c.if-always_fails.false in
     let none = c.stand_in.ensures.none c.in_default-stand_in.is in
     rw (c.in-Cat.is, out-Cat) (simp tree-Cat
     (subst (λ (us : Trees). Normalized d (cat ts) (cat us) c.facts_of.result) (sym none.0)
-    (cat_normalized d row ts parts (trees c.pack.new.parts.items) keeps left c.in_ok-taken.taken done lasting none.1 c.facts_of.result
+    (cat_normalized d row ts parts (trees c.pack.new.parts.items) keeps left goals c.in_ok-taken.taken done lasting none.1 c.facts_of.result
     (c.facts_of.ensures.cat refl))))
 
 pub returns-then-is_empty : goal.returns-then-is_empty
@@ -66,11 +68,12 @@ returns-then-is_empty c =
     let parts = parts_of_cat row (tree c.args.node.now) ts c.requires.parts node_is in
     let keeps = rw c.in-Cat.parts-is at c.pack.ensures.keeps in
     let left = rw c.in-Cat.parts-is at c.pack.ensures.left in
+    let goals = rw c.in-Cat.parts-is at c.pack.ensures.goal in
     let done = rw c.in-Cat.parts-is at c.in_ok-taken.ensures.packed in
     let lasting = sym c.always_fails.ensures ∙ c.if-always_fails.false in
     let known = c.leaf_facts-then-is_empty in
     subst (λ (t : Tree). Normalized d t (tree c.in-Some.alone) (Ok known.result)) (sym node_is)
-    (empty_normalized d row ts parts (trees c.pack.new.parts.items) keeps left c.in_ok-taken.taken done lasting (tree c.in-Some.alone)
+    (empty_normalized d row ts parts (trees c.pack.new.parts.items) keeps left goals c.in_ok-taken.taken done lasting (tree c.in-Some.alone)
     c.in-Some.ensures.some (sym c.is_empty.ensures ∙ c.if-is_empty.true) known.result (rw (is_empty-leaf (tree c.in-Some.alone) (sym c.is_empty.ensures ∙ c.if-is_empty.true)) at known.ensures.has)
     known.ensures.was)
 
@@ -83,8 +86,9 @@ returns c =
     let parts = parts_of_cat row (tree c.args.node.now) ts c.requires.parts node_is in
     let keeps = rw c.in-Cat.parts-is at c.pack.ensures.keeps in
     let left = rw c.in-Cat.parts-is at c.pack.ensures.left in
+    let goals = rw c.in-Cat.parts-is at c.pack.ensures.goal in
     let done = rw c.in-Cat.parts-is at c.in_ok-taken.ensures.packed in
     let lasting = sym c.always_fails.ensures ∙ c.if-always_fails.false in
     subst (λ (t : Tree). Normalized d t (tree c.in-Some.alone) c.facts_of-2.result) (sym node_is)
-    (alone_normalized d row ts parts (trees c.pack.new.parts.items) keeps left c.in_ok-taken.taken done lasting (tree c.in-Some.alone)
+    (alone_normalized d row ts parts (trees c.pack.new.parts.items) keeps left goals c.in_ok-taken.taken done lasting (tree c.in-Some.alone)
     c.in-Some.ensures.some (sym c.is_empty.ensures ∙ c.if-is_empty.false) c.facts_of-2.result (c.facts_of-2.ensures.alone refl))

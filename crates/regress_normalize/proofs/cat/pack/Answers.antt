@@ -1,5 +1,7 @@
 -- Spliced, and then packed.
 use Rattle.std.proofs.Common.{◌∙◌, sym, ap, subst, arith}
+use Rattle.regress_tree.specs.NodeTests.{is_goal}
+use Rattle.regress_tree.specs.Shapes.{some_in_row}
 use Rattle.regress_tree.specs.Tree.{Trees, cat, trees}
 use Rattle.regress_tree.specs.Walk.{direction_of}
 use Rattle.regress_rewrite.specs.Law.{Keeps}
@@ -8,6 +10,7 @@ use Rattle.regress_rewrite.proofs.laws.Flattening.{spliced_keeps}
 use Rattle.regress_rewrite.proofs.laws.Keeps.{Keeps-trans}
 use Rattle.regress_rewrite.proofs.laws.Splicing.{row_length-trees, spliced-same}
 use Rattle.regress_normalize.specs.Packed.{Packs, IsPacked}
+use Rattle.regress_normalize.proofs.GoalLemmas.{spliced_goal}
 use Rattle.regress_normalize.proofs.cat.pack.Goals as goal
 
 pub returns-in_err-close_seams-clause-keeps : goal.returns-in_err-close_seams-clause-keeps
@@ -21,6 +24,11 @@ pub returns-in_err-close_seams-clause-left : goal.returns-in_err-close_seams-cla
 returns-in_err-close_seams-clause-left c no_cat packed =
     let same = c.in_ok-splice_cats.ensures.ok ∙ spliced-same (trees c.args.parts.now.items) no_cat in
     c.close_seams.ensures.left (subst IsPacked (sym same) packed) ∙ same
+
+pub returns-in_err-close_seams-clause-goal : goal.returns-in_err-close_seams-clause-goal
+returns-in_err-close_seams-clause-goal c has =
+    c.close_seams.ensures.packs.goals ∙ ap (some_in_row is_goal) c.in_ok-splice_cats.ensures.ok
+    ∙ spliced_goal (trees c.args.parts.now.items) has
 
 pub overflow_sub-result : goal.overflow_sub-result
 overflow_sub-result c =
@@ -69,3 +77,8 @@ pub returns-clause-left : goal.returns-clause-left
 returns-clause-left c no_cat packed =
     let same = c.in_ok-splice_cats.ensures.ok ∙ spliced-same (trees c.args.parts.now.items) no_cat in
     c.close_seams.ensures.left (subst IsPacked (sym same) packed) ∙ same
+
+pub returns-clause-goal : goal.returns-clause-goal
+returns-clause-goal c has =
+    c.close_seams.ensures.packs.goals ∙ ap (some_in_row is_goal) c.in_ok-splice_cats.ensures.ok
+    ∙ spliced_goal (trees c.args.parts.now.items) has

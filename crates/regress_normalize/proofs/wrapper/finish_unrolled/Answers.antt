@@ -9,7 +9,7 @@ pub returns-in_err-row : goal.returns-in_err-row
 returns-in_err-row c =
     let t = tree c.args.node.now in
     let d = direction_of c.args.walk.now in
-    row_error d t (tree c.unroll.new.node) _ (c.in_err-row.ensures d)
+    row_error d t (tree c.unroll.new.node) _ (c.in_err-row.ensures d) c.args.body.now c.requires.body
     c.from_residual.result c.from_residual.ensures.0
 
 pub finish_cat-requires-clause-part : goal.finish_cat-requires-clause-part
@@ -24,5 +24,5 @@ pub returns : goal.returns
 returns c =
     let t = tree c.args.node.now in
     let d = direction_of c.args.walk.now in
-    row_finished d t (tree c.unroll.new.node) _ (c.in_ok-row.ensures d)
+    row_finished d t (tree c.unroll.new.node) _ (c.in_ok-row.ensures d) c.args.body.now c.requires.body
     (tree c.finish_cat.new.node) c.finish_cat.result c.finish_cat.ensures

@@ -77,9 +77,10 @@ returns-then-always_holds c =
     let at = c.in-LookaroundAssertion in
     let out = out-LookaroundAssertion at.negate at.backwards at.start_group at.end_group at.contents in
     let is = ap tree at.is ∙ tree-LookaroundAssertion at.negate at.backwards at.start_group at.end_group at.contents in
-    let t = wrapped (lookaround at.negate at.backwards at.start_group at.end_group) (tree at.contents.value) in
+    let w = lookaround at.negate at.backwards at.start_group at.end_group in
+    let body = tree at.contents.value in
     let part = subst (λ (u : Tree). IsPart u) is c.requires.part in
-    let emptied : is_emptied_away t ≡ true = sym (rw (c.deref.ensures, at.is, out) at c.always_holds.ensures) ∙ c.if-always_holds.true in
+    let emptied : is_emptied_away (wrapped w body) ≡ true = sym (rw (c.deref.ensures, at.is, out) at c.always_holds.ensures) ∙ c.if-always_holds.true in
     rw (is, tree-Empty)
-    (emptied_finished _ (direction_of c.args.walk.now) t (λ clean. clean.0) refl emptied part
+    (emptied_finished _ (direction_of c.args.walk.now) w body (λ clean. clean.0) emptied part
     c.leaf_facts.result (rw tree-Empty at c.leaf_facts.ensures.has))

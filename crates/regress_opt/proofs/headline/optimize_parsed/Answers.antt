@@ -8,6 +8,7 @@ returns-in-Ok c = rw c.in-Ok.is (record {
   account = c.optimize-optimized.ensures.account;
   units = c.optimize-optimized.ensures.units;
   flags = c.optimize-optimized.ensures.flags;
+  goal = c.optimize-optimized.ensures.goal;
   normal = c.optimize-optimized.ensures.normal;
   left = c.optimize-optimized.ensures.left;
 })

@@ -1,4 +1,4 @@
-use Rattle.std.proofs.Common.{◌≡◌, ◌≤◌, ◌+◌, ◌*◌, ℕ, List, Result, Ok, Err, IfOk, IsOkAnd, MatchResult, sym, ap, ◌∙◌, subst}
+use Rattle.std.proofs.Common.{◌≡◌, ◌≤◌, ◌+◌, ◌*◌, ℕ, List, Result, Ok, Err, IfOk, IsOkAnd, MatchResult, inl, inr, sym, ap, ◌∙◌, subst}
 use Rattle.std.specs.declared.alloc.AllocError.{AllocError}
 use Rattle.regress_tree.specs.declared.ir.node.Regex.{Regex}
 use Rattle.regress_tree.specs.Steps.{byte_state}
@@ -8,6 +8,7 @@ use Rattle.regress_tree.specs.Tree.{Tree, tree}
 use Rattle.regress_tree.specs.WellFormed.{captures}
 use Rattle.regress_tree.specs.Units.{units, unrolling, loops}
 use Rattle.regress_tree.specs.NormalForm.{IsNormal}
+use Rattle.regress_tree.specs.Shapes.{ends_in_goal}
 use Rattle.regress_parse.specs.declared.fault.ParseFault.{ParseFault}
 use Rattle.regress_syntax.specs.Syntax.{Pattern}
 use Rattle.regress_parse.specs.TreeOf.{tree_of}
@@ -43,6 +44,14 @@ returns-clause-meaning c =
     let s = setting_of c.args.flags c.args.tables.now in
     of_optimized _ _ c.optimize_parsed.ensures c.try_parse.ensures.meaning (λ old new means optimized p accepted text from is_text is_state.
     sym ((optimized.meaning s text is_text).same (byte_state text from)) ∙ means p accepted text from is_text is_state)
+
+pub returns-clause-goal : goal.returns-clause-goal
+returns-clause-goal c =
+    of_optimized _ _ c.optimize_parsed.ensures c.try_parse.ensures.accepted (λ old new found optimized.
+    elim optimized.goal [
+      | inl same ↦ inl (same ∙ ap ends_in_goal found.2)
+      | inr fails ↦ inr fails
+    ])
 
 pub returns-clause-captures : goal.returns-clause-captures
 returns-clause-captures c =

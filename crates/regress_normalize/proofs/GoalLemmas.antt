@@ -1,0 +1,97 @@
+-- A `Goal` stays a part.
+use Rattle.std.proofs.Common.{◌≡◌, Bool, true, false, ◌||◌, inl, inr, refl, sym, ap, ◌∙◌, subst}
+use Rattle.std.proofs.Math.Bool.{or-false}
+use Rattle.std.proofs.lemmas.Bool.{cases_Bool, or_left, or_right, true≢false, false≢true}
+use Rattle.regress_tree.specs.Copies.{is_leaf}
+use Rattle.regress_tree.specs.NodeTests.{is_goal}
+use Rattle.regress_tree.specs.NormalForm.{IsNormal}
+use Rattle.regress_tree.specs.Shapes.{some_in_row, is_cat, is_simplified_away}
+use Rattle.regress_tree.specs.Tree.{Wrapper, Tree, Trees, leaf, goal, cat, alt, wrapped, no_trees, more_trees, row_append}
+use Rattle.regress_tree.proofs.laws.Goal.{goal-is}
+use Rattle.regress_tree.proofs.laws.Measures.{some_in_row-append}
+use Rattle.regress_tree.proofs.laws.Places.{Place, among, left_of, right_of, inside_of, put}
+use Rattle.regress_rewrite.specs.Splice.{parts_of, spliced}
+use Rattle.regress_normalize.specs.Normalized.{HasGoal}
+use Rattle.regress_normalize.specs.Steps.{Clears}
+use Rattle.regress_normalize.proofs.NormalLemmas.{IsNormal-leaf, nothing_normal}
+
+-- ---- which trees have it
+
+pub cat_goal : (ts : Trees) → HasGoal (cat ts) → some_in_row is_goal ts ≡ true
+cat_goal ts (inl has) = has
+cat_goal ts (inr is) = absurd (true≢false (ap is_cat is))
+
+pub alt_goal : (left right : Tree) → HasGoal (alt left right) → ⊥
+alt_goal left right (inl has) = false≢true has
+alt_goal left right (inr is) = false≢true (ap is_leaf is)
+
+pub wrapped_goal : (w : Wrapper) (body : Tree) → HasGoal (wrapped w body) → ⊥
+wrapped_goal w body (inl has) = false≢true has
+wrapped_goal w body (inr is) = false≢true (ap is_leaf is)
+
+-- the part of a `Cat` of one
+pub only_goal : (part : Tree) → HasGoal (cat (more_trees part no_trees)) → HasGoal part
+only_goal (leaf l) has = inl (cat_goal _ has)
+only_goal (cat parts) has = absurd (false≢true (cat_goal _ has))
+only_goal (alt left right) has = absurd (false≢true (cat_goal _ has))
+only_goal (wrapped w body) has = absurd (false≢true (cat_goal _ has))
+
+-- ---- it is in normal form, so it is left
+
+is_normal : (t : Tree) → is_goal t ≡ true → IsNormal t
+is_normal t is = subst (λ (u : Tree). IsNormal u) (sym (goal-is t is)) (IsNormal-leaf goal refl refl refl)
+
+-- as a part of another tree,
+module _ (t u : Tree) (left : IsNormal t → u ≡ t) where
+  among_goal : (before behind : Trees) → some_in_row is_goal (row_append before (more_trees t behind)) ≡ true →
+      some_in_row is_goal (row_append before (more_trees u behind)) ≡ true
+  among_goal before behind has = elim (cases_Bool (is_goal t)) [
+    | inl is ↦
+        subst (λ (x : Tree). some_in_row is_goal (row_append before (more_trees x behind)) ≡ true) (sym (left (is_normal t is))) has
+    | inr is_not ↦
+        some_in_row-append is_goal before (more_trees u behind)
+        ∙ one_more (some_in_row is_goal before) (is_goal u) (some_in_row is_goal behind)
+        (ap (λ b. some_in_row is_goal before || (b || some_in_row is_goal behind)) (sym is_not)
+        ∙ sym (some_in_row-append is_goal before (more_trees t behind))
+        ∙ has)
+  ]
+    where
+      one_more : (a b c : Bool) → (a || c) ≡ true → (a || (b || c)) ≡ true
+      one_more true b c some = refl
+      one_more false b c some = or_right b c some
+
+  pub put_goal : (p : Place) → HasGoal (put p t) → HasGoal (put p u)
+  put_goal (among before behind) has = inl (among_goal before behind (cat_goal _ has))
+  put_goal (left_of right) has = absurd (alt_goal t right has)
+  put_goal (right_of left_side) has = absurd (alt_goal left_side t has)
+  put_goal (inside_of w) has = absurd (wrapped_goal w t has)
+
+-- and alone
+leaf_goal : (t simplified : Tree) → Clears is_simplified_away t simplified → HasGoal t → IsNormal t
+leaf_goal t simplified first (inr is) = subst (λ (u : Tree). IsNormal u) (sym is) nothing_normal
+leaf_goal (leaf l) simplified first (inl has) = is_normal (leaf l) (sym (or-false (is_goal (leaf l))) ∙ has)
+leaf_goal (cat parts) simplified first (inl has) = absurd (false≢true (sym (ap is_leaf (first.left refl)) ∙ first.leaf))
+leaf_goal (alt left right) simplified first (inl has) = absurd (false≢true has)
+leaf_goal (wrapped w body) simplified first (inl has) = absurd (false≢true has)
+
+pub cleared_goal : (t simplified new : Tree) → Clears is_simplified_away t simplified → (IsNormal t → new ≡ t) → HasGoal t → HasGoal new
+cleared_goal t simplified new first left has =
+    subst (λ (u : Tree). HasGoal u) (sym (left (leaf_goal t simplified first has))) has
+
+-- ---- in a row that is spliced
+
+own_goal : (t : Tree) → is_goal t ≡ true → some_in_row is_goal (parts_of t) ≡ true
+own_goal (leaf l) is = or_left _ _ is
+own_goal (cat parts) is = absurd (false≢true is)
+own_goal (alt left right) is = absurd (false≢true is)
+own_goal (wrapped w body) is = absurd (false≢true is)
+
+pub spliced_goal : (ts : Trees) → some_in_row is_goal ts ≡ true → some_in_row is_goal (spliced ts) ≡ true
+spliced_goal no_trees has = has
+spliced_goal (more_trees t ts) has =
+    some_in_row-append is_goal (parts_of t) (spliced ts) ∙ either (is_goal t) refl (spliced_goal ts)
+  where
+    either : (b : Bool) → is_goal t ≡ b → (some_in_row is_goal ts ≡ true → some_in_row is_goal (spliced ts) ≡ true) →
+        (some_in_row is_goal (parts_of t) || some_in_row is_goal (spliced ts)) ≡ true
+    either true is later = or_left _ _ (own_goal t is)
+    either false is later = or_right _ _ (later (ap (λ b. b || some_in_row is_goal ts) (sym is) ∙ has))

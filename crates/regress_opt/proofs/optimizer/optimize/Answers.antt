@@ -1,0 +1,8 @@
+use Rattle.regress_opt.proofs.GoalLemmas.{goal_kept}
+use Rattle.regress_opt.proofs.optimizer.optimize.Goals as goal
+
+pub returns-in_err-normalize-clause-goal : goal.returns-in_err-normalize-clause-goal
+returns-in_err-normalize-clause-goal c = goal_kept _ _ _ _ c.requires c.normalize.ensures
+
+pub returns-clause-goal : goal.returns-clause-goal
+returns-clause-goal c = goal_kept _ _ _ _ c.requires c.normalize.ensures
