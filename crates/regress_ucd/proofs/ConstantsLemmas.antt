@@ -1,17 +1,19 @@
 -- What the constants keep, looked through.
-use Rattle.std.proofs.Common.{◌≡◌, ℕ, ℤ, ◌≤◌, ◌<◌, ◌+◌, Bool, true, ◌&&◌, ◌||◌, nat_le, nat_lt, ◌==◌, IsTrue, List, map, All, length, slice_range, refl, arith}
-use Rattle.std.specs.List.{list_all}
-use Rattle.std.proofs.lemmas.Bool.Decides.{nat_tests}
+use Rattle.std.proofs.Common.{◌≡◌, true, IsTrue, map, All, length, refl}
+use Rattle.std.proofs.lemmas.Bool.{and_parts}
 use Rattle.std.proofs.lemmas.List.Sums.{AllPass-from_list_all}
 use Rattle.std.proofs.lemmas.List.Elements.{All-weaker}
-use Rattle.regress_base.specs.Intervals.{is_canonical_from}
-use Rattle.regress_unicode.specs.FoldRows.{FoldRow, IsPackableRow}
+use Rattle.regress_base.specs.Table.{HasWordAscii, HasStrings}
+use Rattle.regress_unicode.specs.FoldRows.{IsPackableRow, image}
+use Rattle.regress_unicode.specs.Parts.{AreSoundRows, IsSound}
+use Rattle.regress_unicode.proofs.laws.Soundness.{sound_rows, word_ascii, sound_from}
 use Rattle.regress_ucd.specs.declared.cases.TheConstants.{FOLDS, UPPERS}
 use Rattle.regress_ucd.specs.declared.intervals.TheConstants.{INTERVALS, INTERVALS_COUNT}
 use Rattle.regress_ucd.specs.declared.names.TheConstants.{ID_START, ID_CONTINUE, GENERAL_CATEGORY, SCRIPT, SCRIPT_EXTENSIONS, BINARY}
 use Rattle.regress_ucd.specs.declared.strings.TheConstants.{STRING_NAMES, STRINGS, STRINGS_COUNT, POINTS, POINTS_COUNT}
-use Rattle.regress_ucd.specs.Data.{row, set_at, is_set_at, are_places, AreSets, AreStrings}
-use Rattle.regress_ucd.proofs.DataLemmas.{packable, is_packable, set_stands, sets_stand, strings_stand}
+use Rattle.regress_ucd.specs.Data.{row, set_at, is_set_at, are_places, named_strings, AreSets, AreStrings}
+use Rattle.regress_ucd.specs.UnicodeTable.{unicode_parts}
+use Rattle.regress_ucd.proofs.DataLemmas.{packable, is_packable, set_stands, sets_stand, strings_stand, canonical_sets, are_strings}
 
 pub folds : All (λ r. IsPackableRow (row r)) FOLDS.now
 folds = All-weaker (λ r. is_packable (row r) ≡ true) (λ r. IsPackableRow (row r)) (λ r h. packable (row r) h) FOLDS.now
@@ -44,3 +46,35 @@ binary = sets_stand INTERVALS.now (map (λ n. (n.1, n.2)) BINARY.now) INTERVALS_
 
 pub strings : AreStrings STRINGS.now POINTS.now (map (λ n. (n.1, n.2)) STRING_NAMES.now)
 strings = strings_stand STRINGS.now POINTS.now (map (λ n. (n.1, n.2)) STRING_NAMES.now) STRINGS_COUNT POINTS_COUNT refl refl refl
+
+sound_folds : AreSoundRows (map row FOLDS.now)
+unfolding image
+sound_folds = sound_rows (map row FOLDS.now) refl refl refl
+
+sound_uppers : AreSoundRows (map row UPPERS.now)
+unfolding image
+sound_uppers = sound_rows (map row UPPERS.now) refl refl refl
+
+points_count : length POINTS.now ≡ POINTS_COUNT
+points_count = refl
+
+start_ascii : HasWordAscii (set_at INTERVALS.now ID_START.0 ID_START.1)
+start_ascii = word_ascii (set_at INTERVALS.now ID_START.0 ID_START.1) refl
+
+continue_ascii : HasWordAscii (set_at INTERVALS.now ID_CONTINUE.0 ID_CONTINUE.1)
+continue_ascii = word_ascii (set_at INTERVALS.now ID_CONTINUE.0 ID_CONTINUE.1) refl
+
+sound_strings : HasStrings (map (λ n. named_strings STRINGS.now POINTS.now n.0.now n.1 n.2) STRING_NAMES.now)
+sound_strings = are_strings (λ name. name.now) STRINGS.now POINTS.now POINTS_COUNT points_count refl refl STRING_NAMES.now
+
+pub unicode_sound : IsSound unicode_parts
+unfolding unicode_parts
+unicode_sound =
+    sound_from unicode_parts sound_folds sound_uppers
+    (and_parts (are_places (length INTERVALS.now) ID_START.0 ID_START.1) _ id_start).1
+    (and_parts (are_places (length INTERVALS.now) ID_CONTINUE.0 ID_CONTINUE.1) _ id_continue).1 start_ascii continue_ascii
+    (canonical_sets (λ name. name.now) INTERVALS.now GENERAL_CATEGORY.now general_category)
+    (canonical_sets (λ name. name.now) INTERVALS.now SCRIPT.now script)
+    (canonical_sets (λ name. name.now) INTERVALS.now SCRIPT_EXTENSIONS.now script_extensions)
+    (canonical_sets (λ name. name.now) INTERVALS.now BINARY.now binary)
+    sound_strings

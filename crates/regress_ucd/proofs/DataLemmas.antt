@@ -4,11 +4,15 @@ use Rattle.std.proofs.Common.{◌≡◌, ℕ, ℤ, pos, negsuc, ◌+◌, ◌^◌
 use Rattle.std.specs.List.{list_all}
 use Rattle.std.proofs.lemmas.Bool.Decides.{nat_tests}
 use Rattle.std.proofs.lemmas.Int.{ints}
+use Rattle.std.proofs.lemmas.Bool.{and_parts}
+use Rattle.std.proofs.lemmas.List.{length-drop, length-take, take-append-drop}
+use Rattle.std.proofs.lemmas.List.Folds.{list_all-append, list_all-map}
 use Rattle.std.proofs.lemmas.List.Sums.{AllPass-from_list_all}
 use Rattle.std.proofs.lemmas.List.Elements.{All-cons, All-nil, All-head, All-tail, All-weaker}
-use Rattle.regress_base.specs.Intervals.{IsInterval, IsCanonical, is_canonical_from}
-use Rattle.regress_unicode.specs.FoldRows.{FoldRow, IsPackableRow, IsModulo}
-use Rattle.regress_ucd.specs.Data.{bounds, set_at, is_set_at, are_places, AreStringsAt}
+use Rattle.regress_base.specs.Intervals.{IsInterval, IsCanonical, is_canonical_from, code_point_max}
+use Rattle.regress_base.specs.Table.{HasCanonicalSets, HasStrings, is_string}
+use Rattle.regress_unicode.specs.FoldRows.{FoldRow, IsPackableRow}
+use Rattle.regress_ucd.specs.Data.{bounds, set_at, strings_at, is_set_at, are_places, named_set, named_strings, AreSets, AreStringsAt}
 
 intervals_from : (low : ℕ) (pairs : List (ℕ × ℕ)) → IsTrue (is_canonical_from low (map bounds pairs)) →
     All (λ p. IsInterval (bounds p)) pairs
@@ -148,3 +152,59 @@ places_at P [] k d h lt = absurd (omega (arith, lt))
 places_at P (n ∷ names) zero d h lt = All-head P (n.1, n.2) (map (λ n. (n.1, n.2)) names) h
 places_at P (n ∷ names) (suc k) d h lt =
     places_at P names k d (All-tail P (n.1, n.2) (map (λ n. (n.1, n.2)) names) h) (omega (arith, lt))
+
+-- ---- what sets and strings under names keep
+
+pub canonical_sets : {A : Type 0} (name_of : A → List ℕ) (intervals : List (ℕ × ℕ)) (names : List (A × ℕ × ℕ)) →
+    AreSets intervals (map (λ n. (n.1, n.2)) names) → HasCanonicalSets (map (λ n. named_set intervals (name_of n.0) n.1 n.2) names)
+canonical_sets name_of intervals [] h = All-nil (λ entry. IsCanonical entry.value)
+canonical_sets name_of intervals (n ∷ names) h =
+    let here = All-head (λ p. IsTrue (is_set_at intervals p.0 p.1)) (n.1, n.2) (map (λ n. (n.1, n.2)) names) h in
+    let rest = All-tail (λ p. IsTrue (is_set_at intervals p.0 p.1)) (n.1, n.2) (map (λ n. (n.1, n.2)) names) h in
+    All-cons (λ entry. IsCanonical entry.value) (named_set intervals (name_of n.0) n.1 n.2) _
+    (and_parts (are_places (length intervals) n.1 n.2) _ here).1 (canonical_sets name_of intervals names rest)
+
+both_parts : {A : Type 0} (q : A → Bool) (xs : List A) (i : ℕ) → list_all q xs ≡ true →
+    (list_all q (take i xs) ≡ true) × (list_all q (drop i xs) ≡ true)
+both_parts q xs i h =
+    and_parts (list_all q (take i xs)) (list_all q (drop i xs))
+    (sym (list_all-append q (take i xs) (drop i xs)) ∙ ap (list_all q) (take-append-drop i xs) ∙ h)
+
+all_slice : {A : Type 0} (q : A → Bool) (xs : List A) (a b : ℕ) → list_all q xs ≡ true → list_all q (slice_range xs a b) ≡ true
+all_slice q xs a b h = (both_parts q (drop a xs) (b - a) (both_parts q xs a h).1).0
+
+all_weaker : {A : Type 0} (p q : A → Bool) → ((x : A) → p x ≡ true → q x ≡ true) → (xs : List A) → list_all p xs ≡ true →
+    list_all q xs ≡ true
+all_weaker p q weaker [] h = refl
+all_weaker p q weaker (x ∷ xs) h =
+    let parts = and_parts (p x) (list_all p xs) h in
+    both (q x) (list_all q xs) (weaker x parts.0) (all_weaker p q weaker xs parts.1)
+
+-- a place of one code point at least, in a list of that length
+abbrev pub is_place : ℕ → ℕ × ℕ → Bool
+is_place count p = nat_lt p.0 p.1 && nat_le p.1 count
+
+abbrev pub is_point : ℕ → Bool
+is_point c = nat_le c code_point_max
+
+string_there : (points : List ℕ) (p : ℕ × ℕ) → list_all is_point points ≡ true → is_place (length points) p ≡ true →
+    is_string (slice_range points p.0 p.1) ≡ true
+string_there points p all h =
+    let up : p.0 < p.1 = grind (arith, nat_tests, h) in
+    let fit : p.1 ≤ length points = grind (arith, nat_tests, h) in
+    let size : 0 < length (slice_range points p.0 p.1) =
+    omega (arith, up, fit, length-take (p.1 - p.0) (drop p.0 points), length-drop p.0 points) in
+    both (nat_lt 0 (length (slice_range points p.0 p.1))) _ (grind (arith, nat_tests, size)) (all_slice is_point points p.0 p.1 all)
+
+pub are_strings : {A : Type 0} (name_of : A → List ℕ) (places : List (ℕ × ℕ)) (points : List ℕ) (count : ℕ) → length points ≡ count →
+    list_all is_point points ≡ true → list_all (is_place count) places ≡ true → (names : List (A × ℕ × ℕ)) →
+    HasStrings (map (λ n. named_strings places points (name_of n.0) n.1 n.2) names)
+are_strings name_of places points count is all fit [] = refl
+are_strings name_of places points count is all fit (n ∷ names) =
+    let there : (p : ℕ × ℕ) → is_place count p ≡ true → is_string (slice_range points p.0 p.1) ≡ true =
+    λ p h. string_there points p all (subst (λ (k : ℕ). is_place k p ≡ true) (sym is) h) in
+    let here = all_weaker (is_place count) (λ p. is_string (slice_range points p.0 p.1)) there (slice_range places n.1 n.2)
+    (all_slice (is_place count) places n.1 n.2 fit) in
+    both (list_all is_string (strings_at places points n.1 n.2)) _
+    (list_all-map is_string (λ (p : ℕ × ℕ). slice_range points p.0 p.1) (slice_range places n.1 n.2) ∙ here)
+    (are_strings name_of places points count is all fit names)

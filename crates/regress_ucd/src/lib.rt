@@ -3,6 +3,7 @@
 
 mod cases;
 mod intervals;
+mod lists;
 mod names;
 mod strings;
 mod tables;

@@ -1,5 +1,6 @@
 //! What a line comes to.
 
+use crate::patterns::parsed;
 use regress_base::codepointset::CodePointSet;
 use regress_notation::{Fault, listed, read_point, read_points};
 use regress_unicode::{Tables, fold, unfold_char, unfold_uppercase_char, uppercase};
@@ -22,6 +23,7 @@ pub(crate) fn answer(
         "strings" => strings(alloc, on, tables),
         "fold" | "uppercase" => images(alloc, call, on, tables),
         "unfold" | "unfold_upper" => unfolded(alloc, call, on, tables),
+        "parse" => parsed(alloc, on, tables),
         _ => Err(Fault::Line),
     }
 }

@@ -3,7 +3,7 @@
 use crate::answer::answer;
 use regress_notation::Fault;
 use regress_ucd::unicode_tables;
-use regress_unicode::{Tables, TablesError};
+use regress_unicode::Tables;
 use std::alloc::Global;
 use std::io::{BufRead, ErrorKind, Write};
 
@@ -20,8 +20,6 @@ pub(crate) enum Failure {
     Output,
     /// There was no line to compare.
     NoLine,
-    /// The table was refused.
-    Refused,
 }
 
 impl Failure {
@@ -33,7 +31,6 @@ impl Failure {
             Failure::Input => 4,
             Failure::Output => 5,
             Failure::NoLine => 6,
-            Failure::Refused => 7,
         }
     }
 }
@@ -45,10 +42,8 @@ pub(crate) fn run_lines<R: BufRead + Drop, W: Write>(
     input: R,
     out: &mut W,
 ) -> Result<u8, Failure> {
-    let tables = match unicode_tables(alloc) {
-        Ok(tables) => tables,
-        Err(TablesError::Memory(_)) => return Err(Failure::Memory),
-        Err(_) => return Err(Failure::Refused),
+    let Ok(tables) = unicode_tables(alloc) else {
+        return Err(Failure::Memory);
     };
     let mut hold: usize = 0;
     let mut differ: usize = 0;

@@ -1,14 +1,14 @@
-//! Lines of data, read from standard input, that say what a lookup in the whole table comes to, compared with what it
-//! answers. The head of the file `stdin` tells the forms of lines.
+//! Lines of data, read from standard input, that say what a lookup in the whole table or a pattern under it comes to,
+//! compared with what is answered. The head of the file `stdin` tells the forms of lines.
 //!
 //! A line that comes to something else is told with its number, and behind the last line stands how many hold. The
 //! status is 0 if all lines hold, 1 if one doesn't, 2 at a line of no form, 3 if memory was wanting, 4 if standard input
-//! can't be read or isn't UTF-8, 5 if standard output can't be written, and 6 if no line was read. There is no 0 where
-//! the table is refused: then it is 7.
+//! can't be read or isn't UTF-8, 5 if standard output can't be written, and 6 if no line was read.
 #![tactic(auto)]
 
 mod answer;
 mod lines;
+mod patterns;
 
 use lines::{Failure, run_lines};
 use std::io::{BufReader, BufWriter};

@@ -1,2 +1,3 @@
 -- Laws of this crate's definitions, which the crates above may cite.
 pub mod Closures
+pub mod Soundness

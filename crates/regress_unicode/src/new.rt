@@ -35,7 +35,7 @@ impl Tables {
     ghost use Rattle.std.specs.Prelude.{◌≡◌, ◌≢◌, alloc_error, IfOk, IfErr};
     ghost use Rattle.regress_unicode.specs.declared.tables_error.TablesError.{TablesError as Refusal};
     ghost use Rattle.regress_unicode.specs.declared.tables_error.TablesError.TheVariants.{Memory};
-    ghost use Rattle.regress_unicode.specs.Parts.{parts_from, table_from};
+    ghost use Rattle.regress_unicode.specs.Parts.{parts_from, table_from, IsSound};
     ghost use Rattle.regress_unicode.specs.Refusals.{Meets, IsFirstDue};
     ghost use Rattle.regress_unicode.specs.TableOf.{table_of};
 
@@ -86,5 +86,34 @@ impl Tables {
             binary,
             strings,
         })
+    }
+
+    /// The table of these parts, as [`new`](Tables::new) makes it, for parts of which it is proved that they are sound,
+    /// as constants can be. Nothing is tested, and no memory is asked for.
+    pub fn from_sound_parts(
+        folds: Vec<FoldRange>,
+        uppers: Vec<FoldRange>,
+        id_start: CodePointSet,
+        id_continue: CodePointSet,
+        general_category: Vec<(String, CodePointSet)>,
+        script: Vec<(String, CodePointSet)>,
+        script_extensions: Vec<(String, CodePointSet)>,
+        binary: Vec<(String, CodePointSet)>,
+        strings: Vec<(String, Vec<Vec<u32>>)>,
+    ) -> Tables
+        requires { IsSound (parts_from folds.items uppers.items id_start id_continue general_category.items script.items script_extensions.items binary.items strings.items) }
+        ensures { table_of result ≡ table_from (parts_from folds.items uppers.items id_start id_continue general_category.items script.items script_extensions.items binary.items strings.items) }
+    {
+        Tables {
+            folds,
+            uppers,
+            id_start,
+            id_continue,
+            general_category,
+            script,
+            script_extensions,
+            binary,
+            strings,
+        }
     }
 }
