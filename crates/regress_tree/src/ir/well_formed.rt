@@ -177,12 +177,7 @@ fn leaf_stands(node: &Node) -> bool
         Node::Bracket(contents) => is_canonical(contents.cps.intervals()),
         Node::BackRef { group, .. } => *group >= 1,
         Node::StringSet { alternatives, .. } => are_strings(alternatives),
-        Node::Cat(_)
-        | Node::Alt(..)
-        | Node::CaptureGroup { .. }
-        | Node::Loop { .. }
-        | Node::Loop1CharBody { .. }
-        | Node::LookaroundAssertion { .. } => unreachable!(),
+        _ => unreachable!(),
     }
 }
 
