@@ -1,17 +1,19 @@
 -- What a sweep answers, composed: of a part in the whole, and one after another.
-use Rattle.std.proofs.Common.{◌≡◌, Bool, true, false, Result, Ok, Err, sym, ap, subst, ◌∙◌}
+use Rattle.std.proofs.Common.{◌≡◌, Bool, true, false, Result, Ok, Err, refl, sym, ap, subst, ◌∙◌}
 use Rattle.std.specs.declared.alloc.AllocError.{AllocError}
 use Rattle.std.specs.Result.{IsErr}
 use Rattle.std.proofs.lemmas.Bool.{false≢true}
 use Rattle.regress_tree.specs.Reading.{Direction}
 use Rattle.regress_tree.specs.declared.ir.walker.Walk.{Walk}
 use Rattle.regress_tree.specs.Walk.{direction_of}
-use Rattle.regress_tree.specs.Tree.{Tree}
+use Rattle.regress_tree.specs.Tree.{Tree, leaf}
+use Rattle.regress_tree.specs.Copies.{is_leaf}
+use Rattle.regress_tree.specs.Shapes.{LacksInside}
 use Rattle.regress_tree.proofs.laws.Places.{Place, put, direction_at, IsLess-put}
 use Rattle.regress_rewrite.specs.Law.{Keeps}
-use Rattle.regress_rewrite.specs.Sweep.{TellsChange, Swept}
+use Rattle.regress_rewrite.specs.Sweep.{TellsChange, Swept, SweptOf}
 use Rattle.regress_rewrite.proofs.laws.Changes.{joined, joined-false, TellsChange-then}
-use Rattle.regress_rewrite.proofs.laws.Keeps.{Keeps-trans, Keeps-put}
+use Rattle.regress_rewrite.proofs.laws.Keeps.{Keeps-refl, Keeps-trans, Keeps-put}
 
 -- What is told of changes.
 
@@ -46,6 +48,16 @@ module _ (exact : Bool) where
         let same = first.left is_exact lacks in
         second.left is_exact (on lacks same) ∙ same;
   }
+
+  -- in a leaf there is nothing to sweep
+  pub Swept-leaf : (shape : Tree → Bool) (d : Direction) (t : Tree) → is_leaf t ≡ true → SweptOf (LacksInside shape) exact d t t (Ok false)
+  Swept-leaf shape d (leaf l) is = record {
+    keeps = Keeps-refl d (leaf l);
+    changed = refl;
+    removed = λ same. refl;
+    left = λ is_exact lacks. refl;
+  }
+  Swept-leaf shape d t is = absurd (false≢true is)
 
   -- where nothing changed the tree is what it was
   pub Swept-same : (d : Direction) {before clean : Type 0} {t u : Tree} {answer : Result Bool AllocError} →
