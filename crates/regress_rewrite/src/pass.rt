@@ -13,7 +13,7 @@ ghost use Rattle.regress_tree.specs.Spine.{reattach, spine_length, LeftsLackShap
 ghost use Rattle.regress_tree.specs.Visits.{Visited, Inside, RowVisited, deeper};
 ghost use Rattle.regress_tree.specs.Climbs.{ClimbedMut};
 
-use crate::rewrite::{PassAction, Rewrite};
+use crate::rewrite::Rewrite;
 use regress_tree::ir::held::{body_mut, walk_inside};
 use regress_tree::ir::spine::{relink, shift};
 use regress_tree::ir::{Node, NodeList, Regex, Walk};
@@ -212,11 +212,6 @@ fn rewrite<R: Rewrite>(node: &mut Node, pass: &mut R, walk: &Walk) -> Result<boo
         (pass.new, is_answered result) (tree node.new) skip }
     ensures swept { SweptOf (λ t. R.removes t ≡ false) R.is_exact (direction_of walk.now) (tree node.old) (tree node.new) result }
 {
-    match pass.apply(node, walk)? {
-        PassAction::Keep => return Ok(false),
-        PassAction::Modified => {}
-        PassAction::Remove => *node = Node::Empty,
-        PassAction::Replace(new) => *node = new,
-    }
-    Ok(true)
+    let action = pass.apply(node, walk)?;
+    Ok(action.carry_out(node))
 }

@@ -5,12 +5,12 @@ use Rattle.std.proofs.lemmas.Bool.{false≢true, cond-true, cond-false, and_part
 use Rattle.regress_tree.specs.declared.ir.groups.GroupIds.{GroupIds}
 use Rattle.regress_tree.specs.declared.ir.groups.Groups.{Groups}
 use Rattle.regress_tree.specs.Shapes.{is_cat}
-use Rattle.regress_tree.specs.Tree.{Leaf, empty, goal, char, byte_sequence, byte_set, char_set, match_any, match_any_except_line_terminator, anchor, word_boundary, bracket, back_ref, string_set, Tree, Trees, leaf, cat, alt, wrapped, no_trees, more_trees, row_append}
+use Rattle.regress_tree.specs.Tree.{Leaf, goal, char, byte_sequence, byte_set, char_set, bracket, back_ref, string_set, Tree, Trees, leaf, cat, alt, wrapped, no_trees, more_trees, row_append}
 use Rattle.regress_tree.specs.WellFormed.{captures, captures_in_row, Position, inside, last, root, LeafMayStand, MayStand, RowMayStand, IsWellFormed}
-use Rattle.regress_tree.specs.Survey.{holds, times_held, reference, reference_in_row, fill, PassesAt, FailsAt, is_goal_leaf, is_goal, without_goal}
+use Rattle.regress_tree.specs.Survey.{holds, times_held, reference, reference_in_row, fill, SurveyedAt, RefusedAt, is_goal_leaf, is_goal, without_goal}
 use Rattle.regress_tree.proofs.laws.Rows.{MayStand-from_last, RowMayStand-more, RowMayStand-parts}
 use Rattle.regress_tree.proofs.IdLemmas.{all-has, has-all}
-use Rattle.regress_tree.proofs.SurveyLemmas.{Passes-as, Fails-as, differ-held}
+use Rattle.regress_tree.proofs.SurveyLemmas.{IsSurveyed-as, IsRefused-as, differ-held}
 use Rattle.regress_tree.proofs.StandingLemmas.{MayStand-bounded, MayStand-at}
 
 -- The goal at the end.
@@ -27,19 +27,8 @@ keep-last (more_trees u no_trees) t e = ap (more_trees u) (cond-false _ no_trees
 keep-last (more_trees u (more_trees v vs)) t e = ap (more_trees u) (keep-last (more_trees v vs) t e)
 
 goal_leaf-is : (l : Leaf) → is_goal_leaf l ≡ true → l ≡ goal
-goal_leaf-is empty e = absurd (false≢true e)
 goal_leaf-is goal e = refl
-goal_leaf-is (char c) e = absurd (false≢true e)
-goal_leaf-is (byte_sequence bytes) e = absurd (false≢true e)
-goal_leaf-is (byte_set bytes) e = absurd (false≢true e)
-goal_leaf-is (char_set characters) e = absurd (false≢true e)
-goal_leaf-is match_any e = absurd (false≢true e)
-goal_leaf-is match_any_except_line_terminator e = absurd (false≢true e)
-goal_leaf-is (anchor kind multiline) e = absurd (false≢true e)
-goal_leaf-is (word_boundary invert unicode_icase) e = absurd (false≢true e)
-goal_leaf-is (bracket invert intervals) e = absurd (false≢true e)
-goal_leaf-is (back_ref group icase) e = absurd (false≢true e)
-goal_leaf-is (string_set strings icase) e = absurd (false≢true e)
+goal_leaf-is l e = absurd (false≢true e)
 
 goal-is : (t : Tree) → is_goal t ≡ true → t ≡ leaf goal
 goal-is (leaf l) e = ap leaf (goal_leaf-is l e)
@@ -49,20 +38,16 @@ goal-is (wrapped w body) e = absurd (false≢true e)
 
 -- what is no goal may stand inside wherever it stands
 leaf-inside : (n : ℕ) (l : Leaf) (p : Position) → is_goal_leaf l ≡ false → LeafMayStand n l p → LeafMayStand n l inside
-leaf-inside n empty p e m = tt
 leaf-inside n goal p e m = absurd (false≢true (sym e))
 leaf-inside n (char c) p e m = m
 leaf-inside n (byte_sequence bytes) p e m =
     record { characters = m.characters; are_scalar = m.are_scalar; encoded = m.encoded; one = tt }
 leaf-inside n (byte_set bytes) p e m = record { bounded = m.bounded; small = m.small; some = tt }
 leaf-inside n (char_set characters) p e m = record { bounded = m.bounded; small = m.small; some = tt }
-leaf-inside n match_any p e m = tt
-leaf-inside n match_any_except_line_terminator p e m = tt
-leaf-inside n (anchor kind multiline) p e m = tt
-leaf-inside n (word_boundary invert unicode_icase) p e m = tt
 leaf-inside n (bracket invert intervals) p e m = record { canonical = m.canonical; some = tt }
 leaf-inside n (back_ref group icase) p e m = record { free = tt; low = m.low; high = m.high }
 leaf-inside n (string_set strings icase) p e m = record { free = tt; bounded = m.bounded }
+leaf-inside n l p e m = tt
 
 last-inside : (n : ℕ) (t : Tree) → is_goal t ≡ false → MayStand n t last → MayStand n t inside
 last-inside n (leaf l) e m = leaf-inside n l last e m
@@ -124,19 +109,19 @@ reference-without (more_trees t (more_trees u us)) = ap (λ r. max (reference t)
 
 -- The whole.
 
-pub cat-passes : (ts : Trees) (before after : GroupIds) (g : Groups) → PassesAt inside (cat (without_goal ts)) before after g →
-    PassesAt root (cat ts) before after g
+pub cat-passes : (ts : Trees) (before after : GroupIds) (g : Groups) → SurveyedAt inside (cat (without_goal ts)) before after g →
+    SurveyedAt root (cat ts) before after g
 cat-passes ts before after g p =
-    Passes-as _ _ _ (λ s. (s.0, (tt, row-last s.0 ts s.1.1))) (captures-without ts) (reference-without ts) p
+    IsSurveyed-as _ _ _ (λ s. (s.0, (tt, row-last s.0 ts s.1.1))) (captures-without ts) (reference-without ts) p
 
-pub cat-fails : (ts : Trees) (before : GroupIds) → FailsAt inside (cat (without_goal ts)) before → FailsAt root (cat ts) before
-cat-fails ts before f = Fails-as _ _ (λ s. (s.0, (tt, last-row s.0 ts s.1.1))) (captures-without ts) f
+pub cat-fails : (ts : Trees) (before : GroupIds) → RefusedAt inside (cat (without_goal ts)) before → RefusedAt root (cat ts) before
+cat-fails ts before f = IsRefused-as _ _ (λ s. (s.0, (tt, last-row s.0 ts s.1.1))) (captures-without ts) f
 
-pub other-passes : (t : Tree) (before after : GroupIds) (g : Groups) → PassesAt inside t before after g → PassesAt root t before after g
-other-passes t before after g p = Passes-as _ _ _ (λ s. (s.0, inside-root s.0 t s.1)) refl refl p
+pub other-passes : (t : Tree) (before after : GroupIds) (g : Groups) → SurveyedAt inside t before after g → SurveyedAt root t before after g
+other-passes t before after g p = IsSurveyed-as _ _ _ (λ s. (s.0, inside-root s.0 t s.1)) refl refl p
 
-pub other-fails : (t : Tree) (before : GroupIds) → is_goal t ≡ false → is_cat t ≡ false → FailsAt inside t before → FailsAt root t before
-other-fails t before e f fails = Fails-as _ _ (λ s. (s.0, root-inside s.0 t e f s.1)) refl fails
+pub other-fails : (t : Tree) (before : GroupIds) → is_goal t ≡ false → is_cat t ≡ false → RefusedAt inside t before → RefusedAt root t before
+other-fails t before e f fails = IsRefused-as _ _ (λ s. (s.0, root-inside s.0 t e f s.1)) refl fails
 
 abbrev one_if : Bool → ℕ
 one_if b = if b then 1 else 0
@@ -144,7 +129,7 @@ one_if b = if b then 1 else 0
 from-zero : (k n : ℕ) → one_if (nat_le 0 k && nat_lt k n) ≡ one_if (nat_lt k n)
 from-zero k n = ap (λ b. one_if (b && nat_lt k n)) (le-leb 0 k (omega arith))
 
-pub well_formed-from : (t : Tree) (before after : GroupIds) (g : Groups) → PassesAt root t before after g → fill 0 g.count g ≡ true →
+pub well_formed-from : (t : Tree) (before after : GroupIds) (g : Groups) → SurveyedAt root t before after g → fill 0 g.count g ≡ true →
     g.reference ≤ g.count → IsWellFormed t
 well_formed-from t before after g p full low =
     let all = all-has g (captures t) (reference t) p.told (differ-held before after (captures t) p.ids) full in
@@ -158,14 +143,14 @@ well_formed-from t before after g p full low =
       ids = λ k. all.1 k ∙ from-zero k (length (captures t));
     }
 
-pub from-well_formed : (t : Tree) (before after : GroupIds) (g : Groups) → PassesAt root t before after g → IsWellFormed t →
+pub from-well_formed : (t : Tree) (before after : GroupIds) (g : Groups) → SurveyedAt root t before after g → IsWellFormed t →
     (fill 0 g.count g ≡ true) × (g.reference ≤ g.count)
 from-well_formed t before after g p w =
     let all = has-all g (captures t) (reference t) p.told (λ k. w.ids k ∙ sym (from-zero k (length (captures t)))) in
     let bounded = MayStand-bounded (length (captures t)) t root w.stands in
     (all.1, omega (arith, all.0, bounded.references, p.told.reference))
 
-pub fails-well_formed : (t : Tree) (before : GroupIds) → ((k : ℕ) → holds before k ≡ false) → FailsAt root t before → IsWellFormed t → ⊥
+pub fails-well_formed : (t : Tree) (before : GroupIds) → ((k : ℕ) → holds before k ≡ false) → RefusedAt root t before → IsWellFormed t → ⊥
 fails-well_formed t before none fails w =
     fails.refuted (length (captures t), w.stands)
     (λ k. let held : times_held before k ≡ 0 = ap one_if (none k) in

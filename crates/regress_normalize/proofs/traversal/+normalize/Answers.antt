@@ -1,6 +1,5 @@
 -- Each answer is a lemma on plain trees, at the values of the call.
 use Rattle.std.proofs.Common.{rules, arith, ◌∙◌, sym, ap, subst, refl, length-set, take}
-use Rattle.regress_tree.specs.declared.ir.node.Node.{Node}
 use Rattle.regress_tree.specs.Spine.{reattach}
 use Rattle.regress_tree.specs.Tree.{Tree, Trees, alt, wrapped, tree, trees}
 use Rattle.regress_tree.specs.Units.{units}

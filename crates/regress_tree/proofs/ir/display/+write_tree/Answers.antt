@@ -1,11 +1,10 @@
 -- The line of a node, and what is still to come.
-use Rattle.std.proofs.Common.{◌≡◌, true, refl, rules, arith}
+use Rattle.std.proofs.Common.{refl, rules, arith}
 use Rattle.std.proofs.Output.{has_written_append}
 use Rattle.regress_tree.specs.Tree.{tree}
-use Rattle.regress_tree.specs.Copies.{is_leaf}
 use Rattle.regress_tree.specs.declared.ir.node.Node.{the_lemmas}
-use Rattle.regress_tree.proofs.laws.Nodes.{tree-Alt, tree-CaptureGroup, tree-Loop, tree-Loop1CharBody, tree-LookaroundAssertion}
-use Rattle.regress_tree.proofs.DisplayLemmas.{inside_written, leaf_written}
+use Rattle.regress_tree.proofs.laws.Nodes.{tree-Alt}
+use Rattle.regress_tree.proofs.DisplayLemmas.{inside_written}
 use Rattle.regress_tree.proofs.ir.display.+write_tree.Goals as goal
 
 pub write_tree-loop-depth-preserved-in-Alt : goal.write_tree-loop-depth-preserved-in-Alt
@@ -22,4 +21,3 @@ write_tree-loop-depth-preserved-in-Alt g t c = record {
             (rw (c.in-Alt.is, tree-Alt) (has_written_append _ _ _ _ _ _ left right))),
       );
 }
-
