@@ -8,7 +8,7 @@ use Rattle.std.proofs.lemmas.List.{take_rest, drop-drop, length-drop, length-tak
 use Rattle.std.proofs.lemmas.Slice.Eq.{bytes_eq-Decides}
 use Rattle.std.proofs.lemmas.Bool.{false≢true, cases_lt, lt-ltb, eq-eqb, ne_eqb, cases_eq}
 use Rattle.regress_base.specs.ByteSets.{bytes_of}
-use Rattle.regress_base.specs.Places.{IsLeastAt, IsMemberAt, StandsWhole, Tells}
+use Rattle.regress_base.specs.Places.{IsLeastAt, IsMemberAt, StandsWhole, IsTestFor}
 
 -- no byte of the text before place n is a member
 abbrev pub NoneBefore : (ℕ → Bool) → List ℕ → ℕ → Type 0
@@ -18,13 +18,13 @@ pub none_past : (set : ℕ → Bool) (text : List ℕ) → NoneBefore set text (
 none_past set text none k h at = none k at.inside at
 
 -- one place more, whose byte failed the test
-pub none_more : (says : ℕ → Bool → Type 0) (set : ℕ → Bool) (text : List ℕ) (i : ℕ) → Tells says set → get_or text i 0 < 256
+pub none_more : (says : ℕ → Bool → Type 0) (set : ℕ → Bool) (text : List ℕ) (i : ℕ) → IsTestFor says set → get_or text i 0 < 256
     → says (get_or text i 0) false → NoneBefore set text i → NoneBefore set text (i + 1)
 none_more says set text i tells byte failed none =
     below_more _ _ none (λ at. false≢true (tells (get_or text i 0) false byte failed ∙ at.member))
 
 -- the first byte that passes the test stands at the least place
-pub first_found : (says : ℕ → Bool → Type 0) (set : ℕ → Bool) (text : List ℕ) (i : ℕ) → Tells says set → get_or text i 0 < 256
+pub first_found : (says : ℕ → Bool → Type 0) (set : ℕ → Bool) (text : List ℕ) (i : ℕ) → IsTestFor says set → get_or text i 0 < 256
     → says (get_or text i 0) true → NoneBefore set text i → i < length text → IsLeastAt (IsMemberAt set text) (length text) i
 first_found says set text i tells byte passed none inside = record {
   within = omega arith;
@@ -35,16 +35,16 @@ first_found says set text i tells byte passed none inside = record {
 -- ---- a search by parts
 
 -- the part stands in the text from place n on
-pub record IsPart (text : List ℕ) (n : ℕ) (part : List ℕ) : Type 0 where
+pub record IsStretch (text : List ℕ) (n : ℕ) (part : List ℕ) : Type 0 where
   pub within : n + length part ≤ length text
   pub same : (k : ℕ) → k < length part → get_or part k 0 ≡ get_or text (n + k) 0
 
-member_of_part : (set : ℕ → Bool) (text : List ℕ) (n : ℕ) (part : List ℕ) (k : ℕ) → IsPart text n part → k < length part
+member_of_part : (set : ℕ → Bool) (text : List ℕ) (n : ℕ) (part : List ℕ) (k : ℕ) → IsStretch text n part → k < length part
     → IsMemberAt set text (n + k) → IsMemberAt set part k
 member_of_part set text n part k at inside here = record { inside = inside; member = ap set (at.same k inside) ∙ here.member }
 
 -- no member in a part
-pub none_in_part : (set : ℕ → Bool) (text : List ℕ) (n : ℕ) (part : List ℕ) → IsPart text n part → NoneBefore set text n
+pub none_in_part : (set : ℕ → Bool) (text : List ℕ) (n : ℕ) (part : List ℕ) → IsStretch text n part → NoneBefore set text n
     → ((k : ℕ) → k ≤ length part → ¬ (IsMemberAt set part k)) → NoneBefore set text (n + length part)
 none_in_part set text n part at none nowhere = λ k h here.
     elim (cases_lt k n) [
@@ -55,7 +55,7 @@ none_in_part set text n part at none nowhere = λ k h here.
     ]
 
 -- the least member of a part, where there is none before it
-pub found_in_part : (set : ℕ → Bool) (text : List ℕ) (n : ℕ) (part : List ℕ) (k : ℕ) → IsPart text n part → NoneBefore set text n
+pub found_in_part : (set : ℕ → Bool) (text : List ℕ) (n : ℕ) (part : List ℕ) (k : ℕ) → IsStretch text n part → NoneBefore set text n
     → IsLeastAt (IsMemberAt set part) (length part) k → IsLeastAt (IsMemberAt set text) (length text) (n + k)
 found_in_part set text n part k at none least =
     let inside = least.stands.inside in
@@ -81,9 +81,9 @@ chunk_at n (suc m) xs (suc k) d h =
     let e : n + k * n ≡ suc k * n = omega arith in
     chunk_at n m (drop n xs) k d (le_of_suc-le-suc h) ∙ ap (take n) (drop-drop (k * n) n xs ∙ ap (λ j. drop j xs) e)
 
-pub chunk-IsPart : (xs : List ℕ) (chunks : List (List ℕ)) (k : ℕ) → chunks ≡ first_chunks 4 (length xs / 4) xs → k < length xs / 4
-    → IsPart xs (k * 4) (get_or chunks k []) × (length (get_or chunks k []) ≡ 4)
-chunk-IsPart xs chunks k made h =
+pub chunk-IsStretch : (xs : List ℕ) (chunks : List (List ℕ)) (k : ℕ) → chunks ≡ first_chunks 4 (length xs / 4) xs → k < length xs / 4
+    → IsStretch xs (k * 4) (get_or chunks k []) × (length (get_or chunks k []) ≡ 4)
+chunk-IsStretch xs chunks k made h =
     let is : get_or chunks k [] ≡ take 4 (drop (k * 4) xs) =
     ap (λ (l : List (List ℕ)). get_or l k []) made ∙ chunk_at 4 (length xs / 4) xs k [] h in
     let room : k * 4 + 4 ≤ length xs = omega arith in
@@ -96,9 +96,9 @@ chunk-IsPart xs chunks k made h =
       four,
     )
 
-pub rest-IsPart : (xs rest : List ℕ) (n : ℕ) → n ≡ length xs / 4 → rest ≡ drop (length xs / 4 * 4) xs
-    → IsPart xs (n * 4) rest × (n * 4 + length rest ≡ length xs)
-rest-IsPart xs rest n count is =
+pub rest-IsStretch : (xs rest : List ℕ) (n : ℕ) → n ≡ length xs / 4 → rest ≡ drop (length xs / 4 * 4) xs
+    → IsStretch xs (n * 4) rest × (n * 4 + length rest ≡ length xs)
+rest-IsStretch xs rest n count is =
     let cut : rest ≡ drop (n * 4) xs = is ∙ ap (λ m. drop (m * 4) xs) (sym count) in
     let long = ap length cut ∙ length-drop (n * 4) xs in
     (record { within = omega arith; same = λ k h. ap (λ l. get_or l k 0) cut ∙ get_or-drop (n * 4) xs k 0 }, omega arith)

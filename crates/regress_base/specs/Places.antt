@@ -17,8 +17,8 @@ pub record IsMemberAt (set : ℕ → Bool) (text : List ℕ) (i : ℕ) : Type 0 
   pub member : IsTrue (set (slice_index text i))
 
 -- each answer that `says` allows at a byte is whether the byte is a member
-abbrev pub Tells : (ℕ → Bool → Type 0) → (ℕ → Bool) → Type 0
-Tells says set = (b : ℕ) (r : Bool) → b < 256 → says b r → r ≡ set b
+abbrev pub IsTestFor : (ℕ → Bool → Type 0) → (ℕ → Bool) → Type 0
+IsTestFor says set = (b : ℕ) (r : Bool) → b < 256 → says b r → r ≡ set b
 
 -- the needle stands whole in the text from place i on
 abbrev pub StandsWhole : List ℕ → List ℕ → ℕ → Type 0

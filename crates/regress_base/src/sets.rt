@@ -1,8 +1,9 @@
 //! What several crates do with sets of code points.
-ghost use Rattle.std.specs.Prelude.{◌≡◌, ◌||◌, ℕ, OnOk};
-ghost use Rattle.regress_base.specs.Intervals.{is_member, IsCanonical};
+ghost use Rattle.std.specs.Prelude.{◌≡◌, ◌↔◌, ◌||◌, ◌≤◌, ℕ, All, IsTrue, OnOk, nat_le};
+ghost use Rattle.std.specs.List.{list_all};
+ghost use Rattle.regress_base.specs.Intervals.{code_point_max, is_member, IsCanonical};
 
-use crate::codepointset::{CodePointSet, Interval};
+use crate::codepointset::{CODE_POINT_MAX, CodePointSet, Interval};
 use std::alloc::AllocError;
 
 /// Adds the intervals one by one. The error is want of memory.
@@ -14,6 +15,14 @@ pub fn add_intervals(set: &mut CodePointSet, intervals: &[Interval]) -> Result<(
         set.add(*interval)?;
     }
     Ok(())
+}
+
+/// Whether all are code points.
+pub fn are_code_points(numbers: &[u32]) -> bool
+    ensures tested { result ≡ list_all (λ c. nat_le c code_point_max) numbers.now }
+    ensures all { IsTrue result ↔ All (λ c. c ≤ code_point_max) numbers.now }
+{
+    numbers.iter().all(|c| *c <= CODE_POINT_MAX)
 }
 
 /// What the type of a set says of it, for a proof that needs it. It does nothing else.

@@ -13,7 +13,7 @@ use Rattle.regress_tree.specs.Reading.{forwards, byte_place, character_at, read_
 use Rattle.regress_tree.specs.References.{back_reference}
 use Rattle.regress_tree.specs.Repetition.{repeat}
 use Rattle.regress_unicode.specs.SmallTable.{small_table}
-use Rattle.regress_tree.specs.Steps.{Span, State, byte_state, one_character, hold_at, capture as captures, same_state}
+use Rattle.regress_tree.specs.Steps.{CaptureSpan, State, byte_state, one_character, hold_at, capture as captures, same_state}
 use Rattle.regress_tree.specs.Strings.{any_string}
 use Rattle.regress_base.specs.Table.{Table, named as value_named, is_in_closure}
 use Rattle.regress_tree.specs.Matching.{matches}
@@ -130,13 +130,13 @@ Gives setting source text rows =
 abbrev pub from : ℕ → List State → Row
 from place states = (place, states)
 
-abbrev pub at : ℕ → List (Option Span) → State
+abbrev pub at : ℕ → List (Option CaptureSpan) → State
 at place spans = record { place = place; captures = spans }
 
-abbrev pub unset : Option Span
+abbrev pub unset : Option CaptureSpan
 unset = None
 
-abbrev pub span : ℕ → ℕ → Option Span
+abbrev pub span : ℕ → ℕ → Option CaptureSpan
 span first last = Some (first, last)
 
 -- ---- alternatives, groups and `.`

@@ -7,7 +7,7 @@ use Rattle.regress_base.specs.Intervals.{is_member, is_within}
 use Rattle.regress_base.specs.declared.types.AnchorType.TheVariants.{StartOfLine, EndOfLine}
 use Rattle.regress_base.specs.declared.types.Quantifier.{Quantifier}
 use Rattle.regress_tree.specs.Reading.{forwards, backwards, of_characters, read_after, read_before, character_at}
-use Rattle.regress_tree.specs.Steps.{State, Span, same_state, one_character, these_bytes, hold_at, capture}
+use Rattle.regress_tree.specs.Steps.{State, CaptureSpan, same_state, one_character, these_bytes, hold_at, capture}
 use Rattle.regress_tree.specs.Repetition.{unset, repeat}
 use Rattle.regress_tree.specs.Lookaround.{look}
 use Rattle.regress_tree.specs.References.{back_reference}
@@ -48,7 +48,7 @@ abbrev at : ℕ → State
 at place = record { place = place; captures = [] }
 
 -- where one group has captured this
-abbrev with_group : ℕ → Option Span → State
+abbrev with_group : ℕ → Option CaptureSpan → State
 with_group place span = record { place = place; captures = span ∷ [] }
 
 -- ---- repetition

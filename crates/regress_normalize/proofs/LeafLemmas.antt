@@ -16,7 +16,7 @@ use Rattle.regress_tree.proofs.laws.Measures.{LacksShape-here}
 use Rattle.regress_tree.proofs.laws.Positions.{MayStand-one_character}
 use Rattle.regress_rewrite.specs.declared.rewrite.PassAction.{PassAction}
 use Rattle.regress_rewrite.specs.declared.rewrite.PassAction.TheVariants.{Keep}
-use Rattle.regress_rewrite.specs.Law.{IsPart, Keeps, after, IsLawful}
+use Rattle.regress_rewrite.specs.Law.{IsPart, Keeps, after, ObeysLaw}
 use Rattle.regress_rewrite.proofs.laws.Keeps.{Keeps-refl, Keeps-trans, IsPart-kept}
 use Rattle.regress_rewrite.proofs.laws.Emptying.{emptied_keeps}
 use Rattle.regress_normalize.specs.declared.facts.PartFacts.{PartFacts}
@@ -75,7 +75,7 @@ Clears-refl removes t is = record {
 pub IsPart-cleared : (removes : Tree → Bool) (old t : Tree) → Clears removes old t → IsPart old → IsPart t
 IsPart-cleared removes old t clears part = IsPart-kept forwards (clears.keeps forwards) part
 
-module _ (removes : Tree → Bool) (t left : Tree) (action : PassAction) (lawful : (d : Direction) → IsLawful removes true d t left action) where
+module _ (removes : Tree → Bool) (t left : Tree) (action : PassAction) (lawful : (d : Direction) → ObeysLaw removes true d t left action) where
   -- what is kept is what was there
   pub kept : action ≡ Keep → after action left ≡ t
   kept same = ap (λ (a : PassAction). after a left) same ∙ (lawful forwards).kept same
@@ -97,7 +97,7 @@ module _ (removes : Tree → Bool) (t left : Tree) (action : PassAction) (lawful
 -- a leaf becomes another, where the answer says so
 module _ (t : Tree) (l formed : Leaf) (is : t ≡ leaf l) where
   pub Clears-formed : (r : Result PassAction AllocError) →
-      ((d : Direction) → IfOk r (IsLawful is_formed_away true d (leaf l) (leaf l))) →
+      ((d : Direction) → IfOk r (ObeysLaw is_formed_away true d (leaf l) (leaf l))) →
       IfOk r (λ action. after action (leaf l) ≡ leaf formed) → IfOk r (λ action. Clears is_formed_away t (after action t))
   Clears-formed (Ok action) lawful formed_is =
       subst (λ (u : Tree). Clears is_formed_away u (after action u)) (sym is)

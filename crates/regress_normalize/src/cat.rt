@@ -2,8 +2,8 @@
 ghost use Rattle.std.specs.Prelude.{◌≡◌, ◌⊎◌, ◌≤◌, ◌||◌, true, false, MatchBool, IfOk, OnOk, OnErr, IfSome, None};
 ghost use Rattle.regress_tree.specs.NodeTests.{is_empty, is_goal};
 ghost use Rattle.regress_tree.specs.Reading.{Direction};
-ghost use Rattle.regress_tree.specs.Shapes.{has_bytes, has_cat, has_neighbours, some_in_row, is_short};
-ghost use Rattle.regress_tree.specs.Tree.{leaf, empty, cat, no_trees, more_trees, tree, trees};
+ghost use Rattle.regress_tree.specs.Shapes.{has_bytes, has_cat, has_neighbours, some_in_row};
+ghost use Rattle.regress_tree.specs.Tree.{cat, tree, trees};
 ghost use Rattle.regress_tree.specs.Walk.{direction_of};
 ghost use Rattle.regress_rewrite.specs.Law.{IsPart, Keeps};
 ghost use Rattle.regress_rewrite.specs.Splice.{spliced};
@@ -14,7 +14,7 @@ use crate::facts::{PartFacts, RowFacts};
 use crate::leaf::leaf_facts;
 use regress_rewrite::flatten::splice;
 use regress_rewrite::form_literal_bytes::{append, has_bytes};
-use regress_rewrite::remove_empties::leave_out_empties;
+use regress_rewrite::remove_empties::{leave_out_empties, stand_in};
 use regress_tree::ir::{Node, NodeList, Walk};
 use std::alloc::{AllocError, Global};
 
@@ -65,18 +65,6 @@ fn facts_of(row: &RowFacts, taken: usize, cat: bool) -> Result<PartFacts, AllocE
         always_fails: false,
         was_one_character: false,
     })
-}
-
-/// Takes out what is to stand in the place of a `Cat` of fewer than two parts.
-fn stand_in(parts: &mut NodeList) -> Option<Node>
-    ensures some { IfSome result (λ node. ((trees parts.old.items ≡ no_trees) × (tree node ≡ leaf empty))
-        ⊎ (trees parts.old.items ≡ more_trees (tree node) no_trees)) }
-    ensures none { result ≡ None → ((trees parts.new.items ≡ trees parts.old.items) × (is_short (trees parts.old.items) ≡ false)) }
-{
-    if parts.len() > 1 {
-        return None;
-    }
-    Some(parts.pop().unwrap_or(Node::Empty))
 }
 
 /// Puts the parts of each `Cat` in its place, leaves out each `Empty`, and joins the bytes of neighbours. It answers

@@ -1,12 +1,11 @@
 //! A node that holds no node.
-ghost use Rattle.std.specs.Prelude.{◌≡◌, ◌≢◌, true, false, IsTrue, MatchBool, IfOk, OnOk};
+ghost use Rattle.std.specs.Prelude.{◌≡◌, true, false, IsTrue, IfOk, OnOk};
 ghost use Rattle.regress_tree.specs.Copies.{is_leaf};
 ghost use Rattle.regress_tree.specs.Reading.{Direction};
 ghost use Rattle.regress_tree.specs.Shapes.{is_simplified_away, is_formed_away, is_emptied_away};
 ghost use Rattle.regress_tree.specs.Tree.{tree};
 ghost use Rattle.regress_tree.specs.Units.{charge};
 ghost use Rattle.regress_rewrite.specs.Law.{IsPart, after};
-ghost use Rattle.regress_rewrite.specs.declared.rewrite.PassAction.TheVariants.{Keep};
 ghost use Rattle.regress_normalize.specs.Normalized.{Normalized};
 ghost use Rattle.regress_normalize.specs.PartFacts.{StandsAsOne, HasFacts};
 ghost use Rattle.regress_normalize.specs.Steps.{Clears};
@@ -70,7 +69,7 @@ fn simplify(alloc: Global, node: &mut Node) -> Result<(), AllocError>
 {
     loop {
         let action = simplify_brackets(alloc, node)?;
-        if !put(node, action) {
+        if !action.carry_out(node) {
             return Ok(());
         }
     }
@@ -83,7 +82,7 @@ fn form(alloc: Global, node: &mut Node) -> Result<(), AllocError>
     ensures removed { OnOk result (is_formed_away (tree node.new) ≡ false) }
 {
     let action = formed(alloc, node)?;
-    put(node, action);
+    action.carry_out(node);
     Ok(())
 }
 
@@ -119,18 +118,4 @@ fn has_no_byte(node: &Node) -> bool
     ensures { result ≡ is_emptied_away (tree node.now) }
 {
     matches!(node, Node::ByteSequence(bytes) if bytes.is_empty())
-}
-
-/// Does what a rewrite answered, and tells whether that was something.
-fn put(node: &mut Node, action: PassAction) -> bool
-    ensures put { tree node.new ≡ after action (tree node.old) }
-    ensures some { MatchBool result (action ≢ Keep) (action ≡ Keep) }
-{
-    match action {
-        PassAction::Keep => return false,
-        PassAction::Modified => {}
-        PassAction::Remove => *node = Node::Empty,
-        PassAction::Replace(new) => *node = new,
-    }
-    true
 }

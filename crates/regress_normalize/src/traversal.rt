@@ -1,6 +1,6 @@
 //! One traversal of a tree, children before parents.
 ghost use Rattle.std.specs.Prelude.{◌≡◌, true, false, IfOk, OnOk, MatchBool};
-ghost use Rattle.regress_tree.specs.Shapes.{on_wrapper};
+ghost use Rattle.regress_tree.specs.Held.{is_wrapper};
 ghost use Rattle.regress_tree.specs.NormalForm.{IsNormal};
 ghost use Rattle.regress_tree.specs.Spine.{is_alt, reattach};
 ghost use Rattle.regress_tree.specs.Tree.{tree, trees, leaf, empty, cat, no_trees, more_trees};
@@ -15,6 +15,7 @@ use crate::cat::finish_cat;
 use crate::facts::{PartFacts, RowFacts};
 use crate::leaf::finish_leaf;
 use crate::wrapper::finish_wrapper;
+use regress_tree::ir::held::{body_mut, walk_inside};
 use regress_tree::ir::spine::{relink, shift};
 use regress_tree::ir::{Node, NodeList, Walk};
 use std::alloc::{AllocError, Global};
@@ -161,20 +162,14 @@ fn normalize_parts(alloc: Global, parts: &mut NodeList, walk: &Walk) -> Result<R
 #[cycle(normalize)]
 fn normalize_body(alloc: Global, node: &mut Node, walk: &Walk) -> Result<PartFacts, AllocError>
     requires part { IsPart (tree node.old) }
-    requires wrapper { on_wrapper (λ w. true) (tree node.old) ≡ true }
+    requires wrapper { is_wrapper (tree node.old) ≡ true }
     ensures keeps { StandsFor (direction_of walk.now) (tree node.old) (tree node.new) }
     ensures body { IfOk result (λ body. IsWrapperOf body (tree node.new)) }
     ensures still_one { IsNormal (tree node.old) → IfOk result (λ body. IsCleanAround body (tree node.new)) }
 {
-    match node {
-        Node::CaptureGroup { contents, .. } => normalize(alloc, contents, walk),
-        Node::Loop { loopee, .. } => normalize(alloc, loopee, walk),
-        Node::Loop1CharBody { loopee, .. } => normalize(alloc, loopee, walk),
-        Node::LookaroundAssertion {
-            backwards,
-            contents,
-            ..
-        } => normalize(alloc, contents, &walk.looking(*backwards)),
-        _ => unreachable!(),
-    }
+    let inner = walk_inside(walk, node);
+    let Some(body) = body_mut(node) else {
+        unreachable!()
+    };
+    normalize(alloc, body, &inner)
 }

@@ -1,16 +1,15 @@
 -- What matches the empty text alone becomes `Empty`, and a `Cat` loses its `Empty` parts.
-use Rattle.std.proofs.Common.{◌≡◌, ℕ, ◌+◌, ◌-◌, ◌≤◌, Bool, true, false, not, ◌&&◌, ◌||◌, cond, inl, inr, List, [], ◌∷◌, length, Option, Some, None, refl, sym, ap, ap₂, subst, ◌∙◌, eqb-true, arith}
+use Rattle.std.proofs.Common.{◌≡◌, ℕ, ◌+◌, ◌≤◌, Bool, true, false, not, ◌&&◌, ◌||◌, cond, inl, inr, List, [], ◌∷◌, length, Option, Some, None, refl, sym, ap, ap₂, subst, ◌∙◌, eqb-true, arith}
 use Rattle.std.specs.Prelude.{encode_utf8_all, nat_le}
 use Rattle.std.proofs.lemmas.Bool.{cases_Bool, true≢false, false≢true, and_parts, leb-true}
 use Rattle.std.proofs.lemmas.Str.{length-le-encodes}
 use Rattle.regress_base.specs.declared.types.Quantifier.{Quantifier}
 use Rattle.regress_tree.specs.Reading.{Direction}
-use Rattle.regress_tree.specs.Steps.{State, stay, these_bytes}
-use Rattle.regress_tree.specs.Repetition.{repeat}
+use Rattle.regress_tree.specs.Steps.{State, stay}
 use Rattle.regress_tree.specs.Lookaround.{look}
 use Rattle.regress_tree.specs.Setting.{Setting}
 use Rattle.regress_tree.specs.Matching.{steps}
-use Rattle.regress_tree.specs.Tree.{Leaf, empty, goal, char, byte_sequence, byte_set, char_set, match_any, match_any_except_line_terminator, anchor, word_boundary, bracket, back_ref, string_set, Wrapper, capture_group, loop, loop_one, lookaround, Tree, Trees, leaf, cat, alt, wrapped}
+use Rattle.regress_tree.specs.Tree.{Leaf, empty, byte_sequence, Wrapper, capture_group, loop, loop_one, lookaround, Tree, Trees, leaf, cat, alt, wrapped}
 use Rattle.regress_tree.specs.WellFormed.{captures, Position, one_character, inside, last, root, NotAsOneCharacter, AreUtf8, IsQuantifier, MayStand}
 use Rattle.regress_tree.specs.Units.{IsLess}
 use Rattle.regress_tree.specs.NodeTests.{is_none, is_empty}
@@ -21,7 +20,7 @@ use Rattle.regress_tree.proofs.laws.ByteSequences.{these_bytes-none}
 use Rattle.regress_tree.proofs.laws.Groups.{HasGroups-none, captures-none}
 use Rattle.regress_tree.proofs.laws.Measures.{units-positive, IsLess-lighter}
 use Rattle.regress_tree.proofs.laws.Turns.{repeat-stay, repeat-none}
-use Rattle.regress_rewrite.specs.Law.{IsPart, MeansTheSame, Keeps, IsLawful}
+use Rattle.regress_rewrite.specs.Law.{IsPart, MeansTheSame, Keeps, ObeysLaw}
 use Rattle.regress_rewrite.specs.Taken.{row_without, StandsForCat}
 use Rattle.regress_rewrite.specs.declared.rewrite.PassAction.{PassAction}
 use Rattle.regress_rewrite.specs.declared.rewrite.PassAction.TheVariants.{Remove}
@@ -63,22 +62,10 @@ module _ (d : Direction) where
   }
 
   leaf_vanishes : (l : Leaf) → is_byte_sequence_with is_none l ≡ true → Vanishes (leaf l)
-  leaf_vanishes empty is = absurd (false≢true is)
-  leaf_vanishes goal is = absurd (false≢true is)
-  leaf_vanishes (char c) is = absurd (false≢true is)
   leaf_vanishes (byte_sequence []) is =
       vanishes (leaf (byte_sequence [])) (λ setting text is_text. Alike-from_same (these_bytes-none d (encode_utf8_all text)))
       (λ n p m. no_byte-free p m) refl (IsLess-lighter (leaf empty) (leaf (byte_sequence [])) (omega arith) (omega arith))
-  leaf_vanishes (byte_sequence (b ∷ bytes)) is = absurd (false≢true is)
-  leaf_vanishes (byte_set bytes) is = absurd (false≢true is)
-  leaf_vanishes (char_set characters) is = absurd (false≢true is)
-  leaf_vanishes match_any is = absurd (false≢true is)
-  leaf_vanishes match_any_except_line_terminator is = absurd (false≢true is)
-  leaf_vanishes (anchor kind multiline) is = absurd (false≢true is)
-  leaf_vanishes (word_boundary invert unicode_icase) is = absurd (false≢true is)
-  leaf_vanishes (bracket invert intervals) is = absurd (false≢true is)
-  leaf_vanishes (back_ref group icase) is = absurd (false≢true is)
-  leaf_vanishes (string_set strings icase) is = absurd (false≢true is)
+  leaf_vanishes l is = absurd (false≢true is)
 
   -- the second side finds what the first one does
   sides_vanish : Vanishes (alt (leaf empty) (leaf empty))
@@ -145,7 +132,7 @@ module _ (d : Direction) where
   -- The law.
 
   pub whole_lawful : (t left : Tree) → is_cat t ≡ false → is_emptied_away t ≡ true → IsPart t →
-      IsLawful is_emptied_away true d t left Remove
+      ObeysLaw is_emptied_away true d t left Remove
   whole_lawful t left other is part =
       let gone = tree_vanishes t other is part in
       remove_lawful is_emptied_away true d t is left gone.keeps gone.less
@@ -154,7 +141,7 @@ module _ (d : Direction) where
   empty_stays setting bytes t is s = ap (λ (u : Tree). steps setting bytes d u s) (is_empty-leaf t is)
 
   pub parts_lawful : (action : PassAction) (old left : Trees) → some_in_row is_empty old ≡ true →
-      StandsForCat action (row_without is_empty old) left → IsLawful is_emptied_away true d (cat old) (cat left) action
+      StandsForCat action (row_without is_empty old) left → ObeysLaw is_emptied_away true d (cat old) (cat left) action
   parts_lawful action old left some stands =
       cat_lawful is_emptied_away true d (cat old) some action (row_without is_empty old) left
       (without_keeps is_empty (λ t is. ap captures (is_empty-leaf t is)) d empty_stays old) (without-less is_empty old some) stands

@@ -1,5 +1,5 @@
 -- The law, for whatever is removed: what a rewrite has to show of each action.
-use Rattle.std.proofs.Common.{◌≡◌, ◌≢◌, Bool, true, false, refl, sym, subst, ◌∙◌, arith}
+use Rattle.std.proofs.Common.{◌≡◌, ◌≢◌, Bool, true, false, inl, inr, refl, sym, subst, ◌∙◌, arith}
 use Rattle.std.proofs.lemmas.Bool.{false≢true}
 use Rattle.regress_tree.specs.declared.ir.node.Node.{Node}
 use Rattle.regress_tree.specs.Reading.{Direction}
@@ -7,16 +7,26 @@ use Rattle.regress_tree.specs.Tree.{Tree, Trees, leaf, empty, cat, no_trees, tre
 use Rattle.regress_tree.specs.Units.{IsLess}
 use Rattle.regress_rewrite.specs.declared.rewrite.PassAction.{PassAction}
 use Rattle.regress_rewrite.specs.declared.rewrite.PassAction.TheVariants.{Keep, Modified, Remove, Replace}
-use Rattle.regress_rewrite.specs.Law.{Keeps, after, IsLawful}
-use Rattle.regress_rewrite.specs.Taken.{StandsForCat}
+use Rattle.regress_rewrite.specs.Law.{Keeps, after, ObeysLaw}
+use Rattle.regress_rewrite.specs.Taken.{StandsAlone, StandsForCat}
 use Rattle.regress_tree.proofs.laws.Measures.{IsLess-lighter}
 use Rattle.regress_tree.proofs.laws.Places.{among, IsLess-part}
 use Rattle.regress_rewrite.proofs.laws.Keeps.{Keeps-refl, Keeps-trans, Keeps-no_part, Keeps-one_part}
 use Rattle.regress_tree.proofs.laws.Falling.{IsLess-trans}
 
 module _ (removes : Tree → Bool) (exact : Bool) (d : Direction) where
+  -- what stands for a `Cat` of fewer than two parts is less
+  pub alone_keeps : (t : Tree) (ts : Trees) → StandsAlone t ts → Keeps d (cat ts) t × IsLess t (cat ts)
+  alone_keeps t ts (inl none) =
+      subst (λ (us : Trees). Keeps d (cat us) t × IsLess t (cat us)) (sym none.0)
+      (subst (λ (u : Tree). Keeps d (cat no_trees) u × IsLess u (cat no_trees)) (sym none.1)
+      (Keeps-no_part d, IsLess-lighter (leaf empty) (cat no_trees) (omega arith) (omega arith)))
+  alone_keeps t ts (inr one) =
+      subst (λ (us : Trees). Keeps d (cat us) t × IsLess t (cat us)) (sym one)
+      (Keeps-one_part d t, IsLess-part (among no_trees no_trees) t)
+
   -- a node with nothing to remove is kept
-  pub keep_lawful : (t : Tree) → removes t ≡ false → IsLawful removes exact d t t Keep
+  pub keep_lawful : (t : Tree) → removes t ≡ false → ObeysLaw removes exact d t t Keep
   keep_lawful t none = record {
     keeps = Keeps-refl d t;
     less = λ other. absurd (other refl);
@@ -27,7 +37,7 @@ module _ (removes : Tree → Bool) (exact : Bool) (d : Direction) where
 
   module _ (old : Tree) (some : removes old ≡ true) where
     changed : (left : Tree) (action : PassAction) → action ≢ Keep → Keeps d old (after action left) → IsLess (after action left) old →
-        IsLawful removes exact d old left action
+        ObeysLaw removes exact d old left action
     changed left action other keeps is_less = record {
       keeps = keeps;
       less = λ same. is_less;
@@ -37,27 +47,23 @@ module _ (removes : Tree → Bool) (exact : Bool) (d : Direction) where
     }
 
     -- one with a shape to remove may be changed, removed or replaced, by what stands for it and is less
-    pub modified_lawful : (new : Tree) → Keeps d old new → IsLess new old → IsLawful removes exact d old new Modified
+    pub modified_lawful : (new : Tree) → Keeps d old new → IsLess new old → ObeysLaw removes exact d old new Modified
     modified_lawful new = changed new Modified (λ same. cc)
 
-    pub remove_lawful : (left : Tree) → Keeps d old (leaf empty) → IsLess (leaf empty) old → IsLawful removes exact d old left Remove
+    pub remove_lawful : (left : Tree) → Keeps d old (leaf empty) → IsLess (leaf empty) old → ObeysLaw removes exact d old left Remove
     remove_lawful left = changed left Remove (λ same. cc)
 
     pub replace_lawful : (left : Tree) (node : Node) → Keeps d old (tree node) → IsLess (tree node) old →
-        IsLawful removes exact d old left (Replace node)
+        ObeysLaw removes exact d old left (Replace node)
     replace_lawful left node = changed left (Replace node) (λ same. cc)
 
     -- what is left of a `Cat` may stand in it, or for it where it is one part or none
     pub cat_lawful : (action : PassAction) (parts left : Trees) → Keeps d old (cat parts) → IsLess (cat parts) old →
-        StandsForCat action parts left → IsLawful removes exact d old (cat left) action
+        StandsForCat action parts left → ObeysLaw removes exact d old (cat left) action
     cat_lawful Keep parts left keeps is_less stands = absurd stands
+    cat_lawful Remove parts left keeps is_less stands = absurd stands
     cat_lawful Modified parts left keeps is_less stands =
-        subst (λ (ts : Trees). IsLawful removes exact d old (cat ts) Modified) (sym stands) (modified_lawful (cat parts) keeps is_less)
-    cat_lawful Remove parts left keeps is_less stands =
-        remove_lawful (cat left) (Keeps-trans d (subst (λ (ts : Trees). Keeps d old (cat ts)) stands keeps) (Keeps-no_part d))
-        (IsLess-trans old (cat parts) (leaf empty) is_less
-        (IsLess-lighter (leaf empty) (cat parts) (omega arith) (omega arith)))
-    cat_lawful (Replace part) parts left keeps is_less stands =
-        replace_lawful (cat left) part (Keeps-trans d (subst (λ (ts : Trees). Keeps d old (cat ts)) stands keeps) (Keeps-one_part d (tree part)))
-        (IsLess-trans old (cat parts) (tree part) is_less
-        (subst (λ (ts : Trees). IsLess (tree part) (cat ts)) (sym stands) (IsLess-part (among no_trees no_trees) (tree part))))
+        subst (λ (ts : Trees). ObeysLaw removes exact d old (cat ts) Modified) (sym stands) (modified_lawful (cat parts) keeps is_less)
+    cat_lawful (Replace node) parts left keeps is_less stands =
+        let alone = alone_keeps (tree node) parts stands in
+        replace_lawful (cat left) node (Keeps-trans d keeps alone.0) (IsLess-trans old (cat parts) (tree node) is_less alone.1)

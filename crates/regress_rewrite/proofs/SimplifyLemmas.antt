@@ -21,7 +21,7 @@ use Rattle.regress_tree.specs.Copies.{is_leaf}
 use Rattle.regress_tree.specs.Reading.{Direction}
 use Rattle.regress_tree.specs.Shapes.{code_point_count, gap_count, is_small_bracket, is_long_bracket, is_simplified_away}
 use Rattle.regress_tree.specs.Tree.{Tree, leaf, char_set, bracket, tree}
-use Rattle.regress_tree.specs.WellFormed.{Position, one_character, last, IsBracket, IsSmallSet, AsOneCharacter}
+use Rattle.regress_tree.specs.WellFormed.{Position, IsBracket, IsSmallSet}
 use Rattle.regress_tree.proofs.laws.Alike.{Alike-from_same}
 use Rattle.regress_tree.proofs.laws.Brackets.{gap_count-complement}
 use Rattle.regress_tree.proofs.laws.ByteSequences.{one_character-agree}
@@ -30,7 +30,7 @@ use Rattle.regress_tree.proofs.laws.Measures.{IsLess-lighter}
 use Rattle.regress_tree.proofs.laws.Positions.{AsOneCharacter-map}
 use Rattle.regress_rewrite.specs.declared.rewrite.PassAction.{PassAction}
 use Rattle.regress_rewrite.specs.declared.rewrite.PassAction.TheVariants.{Keep, Modified, Remove, Replace}
-use Rattle.regress_rewrite.specs.Law.{IsPart, Keeps, after, IsLawful}
+use Rattle.regress_rewrite.specs.Law.{IsPart, Keeps, after, ObeysLaw}
 use Rattle.regress_rewrite.specs.Simplify.{bracket_of, Simplifies}
 use Rattle.regress_rewrite.proofs.LawfulLemmas.{keep_lawful, modified_lawful, replace_lawful}
 
@@ -113,7 +113,7 @@ module _ (invert : Bool) (ivs others : List Bounds) (canonical : IsCanonical oth
 
 listed_lawful : (d : Direction) (invert : Bool) (ivs : List Bounds) (left : Tree) (node : Node) → IsCanonical ivs →
     is_small_bracket (bracket invert ivs) ≡ true → tree node ≡ leaf (char_set (flat_map code_points ivs)) →
-    IsLawful is_simplified_away true d (leaf (bracket invert ivs)) left (Replace node)
+    ObeysLaw is_simplified_away true d (leaf (bracket invert ivs)) left (Replace node)
 listed_lawful d true ivs left node canonical small is = absurd (false≢true small)
 listed_lawful d false ivs left node canonical small is =
     replace_lawful is_simplified_away true d (leaf (bracket false ivs)) (or_left _ _ small) left node
@@ -122,7 +122,7 @@ listed_lawful d false ivs left node canonical small is =
 
 flipped_lawful : (d : Direction) (invert : Bool) (ivs others : List Bounds) → IsCanonical ivs → IsCanonical others → IsComplement ivs others →
     is_long_bracket (bracket invert ivs) ≡ true →
-    IsLawful is_simplified_away true d (leaf (bracket invert ivs)) (leaf (bracket (not invert) others)) Modified
+    ObeysLaw is_simplified_away true d (leaf (bracket invert ivs)) (leaf (bracket (not invert) others)) Modified
 flipped_lawful d invert ivs others canonical canonical_others complement long =
     let fewer = ltb-true (gap_count 0 ivs) (length ivs) long in
     modified_lawful is_simplified_away true d (leaf (bracket invert ivs)) (long-away invert ivs others canonical_others complement long)
@@ -131,7 +131,7 @@ flipped_lawful d invert ivs others canonical canonical_others complement long =
     (omega (arith, fewer, gap_count-complement ivs others canonical canonical_others complement)))
 
 simplifies_lawful : (d : Direction) (action : PassAction) (old new : BracketContents) → IsCanonical old.cps → Simplifies action old new →
-    IsLawful is_simplified_away true d (leaf (bracket_of old)) (leaf (bracket_of new)) action
+    ObeysLaw is_simplified_away true d (leaf (bracket_of old)) (leaf (bracket_of new)) action
 simplifies_lawful d Keep old new canonical simplifies =
     rw simplifies.1 (keep_lawful is_simplified_away true d (leaf (bracket_of old)) simplifies.0)
 simplifies_lawful d Modified old new canonical flipped =
@@ -142,7 +142,7 @@ simplifies_lawful d (Replace node) old new canonical listed =
 
 pub simplify_lawful : (d : Direction) (r : Result PassAction AllocError) (old new : BracketContents) → IsPart (leaf (bracket_of old)) →
     IfOk r (λ action. Simplifies action old new) →
-    IfOk r (IsLawful is_simplified_away true d (leaf (bracket_of old)) (leaf (bracket_of new)))
+    IfOk r (ObeysLaw is_simplified_away true d (leaf (bracket_of old)) (leaf (bracket_of new)))
 simplify_lawful d (Ok action) old new part simplifies = simplifies_lawful d action old new part.2.canonical simplifies
 simplify_lawful d (Err e) old new part simplifies = tt
 

@@ -1,17 +1,23 @@
 -- What a sweep answers, composed: of a part in the whole, and one after another.
-use Rattle.std.proofs.Common.{◌≡◌, Bool, true, false, Result, Ok, Err, sym, ap, subst, ◌∙◌}
+use Rattle.std.proofs.Common.{◌≡◌, Bool, true, false, Result, Ok, Err, refl, sym, ap, subst, ◌∙◌}
 use Rattle.std.specs.declared.alloc.AllocError.{AllocError}
 use Rattle.std.specs.Result.{IsErr}
 use Rattle.std.proofs.lemmas.Bool.{false≢true}
 use Rattle.regress_tree.specs.Reading.{Direction}
 use Rattle.regress_tree.specs.declared.ir.walker.Walk.{Walk}
 use Rattle.regress_tree.specs.Walk.{direction_of}
-use Rattle.regress_tree.specs.Tree.{Tree}
+use Rattle.regress_tree.specs.Tree.{Tree, leaf}
+use Rattle.regress_tree.specs.Copies.{is_leaf}
+use Rattle.regress_tree.specs.Shapes.{LacksInside}
 use Rattle.regress_tree.proofs.laws.Places.{Place, put, direction_at, IsLess-put}
-use Rattle.regress_rewrite.specs.Law.{Keeps}
-use Rattle.regress_rewrite.specs.Sweep.{TellsChange, Swept}
+use Rattle.std.specs.Prelude.{◌≢◌, MatchBool}
+use Rattle.regress_tree.specs.Units.{IsLess}
+use Rattle.regress_rewrite.specs.declared.rewrite.PassAction.{PassAction}
+use Rattle.regress_rewrite.specs.declared.rewrite.PassAction.TheVariants.{Keep}
+use Rattle.regress_rewrite.specs.Law.{Keeps, after, ObeysLaw}
+use Rattle.regress_rewrite.specs.Sweep.{TellsChange, Swept, SweptOf}
 use Rattle.regress_rewrite.proofs.laws.Changes.{joined, joined-false, TellsChange-then}
-use Rattle.regress_rewrite.proofs.laws.Keeps.{Keeps-trans, Keeps-put}
+use Rattle.regress_rewrite.proofs.laws.Keeps.{Keeps-refl, Keeps-trans, Keeps-put}
 
 -- What is told of changes.
 
@@ -47,6 +53,16 @@ module _ (exact : Bool) where
         second.left is_exact (on lacks same) ∙ same;
   }
 
+  -- in a leaf there is nothing to sweep
+  pub Swept-leaf : (shape : Tree → Bool) (d : Direction) (t : Tree) → is_leaf t ≡ true → SweptOf (LacksInside shape) exact d t t (Ok false)
+  Swept-leaf shape d (leaf l) is = record {
+    keeps = Keeps-refl d (leaf l);
+    changed = refl;
+    removed = λ same. refl;
+    left = λ is_exact lacks. refl;
+  }
+  Swept-leaf shape d t is = absurd (false≢true is)
+
   -- where nothing changed the tree is what it was
   pub Swept-same : (d : Direction) {before clean : Type 0} {t u : Tree} {answer : Result Bool AllocError} →
       Swept before clean exact d t u answer → Swept before (clean × (u ≡ t)) exact d t u answer
@@ -74,3 +90,22 @@ module _ (exact : Bool) where
       inner.in_lookbehind ≡ walk.in_lookbehind → Swept before clean exact (direction_of inner) t u answer →
       Swept before clean exact (direction_of walk) t u answer
   Swept-walk walk inner same swept = rw (← same) swept
+
+-- Of one node: what the rewrite answered is done to it.
+pub Swept-carried : (removes : Tree → Bool) (exact : Bool) (d : Direction) (old left new : Tree) (action : PassAction) (changed : Bool) →
+    ObeysLaw removes exact d old left action → new ≡ after action left → MatchBool changed (action ≢ Keep) (action ≡ Keep) →
+    SweptOf (λ t. removes t ≡ false) exact d old new (Ok changed)
+Swept-carried removes exact d old left new action true lawful is other = record {
+  keeps = subst (λ (u : Tree). Keeps d old u) (sym is) lawful.keeps;
+  changed = subst (λ (u : Tree). IsLess u old) (sym is) (lawful.less other);
+  removed = λ never. cc;
+  left = λ is_exact lacks. absurd (other (lawful.exact is_exact lacks));
+}
+Swept-carried removes exact d old left new action false lawful is kept =
+    let same : new ≡ old = is ∙ ap (λ (a : PassAction). after a left) kept ∙ lawful.kept kept in
+    record {
+      keeps = subst (λ (u : Tree). Keeps d old u) (sym is) lawful.keeps;
+      changed = same;
+      removed = λ never. subst (λ (u : Tree). removes u ≡ false) (sym same) (lawful.clean kept);
+      left = λ is_exact lacks. same;
+    }

@@ -45,7 +45,7 @@ after Remove left = leaf empty
 after (Replace node) left = tree node
 
 -- What a rewrite that removes these shapes may do to the node `old`: to leave `left` in its place, and to answer the action.
-pub record IsLawful (removes : Tree → Bool) (is_exact : Bool) (d : Direction) (old left : Tree) (action : PassAction) : Type 0 where
+pub record ObeysLaw (removes : Tree → Bool) (is_exact : Bool) (d : Direction) (old left : Tree) (action : PassAction) : Type 0 where
   -- what the action makes of the node stands for it,
   pub keeps : Keeps d old (after action left)
   -- and is less, unless the action is `Keep`,

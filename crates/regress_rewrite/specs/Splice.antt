@@ -2,6 +2,7 @@
 use Rattle.std.specs.Prelude.{◌≡◌, ℕ, ◌+◌, true, false}
 use Rattle.regress_tree.specs.Tree.{Tree, Trees, leaf, cat, alt, wrapped, no_trees, more_trees, row_append, tree}
 use Rattle.regress_tree.specs.Shapes.{has_cat, is_flattened_away}
+use Rattle.regress_rewrite.specs.Taken.{StandsAlone}
 use Rattle.regress_rewrite.specs.declared.rewrite.PassAction.{PassAction}
 use Rattle.regress_rewrite.specs.declared.rewrite.PassAction.TheVariants.{Keep, Modified, Remove, Replace}
 
@@ -26,5 +27,5 @@ row_length (more_trees t ts) = 1 + row_length ts
 abbrev pub Flattens : PassAction → Trees → Trees → Type 0
 Flattens Keep old new = (is_flattened_away (cat old) ≡ false) × (new ≡ old)
 Flattens Modified old new = (has_cat old ≡ true) × (new ≡ spliced old)
-Flattens Remove old new = old ≡ no_trees
-Flattens (Replace part) old new = old ≡ more_trees (tree part) no_trees
+Flattens Remove old new = ⊥
+Flattens (Replace node) old new = StandsAlone (tree node) old

@@ -3,9 +3,10 @@ ghost use Rattle.std.specs.Prelude.{◌≡◌, ◌+◌, ◌≤◌, true, IfOk, I
 ghost use Rattle.regress_tree.specs.Reading.{Direction};
 ghost use Rattle.regress_tree.specs.Tree.{tree, trees, row_append};
 ghost use Rattle.regress_tree.specs.Shapes.{is_cat, is_flattened_away};
-ghost use Rattle.regress_rewrite.specs.Law.{IsLawful};
+ghost use Rattle.regress_rewrite.specs.Law.{ObeysLaw};
 ghost use Rattle.regress_rewrite.specs.Splice.{parts_of, spliced, row_length, Flattens};
 
+use crate::remove_empties::stand_in;
 use crate::rewrite::PassAction;
 use regress_tree::ir::{Node, NodeList};
 use std::alloc::{AllocError, Global};
@@ -14,7 +15,7 @@ use std::mem;
 /// Removes a `Cat` of no part, puts the one part in the place of a `Cat` of one, and splices the
 /// parts of a part that is a `Cat` in at its place. The time for a `Cat` grows as its parts do.
 pub fn flatten(alloc: Global, node: &mut Node) -> Result<PassAction, AllocError>
-    ensures lawful { (d : Direction) → IfOk result (IsLawful is_flattened_away true d (tree node.old) (tree node.new)) }
+    ensures lawful { (d : Direction) → IfOk result (ObeysLaw is_flattened_away true d (tree node.old) (tree node.new)) }
     ensures err { OnErr result (tree node.new ≡ tree node.old) }
 {
     match node {
@@ -28,11 +29,8 @@ fn flatten_cat(alloc: Global, parts: &mut NodeList) -> Result<PassAction, AllocE
     ensures action { IfOk result (λ action. Flattens action (trees parts.old.items) (trees parts.new.items)) }
     ensures err { OnErr result (trees parts.new.items ≡ trees parts.old.items) }
 {
-    if parts.len() < 2 {
-        return Ok(match parts.pop() {
-            Some(part) => PassAction::Replace(part),
-            None => PassAction::Remove,
-        });
+    if let Some(node) = stand_in(parts) {
+        return Ok(PassAction::Replace(node));
     }
     if !parts.iter().any(is_cat) {
         return Ok(PassAction::Keep);

@@ -5,7 +5,7 @@ ghost use Rattle.regress_tree.specs.Tree.{tree, trees, leaf, char, char_set, byt
 ghost use Rattle.regress_tree.specs.SmallSets.{set_of};
 ghost use Rattle.regress_tree.specs.Walk.{direction_of};
 ghost use Rattle.regress_tree.specs.Shapes.{has_bytes, is_formed_away};
-ghost use Rattle.regress_rewrite.specs.Law.{after, IsLawful};
+ghost use Rattle.regress_rewrite.specs.Law.{after, ObeysLaw};
 ghost use Rattle.regress_rewrite.specs.Formed.{formed_character, bytes_of, part_at, HaveBytes, joined_at, JoinsBytes};
 
 use crate::rewrite::PassAction;
@@ -25,7 +25,7 @@ pub fn form_literal_bytes(
     node: &mut Node,
     walk: &Walk,
 ) -> Result<PassAction, AllocError>
-    ensures lawful { IfOk result (IsLawful is_formed_away true (direction_of walk.now) (tree node.old) (tree node.new)) }
+    ensures lawful { IfOk result (ObeysLaw is_formed_away true (direction_of walk.now) (tree node.old) (tree node.new)) }
     ensures err { OnErr result (tree node.new ≡ tree node.old) }
 {
     match node {
@@ -38,7 +38,7 @@ pub fn form_literal_bytes(
 
 /// The UTF-8 of a code point, if it is a character.
 pub fn form_character(alloc: Global, c: u32) -> Result<PassAction, AllocError>
-    ensures lawful { (d : Direction) → IfOk result (IsLawful is_formed_away true d (leaf (char c)) (leaf (char c))) }
+    ensures lawful { (d : Direction) → IfOk result (ObeysLaw is_formed_away true d (leaf (char c)) (leaf (char c))) }
     ensures formed { IfOk result (λ action. after action (leaf (char c)) ≡ leaf (formed_character c)) }
 {
     let Some(c) = char::from_u32(c) else {
@@ -51,7 +51,7 @@ pub fn form_character(alloc: Global, c: u32) -> Result<PassAction, AllocError>
 
 /// The set of the same members as bytes, if all are ASCII.
 pub fn form_set(alloc: Global, characters: &[u32]) -> Result<PassAction, AllocError>
-    ensures lawful { (d : Direction) → IfOk result (IsLawful is_formed_away true d (leaf (char_set characters.now)) (leaf (char_set characters.now))) }
+    ensures lawful { (d : Direction) → IfOk result (ObeysLaw is_formed_away true d (leaf (char_set characters.now)) (leaf (char_set characters.now))) }
     ensures formed { IfOk result (λ action. after action (leaf (char_set characters.now)) ≡ leaf (set_of characters.now)) }
 {
     match ascii(alloc, characters)? {
@@ -62,7 +62,7 @@ pub fn form_set(alloc: Global, characters: &[u32]) -> Result<PassAction, AllocEr
 
 /// Joins the bytes of neighbours.
 fn join_parts(parts: &mut [Node], walk: &Walk) -> Result<PassAction, AllocError>
-    ensures lawful { IfOk result (IsLawful is_formed_away true (direction_of walk.now) (cat (trees parts.old)) (cat (trees parts.new))) }
+    ensures lawful { IfOk result (ObeysLaw is_formed_away true (direction_of walk.now) (cat (trees parts.old)) (cat (trees parts.new))) }
     ensures err { OnErr result (trees parts.new ≡ trees parts.old) }
 {
     let joined = if walk.in_lookbehind {

@@ -5,6 +5,7 @@ ghost use Rattle.regress_tree.specs.Spine.{is_alt};
 ghost use Rattle.regress_tree.specs.Shapes.{has_group, on_wrapper, is_group, some_node_in_row};
 
 use regress_tree::ir::Node;
+use regress_tree::ir::held::body;
 
 /// Whether the node is a capture group, or one lies in it. The search stops at the first one. It goes down the
 /// right sides of alternatives in a loop: there may be as many levels as alternatives.
@@ -31,9 +32,10 @@ fn other_has_group(node: &Node) -> bool
     match node {
         Node::CaptureGroup { .. } => true,
         Node::Cat(parts) => some_has_group(parts),
-        Node::Loop { loopee, .. } | Node::Loop1CharBody { loopee, .. } => has_group(loopee),
-        Node::LookaroundAssertion { contents, .. } => has_group(contents),
-        _ => false,
+        _ => match body(node) {
+            Some(body) => has_group(body),
+            None => false,
+        },
     }
 }
 

@@ -13,7 +13,8 @@ ghost use Rattle.regress_tree.specs.Spine.{reattach, spine_length, LeftsLackShap
 ghost use Rattle.regress_tree.specs.Visits.{Visited, Inside, RowVisited, deeper};
 ghost use Rattle.regress_tree.specs.Climbs.{ClimbedMut};
 
-use crate::rewrite::{PassAction, Rewrite};
+use crate::rewrite::Rewrite;
+use regress_tree::ir::held::{body_mut, walk_inside};
 use regress_tree::ir::spine::{relink, shift};
 use regress_tree::ir::{Node, NodeList, Regex, Walk};
 use std::alloc::AllocError;
@@ -141,7 +142,7 @@ fn sweep_one<R: Rewrite>(node: &mut Node, pass: &mut R, walk: &Walk) -> Result<b
         (tree node.old) (tree node.new) (pass.old, true) (pass.new, is_answered result) }
     ensures swept { SweptOf (LacksShape R.removes) R.is_exact (direction_of walk.now) (tree node.old) (tree node.new) result }
 {
-    let changed = sweep_inside(node, pass, &walk.inside(1))?;
+    let changed = sweep_inside(node, pass, walk)?;
     Ok(changed | rewrite(node, pass, walk)?)
 }
 
@@ -149,35 +150,18 @@ fn sweep_one<R: Rewrite>(node: &mut Node, pass: &mut R, walk: &Walk) -> Result<b
 #[cycle(sweep)]
 fn sweep_inside<R: Rewrite>(node: &mut Node, pass: &mut R, walk: &Walk) -> Result<bool, AllocError>
     requires { IsPart (tree node.old) }
-    ensures visited { (depth : ℕ) → walk.now.depth ≡ deeper depth →
-        Inside (Applied R.step walk.now.unicode) true depth walk.now.in_lookbehind
+    ensures visited { Inside (Applied R.step walk.now.unicode) true walk.now.depth walk.now.in_lookbehind
         (tree node.old) (tree node.new) (pass.old, true) (pass.new, is_answered result) }
     ensures swept { SweptOf (LacksInside R.removes) R.is_exact (direction_of walk.now) (tree node.old) (tree node.new) result }
 {
+    let inner = walk_inside(walk, node);
     match node {
-        Node::Cat(parts) => sweep_parts(parts, pass, walk),
-        Node::Alt(left, right) => sweep_sides(left, right, pass, walk),
-        Node::CaptureGroup { contents, .. } => sweep(contents, pass, walk),
-        Node::Loop { loopee, .. } => sweep(loopee, pass, walk),
-        Node::Loop1CharBody { loopee, .. } => sweep(loopee, pass, walk),
-        Node::LookaroundAssertion {
-            backwards,
-            contents,
-            ..
-        } => sweep(contents, pass, &walk.looking(*backwards)),
-        Node::Empty
-        | Node::Goal
-        | Node::Char { .. }
-        | Node::ByteSequence(_)
-        | Node::ByteSet(_)
-        | Node::CharSet(_)
-        | Node::MatchAny
-        | Node::MatchAnyExceptLineTerminator
-        | Node::Anchor { .. }
-        | Node::WordBoundary { .. }
-        | Node::Bracket(_)
-        | Node::BackRef { .. }
-        | Node::StringSet { .. } => Ok(false),
+        Node::Cat(parts) => sweep_parts(parts, pass, &inner),
+        Node::Alt(left, right) => sweep_sides(left, right, pass, &inner),
+        _ => match body_mut(node) {
+            Some(body) => sweep(body, pass, &inner),
+            None => Ok(false),
+        },
     }
 }
 
@@ -228,11 +212,6 @@ fn rewrite<R: Rewrite>(node: &mut Node, pass: &mut R, walk: &Walk) -> Result<boo
         (pass.new, is_answered result) (tree node.new) skip }
     ensures swept { SweptOf (λ t. R.removes t ≡ false) R.is_exact (direction_of walk.now) (tree node.old) (tree node.new) result }
 {
-    match pass.apply(node, walk)? {
-        PassAction::Keep => return Ok(false),
-        PassAction::Modified => {}
-        PassAction::Remove => *node = Node::Empty,
-        PassAction::Replace(new) => *node = new,
-    }
-    Ok(true)
+    let action = pass.apply(node, walk)?;
+    Ok(action.carry_out(node))
 }

@@ -3,7 +3,7 @@ ghost use Rattle.std.specs.Prelude.{◌≡◌, true, IfOk, OnErr};
 ghost use Rattle.regress_tree.specs.Reading.{Direction};
 ghost use Rattle.regress_tree.specs.Tree.{tree, wrapped, loop_one};
 ghost use Rattle.regress_tree.specs.Shapes.{is_promoted_away};
-ghost use Rattle.regress_rewrite.specs.Law.{IsPart, IsLawful};
+ghost use Rattle.regress_rewrite.specs.Law.{IsPart, ObeysLaw};
 ghost use Rattle.regress_rewrite.specs.Promote.{Promotes};
 
 use crate::rewrite::PassAction;
@@ -15,7 +15,7 @@ use std::mem;
 /// turns. The error comes where there is no memory for a node. Constant.
 pub fn promote_1char_loops(alloc: Global, node: &mut Node) -> Result<PassAction, AllocError>
     requires { IsPart (tree node.old) }
-    ensures lawful { (d : Direction) → IfOk result (IsLawful is_promoted_away true d (tree node.old) (tree node.new)) }
+    ensures lawful { (d : Direction) → IfOk result (ObeysLaw is_promoted_away true d (tree node.old) (tree node.new)) }
     ensures err { OnErr result (tree node.new ≡ tree node.old) }
 {
     match node {

@@ -4,7 +4,7 @@ ghost use Rattle.regress_tree.specs.Reading.{Direction};
 ghost use Rattle.regress_tree.specs.Tree.{tree, leaf, char_set};
 ghost use Rattle.regress_tree.specs.NodeTests.{match_always_fails};
 ghost use Rattle.regress_tree.specs.Shapes.{fails_by_part, has_group, is_failed_away};
-ghost use Rattle.regress_rewrite.specs.Law.{IsPart, IsLawful};
+ghost use Rattle.regress_rewrite.specs.Law.{IsPart, ObeysLaw};
 
 use crate::rewrite::PassAction;
 use regress_tree::ir::Node;
@@ -29,7 +29,7 @@ pub fn fails_by_part(node: &Node) -> bool
 pub fn propagate_early_fails(alloc: Global, node: &mut Node) -> PassAction
     requires part { IsPart (tree node.old) }
     requires free { has_group (tree node.old) ≡ false }
-    ensures { (d : Direction) → IsLawful is_failed_away true d (tree node.old) (tree node.new) result }
+    ensures { (d : Direction) → ObeysLaw is_failed_away true d (tree node.old) (tree node.new) result }
 {
     if !fails_by_part(node) {
         return PassAction::Keep;

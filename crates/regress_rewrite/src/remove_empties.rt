@@ -1,11 +1,11 @@
 //! What matches the empty text alone is removed.
-ghost use Rattle.std.specs.Prelude.{◌≡◌, true};
+ghost use Rattle.std.specs.Prelude.{◌≡◌, true, false, IfSome, None};
 ghost use Rattle.regress_tree.specs.Reading.{Direction};
 ghost use Rattle.regress_tree.specs.Tree.{tree, trees};
 ghost use Rattle.regress_tree.specs.NodeTests.{is_empty};
-ghost use Rattle.regress_tree.specs.Shapes.{is_emptied_away};
-ghost use Rattle.regress_rewrite.specs.Law.{IsPart, IsLawful};
-ghost use Rattle.regress_rewrite.specs.Taken.{row_without, StandsForCat};
+ghost use Rattle.regress_tree.specs.Shapes.{is_emptied_away, is_short};
+ghost use Rattle.regress_rewrite.specs.Law.{IsPart, ObeysLaw};
+ghost use Rattle.regress_rewrite.specs.Taken.{row_without, StandsAlone, StandsForCat};
 
 use crate::rewrite::PassAction;
 use regress_tree::ir::{Node, NodeList};
@@ -14,7 +14,7 @@ use regress_tree::ir::{Node, NodeList};
 /// a `Cat`: what is left of it is the `Cat`, its one part or `Empty`. The time for a `Cat` grows as its parts do.
 pub fn remove_empties(node: &mut Node) -> PassAction
     requires { IsPart (tree node.old) }
-    ensures { (d : Direction) → IsLawful is_emptied_away true d (tree node.old) (tree node.new) result }
+    ensures { (d : Direction) → ObeysLaw is_emptied_away true d (tree node.old) (tree node.new) result }
 {
     if !has_empties(node) {
         return PassAction::Keep;
@@ -52,13 +52,21 @@ fn remove_empty_parts(parts: &mut NodeList) -> PassAction
     ensures { StandsForCat result (row_without is_empty (trees parts.old.items)) (trees parts.new.items) }
 {
     leave_out_empties(parts);
+    match stand_in(parts) {
+        Some(node) => PassAction::Replace(node),
+        None => PassAction::Modified,
+    }
+}
+
+/// Takes out what is to stand in the place of a `Cat` of fewer than two parts: the one part, or `Empty`.
+pub fn stand_in(parts: &mut NodeList) -> Option<Node>
+    ensures some { IfSome result (λ node. StandsAlone (tree node) (trees parts.old.items)) }
+    ensures none { result ≡ None → ((trees parts.new.items ≡ trees parts.old.items) × (is_short (trees parts.old.items) ≡ false)) }
+{
     if parts.len() > 1 {
-        return PassAction::Modified;
+        return None;
     }
-    match parts.pop() {
-        Some(part) => PassAction::Replace(part),
-        None => PassAction::Remove,
-    }
+    Some(parts.pop().unwrap_or(Node::Empty))
 }
 
 /// Leaves out each `Empty`. Linear in the parts.

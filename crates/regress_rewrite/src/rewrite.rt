@@ -5,7 +5,7 @@ ghost use Rattle.regress_tree.specs.Tree.{Tree, tree};
 ghost use Rattle.regress_tree.specs.Walk.{direction_of};
 ghost use Rattle.regress_tree.specs.declared.ir.walker.Walk.{Walk};
 ghost use Rattle.regress_rewrite.specs.declared.rewrite.PassAction.{PassAction};
-ghost use Rattle.regress_rewrite.specs.Law.{IsPart, IsLawful};
+ghost use Rattle.regress_rewrite.specs.Law.{IsPart, ObeysLaw};
 
 use regress_tree::ir::{Node, Walk};
 use std::alloc::AllocError;
@@ -21,6 +21,27 @@ pub enum PassAction {
     Remove,
     /// This node is to stand in its place.
     Replace(Node),
+}
+
+impl PassAction {
+    ghost use Rattle.std.specs.Prelude.{◌≡◌, ◌≢◌, MatchBool};
+    ghost use Rattle.regress_tree.specs.Tree.{tree};
+    ghost use Rattle.regress_rewrite.specs.Law.{after};
+    ghost use Rattle.regress_rewrite.specs.declared.rewrite.PassAction.TheVariants.{Keep};
+
+    /// Does the rest of it to the node that it was answered for, and tells whether it is something.
+    pub fn carry_out(self, node: &mut Node) -> bool
+        ensures made { tree node.new ≡ after self (tree node.old) }
+        ensures some { MatchBool result (self ≢ Keep) (self ≡ Keep) }
+    {
+        match self {
+            PassAction::Keep => return false,
+            PassAction::Modified => {}
+            PassAction::Remove => *node = Node::Empty,
+            PassAction::Replace(new) => *node = new,
+        }
+        true
+    }
 }
 
 /// A rewrite of single nodes. Its law says what it may do to one, wherever in a tree and in whichever
@@ -43,7 +64,7 @@ pub trait Rewrite {
         // What the action makes of the node cannot be told apart from it, stands where it stood, has
         // its groups, is no larger, brings in no bracket to be simplified and, unless it is `Keep`, is
         // less. `Keep` leaves the node, and comes only where there is nothing to remove.
-        ensures lawful { IfOk result (IsLawful removes is_exact (direction_of walk.now) (tree node.old) (tree node.new)) }
+        ensures lawful { IfOk result (ObeysLaw removes is_exact (direction_of walk.now) (tree node.old) (tree node.new)) }
 
         // Want of memory leaves the node.
         ensures err { OnErr result (tree node.new ≡ tree node.old) }

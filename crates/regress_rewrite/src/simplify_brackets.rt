@@ -6,7 +6,7 @@ ghost use Rattle.regress_tree.specs.Copies.{is_leaf};
 ghost use Rattle.regress_tree.specs.Reading.{Direction};
 ghost use Rattle.regress_tree.specs.Tree.{tree};
 ghost use Rattle.regress_tree.specs.Shapes.{code_point_count, gap_count, is_simplified_away};
-ghost use Rattle.regress_rewrite.specs.Law.{IsPart, after, IsLawful};
+ghost use Rattle.regress_rewrite.specs.Law.{IsPart, after, ObeysLaw};
 ghost use Rattle.regress_rewrite.specs.Simplify.{Simplifies};
 
 use crate::rewrite::PassAction;
@@ -21,7 +21,7 @@ use std::alloc::{AllocError, Global};
 /// it takes the complement, else constant.
 pub fn simplify_brackets(alloc: Global, node: &mut Node) -> Result<PassAction, AllocError>
     requires { IsPart (tree node.old) }
-    ensures lawful { (d : Direction) → IfOk result (IsLawful is_simplified_away true d (tree node.old) (tree node.new)) }
+    ensures lawful { (d : Direction) → IfOk result (ObeysLaw is_simplified_away true d (tree node.old) (tree node.new)) }
     ensures leaf { IfOk result (λ action. is_leaf (after action (tree node.new)) ≡ is_leaf (tree node.old)) }
     ensures err { OnErr result (tree node.new ≡ tree node.old) }
 {

@@ -6,7 +6,7 @@ ghost use Rattle.regress_tree.specs.Reading.{Direction};
 ghost use Rattle.regress_tree.specs.Shapes.{has_few_turns, has_string_set, is_unrolled_away, max_body_levels};
 ghost use Rattle.regress_tree.specs.Tree.{tree, trees, copies};
 ghost use Rattle.regress_tree.specs.WellFormed.{IsQuantifier};
-ghost use Rattle.regress_rewrite.specs.Law.{IsPart, IsLawful};
+ghost use Rattle.regress_rewrite.specs.Law.{IsPart, ObeysLaw};
 ghost use Rattle.regress_rewrite.specs.Unroll.{after_charge, after_charge_row, further_turns, unrolled_loop};
 
 use crate::rewrite::PassAction;
@@ -24,7 +24,7 @@ pub const MAX_LEVELS: usize = 101;
 /// Unrolls a loop that `may_unroll` finds, as `unroll` does, and keeps any other node.
 pub fn unroll_loops(alloc: Global, node: &mut Node) -> Result<PassAction, AllocError>
     requires { IsPart (tree node.old) }
-    ensures lawful { (d : Direction) → IfOk result (IsLawful is_unrolled_away true d (tree node.old) (tree node.new)) }
+    ensures lawful { (d : Direction) → IfOk result (ObeysLaw is_unrolled_away true d (tree node.old) (tree node.new)) }
     ensures err { OnErr result (tree node.new ≡ tree node.old) }
 {
     if !may_unroll(node) {

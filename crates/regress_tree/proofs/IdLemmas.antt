@@ -6,7 +6,7 @@ use Rattle.std.proofs.lemmas.List.Sums.{sum_by-cons, sum_by-append}
 use Rattle.std.proofs.lemmas.Bool.Decides.{nat_tests}
 use Rattle.regress_tree.specs.declared.ir.groups.Groups.{Groups}
 use Rattle.regress_tree.specs.WellFormed.{Capture}
-use Rattle.regress_tree.specs.Survey.{times, least_id, past_ids, fill, Tells}
+use Rattle.regress_tree.specs.Survey.{times, least_id, past_ids, fill, IsTally}
 
 pub times-cons : (k : ℕ) (c : Capture) (cs : List Capture) → times k (c ∷ cs) ≡ (if c.id == k then 1 else 0) + times k cs
 times-cons k c cs = sum_by-cons (λ c. if c.id == k then 1 else 0) c cs
@@ -173,7 +173,7 @@ has-length start end cs has =
 
 -- The test of a range is right, where the ids differ.
 
-module _ (g : Groups) (cs : List Capture) (referred : ℕ) (tells : Tells g cs referred) where
+module _ (g : Groups) (cs : List Capture) (referred : ℕ) (tells : IsTally g cs referred) where
   pub fill-has : Differ cs → (start end : ℕ) → end ≤ 65536 → fill start end g ≡ true → HasIds start end cs
   fill-has differ start end small full =
       let a = and_parts (nat_le start g.least) _ full in

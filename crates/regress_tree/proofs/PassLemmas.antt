@@ -10,10 +10,10 @@ use Rattle.regress_tree.specs.declared.ir.node.Node.{Node}
 use Rattle.regress_base.specs.declared.types.Quantifier.{Quantifier}
 use Rattle.regress_tree.specs.Tree.{capture_group, loop, lookaround, Tree, Trees, cat, alt, wrapped, no_trees, more_trees, row_append, tree, trees}
 use Rattle.regress_tree.specs.WellFormed.{Capture, captures, captures_in_row, inside, IsQuantifier, HasGroups}
-use Rattle.regress_tree.specs.Survey.{holds, reference, reference_in_row, Tells, joined, one, fill, StandsAt, PassesAt, FailsAt}
+use Rattle.regress_tree.specs.Survey.{holds, reference, reference_in_row, IsTally, joined, one, fill, StandsAt, SurveyedAt, RefusedAt}
 use Rattle.regress_tree.proofs.laws.Rows.{trees-append, captures-append}
 use Rattle.regress_tree.proofs.IdLemmas.{fill-has, has-fill, times-append}
-use Rattle.regress_tree.proofs.SurveyLemmas.{Tells-joined, Tells-one, Passes-then, Passes-as, Passes-none, Fails-first, Fails-second, Fails-as, differ-held, held-insert}
+use Rattle.regress_tree.proofs.SurveyLemmas.{IsTally-joined, IsTally-one, IsSurveyed-then, IsSurveyed-as, IsSurveyed-none, IsRefused-first, IsRefused-second, IsRefused-as, differ-held, held-insert}
 use Rattle.regress_tree.proofs.StandingLemmas.{MayStand-more, stands-alt, sides-stand, stands-append, rows-stand, stands-single, single-stands}
 
 reference-append : (ts us : Trees) → reference_in_row (row_append ts us) ≡ max (reference_in_row ts) (reference_in_row us)
@@ -23,44 +23,44 @@ reference-append (more_trees t ts) us = omega (arith, reference-append ts us)
 -- Rows.
 
 module _ (ts us : Trees) (before mid : GroupIds) (g : Groups) where
-  pub rows-pass : (after : GroupIds) (h : Groups) → PassesAt inside (cat ts) before mid g → PassesAt inside (cat us) mid after h →
-      PassesAt inside (cat (row_append ts us)) before after (joined g h)
+  pub rows-pass : (after : GroupIds) (h : Groups) → SurveyedAt inside (cat ts) before mid g → SurveyedAt inside (cat us) mid after h →
+      SurveyedAt inside (cat (row_append ts us)) before after (joined g h)
   rows-pass after h a b =
-      Passes-as _ _ _ (stands-append ts us) (sym (captures-append ts us)) (sym (reference-append ts us)) (Passes-then a b)
+      IsSurveyed-as _ _ _ (stands-append ts us) (sym (captures-append ts us)) (sym (reference-append ts us)) (IsSurveyed-then a b)
 
-  pub rows-fail : PassesAt inside (cat ts) before mid g → FailsAt inside (cat us) mid → FailsAt inside (cat (row_append ts us)) before
-  rows-fail a b = Fails-as _ _ (rows-stand ts us) (sym (captures-append ts us)) (Fails-second a b)
+  pub rows-fail : SurveyedAt inside (cat ts) before mid g → RefusedAt inside (cat us) mid → RefusedAt inside (cat (row_append ts us)) before
+  rows-fail a b = IsRefused-as _ _ (rows-stand ts us) (sym (captures-append ts us)) (IsRefused-second a b)
 
-pub rows-fail-first : (ts us : Trees) (before : GroupIds) → FailsAt inside (cat ts) before → FailsAt inside (cat (row_append ts us)) before
+pub rows-fail-first : (ts us : Trees) (before : GroupIds) → RefusedAt inside (cat ts) before → RefusedAt inside (cat (row_append ts us)) before
 rows-fail-first ts us before a =
-    Fails-as _ _ (rows-stand ts us) (sym (captures-append ts us)) (Fails-first (StandsAt inside (cat us)) (captures_in_row us) a)
+    IsRefused-as _ _ (rows-stand ts us) (sym (captures-append ts us)) (IsRefused-first (StandsAt inside (cat us)) (captures_in_row us) a)
 
-single-pass : (t : Tree) (before after : GroupIds) (g : Groups) → PassesAt inside t before after g →
-    PassesAt inside (cat (more_trees t no_trees)) before after g
-single-pass t before after g a = Passes-as _ _ _ (stands-single t) (sym (append-nil (captures t))) (omega arith) a
+single-pass : (t : Tree) (before after : GroupIds) (g : Groups) → SurveyedAt inside t before after g →
+    SurveyedAt inside (cat (more_trees t no_trees)) before after g
+single-pass t before after g a = IsSurveyed-as _ _ _ (stands-single t) (sym (append-nil (captures t))) (omega arith) a
 
-single-fail : (t : Tree) (before : GroupIds) → FailsAt inside t before → FailsAt inside (cat (more_trees t no_trees)) before
-single-fail t before a = Fails-as _ _ (single-stands t) (sym (append-nil (captures t))) a
+single-fail : (t : Tree) (before : GroupIds) → RefusedAt inside t before → RefusedAt inside (cat (more_trees t no_trees)) before
+single-fail t before a = IsRefused-as _ _ (single-stands t) (sym (append-nil (captures t))) a
 
 module _ (parts : List Node) (i : ℕ) (in_row : i < length parts) (d node : Node) (at : node ≡ get_or parts i d)
-    (before mid : GroupIds) (g : Groups) (passed : PassesAt inside (cat (trees (take i parts))) before mid g) where
+    (before mid : GroupIds) (g : Groups) (passed : SurveyedAt inside (cat (trees (take i parts))) before mid g) where
   more_parts : trees (take (i + 1) parts) ≡ row_append (trees (take i parts)) (more_trees (tree node) no_trees)
   more_parts =
       ap trees (take_more parts i d in_row ∙ ap (λ n. take i parts ++ n ∷ []) (sym at)) ∙ trees-append (take i parts) (node ∷ [])
 
-  pub parts-next : (after : GroupIds) (h : Groups) → PassesAt inside (tree node) mid after h →
-      PassesAt inside (cat (trees (take (i + 1) parts))) before after (joined g h)
+  pub parts-next : (after : GroupIds) (h : Groups) → SurveyedAt inside (tree node) mid after h →
+      SurveyedAt inside (cat (trees (take (i + 1) parts))) before after (joined g h)
   parts-next after h here =
-      subst (λ ts. PassesAt inside (cat ts) before after (joined g h)) (sym more_parts)
+      subst (λ ts. SurveyedAt inside (cat ts) before after (joined g h)) (sym more_parts)
       (rows-pass (trees (take i parts)) (more_trees (tree node) no_trees) before mid g after h passed
       (single-pass (tree node) mid after h here))
 
-  pub parts-fail : FailsAt inside (tree node) mid → FailsAt inside (cat (trees parts)) before
+  pub parts-fail : RefusedAt inside (tree node) mid → RefusedAt inside (cat (trees parts)) before
   parts-fail here =
       let rest = trees (drop (suc i) parts) in
       let whole : trees parts ≡ row_append (trees (take i parts)) (row_append (more_trees (tree node) no_trees) rest) =
       ap trees (split_at parts i d in_row ∙ ap (λ n. take i parts ++ n ∷ drop (suc i) parts) (sym at)) ∙ trees-append (take i parts) (node ∷ drop (suc i) parts) in
-      subst (λ ts. FailsAt inside (cat ts) before) (sym whole)
+      subst (λ ts. RefusedAt inside (cat ts) before) (sym whole)
       (rows-fail (trees (take i parts)) (row_append (more_trees (tree node) no_trees) rest) before mid g passed
       (rows-fail-first (more_trees (tree node) no_trees) rest mid (single-fail (tree node) mid here)))
 
@@ -100,14 +100,14 @@ alternatives-stand (more_trees l lefts) t s =
 pub record SpineSurveyed (whole node : Tree) (before now : GroupIds) (so_far : Groups) : Type 0 where
   pub lefts : Trees
   pub whole_is : whole ≡ alternatives lefts node
-  pub passed : PassesAt inside (cat lefts) before now so_far
+  pub passed : SurveyedAt inside (cat lefts) before now so_far
 
-pub spine-start : (t : Tree) (ids : GroupIds) (g : Groups) → Tells g [] 0 → SpineSurveyed t t ids ids g
-spine-start t ids g told = record { lefts = no_trees; whole_is = refl; passed = Passes-none (0, (tt, tt)) told }
+pub spine-start : (t : Tree) (ids : GroupIds) (g : Groups) → IsTally g [] 0 → SpineSurveyed t t ids ids g
+spine-start t ids g told = record { lefts = no_trees; whole_is = refl; passed = IsSurveyed-none (0, (tt, tt)) told }
 
 module _ (whole : Tree) (before mid : GroupIds) (g : Groups) where
   pub spine-next : (left right : Tree) (after : GroupIds) (h : Groups) → SpineSurveyed whole (alt left right) before mid g →
-      PassesAt inside left mid after h → SpineSurveyed whole right before after (joined g h)
+      SurveyedAt inside left mid after h → SpineSurveyed whole right before after (joined g h)
   spine-next left right after h s here = record {
     lefts = row_append s.lefts (more_trees left no_trees);
     whole_is = s.whole_is ∙ sym (alternatives-push s.lefts left right);
@@ -115,35 +115,35 @@ module _ (whole : Tree) (before mid : GroupIds) (g : Groups) where
   }
 
   pub spine-last : (node : Tree) (after : GroupIds) (h : Groups) → SpineSurveyed whole node before mid g →
-      PassesAt inside node mid after h → PassesAt inside whole before after (joined g h)
+      SurveyedAt inside node mid after h → SurveyedAt inside whole before after (joined g h)
   spine-last node after h s here =
-      subst (λ t. PassesAt inside t before after (joined g h)) (sym s.whole_is)
-      (Passes-as _ _ _ (stands-alternatives s.lefts node) (sym (captures-alternatives s.lefts node))
-      (sym (reference-alternatives s.lefts node)) (Passes-then s.passed here))
+      subst (λ t. SurveyedAt inside t before after (joined g h)) (sym s.whole_is)
+      (IsSurveyed-as _ _ _ (stands-alternatives s.lefts node) (sym (captures-alternatives s.lefts node))
+      (sym (reference-alternatives s.lefts node)) (IsSurveyed-then s.passed here))
 
-  pub spine-fail-last : (node : Tree) → SpineSurveyed whole node before mid g → FailsAt inside node mid → FailsAt inside whole before
+  pub spine-fail-last : (node : Tree) → SpineSurveyed whole node before mid g → RefusedAt inside node mid → RefusedAt inside whole before
   spine-fail-last node s here =
-      subst (λ t. FailsAt inside t before) (sym s.whole_is)
-      (Fails-as _ _ (alternatives-stand s.lefts node) (sym (captures-alternatives s.lefts node)) (Fails-second s.passed here))
+      subst (λ t. RefusedAt inside t before) (sym s.whole_is)
+      (IsRefused-as _ _ (alternatives-stand s.lefts node) (sym (captures-alternatives s.lefts node)) (IsRefused-second s.passed here))
 
-  pub spine-fail : (left right : Tree) → SpineSurveyed whole (alt left right) before mid g → FailsAt inside left mid →
-      FailsAt inside whole before
+  pub spine-fail : (left right : Tree) → SpineSurveyed whole (alt left right) before mid g → RefusedAt inside left mid →
+      RefusedAt inside whole before
   spine-fail left right s here =
       spine-fail-last (alt left right) s
-      (Fails-as _ _ (sides-stand left right) refl (Fails-first (StandsAt inside right) (captures right) here))
+      (IsRefused-as _ _ (sides-stand left right) refl (IsRefused-first (StandsAt inside right) (captures right) here))
 
 -- What holds one node.
 
 pub group-pass : (id : ℕ) (name : Option (List ℕ)) (body : Tree) (before mid after : GroupIds) (g : Groups) →
     IfSome name (λ bytes. bytes ≢ []) → id < 65536 → holds before id ≡ false →
-    ((k : ℕ) → holds mid k ≡ ((k == id) || holds before k)) → PassesAt inside body mid after g →
-    PassesAt inside (wrapped (capture_group id name) body) before after (joined (one id) g)
+    ((k : ℕ) → holds mid k ≡ ((k == id) || holds before k)) → SurveyedAt inside body mid after g →
+    SurveyedAt inside (wrapped (capture_group id name) body) before after (joined (one id) g)
 group-pass id name body before mid after g named small fresh more p = record {
   stands =
       (max (id + 1) p.stands.0, (tt, (omega arith, named), MayStand-more p.stands.0 _ body inside (omega arith) p.stands.1));
   ids = λ k. omega (arith, p.ids k, held-insert before mid group fresh more k, times-append k (group ∷ []) (captures body));
-  told = subst (λ r. Tells (joined (one id) g) (group ∷ captures body) r) (max_zero (reference body))
-      (Tells-joined (one id) g (group ∷ []) (captures body) 0 (reference body) (Tells-one id group refl small) p.told);
+  told = subst (λ r. IsTally (joined (one id) g) (group ∷ captures body) r) (max_zero (reference body))
+      (IsTally-joined (one id) g (group ∷ []) (captures body) 0 (reference body) (IsTally-one id group refl small) p.told);
 }
   where
     group : Capture
@@ -152,7 +152,7 @@ group-pass id name body before mid after g named small fresh more p = record {
     max_zero : (n : ℕ) → max 0 n ≡ n
     max_zero n = omega arith
 
-module _ (body : Tree) (before after : GroupIds) (g : Groups) (p : PassesAt inside body before after g) (start end : ℕ) where
+module _ (body : Tree) (before after : GroupIds) (g : Groups) (p : SurveyedAt inside body before after g) (start end : ℕ) where
   has_groups : end < 65536 → fill start end g ≡ true → HasGroups start end body
   has_groups small full =
       fill-has g (captures body) (reference body) p.told (differ-held before after (captures body) p.ids) start end (omega arith) full
@@ -162,7 +162,7 @@ module _ (body : Tree) (before after : GroupIds) (g : Groups) (p : PassesAt insi
       false≢true (sym other ∙ has-fill g (captures body) (reference body) p.told start end (omega arith) (omega arith) has)
 
   pub loop-pass : (q : Quantifier) → end < 65536 → IsQuantifier q → fill start end g ≡ true →
-      PassesAt inside (wrapped (loop q start end) body) before after g
+      SurveyedAt inside (wrapped (loop q start end) body) before after g
   loop-pass q small is full = record {
     stands = (p.stands.0, (tt, (is, has_groups small full), p.stands.1));
     ids = p.ids;
@@ -170,12 +170,12 @@ module _ (body : Tree) (before after : GroupIds) (g : Groups) (p : PassesAt insi
   }
 
   pub loop-fail : (q : Quantifier) → start < 65536 → end < 65536 → (IsQuantifier q → ⊥) ⊎ (fill start end g ≡ false) →
-      FailsAt inside (wrapped (loop q start end) body) before
+      RefusedAt inside (wrapped (loop q start end) body) before
   loop-fail q small small' (inl not_one) = record { refuted = λ s differ. not_one s.1.1.0 }
   loop-fail q small small' (inr other) = record { refuted = λ s differ. lacks_groups small small' other s.1.1.1 }
 
   pub look-pass : (negate backwards : Bool) → end < 65536 → fill start end g ≡ true →
-      PassesAt inside (wrapped (lookaround negate backwards start end) body) before after g
+      SurveyedAt inside (wrapped (lookaround negate backwards start end) body) before after g
   look-pass negate backwards small full = record {
     stands = (p.stands.0, (tt, has_groups small full, p.stands.1));
     ids = p.ids;
@@ -183,5 +183,5 @@ module _ (body : Tree) (before after : GroupIds) (g : Groups) (p : PassesAt insi
   }
 
   pub look-fail : (negate backwards : Bool) → start < 65536 → end < 65536 → fill start end g ≡ false →
-      FailsAt inside (wrapped (lookaround negate backwards start end) body) before
+      RefusedAt inside (wrapped (lookaround negate backwards start end) body) before
   look-fail negate backwards small small' other = record { refuted = λ s differ. lacks_groups small small' other s.1.1 }

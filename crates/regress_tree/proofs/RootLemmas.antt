@@ -6,13 +6,13 @@ use Rattle.regress_tree.specs.declared.ir.groups.GroupIds.{GroupIds}
 use Rattle.regress_tree.specs.declared.ir.groups.Groups.{Groups}
 use Rattle.regress_tree.specs.NodeTests.{is_goal}
 use Rattle.regress_tree.specs.Shapes.{is_cat}
-use Rattle.regress_tree.specs.Tree.{Leaf, empty, goal, char, byte_sequence, byte_set, char_set, match_any, match_any_except_line_terminator, anchor, word_boundary, bracket, back_ref, string_set, Tree, Trees, leaf, cat, alt, wrapped, no_trees, more_trees, row_append}
+use Rattle.regress_tree.specs.Tree.{Leaf, goal, char, byte_sequence, byte_set, char_set, bracket, back_ref, string_set, Tree, Trees, leaf, cat, alt, wrapped, no_trees, more_trees, row_append}
 use Rattle.regress_tree.specs.WellFormed.{captures, captures_in_row, Position, inside, last, root, LeafMayStand, MayStand, RowMayStand, IsWellFormed}
-use Rattle.regress_tree.specs.Survey.{holds, times_held, reference, reference_in_row, fill, PassesAt, FailsAt, without_goal}
+use Rattle.regress_tree.specs.Survey.{holds, times_held, reference, reference_in_row, fill, SurveyedAt, RefusedAt, without_goal}
 use Rattle.regress_tree.proofs.laws.Goal.{goal-is, leaf-inside, last-inside}
 use Rattle.regress_tree.proofs.laws.Rows.{MayStand-from_last, RowMayStand-more, RowMayStand-parts}
 use Rattle.regress_tree.proofs.IdLemmas.{all-has, has-all}
-use Rattle.regress_tree.proofs.SurveyLemmas.{Passes-as, Fails-as, differ-held}
+use Rattle.regress_tree.proofs.SurveyLemmas.{IsSurveyed-as, IsRefused-as, differ-held}
 use Rattle.regress_tree.proofs.StandingLemmas.{MayStand-bounded, MayStand-at}
 
 -- The goal at the end.
@@ -82,19 +82,19 @@ reference-without (more_trees t (more_trees u us)) = ap (λ r. max (reference t)
 
 -- The whole.
 
-pub cat-passes : (ts : Trees) (before after : GroupIds) (g : Groups) → PassesAt inside (cat (without_goal ts)) before after g →
-    PassesAt root (cat ts) before after g
+pub cat-passes : (ts : Trees) (before after : GroupIds) (g : Groups) → SurveyedAt inside (cat (without_goal ts)) before after g →
+    SurveyedAt root (cat ts) before after g
 cat-passes ts before after g p =
-    Passes-as _ _ _ (λ s. (s.0, (tt, row-last s.0 ts s.1.1))) (captures-without ts) (reference-without ts) p
+    IsSurveyed-as _ _ _ (λ s. (s.0, (tt, row-last s.0 ts s.1.1))) (captures-without ts) (reference-without ts) p
 
-pub cat-fails : (ts : Trees) (before : GroupIds) → FailsAt inside (cat (without_goal ts)) before → FailsAt root (cat ts) before
-cat-fails ts before f = Fails-as _ _ (λ s. (s.0, (tt, last-row s.0 ts s.1.1))) (captures-without ts) f
+pub cat-fails : (ts : Trees) (before : GroupIds) → RefusedAt inside (cat (without_goal ts)) before → RefusedAt root (cat ts) before
+cat-fails ts before f = IsRefused-as _ _ (λ s. (s.0, (tt, last-row s.0 ts s.1.1))) (captures-without ts) f
 
-pub other-passes : (t : Tree) (before after : GroupIds) (g : Groups) → PassesAt inside t before after g → PassesAt root t before after g
-other-passes t before after g p = Passes-as _ _ _ (λ s. (s.0, inside-root s.0 t s.1)) refl refl p
+pub other-passes : (t : Tree) (before after : GroupIds) (g : Groups) → SurveyedAt inside t before after g → SurveyedAt root t before after g
+other-passes t before after g p = IsSurveyed-as _ _ _ (λ s. (s.0, inside-root s.0 t s.1)) refl refl p
 
-pub other-fails : (t : Tree) (before : GroupIds) → is_goal t ≡ false → is_cat t ≡ false → FailsAt inside t before → FailsAt root t before
-other-fails t before e f fails = Fails-as _ _ (λ s. (s.0, root-inside s.0 t e f s.1)) refl fails
+pub other-fails : (t : Tree) (before : GroupIds) → is_goal t ≡ false → is_cat t ≡ false → RefusedAt inside t before → RefusedAt root t before
+other-fails t before e f fails = IsRefused-as _ _ (λ s. (s.0, root-inside s.0 t e f s.1)) refl fails
 
 abbrev one_if : Bool → ℕ
 one_if b = if b then 1 else 0
@@ -102,7 +102,7 @@ one_if b = if b then 1 else 0
 from-zero : (k n : ℕ) → one_if (nat_le 0 k && nat_lt k n) ≡ one_if (nat_lt k n)
 from-zero k n = ap (λ b. one_if (b && nat_lt k n)) (le-leb 0 k (omega arith))
 
-pub well_formed-from : (t : Tree) (before after : GroupIds) (g : Groups) → PassesAt root t before after g → fill 0 g.count g ≡ true →
+pub well_formed-from : (t : Tree) (before after : GroupIds) (g : Groups) → SurveyedAt root t before after g → fill 0 g.count g ≡ true →
     g.reference ≤ g.count → IsWellFormed t
 well_formed-from t before after g p full low =
     let all = all-has g (captures t) (reference t) p.told (differ-held before after (captures t) p.ids) full in
@@ -116,14 +116,14 @@ well_formed-from t before after g p full low =
       ids = λ k. all.1 k ∙ from-zero k (length (captures t));
     }
 
-pub from-well_formed : (t : Tree) (before after : GroupIds) (g : Groups) → PassesAt root t before after g → IsWellFormed t →
+pub from-well_formed : (t : Tree) (before after : GroupIds) (g : Groups) → SurveyedAt root t before after g → IsWellFormed t →
     (fill 0 g.count g ≡ true) × (g.reference ≤ g.count)
 from-well_formed t before after g p w =
     let all = has-all g (captures t) (reference t) p.told (λ k. w.ids k ∙ sym (from-zero k (length (captures t)))) in
     let bounded = MayStand-bounded (length (captures t)) t root w.stands in
     (all.1, omega (arith, all.0, bounded.references, p.told.reference))
 
-pub fails-well_formed : (t : Tree) (before : GroupIds) → ((k : ℕ) → holds before k ≡ false) → FailsAt root t before → IsWellFormed t → ⊥
+pub fails-well_formed : (t : Tree) (before : GroupIds) → ((k : ℕ) → holds before k ≡ false) → RefusedAt root t before → IsWellFormed t → ⊥
 fails-well_formed t before none fails w =
     fails.refuted (length (captures t), w.stands)
     (λ k. let held : times_held before k ≡ 0 = ap one_if (none k) in

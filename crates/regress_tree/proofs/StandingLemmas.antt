@@ -1,6 +1,6 @@
 -- Where parts may stand, whatever the number of capture groups.
 use Rattle.std.proofs.Common.{ℕ, ◌≤◌, List, [], ◌++◌, max, subst, arith}
-use Rattle.regress_tree.specs.Tree.{Leaf, empty, goal, char, byte_sequence, byte_set, char_set, match_any, match_any_except_line_terminator, anchor, word_boundary, bracket, back_ref, string_set, Wrapper, capture_group, loop, loop_one, lookaround, Tree, Trees, leaf, cat, alt, wrapped, no_trees, more_trees, row_append}
+use Rattle.regress_tree.specs.Tree.{Leaf, back_ref, Wrapper, capture_group, loop, loop_one, lookaround, Tree, Trees, leaf, cat, alt, wrapped, no_trees, more_trees, row_append}
 use Rattle.regress_tree.specs.WellFormed.{Capture, captures, captures_in_row, captures_of_wrapper, Position, inside, last_of, position_in, LeafMayStand, WrapperMayStand, MayStand, RowMayStand}
 use Rattle.regress_tree.specs.Survey.{past_ids, reference_of, reference, reference_in_row, StandsAt}
 use Rattle.regress_tree.proofs.laws.Rows.{row_append-none, RowMayStand-append, RowMayStand-split}
@@ -9,34 +9,12 @@ use Rattle.regress_tree.proofs.SurveyLemmas.{past-append}
 -- A part stands where there are as many groups as it speaks of.
 
 leaf_bound : (n : ℕ) (l : Leaf) (p : Position) → LeafMayStand n l p → reference_of l ≤ n
-leaf_bound n empty p m = omega arith
-leaf_bound n goal p m = omega arith
-leaf_bound n (char c) p m = omega arith
-leaf_bound n (byte_sequence bytes) p m = omega arith
-leaf_bound n (byte_set bytes) p m = omega arith
-leaf_bound n (char_set characters) p m = omega arith
-leaf_bound n match_any p m = omega arith
-leaf_bound n match_any_except_line_terminator p m = omega arith
-leaf_bound n (anchor kind multiline) p m = omega arith
-leaf_bound n (word_boundary invert unicode_icase) p m = omega arith
-leaf_bound n (bracket invert intervals) p m = omega arith
 leaf_bound n (back_ref group icase) p m = m.high
-leaf_bound n (string_set strings icase) p m = omega arith
+leaf_bound n l p m = omega arith
 
 leaf_at : (m n : ℕ) (l : Leaf) (p : Position) → LeafMayStand m l p → reference_of l ≤ n → LeafMayStand n l p
-leaf_at m n empty p s h = s
-leaf_at m n goal p s h = s
-leaf_at m n (char c) p s h = s
-leaf_at m n (byte_sequence bytes) p s h = s
-leaf_at m n (byte_set bytes) p s h = s
-leaf_at m n (char_set characters) p s h = s
-leaf_at m n match_any p s h = s
-leaf_at m n match_any_except_line_terminator p s h = s
-leaf_at m n (anchor kind multiline) p s h = s
-leaf_at m n (word_boundary invert unicode_icase) p s h = s
-leaf_at m n (bracket invert intervals) p s h = s
 leaf_at m n (back_ref group icase) p s h = record { free = s.free; low = s.low; high = h }
-leaf_at m n (string_set strings icase) p s h = s
+leaf_at m n l p s h = s
 
 pub record Bounded (n referred : ℕ) (cs : List Capture) : Type 0 where
   pub references : referred ≤ n

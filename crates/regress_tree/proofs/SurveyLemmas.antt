@@ -5,7 +5,7 @@ use Rattle.std.proofs.lemmas.Bool.{cases_eq, ne_eqb, eq-eqb}
 use Rattle.regress_tree.specs.declared.ir.groups.GroupIds.{GroupIds}
 use Rattle.regress_tree.specs.declared.ir.groups.Groups.{Groups}
 use Rattle.regress_tree.specs.WellFormed.{Capture}
-use Rattle.regress_tree.specs.Survey.{holds, times_held, times, least_id, past_ids, Tells, joined, one, Passes, Fails}
+use Rattle.regress_tree.specs.Survey.{holds, times_held, times, least_id, past_ids, IsTally, joined, one, IsSurveyed, IsRefused}
 use Rattle.regress_tree.proofs.IdLemmas.{times-append, Differ}
 
 -- What is told, of two parts.
@@ -22,8 +22,8 @@ pub past-append : (cs ds : List Capture) → past_ids (cs ++ ds) ≡ max (past_i
 past-append [] ds = omega arith
 past-append (c ∷ cs) ds = omega (arith, past-append cs ds)
 
-pub Tells-joined : (g h : Groups) (cs ds : List Capture) (r q : ℕ) → Tells g cs r → Tells h ds q → Tells (joined g h) (cs ++ ds) (max r q)
-Tells-joined g h cs ds r q a b = record {
+pub IsTally-joined : (g h : Groups) (cs ds : List Capture) (r q : ℕ) → IsTally g cs r → IsTally h ds q → IsTally (joined g h) (cs ++ ds) (max r q)
+IsTally-joined g h cs ds r q a b = record {
   count = omega (arith, a.count, b.count, length-append cs ds);
   least = omega (arith, a.least, b.least, least-append cs ds);
   past = omega (arith, a.past, b.past, past-append cs ds);
@@ -31,8 +31,8 @@ Tells-joined g h cs ds r q a b = record {
   reference = omega (arith, a.reference, b.reference);
 }
 
-pub Tells-one : (id : ℕ) (c : Capture) → c.id ≡ id → id < 65536 → Tells (one id) (c ∷ []) 0
-Tells-one id c same small = record {
+pub IsTally-one : (id : ℕ) (c : Capture) → c.id ≡ id → id < 65536 → IsTally (one id) (c ∷ []) 0
+IsTally-one id c same small = record {
   count = refl;
   least = omega arith;
   past = omega arith;
@@ -43,44 +43,44 @@ Tells-one id c same small = record {
 -- Two parts, one after the other.
 
 module _ {A B : Type 0} {cs ds : List Capture} {r q : ℕ} {before mid after : GroupIds} {g h : Groups} where
-  pub Passes-then : Passes A cs r before mid g → Passes B ds q mid after h → Passes (A × B) (cs ++ ds) (max r q) before after (joined g h)
-  Passes-then a b = record {
+  pub IsSurveyed-then : IsSurveyed A cs r before mid g → IsSurveyed B ds q mid after h → IsSurveyed (A × B) (cs ++ ds) (max r q) before after (joined g h)
+  IsSurveyed-then a b = record {
     stands = (a.stands, b.stands);
     ids = λ k. omega (arith, a.ids k, b.ids k, times-append k cs ds);
-    told = Tells-joined g h cs ds r q a.told b.told;
+    told = IsTally-joined g h cs ds r q a.told b.told;
   }
 
 -- a second part that fails
-pub Fails-second : {A B : Type 0} {cs ds : List Capture} {r : ℕ} {before mid : GroupIds} {g : Groups} → Passes A cs r before mid g →
-    Fails B ds mid → Fails (A × B) (cs ++ ds) before
-Fails-second {cs = cs} {ds = ds} a b = record {
+pub IsRefused-second : {A B : Type 0} {cs ds : List Capture} {r : ℕ} {before mid : GroupIds} {g : Groups} → IsSurveyed A cs r before mid g →
+    IsRefused B ds mid → IsRefused (A × B) (cs ++ ds) before
+IsRefused-second {cs = cs} {ds = ds} a b = record {
   refuted = λ stands differ. b.refuted stands.1 (λ k. omega (arith, a.ids k, differ k, times-append k cs ds));
 }
 
 -- or the first
-pub Fails-first : {A : Type 0} {cs : List Capture} {before : GroupIds} (B : Type 0) (ds : List Capture) → Fails A cs before →
-    Fails (A × B) (cs ++ ds) before
-Fails-first {cs = cs} B ds a = record {
+pub IsRefused-first : {A : Type 0} {cs : List Capture} {before : GroupIds} (B : Type 0) (ds : List Capture) → IsRefused A cs before →
+    IsRefused (A × B) (cs ++ ds) before
+IsRefused-first {cs = cs} B ds a = record {
   refuted = λ stands differ. a.refuted stands.0 (λ k. omega (arith, differ k, times-append k cs ds));
 }
 
 -- The same under another name.
 
-pub Passes-as : {A : Type 0} {cs : List Capture} {r : ℕ} {before after : GroupIds} {g : Groups} (B : Type 0) (ds : List Capture) (q : ℕ) →
-    (A → B) → cs ≡ ds → r ≡ q → Passes A cs r before after g → Passes B ds q before after g
-Passes-as {r = r} {before = before} {after = after} {g = g} B ds q from same same' p =
-    subst (λ s. Passes B ds s before after g) same'
-    (subst (λ l. Passes B l r before after g) same (record { stands = from p.stands; ids = p.ids; told = p.told }))
+pub IsSurveyed-as : {A : Type 0} {cs : List Capture} {r : ℕ} {before after : GroupIds} {g : Groups} (B : Type 0) (ds : List Capture) (q : ℕ) →
+    (A → B) → cs ≡ ds → r ≡ q → IsSurveyed A cs r before after g → IsSurveyed B ds q before after g
+IsSurveyed-as {r = r} {before = before} {after = after} {g = g} B ds q from same same' p =
+    subst (λ s. IsSurveyed B ds s before after g) same'
+    (subst (λ l. IsSurveyed B l r before after g) same (record { stands = from p.stands; ids = p.ids; told = p.told }))
 
-pub Fails-as : {A : Type 0} {cs : List Capture} {before : GroupIds} (B : Type 0) (ds : List Capture) → (B → A) → cs ≡ ds →
-    Fails A cs before → Fails B ds before
-Fails-as {before = before} B ds to same fails =
-    subst (λ l. Fails B l before) same (record { refuted = λ stands differ. fails.refuted (to stands) differ })
+pub IsRefused-as : {A : Type 0} {cs : List Capture} {before : GroupIds} (B : Type 0) (ds : List Capture) → (B → A) → cs ≡ ds →
+    IsRefused A cs before → IsRefused B ds before
+IsRefused-as {before = before} B ds to same fails =
+    subst (λ l. IsRefused B l before) same (record { refuted = λ stands differ. fails.refuted (to stands) differ })
 
 -- Where there is no group.
 
-pub Passes-none : {A : Type 0} {r : ℕ} {ids : GroupIds} {g : Groups} → A → Tells g [] r → Passes A [] r ids ids g
-Passes-none stands told = record { stands = stands; ids = λ k. omega arith; told = told }
+pub IsSurveyed-none : {A : Type 0} {r : ℕ} {ids : GroupIds} {g : Groups} → A → IsTally g [] r → IsSurveyed A [] r ids ids g
+IsSurveyed-none stands told = record { stands = stands; ids = λ k. omega arith; told = told }
 
 -- what passes has ids that differ
 pub differ-held : (before after : GroupIds) (cs : List Capture) → ((k : ℕ) → times_held after k ≡ times_held before k + times k cs) → Differ cs

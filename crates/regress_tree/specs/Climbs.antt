@@ -1,15 +1,13 @@
 -- The way up again from the right sides of alternatives: calls on each of them, the lowest one first.
 use Rattle.std.specs.Prelude.{◌≡◌, ℕ, zero, suc, Bool}
-use Rattle.regress_tree.specs.Tree.{Tree, leaf, cat, alt, wrapped}
+use Rattle.regress_tree.specs.Tree.{Tree, alt}
 use Rattle.regress_tree.specs.Spine.{spine_length}
 use Rattle.regress_tree.specs.Visits.{deeper}
 
 -- the right side of an `Alt`, and any other tree itself
 abbrev pub right_side : Tree → Tree
-right_side (leaf l) = leaf l
-right_side (cat parts) = cat parts
 right_side (alt left right) = right
-right_side (wrapped w body) = wrapped w body
+right_side t = t
 
 -- so many right sides further down
 abbrev pub down : ℕ → Tree → Tree
@@ -31,9 +29,7 @@ Climbed {State} Call (suc k) depth behind t a c =
 -- Calls on the trees of a way down that is turned round, each with what the calls have left at its right side: they leave the tree u.
 abbrev pub ClimbedMut : {State : Type 0} → (State → Tree → ℕ → Bool → State → Tree → Bool → Type 0) →
     (above : Tree) (depth : ℕ) (behind : Bool) (t u : Tree) (a b : State) → Type 0
-ClimbedMut Call (leaf l) depth behind t u a b = (t ≡ u) × (a ≡ b)
-ClimbedMut Call (cat parts) depth behind t u a b = (t ≡ u) × (a ≡ b)
 ClimbedMut {State} Call (alt left above) depth behind t v a c =
     (b : State) × (u : Tree) × (skip : Bool) × Call a (alt left t) (further (spine_length above) depth) behind b u skip
     × ClimbedMut Call above depth behind u v b c
-ClimbedMut Call (wrapped w body) depth behind t u a b = (t ≡ u) × (a ≡ b)
+ClimbedMut Call none depth behind t u a b = (t ≡ u) × (a ≡ b)

@@ -11,6 +11,7 @@ pub mod Matching
 pub mod Walk
 pub mod Visits
 pub mod Gathered
+pub mod Held
 pub mod Climbs
 pub mod WellFormed
 pub mod Measures

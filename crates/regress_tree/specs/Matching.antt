@@ -15,10 +15,8 @@ use Rattle.regress_tree.specs.Tree.{Leaf, empty, goal, char, byte_sequence, byte
 
 -- the direction in which what a wrapper holds is matched
 abbrev pub direction_in : Wrapper → Direction → Direction
-direction_in (capture_group id name) d = d
-direction_in (loop quantifier start end) d = d
-direction_in (loop_one quantifier) d = d
 direction_in (lookaround negate looks_back start end) d = if looks_back then backwards else forwards
+direction_in w d = d
 
 module _ (setting : Setting) (bytes : List ℕ) where
   -- the outcomes of a leaf

@@ -1,7 +1,7 @@
 -- References to what a group has captured (ECMA-262, BackreferenceMatcher).
 use Rattle.std.specs.Prelude.{ℕ, zero, suc, ◌-◌, Bool, List, [], ◌∷◌, reverse, Option, Some, None, get_or, nat_lt, if◌then◌else◌}
 use Rattle.regress_tree.specs.Reading.{Direction, forwards, backwards, Reading, Read}
-use Rattle.regress_tree.specs.Steps.{Span, Step, stay, ◌then_◌, one_character}
+use Rattle.regress_tree.specs.Steps.{CaptureSpan, Step, stay, ◌then_◌, one_character}
 
 -- the character, and those from the place behind it on
 abbrev pub read_with : (ℕ → List ℕ) → Option Read → List ℕ
@@ -24,7 +24,7 @@ in_order forwards cs = cs
 in_order backwards cs = reverse cs
 
 -- What lies in the span once more. A span holds no more characters than places.
-abbrev pub once_more : Direction → Reading → (ℕ → ℕ → Bool) → Option Span → Step
+abbrev pub once_more : Direction → Reading → (ℕ → ℕ → Bool) → Option CaptureSpan → Step
 once_more d r same None = stay
 once_more d r same (Some span) = all_of d r same (in_order d (characters_from r (span.1 - span.0) span.0 span.1))
 

@@ -1,10 +1,10 @@
 -- Repetition of a part of a pattern (ECMA-262, RepeatMatcher).
 use Rattle.std.specs.Prelude.{ℕ, zero, suc, ◌+◌, ◌-◌, min, nat_le, nat_lt, ◌==◌, Bool, not, ◌&&◌, List, [], ◌∷◌, filter, Option, Some, None, if◌then◌else◌}
 use Rattle.regress_base.specs.declared.types.Quantifier.{Quantifier}
-use Rattle.regress_tree.specs.Steps.{State, Span, Step, stay, ◌then_◌, ◌or_◌}
+use Rattle.regress_tree.specs.Steps.{State, CaptureSpan, Step, stay, ◌then_◌, ◌or_◌}
 
 -- the captures from group k on, of which those of the groups start to end - 1 are forgotten
-abbrev pub unset_from : (k start end : ℕ) → List (Option Span) → List (Option Span)
+abbrev pub unset_from : (k start end : ℕ) → List (Option CaptureSpan) → List (Option CaptureSpan)
 unset_from k start end [] = []
 unset_from k start end (c ∷ cs) =
     (if nat_le start k && nat_lt k end then None else c) ∷ unset_from (k + 1) start end cs

@@ -213,10 +213,9 @@ is_zero (Some n) = n == 0
 
 -- A `Loop` with an `Empty` body, or of no turn and without groups; a lookaround for `Empty` that is not negated.
 abbrev pub is_empty_wrapper : Wrapper → Tree → Bool
-is_empty_wrapper (capture_group id name) body = false
 is_empty_wrapper (loop quantifier start end) body = is_empty body || (is_zero quantifier.max && nat_le end start)
-is_empty_wrapper (loop_one quantifier) body = false
 is_empty_wrapper (lookaround negate backwards start end) body = not negate && is_empty body
+is_empty_wrapper w body = false
 
 -- What removing empties removes: these, a `ByteSequence` without a byte, an `Alt` of two `Empty`, and a `Cat` with an `Empty` part.
 abbrev pub is_emptied_away : Tree → Bool
@@ -227,10 +226,9 @@ is_emptied_away (wrapped w body) = is_empty_wrapper w body
 
 -- A `Cat` with a part that always fails, an `Alt` with such a side, and a `Loop` of at least one turn with such a body.
 abbrev pub fails_by_part : Tree → Bool
-fails_by_part (leaf l) = false
 fails_by_part (cat parts) = some_in_row match_always_fails parts
 fails_by_part (alt left right) = match_always_fails left || match_always_fails right
-fails_by_part (wrapped w body) = on_loop (λ quantifier start end inner. nat_le 1 quantifier.min && match_always_fails inner) (wrapped w body)
+fails_by_part t = on_loop (λ quantifier start end body. nat_le 1 quantifier.min && match_always_fails body) t
 
 -- What propagating early failure removes: these, where no capture group is inside.
 abbrev pub is_failed_away : Tree → Bool

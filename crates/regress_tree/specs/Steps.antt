@@ -4,25 +4,25 @@ use Rattle.std.specs.List.{starts_with}
 use Rattle.regress_tree.specs.Reading.{Direction, forwards, backwards, Reading, Read, next_character, byte_place}
 
 -- from where to where a group has last matched, the smaller place first
-abbrev pub Span : Type 0
-Span = ℕ × ℕ
+abbrev pub CaptureSpan : Type 0
+CaptureSpan = ℕ × ℕ
 
 -- where matching stands: at a place, with what each group has captured so far
 pub record State : Type 0 where
   pub place : ℕ
-  pub captures : List (Option Span)
+  pub captures : List (Option CaptureSpan)
 
 -- the outcomes of a part of a pattern from a state, the preferred ones first
 abbrev pub Step : Type 0
 Step = State → List State
 
-abbrev pub same_capture : Option Span → Option Span → Bool
+abbrev pub same_capture : Option CaptureSpan → Option CaptureSpan → Bool
 same_capture None None = true
 same_capture (Some a) (Some b) = (a.0 == b.0) && (a.1 == b.1)
 same_capture None (Some b) = false
 same_capture (Some a) None = false
 
-abbrev pub same_captures : List (Option Span) → List (Option Span) → Bool
+abbrev pub same_captures : List (Option CaptureSpan) → List (Option CaptureSpan) → Bool
 same_captures [] [] = true
 same_captures (a ∷ as') (b ∷ bs) = same_capture a b && same_captures as' bs
 same_captures [] (b ∷ bs) = false
@@ -90,11 +90,11 @@ unfoldable pub capture : ℕ → Step → Step
 capture id f s = map (captured id s.place) (f s)
 
 -- A state of a text: its places lie in the text, and each span starts no later than it ends.
-pub record IsSpanOf (text : List ℕ) (span : Span) : Type 0 where
+pub record IsSpanOf (text : List ℕ) (span : CaptureSpan) : Type 0 where
   pub ordered : span.0 ≤ span.1
   pub within : span.1 ≤ length text
 
-abbrev pub IsCaptureOf : List ℕ → Option Span → Type 0
+abbrev pub IsCaptureOf : List ℕ → Option CaptureSpan → Type 0
 IsCaptureOf text None = Unit {0}
 IsCaptureOf text (Some span) = IsSpanOf text span
 
@@ -103,7 +103,7 @@ pub record IsStateOf (text : List ℕ) (s : State) : Type 0 where
   pub captures : All (IsCaptureOf text) s.captures
 
 -- the same capture, and the same state, in places of the UTF-8
-abbrev pub byte_capture : List ℕ → Option Span → Option Span
+abbrev pub byte_capture : List ℕ → Option CaptureSpan → Option CaptureSpan
 byte_capture text None = None
 byte_capture text (Some span) = Some (byte_place text span.0, byte_place text span.1)
 

@@ -5,7 +5,7 @@ use Rattle.regress_base.specs.declared.bytesearch.bitmap.ByteBitmap.{ByteBitmap}
 use Rattle.regress_tree.specs.declared.ir.groups.GroupIds.{GroupIds}
 use Rattle.regress_tree.specs.declared.ir.groups.Groups.{Groups}
 use Rattle.regress_tree.specs.NodeTests.{is_goal}
-use Rattle.regress_tree.specs.Tree.{Leaf, empty, goal, char, byte_sequence, byte_set, char_set, match_any, match_any_except_line_terminator, anchor, word_boundary, bracket, back_ref, string_set, Tree, Trees, leaf, cat, alt, wrapped, no_trees, more_trees}
+use Rattle.regress_tree.specs.Tree.{Leaf, goal, back_ref, Tree, Trees, leaf, cat, alt, wrapped, no_trees, more_trees}
 use Rattle.regress_tree.specs.WellFormed.{Capture, captures, Position, MayStand}
 
 -- Sets of ids.
@@ -38,19 +38,8 @@ past_ids [] = 0
 past_ids (c ∷ cs) = max (c.id + 1) (past_ids cs)
 
 abbrev pub reference_of : Leaf → ℕ
-reference_of empty = 0
-reference_of goal = 0
-reference_of (char c) = 0
-reference_of (byte_sequence bytes) = 0
-reference_of (byte_set bytes) = 0
-reference_of (char_set characters) = 0
-reference_of match_any = 0
-reference_of match_any_except_line_terminator = 0
-reference_of (anchor kind multiline) = 0
-reference_of (word_boundary invert unicode_icase) = 0
-reference_of (bracket invert intervals) = 0
 reference_of (back_ref group icase) = group
-reference_of (string_set strings icase) = 0
+reference_of l = 0
 
 -- the greatest group that is referred to, counted from 1
 abbrev mutual
@@ -65,7 +54,7 @@ abbrev mutual
   reference_in_row (more_trees t ts) = max (reference t) (reference_in_row ts)
 
 -- what is told of these groups and of the greatest reference beside them
-pub record Tells (g : Groups) (cs : List Capture) (referred : ℕ) : Type 0 where
+pub record IsTally (g : Groups) (cs : List Capture) (referred : ℕ) : Type 0 where
   pub count : g.count ≡ min (length cs) 0xFFFFFFFF
   pub least : g.least ≡ least_id cs
   pub past : g.past ≡ past_ids cs
@@ -90,24 +79,24 @@ abbrev pub fill : (start end : ℕ) → Groups → Bool
 fill start end g = nat_le start g.least && (nat_le g.past end && (g.count == end - start))
 
 -- The part may stand, none of its groups has an id that was there before or another one has, and the ids are now there too.
-pub record Passes (Stands : Type 0) (cs : List Capture) (referred : ℕ) (before after : GroupIds) (g : Groups) : Type 0 where
+pub record IsSurveyed (Stands : Type 0) (cs : List Capture) (referred : ℕ) (before after : GroupIds) (g : Groups) : Type 0 where
   pub stands : Stands
   pub ids : (k : ℕ) → times_held after k ≡ times_held before k + times k cs
-  pub told : Tells g cs referred
+  pub told : IsTally g cs referred
 
 -- It may not stand, or some id comes twice.
-pub record Fails (Stands : Type 0) (cs : List Capture) (before : GroupIds) : Type 0 where
+pub record IsRefused (Stands : Type 0) (cs : List Capture) (before : GroupIds) : Type 0 where
   pub refuted : Stands → ((k : ℕ) → times_held before k + times k cs ≤ 1) → ⊥
 
 -- it may stand there in a tree of enough capture groups
 abbrev pub StandsAt : Position → Tree → Type 0
 StandsAt p t = (n : ℕ) × MayStand n t p
 
-abbrev pub PassesAt : Position → Tree → GroupIds → GroupIds → Groups → Type 0
-PassesAt p t = Passes (StandsAt p t) (captures t) (reference t)
+abbrev pub SurveyedAt : Position → Tree → GroupIds → GroupIds → Groups → Type 0
+SurveyedAt p t = IsSurveyed (StandsAt p t) (captures t) (reference t)
 
-abbrev pub FailsAt : Position → Tree → GroupIds → Type 0
-FailsAt p t = Fails (StandsAt p t) (captures t)
+abbrev pub RefusedAt : Position → Tree → GroupIds → Type 0
+RefusedAt p t = IsRefused (StandsAt p t) (captures t)
 
 -- The goal at the end.
 

@@ -1,7 +1,7 @@
 -- How large a tree is, and what falls with every rewriting.
 use Rattle.std.specs.Prelude.{◌≡◌, ℕ, ◌+◌, ◌*◌, ◌<◌, ◌⊎◌, [], ◌∷◌, length, if◌then◌else◌, ◌==◌}
 use Rattle.regress_tree.specs.Measures.{Measure, total, total_in_row}
-use Rattle.regress_tree.specs.Tree.{Leaf, char, byte_sequence, byte_set, char_set, bracket, Wrapper, capture_group, loop, loop_one, lookaround, Tree, Trees}
+use Rattle.regress_tree.specs.Tree.{Leaf, char, byte_sequence, byte_set, char_set, bracket, Wrapper, loop, loop_one, Tree, Trees}
 
 -- One for a node, and one more for each byte of a `ByteSequence`.
 abbrev pub charge_of_leaf : Leaf → ℕ
@@ -15,12 +15,10 @@ charges = record { of_leaf = charge_of_leaf; of_cat = 1; of_alt = 1; of_wrapper 
 abbrev pub charge : Tree → ℕ
 charge = total charges
 
--- One for a node, and one more for each byte of a `ByteSequence`; five for a `Char`, whose UTF-8 would be a node and at
--- most four bytes.
+-- The same, but five for a `Char`, whose UTF-8 would be a node and at most four bytes.
 abbrev pub units_of_leaf : Leaf → ℕ
 units_of_leaf (char c) = 5
-units_of_leaf (byte_sequence bytes) = 1 + length bytes
-units_of_leaf l = 1
+units_of_leaf l = charge_of_leaf l
 
 abbrev pub sizes : Measure
 sizes = record { of_leaf = units_of_leaf; of_cat = 1; of_alt = 1; of_wrapper = λ w. 1 }
@@ -34,10 +32,8 @@ units_in_row = total_in_row sizes
 
 -- whether it is a loop that may be unrolled, as a number
 abbrev pub unrollable : Wrapper → ℕ
-unrollable (capture_group id name) = 0
 unrollable (loop quantifier start end) = if quantifier.min == 0 then 0 else 1
-unrollable (loop_one quantifier) = 0
-unrollable (lookaround negate backwards start end) = 0
+unrollable w = 0
 
 abbrev pub unrollables : Measure
 unrollables = record { of_leaf = λ l. 0; of_cat = 0; of_alt = 0; of_wrapper = unrollable }
@@ -65,10 +61,9 @@ weight_of_leaf (bracket invert intervals) = 4 + length intervals
 weight_of_leaf l = 1
 
 abbrev pub weight_of_wrapper : Wrapper → ℕ
-weight_of_wrapper (capture_group id name) = 1
 weight_of_wrapper (loop quantifier start end) = 3
 weight_of_wrapper (loop_one quantifier) = 2
-weight_of_wrapper (lookaround negate backwards start end) = 1
+weight_of_wrapper w = 1
 
 abbrev pub weights : Measure
 weights = record { of_leaf = weight_of_leaf; of_cat = 2; of_alt = 1; of_wrapper = weight_of_wrapper }

@@ -15,9 +15,7 @@ pub record Capture : Type 0 where
 -- the capture group that a wrapper is, if it is one
 abbrev pub captures_of_wrapper : Wrapper → List Capture
 captures_of_wrapper (capture_group id name) = record { id = id; name = name } ∷ []
-captures_of_wrapper (loop quantifier start end) = []
-captures_of_wrapper (loop_one quantifier) = []
-captures_of_wrapper (lookaround negate backwards start end) = []
+captures_of_wrapper w = []
 
 -- the capture groups of a tree, each before those inside it
 abbrev mutual
@@ -43,36 +41,27 @@ pub data Position : Type 0 where
 abbrev pub GoalMayStand : Position → Type 0
 GoalMayStand one_character = ⊥
 GoalMayStand inside = ⊥
-GoalMayStand last = Unit {0}
-GoalMayStand root = Unit {0}
+GoalMayStand p = Unit {0}
 
 -- what may not be the body of a loop over one character
 abbrev pub NotAsOneCharacter : Position → Type 0
 NotAsOneCharacter one_character = ⊥
-NotAsOneCharacter inside = Unit {0}
-NotAsOneCharacter last = Unit {0}
-NotAsOneCharacter root = Unit {0}
+NotAsOneCharacter p = Unit {0}
 
 -- where the last part of a `Cat` stands
 abbrev pub last_of : Position → Position
-last_of one_character = inside
-last_of inside = inside
-last_of last = inside
 last_of root = last
+last_of p = inside
 
 -- where what a wrapper holds stands
 abbrev pub position_in : Wrapper → Position
-position_in (capture_group id name) = inside
-position_in (loop quantifier start end) = inside
 position_in (loop_one quantifier) = one_character
-position_in (lookaround negate backwards start end) = inside
+position_in w = inside
 
 -- what may be the body of a loop over one character only if this holds
 abbrev pub AsOneCharacter : Position → Type 0 → Type 0
 AsOneCharacter one_character P = P
-AsOneCharacter inside P = Unit {0}
-AsOneCharacter last P = Unit {0}
-AsOneCharacter root P = Unit {0}
+AsOneCharacter p P = Unit {0}
 
 -- the bytes are the UTF-8 of some characters, of one at that place
 pub record AreUtf8 (bytes : List ℕ) (p : Position) : Type 0 where

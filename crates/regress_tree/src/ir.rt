@@ -4,6 +4,7 @@ mod brackets;
 mod copies;
 mod display;
 mod groups;
+pub mod held;
 mod node;
 mod node_tests;
 pub mod spine;

@@ -1,5 +1,5 @@
 //! The tests of a table's parts, each for one refusal.
-ghost use Rattle.std.specs.Prelude.{◌≡◌, ◌≢◌, ℕ, ◌+◌, ◌<◌, ◌≤◌, ◌↔◌, ◌⊎◌, true, false, nat_le, length, slice_index, IsTrue, IfOk, IfErr, MatchResult, MatchBool, All, alloc_error};
+ghost use Rattle.std.specs.Prelude.{◌≡◌, ◌≢◌, ℕ, ◌+◌, ◌<◌, ◌≤◌, ◌↔◌, ◌⊎◌, true, false, length, slice_index, IsTrue, IfOk, IfErr, MatchResult, MatchBool, All, alloc_error};
 ghost use Rattle.std.specs.List.{list_all};
 ghost use Rattle.regress_base.specs.Intervals.{is_member};
 ghost use Rattle.regress_base.specs.Classes.{word_characters};
@@ -11,8 +11,8 @@ ghost use Rattle.regress_unicode.specs.Parts.{sets_of};
 
 use super::images::image;
 use super::{FoldRange, TablesError, Which};
-use regress_base::codepointset::{CODE_POINT_MAX, CodePointSet};
-use regress_base::sets::set_is_canonical;
+use regress_base::codepointset::CodePointSet;
+use regress_base::sets::{are_code_points, set_is_canonical};
 use std::alloc::{AllocError, Global};
 
 /// Refuses rows that do not ascend, or share a code point.
@@ -160,12 +160,6 @@ fn is_string(string: &[u32]) -> bool
     ensures { result ≡ is_string string.now }
 {
     !string.is_empty() && are_code_points(string)
-}
-
-fn are_code_points(string: &[u32]) -> bool
-    ensures { result ≡ list_all (λ c. nat_le c CODE_POINT_MAX) string.now }
-{
-    string.iter().all(|c| *c <= CODE_POINT_MAX)
 }
 
 /// What [`set_is_canonical`] tells, for each entry.

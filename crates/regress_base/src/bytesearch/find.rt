@@ -1,7 +1,7 @@
 //! The walk over a text that the searches for bytes share.
 
 ghost use Rattle.std.specs.Prelude.{ℕ, ◌<◌, Bool, length, IfSome};
-ghost use Rattle.regress_base.specs.Places.{IsLeast, IsMemberAt, Tells};
+ghost use Rattle.regress_base.specs.Places.{IsLeast, IsMemberAt, IsTestFor};
 
 /// How many bytes the walk looks at in one turn.
 const LANES: usize = 4;
@@ -9,7 +9,7 @@ const LANES: usize = 4;
 /// The least index of `text` whose byte passes `test`. Each byte up to there is tested once.
 pub(super) fn find_byte<F: Fn(u8) -> bool>(text: &[u8], test: F) -> Option<usize>
     requires { F.IsAlwaysCallable test }
-    ensures { (set : ℕ → Bool) → Tells (F.post test) set
+    ensures { (set : ℕ → Bool) → IsTestFor (F.post test) set
         → IsLeast (IsMemberAt set text.now) (length text.now) result }
 {
     let (chunks, rest) = text.as_chunks::<LANES>();
@@ -26,7 +26,7 @@ pub(super) fn find_byte<F: Fn(u8) -> bool>(text: &[u8], test: F) -> Option<usize
 fn first_index<F: Fn(u8) -> bool>(part: &[u8], test: &F) -> Option<usize>
     requires { F.IsAlwaysCallable test.now }
     ensures inside { IfSome result (λ i. i < length part.now) }
-    ensures least { (set : ℕ → Bool) → Tells (F.post test.now) set
+    ensures least { (set : ℕ → Bool) → IsTestFor (F.post test.now) set
         → IsLeast (IsMemberAt set part.now) (length part.now) result }
 {
     for (i, b) in part.iter().enumerate() {

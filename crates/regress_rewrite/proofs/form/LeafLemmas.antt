@@ -13,13 +13,12 @@ use Rattle.regress_tree.specs.Steps.{State, one_character, these_bytes}
 use Rattle.regress_tree.specs.Shapes.{is_formed_away}
 use Rattle.regress_tree.specs.Tree.{Tree, leaf, char, byte_sequence, byte_set, char_set, tree}
 use Rattle.regress_tree.specs.Units.{weight_of_leaf, IsLess}
-use Rattle.regress_tree.specs.WellFormed.{AsOneCharacter}
 use Rattle.regress_tree.proofs.laws.Alike.{Alike-refl, Alike-from_same}
 use Rattle.regress_tree.proofs.laws.ByteSequences.{these_bytes-one, these_bytes_before-one}
 use Rattle.regress_tree.proofs.laws.Measures.{IsLess-lighter}
 use Rattle.regress_tree.proofs.laws.Nodes.{tree-ByteSequence, tree-ByteSet}
 use Rattle.regress_tree.proofs.laws.Positions.{AsOneCharacter-from}
-use Rattle.regress_rewrite.specs.Law.{Keeps, IsLawful}
+use Rattle.regress_rewrite.specs.Law.{Keeps, ObeysLaw}
 use Rattle.regress_rewrite.specs.declared.rewrite.PassAction.TheVariants.{Keep, Replace}
 use Rattle.regress_rewrite.proofs.LawfulLemmas.{keep_lawful, replace_lawful}
 
@@ -51,7 +50,7 @@ module _ (d : Direction) (c : ℕ) (scalar_value : IsScalar c) where
   encoded_less = IsLess-lighter _ _ (omega arith) (omega (arith, weight-bytes (encode_utf8 c)))
 
   pub encoded_lawful : (bytes : Vec ℕ Global) → bytes.items ≡ encode_utf8 c →
-      IsLawful is_formed_away true d (leaf (char c)) (leaf (char c)) (Replace (ByteSequence bytes))
+      ObeysLaw is_formed_away true d (leaf (char c)) (leaf (char c)) (Replace (ByteSequence bytes))
   encoded_lawful bytes is =
       let same : tree (ByteSequence bytes) ≡ leaf (byte_sequence (encode_utf8 c)) = rw (tree-ByteSequence bytes, is) refl in
       replace_lawful is_formed_away true d (leaf (char c)) scalar_value (leaf (char c)) (ByteSequence bytes)
@@ -77,7 +76,7 @@ module _ (d : Direction) (members : List ℕ) where
 
   -- as `ascii` finds the bytes
   pub set_lawful : (bytes : Vec ℕ Global) → Some bytes.items ≡ (if is_ascii members then Some members else None) →
-      IsLawful is_formed_away true d (leaf (char_set members)) (leaf (char_set members)) (Replace (ByteSet bytes))
+      ObeysLaw is_formed_away true d (leaf (char_set members)) (leaf (char_set members)) (Replace (ByteSet bytes))
   set_lawful bytes found =
       let all = cond_some (is_ascii members) members bytes.items (sym found) in
       let same : tree (ByteSet bytes) ≡ leaf (byte_set members) = rw (tree-ByteSet bytes, ← all.1) refl in
@@ -86,7 +85,7 @@ module _ (d : Direction) (members : List ℕ) where
       (subst (λ (t : Tree). IsLess t (leaf (char_set members))) (sym same) set_less)
 
   pub no_set_lawful : None ≡ (if is_ascii members then Some members else None) →
-      IsLawful is_formed_away true d (leaf (char_set members)) (leaf (char_set members)) Keep
+      ObeysLaw is_formed_away true d (leaf (char_set members)) (leaf (char_set members)) Keep
   no_set_lawful none = keep_lawful is_formed_away true d (leaf (char_set members)) (by_test (is_ascii members) none)
     where
       by_test : (b : Bool) → None ≡ (if b then Some members else None) → b ≡ false

@@ -14,8 +14,8 @@ use Rattle.regress_tree.specs.Steps.{State, Step, moved, one_character}
 use Rattle.regress_tree.specs.Repetition.{unset, turn, turns, up_to, more_turns, repeat}
 use Rattle.regress_tree.specs.Setting.{Setting}
 use Rattle.regress_tree.specs.Matching.{steps, steps_in_row}
-use Rattle.regress_tree.specs.Tree.{Leaf, empty, goal, char, byte_sequence, byte_set, char_set, match_any, match_any_except_line_terminator, anchor, word_boundary, bracket, back_ref, string_set, Wrapper, capture_group, loop, loop_one, lookaround, Tree, Trees, leaf, cat, alt, wrapped, no_trees, more_trees, tree}
-use Rattle.regress_tree.specs.WellFormed.{captures, Position, inside, last_of, NotAsOneCharacter, AsOneCharacter, IsSmallSet, LeafMayStand, MayStand, RowMayStand}
+use Rattle.regress_tree.specs.Tree.{Leaf, byte_set, char_set, bracket, Wrapper, capture_group, loop, loop_one, lookaround, Tree, Trees, leaf, cat, alt, wrapped, no_trees, more_trees, tree}
+use Rattle.regress_tree.specs.WellFormed.{captures, Position, inside, last_of, NotAsOneCharacter, IsSmallSet, LeafMayStand, MayStand, RowMayStand}
 use Rattle.regress_tree.specs.Units.{units_of_leaf, weight, IsLess}
 use Rattle.regress_tree.specs.NodeTests.{leaf_always_fails, match_always_fails}
 use Rattle.regress_tree.specs.Shapes.{some_in_row, has_group, fails_by_part, is_failed_away, is_simplified_away}
@@ -29,7 +29,7 @@ use Rattle.regress_tree.proofs.laws.Measures.{units-positive, IsLess-lighter}
 use Rattle.regress_tree.proofs.laws.Places.{left_of, right_of, RowMayStand-part, IsLess-part}
 use Rattle.regress_tree.proofs.laws.Positions.{AsOneCharacter-free}
 use Rattle.regress_tree.proofs.laws.Rows.{RowMayStand-more, MayStand-from_last}
-use Rattle.regress_rewrite.specs.Law.{IsPart, Keeps, IsLawful}
+use Rattle.regress_rewrite.specs.Law.{IsPart, Keeps, ObeysLaw}
 use Rattle.regress_rewrite.specs.declared.rewrite.PassAction.TheVariants.{Replace}
 use Rattle.regress_rewrite.proofs.laws.Keeps.{Keeps-part}
 use Rattle.regress_rewrite.proofs.LawfulLemmas.{replace_lawful}
@@ -52,31 +52,20 @@ one_character-none d bytes test none s =
     one_character-agree d bytes test (λ c. false) none s ∙ moved-none s (next_character d (of_bytes bytes) s.place)
 
 leaf_fails : (l : Leaf) → leaf_always_fails l ≡ true → (n : ℕ) (p : Position) → LeafMayStand n l p → MatchesNothing 2 (leaf l)
-leaf_fails empty is n p m = absurd (false≢true is)
-leaf_fails goal is n p m = absurd (false≢true is)
-leaf_fails (char c) is n p m = absurd (false≢true is)
-leaf_fails (byte_sequence bytes) is n p m = absurd (false≢true is)
 leaf_fails (byte_set []) is n p m = record {
   none = λ setting bytes d s. one_character-none d bytes (λ c. false) (λ c scalar. refl) s;
   heavy = omega arith;
 }
-leaf_fails (byte_set (b ∷ members)) is n p m = absurd (false≢true is)
 leaf_fails (char_set []) is n p m = record {
   none = λ setting bytes d s. one_character-none d bytes (λ c. false) (λ c scalar. refl) s;
   heavy = omega arith;
 }
-leaf_fails (char_set (c ∷ members)) is n p m = absurd (false≢true is)
-leaf_fails match_any is n p m = absurd (false≢true is)
-leaf_fails match_any_except_line_terminator is n p m = absurd (false≢true is)
-leaf_fails (anchor kind multiline) is n p m = absurd (false≢true is)
-leaf_fails (word_boundary invert unicode_icase) is n p m = absurd (false≢true is)
 leaf_fails (bracket invert intervals) is n p m = record {
   none = λ setting bytes d s. one_character-none d bytes (is_accepted invert intervals)
       (λ c scalar. accepts_nothing invert intervals m.canonical is c (scalar_in_range c scalar)) s;
   heavy = omega arith;
 }
-leaf_fails (back_ref group icase) is n p m = absurd (false≢true is)
-leaf_fails (string_set strings icase) is n p m = absurd (false≢true is)
+leaf_fails l is n p m = absurd (false≢true is)
 
 pub node_fails : (t : Tree) → match_always_fails t ≡ true → (n : ℕ) (p : Position) → MayStand n t p → MatchesNothing 2 t
 node_fails (leaf l) is n p m = leaf_fails l is n p m
@@ -204,19 +193,19 @@ removed t is free = and_from (fails_by_part t) (not (has_group t)) is (ap not fr
 
 module _ (d : Direction) (t left : Tree) (is : fails_by_part t ≡ true) (free : has_group t ≡ false) where
   replaced : (new : Tree) (node : Node) → tree node ≡ new → Keeps d t new → IsLess new t →
-      IsLawful is_failed_away true d t left (Replace node)
+      ObeysLaw is_failed_away true d t left (Replace node)
   replaced new node node_is keeps is_less =
       replace_lawful is_failed_away true d t (removed t is free) left node (subst (λ (u : Tree). Keeps d t u) (sym node_is) keeps)
       (subst (λ (u : Tree). IsLess u t) (sym node_is) is_less)
 
   -- a set of nothing
-  fail_lawful : (node : Node) → tree node ≡ leaf (char_set []) → MatchesNothing 4 t → IsLawful is_failed_away true d t left (Replace node)
+  fail_lawful : (node : Node) → tree node ≡ leaf (char_set []) → MatchesNothing 4 t → ObeysLaw is_failed_away true d t left (Replace node)
   fail_lawful node node_is fails =
       replaced (leaf (char_set [])) node node_is (nothing_keeps d t (char_set []) no_character_nothing is free fails)
       (IsLess-lighter (leaf (char_set [])) t (omega arith) (omega (arith, fails.heavy)))
 
   pub whole_lawful : (node : Node) → is_alt t ≡ false → tree node ≡ leaf (char_set []) → IsPart t →
-      IsLawful is_failed_away true d t left (Replace node)
+      ObeysLaw is_failed_away true d t left (Replace node)
   whole_lawful node other node_is part = fail_lawful node node_is (tree_fails t other is part)
 
 -- An `Alt`, by its sides.
@@ -251,7 +240,7 @@ module _ (d : Direction) (first second : Tree) where
       (match_always_fails first ≡ false → tree node ≡ first) →
       (match_always_fails first ≡ true → match_always_fails second ≡ false → tree node ≡ second) →
       (match_always_fails first ≡ true → match_always_fails second ≡ true → tree node ≡ leaf (char_set [])) →
-      IsLawful is_failed_away true d (alt first second) left (Replace node)
+      ObeysLaw is_failed_away true d (alt first second) left (Replace node)
   sides_lawful left node is free part at_first at_second at_none =
       let frees = or_parts (has_group first) (has_group second) free in
       let fails_first : match_always_fails first ≡ true → MatchesNothing 2 first = λ e. node_fails first e part.0 inside part.2.1 in
@@ -276,8 +265,8 @@ pub alt_lawful : (d : Direction) (t left first second : Tree) (node : Node) → 
     has_group t ≡ false → IsPart t → (match_always_fails first ≡ false → tree node ≡ first) →
     (match_always_fails first ≡ true → match_always_fails second ≡ false → tree node ≡ second) →
     (match_always_fails first ≡ true → match_always_fails second ≡ true → tree node ≡ leaf (char_set [])) →
-    IsLawful is_failed_away true d t left (Replace node)
+    ObeysLaw is_failed_away true d t left (Replace node)
 alt_lawful d t left first second node t_is is free part at_first at_second at_none =
-    subst (λ (u : Tree). IsLawful is_failed_away true d u left (Replace node)) (sym t_is)
+    subst (λ (u : Tree). ObeysLaw is_failed_away true d u left (Replace node)) (sym t_is)
     (sides_lawful d first second left node (sym (ap fails_by_part t_is) ∙ is) (sym (ap has_group t_is) ∙ free)
     (subst (λ (u : Tree). IsPart u) t_is part) at_first at_second at_none)

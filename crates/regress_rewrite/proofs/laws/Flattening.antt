@@ -1,5 +1,5 @@
 -- Flattening keeps what a rewrite must keep, and makes the tree less.
-use Rattle.std.proofs.Common.{◌≡◌, ℕ, ◌<◌, ◌≤◌, Bool, true, false, ◌||◌, ◌++◌, refl, sym, ap, ap₂, subst, ◌∙◌, append-nil, arith, le_refl, List, Result, Ok, Err}
+use Rattle.std.proofs.Common.{◌≡◌, ℕ, ◌<◌, ◌≤◌, Bool, true, false, ◌||◌, ◌++◌, inl, inr, refl, sym, ap, ap₂, subst, ◌∙◌, append-nil, arith, le_refl, List, Result, Ok, Err}
 use Rattle.std.specs.Prelude.{encode_utf8_all, IfOk}
 use Rattle.std.specs.declared.alloc.AllocError.{AllocError}
 use Rattle.std.specs.List.{flat_map}
@@ -8,7 +8,7 @@ use Rattle.std.proofs.lemmas.Bool.{false≢true, or_right}
 use mathlib.Core.Path.{fun_ext}
 use Rattle.regress_tree.specs.Reading.{Direction}
 use Rattle.regress_tree.specs.Steps.{State}
-use Rattle.regress_tree.specs.Tree.{Tree, Trees, leaf, empty, cat, alt, wrapped, no_trees, more_trees, tree}
+use Rattle.regress_tree.specs.Tree.{Tree, Trees, leaf, cat, alt, wrapped, no_trees, more_trees, tree}
 use Rattle.regress_tree.specs.Matching.{steps, steps_in_row}
 use Rattle.regress_tree.specs.Setting.{Setting}
 use Rattle.regress_tree.specs.WellFormed.{Position, inside, last_of, MayStand, RowMayStand, captures, captures_in_row}
@@ -21,11 +21,10 @@ use Rattle.regress_tree.proofs.laws.Measures.{some_node-append, total-append, Is
 use Rattle.regress_tree.proofs.laws.Rows.{row_append-none, steps-append, captures-append, RowMayStand-last_of, RowMayStand-append}
 use Rattle.regress_rewrite.specs.declared.rewrite.PassAction.{PassAction}
 use Rattle.regress_rewrite.specs.declared.rewrite.PassAction.TheVariants.{Keep, Modified, Remove, Replace}
-use Rattle.regress_rewrite.specs.Law.{Keeps, IsLawful}
+use Rattle.regress_rewrite.specs.Law.{Keeps, ObeysLaw}
 use Rattle.regress_rewrite.specs.Splice.{parts_of, spliced, Flattens}
-use Rattle.regress_rewrite.proofs.laws.Keeps.{Keeps-no_part, Keeps-one_part}
-use Rattle.regress_rewrite.proofs.LawfulLemmas.{keep_lawful, modified_lawful, remove_lawful, replace_lawful}
-use Rattle.regress_tree.proofs.laws.Places.{among, IsLess-part}
+use Rattle.regress_rewrite.specs.Taken.{StandsAlone}
+use Rattle.regress_rewrite.proofs.LawfulLemmas.{alone_keeps, keep_lawful, modified_lawful, replace_lawful}
 
 -- Where the parts may stand.
 
@@ -113,26 +112,26 @@ spliced_keeps d ts = record {
 
 -- The law.
 
+alone_short : (t : Tree) (ts : Trees) → StandsAlone t ts → is_flattened_away (cat ts) ≡ true
+alone_short t ts (inl none) = ap (λ us. is_flattened_away (cat us)) none.0
+alone_short t ts (inr one) = ap (λ us. is_flattened_away (cat us)) one
+
 flattens_lawful : (d : Direction) (action : PassAction) (old new : Trees) → Flattens action old new →
-    IsLawful is_flattened_away true d (cat old) (cat new) action
+    ObeysLaw is_flattened_away true d (cat old) (cat new) action
 flattens_lawful d Keep old new flattens =
-    subst (λ (ts : Trees). IsLawful is_flattened_away true d (cat old) (cat ts) Keep) (sym flattens.1)
+    subst (λ (ts : Trees). ObeysLaw is_flattened_away true d (cat old) (cat ts) Keep) (sym flattens.1)
     (keep_lawful is_flattened_away true d (cat old) flattens.0)
 flattens_lawful d Modified old new flattens =
-    subst (λ (ts : Trees). IsLawful is_flattened_away true d (cat old) (cat ts) Modified) (sym flattens.1)
+    subst (λ (ts : Trees). ObeysLaw is_flattened_away true d (cat old) (cat ts) Modified) (sym flattens.1)
     (modified_lawful is_flattened_away true d (cat old) (or_right (is_short old) (has_cat old) flattens.0) (cat (spliced old))
     (spliced_keeps d old)
     (IsLess-lighter (cat (spliced old)) (cat old) (omega (arith, total-spliced unrollables old)) (omega (arith, weight-less old flattens.0))))
-flattens_lawful d Remove old new flattens =
-    subst (λ (ts : Trees). IsLawful is_flattened_away true d (cat ts) (cat new) Remove) (sym flattens)
-    (remove_lawful is_flattened_away true d (cat no_trees) refl (cat new) (Keeps-no_part d)
-    (IsLess-lighter (leaf empty) (cat no_trees) (omega arith) (omega arith)))
-flattens_lawful d (Replace part) old new flattens =
-    subst (λ (ts : Trees). IsLawful is_flattened_away true d (cat ts) (cat new) (Replace part)) (sym flattens)
-    (replace_lawful is_flattened_away true d (cat (more_trees (tree part) no_trees)) refl (cat new) part (Keeps-one_part d (tree part))
-    (IsLess-part (among no_trees no_trees) (tree part)))
+flattens_lawful d Remove old new flattens = absurd flattens
+flattens_lawful d (Replace node) old new flattens =
+    let alone = alone_keeps is_flattened_away true d (tree node) old flattens in
+    replace_lawful is_flattened_away true d (cat old) (alone_short (tree node) old flattens) (cat new) node alone.0 alone.1
 
 pub flatten_lawful : (d : Direction) (r : Result PassAction AllocError) (was is : Trees) → IfOk r (λ action. Flattens action was is) →
-    IfOk r (IsLawful is_flattened_away true d (cat was) (cat is))
+    IfOk r (ObeysLaw is_flattened_away true d (cat was) (cat is))
 flatten_lawful d (Ok action) was is flattens = flattens_lawful d action was is flattens
 flatten_lawful d (Err e) was is flattens = tt

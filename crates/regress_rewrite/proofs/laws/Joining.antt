@@ -1,5 +1,5 @@
 -- Where the bytes of two parts of a row are joined, with none between them, the row keeps what a rewrite must keep and is less.
-use Rattle.std.proofs.Common.{◌≡◌, ◌≢◌, ℕ, zero, suc, ◌+◌, ◌-◌, true, ◌||◌, List, [], ◌∷◌, ◌++◌, flat_map, length, refl, sym, ap, ap₂, ◌∙◌, append-nil, arith, length-append}
+use Rattle.std.proofs.Common.{◌≡◌, ◌≢◌, ℕ, zero, suc, ◌+◌, true, ◌||◌, List, [], ◌∷◌, ◌++◌, flat_map, length, refl, sym, ap, ap₂, ◌∙◌, append-nil, arith, length-append}
 use Rattle.std.specs.Prelude.{encode_utf8_all}
 use Rattle.std.specs.Char.{IsScalar}
 use Rattle.std.proofs.lemmas.Bool.{false≢true}
@@ -8,10 +8,10 @@ use Rattle.std.proofs.lemmas.Str.{encodes-append}
 use mathlib.Core.Path.{fun_ext}
 use Rattle.regress_tree.specs.Reading.{Direction, forwards, backwards}
 use Rattle.regress_tree.specs.Steps.{State, ◌then_◌, these_bytes}
-use Rattle.regress_tree.specs.Tree.{empty, goal, char, byte_sequence, byte_set, char_set, match_any, match_any_except_line_terminator, anchor, word_boundary, bracket, back_ref, string_set, Tree, Trees, leaf, cat, alt, wrapped, no_trees, more_trees, row_append, copies}
+use Rattle.regress_tree.specs.Tree.{byte_sequence, Tree, Trees, leaf, cat, no_trees, more_trees, row_append, copies}
 use Rattle.regress_tree.specs.Matching.{steps_in_row}
 use Rattle.regress_tree.specs.Setting.{Setting}
-use Rattle.regress_tree.specs.WellFormed.{Position, inside, last_of, AsOneCharacter, AreUtf8, RowMayStand, captures_in_row}
+use Rattle.regress_tree.specs.WellFormed.{Position, inside, last_of, AreUtf8, RowMayStand, captures_in_row}
 use Rattle.regress_tree.specs.Measures.{Measure, total_in_row}
 use Rattle.regress_tree.specs.Units.{sizes, unrollables, weights, weight_of_leaf, IsLess}
 use Rattle.regress_tree.specs.Shapes.{some_node_in_row, has_bytes, is_simplified_away}
@@ -35,23 +35,8 @@ pub record IsWritten (t : Tree) : Type 0 where
   pub some : bytes_of t ≢ []
 
 pub is_written : (t : Tree) → has_bytes t ≡ true → IsWritten t
-is_written (leaf empty) has = absurd (false≢true has)
-is_written (leaf goal) has = absurd (false≢true has)
-is_written (leaf (char c)) has = absurd (false≢true has)
-is_written (leaf (byte_sequence [])) has = absurd (false≢true has)
 is_written (leaf (byte_sequence (b ∷ bytes))) has = record { is = refl; some = λ none. cc }
-is_written (leaf (byte_set bytes)) has = absurd (false≢true has)
-is_written (leaf (char_set characters)) has = absurd (false≢true has)
-is_written (leaf match_any) has = absurd (false≢true has)
-is_written (leaf match_any_except_line_terminator) has = absurd (false≢true has)
-is_written (leaf (anchor kind multiline)) has = absurd (false≢true has)
-is_written (leaf (word_boundary invert unicode_icase)) has = absurd (false≢true has)
-is_written (leaf (bracket invert intervals)) has = absurd (false≢true has)
-is_written (leaf (back_ref group icase)) has = absurd (false≢true has)
-is_written (leaf (string_set strings icase)) has = absurd (false≢true has)
-is_written (cat parts) has = absurd (false≢true has)
-is_written (alt left right) has = absurd (false≢true has)
-is_written (wrapped w body) has = absurd (false≢true has)
+is_written t has = absurd (false≢true has)
 
 -- What the bytes match.
 

@@ -4,11 +4,10 @@ use Rattle.std.specs.Prelude.{encode_utf8_all, IfOk, Result, Ok, Err}
 use Rattle.std.specs.declared.alloc.AllocError.{AllocError}
 use Rattle.regress_base.specs.declared.types.Quantifier.{Quantifier}
 use Rattle.regress_tree.specs.Reading.{Direction}
-use Rattle.regress_tree.specs.Repetition.{repeat}
 use Rattle.regress_tree.specs.Shapes.{is_promoted_away}
 use Rattle.regress_tree.specs.Steps.{Step}
 use Rattle.regress_tree.specs.Tree.{loop, loop_one, Tree, wrapped}
-use Rattle.regress_tree.specs.WellFormed.{one_character, inside, captures, MayStand}
+use Rattle.regress_tree.specs.WellFormed.{one_character, inside, MayStand}
 use Rattle.regress_tree.proofs.laws.Alike.{Alike-from_same}
 use Rattle.regress_tree.proofs.laws.Groups.{HasGroups-none}
 use Rattle.regress_tree.proofs.laws.Measures.{IsLess-lighter}
@@ -16,7 +15,7 @@ use Rattle.regress_tree.proofs.laws.Positions.{MayStand-one_character, captures-
 use Rattle.regress_tree.proofs.laws.Turns.{repeat-groupless}
 use Rattle.regress_rewrite.specs.declared.rewrite.PassAction.{PassAction}
 use Rattle.regress_rewrite.specs.declared.rewrite.PassAction.TheVariants.{Keep, Modified, Remove, Replace}
-use Rattle.regress_rewrite.specs.Law.{IsPart, Keeps, IsLawful}
+use Rattle.regress_rewrite.specs.Law.{IsPart, Keeps, ObeysLaw}
 use Rattle.regress_rewrite.specs.Promote.{Promotes}
 use Rattle.regress_rewrite.proofs.LawfulLemmas.{keep_lawful, replace_lawful}
 
@@ -37,7 +36,7 @@ module _ (d : Direction) (q : Quantifier) (start end : ℕ) (body : Tree) where
       }
 
   promotes_lawful : (action : PassAction) (left : Tree) → IsPart (wrapped (loop q start end) body) → Promotes action q body left →
-      IsLawful is_promoted_away true d (wrapped (loop q start end) body) (wrapped (loop q start end) left) action
+      ObeysLaw is_promoted_away true d (wrapped (loop q start end) body) (wrapped (loop q start end) left) action
   promotes_lawful Keep left part promotes =
       rw promotes.1 (keep_lawful is_promoted_away true d (wrapped (loop q start end) body) promotes.0)
   promotes_lawful Modified left part none = absurd none
@@ -49,6 +48,6 @@ module _ (d : Direction) (q : Quantifier) (start end : ℕ) (body : Tree) where
 
   pub promote_lawful : (r : Result PassAction AllocError) (left : Tree) → IsPart (wrapped (loop q start end) body) →
       IfOk r (λ action. Promotes action q body left) →
-      IfOk r (IsLawful is_promoted_away true d (wrapped (loop q start end) body) (wrapped (loop q start end) left))
+      IfOk r (ObeysLaw is_promoted_away true d (wrapped (loop q start end) body) (wrapped (loop q start end) left))
   promote_lawful (Ok action) left part promotes = promotes_lawful action left part promotes
   promote_lawful (Err e) left part promotes = tt

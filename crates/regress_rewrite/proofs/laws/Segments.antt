@@ -10,7 +10,7 @@ use Rattle.regress_tree.specs.Reading.{Direction}
 use Rattle.regress_tree.specs.Setting.{Setting}
 use Rattle.regress_tree.specs.Shapes.{is_simplified_away}
 use Rattle.regress_tree.specs.Steps.{State, stay, ◌then_◌}
-use Rattle.regress_tree.specs.Tree.{empty, goal, char, byte_sequence, byte_set, char_set, match_any, match_any_except_line_terminator, anchor, word_boundary, bracket, back_ref, string_set, Tree, Trees, leaf, cat, alt, wrapped, no_trees, more_trees, row_append}
+use Rattle.regress_tree.specs.Tree.{empty, Tree, Trees, leaf, cat, no_trees, more_trees, row_append}
 use Rattle.regress_tree.specs.Units.{sizes, unrollables}
 use Rattle.regress_tree.specs.WellFormed.{Position, inside, last_of, NotAsOneCharacter, captures, captures_in_row, RowMayStand}
 use Rattle.regress_tree.proofs.laws.Alike.{Alike-refl, Alike-trans, Alike-then, Alike-from_same}
@@ -83,21 +83,7 @@ module _ (d : Direction) (u : Tree) (us vs : Trees) (keeps : Keeps d (cat (more_
 
 pub is_empty-leaf : (t : Tree) → is_empty t ≡ true → t ≡ leaf empty
 is_empty-leaf (leaf empty) is = refl
-is_empty-leaf (leaf goal) is = absurd (false≢true is)
-is_empty-leaf (leaf (char c)) is = absurd (false≢true is)
-is_empty-leaf (leaf (byte_sequence bytes)) is = absurd (false≢true is)
-is_empty-leaf (leaf (byte_set bytes)) is = absurd (false≢true is)
-is_empty-leaf (leaf (char_set characters)) is = absurd (false≢true is)
-is_empty-leaf (leaf match_any) is = absurd (false≢true is)
-is_empty-leaf (leaf match_any_except_line_terminator) is = absurd (false≢true is)
-is_empty-leaf (leaf (anchor kind multiline)) is = absurd (false≢true is)
-is_empty-leaf (leaf (word_boundary invert unicode_icase)) is = absurd (false≢true is)
-is_empty-leaf (leaf (bracket invert intervals)) is = absurd (false≢true is)
-is_empty-leaf (leaf (back_ref group icase)) is = absurd (false≢true is)
-is_empty-leaf (leaf (string_set strings icase)) is = absurd (false≢true is)
-is_empty-leaf (cat parts) is = absurd (false≢true is)
-is_empty-leaf (alt left right) is = absurd (false≢true is)
-is_empty-leaf (wrapped w body) is = absurd (false≢true is)
+is_empty-leaf t is = absurd (false≢true is)
 
 -- a part that matches the empty text alone and captures nothing may be left out
 Keeps-none : (d : Direction) (t : Tree) →

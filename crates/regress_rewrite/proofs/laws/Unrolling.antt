@@ -27,7 +27,7 @@ use Rattle.regress_tree.proofs.laws.Outcomes.{flat_map-stay}
 use Rattle.regress_tree.proofs.laws.Positions.{last_of-free}
 use Rattle.regress_tree.proofs.laws.Rows.{row_append-none, steps-append, captures-append, trees-append, RowMayStand-append}
 use Rattle.regress_rewrite.specs.declared.rewrite.PassAction.TheVariants.{Modified}
-use Rattle.regress_rewrite.specs.Law.{IsPart, Keeps, IsLawful}
+use Rattle.regress_rewrite.specs.Law.{IsPart, Keeps, ObeysLaw}
 use Rattle.regress_rewrite.specs.Unroll.{further_turns, further_loop, unrolled, unrolled_loop}
 use Rattle.regress_rewrite.proofs.LawfulLemmas.{modified_lawful}
 
@@ -195,7 +195,7 @@ module _ (q : Quantifier) (start end : ℕ) (body : Tree) where
   -- The law.
 
   pub unroll_lawful : (d : Direction) → IsPart (wrapped (loop q start end) body) → may_unroll q start end body ≡ true →
-      IsLawful is_unrolled_away true d (wrapped (loop q start end) body) (unrolled q start end body) Modified
+      ObeysLaw is_unrolled_away true d (wrapped (loop q start end) body) (unrolled q start end body) Modified
   unroll_lawful d part may =
       let facts = MayUnroll-from q start end body may in
       modified_lawful is_unrolled_away true d (wrapped (loop q start end) body) may (unrolled q start end body)
@@ -215,7 +215,7 @@ module _ (q : Quantifier) (start end : ℕ) (body : Tree) where
 -- The same of any node.
 
 pub loop_lawful : (d : Direction) (t new : Tree) → IsPart t → is_unrolled_away t ≡ true → new ≡ unrolled_loop t →
-    IsLawful is_unrolled_away true d t new Modified
+    ObeysLaw is_unrolled_away true d t new Modified
 loop_lawful d (leaf l) new part is made = absurd (false≢true is)
 loop_lawful d (cat parts) new part is made = absurd (false≢true is)
 loop_lawful d (alt left right) new part is made = absurd (false≢true is)

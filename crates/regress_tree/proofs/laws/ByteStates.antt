@@ -3,7 +3,7 @@ use Rattle.std.proofs.Common.{◌≡◌, ℕ, ◌≤◌, Bool, true, false, cond
 use Rattle.std.proofs.lemmas.List.Elements.{All-cons, All-head, All-tail, All-filter}
 use Rattle.std.proofs.lemmas.Bool.{cases_eq, eq-eqb, ne_eqb}
 use Rattle.regress_tree.specs.Reading.{byte_place}
-use Rattle.regress_tree.specs.Steps.{State, Span, IsStateOf, IsCaptureOf, byte_state, byte_capture, same_capture, same_captures, same_state, distinct}
+use Rattle.regress_tree.specs.Steps.{State, CaptureSpan, IsStateOf, IsCaptureOf, byte_state, byte_capture, same_capture, same_captures, same_state, distinct}
 use Rattle.regress_tree.proofs.laws.Characters.{byte_place_same}
 
 module _ (text : List ℕ) where
@@ -15,7 +15,7 @@ module _ (text : List ℕ) where
       (λ (ne : j ≡ k → ⊥). ne_eqb _ _ (λ e. ne (byte_place_same text j k hj hk e)) ∙ sym (ne_eqb j k ne))
       (cases_eq j k)
 
-  same_capture-byte_capture : (a b : Option Span) → IsCaptureOf text a → IsCaptureOf text b →
+  same_capture-byte_capture : (a b : Option CaptureSpan) → IsCaptureOf text a → IsCaptureOf text b →
       same_capture (byte_capture text a) (byte_capture text b) ≡ same_capture a b
   same_capture-byte_capture None None ha hb = refl
   same_capture-byte_capture None (Some b) ha hb = refl
@@ -25,7 +25,7 @@ module _ (text : List ℕ) where
       (eqb-byte_place a.0 b.0 (omega (arith, ha.ordered, ha.within)) (omega (arith, hb.ordered, hb.within)))
       (eqb-byte_place a.1 b.1 ha.within hb.within)
 
-  same_captures-byte_capture : (as' bs : List (Option Span)) → All (IsCaptureOf text) as' → All (IsCaptureOf text) bs →
+  same_captures-byte_capture : (as' bs : List (Option CaptureSpan)) → All (IsCaptureOf text) as' → All (IsCaptureOf text) bs →
       same_captures (map (byte_capture text) as') (map (byte_capture text) bs) ≡ same_captures as' bs
   same_captures-byte_capture [] [] ha hb = refl
   same_captures-byte_capture [] (b ∷ bs) ha hb = refl

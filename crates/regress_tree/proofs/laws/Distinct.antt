@@ -4,11 +4,11 @@ use Rattle.std.specs.List.{filter, flat_map}
 use Rattle.std.proofs.lemmas.Bool.{and_parts, cases_Bool, or_right, false≢true}
 use Rattle.std.proofs.lemmas.List.Concat.{flat_map_single}
 use Rattle.std.proofs.lemmas.List.Elements.{filter-append, filter_agree}
-use Rattle.regress_tree.specs.Steps.{Span, State, same_capture, same_captures, same_state, distinct}
+use Rattle.regress_tree.specs.Steps.{CaptureSpan, State, same_capture, same_captures, same_state, distinct}
 
 -- `same_state` decides equality.
 
-same_capture-true : (a b : Option Span) → same_capture a b ≡ true → a ≡ b
+same_capture-true : (a b : Option CaptureSpan) → same_capture a b ≡ true → a ≡ b
 same_capture-true None None e = refl
 same_capture-true None (Some b) e = absurd (false≢true e)
 same_capture-true (Some a) None e = absurd (false≢true e)
@@ -18,11 +18,11 @@ same_capture-true (Some a) (Some b) e =
     let to : a.1 ≡ b.1 = eqb-true _ _ parts.1 in
     ap₂ (λ (x y : ℕ). Some (x, y)) from to
 
-same_capture-refl : (a : Option Span) → same_capture a a ≡ true
+same_capture-refl : (a : Option CaptureSpan) → same_capture a a ≡ true
 same_capture-refl None = refl
 same_capture-refl (Some a) = rw (eq-eqb a.0 a.0 refl, eq-eqb a.1 a.1 refl)
 
-same_captures-true : (xs ys : List (Option Span)) → same_captures xs ys ≡ true → xs ≡ ys
+same_captures-true : (xs ys : List (Option CaptureSpan)) → same_captures xs ys ≡ true → xs ≡ ys
 same_captures-true [] [] e = refl
 same_captures-true [] (y ∷ ys) e = absurd (false≢true e)
 same_captures-true (x ∷ xs) [] e = absurd (false≢true e)
@@ -30,7 +30,7 @@ same_captures-true (x ∷ xs) (y ∷ ys) e =
     let parts = and_parts (same_capture x y) (same_captures xs ys) e in
     ap₂ ◌∷◌ (same_capture-true x y parts.0) (same_captures-true xs ys parts.1)
 
-same_captures-refl : (xs : List (Option Span)) → same_captures xs xs ≡ true
+same_captures-refl : (xs : List (Option CaptureSpan)) → same_captures xs xs ≡ true
 same_captures-refl [] = refl
 same_captures-refl (x ∷ xs) = rw (same_capture-refl x, same_captures-refl xs)
 
@@ -40,7 +40,7 @@ same_state-true s t e =
     let parts = and_parts (s.place == t.place) (same_captures s.captures t.captures) e in
     let place : s.place ≡ t.place = eqb-true _ _ parts.0 in
     let captures : s.captures ≡ t.captures = same_captures-true _ _ parts.1 in
-    ap₂ (λ (p : ℕ) (cs : List (Option Span)). record { place = p; captures = cs }) place captures
+    ap₂ (λ (p : ℕ) (cs : List (Option CaptureSpan)). record { place = p; captures = cs }) place captures
 
 pub same_state-refl : (s : State) → same_state s s ≡ true
 unfolding same_state

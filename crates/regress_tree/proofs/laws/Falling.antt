@@ -1,7 +1,7 @@
 -- What falls with every change by a rewrite, as a number: passes over a tree end.
-use Rattle.std.proofs.Common.{◌≡◌, ℕ, ◌+◌, ◌*◌, ◌<◌, ◌≤◌, ◌⊎◌, [], ◌∷◌, inl, inr, ap, arith}
+use Rattle.std.proofs.Common.{◌≡◌, ℕ, ◌+◌, ◌*◌, ◌<◌, ◌≤◌, ◌⊎◌, [], inl, inr, ap, arith}
 use Rattle.std.proofs.Math.Nat.{mul-le-mul_left}
-use Rattle.regress_tree.specs.Tree.{Leaf, empty, goal, char, byte_sequence, byte_set, char_set, match_any, match_any_except_line_terminator, anchor, word_boundary, bracket, back_ref, string_set, Wrapper, capture_group, loop, loop_one, lookaround, Tree}
+use Rattle.regress_tree.specs.Tree.{Leaf, byte_sequence, bracket, Wrapper, capture_group, loop, loop_one, lookaround, Tree}
 use Rattle.regress_base.proofs.laws.Sets.{canonical_length}
 use Rattle.regress_tree.specs.WellFormed.{Position, LeafMayStand, MayStand}
 use Rattle.regress_tree.specs.Units.{units_of_leaf, sizes, units, loops, account, weight_of_leaf, weight_of_wrapper, weights, weight, IsLess}
@@ -12,20 +12,9 @@ abbrev heaviest : ℕ
 heaviest = 557061
 
 leaf_weight-le : (n : ℕ) (l : Leaf) (p : Position) → LeafMayStand n l p → weight_of_leaf l ≤ heaviest * units_of_leaf l
-leaf_weight-le n empty p m = omega arith
-leaf_weight-le n goal p m = omega arith
-leaf_weight-le n (char c) p m = omega arith
-leaf_weight-le n (byte_sequence []) p m = omega arith
-leaf_weight-le n (byte_sequence (b ∷ bytes)) p m = omega arith
-leaf_weight-le n (byte_set bytes) p m = omega arith
-leaf_weight-le n (char_set characters) p m = omega arith
-leaf_weight-le n match_any p m = omega arith
-leaf_weight-le n match_any_except_line_terminator p m = omega arith
-leaf_weight-le n (anchor kind multiline) p m = omega arith
-leaf_weight-le n (word_boundary invert unicode_icase) p m = omega arith
 leaf_weight-le n (bracket invert intervals) p m = omega (arith, canonical_length intervals m.canonical)
-leaf_weight-le n (back_ref group icase) p m = omega arith
-leaf_weight-le n (string_set strings icase) p m = omega arith
+leaf_weight-le n (byte_sequence []) p m = omega arith
+leaf_weight-le n l p m = omega arith
 
 wrapper_weight-le : (w : Wrapper) → weight_of_wrapper w ≤ heaviest * 1
 wrapper_weight-le (capture_group id name) = omega arith

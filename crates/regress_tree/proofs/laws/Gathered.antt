@@ -8,7 +8,7 @@ use Rattle.regress_tree.specs.Gathered.{gathered, gathered_in_row, own_group}
 
 -- Each call adds what its node has, leaves the node and skips nothing. `Added a b xs` says that the closure has gathered these
 -- between the two states.
-pub record Adds {State X : Type 0} (Call : State → Tree → ℕ → Bool → State → Tree → Bool → Type 0) (own : Tree → List X)
+pub record AddsOwn {State X : Type 0} (Call : State → Tree → ℕ → Bool → State → Tree → Bool → Type 0) (own : Tree → List X)
     (Added : State → State → List X → Type 0) : Type 0 where
   pub none : (a : State) → Added a a []
   pub joined : (a b c : State) (xs ys : List X) → Added a b xs → Added b c ys → Added a c (xs ++ ys)
@@ -17,7 +17,7 @@ pub record Adds {State X : Type 0} (Call : State → Tree → ℕ → Bool → S
   pub goes_on : (a b : State) (t u : Tree) (d : ℕ) (behind skip : Bool) → Call a t d behind b u skip → skip ≡ false
 
 module _ {State X : Type 0} (Call : State → Tree → ℕ → Bool → State → Tree → Bool → Type 0) (own : Tree → List X)
-    (Added : State → State → List X → Type 0) (r : Adds Call own Added) where
+    (Added : State → State → List X → Type 0) (r : AddsOwn Call own Added) where
   mutual
     -- a walk in preorder adds what the nodes of the tree have
     pub visited_adds : (t u : Tree) (a b : State) (d : ℕ) (behind : Bool) → Visited Call false d behind t u a b → Added a b (gathered own t)

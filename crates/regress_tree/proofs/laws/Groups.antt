@@ -6,7 +6,7 @@ use mathlib.Core.Path.{fun_ext}
 use Rattle.regress_tree.specs.Copies.{HasNoGroup, NoneHasGroup}
 use Rattle.regress_tree.specs.Repetition.{unset_from, unset, turn}
 use Rattle.regress_tree.specs.Shapes.{is_group, on_wrapper, has_group, some_node_in_row}
-use Rattle.regress_tree.specs.Steps.{Span, State, Step}
+use Rattle.regress_tree.specs.Steps.{CaptureSpan, State, Step}
 use Rattle.regress_tree.specs.Tree.{Wrapper, capture_group, loop, loop_one, lookaround, Tree, Trees, leaf, cat, alt, wrapped, no_trees, more_trees}
 use Rattle.regress_tree.specs.WellFormed.{Capture, captures, captures_in_row, captures_of_wrapper, Position, inside, last_of, position_in, MayStand, RowMayStand, HasGroups}
 
@@ -96,12 +96,12 @@ mutual
 -- ---- forgetting nothing
 
 module _ (start end : ℕ) (ends : end ≤ start) where
-  unset_from-none : (k : ℕ) (cs : List (Option Span)) → unset_from k start end cs ≡ cs
+  unset_from-none : (k : ℕ) (cs : List (Option CaptureSpan)) → unset_from k start end cs ≡ cs
   unset_from-none k [] = refl
   unset_from-none k (c ∷ cs) = ap₂ ◌∷◌ (cond-false _ _ _ (none_within start end k ends)) (unset_from-none (k + 1) cs)
 
   pub unset-none : (s : State) → unset start end s ≡ s
-  unset-none s = ap (λ (cs : List (Option Span)). record s { captures = cs }) (unset_from-none 0 s.captures)
+  unset-none s = ap (λ (cs : List (Option CaptureSpan)). record s { captures = cs }) (unset_from-none 0 s.captures)
 
   pub turn-none : (f : Step) → turn start end f ≡ f
   turn-none f = fun_ext (λ s. ap f (unset-none s))

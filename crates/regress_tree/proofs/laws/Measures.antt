@@ -1,9 +1,9 @@
 -- Laws of sums over a tree and of tests on its nodes, for whatever a node counts and whatever is tested.
-use Rattle.std.proofs.Common.{◌≡◌, ℕ, zero, suc, ◌+◌, ◌*◌, ◌≤◌, ◌<◌, inl, inr, Bool, false, ◌||◌, [], ◌∷◌, refl, sym, ap, ap₂, ◌∙◌, max, arith}
+use Rattle.std.proofs.Common.{◌≡◌, ℕ, zero, suc, ◌+◌, ◌*◌, ◌≤◌, ◌<◌, inl, inr, Bool, false, ◌||◌, [], refl, sym, ap, ap₂, ◌∙◌, max, arith}
 use Rattle.std.proofs.Math.Bool.{or_assoc, or-false}
 use Rattle.std.proofs.Math.Nat.{mul-add}
 use Rattle.std.proofs.lemmas.Bool.{false≢true, or_parts, cases_lt}
-use Rattle.regress_tree.specs.Tree.{Leaf, empty, goal, char, byte_sequence, byte_set, char_set, match_any, match_any_except_line_terminator, anchor, word_boundary, bracket, back_ref, string_set, Wrapper, capture_group, loop, loop_one, lookaround, Tree, Trees, leaf, cat, alt, wrapped, no_trees, more_trees, row_append, copies}
+use Rattle.regress_tree.specs.Tree.{Leaf, char, byte_sequence, Wrapper, capture_group, loop, loop_one, lookaround, Tree, Trees, leaf, cat, alt, wrapped, no_trees, more_trees, row_append, copies}
 use Rattle.regress_tree.specs.WellFormed.{Position, inside, last_of, position_in, LeafMayStand, MayStand, RowMayStand}
 use Rattle.regress_tree.specs.Measures.{Measure, total, total_in_row, levels_of_deepest}
 use Rattle.regress_tree.specs.Units.{charge_of_leaf, charges, charge, units_of_leaf, sizes, units, unrollables, weight_of_leaf, weight_of_wrapper, weights, weight, loops, IsLess}
@@ -61,38 +61,15 @@ levels-append (more_trees t ts) us = omega (arith, levels-append ts us)
 -- ---- units, charges and weights
 
 units_of_leaf-positive : (l : Leaf) → 1 ≤ units_of_leaf l
-units_of_leaf-positive empty = omega arith
-units_of_leaf-positive goal = omega arith
 units_of_leaf-positive (char c) = omega arith
-units_of_leaf-positive (byte_sequence bytes) = omega arith
-units_of_leaf-positive (byte_set bytes) = omega arith
-units_of_leaf-positive (char_set characters) = omega arith
-units_of_leaf-positive match_any = omega arith
-units_of_leaf-positive match_any_except_line_terminator = omega arith
-units_of_leaf-positive (anchor kind multiline) = omega arith
-units_of_leaf-positive (word_boundary invert unicode_icase) = omega arith
-units_of_leaf-positive (bracket invert intervals) = omega arith
-units_of_leaf-positive (back_ref group icase) = omega arith
-units_of_leaf-positive (string_set strings icase) = omega arith
+units_of_leaf-positive l = omega arith
 
 pub units-positive : (t : Tree) → 1 ≤ units t
 units-positive = total-positive sizes units_of_leaf-positive (omega arith) (omega arith) (λ w. omega arith)
 
 weight_of_leaf-positive : (l : Leaf) → 1 ≤ weight_of_leaf l
-weight_of_leaf-positive empty = omega arith
-weight_of_leaf-positive goal = omega arith
-weight_of_leaf-positive (char c) = omega arith
 weight_of_leaf-positive (byte_sequence []) = omega arith
-weight_of_leaf-positive (byte_sequence (b ∷ bytes)) = omega arith
-weight_of_leaf-positive (byte_set bytes) = omega arith
-weight_of_leaf-positive (char_set characters) = omega arith
-weight_of_leaf-positive match_any = omega arith
-weight_of_leaf-positive match_any_except_line_terminator = omega arith
-weight_of_leaf-positive (anchor kind multiline) = omega arith
-weight_of_leaf-positive (word_boundary invert unicode_icase) = omega arith
-weight_of_leaf-positive (bracket invert intervals) = omega arith
-weight_of_leaf-positive (back_ref group icase) = omega arith
-weight_of_leaf-positive (string_set strings icase) = omega arith
+weight_of_leaf-positive l = omega arith
 
 pub weight_of_wrapper-positive : (w : Wrapper) → 1 ≤ weight_of_wrapper w
 weight_of_wrapper-positive (capture_group id name) = omega arith
@@ -104,19 +81,8 @@ pub weight-positive : (t : Tree) → 1 ≤ weight t
 weight-positive = total-positive weights weight_of_leaf-positive (omega arith) (omega arith) weight_of_wrapper-positive
 
 units_of_leaf-le : (n : ℕ) (l : Leaf) (p : Position) → LeafMayStand n l p → units_of_leaf l ≤ 5 * charge_of_leaf l
-units_of_leaf-le n empty p stands = omega arith
-units_of_leaf-le n goal p stands = omega arith
 units_of_leaf-le n (char c) p stands = omega arith
-units_of_leaf-le n (byte_sequence bytes) p stands = omega arith
-units_of_leaf-le n (byte_set bytes) p stands = omega arith
-units_of_leaf-le n (char_set characters) p stands = omega arith
-units_of_leaf-le n match_any p stands = omega arith
-units_of_leaf-le n match_any_except_line_terminator p stands = omega arith
-units_of_leaf-le n (anchor kind multiline) p stands = omega arith
-units_of_leaf-le n (word_boundary invert unicode_icase) p stands = omega arith
-units_of_leaf-le n (bracket invert intervals) p stands = omega arith
-units_of_leaf-le n (back_ref group icase) p stands = omega arith
-units_of_leaf-le n (string_set strings icase) p stands = omega arith
+units_of_leaf-le n l p stands = omega arith
 
 -- what is charged as one counts five units at most
 pub units-le : (n : ℕ) (t : Tree) (p : Position) → MayStand n t p → units t ≤ 5 * charge t

@@ -1,11 +1,15 @@
 -- Places where a tree stands as a part of another, and what of the whole follows from what is put there.
 use Rattle.std.proofs.Common.{◌≡◌, ℕ, ◌+◌, ◌<◌, ◌≤◌, ◌⊎◌, inl, inr, Bool, false, ◌||◌, ◌==◌, List, ◌++◌, length, count_by, refl, sym, ap, ap₂, ◌∙◌, arith}
 use Rattle.std.proofs.lemmas.Bool.{or_parts}
-use Rattle.regress_tree.specs.Reading.{Direction}
+use Rattle.std.specs.Prelude.{if◌then◌else◌}
+use Rattle.regress_tree.specs.Reading.{Direction, forwards, backwards}
 use Rattle.regress_tree.specs.Steps.{Step, Alike}
 use Rattle.regress_tree.specs.Tree.{Leaf, Wrapper, capture_group, loop, loop_one, lookaround, Tree, Trees, cat, alt, wrapped, no_trees, more_trees, row_append}
 use Rattle.regress_tree.specs.Matching.{direction_in, wrapper_steps, steps, steps_in_row}
 use Rattle.regress_tree.specs.Setting.{Setting}
+use Rattle.regress_tree.specs.declared.ir.walker.Walk.{Walk}
+use Rattle.regress_tree.specs.Visits.{turned_by}
+use Rattle.regress_tree.specs.Walk.{direction_of}
 use Rattle.regress_tree.specs.WellFormed.{captures, captures_in_row, captures_of_wrapper, Position, inside, last_of, position_in, HasGroups, WrapperMayStand, MayStand, RowMayStand}
 use Rattle.regress_tree.specs.Measures.{Measure, total, total_in_row}
 use Rattle.regress_tree.specs.Units.{sizes, loops, unrollables, account, weight, weights, IsLess}
@@ -35,6 +39,17 @@ direction_at (left_of right) d = d
 direction_at (right_of left) d = d
 direction_at (inside_of w) d = direction_in w d
 
+-- the walk of what a wrapper holds runs in the direction in which that is matched
+pub direction_inside : (w : Wrapper) (walk inner : Walk) → inner.in_lookbehind ≡ turned_by w walk.in_lookbehind →
+    direction_of inner ≡ direction_in w (direction_of walk)
+direction_inside w walk inner is = rw is (by w)
+  where
+    by : (v : Wrapper) → (if turned_by v walk.in_lookbehind then backwards else forwards) ≡ direction_in v (direction_of walk)
+    by (capture_group id name) = refl
+    by (loop quantifier start end) = refl
+    by (loop_one quantifier) = refl
+    by (lookaround negate looks_back start end) = refl
+
 -- What it matches.
 
 module _ (setting : Setting) (bytes : List ℕ) where
@@ -43,7 +58,7 @@ module _ (setting : Setting) (bytes : List ℕ) where
   Alike-wrapper (capture_group id name) f g alike = Alike-capture id f g alike
   Alike-wrapper (loop quantifier start end) f g alike = Alike-repeat (length bytes + 1) quantifier start end f g alike
   Alike-wrapper (loop_one quantifier) f g alike = Alike-repeat (length bytes + 1) quantifier 0 0 f g alike
-  Alike-wrapper (lookaround negate backwards start end) f g alike = Alike-look negate f g alike
+  Alike-wrapper (lookaround negate looks_back start end) f g alike = Alike-look negate f g alike
 
   Alike-among : (d : Direction) (before behind : Trees) (t u : Tree) → Alike (steps setting bytes d t) (steps setting bytes d u) →
       Alike (steps_in_row setting bytes d (row_append before (more_trees t behind)))
@@ -83,7 +98,7 @@ WrapperMayStand-around n (capture_group id name) t u same m = m
 WrapperMayStand-around n (loop quantifier start end) t u same m =
     (m.0, HasGroups-around start end t u same m.1)
 WrapperMayStand-around n (loop_one quantifier) t u same m = m
-WrapperMayStand-around n (lookaround negate backwards start end) t u same m = HasGroups-around start end t u same m
+WrapperMayStand-around n (lookaround negate looks_back start end) t u same m = HasGroups-around start end t u same m
 
 module _ (t u : Tree) (stands : (n : ℕ) (p : Position) → MayStand n t p → MayStand n u p) where
   RowMayStand-among : (n : ℕ) (p : Position) (before behind : Trees) → RowMayStand n (row_append before (more_trees t behind)) p →

@@ -2,7 +2,7 @@
 use Rattle.std.proofs.Common.{◌≡◌, ℕ, true, [], ◌∷◌, refl}
 use Rattle.std.proofs.lemmas.Bool.{false≢true, not-true}
 use Rattle.regress_tree.specs.NodeTests.{leaf_matches_exactly_one_char, matches_exactly_one_char}
-use Rattle.regress_tree.specs.Tree.{Leaf, empty, goal, char, byte_sequence, byte_set, char_set, match_any, match_any_except_line_terminator, anchor, word_boundary, bracket, back_ref, string_set, Tree, leaf, cat, alt, wrapped}
+use Rattle.regress_tree.specs.Tree.{Leaf, char, char_set, match_any, match_any_except_line_terminator, bracket, Tree, leaf, cat, alt, wrapped}
 use Rattle.regress_tree.specs.WellFormed.{captures, Position, one_character, inside, last, root, last_of, NotAsOneCharacter, AsOneCharacter, LeafMayStand, MayStand}
 use Rattle.regress_tree.proofs.laws.Accepting.{accepts_some}
 
@@ -38,23 +38,15 @@ last_of-free root = tt
 
 leaf-one_character : (n k : ℕ) (l : Leaf) (p : Position) → leaf_matches_exactly_one_char l ≡ true → LeafMayStand n l p →
     LeafMayStand k l one_character
-leaf-one_character n k empty p one m = absurd (false≢true one)
-leaf-one_character n k goal p one m = absurd (false≢true one)
 leaf-one_character n k (char c) p one m = m
-leaf-one_character n k (byte_sequence bytes) p one m = absurd (false≢true one)
-leaf-one_character n k (byte_set bytes) p one m = absurd (false≢true one)
-leaf-one_character n k (char_set []) p one m = absurd (false≢true one)
 leaf-one_character n k (char_set (c ∷ cs)) p one m = record { bounded = m.bounded; small = m.small; some = λ none. cc }
 leaf-one_character n k match_any p one m = m
 leaf-one_character n k match_any_except_line_terminator p one m = m
-leaf-one_character n k (anchor kind multiline) p one m = absurd (false≢true one)
-leaf-one_character n k (word_boundary invert unicode_icase) p one m = absurd (false≢true one)
 leaf-one_character n k (bracket invert intervals) p one m = record {
   canonical = m.canonical;
   some = accepts_some invert intervals m.canonical (not-true _ one);
 }
-leaf-one_character n k (back_ref group icase) p one m = absurd (false≢true one)
-leaf-one_character n k (string_set strings icase) p one m = absurd (false≢true one)
+leaf-one_character n k l p one m = absurd (false≢true one)
 
 pub MayStand-one_character : (n k : ℕ) (t : Tree) (p : Position) → matches_exactly_one_char t ≡ true → MayStand n t p →
     MayStand k t one_character

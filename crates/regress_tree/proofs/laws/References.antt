@@ -4,7 +4,7 @@ use Rattle.std.proofs.Math.ListN.{get_or-map}
 use Rattle.std.proofs.lemmas.List.Elements.{All-head, All-tail}
 use Rattle.std.proofs.lemmas.Bool.{cases_lt, lt-ltb, le-ltb, cond-true, cond-false}
 use Rattle.regress_tree.specs.Reading.{Direction, Reading, IsText, of_characters, of_bytes, byte_place}
-use Rattle.regress_tree.specs.Steps.{State, Span, IsStateOf, IsCaptureOf, byte_state, byte_capture}
+use Rattle.regress_tree.specs.Steps.{State, CaptureSpan, IsStateOf, IsCaptureOf, byte_state, byte_capture}
 use Rattle.regress_tree.specs.References.{read_with, characters_from, all_of, in_order, once_more, back_reference}
 use Rattle.regress_tree.proofs.laws.Characters.{byte_place-add-le, byte_place-le, byte_place-lt}
 use Rattle.regress_tree.proofs.laws.Readings.{byte_read, read_after-byte_place, after_within}
@@ -60,7 +60,7 @@ module _ (text : List ℕ) (is_text : IsText text) where
         Simulates-then text d _ _ _ _ (Simulates-one_character text is_text d (same c)) (Simulates-all_of cs)
 
     -- what lies in a span, by its places and by its byte places
-    Simulates-once_more : (span : Option Span) → IsCaptureOf text span →
+    Simulates-once_more : (span : Option CaptureSpan) → IsCaptureOf text span →
         Simulates text d (once_more d (of_characters text) same span)
         (once_more d (of_bytes (encode_utf8_all text)) same (byte_capture text span))
     Simulates-once_more None h = Simulates-stay text d
@@ -75,7 +75,7 @@ module _ (text : List ℕ) (is_text : IsText text) where
         (sym characters) sim
 
 -- what a group has captured, if there is such a group, lies in the text
-capture-within : (text : List ℕ) (id : ℕ) (captures : List (Option Span)) → All (IsCaptureOf text) captures → IsCaptureOf text (get_or captures id None)
+capture-within : (text : List ℕ) (id : ℕ) (captures : List (Option CaptureSpan)) → All (IsCaptureOf text) captures → IsCaptureOf text (get_or captures id None)
 capture-within text id [] all = tt
 capture-within text zero (c ∷ captures) all = All-head (IsCaptureOf text) c captures all
 capture-within text (suc id) (c ∷ captures) all = capture-within text id captures (All-tail (IsCaptureOf text) c captures all)

@@ -6,7 +6,7 @@ use Rattle.std.proofs.lemmas.List.Elements.{All-cons, All-head, All-tail, All-fi
 use Rattle.std.proofs.lemmas.Str.{length-le-encodes}
 use Rattle.regress_base.specs.declared.types.Quantifier.{Quantifier}
 use Rattle.regress_tree.specs.Reading.{Direction, forwards, backwards, byte_place}
-use Rattle.regress_tree.specs.Steps.{Span, State, Step, IsStateOf, IsCaptureOf, byte_state, byte_capture, stay}
+use Rattle.regress_tree.specs.Steps.{CaptureSpan, State, Step, IsStateOf, IsCaptureOf, byte_state, byte_capture, stay}
 use Rattle.regress_tree.specs.Repetition.{unset_from, unset, turn, turns, moving, up_to, more_turns, repeat}
 use Rattle.regress_tree.proofs.laws.ByteStates.{eqb-byte_place, filter-byte_state}
 use Rattle.regress_tree.proofs.laws.Simulation.{IsReached, Simulates, Simulates-within, Simulates-stay, Simulates-then, Simulates-or}
@@ -14,21 +14,21 @@ use Rattle.regress_tree.proofs.laws.Simulation.{IsReached, Simulates, Simulates-
 -- ---- one turn
 
 module _ (text : List ℕ) where
-  cond-byte_capture : (b : Bool) (c : Option Span) → cond b None (byte_capture text c) ≡ byte_capture text (cond b None c)
+  cond-byte_capture : (b : Bool) (c : Option CaptureSpan) → cond b None (byte_capture text c) ≡ byte_capture text (cond b None c)
   cond-byte_capture true c = refl
   cond-byte_capture false c = refl
 
-  cond-within : (b : Bool) (c : Option Span) → IsCaptureOf text c → IsCaptureOf text (cond b None c)
+  cond-within : (b : Bool) (c : Option CaptureSpan) → IsCaptureOf text c → IsCaptureOf text (cond b None c)
   cond-within true c h = tt
   cond-within false c h = h
 
-  unset_from-byte_capture : (k start end : ℕ) (cs : List (Option Span)) →
+  unset_from-byte_capture : (k start end : ℕ) (cs : List (Option CaptureSpan)) →
       unset_from k start end (map (byte_capture text) cs) ≡ map (byte_capture text) (unset_from k start end cs)
   unset_from-byte_capture k start end [] = refl
   unset_from-byte_capture k start end (c ∷ cs) =
       ap₂ ◌∷◌ (cond-byte_capture (nat_le start k && nat_lt k end) c) (unset_from-byte_capture (k + 1) start end cs)
 
-  unset_from-within : (k start end : ℕ) (cs : List (Option Span)) → All (IsCaptureOf text) cs →
+  unset_from-within : (k start end : ℕ) (cs : List (Option CaptureSpan)) → All (IsCaptureOf text) cs →
       All (IsCaptureOf text) (unset_from k start end cs)
   unset_from-within k start end [] all = all
   unset_from-within k start end (c ∷ cs) all =
@@ -37,7 +37,7 @@ module _ (text : List ℕ) where
 
   unset-byte_state : (start end : ℕ) (s : State) → unset start end (byte_state text s) ≡ byte_state text (unset start end s)
   unset-byte_state start end s =
-      ap (λ (cs : List (Option Span)). record { place = byte_place text s.place; captures = cs })
+      ap (λ (cs : List (Option CaptureSpan)). record { place = byte_place text s.place; captures = cs })
       (unset_from-byte_capture 0 start end s.captures)
 
   unset-within : (start end : ℕ) (s : State) → IsStateOf text s → IsStateOf text (unset start end s)

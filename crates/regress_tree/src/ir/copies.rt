@@ -263,12 +263,7 @@ fn copy_leaf(node: &Node, alloc: Global) -> Result<Node, AllocError>
             alternatives: copy_strings(alternatives, alloc)?,
             icase: *icase,
         },
-        Node::Cat(_)
-        | Node::Alt(..)
-        | Node::CaptureGroup { .. }
-        | Node::Loop { .. }
-        | Node::Loop1CharBody { .. }
-        | Node::LookaroundAssertion { .. } => unreachable!(),
+        _ => unreachable!(),
     })
 }
 

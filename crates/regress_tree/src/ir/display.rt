@@ -5,6 +5,7 @@ ghost use Rattle.std.specs.Fmt.{WritesOnOk, decimal};
 ghost use Rattle.regress_tree.specs.Tree.{tree, trees, anchor, bracket, byte_sequence, byte_set, char_set, capture_group, loop, lookaround};
 ghost use Rattle.regress_tree.specs.Display as text;
 
+use super::held::body;
 use super::node::{Node, Regex};
 use regress_base::codepointset::Interval;
 use regress_base::types::{
@@ -44,11 +45,12 @@ fn write_tree<W: Write>(node: &Node, depth: usize, f: &mut Formatter<W>) -> fmt:
                 write_tree(left, depth, f)?;
                 node = right;
             }
-            Node::CaptureGroup { contents, .. } => node = contents,
-            Node::LookaroundAssertion { contents, .. } => node = contents,
-            Node::Loop { loopee, .. } => node = loopee,
-            Node::Loop1CharBody { loopee, .. } => node = loopee,
-            _ => return Ok(()),
+            _ => {
+                let Some(body) = body(node) else {
+                    return Ok(());
+                };
+                node = body;
+            }
         }
     }
 }

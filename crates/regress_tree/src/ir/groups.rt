@@ -53,11 +53,11 @@ pub struct Groups {
 
 impl Groups {
     ghost use Rattle.std.specs.Prelude.{◌≡◌, []};
-    ghost use Rattle.regress_tree.specs.Survey.{Tells, joined, one, fill};
+    ghost use Rattle.regress_tree.specs.Survey.{IsTally, joined, one, fill};
 
     /// No group, and this reference, or 0.
     pub fn none(reference: u32) -> Groups
-        ensures { Tells result [] reference }
+        ensures { IsTally result [] reference }
     {
         Groups {
             count: 0,

@@ -4,6 +4,7 @@ ghost use Rattle.regress_tree.specs.Tree.{tree, trees};
 ghost use Rattle.regress_tree.specs.Visits.{Calls, Visited, Inside, RowVisited};
 ghost use Rattle.regress_tree.specs.Climbs.{Climbed, down};
 
+use super::held::{body, walk_inside};
 use super::{Node, Walk};
 
 /// Calls `func` on each node of the tree, with the walk there: before the calls on its children, or with
@@ -81,22 +82,18 @@ fn visit_inside<F: FnMut(&Node, &mut Walk)>(postorder: bool, n: &Node, walk: &Wa
     ensures callable { F.IsAlwaysCallable func.new }
     ensures visited { Inside (Calls F.step walk.now.unicode) postorder walk.now.depth walk.now.in_lookbehind (tree n.now) (tree n.now) func.old func.new }
 {
-    let inner = walk.inside(1);
+    let inner = walk_inside(walk, n);
     match n {
         Node::Cat(parts) => visit_row(postorder, parts, &inner, func),
         Node::Alt(left, right) => {
             visit(postorder, left, &inner, func);
             visit(postorder, right, &inner, func);
         }
-        Node::CaptureGroup { contents, .. } => visit(postorder, contents, &inner, func),
-        Node::Loop { loopee, .. } => visit(postorder, loopee, &inner, func),
-        Node::Loop1CharBody { loopee, .. } => visit(postorder, loopee, &inner, func),
-        Node::LookaroundAssertion {
-            backwards,
-            contents,
-            ..
-        } => visit(postorder, contents, &inner.looking(*backwards), func),
-        _ => {}
+        _ => {
+            if let Some(body) = body(n) {
+                visit(postorder, body, &inner, func);
+            }
+        }
     }
 }
 

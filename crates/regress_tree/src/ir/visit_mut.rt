@@ -5,6 +5,7 @@ ghost use Rattle.regress_tree.specs.Spine.{spine_length};
 ghost use Rattle.regress_tree.specs.Visits.{CallsMut, Visited, Inside, RowVisited, AddsNoNodes};
 ghost use Rattle.regress_tree.specs.Climbs.{ClimbedMut};
 
+use super::held::{body_mut, walk_inside};
 use super::spine::{relink, shift};
 use super::{Node, NodeList, Walk};
 
@@ -109,22 +110,18 @@ fn visit_inside<F: FnMut(&mut Node, &mut Walk)>(
     ensures visited { Inside (CallsMut F.step walk.now.unicode) postorder walk.now.depth walk.now.in_lookbehind
         (tree n.old) (tree n.new) func.old func.new }
 {
-    let inner = walk.inside(1);
+    let inner = walk_inside(walk, n);
     match n {
         Node::Cat(parts) => visit_row(postorder, parts, &inner, func),
         Node::Alt(left, right) => {
             visit_mut(postorder, left, &inner, func);
             visit_mut(postorder, right, &inner, func);
         }
-        Node::CaptureGroup { contents, .. } => visit_mut(postorder, contents, &inner, func),
-        Node::Loop { loopee, .. } => visit_mut(postorder, loopee, &inner, func),
-        Node::Loop1CharBody { loopee, .. } => visit_mut(postorder, loopee, &inner, func),
-        Node::LookaroundAssertion {
-            backwards,
-            contents,
-            ..
-        } => visit_mut(postorder, contents, &inner.looking(*backwards), func),
-        _ => {}
+        _ => {
+            if let Some(body) = body_mut(n) {
+                visit_mut(postorder, body, &inner, func);
+            }
+        }
     }
 }
 

@@ -7,12 +7,13 @@ ghost use Rattle.regress_tree.specs.WellFormed.{IsQuantifier, IsSmallSet, AreUtf
 ghost use Rattle.regress_tree.specs.Spine.{is_alt};
 ghost use Rattle.regress_tree.specs.Copies.{is_leaf};
 ghost use Rattle.regress_tree.specs.NodeTests.{is_goal};
-ghost use Rattle.regress_tree.specs.Survey.{Tells, reference, StandsAt, PassesAt, FailsAt, without_goal};
+ghost use Rattle.regress_tree.specs.Survey.{IsTally, reference, StandsAt, SurveyedAt, RefusedAt, without_goal};
 
 use super::brackets::accepts_none;
 use super::groups::{GroupIds, Groups};
 use super::node::{Node, Regex};
 use regress_base::codepointset::{CODE_POINT_MAX, is_canonical};
+use regress_base::sets::are_code_points;
 use regress_base::types::{CaptureGroupName, MAX_CHAR_SET_LENGTH, Quantifier};
 use std::boxed::BoxedSlice;
 use std::str;
@@ -39,7 +40,7 @@ impl Regex {
 /// Goes over a whole tree. It answers None where a part may not stand where it does or an id comes twice,
 /// whatever else there is.
 fn survey_root(node: &Node, ids: &mut GroupIds) -> Option<Groups>
-    ensures { MatchOption result (FailsAt root (tree node.now) ids.old) (PassesAt root (tree node.now) ids.old ids.new) }
+    ensures { MatchOption result (RefusedAt root (tree node.now) ids.old) (SurveyedAt root (tree node.now) ids.old ids.new) }
 {
     match node {
         Node::Goal => Some(Groups::none(0)),
@@ -68,7 +69,7 @@ fn is_goal(node: &Node) -> bool
 /// as many levels as alternatives.
 #[cycle(survey)]
 fn survey(node: &Node, ids: &mut GroupIds) -> Option<Groups>
-    ensures { MatchOption result (FailsAt inside (tree node.now) ids.old) (PassesAt inside (tree node.now) ids.old ids.new) }
+    ensures { MatchOption result (RefusedAt inside (tree node.now) ids.old) (SurveyedAt inside (tree node.now) ids.old ids.new) }
 {
     let mut node = node;
     let mut groups = Groups::none(0);
@@ -82,8 +83,8 @@ fn survey(node: &Node, ids: &mut GroupIds) -> Option<Groups>
 /// Goes over the parts of a `Cat`.
 #[cycle(survey)]
 fn survey_parts(parts: &[Node], ids: &mut GroupIds) -> Option<Groups>
-    ensures { MatchOption result (FailsAt inside (cat (trees parts.now)) ids.old)
-        (PassesAt inside (cat (trees parts.now)) ids.old ids.new) }
+    ensures { MatchOption result (RefusedAt inside (cat (trees parts.now)) ids.old)
+        (SurveyedAt inside (cat (trees parts.now)) ids.old ids.new) }
 {
     let mut groups = Groups::none(0);
     for part in parts {
@@ -96,7 +97,7 @@ fn survey_parts(parts: &[Node], ids: &mut GroupIds) -> Option<Groups>
 #[cycle(survey)]
 fn survey_other(node: &Node, ids: &mut GroupIds) -> Option<Groups>
     requires { is_alt (tree node.now) ≡ false }
-    ensures { MatchOption result (FailsAt inside (tree node.now) ids.old) (PassesAt inside (tree node.now) ids.old ids.new) }
+    ensures { MatchOption result (RefusedAt inside (tree node.now) ids.old) (SurveyedAt inside (tree node.now) ids.old ids.new) }
 {
     match node {
         Node::Cat(parts) => survey_parts(parts, ids),
@@ -148,7 +149,7 @@ fn survey_other(node: &Node, ids: &mut GroupIds) -> Option<Groups>
 fn survey_leaf(node: &Node) -> Option<Groups>
     requires { is_leaf (tree node.now) ≡ true }
     ensures { MatchOption result (StandsAt inside (tree node.now) → ⊥)
-        (λ groups. StandsAt inside (tree node.now) × Tells groups [] (reference (tree node.now))) }
+        (λ groups. StandsAt inside (tree node.now) × IsTally groups [] (reference (tree node.now))) }
 {
     if !leaf_stands(node) {
         return None;
@@ -178,12 +179,7 @@ fn leaf_stands(node: &Node) -> bool
         Node::Bracket(contents) => is_canonical(contents.cps.intervals()),
         Node::BackRef { group, .. } => *group >= 1,
         Node::StringSet { alternatives, .. } => are_strings(alternatives),
-        Node::Cat(_)
-        | Node::Alt(..)
-        | Node::CaptureGroup { .. }
-        | Node::Loop { .. }
-        | Node::Loop1CharBody { .. }
-        | Node::LookaroundAssertion { .. } => unreachable!(),
+        _ => unreachable!(),
     }
 }
 
@@ -251,13 +247,6 @@ fn is_char_set(characters: &[u32]) -> bool
     ensures { IsTrue result ↔ IsSmallSet characters.now code_point_max inside }
 {
     characters.len() <= MAX_CHAR_SET_LENGTH && are_code_points(characters)
-}
-
-/// Whether all are code points.
-fn are_code_points(characters: &[u32]) -> bool
-    ensures { IsTrue result ↔ All (λ c. c ≤ code_point_max) characters.now }
-{
-    characters.iter().all(|c| *c <= CODE_POINT_MAX)
 }
 
 /// Whether all are strings of code points.

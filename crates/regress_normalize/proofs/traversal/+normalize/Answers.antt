@@ -1,15 +1,15 @@
 -- Each answer is a lemma on plain trees, at the values of the call.
-use Rattle.std.proofs.Common.{rules, arith, ◌∙◌, sym, ap, subst, refl, length-set, take, option_map}
-use Rattle.std.specs.Prelude.{string_bytes}
-use Rattle.regress_tree.specs.declared.ir.node.Node.{Node}
+use Rattle.std.proofs.Common.{rules, arith, ◌∙◌, sym, ap, subst, refl, length-set, take}
 use Rattle.regress_tree.specs.Spine.{reattach}
-use Rattle.regress_tree.specs.Tree.{Tree, Trees, alt, tree, trees, capture_group, loop, loop_one, lookaround}
+use Rattle.regress_tree.specs.Tree.{Tree, Trees, alt, wrapped, tree, trees}
 use Rattle.regress_tree.specs.Units.{units}
 use Rattle.regress_tree.specs.Walk.{direction_of}
-use Rattle.regress_tree.proofs.laws.Levels.{out-Alt, out-Cat, out-CaptureGroup, out-Loop, out-Loop1CharBody, out-LookaroundAssertion}
+use Rattle.regress_tree.proofs.laws.Levels.{out-Alt, out-Cat}
 use Rattle.regress_tree.proofs.laws.Measures.{units-positive}
-use Rattle.regress_tree.proofs.laws.Nodes.{tree-Alt, tree-Cat, tree-CaptureGroup, tree-Loop, tree-Loop1CharBody, tree-LookaroundAssertion}
+use Rattle.regress_tree.proofs.laws.Nodes.{tree-Alt, tree-Cat}
+use Rattle.regress_tree.proofs.laws.Places.{inside_of, direction_inside}
 use Rattle.regress_rewrite.specs.Law.{IsPart}
+use Rattle.regress_rewrite.proofs.laws.Keeps.{IsPart-part}
 use Rattle.regress_rewrite.proofs.laws.Parts.{IsPart-at, units_at, unvisited-next}
 use Rattle.regress_rewrite.proofs.laws.Spine.{IsPart-reattach}
 use Rattle.regress_normalize.specs.PartFacts.{HasRowFacts}
@@ -107,100 +107,26 @@ normalize_alt-returns t c =
     let finished = rw (c.in-Alt.is, out-Alt, tree-Alt) at (c.finish_alt.ensures d) in
     rw (c.in-Alt.is, tree-Alt) (Normalized-after d (alt left right) (alt made right) _ _ stands finished)
 
-pub normalize_body-returns-in-CaptureGroup-clause-keeps : goal.normalize_body-returns-in-CaptureGroup-clause-keeps
-normalize_body-returns-in-CaptureGroup-clause-keeps t c =
-    let contents_is = rw (c.in-CaptureGroup.is, out-CaptureGroup) at c.deref_mut.ensures.value in
-    let w = capture_group c.in-CaptureGroup.id (option_map string_bytes c.in-CaptureGroup.name) in
-    rw (c.in-CaptureGroup.is, out-CaptureGroup) (simp tree-CaptureGroup (stands_inside _ w _ _ _ (rw contents_is at c.normalize.ensures)))
+pub normalize_body-normalize-requires : goal.normalize_body-normalize-requires
+normalize_body-normalize-requires t c =
+    let around = c.in-Some.ensures.body in
+    let value = c.deref_mut.ensures.value in
+    let whole : IsPart (wrapped around.wrapper (tree c.in-Some.body.now.value)) = rw around.is at c.requires.part in
+    let part = rw (← value) at (IsPart-part (inside_of around.wrapper) (tree c.in-Some.body.now.value) whole) in
+    (omega (arith, ap units around.is, ap (λ n. units (tree n)) value), part)
 
-pub normalize_body-returns-in-CaptureGroup-clause-body : goal.normalize_body-returns-in-CaptureGroup-clause-body
-normalize_body-returns-in-CaptureGroup-clause-body t c =
-    let contents_is = rw (c.in-CaptureGroup.is, out-CaptureGroup) at c.deref_mut.ensures.value in
-    let w = capture_group c.in-CaptureGroup.id (option_map string_bytes c.in-CaptureGroup.name) in
-    rw (c.in-CaptureGroup.is, out-CaptureGroup) (simp tree-CaptureGroup (wraps _ w _ _ _ (rw contents_is at c.normalize.ensures)))
-
-pub normalize_body-returns-in-CaptureGroup-clause-still_one : goal.normalize_body-returns-in-CaptureGroup-clause-still_one
-normalize_body-returns-in-CaptureGroup-clause-still_one t c normal =
-    let normal' = rw (c.in-CaptureGroup.is, tree-CaptureGroup) at normal in
-    let contents_is = rw (c.in-CaptureGroup.is, out-CaptureGroup) at c.deref_mut.ensures.value in
-    let w = capture_group c.in-CaptureGroup.id (option_map string_bytes c.in-CaptureGroup.name) in
-    rw (c.in-CaptureGroup.is, out-CaptureGroup) (simp tree-CaptureGroup (wraps_clean _ w _ _ _ (rw contents_is at c.normalize.ensures) normal'))
-
-pub normalize_body-returns-in-Loop-clause-keeps : goal.normalize_body-returns-in-Loop-clause-keeps
-normalize_body-returns-in-Loop-clause-keeps t c =
-    let loopee_is = rw (c.in-Loop.is, out-Loop) at c.deref_mut-in-Loop.ensures.value in
-    let w = loop c.in-Loop.quant c.in-Loop.enclosed_groups.start c.in-Loop.enclosed_groups.end in
-    rw (c.in-Loop.is, out-Loop) (simp tree-Loop (stands_inside _ w _ _ _ (rw loopee_is at c.normalize-in-Loop.ensures)))
-
-pub normalize_body-returns-in-Loop-clause-body : goal.normalize_body-returns-in-Loop-clause-body
-normalize_body-returns-in-Loop-clause-body t c =
-    let loopee_is = rw (c.in-Loop.is, out-Loop) at c.deref_mut-in-Loop.ensures.value in
-    let w = loop c.in-Loop.quant c.in-Loop.enclosed_groups.start c.in-Loop.enclosed_groups.end in
-    rw (c.in-Loop.is, out-Loop) (simp tree-Loop (wraps _ w _ _ _ (rw loopee_is at c.normalize-in-Loop.ensures)))
-
-pub normalize_body-returns-in-Loop-clause-still_one : goal.normalize_body-returns-in-Loop-clause-still_one
-normalize_body-returns-in-Loop-clause-still_one t c normal =
-    let normal' = rw (c.in-Loop.is, tree-Loop) at normal in
-    let loopee_is = rw (c.in-Loop.is, out-Loop) at c.deref_mut-in-Loop.ensures.value in
-    let w = loop c.in-Loop.quant c.in-Loop.enclosed_groups.start c.in-Loop.enclosed_groups.end in
-    rw (c.in-Loop.is, out-Loop) (simp tree-Loop (wraps_clean _ w _ _ _ (rw loopee_is at c.normalize-in-Loop.ensures) normal'))
-
-pub normalize_body-returns-in-Loop1CharBody-clause-keeps : goal.normalize_body-returns-in-Loop1CharBody-clause-keeps
-normalize_body-returns-in-Loop1CharBody-clause-keeps t c =
-    let loopee_is = rw (c.in-Loop1CharBody.is, out-Loop1CharBody) at c.deref_mut-in-Loop1CharBody.ensures.value in
-    rw (c.in-Loop1CharBody.is, out-Loop1CharBody)
-    (simp tree-Loop1CharBody
-    (stands_inside _ (loop_one c.in-Loop1CharBody.quant) _ _ _ (rw loopee_is at c.normalize-in-Loop1CharBody.ensures)))
-
-pub normalize_body-returns-in-Loop1CharBody-clause-body : goal.normalize_body-returns-in-Loop1CharBody-clause-body
-normalize_body-returns-in-Loop1CharBody-clause-body t c =
-    let loopee_is = rw (c.in-Loop1CharBody.is, out-Loop1CharBody) at c.deref_mut-in-Loop1CharBody.ensures.value in
-    rw (c.in-Loop1CharBody.is, out-Loop1CharBody)
-    (simp tree-Loop1CharBody (wraps _ (loop_one c.in-Loop1CharBody.quant) _ _ _ (rw loopee_is at c.normalize-in-Loop1CharBody.ensures)))
-
-pub normalize_body-returns-in-Loop1CharBody-clause-still_one : goal.normalize_body-returns-in-Loop1CharBody-clause-still_one
-normalize_body-returns-in-Loop1CharBody-clause-still_one t c normal =
-    let normal' = rw (c.in-Loop1CharBody.is, tree-Loop1CharBody) at normal in
-    let loopee_is = rw (c.in-Loop1CharBody.is, out-Loop1CharBody) at c.deref_mut-in-Loop1CharBody.ensures.value in
-    rw (c.in-Loop1CharBody.is, out-Loop1CharBody)
-    (simp tree-Loop1CharBody (wraps_clean _ (loop_one c.in-Loop1CharBody.quant) _ _ _ (rw loopee_is at c.normalize-in-Loop1CharBody.ensures) normal'))
-
-pub normalize_body-returns-in-LookaroundAssertion-clause-keeps : goal.normalize_body-returns-in-LookaroundAssertion-clause-keeps
-normalize_body-returns-in-LookaroundAssertion-clause-keeps t c =
-    let at = c.in-LookaroundAssertion in
-    let out = out-LookaroundAssertion at.negate at.backwards at.start_group at.end_group at.contents in
-    let contents_is = rw (at.is, out) at c.deref_mut-in-LookaroundAssertion.ensures.value in
-    let looks = rw (at.is, out) at c.looking.ensures.direction in
-    let w = lookaround at.negate at.backwards at.start_group at.end_group in
-    let here = rw looks at (rw contents_is at c.normalize-in-LookaroundAssertion.ensures) in
-    let tree_with = λ (new : Node). tree-LookaroundAssertion at.negate at.backwards at.start_group at.end_group (record at.contents { value = new }) in
-    rw (at.is, out) (rw (tree_with at.contents.value, tree_with c.normalize-in-LookaroundAssertion.new.node)
-    (stands_inside (direction_of c.args.walk.now) w _ _ _ here))
-
-pub normalize_body-returns-in-LookaroundAssertion-clause-body : goal.normalize_body-returns-in-LookaroundAssertion-clause-body
-normalize_body-returns-in-LookaroundAssertion-clause-body t c =
-    let at = c.in-LookaroundAssertion in
-    let out = out-LookaroundAssertion at.negate at.backwards at.start_group at.end_group at.contents in
-    let contents_is = rw (at.is, out) at c.deref_mut-in-LookaroundAssertion.ensures.value in
-    let looks = rw (at.is, out) at c.looking.ensures.direction in
-    let w = lookaround at.negate at.backwards at.start_group at.end_group in
-    let here = rw looks at (rw contents_is at c.normalize-in-LookaroundAssertion.ensures) in
-    let tree_with = λ (new : Node). tree-LookaroundAssertion at.negate at.backwards at.start_group at.end_group (record at.contents { value = new }) in
-    rw (at.is, out) (rw (tree_with c.normalize-in-LookaroundAssertion.new.node)
-    (wraps (direction_of c.args.walk.now) w _ _ _ here))
-
-pub normalize_body-returns-in-LookaroundAssertion-clause-still_one : goal.normalize_body-returns-in-LookaroundAssertion-clause-still_one
-normalize_body-returns-in-LookaroundAssertion-clause-still_one t c normal =
-    let at = c.in-LookaroundAssertion in
-    let out = out-LookaroundAssertion at.negate at.backwards at.start_group at.end_group at.contents in
-    let contents_is = rw (at.is, out) at c.deref_mut-in-LookaroundAssertion.ensures.value in
-    let looks = rw (at.is, out) at c.looking.ensures.direction in
-    let w = lookaround at.negate at.backwards at.start_group at.end_group in
-    let here = rw looks at (rw contents_is at c.normalize-in-LookaroundAssertion.ensures) in
-    let tree_with = λ (new : Node). tree-LookaroundAssertion at.negate at.backwards at.start_group at.end_group (record at.contents { value = new }) in
-    let normal' = rw (at.is, tree_with at.contents.value) at normal in
-    rw (at.is, out) (rw (tree_with c.normalize-in-LookaroundAssertion.new.node)
-    (wraps_clean (direction_of c.args.walk.now) w _ _ _ here normal'))
+pub normalize_body-returns : goal.normalize_body-returns
+normalize_body-returns t c =
+    let around = c.in-Some.ensures.body in
+    let w = around.wrapper in
+    let d = direction_of c.args.walk.now in
+    let turned = rw around.is at c.walk_inside-inner.ensures.direction in
+    let towards = direction_inside w c.args.walk.now c.walk_inside-inner.result turned in
+    let new = record c.in-Some.body.now { value = c.normalize.new.node } in
+    let ends = rw (c.in-Some.is, around.is) at (c.body_mut.follows.holds new) in
+    let here = rw (c.deref_mut.ensures.value, towards) at c.normalize.ensures in
+    rw (ends, around.is)
+    (record { keeps = stands_inside d w _ _ _ here; body = wraps d w _ _ _ here; still_one = wraps_clean d w _ _ _ here })
 
 pub normalize_last-normalize-requires : goal.normalize_last-normalize-requires
 normalize_last-normalize-requires t c =

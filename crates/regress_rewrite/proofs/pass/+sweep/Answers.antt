@@ -1,19 +1,18 @@
 -- Each answer is a lemma on plain trees, at the values of the call.
 use Rattle.std.proofs.Common.{rules, arith, ◌≡◌, ◌+◌, ◌∙◌, true, false, [], take, drop, set, sym, ap, subst, refl, length-set}
-use Rattle.std.specs.Prelude.{option_map, string_bytes}
 use Rattle.regress_tree.specs.declared.ir.node.Node.{Node, the_lemmas}
-use Rattle.regress_tree.specs.Tree.{Tree, no_trees, more_trees, tree, trees, capture_group, loop, loop_one, lookaround}
+use Rattle.regress_tree.specs.Tree.{Tree, wrapped, no_trees, more_trees, tree, trees}
 use Rattle.regress_tree.specs.Copies.{is_leaf}
 use Rattle.regress_tree.specs.Walk.{direction_of}
 use Rattle.regress_tree.specs.Units.{units}
 use Rattle.regress_tree.specs.Visits.{in_cat, in_alt, in_wrapped, no_more, one_more, after_children}
-use Rattle.regress_tree.proofs.laws.Nodes.{tree-Cat, tree-Alt, tree-CaptureGroup, tree-Loop, tree-Loop1CharBody, tree-LookaroundAssertion}
-use Rattle.regress_tree.proofs.laws.Places.{inside_of}
+use Rattle.regress_tree.proofs.laws.Nodes.{tree-Cat, tree-Alt}
+use Rattle.regress_tree.proofs.laws.Places.{inside_of, direction_inside}
 use Rattle.regress_rewrite.specs.Law.{IsPart}
 use Rattle.regress_tree.specs.Spine.{spine_length}
-use Rattle.regress_tree.proofs.laws.Levels.{out-Cat, out-Alt, out-CaptureGroup, out-Loop, out-Loop1CharBody, out-LookaroundAssertion, alt_of}
-use Rattle.regress_rewrite.proofs.laws.Keeps.{IsPart-kept}
-use Rattle.regress_rewrite.proofs.SweepLemmas.{Swept-error, Swept-put, Swept-walk}
+use Rattle.regress_tree.proofs.laws.Levels.{out-Cat, out-Alt, alt_of}
+use Rattle.regress_rewrite.proofs.laws.Keeps.{IsPart-kept, IsPart-part}
+use Rattle.regress_rewrite.proofs.SweepLemmas.{Swept-leaf, Swept-error, Swept-put, Swept-walk}
 use Rattle.regress_rewrite.proofs.laws.Spine.{IsPart-reattach, IsPart-down, units_down, levels_down, down_next, down_last}
 use Rattle.regress_rewrite.proofs.laws.Parts.{IsPart-at, units_at, parts_next, unvisited-next}
 use Rattle.regress_tree.specs.Climbs.{further}
@@ -118,37 +117,6 @@ sweep_down-returns-clause-swept g t c =
     let here = Swept-walk _ c.args.walk.now c.inside-2.result c.inside-2.ensures.direction c.in_ok-sweep_one.ensures.swept in
     down_last _ _ g.R.Rewrite.removes _ l.changed _ (tree c.loop-levels-test.above) _ _ (rw (n_is, above_is) l.invariant.swept) here
 
-pub sweep_inside-returns-in-CaptureGroup-clause-swept : goal.sweep_inside-returns-in-CaptureGroup-clause-swept
-sweep_inside-returns-in-CaptureGroup-clause-swept g t c =
-    let contents_is = rw (c.in-CaptureGroup.is, out-CaptureGroup) at c.deref_mut-in-CaptureGroup.ensures.value in
-    let place = inside_of (capture_group c.in-CaptureGroup.id (option_map string_bytes c.in-CaptureGroup.name)) in
-    rw (c.in-CaptureGroup.is, out-CaptureGroup) (simp tree-CaptureGroup (Swept-put _ place _ (rw contents_is at c.sweep.ensures.swept)))
-
-pub sweep_inside-returns-in-Loop-clause-swept : goal.sweep_inside-returns-in-Loop-clause-swept
-sweep_inside-returns-in-Loop-clause-swept g t c =
-    let loopee_is = rw (c.in-Loop.is, out-Loop) at c.deref_mut-in-Loop.ensures.value in
-    let place = inside_of (loop c.in-Loop.quant c.in-Loop.enclosed_groups.start c.in-Loop.enclosed_groups.end) in
-    rw (c.in-Loop.is, out-Loop) (simp tree-Loop (Swept-put _ place _ (rw loopee_is at c.sweep-in-Loop.ensures.swept)))
-
-pub sweep_inside-returns-in-Loop1CharBody-clause-swept : goal.sweep_inside-returns-in-Loop1CharBody-clause-swept
-sweep_inside-returns-in-Loop1CharBody-clause-swept g t c =
-    let loopee_is = rw (c.in-Loop1CharBody.is, out-Loop1CharBody) at c.deref_mut-in-Loop1CharBody.ensures.value in
-    let place = inside_of (loop_one c.in-Loop1CharBody.quant) in
-    rw (c.in-Loop1CharBody.is, out-Loop1CharBody)
-    (simp tree-Loop1CharBody (Swept-put _ place _ (rw loopee_is at c.sweep-in-Loop1CharBody.ensures.swept)))
-
-pub sweep_inside-returns-in-LookaroundAssertion-clause-swept : goal.sweep_inside-returns-in-LookaroundAssertion-clause-swept
-sweep_inside-returns-in-LookaroundAssertion-clause-swept g t c =
-    let at = c.in-LookaroundAssertion in
-    let out = out-LookaroundAssertion at.negate at.backwards at.start_group at.end_group at.contents in
-    let contents_is = rw (at.is, out) at c.deref_mut-in-LookaroundAssertion.ensures.value in
-    let looks = rw (at.is, out) at c.looking.ensures.direction in
-    let place = inside_of (lookaround at.negate at.backwards at.start_group at.end_group) in
-    let here = rw looks at (rw contents_is at c.sweep-in-LookaroundAssertion.ensures.swept) in
-    let tree_with = λ (new : Node). tree-LookaroundAssertion at.negate at.backwards at.start_group at.end_group (record at.contents { value = new }) in
-    rw (at.is, out) (rw (tree_with at.contents.value, tree_with c.sweep-in-LookaroundAssertion.new.node)
-    (Swept-put _ place (direction_of c.args.walk.now) here))
-
 pub sweep_parts-sweep-requires : goal.sweep_parts-sweep-requires
 sweep_parts-sweep-requires g t c κs lives =
     let l = c.loop-i in
@@ -183,119 +151,78 @@ sweep_parts-loop-i-preserved g t c =
     }
 
 pub sweep_inside-returns-in-Cat-clause-visited : goal.sweep_inside-returns-in-Cat-clause-visited
-sweep_inside-returns-in-Cat-clause-visited g t c depth is =
-    rw (c.in-Cat.is, out-Cat) (simp tree-Cat (in_cat (rw (c.in-Cat.is, out-Cat, is) at c.sweep_parts.ensures.visited)))
+sweep_inside-returns-in-Cat-clause-visited g t c =
+    let inner = c.walk_inside-inner.ensures in
+    let same = rw (c.in-Cat.is, tree-Cat) at inner.direction in
+    rw (c.in-Cat.is, out-Cat)
+    (simp tree-Cat (in_cat (rw (c.in-Cat.is, out-Cat, inner.depth, same, inner.unicode) at c.sweep_parts.ensures.visited)))
 
-pub sweep_inside-returns-in-CaptureGroup-clause-visited : goal.sweep_inside-returns-in-CaptureGroup-clause-visited
-sweep_inside-returns-in-CaptureGroup-clause-visited g t c depth is =
-    let contents_is = rw (c.in-CaptureGroup.is, out-CaptureGroup) at c.deref_mut-in-CaptureGroup.ensures.value in
-    rw (c.in-CaptureGroup.is, out-CaptureGroup)
-    (simp tree-CaptureGroup (in_wrapped (rw (contents_is, is) at c.sweep.ensures.visited)))
-
-pub sweep_inside-returns-in-Loop-clause-visited : goal.sweep_inside-returns-in-Loop-clause-visited
-sweep_inside-returns-in-Loop-clause-visited g t c depth is =
-    let loopee_is = rw (c.in-Loop.is, out-Loop) at c.deref_mut-in-Loop.ensures.value in
-    rw (c.in-Loop.is, out-Loop) (simp tree-Loop (in_wrapped (rw (loopee_is, is) at c.sweep-in-Loop.ensures.visited)))
-
-pub sweep_inside-returns-in-Loop1CharBody-clause-visited : goal.sweep_inside-returns-in-Loop1CharBody-clause-visited
-sweep_inside-returns-in-Loop1CharBody-clause-visited g t c depth is =
-    let loopee_is = rw (c.in-Loop1CharBody.is, out-Loop1CharBody) at c.deref_mut-in-Loop1CharBody.ensures.value in
-    rw (c.in-Loop1CharBody.is, out-Loop1CharBody)
-    (simp tree-Loop1CharBody (in_wrapped (rw (loopee_is, is) at c.sweep-in-Loop1CharBody.ensures.visited)))
-
-pub sweep_inside-returns-in-LookaroundAssertion-clause-visited : goal.sweep_inside-returns-in-LookaroundAssertion-clause-visited
-sweep_inside-returns-in-LookaroundAssertion-clause-visited g t c depth is =
-    let at = c.in-LookaroundAssertion in
-    let looking = c.looking.ensures in
-    let out = out-LookaroundAssertion at.negate at.backwards at.start_group at.end_group at.contents in
-    let contents_is = rw (at.is, out) at c.deref_mut-in-LookaroundAssertion.ensures.value in
-    let looks = rw (at.is, out) at looking.direction in
-    let tree_with = λ (new : Node). tree-LookaroundAssertion at.negate at.backwards at.start_group at.end_group (record at.contents { value = new }) in
-    rw (at.is, out) (rw (tree_with at.contents.value, tree_with c.sweep-in-LookaroundAssertion.new.node)
-    (in_wrapped (rw (contents_is, looking.depth, looks, looking.unicode, is) at c.sweep-in-LookaroundAssertion.ensures.visited)))
-
-pub sweep_inside-returns-in-Empty-clause-visited : goal.sweep_inside-returns-in-Empty-clause-visited
-sweep_inside-returns-in-Empty-clause-visited g t c depth is =
-    let holds_none : is_leaf (tree c.args.node.now) ≡ true = first_of (search (rules, the_lemmas), grind (arith, the_lemmas)) in
-    at_leaf _ (tree c.args.node.now) holds_none
-
-pub sweep_inside-returns-in-Empty-2-clause-visited : goal.sweep_inside-returns-in-Empty-2-clause-visited
-sweep_inside-returns-in-Empty-2-clause-visited g t c depth is =
-    let holds_none : is_leaf (tree c.args.node.now) ≡ true = first_of (search (rules, the_lemmas), grind (arith, the_lemmas)) in
-    at_leaf _ (tree c.args.node.now) holds_none
-
-pub sweep_inside-returns-in-Empty-3-clause-visited : goal.sweep_inside-returns-in-Empty-3-clause-visited
-sweep_inside-returns-in-Empty-3-clause-visited g t c depth is =
-    let holds_none : is_leaf (tree c.args.node.now) ≡ true = first_of (search (rules, the_lemmas), grind (arith, the_lemmas)) in
-    at_leaf _ (tree c.args.node.now) holds_none
-
-pub sweep_inside-returns-in-Empty-4-clause-visited : goal.sweep_inside-returns-in-Empty-4-clause-visited
-sweep_inside-returns-in-Empty-4-clause-visited g t c depth is =
-    let holds_none : is_leaf (tree c.args.node.now) ≡ true = first_of (search (rules, the_lemmas), grind (arith, the_lemmas)) in
-    at_leaf _ (tree c.args.node.now) holds_none
-
-pub sweep_inside-returns-in-Empty-5-clause-visited : goal.sweep_inside-returns-in-Empty-5-clause-visited
-sweep_inside-returns-in-Empty-5-clause-visited g t c depth is =
-    let holds_none : is_leaf (tree c.args.node.now) ≡ true = first_of (search (rules, the_lemmas), grind (arith, the_lemmas)) in
-    at_leaf _ (tree c.args.node.now) holds_none
-
-pub sweep_inside-returns-in-Empty-6-clause-visited : goal.sweep_inside-returns-in-Empty-6-clause-visited
-sweep_inside-returns-in-Empty-6-clause-visited g t c depth is =
-    let holds_none : is_leaf (tree c.args.node.now) ≡ true = first_of (search (rules, the_lemmas), grind (arith, the_lemmas)) in
-    at_leaf _ (tree c.args.node.now) holds_none
-
-pub sweep_inside-returns-in-Empty-7-clause-visited : goal.sweep_inside-returns-in-Empty-7-clause-visited
-sweep_inside-returns-in-Empty-7-clause-visited g t c depth is =
-    let holds_none : is_leaf (tree c.args.node.now) ≡ true = first_of (search (rules, the_lemmas), grind (arith, the_lemmas)) in
-    at_leaf _ (tree c.args.node.now) holds_none
-
-pub sweep_inside-returns-in-Empty-8-clause-visited : goal.sweep_inside-returns-in-Empty-8-clause-visited
-sweep_inside-returns-in-Empty-8-clause-visited g t c depth is =
-    let holds_none : is_leaf (tree c.args.node.now) ≡ true = first_of (search (rules, the_lemmas), grind (arith, the_lemmas)) in
-    at_leaf _ (tree c.args.node.now) holds_none
-
-pub sweep_inside-returns-in-Empty-9-clause-visited : goal.sweep_inside-returns-in-Empty-9-clause-visited
-sweep_inside-returns-in-Empty-9-clause-visited g t c depth is =
-    let holds_none : is_leaf (tree c.args.node.now) ≡ true = first_of (search (rules, the_lemmas), grind (arith, the_lemmas)) in
-    at_leaf _ (tree c.args.node.now) holds_none
-
-pub sweep_inside-returns-in-Empty-10-clause-visited : goal.sweep_inside-returns-in-Empty-10-clause-visited
-sweep_inside-returns-in-Empty-10-clause-visited g t c depth is =
-    let holds_none : is_leaf (tree c.args.node.now) ≡ true = first_of (search (rules, the_lemmas), grind (arith, the_lemmas)) in
-    at_leaf _ (tree c.args.node.now) holds_none
-
-pub sweep_inside-returns-in-Empty-11-clause-visited : goal.sweep_inside-returns-in-Empty-11-clause-visited
-sweep_inside-returns-in-Empty-11-clause-visited g t c depth is =
-    let holds_none : is_leaf (tree c.args.node.now) ≡ true = first_of (search (rules, the_lemmas), grind (arith, the_lemmas)) in
-    at_leaf _ (tree c.args.node.now) holds_none
-
-pub sweep_inside-returns-in-Empty-12-clause-visited : goal.sweep_inside-returns-in-Empty-12-clause-visited
-sweep_inside-returns-in-Empty-12-clause-visited g t c depth is =
-    let holds_none : is_leaf (tree c.args.node.now) ≡ true = first_of (search (rules, the_lemmas), grind (arith, the_lemmas)) in
-    at_leaf _ (tree c.args.node.now) holds_none
-
-pub sweep_inside-returns-in-Empty-13-clause-visited : goal.sweep_inside-returns-in-Empty-13-clause-visited
-sweep_inside-returns-in-Empty-13-clause-visited g t c depth is =
-    let holds_none : is_leaf (tree c.args.node.now) ≡ true = first_of (search (rules, the_lemmas), grind (arith, the_lemmas)) in
-    at_leaf _ (tree c.args.node.now) holds_none
+pub sweep_inside-returns-in-Cat-clause-swept : goal.sweep_inside-returns-in-Cat-clause-swept
+sweep_inside-returns-in-Cat-clause-swept g t c =
+    let same = rw (c.in-Cat.is, tree-Cat) at c.walk_inside-inner.ensures.direction in
+    rw (c.in-Cat.is, out-Cat)
+    (simp tree-Cat (Swept-walk _ c.args.walk.now c.walk_inside-inner.result same (rw (c.in-Cat.is, out-Cat) at c.sweep_parts.ensures.swept)))
 
 pub sweep_inside-returns-in-Alt-clause-visited : goal.sweep_inside-returns-in-Alt-clause-visited
-sweep_inside-returns-in-Alt-clause-visited g t c depth is =
+sweep_inside-returns-in-Alt-clause-visited g t c =
     let at = c.in-Alt in
+    let inner = c.walk_inside-inner.ensures in
+    let same = rw (at.is, tree-Alt) at inner.direction in
     let left_is = rw (at.is, out-Alt) at c.deref_mut.ensures.value in
     let right_is = rw (at.is, out-Alt) at c.deref_mut-in-Alt.ensures.value in
     let tree_with = λ (x y : Node). tree-Alt (record at.left { value = x }) (record at.right { value = y }) in
     rw (at.is, out-Alt) (rw (tree_with at.left.value at.right.value, tree_with c.sweep_sides.new.left c.sweep_sides.new.right)
-    (rw (left_is, right_is) at (c.sweep_sides.ensures.visited depth is)))
+    (rw (left_is, right_is, same, inner.unicode) at (c.sweep_sides.ensures.visited c.args.walk.now.depth inner.depth)))
 
 pub sweep_inside-returns-in-Alt-clause-swept : goal.sweep_inside-returns-in-Alt-clause-swept
 sweep_inside-returns-in-Alt-clause-swept g t c =
     let at = c.in-Alt in
+    let same = rw (at.is, tree-Alt) at c.walk_inside-inner.ensures.direction in
     let left_is = rw (at.is, out-Alt) at c.deref_mut.ensures.value in
     let right_is = rw (at.is, out-Alt) at c.deref_mut-in-Alt.ensures.value in
     let tree_with = λ (x y : Node). tree-Alt (record at.left { value = x }) (record at.right { value = y }) in
     rw (at.is, out-Alt) (rw (tree_with at.left.value at.right.value, tree_with c.sweep_sides.new.left c.sweep_sides.new.right)
-    (rw (left_is, right_is) at c.sweep_sides.ensures.swept))
+    (Swept-walk _ c.args.walk.now c.walk_inside-inner.result same (rw (left_is, right_is) at c.sweep_sides.ensures.swept)))
+
+pub sweep_inside-sweep-requires : goal.sweep_inside-sweep-requires
+sweep_inside-sweep-requires g t c κs lives =
+    let around = c.in-Some.ensures.body in
+    let value = c.deref_mut-in-Some.ensures.value in
+    let whole : IsPart (wrapped around.wrapper (tree c.in-Some.body.now.value)) = rw around.is at c.requires in
+    let part = rw (← value) at (IsPart-part (inside_of around.wrapper) (tree c.in-Some.body.now.value) whole) in
+    let fewer = ap units around.is in
+    let body = ap (λ n. units (tree n)) value in
+    (omega (arith, fewer, body), (search rules, part))
+
+pub sweep_inside-returns-in-Some-clause-visited : goal.sweep_inside-returns-in-Some-clause-visited
+sweep_inside-returns-in-Some-clause-visited g t c =
+    let inner = c.walk_inside-inner.ensures in
+    let around = c.in-Some.ensures.body in
+    let turned = rw around.is at inner.direction in
+    let value = c.deref_mut-in-Some.ensures.value in
+    let new = record c.in-Some.body.now { value = c.sweep.new.node } in
+    let ends = rw (c.in-Some.is, around.is) at (c.body_mut.follows.holds new) in
+    rw (ends, around.is) (in_wrapped (rw (value, inner.depth, turned, inner.unicode) at c.sweep.ensures.visited))
+
+pub sweep_inside-returns-in-Some-clause-swept : goal.sweep_inside-returns-in-Some-clause-swept
+sweep_inside-returns-in-Some-clause-swept g t c =
+    let around = c.in-Some.ensures.body in
+    let turned = rw around.is at c.walk_inside-inner.ensures.direction in
+    let towards = direction_inside around.wrapper c.args.walk.now c.walk_inside-inner.result turned in
+    let value = c.deref_mut-in-Some.ensures.value in
+    let new = record c.in-Some.body.now { value = c.sweep.new.node } in
+    let ends = rw (c.in-Some.is, around.is) at (c.body_mut.follows.holds new) in
+    rw (ends, around.is) (Swept-put _ (inside_of around.wrapper) (direction_of c.args.walk.now) (rw (value, towards) at c.sweep.ensures.swept))
+
+pub sweep_inside-returns-in-None : goal.sweep_inside-returns-in-None
+sweep_inside-returns-in-None g t c =
+    let no_body = c.in-None.ensures.body in
+    let holds_none : is_leaf (tree c.args.node.now) ≡ true = first_of (search (rules, the_lemmas), grind (arith, the_lemmas)) in
+    let stays : tree c.body_mut.follows.lender-at-none ≡ tree c.args.node.now = c.body_mut.follows.holds-at-none in
+    rw stays (record {
+      visited = at_leaf _ (tree c.args.node.now) holds_none;
+      swept = Swept-leaf _ g.R.Rewrite.removes (direction_of c.args.walk.now) (tree c.args.node.now) holds_none;
+    })
 
 pub sweep_parts-returns-clause-visited : goal.sweep_parts-returns-clause-visited
 sweep_parts-returns-clause-visited g t c =
@@ -322,27 +249,20 @@ sweep_sides-returns-clause-visited g t c depth is =
 
 pub sweep_one-returns-clause-swept : goal.sweep_one-returns-clause-swept
 sweep_one-returns-clause-swept g t c =
-    let inside = Swept-walk _ c.args.walk.now c.inside.result c.inside.ensures.direction c.in_ok-changed.ensures.swept in
-    node_swept _ _ g.R.Rewrite.removes _ _ _ _ _ inside c.in_ok-rewrite.ensures.swept
+    node_swept _ _ g.R.Rewrite.removes _ _ _ _ _ c.in_ok-changed.ensures.swept c.in_ok-rewrite.ensures.swept
 
 pub sweep_one-returns-clause-visited : goal.sweep_one-returns-clause-visited
 sweep_one-returns-clause-visited g t c =
-    let inner = c.inside.ensures in
-    after_children {skip = false} (rw (inner.direction, inner.unicode) at (c.in_ok-changed.ensures.visited c.args.walk.now.depth inner.depth))
-    (c.in_ok-rewrite.ensures.applied false)
+    after_children {skip = false} c.in_ok-changed.ensures.visited (c.in_ok-rewrite.ensures.applied false)
 
 pub sweep_one-returns-in_err-changed-clause-visited : goal.sweep_one-returns-in_err-changed-clause-visited
 sweep_one-returns-in_err-changed-clause-visited g t c =
-    let inner = c.inside.ensures in
-    let inside = rw (inner.direction, inner.unicode) at (c.in_err-changed.ensures.visited c.args.walk.now.depth inner.depth) in
-    rw (not_answered _ c.from_residual.ensures.0) (after_children {skip = false} inside (refl, refl, refl))
+    rw (not_answered _ c.from_residual.ensures.0) (after_children {skip = false} c.in_err-changed.ensures.visited (refl, refl, refl))
 
 pub sweep_one-returns-in_err-rewrite-clause-visited : goal.sweep_one-returns-in_err-rewrite-clause-visited
 sweep_one-returns-in_err-rewrite-clause-visited g t c =
-    let inner = c.inside.ensures in
     rw (not_answered _ c.from_residual-in_err-rewrite.ensures.0)
-    (after_children {skip = false} (rw (inner.direction, inner.unicode) at (c.in_ok-changed.ensures.visited c.args.walk.now.depth inner.depth))
-    (c.in_err-rewrite.ensures.applied false))
+    (after_children {skip = false} c.in_ok-changed.ensures.visited (c.in_err-rewrite.ensures.applied false))
 
 pub sweep_sides-returns-in_err-changed-clause-visited : goal.sweep_sides-returns-in_err-changed-clause-visited
 sweep_sides-returns-in_err-changed-clause-visited g t c depth is =

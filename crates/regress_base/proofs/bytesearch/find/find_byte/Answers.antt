@@ -1,10 +1,10 @@
 use Rattle.std.proofs.Common.{◌*◌, length, arith}
-use Rattle.regress_base.proofs.FindLemmas.{NoneBefore, none_past, none_in_part, found_in_part, chunk-IsPart, rest-IsPart}
+use Rattle.regress_base.proofs.FindLemmas.{NoneBefore, none_past, none_in_part, found_in_part, chunk-IsStretch, rest-IsStretch}
 use Rattle.regress_base.proofs.bytesearch.find.find_byte.Goals as goal
 
 pub overflow_add-result : goal.overflow_add-result
 overflow_add-result g c =
-    let chunk = chunk-IsPart c.args.text.now c.as_chunks.result.0.now c.loop-i.i c.as_chunks.ensures.front (omega arith) in
+    let chunk = chunk-IsStretch c.args.text.now c.as_chunks.result.0.now c.loop-i.i c.as_chunks.ensures.front (omega arith) in
     let four = chunk.1 in
     let within = chunk.0.within in
     let lane = c.in-Some.ensures.inside in
@@ -12,12 +12,12 @@ overflow_add-result g c =
 
 pub returns-in-Some : goal.returns-in-Some
 returns-in-Some g c = λ set tells.
-    let chunk = chunk-IsPart c.args.text.now c.as_chunks.result.0.now c.loop-i.i c.as_chunks.ensures.front (omega arith) in
+    let chunk = chunk-IsStretch c.args.text.now c.as_chunks.result.0.now c.loop-i.i c.as_chunks.ensures.front (omega arith) in
     found_in_part set c.args.text.now _ _ c.in-Some.lane chunk.0 (c.loop-i.invariant set tells) (c.in-Some.ensures.least set tells)
 
 pub loop-i-preserved : goal.loop-i-preserved
 loop-i-preserved g c = λ set tells.
-    let chunk = chunk-IsPart c.args.text.now c.as_chunks.result.0.now c.loop-i.i c.as_chunks.ensures.front (omega arith) in
+    let chunk = chunk-IsStretch c.args.text.now c.as_chunks.result.0.now c.loop-i.i c.as_chunks.ensures.front (omega arith) in
     let four = chunk.1 in
     let none = none_in_part set c.args.text.now _ _ chunk.0 (c.loop-i.invariant set tells) (c.in_default.ensures.least set tells) in
     λ k h. none k (omega arith)
@@ -26,7 +26,7 @@ pub returns-in_err-behind : goal.returns-in_err-behind
 returns-in_err-behind g c = λ set tells.
     let text = c.args.text.now in
     let chunks = c.as_chunks.result.0.now in
-    let rest = rest-IsPart text c.as_chunks.result.1.now (length chunks) c.as_chunks.ensures.front_len c.as_chunks.ensures.back in
+    let rest = rest-IsStretch text c.as_chunks.result.1.now (length chunks) c.as_chunks.ensures.front_len c.as_chunks.ensures.back in
     let all = rest.1 in
     let none : NoneBefore set text (length chunks * 4) = λ k h. c.loop-i.invariant set tells k (omega arith) in
     let nowhere = none_in_part set text _ _ rest.0 none (c.in_err-behind.ensures.least set tells) in
@@ -36,7 +36,7 @@ pub overflow_add-result-2 : goal.overflow_add-result-2
 overflow_add-result-2 g c =
     let chunks = c.as_chunks.result.0.now in
     let rest =
-    rest-IsPart c.args.text.now c.as_chunks.result.1.now (length chunks) c.as_chunks.ensures.front_len c.as_chunks.ensures.back in
+    rest-IsStretch c.args.text.now c.as_chunks.result.1.now (length chunks) c.as_chunks.ensures.front_len c.as_chunks.ensures.back in
     let all = rest.1 in
     let behind = c.in_ok-behind.ensures.inside in
     omega arith
@@ -45,6 +45,6 @@ pub returns : goal.returns
 returns g c = λ set tells.
     let text = c.args.text.now in
     let chunks = c.as_chunks.result.0.now in
-    let rest = rest-IsPart text c.as_chunks.result.1.now (length chunks) c.as_chunks.ensures.front_len c.as_chunks.ensures.back in
+    let rest = rest-IsStretch text c.as_chunks.result.1.now (length chunks) c.as_chunks.ensures.front_len c.as_chunks.ensures.back in
     let none : NoneBefore set text (length chunks * 4) = λ k h. c.loop-i.invariant set tells k (omega arith) in
     found_in_part set text _ _ c.in_ok-behind.behind rest.0 none (c.in_ok-behind.ensures.least set tells)

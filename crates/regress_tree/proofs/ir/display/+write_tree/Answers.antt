@@ -1,19 +1,11 @@
 -- The line of a node, and what is still to come.
-use Rattle.std.proofs.Common.{◌≡◌, true, refl, rules, arith}
+use Rattle.std.proofs.Common.{refl, rules, arith}
 use Rattle.std.proofs.Output.{has_written_append}
 use Rattle.regress_tree.specs.Tree.{tree}
-use Rattle.regress_tree.specs.Copies.{is_leaf}
 use Rattle.regress_tree.specs.declared.ir.node.Node.{the_lemmas}
-use Rattle.regress_tree.proofs.laws.Nodes.{tree-Alt, tree-CaptureGroup, tree-Loop, tree-Loop1CharBody, tree-LookaroundAssertion}
-use Rattle.regress_tree.proofs.DisplayLemmas.{inside_written, leaf_written}
+use Rattle.regress_tree.proofs.laws.Nodes.{tree-Alt}
+use Rattle.regress_tree.proofs.DisplayLemmas.{inside_written}
 use Rattle.regress_tree.proofs.ir.display.+write_tree.Goals as goal
-
-pub write_tree-returns-in_default : goal.write_tree-returns-in_default
-write_tree-returns-in_default g t c plain ok =
-    let so_far = c.loop-depth.invariant.completes plain in
-    let own = c.in_ok-write_line.ensures so_far.0 refl in
-    let leaf : is_leaf (tree c.loop-depth.node.now) ≡ true = first_of (search (rules, the_lemmas), grind (arith, the_lemmas)) in
-    so_far.1 _ (leaf_written _ c.loop-depth.depth (tree c.loop-depth.node.now) _ _ leaf own)
 
 pub write_tree-loop-depth-preserved-in-Alt : goal.write_tree-loop-depth-preserved-in-Alt
 write_tree-loop-depth-preserved-in-Alt g t c = record {
@@ -27,57 +19,5 @@ write_tree-loop-depth-preserved-in-Alt g t c = record {
             let right = rw (c.deref-node.ensures, c.saturating_add-depth.ensures) at rest in
             so_far.1 last (inside_written _ c.loop-depth.depth (tree c.loop-depth.node.now) _ _ _ own
             (rw (c.in-Alt.is, tree-Alt) (has_written_append _ _ _ _ _ _ left right))),
-      );
-}
-
-pub write_tree-loop-depth-preserved-in-CaptureGroup : goal.write_tree-loop-depth-preserved-in-CaptureGroup
-write_tree-loop-depth-preserved-in-CaptureGroup g t c = record {
-  smaller = first_of (search (rules, the_lemmas), grind (arith, the_lemmas));
-  completes = λ plain.
-      let so_far = c.loop-depth.invariant.completes plain in
-      let own = c.in_ok-write_line.ensures so_far.0 refl in (
-        own.plain,
-        λ last rest.
-            let body = rw (c.deref-node-in-CaptureGroup.ensures, c.saturating_add-depth.ensures) at rest in
-            so_far.1 last (inside_written _ c.loop-depth.depth (tree c.loop-depth.node.now) _ _ _ own (rw (c.in-CaptureGroup.is, tree-CaptureGroup) body)),
-      );
-}
-
-pub write_tree-loop-depth-preserved-in-LookaroundAssertion : goal.write_tree-loop-depth-preserved-in-LookaroundAssertion
-write_tree-loop-depth-preserved-in-LookaroundAssertion g t c = record {
-  smaller = first_of (search (rules, the_lemmas), grind (arith, the_lemmas));
-  completes = λ plain.
-      let so_far = c.loop-depth.invariant.completes plain in
-      let own = c.in_ok-write_line.ensures so_far.0 refl in (
-        own.plain,
-        λ last rest.
-            let body = rw (c.deref-node-in-LookaroundAssertion.ensures, c.saturating_add-depth.ensures) at rest in
-            so_far.1 last (inside_written _ c.loop-depth.depth (tree c.loop-depth.node.now) _ _ _ own (rw (c.in-LookaroundAssertion.is, tree-LookaroundAssertion) body)),
-      );
-}
-
-pub write_tree-loop-depth-preserved-in-Loop : goal.write_tree-loop-depth-preserved-in-Loop
-write_tree-loop-depth-preserved-in-Loop g t c = record {
-  smaller = first_of (search (rules, the_lemmas), grind (arith, the_lemmas));
-  completes = λ plain.
-      let so_far = c.loop-depth.invariant.completes plain in
-      let own = c.in_ok-write_line.ensures so_far.0 refl in (
-        own.plain,
-        λ last rest.
-            let body = rw (c.deref-node-in-Loop.ensures, c.saturating_add-depth.ensures) at rest in
-            so_far.1 last (inside_written _ c.loop-depth.depth (tree c.loop-depth.node.now) _ _ _ own (rw (c.in-Loop.is, tree-Loop) body)),
-      );
-}
-
-pub write_tree-loop-depth-preserved : goal.write_tree-loop-depth-preserved
-write_tree-loop-depth-preserved g t c = record {
-  smaller = first_of (search (rules, the_lemmas), grind (arith, the_lemmas));
-  completes = λ plain.
-      let so_far = c.loop-depth.invariant.completes plain in
-      let own = c.in_ok-write_line.ensures so_far.0 refl in (
-        own.plain,
-        λ last rest.
-            let body = rw (c.deref-node-in-Loop1CharBody.ensures, c.saturating_add-depth.ensures) at rest in
-            so_far.1 last (inside_written _ c.loop-depth.depth (tree c.loop-depth.node.now) _ _ _ own (rw (c.in-Loop1CharBody.is, tree-Loop1CharBody) body)),
       );
 }

@@ -5,54 +5,37 @@ use Rattle.regress_tree.specs.declared.ir.node.Node.{the_lemmas}
 use Rattle.regress_tree.specs.Tree.{tree}
 use Rattle.regress_tree.specs.Copies.{is_leaf}
 use Rattle.regress_tree.specs.Visits.{Calls, before_children, without_children, after_children, in_cat, in_wrapped, no_more, one_more}
-use Rattle.regress_tree.proofs.laws.Nodes.{tree-Cat, tree-CaptureGroup, tree-Loop, tree-Loop1CharBody, tree-LookaroundAssertion}
+use Rattle.regress_tree.proofs.laws.Nodes.{tree-Cat, tree-Alt}
 use Rattle.regress_tree.proofs.laws.Visits.{at_leaf, in_Alt, right_smaller, down_next, further_next, after_next}
 use Rattle.regress_tree.proofs.ir.visit.+visit.Goals as goal
 
 pub visit_inside-returns-in-Cat-clause-visited : goal.visit_inside-returns-in-Cat-clause-visited
 visit_inside-returns-in-Cat-clause-visited g t c =
-    let inner = c.inside-inner.ensures in
+    let inner = c.walk_inside-inner.ensures in
+    let same = rw (c.in-Cat.is, tree-Cat) at inner.direction in
     rw (c.in-Cat.is, tree-Cat)
-    (in_cat (rw (c.deref.ensures.value, inner.depth, inner.direction, inner.unicode) at c.visit_row.ensures.visited))
+    (in_cat (rw (c.deref.ensures.value, inner.depth, same, inner.unicode) at c.visit_row.ensures.visited))
 
 pub visit_inside-returns-in-Alt-clause-visited : goal.visit_inside-returns-in-Alt-clause-visited
 visit_inside-returns-in-Alt-clause-visited g t c =
-    let inner = c.inside-inner.ensures in
+    let inner = c.walk_inside-inner.ensures in
+    let same = rw (c.in-Alt.is, tree-Alt) at inner.direction in
     in_Alt _ c.args.n.now c.in-Alt.left c.in-Alt.right c.in-Alt.is
-    (rw (c.deref-in-Alt.ensures, inner.depth, inner.direction, inner.unicode) at c.visit.ensures.visited)
-    (rw (c.deref-in-Alt-2.ensures, inner.depth, inner.direction, inner.unicode) at c.visit-in-Alt.ensures.visited)
+    (rw (c.deref-in-Alt.ensures, inner.depth, same, inner.unicode) at c.visit.ensures.visited)
+    (rw (c.deref-in-Alt-2.ensures, inner.depth, same, inner.unicode) at c.visit-in-Alt.ensures.visited)
 
-pub visit_inside-returns-in-CaptureGroup-clause-visited : goal.visit_inside-returns-in-CaptureGroup-clause-visited
-visit_inside-returns-in-CaptureGroup-clause-visited g t c =
-    let inner = c.inside-inner.ensures in
-    rw (c.in-CaptureGroup.is, tree-CaptureGroup)
-    (in_wrapped (rw (c.deref-in-CaptureGroup.ensures, inner.depth, inner.direction, inner.unicode) at c.visit-in-CaptureGroup.ensures.visited))
+pub visit_inside-returns-in-Some-clause-visited : goal.visit_inside-returns-in-Some-clause-visited
+visit_inside-returns-in-Some-clause-visited g t c =
+    let inner = c.walk_inside-inner.ensures in
+    let around = c.in-Some.ensures.body in
+    let turned = rw around.is at inner.direction in
+    rw around.is (in_wrapped (rw (inner.depth, turned, inner.unicode) at c.visit-in-Some.ensures.visited))
 
-pub visit_inside-returns-in-LookaroundAssertion-clause-visited : goal.visit_inside-returns-in-LookaroundAssertion-clause-visited
-visit_inside-returns-in-LookaroundAssertion-clause-visited g t c =
-    let at = c.in-LookaroundAssertion in
-    let inner = c.inside-inner.ensures in
-    let looking = c.looking.ensures in
-    rw (at.is, tree-LookaroundAssertion)
-    (in_wrapped (rw (c.deref-in-LookaroundAssertion.ensures, looking.depth, looking.direction, looking.unicode, inner.depth, inner.unicode)
-    at c.visit-in-LookaroundAssertion.ensures.visited))
-
-pub visit_inside-returns-in-Loop-clause-visited : goal.visit_inside-returns-in-Loop-clause-visited
-visit_inside-returns-in-Loop-clause-visited g t c =
-    let inner = c.inside-inner.ensures in
-    rw (c.in-Loop.is, tree-Loop)
-    (in_wrapped (rw (c.deref-in-Loop.ensures, inner.depth, inner.direction, inner.unicode) at c.visit-in-Loop.ensures.visited))
-
-pub visit_inside-returns-in-Loop1CharBody-clause-visited : goal.visit_inside-returns-in-Loop1CharBody-clause-visited
-visit_inside-returns-in-Loop1CharBody-clause-visited g t c =
-    let inner = c.inside-inner.ensures in
-    rw (c.in-Loop1CharBody.is, tree-Loop1CharBody)
-    (in_wrapped (rw (c.deref-in-Loop1CharBody.ensures, inner.depth, inner.direction, inner.unicode) at c.visit-in-Loop1CharBody.ensures.visited))
-
-pub visit_inside-returns-in_default : goal.visit_inside-returns-in_default
-visit_inside-returns-in_default g t c =
+pub visit_inside-returns-in_default-body-clause-visited : goal.visit_inside-returns-in_default-body-clause-visited
+visit_inside-returns-in_default-body-clause-visited g t c =
+    let no_body = c.in_default-body.ensures.body in
     let holds_none : is_leaf (tree c.args.n.now) ≡ true = first_of (search (rules, the_lemmas), grind (arith, the_lemmas)) in
-    record { callable = c.requires; visited = at_leaf _ (tree c.args.n.now) holds_none }
+    at_leaf _ (tree c.args.n.now) holds_none
 
 pub visit_before-returns-in_default : goal.visit_before-returns-in_default
 visit_before-returns-in_default g t c =

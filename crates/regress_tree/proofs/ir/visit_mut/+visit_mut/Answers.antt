@@ -5,71 +5,55 @@ use Rattle.regress_tree.proofs.laws.Rows.{row_append-none}
 use Rattle.regress_tree.specs.declared.ir.node.Node.{Node, the_lemmas}
 use Rattle.regress_tree.specs.Tree.{tree, no_trees}
 use Rattle.regress_tree.specs.Copies.{is_leaf}
-use Rattle.regress_tree.specs.Visits.{CallsMut, Visited, before_children, without_children, after_children, in_cat, in_alt, in_wrapped, no_more, one_more}
+use Rattle.regress_tree.specs.Visits.{CallsMut, nodes, Visited, before_children, without_children, after_children, in_cat, in_alt, in_wrapped, no_more, one_more}
 use Rattle.regress_tree.specs.Climbs.{further}
-use Rattle.regress_tree.proofs.laws.Nodes.{tree-Cat, tree-Alt, tree-CaptureGroup, tree-Loop, tree-Loop1CharBody, tree-LookaroundAssertion}
-use Rattle.regress_tree.proofs.laws.Levels.{out-Cat, out-Alt, out-CaptureGroup, out-Loop, out-Loop1CharBody, out-LookaroundAssertion, alt_of}
+use Rattle.regress_tree.proofs.laws.Nodes.{tree-Cat, tree-Alt}
+use Rattle.regress_tree.proofs.laws.Levels.{out-Cat, out-Alt, alt_of}
 use Rattle.regress_tree.proofs.laws.Visits.{at_leaf, further_next, nodes_down, levels_down, before_down, after_down, call_adds, next_is, nodes_next, unvisited_next, visited_next}
 use Rattle.regress_tree.proofs.ir.visit_mut.+visit_mut.Goals.{visit_before-else-loop-here-test, visit_before-then-loop-here-test+then-not-shift, visit_after-then-loop-levels-test+else-shift, visit_after-else-loop-levels-test}
 use Rattle.regress_tree.proofs.ir.visit_mut.+visit_mut.Goals as goal
 
-pub visit_inside-returns-in_default : goal.visit_inside-returns-in_default
-visit_inside-returns-in_default g t c =
-    let holds_none : is_leaf (tree c.args.n.now) ≡ true = first_of (search (rules, the_lemmas), grind (arith, the_lemmas)) in
-    record { callable = c.requires.callable; visited = at_leaf _ (tree c.args.n.now) holds_none }
-
 pub visit_inside-returns-in-Cat-clause-visited : goal.visit_inside-returns-in-Cat-clause-visited
 visit_inside-returns-in-Cat-clause-visited g t c =
-    let inner = c.inside-inner.ensures in
+    let inner = c.walk_inside-inner.ensures in
+    let same = rw (c.in-Cat.is, tree-Cat) at inner.direction in
     rw (c.in-Cat.is, out-Cat)
-    (simp tree-Cat (in_cat (rw (c.in-Cat.is, out-Cat, inner.depth, inner.direction, inner.unicode) at c.visit_row.ensures.visited)))
+    (simp tree-Cat (in_cat (rw (c.in-Cat.is, out-Cat, inner.depth, same, inner.unicode) at c.visit_row.ensures.visited)))
 
 pub visit_inside-returns-in-Alt-clause-visited : goal.visit_inside-returns-in-Alt-clause-visited
 visit_inside-returns-in-Alt-clause-visited g t c =
     let at = c.in-Alt in
-    let inner = c.inside-inner.ensures in
+    let inner = c.walk_inside-inner.ensures in
+    let same = rw (at.is, tree-Alt) at inner.direction in
     let left_is = rw (at.is, out-Alt) at c.deref_mut.ensures.value in
     let right_is = rw (at.is, out-Alt) at c.deref_mut-in-Alt.ensures.value in
     let tree_with = λ (x y : Node). tree-Alt (record at.left { value = x }) (record at.right { value = y }) in
     rw (at.is, out-Alt) (rw (tree_with at.left.value at.right.value, tree_with c.visit_mut.new.n c.visit_mut-in-Alt.new.n)
-    (in_alt (rw (left_is, inner.depth, inner.direction, inner.unicode) at c.visit_mut.ensures.visited)
-    (rw (right_is, inner.depth, inner.direction, inner.unicode) at c.visit_mut-in-Alt.ensures.visited)))
+    (in_alt (rw (left_is, inner.depth, same, inner.unicode) at c.visit_mut.ensures.visited)
+    (rw (right_is, inner.depth, same, inner.unicode) at c.visit_mut-in-Alt.ensures.visited)))
 
-pub visit_inside-returns-in-CaptureGroup-clause-visited : goal.visit_inside-returns-in-CaptureGroup-clause-visited
-visit_inside-returns-in-CaptureGroup-clause-visited g t c =
-    let inner = c.inside-inner.ensures in
-    let contents_is = rw (c.in-CaptureGroup.is, out-CaptureGroup) at c.deref_mut-in-CaptureGroup.ensures.value in
-    rw (c.in-CaptureGroup.is, out-CaptureGroup)
-    (simp tree-CaptureGroup
-    (in_wrapped (rw (contents_is, inner.depth, inner.direction, inner.unicode) at c.visit_mut-in-CaptureGroup.ensures.visited)))
+pub visit_inside-visit_mut-requires-in-Some : goal.visit_inside-visit_mut-requires-in-Some
+visit_inside-visit_mut-requires-in-Some g t c κs lives =
+    let whole = ap nodes c.in-Some.ensures.body.is in
+    let body = ap (λ n. nodes (tree n)) c.deref_mut-in-Some.ensures.value in
+    (omega (arith, whole, body), search rules)
 
-pub visit_inside-returns-in-Loop-clause-visited : goal.visit_inside-returns-in-Loop-clause-visited
-visit_inside-returns-in-Loop-clause-visited g t c =
-    let inner = c.inside-inner.ensures in
-    let loopee_is = rw (c.in-Loop.is, out-Loop) at c.deref_mut-in-Loop.ensures.value in
-    rw (c.in-Loop.is, out-Loop)
-    (simp tree-Loop (in_wrapped (rw (loopee_is, inner.depth, inner.direction, inner.unicode) at c.visit_mut-in-Loop.ensures.visited)))
+pub visit_inside-returns-in-Some-clause-visited : goal.visit_inside-returns-in-Some-clause-visited
+visit_inside-returns-in-Some-clause-visited g t c =
+    let inner = c.walk_inside-inner.ensures in
+    let around = c.in-Some.ensures.body in
+    let turned = rw around.is at inner.direction in
+    let value = c.deref_mut-in-Some.ensures.value in
+    let new = record c.in-Some.body.now { value = c.visit_mut-in-Some.new.n } in
+    let ends = rw (c.in-Some.is, around.is) at (c.body_mut.follows.holds new) in
+    rw (ends, around.is) (in_wrapped (rw (value, inner.depth, turned, inner.unicode) at c.visit_mut-in-Some.ensures.visited))
 
-pub visit_inside-returns-in-Loop1CharBody-clause-visited : goal.visit_inside-returns-in-Loop1CharBody-clause-visited
-visit_inside-returns-in-Loop1CharBody-clause-visited g t c =
-    let inner = c.inside-inner.ensures in
-    let loopee_is = rw (c.in-Loop1CharBody.is, out-Loop1CharBody) at c.deref_mut-in-Loop1CharBody.ensures.value in
-    rw (c.in-Loop1CharBody.is, out-Loop1CharBody)
-    (simp tree-Loop1CharBody
-    (in_wrapped (rw (loopee_is, inner.depth, inner.direction, inner.unicode) at c.visit_mut-in-Loop1CharBody.ensures.visited)))
-
-pub visit_inside-returns-in-LookaroundAssertion-clause-visited : goal.visit_inside-returns-in-LookaroundAssertion-clause-visited
-visit_inside-returns-in-LookaroundAssertion-clause-visited g t c =
-    let at = c.in-LookaroundAssertion in
-    let inner = c.inside-inner.ensures in
-    let looking = c.looking.ensures in
-    let out = out-LookaroundAssertion at.negate at.backwards at.start_group at.end_group at.contents in
-    let contents_is = rw (at.is, out) at c.deref_mut-in-LookaroundAssertion.ensures.value in
-    let looks = rw (at.is, out) at looking.direction in
-    let tree_with = λ (new : Node). tree-LookaroundAssertion at.negate at.backwards at.start_group at.end_group (record at.contents { value = new }) in
-    rw (at.is, out) (rw (tree_with at.contents.value, tree_with c.visit_mut-in-LookaroundAssertion.new.n)
-    (in_wrapped (rw (contents_is, looking.depth, looks, looking.unicode, inner.depth, inner.unicode)
-    at c.visit_mut-in-LookaroundAssertion.ensures.visited)))
+pub visit_inside-returns-in_default-body_mut : goal.visit_inside-returns-in_default-body_mut
+visit_inside-returns-in_default-body_mut g t c =
+    let no_body = c.in_default-body_mut.ensures.body in
+    let holds_none : is_leaf (tree c.args.n.now) ≡ true = first_of (search (rules, the_lemmas), grind (arith, the_lemmas)) in
+    let stays : tree c.body_mut.follows.lender-at-none ≡ tree c.args.n.now = c.body_mut.follows.holds-at-none in
+    record { callable = c.requires.callable; visited = rw stays (at_leaf _ (tree c.args.n.now) holds_none) }
 
 pub visit_before-loop-here-preserved-in-Alt : goal.visit_before-loop-here-preserved-in-Alt
 visit_before-loop-here-preserved-in-Alt g t c =

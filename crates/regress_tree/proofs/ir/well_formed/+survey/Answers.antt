@@ -7,7 +7,7 @@ use Rattle.regress_tree.proofs.laws.Nodes.{tree-CaptureGroup, tree-Loop, tree-Lo
 use Rattle.regress_tree.proofs.laws.Levels.{alt_of}
 use Rattle.regress_tree.specs.declared.ir.node.Node.{the_lemmas}
 use Rattle.regress_tree.specs.WellFormed.{inside}
-use Rattle.regress_tree.specs.Survey.{fill, PassesAt, FailsAt}
+use Rattle.regress_tree.specs.Survey.{fill, SurveyedAt, RefusedAt}
 use Rattle.regress_tree.proofs.PassLemmas.{SpineSurveyed, spine-start, spine-next, spine-last, spine-fail, spine-fail-last, parts-next, parts-fail, group-pass, loop-pass, loop-fail, look-pass, look-fail}
 use Rattle.regress_tree.proofs.ir.well_formed.+survey.Goals as goal
 use Rattle.regress_tree.proofs.ir.well_formed.+survey.Goals.{survey_other-else-is_quantifier-via-then-is_quantifier+else-are, survey_other-else-is_quantifier-via-else-is_quantifier}
@@ -79,7 +79,7 @@ survey_other-returns-in_ok-survey-in-CaptureGroup t c =
     ∙ ap (λ n. wrapped (capture_group at.id name) (tree n)) (sym c.deref-in-CaptureGroup.ensures) in
     let named = c.is_name.ensures.0 (search rules) in
     let fresh = not-true _ (sym c.insert.ensures.new ∙ search rules) in
-    subst (λ x. PassesAt inside x c.args.ids.now c.survey.new.ids c.with.result) (sym is)
+    subst (λ x. SurveyedAt inside x c.args.ids.now c.survey.new.ids c.with.result) (sym is)
     (rw c.with.ensures
     (group-pass at.id name (tree body) c.args.ids.now c.insert.new.self c.survey.new.ids groups named (omega arith) fresh
     c.insert.ensures.after c.in_ok-survey-in-CaptureGroup.ensures))
@@ -95,7 +95,7 @@ survey_other-returns-then-are t c =
     ap tree at.is ∙ tree-Loop at.loopee at.quant at.enclosed_groups
     ∙ ap (λ n. wrapped (loop at.quant start end) (tree n)) (sym c.deref-in-Loop.ensures) in
     let full : fill start end groups ≡ true = grind (arith, c.if-are.ensures) in
-    subst (λ x. PassesAt inside x c.args.ids.now c.survey-in-Loop.new.ids groups) (sym is)
+    subst (λ x. SurveyedAt inside x c.args.ids.now c.survey-in-Loop.new.ids groups) (sym is)
     (loop-pass (tree body) c.args.ids.now c.survey-in-Loop.new.ids groups c.in_ok-groups-in-Loop.ensures start end at.quant
     (omega arith) (c.is_quantifier.ensures.0 (search rules)) full)
 
@@ -109,7 +109,7 @@ survey_other-returns-else-is_quantifier t c =
     let is : tree c.args.node.now ≡ wrapped (loop at.quant start end) (tree body) =
     ap tree at.is ∙ tree-Loop at.loopee at.quant at.enclosed_groups
     ∙ ap (λ n. wrapped (loop at.quant start end) (tree n)) (sym c.deref-in-Loop.ensures) in
-    subst (λ x. FailsAt inside x c.args.ids.now) (sym is)
+    subst (λ x. RefusedAt inside x c.args.ids.now) (sym is)
     (loop-fail (tree body) c.args.ids.now c.survey-in-Loop.new.ids groups c.in_ok-groups-in-Loop.ensures start end at.quant
     (omega arith) (omega arith)
     (elim c.else-is_quantifier.branch [
@@ -128,7 +128,7 @@ survey_other-returns-then-are-2 t c =
     ap tree at.is ∙ tree-LookaroundAssertion at.negate at.backwards at.start_group at.end_group at.contents
     ∙ ap (λ n. wrapped wrapper (tree n)) (sym c.deref-in-LookaroundAssertion.ensures) in
     let full : fill at.start_group at.end_group groups ≡ true = grind (arith, c.if-are-2.ensures) in
-    subst (λ x. PassesAt inside x c.args.ids.now c.survey-in-LookaroundAssertion.new.ids groups) (sym is)
+    subst (λ x. SurveyedAt inside x c.args.ids.now c.survey-in-LookaroundAssertion.new.ids groups) (sym is)
     (look-pass (tree body) c.args.ids.now c.survey-in-LookaroundAssertion.new.ids groups c.in_ok-groups-in-LookaroundAssertion.ensures
     at.start_group at.end_group at.negate at.backwards (omega arith) full)
 
@@ -142,6 +142,6 @@ survey_other-returns-else-are-2 t c =
     ap tree at.is ∙ tree-LookaroundAssertion at.negate at.backwards at.start_group at.end_group at.contents
     ∙ ap (λ n. wrapped wrapper (tree n)) (sym c.deref-in-LookaroundAssertion.ensures) in
     let other : fill at.start_group at.end_group groups ≡ false = grind (arith, c.if-are-2.ensures) in
-    subst (λ x. FailsAt inside x c.args.ids.now) (sym is)
+    subst (λ x. RefusedAt inside x c.args.ids.now) (sym is)
     (look-fail (tree body) c.args.ids.now c.survey-in-LookaroundAssertion.new.ids groups c.in_ok-groups-in-LookaroundAssertion.ensures
     at.start_group at.end_group at.negate at.backwards (omega arith) (omega arith) other)

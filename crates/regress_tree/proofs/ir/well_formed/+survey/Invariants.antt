@@ -3,7 +3,7 @@ use Rattle.std.proofs.Common.{◌≤◌, take}
 use Rattle.regress_tree.specs.declared.ir.node.Node.{size-Node}
 use Rattle.regress_tree.specs.Tree.{tree, trees, cat}
 use Rattle.regress_tree.specs.WellFormed.{inside}
-use Rattle.regress_tree.specs.Survey.{PassesAt}
+use Rattle.regress_tree.specs.Survey.{SurveyedAt}
 use Rattle.regress_tree.proofs.PassLemmas.{SpineSurveyed}
 use Rattle.regress_tree.proofs.ir.well_formed.+survey.Given as goal
 
@@ -14,4 +14,4 @@ invariant-survey-loop-node l = record {
 }
 
 abbrev pub invariant-survey_parts-loop-part : goal.invariant-survey_parts-loop-part
-invariant-survey_parts-loop-part l = PassesAt inside (cat (trees (take l.part-index l.parts))) l.initial.ids l.ids l.groups
+invariant-survey_parts-loop-part l = SurveyedAt inside (cat (trees (take l.part-index l.parts))) l.initial.ids l.ids l.groups

@@ -10,7 +10,7 @@ pub returns-then-not-are_code_points : goal.returns-then-not-are_code_points
 returns-then-not-are_code_points c =
     let in_row : c.loop-string.string-index < length c.args.strings.now = search rules in (
       λ denied. absurd (false≢true denied),
-      λ all. c.if-not-are_code_points.ensures.1
+      λ all. c.if-not-are_code_points.ensures.all.1
           (rw c.deref.ensures.value
           (at-image (All (λ c. c ≤ code_point_max)) boxed_slice_items c.args.strings.now c.loop-string.string-index _ c.string-item.result in_row
           c.string-item.is all)),

@@ -1,6 +1,6 @@
 use Rattle.std.proofs.Common.{refl, arith}
 use Rattle.regress_tree.proofs.laws.NodeLists.{is_short-from_len}
-use Rattle.regress_normalize.proofs.cat.stand_in.Goals as goal
+use Rattle.regress_rewrite.proofs.remove_empties.stand_in.Goals as goal
 
 pub returns-then-len-gt1-clause-none : goal.returns-then-len-gt1-clause-none
 returns-then-len-gt1-clause-none c same =

@@ -1,0 +1,39 @@
+-- The one tree that a wrapper holds.
+use denote.RattleType.{RattleType}
+use Rattle.std.specs.Prelude.{◌≡◌, Bool, true, false, Option, OnSome}
+use Rattle.std.specs.Borrow.{MutBor}
+use Rattle.std.specs.contracts.alloc.Global as global
+use Rattle.std.specs.contracts.boxed.Box as box
+use Rattle.std.specs.contracts.impls.GlobalAllocator.TheImpl.{ghosts}
+use Rattle.std.specs.declared.alloc.Global.{Global}
+use Rattle.std.specs.declared.boxed.Box.{Box}
+use Rattle.regress_tree.specs.contracts.ir.node.Node.{the_row}
+use Rattle.regress_tree.specs.declared.ir.node.Node.{Node}
+use Rattle.regress_tree.specs.Tree.{Wrapper, Tree, wrapped, tree}
+use Rattle.regress_tree.specs.Visits.{turned_by}
+
+abbrev pub is_wrapper : Tree → Bool
+is_wrapper (wrapped w body) = true
+is_wrapper t = false
+
+pub record IsAround (t body : Tree) : Type 0 where
+  pub wrapper : Wrapper
+  pub is : t ≡ wrapped wrapper body
+
+-- a wrapper with another body, and any other tree as it is
+abbrev pub with_body : Tree → Tree → Tree
+with_body (wrapped w old) body = wrapped w body
+with_body t body = t
+
+-- whether what a tree holds is matched backwards, where the tree is or is not
+abbrev pub behind_in : Tree → Bool → Bool
+behind_in (wrapped w body) behind = turned_by w behind
+behind_in t behind = behind
+
+-- the box of a node, as the logic holds it
+abbrev pub box_row : RattleType
+box_row = box.the_row the_row global.the_row ghosts
+
+-- What a node of which the body was lent ends as.
+abbrev pub HoldsAfter : Option (MutBor (Box Node Global)) → Node → Node → Box Node Global → Type 0
+HoldsAfter lent old new body = OnSome lent (tree new ≡ with_body (tree old) (tree body.value))
