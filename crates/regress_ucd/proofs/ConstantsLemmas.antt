@@ -2,16 +2,17 @@
 use Rattle.std.proofs.Common.{◌≡◌, true, IsTrue, map, All, length, refl}
 use Rattle.std.proofs.lemmas.Bool.{and_parts}
 use Rattle.std.proofs.lemmas.List.Sums.{AllPass-from_list_all}
-use Rattle.std.proofs.lemmas.List.Elements.{All-weaker}
+use Rattle.std.proofs.lemmas.List.Elements.{All-append, All-weaker}
+use Rattle.regress_base.specs.Intervals.{IsCanonical}
 use Rattle.regress_base.specs.Table.{HasWordAscii, HasStrings}
 use Rattle.regress_unicode.specs.FoldRows.{IsPackableRow, image}
 use Rattle.regress_unicode.specs.Parts.{AreSoundRows, IsSound}
 use Rattle.regress_unicode.proofs.laws.Soundness.{sound_rows, word_ascii, sound_from}
 use Rattle.regress_ucd.specs.declared.cases.TheConstants.{FOLDS, UPPERS}
 use Rattle.regress_ucd.specs.declared.intervals.TheConstants.{INTERVALS, INTERVALS_COUNT}
-use Rattle.regress_ucd.specs.declared.names.TheConstants.{ID_START, ID_CONTINUE, GENERAL_CATEGORY, SCRIPT, SCRIPT_EXTENSIONS, BINARY}
+use Rattle.regress_ucd.specs.declared.names.TheConstants.{ID_START, ID_CONTINUE, GENERAL_CATEGORY, SCRIPT, SCRIPT_REST, SCRIPT_EXTENSIONS, SCRIPT_EXTENSIONS_REST, BINARY}
 use Rattle.regress_ucd.specs.declared.strings.TheConstants.{STRING_NAMES, STRINGS, STRINGS_COUNT, POINTS, POINTS_COUNT}
-use Rattle.regress_ucd.specs.Data.{row, set_at, is_set_at, are_places, named_strings, AreSets, AreStrings}
+use Rattle.regress_ucd.specs.Data.{row, set_at, is_set_at, are_places, named_set, named_strings, AreSets, AreStrings}
 use Rattle.regress_ucd.specs.UnicodeTable.{unicode_parts}
 use Rattle.regress_ucd.proofs.DataLemmas.{packable, is_packable, set_stands, sets_stand, strings_stand, canonical_sets, are_strings}
 
@@ -38,8 +39,14 @@ general_category = sets_stand INTERVALS.now (map (λ n. (n.1, n.2)) GENERAL_CATE
 pub script : AreSets INTERVALS.now (map (λ n. (n.1, n.2)) SCRIPT.now)
 script = sets_stand INTERVALS.now (map (λ n. (n.1, n.2)) SCRIPT.now) INTERVALS_COUNT intervals_count refl
 
+pub script_rest : AreSets INTERVALS.now (map (λ n. (n.1, n.2)) SCRIPT_REST.now)
+script_rest = sets_stand INTERVALS.now (map (λ n. (n.1, n.2)) SCRIPT_REST.now) INTERVALS_COUNT intervals_count refl
+
 pub script_extensions : AreSets INTERVALS.now (map (λ n. (n.1, n.2)) SCRIPT_EXTENSIONS.now)
 script_extensions = sets_stand INTERVALS.now (map (λ n. (n.1, n.2)) SCRIPT_EXTENSIONS.now) INTERVALS_COUNT intervals_count refl
+
+pub script_extensions_rest : AreSets INTERVALS.now (map (λ n. (n.1, n.2)) SCRIPT_EXTENSIONS_REST.now)
+script_extensions_rest = sets_stand INTERVALS.now (map (λ n. (n.1, n.2)) SCRIPT_EXTENSIONS_REST.now) INTERVALS_COUNT intervals_count refl
 
 pub binary : AreSets INTERVALS.now (map (λ n. (n.1, n.2)) BINARY.now)
 binary = sets_stand INTERVALS.now (map (λ n. (n.1, n.2)) BINARY.now) INTERVALS_COUNT intervals_count refl
@@ -74,7 +81,11 @@ unicode_sound =
     (and_parts (are_places (length INTERVALS.now) ID_START.0 ID_START.1) _ id_start).1
     (and_parts (are_places (length INTERVALS.now) ID_CONTINUE.0 ID_CONTINUE.1) _ id_continue).1 start_ascii continue_ascii
     (canonical_sets (λ name. name.now) INTERVALS.now GENERAL_CATEGORY.now general_category)
-    (canonical_sets (λ name. name.now) INTERVALS.now SCRIPT.now script)
-    (canonical_sets (λ name. name.now) INTERVALS.now SCRIPT_EXTENSIONS.now script_extensions)
+    (All-append (λ entry. IsCanonical entry.value) (map (λ n. named_set INTERVALS.now n.0.now n.1 n.2) SCRIPT.now)
+    (map (λ n. named_set INTERVALS.now n.0.now n.1 n.2) SCRIPT_REST.now) (canonical_sets (λ name. name.now) INTERVALS.now SCRIPT.now script)
+    (canonical_sets (λ name. name.now) INTERVALS.now SCRIPT_REST.now script_rest))
+    (All-append (λ entry. IsCanonical entry.value) (map (λ n. named_set INTERVALS.now n.0.now n.1 n.2) SCRIPT_EXTENSIONS.now)
+    (map (λ n. named_set INTERVALS.now n.0.now n.1 n.2) SCRIPT_EXTENSIONS_REST.now) (canonical_sets (λ name. name.now) INTERVALS.now SCRIPT_EXTENSIONS.now script_extensions)
+    (canonical_sets (λ name. name.now) INTERVALS.now SCRIPT_EXTENSIONS_REST.now script_extensions_rest))
     (canonical_sets (λ name. name.now) INTERVALS.now BINARY.now binary)
     sound_strings

@@ -1,5 +1,5 @@
 -- Lists with what the constants say make the parts of the whole table.
-use Rattle.std.proofs.Common.{◌≡◌, ℕ, List, String, Vec, Global, Result, map, ap, sym, subst, ◌∙◌}
+use Rattle.std.proofs.Common.{◌≡◌, ℕ, List, String, Vec, Global, Result, ◌++◌, map, ap, sym, subst, ◌∙◌}
 use Rattle.std.proofs.lemmas.Result.{err_from_is_err_and}
 use Rattle.std.specs.Result.{IfOk, IsErrAnd}
 use Rattle.std.specs.declared.alloc.AllocError.{AllocError}
@@ -9,7 +9,7 @@ use Rattle.regress_unicode.specs.TableOf.{table_of}
 use Rattle.regress_unicode.specs.FoldRows.{FoldRow}
 use Rattle.regress_unicode.specs.Parts.{Parts, parts_from, sets_of, strings_of}
 use Rattle.regress_ucd.specs.declared.intervals.TheConstants.{INTERVALS}
-use Rattle.regress_ucd.specs.declared.names.TheConstants.{ID_START, ID_CONTINUE, GENERAL_CATEGORY, SCRIPT, SCRIPT_EXTENSIONS, BINARY}
+use Rattle.regress_ucd.specs.declared.names.TheConstants.{ID_START, ID_CONTINUE, GENERAL_CATEGORY, SCRIPT, SCRIPT_REST, SCRIPT_EXTENSIONS, SCRIPT_EXTENSIONS_REST, BINARY}
 use Rattle.regress_ucd.specs.declared.strings.TheConstants.{STRING_NAMES, STRINGS, POINTS}
 use Rattle.regress_ucd.specs.declared.cases.TheConstants.{FOLDS, UPPERS}
 use Rattle.regress_ucd.specs.Data.{row, set_at, named_set, named_strings, AreSets, AreStrings}
@@ -33,8 +33,10 @@ pub unicode_from : (intervals listed : List (ℕ × ℕ)) (points : List ℕ) �
     folds ≡ map row FOLDS.now → uppers ≡ map row UPPERS.now → id_start ≡ set_at intervals ID_START.0 ID_START.1 →
     id_continue ≡ set_at intervals ID_CONTINUE.0 ID_CONTINUE.1 →
     sets_of general_category ≡ map (λ n. named_set intervals n.0.now n.1 n.2) GENERAL_CATEGORY.now →
-    sets_of script ≡ map (λ n. named_set intervals n.0.now n.1 n.2) SCRIPT.now →
-    sets_of script_extensions ≡ map (λ n. named_set intervals n.0.now n.1 n.2) SCRIPT_EXTENSIONS.now →
+    sets_of script ≡ map (λ n. named_set intervals n.0.now n.1 n.2) SCRIPT.now
+    ++ map (λ n. named_set intervals n.0.now n.1 n.2) SCRIPT_REST.now →
+    sets_of script_extensions ≡ map (λ n. named_set intervals n.0.now n.1 n.2) SCRIPT_EXTENSIONS.now
+    ++ map (λ n. named_set intervals n.0.now n.1 n.2) SCRIPT_EXTENSIONS_REST.now →
     sets_of binary ≡ map (λ n. named_set intervals n.0.now n.1 n.2) BINARY.now →
     strings_of strings ≡ map (λ n. named_strings listed points n.0.now n.1 n.2) STRING_NAMES.now →
     parts_from folds uppers id_start id_continue general_category script script_extensions binary strings ≡ unicode_parts
@@ -44,8 +46,10 @@ unicode_from intervals listed points same strings_same points_same folds uppers 
     parts_are unicode_parts folds uppers id_start id_continue general_category script script_extensions binary strings e1 e2
     (e3 ∙ ap (λ xs. set_at xs ID_START.0 ID_START.1) same) (e4 ∙ ap (λ xs. set_at xs ID_CONTINUE.0 ID_CONTINUE.1) same)
     (e5 ∙ ap (λ xs. map (λ n. named_set xs n.0.now n.1 n.2) GENERAL_CATEGORY.now) same)
-    (e6 ∙ ap (λ xs. map (λ n. named_set xs n.0.now n.1 n.2) SCRIPT.now) same)
-    (e7 ∙ ap (λ xs. map (λ n. named_set xs n.0.now n.1 n.2) SCRIPT_EXTENSIONS.now) same)
+    (e6 ∙ ap (λ xs. map (λ n. named_set xs n.0.now n.1 n.2) SCRIPT.now
+    ++ map (λ n. named_set xs n.0.now n.1 n.2) SCRIPT_REST.now) same)
+    (e7 ∙ ap (λ xs. map (λ n. named_set xs n.0.now n.1 n.2) SCRIPT_EXTENSIONS.now
+    ++ map (λ n. named_set xs n.0.now n.1 n.2) SCRIPT_EXTENSIONS_REST.now) same)
     (e8 ∙ ap (λ xs. map (λ n. named_set xs n.0.now n.1 n.2) BINARY.now) same)
     (e9 ∙ ap (λ xs. map (λ n. named_strings xs points n.0.now n.1 n.2) STRING_NAMES.now) strings_same
     ∙ ap (λ xs. map (λ n. named_strings STRINGS.now xs n.0.now n.1 n.2) STRING_NAMES.now) points_same)

@@ -256,6 +256,10 @@ pub(super) static SCRIPT: &[(&str, usize, usize)] = &[
     ("Mani", 6917, 6919),
     ("Manichaean", 6917, 6919),
     ("Marc", 6919, 6922),
+];
+
+/// The rest of them.
+pub(super) static SCRIPT_REST: &[(&str, usize, usize)] = &[
     ("Marchen", 6919, 6922),
     ("Medf", 6922, 6923),
     ("Medefaidrin", 6922, 6923),
@@ -584,6 +588,10 @@ pub(super) static SCRIPT_EXTENSIONS: &[(&str, usize, usize)] = &[
     ("Mani", 8697, 8700),
     ("Manichaean", 8697, 8700),
     ("Marc", 8700, 8703),
+];
+
+/// The rest of them.
+pub(super) static SCRIPT_EXTENSIONS_REST: &[(&str, usize, usize)] = &[
     ("Marchen", 8700, 8703),
     ("Medf", 8703, 8704),
     ("Medefaidrin", 8703, 8704),

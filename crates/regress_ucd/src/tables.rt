@@ -1,5 +1,5 @@
 //! The table of the constants.
-ghost use Rattle.std.specs.Prelude.{◌≡◌, All, IfOk, map, IsTrue, length, slice_range};
+ghost use Rattle.std.specs.Prelude.{◌≡◌, ◌++◌, All, IfOk, map, IsTrue, length, slice_range};
 ghost use Rattle.regress_base.specs.Intervals.{IsCanonical, IsInterval};
 ghost use Rattle.regress_unicode.specs.FoldRows.{IsPackableRow};
 ghost use Rattle.regress_unicode.specs.Parts.{sets_of, strings_of};
@@ -74,6 +74,24 @@ pub(super) fn named_sets(
             set_at(alloc, intervals, from, to)?,
         ))?;
     }
+    Ok(entries)
+}
+
+/// The sets of these names, and those of the rest of them.
+pub(super) fn all_named_sets(
+    alloc: Global,
+    intervals: &[(u32, u32)],
+    names: &[(&str, usize, usize)],
+    rest: &[(&str, usize, usize)],
+) -> Result<Vec<(String, CodePointSet)>, AllocError>
+    requires names { AreSets intervals.now (map (λ n. (n.1, n.2)) names.now) }
+    requires rest { AreSets intervals.now (map (λ n. (n.1, n.2)) rest.now) }
+    ensures { IfOk result (λ entries. sets_of entries.items ≡ map (λ n. named_set intervals.now n.0.now n.1 n.2) names.now
+        ++ map (λ n. named_set intervals.now n.0.now n.1 n.2) rest.now) }
+{
+    let mut entries = named_sets(alloc, intervals, names)?;
+    let mut others = named_sets(alloc, intervals, rest)?;
+    entries.append(&mut others)?;
     Ok(entries)
 }
 

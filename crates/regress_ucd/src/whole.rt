@@ -5,9 +5,12 @@ ghost use Rattle.regress_ucd.specs.UnicodeTable.{unicode_table};
 
 use super::cases::{FOLDS, UPPERS};
 use super::lists::{intervals, points, strings};
-use super::names::{BINARY, GENERAL_CATEGORY, ID_CONTINUE, ID_START, SCRIPT, SCRIPT_EXTENSIONS};
+use super::names::{
+    BINARY, GENERAL_CATEGORY, ID_CONTINUE, ID_START, SCRIPT, SCRIPT_EXTENSIONS,
+    SCRIPT_EXTENSIONS_REST, SCRIPT_REST,
+};
 use super::strings::STRING_NAMES;
-use super::tables::{named_sets, named_strings, rows, set_at};
+use super::tables::{all_named_sets, named_sets, named_strings, rows, set_at};
 use regress_unicode::Tables;
 use std::alloc::{AllocError, Global};
 
@@ -25,8 +28,8 @@ pub fn unicode_tables(alloc: Global) -> Result<Tables, AllocError>
         set_at(alloc, intervals, ID_START.0, ID_START.1)?,
         set_at(alloc, intervals, ID_CONTINUE.0, ID_CONTINUE.1)?,
         named_sets(alloc, intervals, GENERAL_CATEGORY)?,
-        named_sets(alloc, intervals, SCRIPT)?,
-        named_sets(alloc, intervals, SCRIPT_EXTENSIONS)?,
+        all_named_sets(alloc, intervals, SCRIPT, SCRIPT_REST)?,
+        all_named_sets(alloc, intervals, SCRIPT_EXTENSIONS, SCRIPT_EXTENSIONS_REST)?,
         named_sets(alloc, intervals, BINARY)?,
         named_strings(alloc, points(), strings(), STRING_NAMES)?,
     ))
