@@ -1,8 +1,7 @@
 //! Patterns under the whole table.
 
 use regress_notation::{Fault, read_flags, read_pattern};
-use regress_parse::try_parse;
-use regress_syntax::ParseFault;
+use regress_parse::{ParseFault, try_parse};
 use regress_unicode::Tables;
 use std::alloc::Global;
 
