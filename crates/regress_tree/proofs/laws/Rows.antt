@@ -8,7 +8,7 @@ use Rattle.regress_tree.specs.Steps.{State}
 use Rattle.regress_tree.specs.Tree.{Leaf, empty, goal, char, byte_sequence, byte_set, char_set, match_any, match_any_except_line_terminator, anchor, word_boundary, bracket, back_ref, string_set, Tree, Trees, leaf, cat, alt, wrapped, no_trees, more_trees, row, row_append, tree, trees}
 use Rattle.regress_tree.specs.Matching.{steps, steps_in_row}
 use Rattle.regress_tree.specs.Setting.{Setting}
-use Rattle.regress_tree.specs.WellFormed.{captures, captures_in_row, Position, one_character, inside, last, root, NotAsOneCharacter, AsOneCharacter, GoalMayStand, last_of, LeafMayStand, MayStand, RowMayStand}
+use Rattle.regress_tree.specs.WellFormed.{captures, captures_in_row, Position, one_character, inside, last, root, NotAsOneCharacter, GoalMayStand, last_of, LeafMayStand, MayStand, RowMayStand}
 use Rattle.regress_tree.proofs.laws.Outcomes.{flat_map-then}
 use Rattle.regress_tree.proofs.laws.Positions.{AsOneCharacter-free}
 
