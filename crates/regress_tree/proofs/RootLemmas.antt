@@ -6,8 +6,8 @@ use Rattle.regress_tree.specs.declared.ir.groups.GroupIds.{GroupIds}
 use Rattle.regress_tree.specs.declared.ir.groups.Groups.{Groups}
 use Rattle.regress_tree.specs.NodeTests.{is_goal}
 use Rattle.regress_tree.specs.Shapes.{is_cat}
-use Rattle.regress_tree.specs.Tree.{Leaf, goal, char, byte_sequence, byte_set, char_set, bracket, back_ref, string_set, Tree, Trees, leaf, cat, alt, wrapped, no_trees, more_trees, row_append}
-use Rattle.regress_tree.specs.WellFormed.{captures, captures_in_row, Position, inside, last, root, LeafMayStand, MayStand, RowMayStand, IsWellFormed}
+use Rattle.regress_tree.specs.Tree.{Tree, Trees, leaf, cat, alt, wrapped, no_trees, more_trees, row_append}
+use Rattle.regress_tree.specs.WellFormed.{captures, captures_in_row, inside, last, root, MayStand, RowMayStand, IsWellFormed}
 use Rattle.regress_tree.specs.Survey.{holds, times_held, reference, reference_in_row, fill, SurveyedAt, RefusedAt, without_goal}
 use Rattle.regress_tree.proofs.laws.Goal.{goal-is, leaf-inside, last-inside}
 use Rattle.regress_tree.proofs.laws.Rows.{MayStand-from_last, RowMayStand-more, RowMayStand-parts}

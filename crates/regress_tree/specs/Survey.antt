@@ -1,5 +1,5 @@
 -- What one pass over a tree gathers of its capture groups and references.
-use Rattle.std.specs.Prelude.{◌≡◌, ℕ, ◌+◌, ◌≤◌, ◌-◌, ◌/◌, ◌%◌, Bool, true, false, ◌&&◌, nat_le, ◌==◌, List, [], ◌∷◌, length, count_by, min, max, Option, Some, None, slice_get, if◌then◌else◌}
+use Rattle.std.specs.Prelude.{◌≡◌, ℕ, ◌+◌, ◌≤◌, ◌-◌, ◌/◌, ◌%◌, Bool, false, ◌&&◌, nat_le, ◌==◌, List, [], ◌∷◌, length, count_by, min, max, Option, Some, None, slice_get, if◌then◌else◌}
 use Rattle.regress_base.specs.ByteBitmap.{contains}
 use Rattle.regress_base.specs.declared.bytesearch.bitmap.ByteBitmap.{ByteBitmap}
 use Rattle.regress_tree.specs.declared.ir.groups.GroupIds.{GroupIds}
