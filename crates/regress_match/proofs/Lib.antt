@@ -1,0 +1,5 @@
+pub mod CaptureLemmas
+pub mod UnsetLemmas
+pub mod MachineLemmas
+pub mod DoesLemmas
+pub mod LoopLemmas

@@ -52,8 +52,8 @@ impl Captures {
         ensures state { IfOk result (λ _. (place : ℕ) → state self.new place ≡ unset start end (state self.old place)) }
         ensures later { IfOk result (λ _. Later self.old self.new) }
     {
-        let end = end.min(self.spans.len());
-        for group in start..end {
+        let behind = end.min(self.spans.len());
+        for group in start..behind {
             if self.spans[group].is_some() {
                 self.set(group, None)?;
             }
