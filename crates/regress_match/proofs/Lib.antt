@@ -3,3 +3,4 @@ pub mod UnsetLemmas
 pub mod MachineLemmas
 pub mod DoesLemmas
 pub mod LoopLemmas
+pub mod ReadingLemmas

@@ -34,3 +34,15 @@ pub more-less : (greedy : Bool) (n : ℕ) (f : Step) → 1 ≤ n → up_to greed
 more-less greedy zero f le = absurd (not-suc-le-zero le)
 more-less greedy (suc n) f le =
     ap (λ m. let more : Step = moving f then_ up_to greedy m f in if greedy then more or_ stay else stay or_ more) (omega arith)
+
+pub more_greedy : (greedy : Bool) (n : ℕ) (f : Step) (s : State) → greedy ≡ true → 1 ≤ n →
+    up_to greedy n f s ≡ (moving f then_ up_to greedy (n - 1) f) s ++ s ∷ []
+more_greedy greedy n f s is le =
+    let more : Step = moving f then_ up_to greedy (n - 1) f in
+    ap (λ h. h s) (more-less greedy n f le) ∙ ap (λ (b : Bool). (if b then more or_ stay else stay or_ more) s) is
+
+pub more_lazy : (greedy : Bool) (n : ℕ) (f : Step) (s : State) → greedy ≡ false → 1 ≤ n →
+    up_to greedy n f s ≡ s ∷ (moving f then_ up_to greedy (n - 1) f) s
+more_lazy greedy n f s is le =
+    let more : Step = moving f then_ up_to greedy (n - 1) f in
+    ap (λ h. h s) (more-less greedy n f le) ∙ ap (λ (b : Bool). (if b then more or_ stay else stay or_ more) s) is

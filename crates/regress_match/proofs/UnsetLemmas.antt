@@ -1,5 +1,6 @@
 -- Groups that are forgotten one by one.
-use Rattle.std.proofs.Common.{◌≡◌, ℕ, zero, suc, ◌+◌, ◌-◌, ◌≤◌, ◌<◌, min, Bool, true, false, ◌&&◌, List, [], ◌∷◌, length, Option, Some, None, refl, sym, ap, ap₂, ◌∙◌, arith, nat_le, nat_lt, le_of_suc-le-suc, not-suc-le-zero, get_or, set, if◌then◌else◌}
+use Rattle.std.proofs.Common.{◌≡◌, ℕ, zero, suc, ◌+◌, ◌-◌, ◌≤◌, ◌<◌, min, Bool, true, false, ◌&&◌, List, [], ◌∷◌, length, Option, Some, None, refl, sym, ap, ap₂, ◌∙◌, arith, nat_le, nat_lt, le_of_suc-le-suc, not-suc-le-zero, get_or, set, if◌then◌else◌, ◌⊎◌, inl, inr}
+use Rattle.std.proofs.lemmas.Bool.{cases_lt}
 use Rattle.regress_tree.specs.Repetition.{unset_from}
 use Rattle.regress_tree.specs.Steps.{Span}
 
@@ -73,3 +74,13 @@ pub set-same : {A : Type 0} (xs : List A) (i : ℕ) (v : A) → v ≡ get_or xs 
 set-same [] i v is = refl
 set-same (x ∷ xs) zero v is = ap (λ y. y ∷ xs) is
 set-same (x ∷ xs) (suc i) v is = ap (λ ys. x ∷ ys) (set-same xs i v is)
+
+clipped_by : (start end behind : ℕ) (spans : List (Option Span)) → (end < length spans) ⊎ (length spans ≤ end) → behind ≡ min end (length spans) →
+    unset_from 0 start behind spans ≡ unset_from 0 start end spans
+clipped_by start end behind spans (inl le) is = ap (λ k. unset_from 0 start k spans) (omega (arith, is, le))
+clipped_by start end behind spans (inr le) is =
+    unset-past 0 start behind end spans (omega (arith, is, le)) (omega (arith, is, le))
+
+pub unset-clipped : (start end behind : ℕ) (spans : List (Option Span)) → behind ≡ min end (length spans) →
+    unset_from 0 start behind spans ≡ unset_from 0 start end spans
+unset-clipped start end behind spans is = clipped_by start end behind spans (cases_lt end (length spans)) is

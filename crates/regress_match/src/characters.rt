@@ -23,6 +23,7 @@ pub fn stands_for(rules: Rules<'_>, icase: bool, c: u32, x: u32) -> bool
 }
 
 /// Whether it ends a line.
+#[tactic(auto, unfolding(regress_base::specs::Intervals::is_member, regress_base::specs::Intervals::is_within))]
 pub fn is_line_terminator(c: u32) -> bool
     ensures { result ≡ is_line_terminator c }
 {
@@ -40,6 +41,7 @@ pub fn is_word_character(tables: &Tables, unicode_icase: bool, c: u32) -> bool
     }
 }
 
+#[tactic(auto, unfolding(regress_base::specs::Intervals::is_member, regress_base::specs::Intervals::is_within))]
 fn is_word(c: u32) -> bool
     ensures { result ≡ is_member word_characters c }
 {

@@ -29,5 +29,5 @@ loop-self-preserved-else-undo-len c =
 pub returns-clause-spans : goal.returns-clause-spans
 returns-clause-spans c =
     let spans = c.loop-self.self.spans.items in
-    let none : drop c.args.noted c.loop-self.self.trail.items ≡ [] = drop_all _ _ (omega arith) in
+    let none : drop c.args.noted c.loop-self.self.trail.items ≡ [] = drop_all c.args.noted c.loop-self.self.trail.items (omega arith) in
     sym (ap (λ us. undone us spans) none ∙ undone-nil spans) ∙ c.loop-self.invariant.spans
