@@ -172,3 +172,7 @@ does_either u f g h m m1 m2 m3 c place next other task pushes chose pushes' same
 pub ok_map : {T E : Type 0} {P Q : T → Type 0} (r : Result T E) → ((x : T) → P x → Q x) → IfOk r P → IfOk r Q
 ok_map (Ok x) f h = f x h
 ok_map (Err e) f h = h
+
+pub nothing_in : {A : Type 0} (xs : List A) → length xs ≡ 0 → xs ≡ []
+nothing_in [] none = refl
+nothing_in (x ∷ xs) none = absurd (omega (arith, none))

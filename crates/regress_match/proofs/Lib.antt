@@ -4,3 +4,5 @@ pub mod MachineLemmas
 pub mod DoesLemmas
 pub mod LoopLemmas
 pub mod ReadingLemmas
+pub mod RunLemmas
+pub mod LeafLemmas

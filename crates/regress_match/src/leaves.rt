@@ -1,15 +1,17 @@
 //! What leaves match.
-ghost use Rattle.std.specs.Prelude.{◌≡◌, ◌-◌, [], ◌∷◌, true, None, IfOk, get_or, if◌then◌else◌};
+ghost use Rattle.std.specs.Prelude.{◌≡◌, ◌-◌, ◌<◌, [], ◌∷◌, true, None, IfOk, drop, length, nat_eq, option_map, slice_index, if◌then◌else◌};
+ghost use Rattle.std.specs.List.{starts_with};
+ghost use Rattle.regress_base.specs.Listing.{lists};
 ghost use Rattle.regress_base.specs.Table.{stands_for};
-ghost use Rattle.regress_tree.specs.Assertions.{at_anchor, at_boundary, is_word_character};
+ghost use Rattle.regress_tree.specs.Assertions.{at_anchor, at_boundary, is_line_terminator, is_word_character, passes};
 ghost use Rattle.regress_tree.specs.Matching.{steps};
-ghost use Rattle.regress_tree.specs.Reading.{of_bytes};
-ghost use Rattle.regress_tree.specs.References.{all_of, in_order, characters_from};
+ghost use Rattle.regress_tree.specs.Reading.{backwards, forwards, of_bytes};
+ghost use Rattle.regress_tree.specs.References.{all_of, back_reference, in_order, characters_from};
 ghost use Rattle.regress_tree.specs.Steps.{State, these_bytes, one_character};
 ghost use Rattle.regress_tree.specs.Tree.{tree};
 ghost use Rattle.regress_unicode.specs.TableOf.{table_of};
 ghost use Rattle.regress_match.specs.Captures.{state};
-ghost use Rattle.regress_match.specs.Leaves.{put, takes_one, test_of, has_one_outcome};
+ghost use Rattle.regress_match.specs.Leaves.{put, read_of, takes_one, test_of, has_one_outcome};
 ghost use Rattle.regress_match.specs.Subject.{subject, direction_of};
 
 use crate::captures::Captures;
@@ -71,19 +73,46 @@ fn these_bytes(bytes: &[u8], backwards: bool, written: &[u8], place: usize) -> O
     ensures { (s : State) → s.place ≡ place → put s result ≡ these_bytes (direction_of backwards) bytes.now written.now s }
 {
     if backwards {
-        if written.len() > place {
-            return None;
-        }
-        let from = place - written.len();
-        if from <= bytes.len() && bytes[from..].starts_with(written) {
-            Some(from)
-        } else {
-            None
-        }
-    } else if place <= bytes.len() && bytes[place..].starts_with(written) {
+        bytes_before(bytes, written, place)
+    } else {
+        bytes_behind(bytes, written, place)
+    }
+}
+
+/// Where these bytes go that stand behind the place.
+fn bytes_behind(bytes: &[u8], written: &[u8], place: usize) -> Option<usize>
+    ensures { (s : State) → s.place ≡ place → put s result ≡ these_bytes forwards bytes.now written.now s }
+{
+    if stands_at(bytes, written, place) {
         Some(place + written.len())
     } else {
         None
+    }
+}
+
+/// Where these bytes go that stand before the place.
+fn bytes_before(bytes: &[u8], written: &[u8], place: usize) -> Option<usize>
+    ensures { (s : State) → s.place ≡ place → put s result ≡ these_bytes backwards bytes.now written.now s }
+{
+    let count = written.len();
+    if count > place {
+        return None;
+    }
+    if stands_at(bytes, written, place - count) {
+        Some(place - count)
+    } else {
+        None
+    }
+}
+
+/// Whether these bytes stand behind the place.
+fn stands_at(bytes: &[u8], written: &[u8], place: usize) -> bool
+    ensures { result ≡ starts_with nat_eq (drop place bytes.now) written.now }
+{
+    if place <= bytes.len() {
+        bytes[place..].starts_with(written)
+    } else {
+        written.is_empty()
     }
 }
 
@@ -102,13 +131,37 @@ fn accepts(node: &Node, c: u32) -> bool
 {
     match node {
         Node::Char { c: literal } => c == *literal,
-        Node::ByteSet(bytes) => bytes.iter().any(|b| u32::from(*b) == c),
-        Node::CharSet(characters) => characters.iter().any(|x| *x == c),
+        Node::ByteSet(bytes) => lists_byte(bytes, c),
+        Node::CharSet(characters) => lists(characters, c),
         Node::MatchAny => true,
         Node::MatchAnyExceptLineTerminator => !is_line_terminator(c),
         Node::Bracket(contents) => contents.cps.contains(c) != contents.invert,
         _ => false,
     }
+}
+
+/// Whether the character is one of these bytes.
+fn lists_byte(bytes: &[u8], c: u32) -> bool
+    ensures { result ≡ lists bytes.now c }
+{
+    for b in bytes {
+        if u32::from(*b) == c {
+            return true;
+        }
+    }
+    false
+}
+
+/// Whether the character is one of these.
+fn lists(characters: &[u32], c: u32) -> bool
+    ensures { result ≡ lists characters.now c }
+{
+    for x in characters {
+        if *x == c {
+            return true;
+        }
+    }
+    false
 }
 
 /// Whether the place is an end of the text or, with `multiline`, of a line.
@@ -126,7 +179,9 @@ fn at_anchor(text: &str, anchor_type: AnchorType, multiline: bool, place: usize)
 }
 
 /// Whether there is a neighbour that ends a line.
-fn ends_line(neighbour: Option<(u32, usize)>) -> bool {
+fn ends_line(neighbour: Option<(u32, usize)>) -> bool
+    ensures { result ≡ passes is_line_terminator (option_map read_of neighbour) }
+{
     match neighbour {
         Some((c, _)) => is_line_terminator(c),
         None => false,
@@ -143,7 +198,9 @@ fn at_boundary(text: &str, tables: &Tables, invert: bool, unicode_icase: bool, p
 }
 
 /// Whether there is a neighbour that is a word character.
-fn is_word(tables: &Tables, unicode_icase: bool, neighbour: Option<(u32, usize)>) -> bool {
+fn is_word(tables: &Tables, unicode_icase: bool, neighbour: Option<(u32, usize)>) -> bool
+    ensures { result ≡ passes (is_word_character (table_of tables.now) unicode_icase) (option_map read_of neighbour) }
+{
     match neighbour {
         Some((c, _)) => is_word_character(tables, unicode_icase, c),
         None => false,
@@ -159,7 +216,10 @@ fn back_reference(
     icase: bool,
     place: usize,
     captures: &Captures,
-) -> Result<Option<usize>, AllocError> {
+) -> Result<Option<usize>, AllocError>
+    ensures { IfOk result (λ to. let u = subject rules.entry text.now in put (state captures.now place) to
+        ≡ back_reference u.direction (of_bytes u.bytes) (stands_for u.setting.table icase u.setting.flags.unicode) (group - 1) (state captures.now place)) }
+{
     let id = group.saturating_sub(1) as usize;
     if id >= captures.spans.len() {
         return Ok(Some(place));
@@ -205,11 +265,7 @@ pub fn all_of(
 {
     let mut here = place;
     for i in 0..characters.len() {
-        let c = if rules.backwards {
-            characters[characters.len() - 1 - i]
-        } else {
-            characters[i]
-        };
+        let c = character_in_order(characters, rules.backwards, i);
         let (x, to) = next_read(text, rules.backwards, here)?;
         if !stands_for(rules, icase, c, x) {
             return None;
@@ -217,4 +273,16 @@ pub fn all_of(
         here = to;
     }
     Some(here)
+}
+
+/// The character to which matching comes after so many.
+fn character_in_order(characters: &[u32], backwards: bool, i: usize) -> u32
+    requires { i < length characters.now }
+    ensures { result ≡ slice_index (in_order (direction_of backwards) characters.now) i }
+{
+    if backwards {
+        characters[characters.len() - 1 - i]
+    } else {
+        characters[i]
+    }
 }

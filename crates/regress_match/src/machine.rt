@@ -1,7 +1,7 @@
 //! The machine: tasks, and choices to which it goes back.
 ghost use Rattle.std.specs.Prelude.{◌≡◌, ◌≤◌, ◌∷◌, ◌++◌, ℕ, List, IfOk, length, flat_map};
 ghost use Rattle.regress_tree.specs.Steps.{◌then_◌};
-ghost use Rattle.regress_match.specs.Captures.{state};
+ghost use Rattle.regress_match.specs.Captures.{state, undone};
 ghost use Rattle.regress_match.specs.Machine.{IsMachine, Resumed, Pushed, Chosen, waiting, what_step};
 ghost use Rattle.regress_match.specs.Subject.{Subject};
 
@@ -108,7 +108,8 @@ impl<'a> Machine<'a> {
     /// Goes back to the last choice.
     pub fn resume(&mut self, captures: &mut Captures) -> Option<(usize, usize)>
         requires { IsMachine self.old captures.old }
-        ensures { (u : Subject) → Resumed u (waiting u self.old captures.old) self.new captures.new result }
+        ensures resumed { (u : Subject) → Resumed u (waiting u self.old captures.old) self.new captures.new result }
+        ensures undo { undone captures.new.trail.items captures.new.spans.items ≡ undone captures.old.trail.items captures.old.spans.items }
     {
         let choice = self.choices.pop()?;
         self.tasks.truncate(choice.known);

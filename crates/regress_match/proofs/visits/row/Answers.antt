@@ -3,12 +3,12 @@ use Rattle.regress_tree.specs.Matching.{steps_in_row}
 use Rattle.regress_tree.specs.Tree.{trees}
 use Rattle.regress_match.specs.Captures.{state}
 use Rattle.regress_match.proofs.CaptureLemmas.{Later-refl}
-use Rattle.regress_match.proofs.DoesLemmas.{goes_on, goes_pushed}
+use Rattle.regress_match.proofs.DoesLemmas.{goes_on, goes_pushed, nothing_in}
 use Rattle.regress_match.proofs.visits.row.Goals as goal
 
 pub returns-in_default : goal.returns-in_default
 returns-in_default c = λ u captures.
-    let none : c.args.parts.now ≡ [] = search rules in
+    let none : c.args.parts.now ≡ [] = nothing_in c.args.parts.now c.in_default.ensures.cases in
     goes_on u _ c.args.machine.now captures c.args.place c.args.next c.args.place
     (ap (λ parts. steps_in_row u.setting u.bytes u.direction (trees parts) (state captures c.args.place)) none)
 
