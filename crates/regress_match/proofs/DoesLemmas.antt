@@ -7,7 +7,13 @@ use Rattle.regress_tree.specs.Steps.{State, Step, stay, ◌then_◌, ◌or_◌}
 use Rattle.regress_tree.proofs.laws.Outcomes.{flat_map-then, flat_map-stay}
 use Rattle.regress_match.specs.Captures.{undone, state, Later}
 use Rattle.regress_match.specs.Machine.{what_step, todo, pending, waiting, saved, IsMachine, left_at, onward, Pushed, Chosen, Does, Continues}
-use Rattle.regress_match.specs.Subject.{Subject}
+use Rattle.regress_match.specs.Subject.{Subject, direction_of}
+use Rattle.regress_match.specs.Leaves.{put}
+use Rattle.regress_match.specs.declared.machine.Looking.{Looking}
+use Rattle.regress_tree.specs.Lookaround.{look}
+use Rattle.regress_tree.specs.Matching.{steps}
+use Rattle.regress_tree.specs.Tree.{tree}
+use Rattle.std.proofs.Common.{Option}
 use Rattle.regress_match.specs.declared.captures.Captures.{Captures}
 use Rattle.regress_match.specs.declared.machine.Choice.{Choice}
 use Rattle.regress_match.specs.declared.machine.Machine.{Machine}
@@ -176,3 +182,32 @@ ok_map (Err e) f h = h
 pub nothing_in : {A : Type 0} (xs : List A) → length xs ≡ 0 → xs ≡ []
 nothing_in [] none = refl
 nothing_in (x ∷ xs) none = absurd (omega (arith, none))
+
+-- Captures were changed, and nothing was pushed.
+pub goes_changed : (u : Subject) (f : Step) (m : Machine) (c c' : Captures) (place next : ℕ) → Later c c' → f (state c place) ≡ state c' place ∷ [] →
+    Does u f m c place next m c' (nexts.Go place next)
+goes_changed u f m c c' place next later is = record {
+  continues = λ le machine. (machine_later m c c' machine later, le,
+      ap (λ states. onward u m c next states) is
+      ∙ ap₂ ◌++◌ (append-nil (todo u m.tasks.items next (state c' place))) (sym (waiting_later u m c c' machine later)));
+  later = later;
+}
+
+-- A lookaround comes next.
+pub goes_look : (u : Subject) (f : Step) (m : Machine) (c : Captures) (l : Looking) →
+    f (state c l.place) ≡ look l.negate (steps u.setting u.bytes (direction_of l.backwards) (tree l.body.now)) (state c l.place) →
+    Does u f m c l.place l.next m c (nexts.Look l)
+goes_look u f m c l is = record {
+  continues = λ le machine. (machine, le, ap (λ states. onward u m c l.next states) is);
+  later = Later-refl c;
+}
+
+-- One outcome at most, which sets no group.
+pub goes_put : (u : Subject) (f : Step) (m : Machine) (c : Captures) (place next : ℕ) (to : Option ℕ) (r : Next) →
+    f (state c place) ≡ put (state c place) to →
+    (next ≤ length m.tasks.items → IsMachine m c → Continues u (onward u m c next (put (state c place) to)) m c r) →
+    Does u f m c place next m c r
+goes_put u f m c place next to r is goes = record {
+  continues = λ le machine. subst (λ states. Continues u (onward u m c next states) m c r) (sym is) (goes le machine);
+  later = Later-refl c;
+}

@@ -7,6 +7,7 @@ use Rattle.regress_tree.specs.Matching.{steps, leaf_steps}
 use Rattle.regress_tree.specs.Reading.{Direction, forwards, backwards, Reading, Read, next_character, of_bytes}
 use Rattle.regress_tree.specs.References.{all_of, in_order, characters_from, read_with, back_reference, once_more}
 use Rattle.regress_tree.specs.Setting.{Setting}
+use Rattle.regress_tree.specs.Strings.{any_string}
 use Rattle.regress_tree.specs.Steps.{State, Step, stay, ◌then_◌, one_character, moved, these_bytes, hold_at}
 use Rattle.regress_tree.specs.Tree.{Leaf, empty, goal, char, byte_sequence, byte_set, char_set, match_any, match_any_except_line_terminator, anchor, word_boundary, bracket, back_ref, string_set, Tree, leaf, cat, alt, wrapped}
 use Rattle.regress_match.specs.Leaves.{put, takes_one, test_of, leaf_test}
@@ -140,3 +141,26 @@ pub back_some : (d : Direction) (r : Reading) (same : ℕ → ℕ → Bool) (id 
     back_reference d r same id s ≡ all_of d r same (in_order d (characters_from r (end - start) start end)) s
 unfolding back_reference
 back_some d r same id start end s some = ap (λ span. once_more d r same span s) some
+
+-- an item, whatever stands for one past the end
+pub get_or_at : {A : Type 0} (xs : List A) (i : ℕ) (v w : A) → get_or xs i v ≡ v → i < length xs → get_or xs i w ≡ v
+get_or_at [] i v w is within = absurd (omega (arith, within))
+get_or_at (x ∷ xs) zero v w is within = is
+get_or_at (x ∷ xs) (suc i) v w is within = get_or_at xs i v w is (omega (arith, within))
+
+pub none_of : {A : Type 0} (o : Option A) → ((x : A) → o ≡ Some x → ⊥) → o ≡ None
+none_of None h = refl
+none_of (Some x) h = absurd (h x refl)
+
+pub holds_is : (test : ℕ → Bool) (s : State) (b : Bool) → test s.place ≡ b → hold_at test s ≡ (if b then s ∷ [] else [])
+unfolding hold_at
+holds_is test s b is = ap (λ (x : Bool). if x then s ∷ [] else []) is
+
+pub any-nil : (d : Direction) (r : Reading) (same : ℕ → ℕ → Bool) (s : State) → any_string d r same [] s ≡ []
+unfolding any_string
+any-nil d r same s = refl
+
+pub any-cons : (d : Direction) (r : Reading) (same : ℕ → ℕ → Bool) (string : List ℕ) (strings : List (List ℕ)) (s : State) →
+    any_string d r same (string ∷ strings) s ≡ all_of d r same (in_order d string) s ++ any_string d r same strings s
+unfolding any_string
+any-cons d r same string strings s = refl

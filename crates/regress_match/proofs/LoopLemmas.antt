@@ -1,6 +1,14 @@
 -- Turns of loops, groups and rows, as tasks do them.
 use Rattle.std.proofs.Common.{◌≡◌, ℕ, zero, suc, ◌+◌, ◌-◌, ◌≤◌, ◌<◌, Bool, true, false, not, ◌==◌, List, [], ◌∷◌, ◌++◌, filter, flat_map, map, refl, sym, ap, ap₂, ◌∙◌, arith, if◌then◌else◌, not-suc-le-zero, append-nil}
-use Rattle.regress_tree.specs.Repetition.{turns, moving, up_to}
+use Rattle.std.proofs.Common.{length}
+use Rattle.regress_base.specs.declared.types.Quantifier.{Quantifier}
+use Rattle.regress_tree.specs.Matching.{steps}
+use Rattle.regress_tree.specs.Tree.{Tree, tree}
+use Rattle.regress_tree.specs.Repetition.{turn, turns, moving, up_to, more_turns, repeat}
+use Rattle.regress_match.specs.Machine.{what_step, more_of}
+use Rattle.regress_match.specs.Subject.{Subject}
+use Rattle.regress_match.specs.declared.machine.Repeat.{Repeat}
+use Rattle.regress_match.specs.declared.machine.What.TheVariants as whats
 use Rattle.regress_tree.specs.Steps.{State, Step, stay, ◌then_◌, ◌or_◌, capture, captured}
 use Rattle.regress_tree.proofs.laws.Outcomes.{flat_map-then}
 
@@ -46,3 +54,27 @@ pub more_lazy : (greedy : Bool) (n : ℕ) (f : Step) (s : State) → greedy ≡ 
 more_lazy greedy n f s is le =
     let more : Step = moving f then_ up_to greedy (n - 1) f in
     ap (λ h. h s) (more-less greedy n f le) ∙ ap (λ (b : Bool). (if b then more or_ stay else stay or_ more) s) is
+
+-- a loop, as the task that it begins with
+pub loop_is : (u : Subject) (r : Repeat) (q : Quantifier) (start end : ℕ) (body : Tree) (s : State) → tree r.body.now ≡ body →
+    r.start ≡ start → r.end ≡ end → r.greedy ≡ q.greedy → r.more ≡ more_turns (length u.bytes + 1) q →
+    repeat (length u.bytes + 1) q start end (steps u.setting u.bytes u.direction body) s ≡ what_step u (whats.Turns r q.min) s
+unfolding repeat
+loop_is u r q start end body s is-body is-start is-end is-greedy is-more =
+    let all : Tree → ℕ → ℕ → Bool → ℕ → List State = λ b i j g m.
+        let T = turn i j (steps u.setting u.bytes u.direction b) in flat_map (up_to g m T) (turns q.min T s) in
+    sym (ap (λ b. all b r.start r.end r.greedy r.more) is-body ∙ ap (λ i. all body i r.end r.greedy r.more) is-start
+    ∙ ap (λ j. all body start j r.greedy r.more) is-end ∙ ap (λ g. all body start end g r.more) is-greedy
+    ∙ ap (λ m. all body start end q.greedy m) is-more)
+
+equal_test : (j k : ℕ) → j ≡ k → (j == k) ≡ true
+equal_test j k is = grind arith
+
+unequal_test : (j k : ℕ) → (j ≡ k → ⊥) → (j == k) ≡ false
+unequal_test j k not' = grind arith
+
+pub moved_not : (u : Subject) (r : Repeat) (entry : ℕ) (s : State) → s.place ≡ entry → what_step u (whats.Moved r entry) s ≡ []
+moved_not u r entry s is = ap (λ (b : Bool). if b then [] else more_of u r s) (equal_test s.place entry is)
+
+pub moved_on : (u : Subject) (r : Repeat) (entry : ℕ) (s : State) → (s.place ≡ entry → ⊥) → what_step u (whats.Moved r entry) s ≡ more_of u r s
+moved_on u r entry s is = ap (λ (b : Bool). if b then [] else more_of u r s) (unequal_test s.place entry is)

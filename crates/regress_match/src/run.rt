@@ -1,5 +1,5 @@
 //! Runs of the machine, within steps.
-ghost use Rattle.std.specs.Prelude.{◌≡◌, [], IfOk, List};
+ghost use Rattle.std.specs.Prelude.{◌≡◌, ◌≤◌, [], IfOk, List};
 ghost use Rattle.regress_tree.specs.Lookaround.{look};
 ghost use Rattle.regress_tree.specs.Matching.{steps};
 ghost use Rattle.regress_tree.specs.Steps.{State};
@@ -30,6 +30,7 @@ pub fn run(
     requires { captures.old.trail.items ≡ [] }
     ensures answers { IfOk result (let u = subject rules.entry text.now in
         Answers (steps u.setting u.bytes u.direction (tree node.now) (state captures.old start)) captures.new) }
+    ensures budget { IfOk result (λ _. budget.new ≤ budget.old) }
     ensures undo { IfOk result (λ _. undone captures.new.trail.items captures.new.spans.items ≡ captures.old.spans.items) }
 {
     let mut machine = Machine {
@@ -75,6 +76,7 @@ fn settle(
 ) -> Result<Settled, AllocError>
     ensures settles { IfOk result (λ settled. (outcomes : List State) (m : Machine) → (let u = subject rules.entry text.now in
         Continues u outcomes m captures.old next.entry → Settles u outcomes m captures.new settled)) }
+    ensures budget { IfOk result (λ _. budget.new ≤ budget.old) }
     ensures later { IfOk result (λ _. Later captures.old captures.new) }
 {
     match next {
@@ -100,6 +102,7 @@ fn look(
 ) -> Result<Looked, AllocError>
     ensures looks { IfOk result (let u = subject rules.entry text.now in let l = looking.entry in
         Looks (look l.negate (steps u.setting u.bytes (direction_of l.backwards) (tree l.body.now)) (state captures.old l.place)) captures.new l.place) }
+    ensures budget { IfOk result (λ _. budget.new ≤ budget.old) }
     ensures later { IfOk result (λ _. Later captures.old captures.new) }
 {
     let noted = captures.trail.len();
