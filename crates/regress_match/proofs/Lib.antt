@@ -6,3 +6,4 @@ pub mod LoopLemmas
 pub mod ReadingLemmas
 pub mod RunLemmas
 pub mod LeafLemmas
+pub mod BetweenLemmas

@@ -14,8 +14,8 @@ returns-in_ok-close-in-Close c =
     let place = c.args.place in
     let next = c.args.task.next in
     let s = state captures place in
-    goes_changed u (what_step u c.args.task.what) m captures c.close.new.self place next c.in_ok-close.ensures.later
-    (ap (λ w. what_step u w s) c.in-Close.is ∙ ap (λ t. t ∷ []) (sym c.in_ok-close.ensures.state))
+    goes_changed u (what_step u c.args.task.what) m captures c.close.new.self place next c.in_ok-close-in-Close.ensures.later
+    (ap (λ w. what_step u w s) c.in-Close.is ∙ ap (λ t. t ∷ []) (sym c.in_ok-close-in-Close.ensures.state))
 
 pub returns-in-Turns : goal.returns-in-Turns
 returns-in-Turns c =

@@ -113,5 +113,5 @@ returns-in_ok-leaf-in_default c =
     let captures = c.args.captures.now in
     let s = state captures c.args.place in
     let one : has_one_outcome (tree c.args.node.now) ≡ true = first_of (search (rules, the_lemmas), grind (arith, the_lemmas)) in
-    goes_put u _ m captures c.args.place c.args.next c.in_ok-leaf.field-0 c.go.result (c.in_ok-leaf.ensures one)
+    goes_put u _ m captures c.args.place c.args.next c.in_ok-leaf-in_default.field-0 c.go.result (c.in_ok-leaf-in_default.ensures one)
     (c.go.ensures u m captures c.args.place)
