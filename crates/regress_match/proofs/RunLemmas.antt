@@ -1,6 +1,9 @@
 -- Steps of a run, lookarounds in it, and its ends.
 use Rattle.std.proofs.Common.{◌≡◌, ℕ, zero, suc, ◌+◌, ◌-◌, ◌≤◌, ◌<◌, Bool, true, false, List, [], ◌∷◌, ◌++◌, flat_map, filter, not, length, take, drop, refl, sym, ap, ap₂, subst, ◌∙◌, append-nil, arith, slice_index_or, Option, Some, None}
 use Rattle.std.proofs.lemmas.List.{length-append}
+use Rattle.std.proofs.Math.Seq.{drop-append_seam}
+use Rattle.std.proofs.Common.{Result, Ok, Err, IfOk}
+use Rattle.regress_match.specs.declared.captures.Undo.{Undo}
 use Rattle.regress_tree.specs.Lookaround.{look, looked}
 use Rattle.regress_tree.specs.Matching.{steps}
 use Rattle.regress_tree.specs.Steps.{State, Step, Span, stay, ◌then_◌, distinct, same_state}
@@ -112,3 +115,21 @@ distinct_first states rest s is = (filter (λ t. not (same_state s t)) (distinct
 
 pub distinct_none : (states : List State) → states ≡ [] → distinct states ≡ []
 distinct_none states is = ap distinct is
+
+-- The changes of a lookaround, undone again.
+pub rewound : (before since all : List Undo) (noted : ℕ) (spans spans' spans'' : List (Option Span)) → all ≡ before ++ since → noted ≡ length before →
+    undone since spans' ≡ spans → spans'' ≡ undone (drop noted all) spans' → spans'' ≡ spans
+rewound before since all noted spans spans' spans'' split len undo is =
+    is ∙ ap₂ (λ k us. undone (drop k us) spans') len split ∙ ap (λ us. undone us spans') (drop-append_seam before since) ∙ undo
+
+pub rewound_trail : (before since all : List Undo) (noted : ℕ) → all ≡ before ++ since → noted ≡ length before → take noted all ≡ before ++ []
+rewound_trail before since all noted split len =
+    ap₂ (λ k us. take k us) len split ∙ taken before since ∙ sym (append-nil before)
+  where
+    taken : (xs ys : List Undo) → take (length xs) (xs ++ ys) ≡ xs
+    taken [] ys = refl
+    taken (x ∷ xs) ys = ap (λ zs. x ∷ zs) (taken xs ys)
+
+pub ok_always : {T E P : Type 0} (r : Result T E) → P → IfOk r (λ _. P)
+ok_always (Ok x) p = p
+ok_always (Err e) p = tt

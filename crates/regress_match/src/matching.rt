@@ -1,5 +1,6 @@
 //! Matching at a place.
-ghost use Rattle.std.specs.Prelude.{◌≡◌, ℕ, IfOk, length};
+ghost use Rattle.std.specs.Prelude.{◌≡◌, ◌+◌, ◌<◌, ◌^◌, ℕ, None, IfOk, length, min, replicate};
+ghost use Rattle.regress_tree.specs.Gathered.{own_group};
 ghost use Rattle.regress_tree.specs.Matching.{matches};
 ghost use Rattle.regress_tree.specs.Reading.{forwards};
 ghost use Rattle.regress_tree.specs.Tree.{tree};
@@ -79,22 +80,40 @@ pub fn match_at(
 }
 
 /// So many groups that have not matched.
-fn no_spans(alloc: Global, count: usize) -> Result<Vec<Option<(usize, usize)>>, AllocError> {
+fn no_spans(alloc: Global, count: usize) -> Result<Vec<Option<(usize, usize)>>, AllocError>
+    ensures items { IfOk result (λ spans. spans.items ≡ replicate count None) }
+    ensures room { IfOk result (λ _. count < 2 ^ 63) }
+{
     let mut spans = Vec::new(alloc);
-    for _ in 0..count {
+    while spans.len() < count {
         spans.push(None)?;
     }
     Ok(spans)
 }
 
-/// How many capture groups a tree has.
-fn group_count(node: &Node) -> usize {
-    let mut count: usize = 0;
-    let mut visit = |node: &Node, _: &mut Walk| {
+/// Counts capture groups.
+#[derive(Drop)]
+struct Counter {
+    groups: usize,
+}
+
+impl Counter {
+    /// Counts a node that is one.
+    fn visit(&mut self, node: &Node)
+        ensures { self.new.groups ≡ min (self.old.groups + length (own_group (tree node.now))) usize.MAX }
+    {
         if let Node::CaptureGroup { .. } = node {
-            count = count.saturating_add(1);
+            self.groups = self.groups.saturating_add(1);
         }
-    };
+    }
+}
+
+/// How many capture groups a tree has, as far as they can be counted.
+fn group_count(node: &Node) -> usize
+    ensures { result ≡ min (length (captures (tree node.now))) usize.MAX }
+{
+    let mut counter = Counter { groups: 0 };
+    let mut visit = |node: &Node, _: &mut Walk| counter.visit(node);
     walk(false, false, node, &mut visit);
-    count
+    counter.groups
 }
