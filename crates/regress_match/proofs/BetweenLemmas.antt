@@ -41,11 +41,12 @@ pub between_next : (bytes : List ℕ) (start end place : ℕ) (found found' whol
 between_next bytes start end place found found' whole read far lt is grown so_far =
     let on = onward bytes place read is in
     let len : length found' ≡ length found + 1 = ap length grown ∙ length-append found (read.character ∷ []) in
-    let n = end - start - length found in
-    (omega (arith, far, on, len),
-    so_far
-    ∙ ap (λ xs. found ++ xs) (characters_next (of_bytes bytes) n place end read (omega (arith, far, lt)) lt is)
-    ∙ sym (append_assoc found (read.character ∷ []) (characters_from (of_bytes bytes) (n - 1) read.place end))
-    ∙ ap (λ xs. xs ++ characters_from (of_bytes bytes) (n - 1) read.place end) (sym grown)
-    ∙ ap (λ m. found' ++ characters_from (of_bytes bytes) m read.place end) (omega (arith, len)),
-    omega (arith, on, lt))
+    let n = end - start - length found in (
+      omega (arith, far, on, len),
+      so_far
+          ∙ ap (λ xs. found ++ xs) (characters_next (of_bytes bytes) n place end read (omega (arith, far, lt)) lt is)
+          ∙ sym (append_assoc found (read.character ∷ []) (characters_from (of_bytes bytes) (n - 1) read.place end))
+          ∙ ap (λ xs. xs ++ characters_from (of_bytes bytes) (n - 1) read.place end) (sym grown)
+          ∙ ap (λ m. found' ++ characters_from (of_bytes bytes) m read.place end) (omega (arith, len)),
+      omega (arith, on, lt),
+    )

@@ -72,11 +72,12 @@ later_set c c' w span was trail spans = record {
 pub rewind_step : (us vs : List Undo) (w : Undo) (spans spans' : List (Option Span)) (k : ℕ) → us ≡ vs ++ w ∷ [] → k ≤ length vs →
     spans' ≡ set spans w.group w.before →
     (take k vs ≡ take k us) × (undone (drop k vs) spans' ≡ undone (drop k us) spans)
-rewind_step us vs w spans spans' k split le is =
-    (sym (ap (take k) split ∙ take-within k vs (w ∷ []) le),
-    ap (undone (drop k vs)) (is ∙ sym (undone-one w spans))
-    ∙ sym (undone-append (drop k vs) (w ∷ []) spans)
-    ∙ ap (λ ws. undone ws spans) (sym (drop-within k vs (w ∷ []) le) ∙ ap (drop k) (sym split)))
+rewind_step us vs w spans spans' k split le is = (
+  sym (ap (take k) split ∙ take-within k vs (w ∷ []) le),
+  ap (undone (drop k vs)) (is ∙ sym (undone-one w spans))
+      ∙ sym (undone-append (drop k vs) (w ∷ []) spans)
+      ∙ ap (λ ws. undone ws spans) (sym (drop-within k vs (w ∷ []) le) ∙ ap (drop k) (sym split)),
+)
   where
     take-within : {A : Type 0} (j : ℕ) (xs ys : List A) → j ≤ length xs → take j (xs ++ ys) ≡ take j xs
     take-within zero xs ys le = refl

@@ -59,8 +59,8 @@ pub chosen : (u : Subject) (m m' : Machine) (c : Captures) (d : Choice) → m'.t
     d.task ≤ length m.tasks.items → Chosen u m m' c d.place d.task
 chosen u m m' c d tasks choices known noted le =
     let here : saved c d ≡ state c d.place =
-        ap (λ us. record { place = d.place; captures = undone us c.spans.items }) (drop_all d.noted c.trail.items (omega (arith, noted)))
-        ∙ ap (λ xs. record { place = d.place; captures = xs }) (undone-nil c.spans.items) in
+    ap (λ us. record { place = d.place; captures = undone us c.spans.items }) (drop_all d.noted c.trail.items (omega (arith, noted)))
+    ∙ ap (λ xs. record { place = d.place; captures = xs }) (undone-nil c.spans.items) in
     record {
       same = tasks;
       waits = ap₂ (λ xs cs. pending u xs cs c) tasks choices ∙ pending-push u m.tasks.items m.choices.items c d
@@ -72,8 +72,11 @@ chosen u m m' c d tasks choices known noted le =
 pub goes_on : (u : Subject) (f : Step) (m : Machine) (c : Captures) (place next to : ℕ) → f (state c place) ≡ state c to ∷ [] →
     Does u f m c place next m c (nexts.Go to next)
 goes_on u f m c place next to is = record {
-  continues = λ le machine. (machine, le,
-      ap (λ states. onward u m c next states) is ∙ ap (λ xs. xs ++ waiting u m c) (append-nil (todo u m.tasks.items next (state c to))));
+  continues = λ le machine. (
+    machine,
+    le,
+    ap (λ states. onward u m c next states) is ∙ ap (λ xs. xs ++ waiting u m c) (append-nil (todo u m.tasks.items next (state c to))),
+  );
   later = Later-refl c;
 }
 
@@ -90,11 +93,13 @@ pub goes_pushed : (u : Subject) (f g : Step) (m m' : Machine) (c c' : Captures) 
     Does u f m c place next m' c' (nexts.Go place task)
 goes_pushed u f g m m' c c' place next task pushes later same = record {
   continues = λ le machine.
-      let pushed = pushes le in
-      (machine_later m' c c' (pushed.machine c machine) later, pushed.fits,
-      ap (λ states. onward u m c next states) same
-      ∙ ap₂ ◌++◌ (ap (λ h. h (state c' place)) (sym pushed.does))
-      (sym (waiting_later u m' c c' (pushed.machine c machine) later ∙ pushed.waits c machine)));
+      let pushed = pushes le in (
+        machine_later m' c c' (pushed.machine c machine) later,
+        pushed.fits,
+        ap (λ states. onward u m c next states) same
+            ∙ ap₂ ◌++◌ (ap (λ h. h (state c' place)) (sym pushed.does))
+            (sym (waiting_later u m' c c' (pushed.machine c machine) later ∙ pushed.waits c machine)),
+      );
   later = later;
 }
 
@@ -123,8 +128,8 @@ does_or_stay u f g m m' c place next m'' c' r chose same does = record {
       let choice = chose le in
       let le' : next ≤ length m'.tasks.items = omega (arith, le, ap length choice.same) in
       let goal : onward u m c next (g (state c place)) ≡ onward u m' c next (f (state c place)) =
-          ap (λ states. onward u m c next states) same ∙ onward_or u m c next (f (state c place)) (state c place)
-          ∙ ap₂ ◌++◌ (ap (λ ts. flat_map (todo u ts next) (f (state c place))) (sym choice.same)) (sym choice.waits) in
+      ap (λ states. onward u m c next states) same ∙ onward_or u m c next (f (state c place)) (state c place)
+      ∙ ap₂ ◌++◌ (ap (λ ts. flat_map (todo u ts next) (f (state c place))) (sym choice.same)) (sym choice.waits) in
       subst (λ states. Continues u states m'' c' r) (sym goal) (does.continues le' (choice.machine machine));
   later = does.later;
 }
@@ -138,13 +143,14 @@ does_stay_or u f g m m' m'' c place next task to pushes chose same = record {
       let pushed = pushes le in
       let choice = chose pushed.fits in
       let T = todo u m.tasks.items next in
-      let same-todo : todo u m''.tasks.items next ≡ T = ap (λ ts. todo u ts next) choice.same ∙ pushed.others next le in
-      (choice.machine (pushed.machine c machine),
-      omega (arith, le, pushed.grown, ap length choice.same),
-      ap (λ states. onward u m c next states) same
-      ∙ append_assoc (T (state c to)) (flat_map T (f (state c place))) (waiting u m c)
-      ∙ ap₂ ◌++◌ (ap (λ h. h (state c to)) (sym same-todo))
-      (ap₂ ◌++◌ (ap (λ h. h (state c place)) (sym pushed.does)) (sym (pushed.waits c machine)) ∙ sym choice.waits));
+      let same-todo : todo u m''.tasks.items next ≡ T = ap (λ ts. todo u ts next) choice.same ∙ pushed.others next le in (
+        choice.machine (pushed.machine c machine),
+        omega (arith, le, pushed.grown, ap length choice.same),
+        ap (λ states. onward u m c next states) same
+            ∙ append_assoc (T (state c to)) (flat_map T (f (state c place))) (waiting u m c)
+            ∙ ap₂ ◌++◌ (ap (λ h. h (state c to)) (sym same-todo))
+            (ap₂ ◌++◌ (ap (λ h. h (state c place)) (sym pushed.does)) (sym (pushed.waits c machine)) ∙ sym choice.waits),
+      );
   later = Later-refl c;
 }
 
@@ -164,14 +170,16 @@ does_either u f g h m m1 m2 m3 c place next other task pushes chose pushes' same
       let machine2 = choice.machine machine1 in
       let same-todo : todo u m2.tasks.items next ≡ T = ap (λ ts. todo u ts next) choice.same ∙ pushed.others next le in
       let first : flat_map T (f s) ≡ todo u m3.tasks.items task s =
-          ap (λ k. flat_map k (f s)) (sym same-todo) ∙ ap (λ k. k s) (sym pushed'.does) in
+      ap (λ k. flat_map k (f s)) (sym same-todo) ∙ ap (λ k. k s) (sym pushed'.does) in
       let second : flat_map T (g s) ++ waiting u m c ≡ waiting u m3 c =
-          ap₂ ◌++◌ (ap (λ k. k s) (sym pushed.does)) (sym (pushed.waits c machine)) ∙ sym choice.waits ∙ sym (pushed'.waits c machine2) in
-      (pushed'.machine c machine2, pushed'.fits,
-      ap (λ states. onward u m c next states) same
-      ∙ ap (λ xs. xs ++ waiting u m c) (flat_map-append T (f s) (g s))
-      ∙ append_assoc (flat_map T (f s)) (flat_map T (g s)) (waiting u m c)
-      ∙ ap₂ ◌++◌ first second);
+      ap₂ ◌++◌ (ap (λ k. k s) (sym pushed.does)) (sym (pushed.waits c machine)) ∙ sym choice.waits ∙ sym (pushed'.waits c machine2) in (
+        pushed'.machine c machine2,
+        pushed'.fits,
+        ap (λ states. onward u m c next states) same
+            ∙ ap (λ xs. xs ++ waiting u m c) (flat_map-append T (f s) (g s))
+            ∙ append_assoc (flat_map T (f s)) (flat_map T (g s)) (waiting u m c)
+            ∙ ap₂ ◌++◌ first second,
+      );
   later = Later-refl c;
 }
 
@@ -187,9 +195,12 @@ nothing_in (x ∷ xs) none = absurd (omega (arith, none))
 pub goes_changed : (u : Subject) (f : Step) (m : Machine) (c c' : Captures) (place next : ℕ) → Later c c' → f (state c place) ≡ state c' place ∷ [] →
     Does u f m c place next m c' (nexts.Go place next)
 goes_changed u f m c c' place next later is = record {
-  continues = λ le machine. (machine_later m c c' machine later, le,
-      ap (λ states. onward u m c next states) is
-      ∙ ap₂ ◌++◌ (append-nil (todo u m.tasks.items next (state c' place))) (sym (waiting_later u m c c' machine later)));
+  continues = λ le machine. (
+    machine_later m c c' machine later,
+    le,
+    ap (λ states. onward u m c next states) is
+        ∙ ap₂ ◌++◌ (append-nil (todo u m.tasks.items next (state c' place))) (sym (waiting_later u m c c' machine later)),
+  );
   later = later;
 }
 

@@ -62,7 +62,7 @@ pub loop_is : (u : Subject) (r : Repeat) (q : Quantifier) (start end : ℕ) (bod
 unfolding repeat
 loop_is u r q start end body s is-body is-start is-end is-greedy is-more =
     let all : Tree → ℕ → ℕ → Bool → ℕ → List State = λ b i j g m.
-        let T = turn i j (steps u.setting u.bytes u.direction b) in flat_map (up_to g m T) (turns q.min T s) in
+    let T = turn i j (steps u.setting u.bytes u.direction b) in flat_map (up_to g m T) (turns q.min T s) in
     sym (ap (λ b. all b r.start r.end r.greedy r.more) is-body ∙ ap (λ i. all body i r.end r.greedy r.more) is-start
     ∙ ap (λ j. all body start j r.greedy r.more) is-end ∙ ap (λ g. all body start end g r.more) is-greedy
     ∙ ap (λ m. all body start end q.greedy m) is-more)

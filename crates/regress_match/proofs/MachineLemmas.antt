@@ -170,7 +170,7 @@ pub choice_known : (m : Machine) (c : Captures) (cs : List Choice) (d : Choice) 
     (d.known ≤ length m.tasks.items) × (d.noted ≤ length c.trail.items)
 choice_known m c cs d is split =
     let known = known-pop 0 0 cs d (length m.tasks.items) (length c.trail.items)
-        (subst (λ ds. known_from 0 0 ds (length m.tasks.items) (length c.trail.items)) split is.known) in
+    (subst (λ ds. known_from 0 0 ds (length m.tasks.items) (length c.trail.items)) split is.known) in
     (known.2, known.3)
 
 drop-take : {A : Type 0} (j k : ℕ) (xs : List A) → j ≤ k → k ≤ length xs → drop j (take k xs) ++ drop k xs ≡ drop j xs
@@ -189,32 +189,33 @@ pop_choice u m m' c c' d is split tasks trail spans =
     let us = take d.known ts in
     let cs = m'.choices.items in
     let known = known-pop 0 0 cs d (length ts) (length c.trail.items)
-        (subst (λ ds. known_from 0 0 ds (length ts) (length c.trail.items)) split is.known) in
+    (subst (λ ds. known_from 0 0 ds (length ts) (length c.trail.items)) split is.known) in
     let len : length us ≡ d.known = length-take-le d.known ts known.2 in
     let len-trail : length (take d.noted c.trail.items) ≡ d.noted = length-take-le d.noted c.trail.items known.3 in
     let parts : ts ≡ us ++ drop d.known ts = sym (take-append-drop d.known ts) in
     let within : d.task ≤ length us = omega (arith, len, known.1) in
     let known' : known_from 0 0 cs (length us) d.noted = subst (λ n. known_from 0 0 cs n d.noted) (sym len) known.0 in
     let known'' : known_from 0 0 cs (length m'.tasks.items) (length c'.trail.items) =
-        subst (λ ts'. known_from 0 0 cs (length ts') (length c'.trail.items)) (sym tasks)
-        (subst (λ k. known_from 0 0 cs (length us) k) (sym (ap length trail ∙ len-trail)) known') in
+    subst (λ ts'. known_from 0 0 cs (length ts') (length c'.trail.items)) (sym tasks)
+    (subst (λ k. known_from 0 0 cs (length us) k) (sym (ap length trail ∙ len-trail)) known') in
     let same : (k : ℕ) → k ≤ d.noted → undone (drop k c'.trail.items) c'.spans.items ≡ undone (drop k c.trail.items) c.spans.items =
-        λ k le.
-        ap₂ (λ ws xs. undone (drop k ws) xs) trail spans
-        ∙ sym (undone-append (drop k (take d.noted c.trail.items)) (drop d.noted c.trail.items) c.spans.items)
-        ∙ ap (λ ws. undone ws c.spans.items) (drop-take k d.noted c.trail.items le known.3) in
+    λ k le.
+    ap₂ (λ ws xs. undone (drop k ws) xs) trail spans
+    ∙ sym (undone-append (drop k (take d.noted c.trail.items)) (drop d.noted c.trail.items) c.spans.items)
+    ∙ ap (λ ws. undone ws c.spans.items) (drop-take k d.noted c.trail.items le known.3) in
     let here : todo u ts d.task (saved c d) ≡ todo u m'.tasks.items d.task (state c' d.place) =
-        ap₂ (λ vs xs. todo u vs d.task (record { place = d.place; captures = xs })) parts (sym spans)
-        ∙ ap (λ f. f (state c' d.place)) (todo-append u us (drop d.known ts) d.task within)
-        ∙ ap (λ vs. todo u vs d.task (state c' d.place)) (sym tasks) in
+    ap₂ (λ vs xs. todo u vs d.task (record { place = d.place; captures = xs })) parts (sym spans)
+    ∙ ap (λ f. f (state c' d.place)) (todo-append u us (drop d.known ts) d.task within)
+    ∙ ap (λ vs. todo u vs d.task (state c' d.place)) (sym tasks) in
     let others : pending u ts cs c ≡ pending u m'.tasks.items cs c' =
-        ap (λ vs. pending u vs cs c) parts
-        ∙ pending-append u us (drop d.known ts) 0 0 cs c d.noted known'
-        ∙ sym (pending-captures u us 0 0 cs c c' (length us) d.noted known' same)
-        ∙ ap (λ vs. pending u vs cs c') (sym tasks) in
-    (record { linked = subst (linked_from 0) (sym tasks) (linked-take 0 d.known ts is.linked); known = known'' },
-    omega (arith, within, ap length tasks),
-    ap (λ ds. pending u ts ds c) split ∙ pending-push u ts cs c d ∙ ap₂ ◌++◌ here others)
+    ap (λ vs. pending u vs cs c) parts
+    ∙ pending-append u us (drop d.known ts) 0 0 cs c d.noted known'
+    ∙ sym (pending-captures u us 0 0 cs c c' (length us) d.noted known' same)
+    ∙ ap (λ vs. pending u vs cs c') (sym tasks) in (
+      record { linked = subst (linked_from 0) (sym tasks) (linked-take 0 d.known ts is.linked); known = known'' },
+      omega (arith, within, ap length tasks),
+      ap (λ ds. pending u ts ds c) split ∙ pending-push u ts cs c d ∙ ap₂ ◌++◌ here others,
+    )
 
 pub pending-nil : (u : Subject) (m : Machine) (c : Captures) → m.choices.items ≡ [] → waiting u m c ≡ []
 unfolding pending
@@ -230,12 +231,13 @@ todo-at u ts i t linked lt is =
     let len : length us ≡ i = length-take-le i ts (omega (arith, lt)) in
     let len1 : length (us ++ t ∷ []) ≡ length us + 1 = length-append us (t ∷ []) in
     let split : ts ≡ (us ++ t ∷ []) ++ vs =
-        sym (take-append-drop (suc i) ts) ∙ ap (λ xs. xs ++ vs) (take-suc ts i t lt ∙ ap (λ w. us ++ w ∷ []) (sym is)) in
+    sym (take-append-drop (suc i) ts) ∙ ap (λ xs. xs ++ vs) (take-suc ts i t lt ∙ ap (λ w. us ++ w ∷ []) (sym is)) in
     let here : todo u (us ++ t ∷ []) (i + 1) ≡ (what_step u t.what then_ todo u us t.next) =
-        ap (todo u (us ++ t ∷ [])) (omega (arith, len)) ∙ todo-push u us t (omega (arith, len, le)) in
+    ap (todo u (us ++ t ∷ [])) (omega (arith, len)) ∙ todo-push u us t (omega (arith, len, le)) in
     let before : todo u ts t.next ≡ todo u us t.next =
-        ap (λ xs. todo u xs t.next) (split ∙ append_assoc us (t ∷ []) vs) ∙ todo-append u us ((t ∷ []) ++ vs) t.next (omega (arith, len, le)) in
-    (omega (arith, le, lt),
-    ap (λ xs. todo u xs (i + 1)) split
-    ∙ todo-append u (us ++ t ∷ []) vs (i + 1) (omega (arith, len, len1)) ∙ here
-    ∙ ap (λ f. what_step u t.what then_ f) (sym before))
+    ap (λ xs. todo u xs t.next) (split ∙ append_assoc us (t ∷ []) vs) ∙ todo-append u us ((t ∷ []) ++ vs) t.next (omega (arith, len, le)) in (
+      omega (arith, le, lt),
+      ap (λ xs. todo u xs (i + 1)) split
+          ∙ todo-append u (us ++ t ∷ []) vs (i + 1) (omega (arith, len, len1)) ∙ here
+          ∙ ap (λ f. what_step u t.what then_ f) (sym before),
+    )

@@ -47,10 +47,11 @@ length_drop bytes k some = omega (arith, some, length-drop k bytes)
 pub boundary_at : (bytes : List ℕ) (k c : ℕ) (rest : List ℕ) → IsScalar c → drop k bytes ≡ encode_utf8 c ++ rest → IsCharBoundary bytes k
 boundary_at bytes k c rest is here =
     let some : 1 ≤ length (drop k bytes) =
-        omega (arith, ap length here, length-append (encode_utf8 c) rest, length-encode c, len_positive c is) in
-    let first : get_or bytes k 0 ≡ get_or (encode c ++ rest) 0 0 = sym (first_of_drop bytes k) ∙ ap (λ bs. get_or bs 0 0) here in
-    (length_drop bytes k some,
-    λ lt high. subst (λ b. 192 ≤ b) (sym first) (first_leads c rest (subst (λ b. 128 ≤ b) first high)))
+    omega (arith, ap length here, length-append (encode_utf8 c) rest, length-encode c, len_positive c is) in
+    let first : get_or bytes k 0 ≡ get_or (encode c ++ rest) 0 0 = sym (first_of_drop bytes k) ∙ ap (λ bs. get_or bs 0 0) here in (
+      length_drop bytes k some,
+      λ lt high. subst (λ b. 192 ≤ b) (sym first) (first_leads c rest (subst (λ b. 128 ≤ b) first high)),
+    )
 
 pub after_none : (bytes : List ℕ) (k : ℕ) → (IsCharBoundary bytes k → ⊥) → character_at bytes k ≡ None
 after_none bytes k off =
@@ -99,12 +100,12 @@ pub before_none : (bytes : List ℕ) (k : ℕ) → IsUtf8 bytes → (1 ≤ k →
 unfolding read_before
 before_none bytes k utf8 off =
     let none : (n : ℕ) → read_before_by bytes n k ≡ None =
-        λ n. by_none (nat_le n k) (character_at bytes (k - n)) n k
-        (λ c within e len.
-        let parts = character_at_parts bytes (k - n) c e in
-        let start = boundary_at bytes (k - n) c parts.1.0 parts.0 parts.1.1 in
-        let past = IsCharBoundary-past_char bytes parts.1.0 (k - n) c start.0 (IsUtf8-drop bytes (k - n) utf8 start) parts.1.1 in
-        ends n c (len_positive c parts.0) within len past) in
+    λ n. by_none (nat_le n k) (character_at bytes (k - n)) n k
+    (λ c within e len.
+    let parts = character_at_parts bytes (k - n) c e in
+    let start = boundary_at bytes (k - n) c parts.1.0 parts.0 parts.1.1 in
+    let past = IsCharBoundary-past_char bytes parts.1.0 (k - n) c start.0 (IsUtf8-drop bytes (k - n) utf8 start) parts.1.1 in
+    ends n c (len_positive c parts.0) within len past) in
     all_none _ _ _ _ (none 1) (none 2) (none 3) (none 4)
   where
     ends : (n c : ℕ) → 1 ≤ len_utf8 c → nat_le n k ≡ true → (len_utf8 c == n) ≡ true → IsCharBoundary bytes (k - n + len_utf8 c) → ⊥
@@ -119,10 +120,10 @@ pub before_some : (bytes : List ℕ) (k c : ℕ) (xs : List ℕ) → IsScalar c 
     read_before bytes k ≡ Some (record { character = c; place = k - len_utf8 c })
 before_some bytes k c xs is le split =
     let len : length xs + len_utf8 c ≡ k =
-        sym (sym (length-take-le k bytes le) ∙ ap length split ∙ length-append xs (encode_utf8 c) ∙ ap (λ n. length xs + n) (length-encode c)) in
+    sym (sym (length-take-le k bytes le) ∙ ap length split ∙ length-append xs (encode_utf8 c) ∙ ap (λ n. length xs + n) (length-encode c)) in
     let whole : bytes ≡ xs ++ (encode_utf8 c ++ drop k bytes) =
-        sym (take-append-drop k bytes) ∙ ap (λ ys. ys ++ drop k bytes) split ∙ append_assoc xs (encode_utf8 c) (drop k bytes) in
+    sym (take-append-drop k bytes) ∙ ap (λ ys. ys ++ drop k bytes) split ∙ append_assoc xs (encode_utf8 c) (drop k bytes) in
     let here : drop (length xs) bytes ≡ encode_utf8 c ++ drop k bytes =
-        ap (drop (length xs)) whole ∙ drop-append_seam xs (encode_utf8 c ++ drop k bytes) in
+    ap (drop (length xs)) whole ∙ drop-append_seam xs (encode_utf8 c ++ drop k bytes) in
     ap (read_before bytes) (sym len) ∙ read_before-behind bytes (length xs) c (drop k bytes) is here
     ∙ ap (λ i. Some (record { character = c; place = i })) (omega (arith, len))

@@ -34,14 +34,16 @@ empty_machine m c tasks choices = record {
 pub begins : (u : Subject) (m m' : Machine) (c : Captures) (f : Step) (start task : ℕ) → m.tasks.items ≡ [] → m.choices.items ≡ [] →
     Pushed u m m' f 0 task → IsMachine m' c × (task ≤ length m'.tasks.items) × (f (state c start) ≡ left_at u m' c start task)
 begins u m m' c f start task tasks choices pushed =
-    let is = empty_machine m c tasks choices in
-    (pushed.machine c is, pushed.fits,
-    sym (ap₂ ◌++◌
-    (ap (λ h. h (state c start)) pushed.does
-    ∙ ap (λ h. flat_map h (f (state c start))) (todo-none u m.tasks.items)
-    ∙ flat_map-stay (f (state c start)))
-    (pushed.waits c is ∙ pending-nil u m c choices)
-    ∙ append-nil (f (state c start))))
+    let is = empty_machine m c tasks choices in (
+      pushed.machine c is,
+      pushed.fits,
+      sym (ap₂ ◌++◌
+          (ap (λ h. h (state c start)) pushed.does
+          ∙ ap (λ h. flat_map h (f (state c start))) (todo-none u m.tasks.items)
+          ∙ flat_map-stay (f (state c start)))
+          (pushed.waits c is ∙ pending-nil u m c choices)
+          ∙ append-nil (f (state c start))),
+    )
 
 -- it does a task
 pub task_done : (u : Subject) (m m' : Machine) (c c' : Captures) (place task : ℕ) (t : Task) (r : Next) (outcomes : List State) →
@@ -51,17 +53,18 @@ task_done u m m' c c' place task t r outcomes is some within at left does =
     let found = todo-at u m.tasks.items (task - 1) t is.linked (omega (arith, some, within)) at in
     let number : task ≡ task - 1 + 1 = omega (arith, some) in
     let same : outcomes ≡ onward u m c t.next (what_step u t.what (state c place)) =
-        left ∙ ap (λ i. todo u m.tasks.items i (state c place) ++ waiting u m c) number
-        ∙ ap (λ h. h (state c place) ++ waiting u m c) found.1 in
+    left ∙ ap (λ i. todo u m.tasks.items i (state c place) ++ waiting u m c) number
+    ∙ ap (λ h. h (state c place) ++ waiting u m c) found.1 in
     subst (λ states. Continues u states m' c' r) (sym same) (does.continues found.0 is)
 
 -- it comes to its end
 pub ends_at : (u : Subject) (m : Machine) (c : Captures) (place task : ℕ) (outcomes : List State) → task ≡ 0 →
     outcomes ≡ left_at u m c place task → (rest : List State) × (outcomes ≡ state c place ∷ rest)
-ends_at u m c place task outcomes none left =
-    (waiting u m c,
-    left ∙ ap (λ i. todo u m.tasks.items i (state c place) ++ waiting u m c) none
-    ∙ ap (λ h. h (state c place) ++ waiting u m c) (todo-none u m.tasks.items))
+ends_at u m c place task outcomes none left = (
+  waiting u m c,
+  left ∙ ap (λ i. todo u m.tasks.items i (state c place) ++ waiting u m c) none
+      ∙ ap (λ h. h (state c place) ++ waiting u m c) (todo-none u m.tasks.items),
+)
 
 abbrev looking_steps : Subject → Looking → Step
 looking_steps u l = steps u.setting u.bytes (direction_of l.backwards) (tree l.body.now)
@@ -70,17 +73,20 @@ looking_steps u l = steps u.setting u.bytes (direction_of l.backwards) (tree l.b
 pub look_holds : (u : Subject) (outcomes : List State) (m : Machine) (c c' : Captures) (l : Looking) → Continues u outcomes m c (nexts.Look l) →
     Later c c' → look l.negate (looking_steps u l) (state c l.place) ≡ state c' l.place ∷ [] →
     Settles u outcomes m c' (settleds.On l.place l.next)
-look_holds u outcomes m c c' l goes later holds =
-    (machine_later m c c' goes.0 later, goes.1,
-    goes.2 ∙ ap (λ states. onward u m c l.next states) holds
-    ∙ ap₂ ◌++◌ (append-nil (todo u m.tasks.items l.next (state c' l.place))) (sym (waiting_later u m c c' goes.0 later)))
+look_holds u outcomes m c c' l goes later holds = (
+  machine_later m c c' goes.0 later,
+  goes.1,
+  goes.2 ∙ ap (λ states. onward u m c l.next states) holds
+      ∙ ap₂ ◌++◌ (append-nil (todo u m.tasks.items l.next (state c' l.place))) (sym (waiting_later u m c c' goes.0 later)),
+)
 
 -- it fails
 pub look_fails : (u : Subject) (outcomes : List State) (m : Machine) (c c' : Captures) (l : Looking) → Continues u outcomes m c (nexts.Look l) →
     Later c c' → look l.negate (looking_steps u l) (state c l.place) ≡ [] → Settles u outcomes m c' settleds.Off
-look_fails u outcomes m c c' l goes later fails =
-    (machine_later m c c' goes.0 later,
-    goes.2 ∙ ap (λ states. onward u m c l.next states) fails ∙ sym (waiting_later u m c c' goes.0 later))
+look_fails u outcomes m c c' l goes later fails = (
+  machine_later m c c' goes.0 later,
+  goes.2 ∙ ap (λ states. onward u m c l.next states) fails ∙ sym (waiting_later u m c c' goes.0 later),
+)
 
 -- what a lookaround comes to, by the first outcome of its body
 pub looked_first : (f : Step) (s t : State) (rest : List State) → f s ≡ t ∷ rest → look false f s ≡ record t { place = s.place } ∷ []

@@ -59,8 +59,8 @@ more_at k start zero (x ∷ xs) le =
 more_at k start (suc j) (x ∷ xs) le =
     let n : k + suc j ≡ k + 1 + j = omega arith in
     let rest : unset_from (k + 1) start (k + suc j + 1) xs ≡ set (unset_from (k + 1) start (k + suc j) xs) j None =
-        ap (λ m. unset_from (k + 1) start (m + 1) xs) n ∙ more_at (k + 1) start j xs (omega (arith, le))
-        ∙ ap (λ m. set (unset_from (k + 1) start m xs) j None) (sym n) in
+    ap (λ m. unset_from (k + 1) start (m + 1) xs) n ∙ more_at (k + 1) start j xs (omega (arith, le))
+    ∙ ap (λ m. set (unset_from (k + 1) start m xs) j None) (sym n) in
     ap₂ (λ (b : Bool) ys. (if b then None else x) ∷ ys) (sym (before_tests start (k + suc j) k (omega arith))) rest
 
 pub unset-more : (start group : ℕ) (spans : List (Option Span)) → start ≤ group →

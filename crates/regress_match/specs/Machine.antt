@@ -105,7 +105,7 @@ module _ (u : Subject) where
   Continues outcomes m c (nexts.Look l) =
       IsMachine m c × (l.next ≤ length m.tasks.items)
       × (outcomes ≡ onward m c l.next
-          (look l.negate (steps u.setting u.bytes (direction_of l.backwards) (tree l.body.now)) (state c l.place)))
+      (look l.negate (steps u.setting u.bytes (direction_of l.backwards) (tree l.body.now)) (state c l.place)))
 
   -- so does it once lookarounds are matched
   abbrev pub Settles : List State → Machine → Captures → Settled → Type 0

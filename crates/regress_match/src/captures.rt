@@ -41,10 +41,7 @@ impl Captures {
         ensures state { IfOk result (λ _. state self.new place ≡ captured group from (state self.old place)) }
         ensures later { IfOk result (λ _. Later self.old self.new) }
     {
-        self.set(
-            usize::from(group),
-            Some((from.min(place), from.max(place))),
-        )
+        self.set(usize::from(group), Some((from.min(place), from.max(place))))
     }
 
     /// Forgets what the groups `start` to `end` - 1 have captured.

@@ -43,10 +43,7 @@ pub fn leaf(
         Node::Anchor {
             anchor_type,
             multiline,
-        } => Ok(if_holds(
-            at_anchor(text, *anchor_type, *multiline, place),
-            place,
-        )),
+        } => Ok(if_holds(at_anchor(text, *anchor_type, *multiline, place), place)),
         Node::WordBoundary {
             invert,
             unicode_icase,

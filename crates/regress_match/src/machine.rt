@@ -141,7 +141,12 @@ impl<'a> Machine<'a> {
     }
 
     /// Adds a choice: that task, from that place.
-    pub fn choose(&mut self, place: usize, task: usize, captures: &Captures) -> Result<(), AllocError>
+    pub fn choose(
+        &mut self,
+        place: usize,
+        task: usize,
+        captures: &Captures,
+    ) -> Result<(), AllocError>
         ensures { IfOk result (λ _. (u : Subject) → task ≤ length self.old.tasks.items →
             Chosen u self.old self.new captures.now place task) }
     {

@@ -102,8 +102,9 @@ impl Counter {
     fn visit(&mut self, node: &Node)
         ensures { self.new.groups ≡ min (self.old.groups + length (own_group (tree node.now))) usize.MAX }
     {
+        let groups = self.groups;
         if let Node::CaptureGroup { .. } = node {
-            self.groups = self.groups.saturating_add(1);
+            self.groups = groups.saturating_add(1);
         }
     }
 }

@@ -183,7 +183,7 @@ fn alt<'a>(
 ) -> Result<Next<'a>, AllocError>
     ensures { IfOk result (λ to. (u : Subject) →
         Does u (steps u.setting u.bytes u.direction (tree left.now) or_ steps u.setting u.bytes u.direction (tree right.now))
-            machine.old captures.now place next machine.new captures.now to) }
+        machine.old captures.now place next machine.new captures.now to) }
 {
     let other = machine.push(What::Match(right), next)?;
     machine.choose(place, other, captures)?;

@@ -14,4 +14,4 @@ invariant-loop-i l =
     let same = stands_for (table_of l.rules.tables.now) l.icase l.rules.flags.unicode in
     let cs = in_order d l.characters in
     (s : State) → s.place ≡ l.place →
-        all_of d (of_bytes l.text) same (drop l.i cs) (record s { place = l.here }) ≡ all_of d (of_bytes l.text) same cs s
+    all_of d (of_bytes l.text) same (drop l.i cs) (record s { place = l.here }) ≡ all_of d (of_bytes l.text) same cs s

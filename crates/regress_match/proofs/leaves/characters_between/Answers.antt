@@ -19,5 +19,5 @@ loop-place-preserved c =
     let is : read_after c.args.text.now c.loop-place.place ≡ Some read = search rules in
     let grown : c.push.new.self.items ≡ c.loop-place.found.items ++ c.in-Some.c ∷ [] = search rules in
     let next = between_next c.args.text.now c.args.start c.args.end c.loop-place.place c.loop-place.found.items c.push.new.self.items _ read
-        c.loop-place.invariant.far c.loop-place-test.true is grown c.loop-place.invariant.found in
+    c.loop-place.invariant.far c.loop-place-test.true is grown c.loop-place.invariant.found in
     record { far = next.0; found = next.1 }

@@ -20,8 +20,8 @@ look-returns-in-At-clause-looks t c =
     let s = state c.args.captures.now l.place in
     let found : (rest : List State) × (body s ≡ state c.run.new.captures c.in-At.field-0 ∷ rest) = rw c.in-At.is at c.in_ok-answer.ensures.answers in
     elim c.if-looking.branch [
-      look-then-looking w ↦ rw w.result-is (ap (λ b. look b body s) w.if-looking.true ∙ looked_first_negated body s _ found.0 found.1)
-    | look-else-looking w ↦ rw w.result-is (ap (λ b. look b body s) w.if-looking.false ∙ looked_first body s _ found.0 found.1)
+      | look-then-looking w ↦ rw w.result-is (ap (λ b. look b body s) w.if-looking.true ∙ looked_first_negated body s _ found.0 found.1)
+      | look-else-looking w ↦ rw w.result-is (ap (λ b. look b body s) w.if-looking.false ∙ looked_first body s _ found.0 found.1)
     ]
 
 pub look-returns-clause-looks : goal.look-returns-clause-looks
@@ -34,14 +34,14 @@ look-returns-clause-looks t c =
     let split : c.append.new.self.items ≡ before ++ since = search rules in
     let len : c.len-noted.result ≡ length before = search rules in
     let spans : c.rewind.new.self.spans.items ≡ c.args.captures.now.spans.items =
-        rewound before since c.append.new.self.items c.len-noted.result c.args.captures.now.spans.items c.run.new.captures.spans.items
-        c.rewind.new.self.spans.items split len c.in_ok-answer.ensures.undo c.rewind.ensures.spans in
+    rewound before since c.append.new.self.items c.len-noted.result c.args.captures.now.spans.items c.run.new.captures.spans.items
+    c.rewind.new.self.spans.items split len c.in_ok-answer.ensures.undo c.rewind.ensures.spans in
     let none : body s ≡ [] = rw c.in-Nowhere.is at c.in_ok-answer.ensures.answers in
     elim c.if-looking-2.branch [
-      look-then-looking-2 w ↦ rw w.result-is
+      | look-then-looking-2 w ↦ rw w.result-is
           (ap (λ b. look b body s) w.if-looking-2.true ∙ looked_none_negated body s none
           ∙ ap (λ xs. record { place = l.place; captures = xs } ∷ []) (sym spans))
-    | look-else-looking-2 w ↦ rw w.result-is (ap (λ b. look b body s) w.if-looking-2.false ∙ looked_none body s none)
+      | look-else-looking-2 w ↦ rw w.result-is (ap (λ b. look b body s) w.if-looking-2.false ∙ looked_none body s none)
     ]
 
 pub look-returns-clause-later : goal.look-returns-clause-later
@@ -54,8 +54,8 @@ look-returns-clause-later t c =
     let split : c.append.new.self.items ≡ before ++ since = search rules in
     let len : c.len-noted.result ≡ length before = search rules in
     let spans : c.rewind.new.self.spans.items ≡ c.args.captures.now.spans.items =
-        rewound before since c.append.new.self.items c.len-noted.result c.args.captures.now.spans.items c.run.new.captures.spans.items
-        c.rewind.new.self.spans.items split len c.in_ok-answer.ensures.undo c.rewind.ensures.spans in
+    rewound before since c.append.new.self.items c.len-noted.result c.args.captures.now.spans.items c.run.new.captures.spans.items
+    c.rewind.new.self.spans.items split len c.in_ok-answer.ensures.undo c.rewind.ensures.spans in
     ok_always c.if-looking-2.result (record {
       noted = [];
       trail = c.rewind.ensures.trail ∙ rewound_trail before since c.append.new.self.items c.len-noted.result split len;
@@ -67,7 +67,7 @@ run-loop-budget-init t c =
     let u = subject c.args.rules c.args.text.now in
     let m : Machine = record { tasks = c.new.result; choices = c.new-2.result } in
     let first = begins u m c.push.new.self c.args.captures.now (steps u.setting u.bytes u.direction (tree c.args.node.now)) c.args.start c.in_ok-task.task
-        c.new.ensures.items c.new-2.ensures.items (c.in_ok-task.ensures u (omega arith)) in
+    c.new.ensures.items c.new-2.ensures.items (c.in_ok-task.ensures u (omega arith)) in
     let clear : c.args.captures.now.trail.items ≡ [] = search rules in
     record {
       budget = omega arith;
@@ -88,10 +88,10 @@ run-loop-budget-preserved-in-On t c =
     let outcomes = steps u.setting u.bytes u.direction (tree c.args.node.now) (state c.args.captures.now c.args.start) in
     let so_far = c.loop-budget.invariant in
     let done = task_done u c.loop-budget.machine c.step.new.machine c.loop-budget.captures c.step.new.captures c.loop-budget.place c.loop-budget.task
-        c.index-here.result.now c.in_ok-next.next outcomes so_far.machine (omega (arith, c.if-task-eq0.false)) so_far.task c.index-here.ensures so_far.left
-        c.in_ok-next.ensures in
+    c.index-here.result.now c.in_ok-next.next outcomes so_far.machine (omega (arith, c.if-task-eq0.false)) so_far.task c.index-here.ensures so_far.left
+    c.in_ok-next.ensures in
     let undo = undone-all c.step.new.captures c.settle.new.captures c.in_ok-to.ensures.later
-        ∙ undone-all c.loop-budget.captures c.step.new.captures c.in_ok-next.ensures.later ∙ so_far.undo in
+    ∙ undone-all c.loop-budget.captures c.step.new.captures c.in_ok-next.ensures.later ∙ so_far.undo in
     let settled = rw c.in-On.is at (c.in_ok-to.ensures.settles outcomes c.step.new.machine done) in
     record {
       budget = omega (arith, c.in_ok-to.ensures.budget, so_far.budget);
@@ -107,10 +107,10 @@ run-resume-requires t c =
     let outcomes = steps u.setting u.bytes u.direction (tree c.args.node.now) (state c.args.captures.now c.args.start) in
     let so_far = c.loop-budget.invariant in
     let done = task_done u c.loop-budget.machine c.step.new.machine c.loop-budget.captures c.step.new.captures c.loop-budget.place c.loop-budget.task
-        c.index-here.result.now c.in_ok-next.next outcomes so_far.machine (omega (arith, c.if-task-eq0.false)) so_far.task c.index-here.ensures so_far.left
-        c.in_ok-next.ensures in
+    c.index-here.result.now c.in_ok-next.next outcomes so_far.machine (omega (arith, c.if-task-eq0.false)) so_far.task c.index-here.ensures so_far.left
+    c.in_ok-next.ensures in
     let undo = undone-all c.step.new.captures c.settle.new.captures c.in_ok-to.ensures.later
-        ∙ undone-all c.loop-budget.captures c.step.new.captures c.in_ok-next.ensures.later ∙ so_far.undo in
+    ∙ undone-all c.loop-budget.captures c.step.new.captures c.in_ok-next.ensures.later ∙ so_far.undo in
     let settled = rw c.in-Off.is at (c.in_ok-to.ensures.settles outcomes c.step.new.machine done) in
     settled.0
 
@@ -120,10 +120,10 @@ run-returns-in_default-clause-answers t c =
     let outcomes = steps u.setting u.bytes u.direction (tree c.args.node.now) (state c.args.captures.now c.args.start) in
     let so_far = c.loop-budget.invariant in
     let done = task_done u c.loop-budget.machine c.step.new.machine c.loop-budget.captures c.step.new.captures c.loop-budget.place c.loop-budget.task
-        c.index-here.result.now c.in_ok-next.next outcomes so_far.machine (omega (arith, c.if-task-eq0.false)) so_far.task c.index-here.ensures so_far.left
-        c.in_ok-next.ensures in
+    c.index-here.result.now c.in_ok-next.next outcomes so_far.machine (omega (arith, c.if-task-eq0.false)) so_far.task c.index-here.ensures so_far.left
+    c.in_ok-next.ensures in
     let undo = undone-all c.step.new.captures c.settle.new.captures c.in_ok-to.ensures.later
-        ∙ undone-all c.loop-budget.captures c.step.new.captures c.in_ok-next.ensures.later ∙ so_far.undo in
+    ∙ undone-all c.loop-budget.captures c.step.new.captures c.in_ok-next.ensures.later ∙ so_far.undo in
     let settled = rw c.in-Off.is at (c.in_ok-to.ensures.settles outcomes c.step.new.machine done) in
     settled.1 ∙ c.in_default.ensures.resumed u
 
@@ -133,10 +133,10 @@ run-returns-in_default-clause-undo t c =
     let outcomes = steps u.setting u.bytes u.direction (tree c.args.node.now) (state c.args.captures.now c.args.start) in
     let so_far = c.loop-budget.invariant in
     let done = task_done u c.loop-budget.machine c.step.new.machine c.loop-budget.captures c.step.new.captures c.loop-budget.place c.loop-budget.task
-        c.index-here.result.now c.in_ok-next.next outcomes so_far.machine (omega (arith, c.if-task-eq0.false)) so_far.task c.index-here.ensures so_far.left
-        c.in_ok-next.ensures in
+    c.index-here.result.now c.in_ok-next.next outcomes so_far.machine (omega (arith, c.if-task-eq0.false)) so_far.task c.index-here.ensures so_far.left
+    c.in_ok-next.ensures in
     let undo = undone-all c.step.new.captures c.settle.new.captures c.in_ok-to.ensures.later
-        ∙ undone-all c.loop-budget.captures c.step.new.captures c.in_ok-next.ensures.later ∙ so_far.undo in
+    ∙ undone-all c.loop-budget.captures c.step.new.captures c.in_ok-next.ensures.later ∙ so_far.undo in
     c.resume.ensures.undo ∙ undo
 
 pub run-loop-budget-preserved : goal.run-loop-budget-preserved
@@ -145,10 +145,10 @@ run-loop-budget-preserved t c =
     let outcomes = steps u.setting u.bytes u.direction (tree c.args.node.now) (state c.args.captures.now c.args.start) in
     let so_far = c.loop-budget.invariant in
     let done = task_done u c.loop-budget.machine c.step.new.machine c.loop-budget.captures c.step.new.captures c.loop-budget.place c.loop-budget.task
-        c.index-here.result.now c.in_ok-next.next outcomes so_far.machine (omega (arith, c.if-task-eq0.false)) so_far.task c.index-here.ensures so_far.left
-        c.in_ok-next.ensures in
+    c.index-here.result.now c.in_ok-next.next outcomes so_far.machine (omega (arith, c.if-task-eq0.false)) so_far.task c.index-here.ensures so_far.left
+    c.in_ok-next.ensures in
     let undo = undone-all c.step.new.captures c.settle.new.captures c.in_ok-to.ensures.later
-        ∙ undone-all c.loop-budget.captures c.step.new.captures c.in_ok-next.ensures.later ∙ so_far.undo in
+    ∙ undone-all c.loop-budget.captures c.step.new.captures c.in_ok-next.ensures.later ∙ so_far.undo in
     let settled = rw c.in-Off.is at (c.in_ok-to.ensures.settles outcomes c.step.new.machine done) in
     let resumed = c.in-Some.ensures.resumed u in
     record {

@@ -40,7 +40,7 @@ returns-in_default-all_of c =
     let any = λ (strings : List (BoxedSlice ℕ Global)). any_string u.direction (of_bytes u.bytes) same (map boxed_slice_items strings) s in
     let split : c.args.alternatives.now ≡ c.in-Some.first.now ∷ c.in-Some.rest.now = search rules in
     let first : put s c.all_of.result ≡ all_of u.direction (of_bytes u.bytes) same (in_order u.direction (boxed_slice_items c.in-Some.first.now)) s =
-        c.all_of.ensures s refl ∙ ap (λ cs. all_of u.direction (of_bytes u.bytes) same (in_order u.direction cs) s) c.deref.ensures.value in
+    c.all_of.ensures s refl ∙ ap (λ cs. all_of u.direction (of_bytes u.bytes) same (in_order u.direction cs) s) c.deref.ensures.value in
     let none : c.all_of.result ≡ None = none_of c.all_of.result c.in_default-all_of.not-Some in
     goes_pushed u _ _ m c.push.new.self captures captures place next c.in_ok-other.other (c.in_ok-other.ensures u) (Later-refl captures)
     (ap any split ∙ any-cons u.direction (of_bytes u.bytes) same (boxed_slice_items c.in-Some.first.now) (map boxed_slice_items c.in-Some.rest.now) s
@@ -58,7 +58,7 @@ returns c =
     let any = λ (strings : List (BoxedSlice ℕ Global)). any_string u.direction (of_bytes u.bytes) same (map boxed_slice_items strings) s in
     let split : c.args.alternatives.now ≡ c.in-Some.first.now ∷ c.in-Some.rest.now = search rules in
     let first : put s c.all_of.result ≡ all_of u.direction (of_bytes u.bytes) same (in_order u.direction (boxed_slice_items c.in-Some.first.now)) s =
-        c.all_of.ensures s refl ∙ ap (λ cs. all_of u.direction (of_bytes u.bytes) same (in_order u.direction cs) s) c.deref.ensures.value in
+    c.all_of.ensures s refl ∙ ap (λ cs. all_of u.direction (of_bytes u.bytes) same (in_order u.direction cs) s) c.deref.ensures.value in
     does_stay_or u (what_step u (whats.Strings c.in-Some.rest c.args.icase)) _ m c.push.new.self c.choose.new.self captures place next c.in_ok-other.other c.in-Some-all_of.to
     (c.in_ok-other.ensures u) (c.in_ok-choose.ensures u)
     (ap any split ∙ any-cons u.direction (of_bytes u.bytes) same (boxed_slice_items c.in-Some.first.now) (map boxed_slice_items c.in-Some.rest.now) s

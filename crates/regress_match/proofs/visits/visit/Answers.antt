@@ -62,7 +62,11 @@ returns-in-Loop c =
     let s = state captures c.args.place in
     let l = c.in-Loop in
     let r : Repeat = record {
-      body = c.deref-in-Loop.result; start = c.from.result; end = c.from-in-Loop.result; greedy = l.quant.greedy; more = c.more_turns.result
+      body = c.deref-in-Loop.result;
+      start = c.from.result;
+      end = c.from-in-Loop.result;
+      greedy = l.quant.greedy;
+      more = c.more_turns.result;
     } in
     ok_map c.turns.result
     (λ to does.
@@ -81,7 +85,11 @@ returns-in-Loop1CharBody c =
     let s = state captures c.args.place in
     let l = c.in-Loop1CharBody in
     let r : Repeat = record {
-      body = c.deref-in-Loop1CharBody.result; start = 0; end = 0; greedy = l.quant.greedy; more = c.more_turns-in-Loop1CharBody.result
+      body = c.deref-in-Loop1CharBody.result;
+      start = 0;
+      end = 0;
+      greedy = l.quant.greedy;
+      more = c.more_turns-in-Loop1CharBody.result;
     } in
     ok_map c.turns-in-Loop1CharBody.result
     (λ to does.
@@ -99,7 +107,11 @@ returns-in-LookaroundAssertion c =
     let s = state captures c.args.place in
     let g = c.in-LookaroundAssertion in
     let l : Looking = record {
-      body = c.deref-in-LookaroundAssertion.result; negate = g.negate; backwards = g.backwards; place = c.args.place; next = c.args.next
+      body = c.deref-in-LookaroundAssertion.result;
+      negate = g.negate;
+      backwards = g.backwards;
+      place = c.args.place;
+      next = c.args.next;
     } in
     goes_look u _ m captures l
     (ap (λ t. steps u.setting u.bytes u.direction t s)

@@ -28,14 +28,14 @@ loop-group-preserved c =
     let then' : min (group + 1) behind ≡ group + 1 = omega arith in
     let was : c.loop-group.self.spans.items ≡ unset_from 0 start group spans = so_far.spans ∙ ap (λ k. unset_from 0 start k spans) now in
     let next : unset_from 0 start (min (group + 1) behind) spans ≡ set (unset_from 0 start group spans) group None =
-        ap (λ k. unset_from 0 start k spans) then' ∙ unset-more start group spans (omega arith) in
+    ap (λ k. unset_from 0 start k spans) then' ∙ unset-more start group spans (omega arith) in
     elim c.if-is_some.branch [
-      then-is_some+in_ok-set w ↦ record {
+      | then-is_some+in_ok-set w ↦ record {
         spans = ap (λ v. v.spans.items) w.self-is ∙ w.in_ok-set.ensures.spans ∙ ap (λ xs. set xs group None) was ∙ sym next;
         kept = ap (λ v. length v.spans.items) w.self-is ∙ ap length w.in_ok-set.ensures.spans ∙ length-set _ group None ∙ so_far.kept;
         later = rw w.self-is (Later-trans c.args.self.now c.loop-group.self w.set.new.self so_far.later w.in_ok-set.ensures.later);
       }
-    | else-is_some w ↦ record {
+      | else-is_some w ↦ record {
         spans = ap (λ v. v.spans.items) w.self-is
             ∙ sym (set-same c.loop-group.self.spans.items group None (search rules))
             ∙ ap (λ xs. set xs group None) was ∙ sym next;
@@ -51,7 +51,7 @@ returns-clause-state c = λ place.
     let behind = c.min-behind.result in
     let now : min c.loop-group.group behind ≡ behind = omega arith in
     let all : unset_from 0 start behind spans ≡ unset_from 0 start c.args.end spans =
-        past c.args.start c.args.end behind spans (search rules) in
+    past c.args.start c.args.end behind spans (search rules) in
     ap (λ xs. record { place = place; captures = xs })
     (c.loop-group.invariant.spans ∙ ap (λ k. unset_from 0 start k spans) now ∙ all)
   where
