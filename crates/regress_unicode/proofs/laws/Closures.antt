@@ -1,9 +1,9 @@
--- A set's closure depends on its members alone.
+-- What is in a set's closure, and that it depends on the members alone.
 use Rattle.std.proofs.Common.{◌≡◌, ℕ, true, List, sym, ◌∙◌}
 use Rattle.regress_base.specs.Intervals.{Bounds, is_member}
 use Rattle.regress_base.specs.Table.{Table, is_in_closure}
 use Rattle.regress_base.proofs.laws.Literals.{same_tests}
-use Rattle.regress_unicode.proofs.ClosureLemmas.{closure_from, closure_gives}
+pub use Rattle.regress_unicode.proofs.ClosureLemmas.{closure_from, closure_gives}
 
 module _ (table : Table) where
   closure_within : (xs ys : List Bounds) → ((m : ℕ) → is_member xs m ≡ is_member ys m) → (c : ℕ) →

@@ -1,0 +1,166 @@
+-- What leaves match, as the code finds it.
+use Rattle.std.proofs.Common.{◌≡◌, ℕ, zero, suc, ◌+◌, ◌-◌, ◌≤◌, ◌<◌, ◌==◌, Bool, true, false, ◌&&◌, List, [], ◌∷◌, ◌++◌, flat_map, length, take, drop, get_or, Option, Some, None, refl, sym, ap, ap₂, subst, ◌∙◌, arith, append-nil, append_assoc, if◌then◌else◌, nat_eq, nat_le, nat_lt}
+use Rattle.std.specs.List.{starts_with}
+use Rattle.std.proofs.lemmas.List.{drop_more, length-reverse}
+use Rattle.regress_base.specs.Listing.{lists}
+use Rattle.regress_tree.specs.Matching.{steps, leaf_steps}
+use Rattle.regress_tree.specs.Reading.{Direction, forwards, backwards, Reading, Read, next_character, of_bytes}
+use Rattle.regress_tree.specs.References.{all_of, in_order, characters_from, read_with, back_reference, once_more}
+use Rattle.regress_tree.specs.Setting.{Setting}
+use Rattle.regress_tree.specs.Strings.{any_string}
+use Rattle.regress_tree.specs.Steps.{State, Step, stay, ◌then_◌, one_character, moved, these_bytes, hold_at}
+use Rattle.regress_tree.specs.Tree.{Leaf, empty, goal, char, byte_sequence, byte_set, char_set, match_any, match_any_except_line_terminator, anchor, word_boundary, bracket, back_ref, string_set, Tree, leaf, cat, alt, wrapped}
+use Rattle.regress_match.specs.Leaves.{put, takes_one, test_of, leaf_test}
+
+module _ (d : Direction) (r : Reading) where
+  -- one character
+  pub one_none : (test : ℕ → Bool) (s : State) → next_character d r s.place ≡ None → one_character d r test s ≡ []
+  unfolding one_character
+  one_none test s none = ap (moved test s) none
+
+  pub one_yes : (test : ℕ → Bool) (s : State) (read : Read) → next_character d r s.place ≡ Some read → test read.character ≡ true →
+      one_character d r test s ≡ record s { place = read.place } ∷ []
+  unfolding one_character
+  one_yes test s read some tested = ap (moved test s) some ∙ ap (λ (b : Bool). if b then record s { place = read.place } ∷ [] else []) tested
+
+  pub one_no : (test : ℕ → Bool) (s : State) (read : Read) → next_character d r s.place ≡ Some read → test read.character ≡ false →
+      one_character d r test s ≡ []
+  unfolding one_character
+  one_no test s read some tested = ap (moved test s) some ∙ ap (λ (b : Bool). if b then record s { place = read.place } ∷ [] else []) tested
+
+  module _ (same : ℕ → ℕ → Bool) where
+    -- characters one after the other
+    pub all_none : (c : ℕ) (cs : List ℕ) (s : State) → next_character d r s.place ≡ None → all_of d r same (c ∷ cs) s ≡ []
+    all_none c cs s none = ap (flat_map (all_of d r same cs)) (one_none (same c) s none)
+
+    pub all_no : (c : ℕ) (cs : List ℕ) (s : State) (read : Read) → next_character d r s.place ≡ Some read → same c read.character ≡ false →
+        all_of d r same (c ∷ cs) s ≡ []
+    all_no c cs s read some tested = ap (flat_map (all_of d r same cs)) (one_no (same c) s read some tested)
+
+    pub all_yes : (c : ℕ) (cs : List ℕ) (s : State) (read : Read) → next_character d r s.place ≡ Some read → same c read.character ≡ true →
+        all_of d r same (c ∷ cs) s ≡ all_of d r same cs (record s { place = read.place })
+    all_yes c cs s read some tested =
+        ap (flat_map (all_of d r same cs)) (one_yes (same c) s read some tested) ∙ append-nil (all_of d r same cs (record s { place = read.place }))
+
+-- A leaf that takes one character.
+pub takes_one-steps : (setting : Setting) (bytes : List ℕ) (d : Direction) (t : Tree) (s : State) → takes_one t ≡ true →
+    steps setting bytes d t s ≡ one_character d (of_bytes bytes) (test_of t) s
+takes_one-steps setting bytes d (leaf (char c)) s is = refl
+takes_one-steps setting bytes d (leaf (byte_set members)) s is = refl
+takes_one-steps setting bytes d (leaf (char_set members)) s is = refl
+takes_one-steps setting bytes d (leaf match_any) s is = refl
+takes_one-steps setting bytes d (leaf match_any_except_line_terminator) s is = refl
+takes_one-steps setting bytes d (leaf (bracket invert intervals)) s is = refl
+takes_one-steps setting bytes d (leaf empty) s is = cc
+takes_one-steps setting bytes d (leaf goal) s is = cc
+takes_one-steps setting bytes d (leaf (byte_sequence written)) s is = cc
+takes_one-steps setting bytes d (leaf (anchor kind multiline)) s is = cc
+takes_one-steps setting bytes d (leaf (word_boundary invert icase)) s is = cc
+takes_one-steps setting bytes d (leaf (back_ref group icase)) s is = cc
+takes_one-steps setting bytes d (leaf (string_set strings icase)) s is = cc
+takes_one-steps setting bytes d (cat parts) s is = cc
+takes_one-steps setting bytes d (alt left right) s is = cc
+takes_one-steps setting bytes d (wrapped w body) s is = cc
+
+-- these bytes, by whether they stand there
+pub bytes_forwards : (bytes written : List ℕ) (s : State) (b : Bool) → starts_with nat_eq (drop s.place bytes) written ≡ b →
+    these_bytes forwards bytes written s ≡ (if b then record s { place = s.place + length written } ∷ [] else [])
+unfolding these_bytes
+bytes_forwards bytes written s b is =
+    ap (λ (x : Bool). if x then record s { place = s.place + length written } ∷ [] else []) is
+
+pub bytes_backwards : (bytes written : List ℕ) (s : State) (b : Bool) →
+    (nat_le (length written) s.place && starts_with nat_eq (drop (s.place - length written) bytes) written) ≡ b →
+    these_bytes backwards bytes written s ≡ (if b then record s { place = s.place - length written } ∷ [] else [])
+unfolding these_bytes
+bytes_backwards bytes written s b is =
+    ap (λ (x : Bool). if x then record s { place = s.place - length written } ∷ [] else []) is
+
+pub behind_by : (bytes written : List ℕ) (s : State) (k n : ℕ) (b : Bool) → s.place ≡ k → n ≡ length written →
+    starts_with nat_eq (drop k bytes) written ≡ b → (if b then record s { place = k + n } ∷ [] else []) ≡ these_bytes forwards bytes written s
+behind_by bytes written s k n b at len stands =
+    sym (bytes_forwards bytes written s b (ap (λ i. starts_with nat_eq (drop i bytes) written) at ∙ stands)
+    ∙ ap₂ (λ i j. if b then record s { place = i + j } ∷ [] else []) at (sym len))
+
+short_test : (n k : ℕ) (x : Bool) → k < n → (nat_le n k && x) ≡ false
+short_test n k x lt = ap (λ (b : Bool). b && x) (fails n k lt)
+  where
+    fails : (n k : ℕ) → k < n → nat_le n k ≡ false
+    fails n k lt = grind arith
+
+long_test : (n k : ℕ) (x : Bool) → n ≤ k → (nat_le n k && x) ≡ x
+long_test n k x le = ap (λ (b : Bool). b && x) (holds n k le)
+  where
+    holds : (n k : ℕ) → n ≤ k → nat_le n k ≡ true
+    holds n k le = grind arith
+
+pub before_short : (bytes written : List ℕ) (s : State) (k n : ℕ) → s.place ≡ k → n ≡ length written → k < n →
+    [] ≡ these_bytes backwards bytes written s
+before_short bytes written s k n at len lt =
+    sym (bytes_backwards bytes written s false (short_test (length written) s.place _ (omega (arith, at, len, lt))))
+
+pub before_by : (bytes written : List ℕ) (s : State) (k n : ℕ) (b : Bool) → s.place ≡ k → n ≡ length written → n ≤ k →
+    starts_with nat_eq (drop (k - n) bytes) written ≡ b → (if b then record s { place = k - n } ∷ [] else []) ≡ these_bytes backwards bytes written s
+before_by bytes written s k n b at len le stands =
+    sym (bytes_backwards bytes written s b
+    (long_test (length written) s.place _ (omega (arith, at, len, le))
+    ∙ ap₂ (λ i j. starts_with nat_eq (drop (i - j) bytes) written) at (sym len) ∙ stands)
+    ∙ ap₂ (λ i j. if b then record s { place = i - j } ∷ [] else []) at (sym len))
+
+pub length-in_order : (d : Direction) (cs : List ℕ) → length (in_order d cs) ≡ length cs
+length-in_order forwards cs = refl
+length-in_order backwards cs = length-reverse cs
+
+-- What is left of characters in order, by what is read next.
+module _ (d : Direction) (r : Reading) (same : ℕ → ℕ → Bool) (cs : List ℕ) (s : State) (i here : ℕ) (within : i < length cs) where
+  here_of : all_of d r same (drop i cs) (record s { place = here }) ≡ all_of d r same (get_or cs i 0 ∷ drop (i + 1) cs) (record s { place = here })
+  here_of = ap (λ ds. all_of d r same ds (record s { place = here })) (drop_more cs i 0 within)
+
+  pub order_none : next_character d r here ≡ None → all_of d r same (drop i cs) (record s { place = here }) ≡ all_of d r same cs s →
+      all_of d r same cs s ≡ []
+  order_none none so_far = sym so_far ∙ here_of ∙ all_none d r same (get_or cs i 0) (drop (i + 1) cs) (record s { place = here }) none
+
+  pub order_no : (read : Read) → next_character d r here ≡ Some read → same (get_or cs i 0) read.character ≡ false →
+      all_of d r same (drop i cs) (record s { place = here }) ≡ all_of d r same cs s → all_of d r same cs s ≡ []
+  order_no read some tested so_far =
+      sym so_far ∙ here_of ∙ all_no d r same (get_or cs i 0) (drop (i + 1) cs) (record s { place = here }) read some tested
+
+  pub order_yes : (read : Read) → next_character d r here ≡ Some read → same (get_or cs i 0) read.character ≡ true →
+      all_of d r same (drop i cs) (record s { place = here }) ≡ all_of d r same cs s →
+      all_of d r same (drop (i + 1) cs) (record s { place = read.place }) ≡ all_of d r same cs s
+  order_yes read some tested so_far =
+      sym (all_yes d r same (get_or cs i 0) (drop (i + 1) cs) (record s { place = here }) read some tested) ∙ sym here_of ∙ so_far
+
+-- References, by what the group has captured
+pub back_none : (d : Direction) (r : Reading) (same : ℕ → ℕ → Bool) (id : ℕ) (s : State) → get_or s.captures id None ≡ None →
+    back_reference d r same id s ≡ s ∷ []
+unfolding back_reference
+back_none d r same id s none = ap (λ span. once_more d r same span s) none
+
+pub back_some : (d : Direction) (r : Reading) (same : ℕ → ℕ → Bool) (id start end : ℕ) (s : State) → get_or s.captures id None ≡ Some (start, end) →
+    back_reference d r same id s ≡ all_of d r same (in_order d (characters_from r (end - start) start end)) s
+unfolding back_reference
+back_some d r same id start end s some = ap (λ span. once_more d r same span s) some
+
+-- an item, whatever stands for one past the end
+pub get_or_at : {A : Type 0} (xs : List A) (i : ℕ) (v w : A) → get_or xs i v ≡ v → i < length xs → get_or xs i w ≡ v
+get_or_at [] i v w is within = absurd (omega (arith, within))
+get_or_at (x ∷ xs) zero v w is within = is
+get_or_at (x ∷ xs) (suc i) v w is within = get_or_at xs i v w is (omega (arith, within))
+
+pub none_of : {A : Type 0} (o : Option A) → ((x : A) → o ≡ Some x → ⊥) → o ≡ None
+none_of None h = refl
+none_of (Some x) h = absurd (h x refl)
+
+pub holds_is : (test : ℕ → Bool) (s : State) (b : Bool) → test s.place ≡ b → hold_at test s ≡ (if b then s ∷ [] else [])
+unfolding hold_at
+holds_is test s b is = ap (λ (x : Bool). if x then s ∷ [] else []) is
+
+pub any-nil : (d : Direction) (r : Reading) (same : ℕ → ℕ → Bool) (s : State) → any_string d r same [] s ≡ []
+unfolding any_string
+any-nil d r same s = refl
+
+pub any-cons : (d : Direction) (r : Reading) (same : ℕ → ℕ → Bool) (string : List ℕ) (strings : List (List ℕ)) (s : State) →
+    any_string d r same (string ∷ strings) s ≡ all_of d r same (in_order d string) s ++ any_string d r same strings s
+unfolding any_string
+any-cons d r same string strings s = refl

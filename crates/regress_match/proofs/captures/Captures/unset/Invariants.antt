@@ -1,0 +1,12 @@
+-- The groups up to here are forgotten, and each change is noted.
+use Rattle.std.proofs.Common.{◌≡◌, ◌≤◌, length, min}
+use Rattle.regress_tree.specs.Repetition.{unset_from}
+use Rattle.regress_match.specs.Captures.{Later}
+use Rattle.regress_match.proofs.captures.Captures.unset.Given as goal
+
+abbrev pub invariant-loop-group : goal.invariant-loop-group
+invariant-loop-group l = record {
+  spans : l.self.spans.items ≡ unset_from 0 l.start (min l.group l.behind) l.fn.self.spans.items;
+  kept : length l.self.spans.items ≡ length l.fn.self.spans.items;
+  later : Later l.fn.self l.self;
+}

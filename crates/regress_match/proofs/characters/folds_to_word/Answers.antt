@@ -1,0 +1,39 @@
+use Rattle.std.proofs.Common.{rules, arith, ◌≡◌, ◌≤◌, ◌<◌, ℕ, Bool, true, false, refl, sym}
+use Rattle.std.proofs.lemmas.Grind.{common_steps}
+use Rattle.std.proofs.lemmas.Bool.Decides.{nat_tests}
+use Rattle.regress_base.specs.Classes.{word_characters}
+use Rattle.regress_base.specs.Intervals.{is_member, is_within}
+use Rattle.regress_base.specs.Table.{is_in_closure}
+use Rattle.regress_unicode.specs.TableOf.{table_of}
+use Rattle.regress_unicode.proofs.laws.Closures.{closure_from, closure_gives}
+use Rattle.regress_match.proofs.characters.folds_to_word.Goals as goal
+
+false_is : (b : Bool) → (b ≡ true → ⊥) → false ≡ b
+false_is true h = absurd (h refl)
+false_is false h = refl
+
+word_range : (m : ℕ) → is_member word_characters m ≡ true → (48 ≤ m) × (m < 123)
+unfolding is_member is_within
+word_range m member = grind (arith, nat_tests)
+
+pub returns-then-c-gt1114111 : goal.returns-then-c-gt1114111
+returns-then-c-gt1114111 c =
+    false_is (is_in_closure (table_of c.args.tables.now) word_characters c.args.c) (λ e.
+    let small = (closure_gives (table_of c.args.tables.now) word_characters c.args.c e).0 in
+    omega (arith, small, c.if-c-gt1114111.true))
+
+pub returns-then-fold-image : goal.returns-then-fold-image
+returns-then-fold-image c =
+    let table = table_of c.args.tables.now in
+    let m = c.loop-m.m in
+    let member : is_member word_characters m ≡ true = search rules in
+    let same : table.fold m ≡ table.fold c.args.c = search rules in
+    sym (closure_from table word_characters m c.args.c (omega arith) member same)
+
+pub returns : goal.returns
+returns c =
+    let table = table_of c.args.tables.now in
+    false_is (is_in_closure table word_characters c.args.c) (λ e.
+    let found = closure_gives table word_characters c.args.c e in
+    let range = word_range found.1 found.2 in
+    c.loop-m.invariant found.1 range.0 (omega (arith, range.1, c.loop-m-test.false)) found.2 found.3)

@@ -1,0 +1,31 @@
+-- The outcomes of the node are what the machine has left, and undoing all changes gives the captures at the start.
+use Rattle.std.proofs.Common.{◌≡◌, ◌≤◌, ◌+◌, ◌*◌, length}
+use Rattle.regress_tree.specs.Matching.{steps}
+use Rattle.regress_tree.specs.Tree.{tree}
+use Rattle.regress_match.specs.Captures.{state, undone}
+use Rattle.regress_match.specs.Machine.{IsMachine, left_at}
+use Rattle.regress_match.specs.Subject.{subject}
+use Rattle.regress_match.proofs.run.+run.Given as goal
+
+abbrev pub decreases-run : goal.decreases-run
+decreases-run l = 3 * l.budget.now
+
+abbrev pub decreases-settle : goal.decreases-settle
+decreases-settle l = 3 * l.budget.now + 2
+
+abbrev pub decreases-look : goal.decreases-look
+decreases-look l = 3 * l.budget.now + 1
+
+abbrev pub invariant-run-loop-budget : goal.invariant-run-loop-budget
+invariant-run-loop-budget l =
+    let u = subject l.rules l.text in
+    record {
+      budget : l.budget ≤ l.fn.budget;
+      machine : IsMachine l.machine l.captures;
+      task : l.task ≤ length l.machine.tasks.items;
+      left : steps u.setting u.bytes u.direction (tree l.node) (state l.fn.captures l.start) ≡ left_at u l.machine l.captures l.place l.task;
+      undo : undone l.captures.trail.items l.captures.spans.items ≡ l.fn.captures.spans.items;
+    }
+
+abbrev pub decreases-run-loop-budget : goal.decreases-run-loop-budget
+decreases-run-loop-budget l = l.budget

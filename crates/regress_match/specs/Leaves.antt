@@ -1,0 +1,53 @@
+-- Leaves that have one outcome at most, which sets no group.
+use Rattle.std.specs.Prelude.{ℕ, Bool, true, false, not, ◌==◌, List, [], ◌∷◌, Option, Some, None}
+use Rattle.regress_base.specs.Brackets.{is_accepted}
+use Rattle.regress_base.specs.Listing.{lists}
+use Rattle.regress_tree.specs.Assertions.{is_line_terminator}
+use Rattle.regress_tree.specs.Reading.{Read}
+use Rattle.regress_tree.specs.Steps.{State}
+use Rattle.regress_tree.specs.Tree.{Leaf, empty, goal, char, byte_sequence, byte_set, char_set, match_any, match_any_except_line_terminator, anchor, word_boundary, bracket, back_ref, string_set, Tree, leaf, cat, alt, wrapped}
+
+-- the state moved there, or no outcome
+abbrev pub put : State → Option ℕ → List State
+put s None = []
+put s (Some k) = record s { place = k } ∷ []
+
+abbrev pub read_of : ℕ × ℕ → Read
+read_of r = record { character = r.0; place = r.1 }
+
+-- it matches one character that passes a test
+abbrev pub takes_one_leaf : Leaf → Bool
+takes_one_leaf (char c) = true
+takes_one_leaf (byte_set members) = true
+takes_one_leaf (char_set members) = true
+takes_one_leaf match_any = true
+takes_one_leaf match_any_except_line_terminator = true
+takes_one_leaf (bracket invert intervals) = true
+takes_one_leaf l = false
+
+abbrev pub takes_one : Tree → Bool
+takes_one (leaf l) = takes_one_leaf l
+takes_one t = false
+
+-- the test
+abbrev pub leaf_test : Leaf → ℕ → Bool
+leaf_test (char c) x = x == c
+leaf_test (byte_set members) x = lists members x
+leaf_test (char_set members) x = lists members x
+leaf_test match_any x = true
+leaf_test match_any_except_line_terminator x = not (is_line_terminator x)
+leaf_test (bracket invert intervals) x = is_accepted invert intervals x
+leaf_test l x = false
+
+abbrev pub test_of : Tree → ℕ → Bool
+test_of (leaf l) x = leaf_test l x
+test_of t x = false
+
+-- it is a leaf, and no set of strings
+abbrev pub has_one_outcome_leaf : Leaf → Bool
+has_one_outcome_leaf (string_set strings icase) = false
+has_one_outcome_leaf l = true
+
+abbrev pub has_one_outcome : Tree → Bool
+has_one_outcome (leaf l) = has_one_outcome_leaf l
+has_one_outcome t = false

@@ -1,0 +1,5 @@
+pub mod Subject
+pub mod Captures
+pub mod Leaves
+pub mod Machine
+pub mod Matched

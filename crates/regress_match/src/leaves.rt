@@ -1,0 +1,285 @@
+//! What leaves match.
+ghost use Rattle.std.specs.Prelude.{◌≡◌, ◌-◌, ◌<◌, [], ◌∷◌, true, None, IfOk, drop, length, nat_eq, option_map, slice_index, if◌then◌else◌};
+ghost use Rattle.std.specs.List.{starts_with};
+ghost use Rattle.regress_base.specs.Listing.{lists};
+ghost use Rattle.regress_base.specs.Table.{stands_for};
+ghost use Rattle.regress_tree.specs.Assertions.{at_anchor, at_boundary, is_line_terminator, is_word_character, passes};
+ghost use Rattle.regress_tree.specs.Matching.{steps};
+ghost use Rattle.regress_tree.specs.Reading.{backwards, forwards, of_bytes};
+ghost use Rattle.regress_tree.specs.References.{all_of, back_reference, in_order, characters_from};
+ghost use Rattle.regress_tree.specs.Steps.{State, these_bytes, one_character};
+ghost use Rattle.regress_tree.specs.Tree.{tree};
+ghost use Rattle.regress_unicode.specs.TableOf.{table_of};
+ghost use Rattle.regress_match.specs.Captures.{state};
+ghost use Rattle.regress_match.specs.Leaves.{put, read_of, takes_one, test_of, has_one_outcome};
+ghost use Rattle.regress_match.specs.Subject.{subject, direction_of};
+
+use crate::captures::Captures;
+use crate::characters::{is_line_terminator, is_word_character, stands_for};
+use crate::reading::{next_read, read_after, read_before};
+use crate::rules::Rules;
+use regress_tree::ir::{AnchorType, Node};
+use regress_unicode::Tables;
+use std::alloc::{AllocError, Global};
+
+/// Where a leaf that has one outcome at most goes from a place.
+pub fn leaf(
+    alloc: Global,
+    text: &str,
+    rules: Rules<'_>,
+    node: &Node,
+    place: usize,
+    captures: &Captures,
+) -> Result<Option<usize>, AllocError>
+    ensures { IfOk result (λ to. has_one_outcome (tree node.now) ≡ true →
+        (let u = subject rules.entry text.now in
+        steps u.setting u.bytes u.direction (tree node.now) (state captures.now place) ≡ put (state captures.now place) to)) }
+{
+    match node {
+        Node::Empty | Node::Goal => Ok(Some(place)),
+        Node::ByteSequence(bytes) => {
+            Ok(these_bytes(text.as_bytes(), rules.backwards, bytes, place))
+        }
+        Node::Anchor {
+            anchor_type,
+            multiline,
+        } => Ok(if_holds(at_anchor(text, *anchor_type, *multiline, place), place)),
+        Node::WordBoundary {
+            invert,
+            unicode_icase,
+        } => Ok(if_holds(
+            at_boundary(text, rules.tables, *invert, *unicode_icase, place),
+            place,
+        )),
+        Node::BackRef { group, icase } => {
+            back_reference(alloc, text, rules, *group, *icase, place, captures)
+        }
+        _ => Ok(one_character(text, rules, node, place)),
+    }
+}
+
+/// The place, where the test holds.
+fn if_holds(holds: bool, place: usize) -> Option<usize>
+    ensures { (s : State) → s.place ≡ place → put s result ≡ (if holds then s ∷ [] else []) }
+{
+    if holds { Some(place) } else { None }
+}
+
+/// Where these bytes as they stand go.
+fn these_bytes(bytes: &[u8], backwards: bool, written: &[u8], place: usize) -> Option<usize>
+    ensures { (s : State) → s.place ≡ place → put s result ≡ these_bytes (direction_of backwards) bytes.now written.now s }
+{
+    if backwards {
+        bytes_before(bytes, written, place)
+    } else {
+        bytes_behind(bytes, written, place)
+    }
+}
+
+/// Where these bytes go that stand behind the place.
+fn bytes_behind(bytes: &[u8], written: &[u8], place: usize) -> Option<usize>
+    ensures { (s : State) → s.place ≡ place → put s result ≡ these_bytes forwards bytes.now written.now s }
+{
+    if stands_at(bytes, written, place) {
+        Some(place + written.len())
+    } else {
+        None
+    }
+}
+
+/// Where these bytes go that stand before the place.
+fn bytes_before(bytes: &[u8], written: &[u8], place: usize) -> Option<usize>
+    ensures { (s : State) → s.place ≡ place → put s result ≡ these_bytes backwards bytes.now written.now s }
+{
+    let count = written.len();
+    if count > place {
+        return None;
+    }
+    if stands_at(bytes, written, place - count) {
+        Some(place - count)
+    } else {
+        None
+    }
+}
+
+/// Whether these bytes stand behind the place.
+fn stands_at(bytes: &[u8], written: &[u8], place: usize) -> bool
+    ensures { result ≡ starts_with nat_eq (drop place bytes.now) written.now }
+{
+    if place <= bytes.len() {
+        bytes[place..].starts_with(written)
+    } else {
+        written.is_empty()
+    }
+}
+
+/// Where a leaf that takes one character goes.
+pub fn one_character(text: &str, rules: Rules<'_>, node: &Node, place: usize) -> Option<usize>
+    ensures { (s : State) → s.place ≡ place → takes_one (tree node.now) ≡ true →
+        put s result ≡ one_character (direction_of rules.entry.backwards) (of_bytes text.now) (test_of (tree node.now)) s }
+{
+    let (c, to) = next_read(text, rules.backwards, place)?;
+    if accepts(node, c) { Some(to) } else { None }
+}
+
+/// Whether a leaf that takes one character takes this one.
+fn accepts(node: &Node, c: u32) -> bool
+    ensures { takes_one (tree node.now) ≡ true → result ≡ test_of (tree node.now) c }
+{
+    match node {
+        Node::Char { c: literal } => c == *literal,
+        Node::ByteSet(bytes) => lists_byte(bytes, c),
+        Node::CharSet(characters) => lists(characters, c),
+        Node::MatchAny => true,
+        Node::MatchAnyExceptLineTerminator => !is_line_terminator(c),
+        Node::Bracket(contents) => contents.cps.contains(c) != contents.invert,
+        _ => false,
+    }
+}
+
+/// Whether the character is one of these bytes.
+fn lists_byte(bytes: &[u8], c: u32) -> bool
+    ensures { result ≡ lists bytes.now c }
+{
+    for b in bytes {
+        if u32::from(*b) == c {
+            return true;
+        }
+    }
+    false
+}
+
+/// Whether the character is one of these.
+fn lists(characters: &[u32], c: u32) -> bool
+    ensures { result ≡ lists characters.now c }
+{
+    for x in characters {
+        if *x == c {
+            return true;
+        }
+    }
+    false
+}
+
+/// Whether the place is an end of the text or, with `multiline`, of a line.
+fn at_anchor(text: &str, anchor_type: AnchorType, multiline: bool, place: usize) -> bool
+    ensures { result ≡ at_anchor (of_bytes text.now) anchor_type multiline place }
+{
+    match anchor_type {
+        AnchorType::StartOfLine => {
+            place == 0 || (multiline && ends_line(read_before(text, place)))
+        }
+        AnchorType::EndOfLine => {
+            place == text.len() || (multiline && ends_line(read_after(text, place)))
+        }
+    }
+}
+
+/// Whether there is a neighbour that ends a line.
+fn ends_line(neighbour: Option<(u32, usize)>) -> bool
+    ensures { result ≡ passes is_line_terminator (option_map read_of neighbour) }
+{
+    match neighbour {
+        Some((c, _)) => is_line_terminator(c),
+        None => false,
+    }
+}
+
+/// Whether there is a word character on exactly one side of the place, or with `invert` on both or on none.
+fn at_boundary(text: &str, tables: &Tables, invert: bool, unicode_icase: bool, place: usize) -> bool
+    ensures { result ≡ at_boundary (of_bytes text.now) (is_word_character (table_of tables.now) unicode_icase) invert place }
+{
+    let before = is_word(tables, unicode_icase, read_before(text, place));
+    let behind = is_word(tables, unicode_icase, read_after(text, place));
+    (before != behind) != invert
+}
+
+/// Whether there is a neighbour that is a word character.
+fn is_word(tables: &Tables, unicode_icase: bool, neighbour: Option<(u32, usize)>) -> bool
+    ensures { result ≡ passes (is_word_character (table_of tables.now) unicode_icase) (option_map read_of neighbour) }
+{
+    match neighbour {
+        Some((c, _)) => is_word_character(tables, unicode_icase, c),
+        None => false,
+    }
+}
+
+/// Where what a group has captured goes once more.
+fn back_reference(
+    alloc: Global,
+    text: &str,
+    rules: Rules<'_>,
+    group: u32,
+    icase: bool,
+    place: usize,
+    captures: &Captures,
+) -> Result<Option<usize>, AllocError>
+    ensures { IfOk result (λ to. let u = subject rules.entry text.now in put (state captures.now place) to
+        ≡ back_reference u.direction (of_bytes u.bytes) (stands_for u.setting.table icase u.setting.flags.unicode) (group - 1) (state captures.now place)) }
+{
+    let id = group.saturating_sub(1) as usize;
+    if id >= captures.spans.len() {
+        return Ok(Some(place));
+    }
+    let Some((start, end)) = captures.spans[id] else {
+        return Ok(Some(place));
+    };
+    let characters = characters_between(alloc, text, start, end)?;
+    Ok(all_of(text, rules, icase, &characters, place))
+}
+
+/// The characters of a span.
+fn characters_between(
+    alloc: Global,
+    text: &str,
+    start: usize,
+    end: usize,
+) -> Result<Vec<u32>, AllocError>
+    ensures { IfOk result (λ found. found.items ≡ characters_from (of_bytes text.now) (end - start) start end) }
+{
+    let mut found = Vec::new(alloc);
+    let mut place = start;
+    while place < end {
+        let Some((c, to)) = read_after(text, place) else {
+            break;
+        };
+        found.push(c)?;
+        place = to;
+    }
+    Ok(found)
+}
+
+/// Where characters go, one after the other, each of which may stand for another.
+pub fn all_of(
+    text: &str,
+    rules: Rules<'_>,
+    icase: bool,
+    characters: &[u32],
+    place: usize,
+) -> Option<usize>
+    ensures { (s : State) → s.place ≡ place → (let u = subject rules.entry text.now in
+        put s result ≡ all_of u.direction (of_bytes u.bytes) (stands_for u.setting.table icase u.setting.flags.unicode) (in_order u.direction characters.now) s) }
+{
+    let mut here = place;
+    for i in 0..characters.len() {
+        let c = character_in_order(characters, rules.backwards, i);
+        let (x, to) = next_read(text, rules.backwards, here)?;
+        if !stands_for(rules, icase, c, x) {
+            return None;
+        }
+        here = to;
+    }
+    Some(here)
+}
+
+/// The character to which matching comes after so many.
+fn character_in_order(characters: &[u32], backwards: bool, i: usize) -> u32
+    requires { i < length characters.now }
+    ensures { result ≡ slice_index (in_order (direction_of backwards) characters.now) i }
+{
+    if backwards {
+        characters[characters.len() - 1 - i]
+    } else {
+        characters[i]
+    }
+}

@@ -1,0 +1,14 @@
+//! A matcher for the trees of `regress_tree`, proved against what they mean.
+#![tactic(auto)]
+
+mod captures;
+mod characters;
+mod leaves;
+mod machine;
+pub mod matching;
+mod reading;
+mod rules;
+mod run;
+mod visits;
+
+pub use matching::{Match, Outcome, match_at};
