@@ -1,21 +1,21 @@
 -- Changes of captures, and undoing them.
-use Rattle.std.proofs.Common.{◌≡◌, ℕ, zero, suc, ◌+◌, ◌-◌, ◌≤◌, ◌<◌, List, [], ◌∷◌, ◌++◌, length, take, drop, Option, Some, None, refl, sym, ap, ap₂, subst, ◌∙◌, append_assoc, append-nil, arith, le_of_suc-le-suc, not-suc-le-zero, get_or, set}
+use Rattle.std.proofs.Common.{◌≡◌, ℕ, zero, suc, ◌≤◌, List, [], ◌∷◌, ◌++◌, length, take, drop, Option, refl, sym, ap, ◌∙◌, append_assoc, append-nil, arith, le_of_suc-le-suc, not-suc-le-zero, get_or, set}
 use Rattle.std.proofs.lemmas.List.{length-append, take-append-drop}
-use Rattle.regress_tree.specs.Steps.{Span}
+use Rattle.regress_tree.specs.Steps.{CaptureSpan}
 use Rattle.regress_match.specs.Captures.{undone, Later}
 use Rattle.regress_match.specs.declared.captures.Captures.{Captures}
 use Rattle.regress_match.specs.declared.captures.Undo.{Undo}
 
-pub undone-append : (us vs : List Undo) (spans : List (Option Span)) → undone (us ++ vs) spans ≡ undone us (undone vs spans)
+pub undone-append : (us vs : List Undo) (spans : List (Option CaptureSpan)) → undone (us ++ vs) spans ≡ undone us (undone vs spans)
 unfolding undone
 undone-append [] vs spans = refl
 undone-append (w ∷ us) vs spans = ap (λ xs. set xs w.group w.before) (undone-append us vs spans)
 
-pub undone-nil : (spans : List (Option Span)) → undone [] spans ≡ spans
+pub undone-nil : (spans : List (Option CaptureSpan)) → undone [] spans ≡ spans
 unfolding undone
 undone-nil spans = refl
 
-pub undone-one : (w : Undo) (spans : List (Option Span)) → undone (w ∷ []) spans ≡ set spans w.group w.before
+pub undone-one : (w : Undo) (spans : List (Option CaptureSpan)) → undone (w ∷ []) spans ≡ set spans w.group w.before
 unfolding undone
 undone-one w spans = refl
 
@@ -51,7 +51,7 @@ pub undone-all : (c c' : Captures) → Later c c' → undone c'.trail.items c'.s
 undone-all c c' later = undone-later c c' 0 later (omega arith)
 
 -- rewinding part of the way leaves the rest to undo
-pub undone-part : (k : ℕ) (us : List Undo) (spans : List (Option Span)) → undone (take k us) (undone (drop k us) spans) ≡ undone us spans
+pub undone-part : (k : ℕ) (us : List Undo) (spans : List (Option CaptureSpan)) → undone (take k us) (undone (drop k us) spans) ≡ undone us spans
 undone-part k us spans = sym (undone-append (take k us) (drop k us) spans) ∙ ap (λ ws. undone ws spans) (take-append-drop k us)
 
 set-back : {A : Type 0} (xs : List A) (i : ℕ) (v w : A) → w ≡ get_or xs i w → set (set xs i v) i w ≡ xs
@@ -60,7 +60,7 @@ set-back (x ∷ xs) zero v w is = ap (λ y. y ∷ xs) is
 set-back (x ∷ xs) (suc i) v w is = ap (λ ys. x ∷ ys) (set-back xs i v w is)
 
 -- one change
-pub later_set : (c c' : Captures) (w : Undo) (span : Option Span) → w.before ≡ get_or c.spans.items w.group w.before →
+pub later_set : (c c' : Captures) (w : Undo) (span : Option CaptureSpan) → w.before ≡ get_or c.spans.items w.group w.before →
     c'.trail.items ≡ c.trail.items ++ w ∷ [] → c'.spans.items ≡ set c.spans.items w.group span → Later c c'
 later_set c c' w span was trail spans = record {
   noted = w ∷ [];
@@ -69,7 +69,7 @@ later_set c c' w span was trail spans = record {
 }
 
 -- The last change of several is undone.
-pub rewind_step : (us vs : List Undo) (w : Undo) (spans spans' : List (Option Span)) (k : ℕ) → us ≡ vs ++ w ∷ [] → k ≤ length vs →
+pub rewind_step : (us vs : List Undo) (w : Undo) (spans spans' : List (Option CaptureSpan)) (k : ℕ) → us ≡ vs ++ w ∷ [] → k ≤ length vs →
     spans' ≡ set spans w.group w.before →
     (take k vs ≡ take k us) × (undone (drop k vs) spans' ≡ undone (drop k us) spans)
 rewind_step us vs w spans spans' k split le is = (

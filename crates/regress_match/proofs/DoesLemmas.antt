@@ -1,12 +1,12 @@
 -- What pushing tasks and choices comes to.
-use Rattle.std.proofs.Common.{◌≡◌, ℕ, zero, suc, ◌+◌, ◌-◌, ◌≤◌, ◌<◌, List, [], ◌∷◌, ◌++◌, flat_map, length, take, drop, refl, sym, ap, ap₂, subst, ◌∙◌, append_assoc, append-nil, arith, Result, Ok, Err, IfOk}
+use Rattle.std.proofs.Common.{◌≡◌, ℕ, ◌+◌, ◌≤◌, List, [], ◌∷◌, ◌++◌, flat_map, length, refl, sym, ap, ap₂, subst, ◌∙◌, append_assoc, append-nil, arith, Result, Ok, Err, IfOk}
 use Rattle.std.proofs.lemmas.List.{length-append, drop_all}
 use Rattle.std.proofs.lemmas.List.Concat.{flat_map-append}
 use mathlib.Core.Path.{fun_ext}
-use Rattle.regress_tree.specs.Steps.{State, Step, stay, ◌then_◌, ◌or_◌}
-use Rattle.regress_tree.proofs.laws.Outcomes.{flat_map-then, flat_map-stay}
+use Rattle.regress_tree.specs.Steps.{State, Step, ◌then_◌}
+use Rattle.regress_tree.proofs.laws.Outcomes.{flat_map-then}
 use Rattle.regress_match.specs.Captures.{undone, state, Later}
-use Rattle.regress_match.specs.Machine.{what_step, todo, pending, waiting, saved, IsMachine, left_at, onward, Pushed, Chosen, Does, Continues}
+use Rattle.regress_match.specs.Machine.{what_step, todo, pending, waiting, saved, IsMachine, onward, Pushed, Chosen, Does, Continues}
 use Rattle.regress_match.specs.Subject.{Subject, direction_of}
 use Rattle.regress_match.specs.Leaves.{put}
 use Rattle.regress_match.specs.declared.machine.Looking.{Looking}
@@ -21,7 +21,7 @@ use Rattle.regress_match.specs.declared.machine.Next.{Next}
 use Rattle.regress_match.specs.declared.machine.Next.TheVariants as nexts
 use Rattle.regress_match.specs.declared.machine.Task.{Task}
 use Rattle.regress_match.proofs.CaptureLemmas.{undone-nil, Later-refl}
-use Rattle.regress_match.proofs.MachineLemmas.{todo-append, todo-push, todo-none, pending-append, pending-push, push_task, push_choice, machine_later, waiting_later}
+use Rattle.regress_match.proofs.MachineLemmas.{todo-append, todo-push, pending-append, pending-push, push_task, push_choice, machine_later, waiting_later}
 
 pub pushed_task : (u : Subject) (m m' : Machine) (t : Task) (task : ℕ) → m'.tasks.items ≡ m.tasks.items ++ t ∷ [] →
     m'.choices.items ≡ m.choices.items → task ≡ length m.tasks.items + 1 → t.next ≤ length m.tasks.items →

@@ -1,16 +1,15 @@
 -- What leaves match, as the code finds it.
-use Rattle.std.proofs.Common.{◌≡◌, ℕ, zero, suc, ◌+◌, ◌-◌, ◌≤◌, ◌<◌, ◌==◌, Bool, true, false, ◌&&◌, List, [], ◌∷◌, ◌++◌, flat_map, length, take, drop, get_or, Option, Some, None, refl, sym, ap, ap₂, subst, ◌∙◌, arith, append-nil, append_assoc, if◌then◌else◌, nat_eq, nat_le, nat_lt}
+use Rattle.std.proofs.Common.{◌≡◌, ℕ, zero, suc, ◌+◌, ◌-◌, ◌≤◌, ◌<◌, Bool, true, false, ◌&&◌, List, [], ◌∷◌, ◌++◌, flat_map, length, drop, get_or, Option, Some, None, refl, sym, ap, ap₂, ◌∙◌, arith, append-nil, if◌then◌else◌, nat_eq, nat_le}
 use Rattle.std.specs.List.{starts_with}
 use Rattle.std.proofs.lemmas.List.{drop_more, length-reverse}
-use Rattle.regress_base.specs.Listing.{lists}
-use Rattle.regress_tree.specs.Matching.{steps, leaf_steps}
+use Rattle.regress_tree.specs.Matching.{steps}
 use Rattle.regress_tree.specs.Reading.{Direction, forwards, backwards, Reading, Read, next_character, of_bytes}
-use Rattle.regress_tree.specs.References.{all_of, in_order, characters_from, read_with, back_reference, once_more}
+use Rattle.regress_tree.specs.References.{all_of, in_order, characters_from, back_reference, once_more}
 use Rattle.regress_tree.specs.Setting.{Setting}
 use Rattle.regress_tree.specs.Strings.{any_string}
-use Rattle.regress_tree.specs.Steps.{State, Step, stay, ◌then_◌, one_character, moved, these_bytes, hold_at}
-use Rattle.regress_tree.specs.Tree.{Leaf, empty, goal, char, byte_sequence, byte_set, char_set, match_any, match_any_except_line_terminator, anchor, word_boundary, bracket, back_ref, string_set, Tree, leaf, cat, alt, wrapped}
-use Rattle.regress_match.specs.Leaves.{put, takes_one, test_of, leaf_test}
+use Rattle.regress_tree.specs.Steps.{State, one_character, moved, these_bytes, hold_at}
+use Rattle.regress_tree.specs.Tree.{empty, goal, char, byte_sequence, byte_set, char_set, match_any, match_any_except_line_terminator, anchor, word_boundary, bracket, back_ref, string_set, Tree, leaf, cat, alt, wrapped}
+use Rattle.regress_match.specs.Leaves.{takes_one, test_of}
 
 module _ (d : Direction) (r : Reading) where
   -- one character

@@ -1,5 +1,5 @@
 -- Turns of loops, groups and rows, as tasks do them.
-use Rattle.std.proofs.Common.{◌≡◌, ℕ, zero, suc, ◌+◌, ◌-◌, ◌≤◌, ◌<◌, Bool, true, false, not, ◌==◌, List, [], ◌∷◌, ◌++◌, filter, flat_map, map, refl, sym, ap, ap₂, ◌∙◌, arith, if◌then◌else◌, not-suc-le-zero, append-nil}
+use Rattle.std.proofs.Common.{◌≡◌, ℕ, zero, suc, ◌+◌, ◌-◌, ◌≤◌, Bool, true, false, not, ◌==◌, List, [], ◌∷◌, ◌++◌, filter, flat_map, map, refl, sym, ap, ◌∙◌, arith, if◌then◌else◌, not-suc-le-zero}
 use Rattle.std.proofs.Common.{length}
 use Rattle.regress_base.specs.declared.types.Quantifier.{Quantifier}
 use Rattle.regress_tree.specs.Matching.{steps}
@@ -10,7 +10,6 @@ use Rattle.regress_match.specs.Subject.{Subject}
 use Rattle.regress_match.specs.declared.machine.Repeat.{Repeat}
 use Rattle.regress_match.specs.declared.machine.What.TheVariants as whats
 use Rattle.regress_tree.specs.Steps.{State, Step, stay, ◌then_◌, ◌or_◌, capture, captured}
-use Rattle.regress_tree.proofs.laws.Outcomes.{flat_map-then}
 
 map-flat : (g : State → State) (states : List State) → map g states ≡ flat_map (λ t. g t ∷ []) states
 map-flat g [] = refl

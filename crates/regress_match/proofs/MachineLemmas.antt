@@ -1,8 +1,8 @@
 -- Tasks and choices.
-use Rattle.std.proofs.Common.{◌≡◌, ℕ, zero, suc, ◌+◌, ◌-◌, ◌≤◌, ◌<◌, List, [], ◌∷◌, ◌++◌, flat_map, length, take, drop, refl, sym, ap, ap₂, subst, ◌∙◌, append_assoc, append-nil, arith, le_of_suc-le-suc, not-suc-le-zero, slice_index_or}
-use Rattle.std.proofs.lemmas.List.{length-append, length-take-le, take-append-drop, drop_all}
+use Rattle.std.proofs.Common.{◌≡◌, ℕ, zero, suc, ◌+◌, ◌≤◌, ◌<◌, List, [], ◌∷◌, ◌++◌, length, take, drop, refl, sym, ap, ap₂, subst, ◌∙◌, append_assoc, append-nil, arith, le_of_suc-le-suc, not-suc-le-zero, slice_index_or}
+use Rattle.std.proofs.lemmas.List.{length-append, length-take-le, take-append-drop}
 use Rattle.std.proofs.Math.Seq.{take-suc}
-use Rattle.regress_tree.specs.Steps.{State, Step, stay, ◌then_◌}
+use Rattle.regress_tree.specs.Steps.{Step, stay, ◌then_◌}
 use Rattle.regress_match.specs.Captures.{undone, state, Later}
 use Rattle.regress_match.specs.Machine.{what_step, choose, after, todo, pending, waiting, saved, linked_from, known_from, IsMachine, left_at}
 use Rattle.regress_match.specs.Subject.{Subject}
@@ -10,7 +10,7 @@ use Rattle.regress_match.specs.declared.captures.Captures.{Captures}
 use Rattle.regress_match.specs.declared.machine.Choice.{Choice}
 use Rattle.regress_match.specs.declared.machine.Machine.{Machine}
 use Rattle.regress_match.specs.declared.machine.Task.{Task}
-use Rattle.regress_match.proofs.CaptureLemmas.{undone-later, undone-append, undone-nil, Later-length}
+use Rattle.regress_match.proofs.CaptureLemmas.{undone-later, undone-append, Later-length}
 
 pub known_low : (low mark : ℕ) (cs : List Choice) (n m : ℕ) → known_from low mark cs n m → (low ≤ n) × (mark ≤ m)
 unfolding known_from

@@ -1,5 +1,5 @@
 -- Where characters begin and end.
-use Rattle.std.proofs.Common.{◌≡◌, ℕ, zero, suc, ◌+◌, ◌-◌, ◌≤◌, ◌<◌, ◌==◌, Bool, true, false, List, [], ◌∷◌, ◌++◌, length, take, drop, get_or, Option, Some, None, refl, sym, ap, ap₂, subst, ◌∙◌, arith, append_assoc, if◌then◌else◌, cond, nat_le}
+use Rattle.std.proofs.Common.{◌≡◌, ℕ, zero, suc, ◌+◌, ◌-◌, ◌≤◌, ◌<◌, ◌==◌, Bool, true, false, List, [], ◌∷◌, ◌++◌, length, take, drop, get_or, Option, Some, None, refl, sym, ap, subst, ◌∙◌, arith, append_assoc, if◌then◌else◌, cond, nat_le}
 use Rattle.std.specs.Char.{IsScalar, len_utf8, encode_utf8}
 use Rattle.std.specs.Option.{option_or, option_and_then}
 use Rattle.std.specs.Str.{IsUtf8, IsCharBoundary}
@@ -10,7 +10,7 @@ use Rattle.std.proofs.Math.Seq.{drop-append_seam}
 use Rattle.std.proofs.lemmas.Str.{IsUtf8-drop, IsCharBoundary-past_char, length-encode, len_utf8_bounds}
 use lib.Utf8.{encode}
 use Rattle.regress_tree.specs.Reading.{Read, character_at, read_after, read_before, read_before_by}
-use Rattle.regress_tree.proofs.laws.Characters.{character_at_from, character_at_parts}
+use Rattle.regress_tree.proofs.laws.Characters.{character_at_parts}
 use Rattle.regress_tree.proofs.laws.Readings.{read_before-behind}
 
 no_character : (o : Option ℕ) → ((c : ℕ) → o ≡ Some c → ⊥) → o ≡ None

@@ -1,12 +1,11 @@
 -- Steps of a run, lookarounds in it, and its ends.
-use Rattle.std.proofs.Common.{◌≡◌, ℕ, zero, suc, ◌+◌, ◌-◌, ◌≤◌, ◌<◌, Bool, true, false, List, [], ◌∷◌, ◌++◌, flat_map, filter, not, length, take, drop, refl, sym, ap, ap₂, subst, ◌∙◌, append-nil, arith, slice_index_or, Option, Some, None}
-use Rattle.std.proofs.lemmas.List.{length-append}
+use Rattle.std.proofs.Common.{◌≡◌, ℕ, ◌+◌, ◌-◌, ◌≤◌, true, false, List, [], ◌∷◌, ◌++◌, flat_map, filter, not, length, take, drop, refl, sym, ap, ap₂, subst, ◌∙◌, append-nil, arith, slice_index_or, Option}
 use Rattle.std.proofs.Math.Seq.{drop-append_seam}
 use Rattle.std.proofs.Common.{Result, Ok, Err, IfOk}
 use Rattle.regress_match.specs.declared.captures.Undo.{Undo}
 use Rattle.regress_tree.specs.Lookaround.{look, looked}
 use Rattle.regress_tree.specs.Matching.{steps}
-use Rattle.regress_tree.specs.Steps.{State, Step, Span, stay, ◌then_◌, distinct, same_state}
+use Rattle.regress_tree.specs.Steps.{State, Step, CaptureSpan, distinct, same_state}
 use Rattle.regress_tree.specs.Tree.{tree}
 use Rattle.regress_tree.proofs.laws.Outcomes.{flat_map-stay}
 use Rattle.regress_match.specs.Captures.{undone, state, Later}
@@ -19,7 +18,6 @@ use Rattle.regress_match.specs.declared.machine.Next.{Next}
 use Rattle.regress_match.specs.declared.machine.Next.TheVariants as nexts
 use Rattle.regress_match.specs.declared.machine.Settled.TheVariants as settleds
 use Rattle.regress_match.specs.declared.machine.Task.{Task}
-use Rattle.regress_match.proofs.CaptureLemmas.{undone-nil, undone-append}
 use Rattle.regress_match.proofs.MachineLemmas.{todo-at, todo-none, pending-nil, machine_later, waiting_later}
 
 -- a machine with nothing to do
@@ -123,7 +121,7 @@ pub distinct_none : (states : List State) → states ≡ [] → distinct states 
 distinct_none states is = ap distinct is
 
 -- The changes of a lookaround, undone again.
-pub rewound : (before since all : List Undo) (noted : ℕ) (spans spans' spans'' : List (Option Span)) → all ≡ before ++ since → noted ≡ length before →
+pub rewound : (before since all : List Undo) (noted : ℕ) (spans spans' spans'' : List (Option CaptureSpan)) → all ≡ before ++ since → noted ≡ length before →
     undone since spans' ≡ spans → spans'' ≡ undone (drop noted all) spans' → spans'' ≡ spans
 rewound before since all noted spans spans' spans'' split len undo is =
     is ∙ ap₂ (λ k us. undone (drop k us) spans') len split ∙ ap (λ us. undone us spans') (drop-append_seam before since) ∙ undo

@@ -1,14 +1,14 @@
 -- Groups that are forgotten one by one.
-use Rattle.std.proofs.Common.{◌≡◌, ℕ, zero, suc, ◌+◌, ◌-◌, ◌≤◌, ◌<◌, min, Bool, true, false, ◌&&◌, List, [], ◌∷◌, length, Option, Some, None, refl, sym, ap, ap₂, ◌∙◌, arith, nat_le, nat_lt, le_of_suc-le-suc, not-suc-le-zero, get_or, set, if◌then◌else◌, ◌⊎◌, inl, inr}
+use Rattle.std.proofs.Common.{◌≡◌, ℕ, zero, suc, ◌+◌, ◌≤◌, ◌<◌, min, Bool, true, false, ◌&&◌, List, [], ◌∷◌, length, Option, None, refl, sym, ap, ap₂, ◌∙◌, arith, nat_le, nat_lt, get_or, set, if◌then◌else◌, ◌⊎◌, inl, inr}
 use Rattle.std.proofs.lemmas.Bool.{cases_lt}
 use Rattle.regress_tree.specs.Repetition.{unset_from}
-use Rattle.regress_tree.specs.Steps.{Span}
+use Rattle.regress_tree.specs.Steps.{CaptureSpan}
 
 -- whether the group lies in the range
 is_in : ℕ → ℕ → ℕ → Bool
 is_in start end k = nat_le start k && nat_lt k end
 
-pub length-unset : (k start end : ℕ) (spans : List (Option Span)) → length (unset_from k start end spans) ≡ length spans
+pub length-unset : (k start end : ℕ) (spans : List (Option CaptureSpan)) → length (unset_from k start end spans) ≡ length spans
 length-unset k start end [] = refl
 length-unset k start end (x ∷ xs) = ap suc (length-unset (k + 1) start end xs)
 
@@ -27,27 +27,27 @@ behind_test start group k lt = grind arith
 at_test : (start group : ℕ) → start ≤ group → (nat_le start group && nat_lt group (group + 1)) ≡ true
 at_test start group le = grind arith
 
-pub unset-none : (k start end : ℕ) (spans : List (Option Span)) → end ≤ start → unset_from k start end spans ≡ spans
+pub unset-none : (k start end : ℕ) (spans : List (Option CaptureSpan)) → end ≤ start → unset_from k start end spans ≡ spans
 unset-none k start end [] le = refl
 unset-none k start end (x ∷ xs) le =
     ap₂ (λ (b : Bool) ys. (if b then None else x) ∷ ys) (outside start end k le) (unset-none (k + 1) start end xs le)
 
 -- groups past the last one make no difference
-pub unset-past : (k start end end' : ℕ) (spans : List (Option Span)) → k + length spans ≤ end → end ≤ end' →
+pub unset-past : (k start end end' : ℕ) (spans : List (Option CaptureSpan)) → k + length spans ≤ end → end ≤ end' →
     unset_from k start end spans ≡ unset_from k start end' spans
 unset-past k start end end' [] le le' = refl
 unset-past k start end end' (x ∷ xs) le le' =
     ap₂ (λ (b : Bool) ys. (if b then None else x) ∷ ys) (same_tests start end end' k (omega (arith, le)) le')
     (unset-past (k + 1) start end end' xs (omega (arith, le)) le')
 
-beyond : (k start group : ℕ) (spans : List (Option Span)) → group < k →
+beyond : (k start group : ℕ) (spans : List (Option CaptureSpan)) → group < k →
     unset_from k start group spans ≡ unset_from k start (group + 1) spans
 beyond k start group [] lt = refl
 beyond k start group (x ∷ xs) lt =
     ap₂ (λ (b : Bool) ys. (if b then None else x) ∷ ys) (behind_test start group k lt) (beyond (k + 1) start group xs (omega (arith, lt)))
 
 -- one group more
-more_at : (k start j : ℕ) (spans : List (Option Span)) → start ≤ k + j →
+more_at : (k start j : ℕ) (spans : List (Option CaptureSpan)) → start ≤ k + j →
     unset_from k start (k + j + 1) spans ≡ set (unset_from k start (k + j) spans) j None
 more_at k start j [] le = refl
 more_at k start zero (x ∷ xs) le =
@@ -63,7 +63,7 @@ more_at k start (suc j) (x ∷ xs) le =
     ∙ ap (λ m. set (unset_from (k + 1) start m xs) j None) (sym n) in
     ap₂ (λ (b : Bool) ys. (if b then None else x) ∷ ys) (sym (before_tests start (k + suc j) k (omega arith))) rest
 
-pub unset-more : (start group : ℕ) (spans : List (Option Span)) → start ≤ group →
+pub unset-more : (start group : ℕ) (spans : List (Option CaptureSpan)) → start ≤ group →
     unset_from 0 start (group + 1) spans ≡ set (unset_from 0 start group spans) group None
 unset-more start group spans le =
     let n : 0 + group ≡ group = omega arith in
@@ -75,12 +75,12 @@ set-same [] i v is = refl
 set-same (x ∷ xs) zero v is = ap (λ y. y ∷ xs) is
 set-same (x ∷ xs) (suc i) v is = ap (λ ys. x ∷ ys) (set-same xs i v is)
 
-clipped_by : (start end behind : ℕ) (spans : List (Option Span)) → (end < length spans) ⊎ (length spans ≤ end) → behind ≡ min end (length spans) →
+clipped_by : (start end behind : ℕ) (spans : List (Option CaptureSpan)) → (end < length spans) ⊎ (length spans ≤ end) → behind ≡ min end (length spans) →
     unset_from 0 start behind spans ≡ unset_from 0 start end spans
 clipped_by start end behind spans (inl le) is = ap (λ k. unset_from 0 start k spans) (omega (arith, is, le))
 clipped_by start end behind spans (inr le) is =
     unset-past 0 start behind end spans (omega (arith, is, le)) (omega (arith, is, le))
 
-pub unset-clipped : (start end behind : ℕ) (spans : List (Option Span)) → behind ≡ min end (length spans) →
+pub unset-clipped : (start end behind : ℕ) (spans : List (Option CaptureSpan)) → behind ≡ min end (length spans) →
     unset_from 0 start behind spans ≡ unset_from 0 start end spans
 unset-clipped start end behind spans is = clipped_by start end behind spans (cases_lt end (length spans)) is

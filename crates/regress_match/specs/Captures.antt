@@ -1,11 +1,11 @@
 -- What groups have captured, and how it is undone.
 use Rattle.std.specs.Prelude.{◌≡◌, ℕ, List, [], ◌∷◌, ◌++◌, Option, slice_set}
-use Rattle.regress_tree.specs.Steps.{Span, State}
+use Rattle.regress_tree.specs.Steps.{CaptureSpan, State}
 use Rattle.regress_match.specs.declared.captures.Undo.{Undo}
 use Rattle.regress_match.specs.declared.captures.Captures.{Captures}
 
 -- what the groups had captured before these changes, the last one undone first
-unfoldable pub undone : List Undo → List (Option Span) → List (Option Span)
+unfoldable pub undone : List Undo → List (Option CaptureSpan) → List (Option CaptureSpan)
 undone [] spans = spans
 undone (u ∷ us) spans = slice_set (undone us spans) u.group u.before
 

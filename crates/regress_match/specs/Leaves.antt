@@ -5,7 +5,7 @@ use Rattle.regress_base.specs.Listing.{lists}
 use Rattle.regress_tree.specs.Assertions.{is_line_terminator}
 use Rattle.regress_tree.specs.Reading.{Read}
 use Rattle.regress_tree.specs.Steps.{State}
-use Rattle.regress_tree.specs.Tree.{Leaf, empty, goal, char, byte_sequence, byte_set, char_set, match_any, match_any_except_line_terminator, anchor, word_boundary, bracket, back_ref, string_set, Tree, leaf, cat, alt, wrapped}
+use Rattle.regress_tree.specs.Tree.{Leaf, char, byte_set, char_set, match_any, match_any_except_line_terminator, bracket, string_set, Tree, leaf}
 
 -- the state moved there, or no outcome
 abbrev pub put : State → Option ℕ → List State

@@ -17,7 +17,6 @@ use Rattle.regress_match.specs.declared.machine.Answer.TheVariants as answers
 use Rattle.regress_match.specs.declared.machine.Choice.{Choice}
 use Rattle.regress_match.specs.declared.machine.Looked.{Looked}
 use Rattle.regress_match.specs.declared.machine.Looked.TheVariants as lookeds
-use Rattle.regress_match.specs.declared.machine.Looking.{Looking}
 use Rattle.regress_match.specs.declared.machine.Machine.{Machine}
 use Rattle.regress_match.specs.declared.machine.Next.{Next}
 use Rattle.regress_match.specs.declared.machine.Next.TheVariants as nexts

@@ -1,6 +1,6 @@
 -- What a match is.
-use Rattle.std.specs.Prelude.{◌≡◌, ℕ, List, [], ◌∷◌, Option, None, replicate}
-use Rattle.regress_tree.specs.Steps.{Span, State}
+use Rattle.std.specs.Prelude.{◌≡◌, ℕ, List, [], ◌∷◌, None, replicate}
+use Rattle.regress_tree.specs.Steps.{State}
 use Rattle.regress_match.specs.declared.matching.Outcome.{Outcome}
 use Rattle.regress_match.specs.declared.matching.Outcome.TheVariants as outcomes
 use Rattle.regress_match.specs.declared.matching.Match.{Match}
@@ -18,3 +18,9 @@ abbrev pub IsFirst : List State → Outcome → Type 0
 IsFirst states (outcomes.Matched m) = (rest : List State) × (states ≡ state_of m ∷ rest)
 IsFirst states outcomes.NoMatch = states ≡ []
 IsFirst states outcomes.OutOfSteps = Unit {0}
+
+-- A match starts at this place.
+abbrev pub StartsAt : ℕ → Outcome → Type 0
+StartsAt place (outcomes.Matched m) = m.start ≡ place
+StartsAt place outcomes.NoMatch = Unit {0}
+StartsAt place outcomes.OutOfSteps = Unit {0}

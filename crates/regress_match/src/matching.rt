@@ -6,7 +6,7 @@ ghost use Rattle.regress_tree.specs.Reading.{forwards};
 ghost use Rattle.regress_tree.specs.Tree.{tree};
 ghost use Rattle.regress_tree.specs.WellFormed.{captures};
 ghost use Rattle.regress_unicode.specs.TableOf.{table_of};
-ghost use Rattle.regress_match.specs.Matched.{IsFirst, no_groups};
+ghost use Rattle.regress_match.specs.Matched.{IsFirst, StartsAt, no_groups};
 
 use crate::captures::Captures;
 use crate::machine::Answer;
@@ -47,7 +47,8 @@ pub fn match_at(
     place: usize,
     steps: u64,
 ) -> Result<Outcome, AllocError>
-    ensures { IfOk result (IsFirst (matches (record { flags = regex.now.flags; table = table_of tables.now }) text.now forwards
+    ensures start { IfOk result (StartsAt place) }
+    ensures first { IfOk result (IsFirst (matches (record { flags = regex.now.flags; table = table_of tables.now }) text.now forwards
         (tree regex.now.node) (no_groups (length (captures (tree regex.now.node))) place))) }
 {
     let mut captures = Captures {

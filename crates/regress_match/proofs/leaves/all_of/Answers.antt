@@ -1,4 +1,4 @@
-use Rattle.std.proofs.Common.{rules, arith, ◌≡◌, ◌+◌, ◌<◌, ◌∷◌, ◌∙◌, length, drop, ap, sym, None, Some, true, false, slice_index}
+use Rattle.std.proofs.Common.{arith, ◌≡◌, ◌<◌, ◌∙◌, length, ap, sym, None, Some}
 use Rattle.std.specs.Option.{option_map}
 use Rattle.regress_base.specs.Table.{stands_for}
 use Rattle.regress_tree.specs.Reading.{next_character, of_bytes}

@@ -1,9 +1,8 @@
-use Rattle.std.proofs.Common.{rules, arith, ◌≡◌, ◌-◌, ◌∙◌, length, ap, sym, refl, get_or, Option, None, Some}
+use Rattle.std.proofs.Common.{rules, arith, ◌≡◌, ◌-◌, ◌∙◌, ap, sym, refl, get_or, None, Some}
 use Rattle.std.proofs.lemmas.List.{get_or_past}
 use Rattle.regress_base.specs.Table.{stands_for}
 use Rattle.regress_tree.specs.Reading.{of_bytes}
 use Rattle.regress_tree.specs.References.{all_of, in_order}
-use Rattle.regress_tree.specs.Steps.{Span}
 use Rattle.regress_unicode.specs.TableOf.{table_of}
 use Rattle.regress_match.specs.Captures.{state}
 use Rattle.regress_match.specs.Subject.{direction_of}

@@ -1,5 +1,4 @@
-use Rattle.std.proofs.Common.{rules, ◌≡◌, ◌∷◌, [], ◌++◌, ◌∙◌, Some, ap, sym}
-use Rattle.std.specs.Prelude.{option_map}
+use Rattle.std.proofs.Common.{rules, ◌≡◌, ◌∷◌, [], ◌++◌, Some}
 use Rattle.regress_tree.specs.Reading.{Read, read_after}
 use Rattle.regress_match.specs.Leaves.{read_of}
 use Rattle.regress_match.proofs.BetweenLemmas.{between_next}

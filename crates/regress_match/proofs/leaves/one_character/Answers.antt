@@ -1,4 +1,4 @@
-use Rattle.std.proofs.Common.{rules, ◌≡◌, ◌∙◌, ap, sym, None, Some, true, false}
+use Rattle.std.proofs.Common.{◌≡◌, ◌∙◌, ap, sym, None, Some}
 use Rattle.std.specs.Option.{option_map}
 use Rattle.regress_tree.specs.Reading.{next_character, of_bytes}
 use Rattle.regress_tree.specs.Tree.{tree}

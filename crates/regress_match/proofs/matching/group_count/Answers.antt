@@ -1,6 +1,6 @@
-use Rattle.std.proofs.Common.{rules, arith, ◌≡◌, ◌+◌, ◌++◌, ◌∙◌, ℕ, List, length, min, refl, ap, sym}
+use Rattle.std.proofs.Common.{rules, arith, ◌≡◌, ◌+◌, ◌∙◌, ℕ, List, length, min, refl, ap}
 use Rattle.std.proofs.lemmas.List.{length-append}
-use Rattle.regress_tree.specs.Gathered.{gathered, own_group}
+use Rattle.regress_tree.specs.Gathered.{own_group}
 use Rattle.regress_tree.specs.Tree.{tree}
 use Rattle.regress_tree.specs.WellFormed.{Capture}
 use Rattle.regress_tree.proofs.laws.Gathered.{visited_adds, gathered-groups}

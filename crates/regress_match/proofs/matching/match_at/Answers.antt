@@ -1,4 +1,4 @@
-use Rattle.std.proofs.Common.{rules, arith, ◌≡◌, ◌∷◌, [], ◌∙◌, List, length, None, ap, sym}
+use Rattle.std.proofs.Common.{arith, ◌≡◌, ◌∷◌, [], ◌∙◌, List, length, None, ap, sym}
 use Rattle.std.specs.Prelude.{replicate}
 use Rattle.regress_tree.specs.Matching.{steps}
 use Rattle.regress_tree.specs.Reading.{forwards}
@@ -12,8 +12,8 @@ use Rattle.regress_match.specs.Matched.{no_groups}
 use Rattle.regress_match.proofs.RunLemmas.{distinct_first, distinct_none}
 use Rattle.regress_match.proofs.matching.match_at.Goals as goal
 
-pub returns-in-At : goal.returns-in-At
-returns-in-At c =
+pub returns-in-At-clause-first : goal.returns-in-At-clause-first
+returns-in-At-clause-first c =
     let setting : Setting = record { flags = c.args.regex.now.flags; table = table_of c.args.tables.now } in
     let t = tree c.args.regex.now.node in
     let n = length (captures t) in
@@ -26,8 +26,8 @@ returns-in-At c =
     distinct_first (f (no_groups n place)) found.0 (state c.run.new.captures c.in-At.end)
     (ap (λ xs. f (record { place = place; captures = xs })) (sym spans) ∙ found.1)
 
-pub returns-in-Nowhere : goal.returns-in-Nowhere
-returns-in-Nowhere c =
+pub returns-in-Nowhere-clause-first : goal.returns-in-Nowhere-clause-first
+returns-in-Nowhere-clause-first c =
     let setting : Setting = record { flags = c.args.regex.now.flags; table = table_of c.args.tables.now } in
     let t = tree c.args.regex.now.node in
     let n = length (captures t) in

@@ -1,11 +1,10 @@
-use Rattle.std.proofs.Common.{rules, arith, ◌≡◌, ◌≤◌, ◌++◌, ◌∷◌, [], ◌∙◌, List, length, Ok, Err, refl, sym, ap, subst, IfOk}
+use Rattle.std.proofs.Common.{rules, arith, ◌≡◌, ◌++◌, ◌∷◌, [], ◌∙◌, List, length, sym, ap}
 use Rattle.regress_tree.specs.Lookaround.{look}
 use Rattle.regress_tree.specs.Matching.{steps}
 use Rattle.regress_tree.specs.Steps.{State}
 use Rattle.regress_tree.specs.Tree.{tree}
 use Rattle.regress_unicode.specs.TableOf.{table_of}
 use Rattle.regress_match.specs.Captures.{state, undone}
-use Rattle.regress_match.specs.Machine.{Looks}
 use Rattle.regress_match.specs.Subject.{subject, direction_of}
 use Rattle.regress_match.specs.declared.machine.Machine.{Machine}
 use Rattle.regress_match.proofs.CaptureLemmas.{Later-refl, undone-nil, undone-all}

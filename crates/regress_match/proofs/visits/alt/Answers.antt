@@ -1,4 +1,4 @@
-use Rattle.std.proofs.Common.{rules, refl}
+use Rattle.std.proofs.Common.{refl}
 use Rattle.regress_tree.specs.Matching.{steps}
 use Rattle.regress_tree.specs.Tree.{tree}
 use Rattle.regress_match.proofs.DoesLemmas.{does_either}

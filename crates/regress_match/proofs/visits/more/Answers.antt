@@ -1,5 +1,5 @@
-use Rattle.std.proofs.Common.{rules, arith, ◌≡◌, ◌-◌, ◌∷◌, [], ◌∙◌, ap, sym, refl, true, false}
-use Rattle.regress_match.specs.Machine.{more_of, turn_of, what_step}
+use Rattle.std.proofs.Common.{arith, ◌-◌, ap}
+use Rattle.regress_match.specs.Machine.{more_of, turn_of}
 use Rattle.regress_match.specs.Captures.{state}
 use Rattle.regress_tree.specs.Repetition.{up_to, moving}
 use Rattle.regress_tree.specs.Steps.{◌then_◌}

@@ -1,4 +1,4 @@
-use Rattle.std.proofs.Common.{rules, arith, ◌≡◌, ◌∷◌, [], ◌∙◌, ap, sym, refl, true}
+use Rattle.std.proofs.Common.{◌∷◌, [], ◌∙◌, ap, sym}
 use Rattle.regress_match.specs.Captures.{state}
 use Rattle.regress_match.specs.Machine.{what_step}
 use Rattle.regress_match.specs.Subject.{subject}

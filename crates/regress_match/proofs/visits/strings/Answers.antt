@@ -1,4 +1,4 @@
-use Rattle.std.proofs.Common.{rules, ◌≡◌, ◌∷◌, [], ◌++◌, ◌∙◌, List, map, ap, sym, refl, Global, Option, Some, None, ℕ}
+use Rattle.std.proofs.Common.{rules, ◌≡◌, ◌∷◌, ◌++◌, ◌∙◌, List, map, ap, sym, refl, Global, None, ℕ}
 use Rattle.std.specs.Box.{boxed_slice_items}
 use Rattle.std.specs.declared.boxed.BoxedSlice.{BoxedSlice}
 use Rattle.regress_base.specs.Table.{stands_for}

@@ -1,8 +1,7 @@
-use Rattle.std.proofs.Common.{rules, ◌≡◌, ◌∙◌, ap, sym, flat_map, if◌then◌else◌, ◌==◌, []}
-use Rattle.regress_match.specs.Machine.{more_of, what_step}
+use Rattle.std.proofs.Common.{◌∙◌, ap, sym, flat_map, if◌then◌else◌, ◌==◌, []}
+use Rattle.regress_match.specs.Machine.{more_of}
 use Rattle.regress_tree.specs.Matching.{steps}
 use Rattle.regress_tree.specs.Tree.{tree}
-use Rattle.regress_match.specs.Captures.{state}
 use Rattle.regress_match.proofs.DoesLemmas.{goes_pushed}
 use Rattle.regress_match.proofs.LoopLemmas.{moved-later}
 use Rattle.regress_match.proofs.visits.turn.Goals as goal

@@ -1,10 +1,10 @@
-use Rattle.std.proofs.Common.{rules, arith, ◌≡◌, ◌-◌, ◌∙◌, ap, sym, refl, flat_map, append-nil}
+use Rattle.std.proofs.Common.{arith, ◌-◌, ◌∙◌, ap, sym, flat_map, append-nil}
 use Rattle.regress_match.specs.Machine.{more_of, turn_of, what_step}
 use Rattle.regress_tree.specs.Matching.{steps}
 use Rattle.regress_tree.specs.Repetition.{turns}
 use Rattle.regress_tree.specs.Steps.{◌then_◌}
 use Rattle.regress_tree.specs.Tree.{tree}
-use Rattle.regress_tree.proofs.laws.Outcomes.{flat_map-then, flat_map-stay}
+use Rattle.regress_tree.proofs.laws.Outcomes.{flat_map-then}
 use Rattle.regress_match.specs.Captures.{state}
 use Rattle.regress_match.specs.declared.machine.What.TheVariants as whats
 use Rattle.regress_match.proofs.DoesLemmas.{goes_pushed, does_same, ok_map}

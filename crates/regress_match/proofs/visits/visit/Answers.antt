@@ -2,7 +2,7 @@ use Rattle.std.proofs.Common.{rules, arith, ◌≡◌, ◌∙◌, ap, ap₂, sym
 use Rattle.std.specs.Prelude.{option_map, string_bytes}
 use Rattle.regress_tree.specs.declared.ir.node.Node.{the_lemmas}
 use Rattle.regress_tree.specs.Matching.{steps}
-use Rattle.regress_tree.specs.Tree.{Tree, tree, alt, wrapped, capture_group, lookaround}
+use Rattle.regress_tree.specs.Tree.{tree, alt, wrapped, capture_group, lookaround}
 use Rattle.regress_tree.proofs.laws.Nodes.{tree-Cat, tree-Alt, tree-CaptureGroup, tree-Loop, tree-Loop1CharBody, tree-LookaroundAssertion}
 use Rattle.regress_match.specs.Captures.{state}
 use Rattle.regress_match.specs.Leaves.{has_one_outcome}

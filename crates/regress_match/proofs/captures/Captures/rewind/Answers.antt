@@ -1,4 +1,4 @@
-use Rattle.std.proofs.Common.{rules, arith, ◌≡◌, ◌≤◌, ◌++◌, ◌∷◌, [], length, drop, set, refl, sym, ap, ◌∙◌}
+use Rattle.std.proofs.Common.{rules, arith, ◌≡◌, ◌≤◌, ◌++◌, ◌∷◌, [], length, drop, refl, sym, ap, ◌∙◌}
 use Rattle.std.proofs.lemmas.List.{set_past, drop_all, length-append}
 use Rattle.regress_match.specs.Captures.{undone}
 use Rattle.regress_match.proofs.CaptureLemmas.{rewind_step, undone-nil}

@@ -1,5 +1,5 @@
 -- The changes from here on are undone.
-use Rattle.std.proofs.Common.{◌≡◌, ◌≤◌, ◌-◌, length, take, drop}
+use Rattle.std.proofs.Common.{◌≡◌, ◌≤◌, length, take, drop}
 use Rattle.regress_match.specs.Captures.{undone}
 use Rattle.regress_match.proofs.captures.Captures.rewind.Given as goal
 

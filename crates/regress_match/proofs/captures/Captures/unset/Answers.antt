@@ -1,9 +1,9 @@
-use Rattle.std.proofs.Common.{rules, arith, ℕ, List, Option, ◌≡◌, ◌≤◌, ◌+◌, ◌++◌, ◌∷◌, [], length, min, None, get_or, set, refl, sym, ap, ◌∙◌}
+use Rattle.std.proofs.Common.{rules, arith, ℕ, List, Option, ◌≡◌, ◌+◌, length, min, None, set, refl, sym, ap, ◌∙◌}
 use Rattle.std.proofs.lemmas.List.{length-set}
 use Rattle.regress_tree.specs.Repetition.{unset_from}
-use Rattle.regress_tree.specs.Steps.{Span}
+use Rattle.regress_tree.specs.Steps.{CaptureSpan}
 use Rattle.regress_match.proofs.CaptureLemmas.{Later-refl, Later-trans}
-use Rattle.regress_match.proofs.UnsetLemmas.{length-unset, unset-none, unset-clipped, unset-more, set-same}
+use Rattle.regress_match.proofs.UnsetLemmas.{unset-none, unset-clipped, unset-more, set-same}
 use Rattle.regress_match.proofs.captures.Captures.unset.Goals as goal
 use Rattle.regress_match.proofs.captures.Captures.unset.Goals.{then-is_some+in_ok-set, else-is_some}
 
@@ -55,6 +55,6 @@ returns-clause-state c = λ place.
     ap (λ xs. record { place = place; captures = xs })
     (c.loop-group.invariant.spans ∙ ap (λ k. unset_from 0 start k spans) now ∙ all)
   where
-    past : (start end behind : ℕ) (spans : List (Option Span)) → behind ≡ min end (length spans) →
+    past : (start end behind : ℕ) (spans : List (Option CaptureSpan)) → behind ≡ min end (length spans) →
         unset_from 0 start behind spans ≡ unset_from 0 start end spans
     past start end behind spans is = unset-clipped start end behind spans is

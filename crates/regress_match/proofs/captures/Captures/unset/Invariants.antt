@@ -1,5 +1,5 @@
 -- The groups up to here are forgotten, and each change is noted.
-use Rattle.std.proofs.Common.{◌≡◌, ◌≤◌, length, min}
+use Rattle.std.proofs.Common.{◌≡◌, length, min}
 use Rattle.regress_tree.specs.Repetition.{unset_from}
 use Rattle.regress_match.specs.Captures.{Later}
 use Rattle.regress_match.proofs.captures.Captures.unset.Given as goal

@@ -1,4 +1,3 @@
-use Rattle.std.proofs.Common.{rules}
 use Rattle.regress_match.proofs.DoesLemmas.{pushed_both, ok_map}
 use Rattle.regress_match.proofs.machine.Machine.push_both.Goals as goal
 

@@ -1,7 +1,6 @@
 use Rattle.std.proofs.Common.{rules, ◌≡◌, ◌++◌, ◌∷◌, [], ◌∙◌, ap₂}
 use Rattle.regress_match.specs.Captures.{undone}
 use Rattle.regress_match.proofs.CaptureLemmas.{undone-part}
-use Rattle.regress_match.specs.Machine.{Resumed, waiting, IsMachine}
 use Rattle.regress_match.proofs.MachineLemmas.{choice_known, pop_choice, pending-nil}
 use Rattle.regress_match.proofs.machine.Machine.resume.Goals as goal
 
