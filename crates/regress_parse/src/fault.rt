@@ -61,7 +61,7 @@ pub enum PlacedFault {
     #[error("{error}")]
     Syntax {
         error: Error,
-        /// The index of a code point of the pattern, or its length: the place that docs/GRAMMAR.md gives for the text.
+        /// Where reading stopped: the index of a code point of the pattern, or its length. `docs/GRAMMAR.md` says more.
         place: usize,
     },
     /// Memory was wanting, which says nothing of the pattern.

@@ -26,7 +26,7 @@ use std::alloc::Global;
 /// a text. `docs/GRAMMAR.md` has the rows, under the flags i, m, s, u and v. The flag v is read by itself: it asks for
 /// other classes, for `\p` and `\P`, and for properties of strings. A caller who wants JavaScript's flag v sets u too.
 ///
-/// `Syntax` is answered with one of the texts of `regress_syntax::fault`, which says where each is due:
+/// `Syntax` is answered with the text of a `FaultKind`, which says where each is due:
 /// - before the pattern is parsed, `Duplicate capture group name` where two groups of one name conflict, and else
 ///   `Regular expression is too deeply nested` (`MAX_NESTING_DEPTH` levels: the whole pattern is one, and so is each
 ///   group, lookaround, and class with the flag v that lies in another), and else `Capture group count limit exceeded`
@@ -67,7 +67,7 @@ pub fn try_parse(
     Ok(try_parse_with_place(alloc, pattern, flags, tables)?)
 }
 
-/// Answers what `try_parse` does, and with a fault of the pattern its place.
+/// Answers what `try_parse` does, and with a fault of the pattern where reading stopped.
 pub fn try_parse_with_place(
     alloc: Global,
     pattern: &[u32],
