@@ -36,11 +36,7 @@ pub fn read_class(cursor: &mut Cursor, tables: &Tables, unicode: bool) -> Result
 }
 
 /// Reads the parts of a class, and the `]` behind them.
-fn read_parts(
-    cursor: &mut Cursor,
-    tables: &Tables,
-    unicode: bool,
-) -> Result<CodePointSet, Fault>
+fn read_parts(cursor: &mut Cursor, tables: &Tables, unicode: bool) -> Result<CodePointSet, Fault>
     ensures { let t = source cursor.old in
         ReadsAs (λ set members. HasMembers members set) (source cursor.new) result (class_parts_by (table_of tables.now) unicode (length t + 1) t) }
 {

@@ -132,11 +132,7 @@ fn read_contents(cursor: &mut Cursor, around: &Surroundings) -> Result<Value, Fa
 
 /// Reads on behind the first operand.
 #[cycle(class_set)]
-fn read_behind(
-    cursor: &mut Cursor,
-    around: &Surroundings,
-    first: Operand,
-) -> Result<Value, Fault>
+fn read_behind(cursor: &mut Cursor, around: &Surroundings, first: Operand) -> Result<Value, Fault>
     requires { (operand : WrittenOperand) × IsOperand first operand }
     ensures { (operand : WrittenOperand) → IsOperand first operand → ReadsAs IsValue (source cursor.new) result
         (contents_behind (table_of around.now.tables.now) around.now.unicode (inner_of around.now) around.now.negated (operand, source cursor.old)) }
@@ -183,11 +179,7 @@ fn are_at(source: &[u32], c: char) -> bool
 
 /// Reads the parts up to `]`, which join what is held already.
 #[cycle(class_set)]
-fn read_parts(
-    cursor: &mut Cursor,
-    around: &Surroundings,
-    mut union: Union,
-) -> Result<Value, Fault>
+fn read_parts(cursor: &mut Cursor, around: &Surroundings, mut union: Union) -> Result<Value, Fault>
     ensures { (held : Written) → IsUnion union held → ReadsAs IsValue (source cursor.new) result
         (parts_onto (table_of around.now.tables.now) around.now.unicode (inner_of around.now) around.now.negated held (source cursor.old)) }
 {

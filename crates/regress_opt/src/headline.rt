@@ -18,7 +18,6 @@ ghost use Rattle.regress_opt.specs.Optimized.{IsOptimized};
 use crate::optimizer::optimize;
 use regress_base::types::Flags;
 use regress_parse::{ParseFault, try_parse};
-
 use regress_tree::ir::Regex;
 use regress_unicode::Tables;
 use std::alloc::{AllocError, Global};

@@ -125,7 +125,8 @@ fn words(kind: &FaultKind) -> &'static str
         FaultKind::QuantifierNotAllowed => "Quantifier not allowed here",
         FaultKind::InvalidQuantifier => "Invalid quantifier",
         FaultKind::UnbalancedBracket => "Unbalanced bracket",
-        FaultKind::ReversedRange => "Range values reversed, start char code is greater than end char code.",
+        FaultKind::ReversedRange =>
+            "Range values reversed, start char code is greater than end char code.",
         FaultKind::InvalidRange => "Invalid character range",
         FaultKind::UnbalancedSet => "Unbalanced class set bracket",
         FaultKind::InvalidSetRange => "Invalid class set range",

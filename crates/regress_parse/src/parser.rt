@@ -4,7 +4,7 @@ ghost use Rattle.regress_base.specs.Limits.{max_capture_groups, max_loops};
 
 use regress_base::types::{CaptureGroupID, LoopID, MAX_CAPTURE_GROUPS, MAX_LOOPS};
 use regress_syntax::fault::FaultKind;
-use regress_syntax::{Cursor, Group, Fault, Scope};
+use regress_syntax::{Cursor, Fault, Group, Scope};
 
 /// What is still to read, and how many groups and loops were counted before it.
 #[derive(Drop)]

@@ -16,7 +16,6 @@ ghost use Rattle.regress_parse.specs.Parsing.{YieldsWhole};
 use crate::fault::{ParseFault, PlacedFault, place};
 use crate::parser::{Around, Parser};
 use regress_base::types::Flags;
-
 use regress_syntax::{Cursor, Fault, FaultKind, Scope, scan_groups};
 use regress_tree::ir::{Node, Regex};
 use regress_unicode::Tables;
@@ -98,12 +97,7 @@ pub fn try_parse_with_place(
 }
 
 /// The tree, or the kind of the fault and how many code points are left there.
-fn parse(
-    alloc: Global,
-    pattern: &[u32],
-    flags: Flags,
-    tables: &Tables,
-) -> Result<Regex, Fault>
+fn parse(alloc: Global, pattern: &[u32], flags: Flags, tables: &Tables) -> Result<Regex, Fault>
     requires { All IsCodePoint pattern.now }
     ensures accepted { IfOk result (λ r. (p : Pattern)
         × IsAccepted (setting_of flags tables.now) pattern.now p × (tree r.node ≡ tree_of (table_of tables.now) p)) }

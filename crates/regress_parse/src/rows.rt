@@ -14,7 +14,7 @@ use crate::parser::{Around, Parser};
 use regress_base::types::{CaptureGroupID, MAX_NESTING_DEPTH};
 use regress_lexical::quantifier::may_begin;
 use regress_syntax::fault::FaultKind;
-use regress_syntax::{Group, Fault, read_group, read_times};
+use regress_syntax::{Fault, Group, read_group, read_times};
 use regress_tree::ir::Node;
 
 impl Parser<'_> {

@@ -23,12 +23,7 @@ use std::alloc::Global;
 /// Finds the capture groups of a pattern and their names, without parsing it; `sets` is the flag v, with which classes
 /// lie in one another. The fault comes where two groups of one name conflict, wherever they stand, else where there are
 /// more levels than `MAX_NESTING_DEPTH`, else where there are more groups than 32 bits number.
-pub fn scan(
-    alloc: Global,
-    pattern: &[u32],
-    sets: bool,
-    tables: &Tables,
-) -> Result<Groups, Fault>
+pub fn scan(alloc: Global, pattern: &[u32], sets: bool, tables: &Tables) -> Result<Groups, Fault>
     ensures names { IfOk result (λ groups. names_in groups ≡ named_by (marks sets (table_of tables.now) plain pattern.now)) }
     ensures count { IfOk result (λ groups. groups.count ≡ min (length (names_in groups)) max_capture_groups) }
     ensures apart { IfOk result (λ groups. NoMarksConflict (marks sets (table_of tables.now) plain pattern.now)) }
