@@ -26,23 +26,34 @@ pub struct Class {
     pub set: CodePointSet,
 }
 
-/// Reads a class, behind its `[` (ECMA-262, CharacterClass with annex B).
-pub fn read_class(cursor: &mut Cursor, tables: &Tables, unicode: bool) -> Result<Class, Fault>
+/// Reads a class, behind its `[` (ECMA-262, CharacterClass with annex B). `opened` is how many code points were left
+/// before that.
+pub fn read_class(
+    cursor: &mut Cursor,
+    tables: &Tables,
+    unicode: bool,
+    opened: usize,
+) -> Result<Class, Fault>
     ensures { ReadsAs IsClassRead (source cursor.new) result (class_at (table_of tables.now) unicode (source cursor.old)) }
 {
     let inverted = cursor.try_consume('^');
-    let set = read_parts(cursor, tables, unicode)?;
+    let set = read_parts(cursor, tables, unicode, opened)?;
     Ok(Class { inverted, set })
 }
 
 /// Reads the parts of a class, and the `]` behind them.
-fn read_parts(cursor: &mut Cursor, tables: &Tables, unicode: bool) -> Result<CodePointSet, Fault>
+fn read_parts(
+    cursor: &mut Cursor,
+    tables: &Tables,
+    unicode: bool,
+    opened: usize,
+) -> Result<CodePointSet, Fault>
     ensures { let t = source cursor.old in
         ReadsAs (λ set members. HasMembers members set) (source cursor.new) result (class_parts_by (table_of tables.now) unicode (length t + 1) t) }
 {
     let mut gathered = Gathered::new(cursor.alloc);
     while !cursor.is_at(']') {
-        read_part(cursor, tables, unicode, &mut gathered)?;
+        read_part(cursor, tables, unicode, opened, &mut gathered)?;
     }
     cursor.try_consume(']');
     Ok(gathered.into_set()?)
@@ -53,6 +64,7 @@ fn read_part(
     cursor: &mut Cursor,
     tables: &Tables,
     unicode: bool,
+    opened: usize,
     set: &mut Gathered,
 ) -> Result<(), Fault>
     ensures { ReadsAs (λ _ members. Adds members set.old set.new) (source cursor.new) result (class_part_at (table_of tables.now) unicode (source cursor.old)) }
@@ -61,7 +73,7 @@ fn read_part(
         set.add(interval)?;
         return Ok(());
     }
-    read_any_part(cursor, tables, unicode, set)
+    read_any_part(cursor, tables, unicode, opened, set)
 }
 
 /// Takes a code point that stands for itself, or a range from one to another, if such a part comes next, as mostly.
@@ -96,14 +108,15 @@ fn read_any_part(
     cursor: &mut Cursor,
     tables: &Tables,
     unicode: bool,
+    opened: usize,
     set: &mut Gathered,
 ) -> Result<(), Fault>
     ensures { ReadsAs (λ _ members. Adds members set.old set.new) (source cursor.new) result (class_part_at (table_of tables.now) unicode (source cursor.old)) }
 {
     let left = cursor.rest.len();
-    let first = read_class_atom(cursor, tables, unicode)?;
+    let first = read_class_atom(cursor, tables, unicode, opened)?;
     if try_consume_hyphen(cursor) {
-        read_range(cursor, tables, unicode, first, left, set)
+        read_range(cursor, tables, unicode, opened, first, left, set)
     } else {
         add_atom(set, cursor.alloc, first)?;
         Ok(())
@@ -135,6 +148,7 @@ fn read_range(
     cursor: &mut Cursor,
     tables: &Tables,
     unicode: bool,
+    opened: usize,
     first: ClassAtom,
     left: usize,
     set: &mut Gathered,
@@ -142,7 +156,7 @@ fn read_range(
     requires { IsClassAtomInRange first }
     ensures { ReadsAs (λ _ members. Adds members set.old set.new) (source cursor.new) result (range_at (table_of tables.now) unicode (class_atom_of first.entry) (source cursor.old)) }
 {
-    let last = read_class_atom(cursor, tables, unicode)?;
+    let last = read_class_atom(cursor, tables, unicode, opened)?;
     add_range(set, cursor.alloc, unicode, left, first, last)
 }
 

@@ -14,7 +14,7 @@ use regress_base::codepointset::CodePointSet;
 use regress_lexical::cursor::Cursor;
 use regress_lexical::digits::{control, is_decimal, is_letter};
 use regress_lexical::escape::{escape_fault, read_escape};
-use regress_lexical::fault::{Fault, FaultKind};
+use regress_lexical::fault::{Fault, FaultKind, refused};
 use regress_unicode::Tables;
 
 /// An atom of a class.
@@ -34,33 +34,38 @@ pub enum ClassAtom<'a> {
     },
 }
 
-/// Reads an atom of a class (ECMA-262, ClassAtom with annex B).
+/// Reads an atom of a class (ECMA-262, ClassAtom with annex B). `opened` is how many code points were left before the
+/// `[` of the class.
 pub fn read_class_atom<'a>(
     cursor: &mut Cursor,
     tables: &'a Tables,
     unicode: bool,
+    opened: usize,
 ) -> Result<ClassAtom<'a>, Fault>
     ensures value { Reads class_atom_of (source cursor.new) result (class_atom_at (table_of tables.now) unicode (source cursor.old)) }
     ensures in_range { IfOk result IsClassAtomInRange }
 {
+    let begin = cursor.rest.len();
     match cursor.next() {
-        Some(c) if c == u32::from('\\') => read_escaped_atom(cursor, tables, unicode),
+        Some(c) if c == u32::from('\\') => read_escaped_atom(cursor, tables, unicode, begin),
         Some(c) if c != u32::from(']') => Ok(ClassAtom::Point(c)),
-        _ => Err(cursor.refuse(FaultKind::UnbalancedBracket)),
+        _ => Err(refused(opened, FaultKind::UnbalancedBracket)),
     }
 }
 
-/// Reads an escape, behind its backslash (ECMA-262, ClassEscape with annex B).
+/// Reads an escape, behind its backslash (ECMA-262, ClassEscape with annex B). `begin` is how many code points were
+/// left before that.
 fn read_escaped_atom<'a>(
     cursor: &mut Cursor,
     tables: &'a Tables,
     unicode: bool,
+    begin: usize,
 ) -> Result<ClassAtom<'a>, Fault>
     ensures value { Reads class_atom_of (source cursor.new) result (class_escape_at (table_of tables.now) unicode (source cursor.old)) }
     ensures in_range { IfOk result IsClassAtomInRange }
 {
     let Some((c, rest)) = cursor.rest.split_first() else {
-        return Err(cursor.refuse(FaultKind::UnterminatedEscape));
+        return Err(refused(begin, FaultKind::UnterminatedEscape));
     };
     let c = *c;
     if let Some((kind, negated)) = class_letter(c) {
@@ -81,7 +86,7 @@ fn read_escaped_atom<'a>(
         read_class_property(cursor, tables, c == u32::from('P'))
     } else {
         let Some((point, behind)) = read_escape(cursor.rest, unicode) else {
-            return Err(cursor.refuse(escape_fault(cursor.rest)));
+            return Err(refused(begin, escape_fault(cursor.rest)));
         };
         cursor.rest = behind;
         Ok(ClassAtom::Point(point))

@@ -18,7 +18,7 @@ use character::read_set_character;
 use operand::{Operand, read_escaped_operand};
 use regress_base::codepointset::Interval;
 use regress_lexical::cursor::Cursor;
-use regress_lexical::fault::{Fault, FaultKind};
+use regress_lexical::fault::{Fault, FaultKind, refused};
 use regress_unicode::Tables;
 use std::alloc::AllocError;
 use union::Union;
@@ -56,6 +56,8 @@ struct Surroundings<'a> {
     negated: bool,
     /// How many classes may still lie in one another.
     levels: u32,
+    /// How many code points were left before the `[` of the class around.
+    opened: usize,
 }
 
 /// `&&` or `--`.
@@ -86,19 +88,20 @@ impl Operator {
 }
 
 /// Reads a class, behind its `[` (this project's profile of ECMA-262, ClassSetExpression). No more classes may lie in
-/// one another than `levels`, so deep the calls go.
+/// one another than `levels`, so deep the calls go. `opened` is how many code points were left before the `[`.
 #[cycle(class_set)]
 pub fn read_class_set(
     cursor: &mut Cursor,
     tables: &Tables,
     unicode: bool,
     levels: u32,
+    opened: usize,
 ) -> Result<ClassSet, Fault>
     ensures value { ReadsAs IsClassSetRead (source cursor.new) result (class_set_by (table_of tables.now) unicode levels (source cursor.old)) }
     ensures levels { IfOk result (λ class. class.value.levels < levels) }
 {
     if levels == 0 {
-        return Err(cursor.refuse(FaultKind::TooDeep));
+        return Err(refused(opened, FaultKind::TooDeep));
     }
     let negated = cursor.try_consume('^');
     let around = Surroundings {
@@ -106,10 +109,11 @@ pub fn read_class_set(
         unicode,
         negated,
         levels: levels - 1,
+        opened,
     };
     let value = read_contents(cursor, &around)?;
     if negated && value.has_strings() {
-        return Err(cursor.refuse(FaultKind::InvalidNegatedClass));
+        return Err(refused(opened, FaultKind::InvalidNegatedClass));
     }
     Ok(ClassSet { negated, value })
 }
@@ -124,15 +128,21 @@ fn read_contents(cursor: &mut Cursor, around: &Surroundings) -> Result<Value, Fa
         return Ok(Value::new(cursor.alloc));
     }
     if cursor.rest.is_empty() {
-        return Err(cursor.refuse(FaultKind::UnbalancedSet));
+        return Err(refused(around.opened, FaultKind::UnbalancedSet));
     }
+    let left = cursor.rest.len();
     let first = read_operand(cursor, around)?;
-    read_behind(cursor, around, first)
+    read_behind(cursor, around, first, left)
 }
 
-/// Reads on behind the first operand.
+/// Reads on behind the first operand. `left` is how many code points were left before that.
 #[cycle(class_set)]
-fn read_behind(cursor: &mut Cursor, around: &Surroundings, first: Operand) -> Result<Value, Fault>
+fn read_behind(
+    cursor: &mut Cursor,
+    around: &Surroundings,
+    first: Operand,
+    left: usize,
+) -> Result<Value, Fault>
     requires { (operand : WrittenOperand) × IsOperand first operand }
     ensures { (operand : WrittenOperand) → IsOperand first operand → ReadsAs IsValue (source cursor.new) result
         (contents_behind (table_of around.now.tables.now) around.now.unicode (inner_of around.now) around.now.negated (operand, source cursor.old)) }
@@ -150,7 +160,7 @@ fn read_behind(cursor: &mut Cursor, around: &Surroundings, first: Operand) -> Re
         read_parts(cursor, around, union)
     } else {
         let mut union = Union::new(cursor.alloc);
-        read_part_behind(cursor, around, first, &mut union)?;
+        read_part_behind(cursor, around, first, left, &mut union)?;
         read_parts(cursor, around, union)
     }
 }
@@ -185,21 +195,24 @@ fn read_parts(cursor: &mut Cursor, around: &Surroundings, mut union: Union) -> R
 {
     while !cursor.is_at(']') {
         if cursor.rest.is_empty() {
-            return Err(cursor.refuse(FaultKind::UnbalancedSet));
+            return Err(refused(around.opened, FaultKind::UnbalancedSet));
         }
+        let left = cursor.rest.len();
         let first = read_operand(cursor, around)?;
-        read_part_behind(cursor, around, first, &mut union)?;
+        read_part_behind(cursor, around, first, left, &mut union)?;
     }
     cursor.try_consume(']');
     Ok(union.into_value()?)
 }
 
-/// Reads on behind the first operand of a part, and adds what the part holds. A hyphen there makes a range.
+/// Reads on behind the first operand of a part, and adds what the part holds. A hyphen there makes a range. `left` is
+/// how many code points were left before the part.
 #[cycle(class_set)]
 fn read_part_behind(
     cursor: &mut Cursor,
     around: &Surroundings,
     first: Operand,
+    left: usize,
     union: &mut Union,
 ) -> Result<(), Fault>
     requires { (operand : WrittenOperand) × IsOperand first operand }
@@ -211,11 +224,11 @@ fn read_part_behind(
         return Ok(());
     }
     let Operand::Character(a) = first else {
-        return Err(cursor.refuse(FaultKind::InvalidSetRange));
+        return Err(refused(left, FaultKind::InvalidSetRange));
     };
     match read_operand(cursor, around)? {
         Operand::Character(b) if a <= b => Ok(union.add(Interval::new(a, b))?),
-        _ => Err(cursor.refuse(FaultKind::InvalidSetRange)),
+        _ => Err(refused(left, FaultKind::InvalidSetRange)),
     }
 }
 
@@ -237,26 +250,27 @@ fn read_operands(
         if cursor.try_consume(']') {
             return Ok(chain.close(operand)?);
         }
-        consume_operator(cursor, operator)?;
+        consume_operator(cursor, operator, around.opened)?;
         chain = chain.push(operand)?;
     }
 }
 
-/// Moves past an operator. The fault comes where none comes next.
-fn consume_operator(cursor: &mut Cursor, operator: Operator) -> Result<(), Fault>
+/// Moves past an operator. The fault comes where none comes next; at the end it is that the class is not closed, before
+/// whose `[` so many code points were left.
+fn consume_operator(cursor: &mut Cursor, operator: Operator, opened: usize) -> Result<(), Fault>
     ensures ok { OnOk result ((are_at (sign_of operator) (source cursor.old) ≡ true) × (source cursor.new ≡ drop 2 (source cursor.old))) }
     ensures err { OnErr result (are_at (sign_of operator) (source cursor.old) ≡ false) }
 {
     if try_consume_both(cursor, operator.sign()) {
         return Ok(());
     }
-    let is_half = cursor.rest.is_empty() || cursor.is_at(operator.sign());
-    let kind = if is_half {
-        FaultKind::UnbalancedSet
+    if cursor.rest.is_empty() {
+        Err(refused(opened, FaultKind::UnbalancedSet))
+    } else if cursor.is_at(operator.sign()) {
+        Err(cursor.refuse(FaultKind::UnbalancedSet))
     } else {
-        operator.unexpected()
-    };
-    Err(cursor.refuse(kind))
+        Err(cursor.refuse(operator.unexpected()))
+    }
 }
 
 /// Reads an operand (this project's profile of ECMA-262, ClassSetOperand).
@@ -268,12 +282,13 @@ fn read_operand(cursor: &mut Cursor, around: &Surroundings) -> Result<Operand, F
     if cursor.rest.is_empty() {
         return Err(cursor.refuse(FaultKind::EmptyOperand));
     }
+    let begin = cursor.rest.len();
     if cursor.try_consume('[') {
-        let class = read_class_set(cursor, around.tables, around.unicode, around.levels)?;
+        let class = read_class_set(cursor, around.tables, around.unicode, around.levels, begin)?;
         return Ok(Operand::Class(class.into_nested()?));
     }
     if cursor.try_consume('\\') {
-        return read_escaped_operand(cursor, around);
+        return read_escaped_operand(cursor, around, begin);
     }
     let character = read_set_character(cursor, around.unicode)?;
     Ok(Operand::Character(character))

@@ -10,7 +10,7 @@ ghost use Rattle.regress_unicode.specs.TableOf.{table_of};
 use regress_base::codepointset::CodePointSet;
 use regress_lexical::cursor::Cursor;
 use regress_lexical::digits::{Read, is_decimal, is_letter};
-use regress_lexical::fault::{Fault, FaultKind};
+use regress_lexical::fault::{Fault, FaultKind, refused};
 use regress_unicode::Tables;
 use std::alloc::AllocError;
 
@@ -46,9 +46,10 @@ pub fn read_property<'a>(
     if !cursor.try_consume('{') {
         return Err(cursor.refuse(FaultKind::PropertyWithoutBrace));
     }
+    let name = cursor.rest.len();
     match read_braced(cursor, sets, tables)? {
         Some(property) if cursor.try_consume('}') => Ok(property),
-        _ => Err(cursor.refuse(FaultKind::InvalidProperty)),
+        _ => Err(refused(name, FaultKind::InvalidProperty)),
     }
 }
 

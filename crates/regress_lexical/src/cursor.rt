@@ -120,15 +120,16 @@ impl Cursor<'_> {
         Some(*next)
     }
 
-    /// Moves past the parenthesis that closes a group. The fault comes where none comes next.
-    pub fn consume_closing(&mut self) -> Result<(), Fault>
+    /// Moves past the parenthesis that closes a group, which was opened where so many code points were left. The fault
+    /// comes where none comes next.
+    pub fn consume_closing(&mut self, opened: usize) -> Result<(), Fault>
         ensures ok { OnOk result (source self.old ≡ closing ∷ source self.new) }
         ensures err { OnErr result (is_at closing (source self.old) ≡ false) }
     {
         if self.try_consume(')') {
             Ok(())
         } else {
-            Err(self.refuse(FaultKind::UnbalancedParenthesis))
+            Err(refused(opened, FaultKind::UnbalancedParenthesis))
         }
     }
 }

@@ -22,7 +22,7 @@ use regress_lexical::cursor::is_plain;
 use regress_lexical::digits::{is_between, is_letter};
 use regress_lexical::escape::{escape_fault, read_escape};
 use regress_lexical::quantifier::read_quantifier;
-use regress_syntax::fault::FaultKind;
+use regress_syntax::fault::{FaultKind, refused};
 use regress_syntax::{
     Cursor, Fault, Scope, has_references_by_name, read_group_number, read_reference,
 };
@@ -39,7 +39,7 @@ pub(crate) fn read_atom(cursor: &mut Cursor, scope: &Scope, left: u32) -> Result
         return Err(cursor.refuse(FaultKind::InvalidAtom));
     };
     if c == u32::from('[') {
-        read_brackets(cursor, scope, left)
+        read_brackets(cursor, scope, left, front.len())
     } else {
         read_other(cursor, scope, c, front)
     }
@@ -70,28 +70,39 @@ fn read_other(cursor: &mut Cursor, scope: &Scope, c: u32, front: &[u32]) -> Resu
     } else if c == u32::from('$') {
         Ok(make_anchor(AnchorType::EndOfLine, scope))
     } else if c == u32::from('\\') {
-        read_escaped(cursor, scope)
+        read_escaped(cursor, scope, front.len())
     } else if c == u32::from('{') || c == u32::from(']') || c == u32::from('}') {
         read_brace(cursor, scope, c, front)
     } else if is_plain(c) {
         Ok(make_literal(cursor.alloc, c, scope)?)
     } else {
-        Err(cursor.refuse(FaultKind::InvalidAtom))
+        Err(refused(front.len(), FaultKind::InvalidAtom))
     }
 }
 
-/// Reads a class, behind its `[`.
-fn read_brackets(cursor: &mut Cursor, scope: &Scope, left: u32) -> Result<Node, Fault>
+/// Reads a class, behind its `[`. `opened` is how many code points were left before that.
+fn read_brackets(
+    cursor: &mut Cursor,
+    scope: &Scope,
+    left: u32,
+    opened: usize,
+) -> Result<Node, Fault>
     ensures { ReadsAtom (context_of scope.now) left true (source cursor.new) result (brackets_at (context_of scope.now) (source cursor.old)) }
 {
     if !scope.flags.unicode_sets {
-        let class = read_class(cursor, scope.tables, scope.flags.unicode)?;
+        let class = read_class(cursor, scope.tables, scope.flags.unicode, opened)?;
         return Ok(make_class(class.inverted, class.set, scope)?);
     }
-    let class = read_class_set(cursor, scope.tables, scope.flags.unicode, MAX_NESTING_DEPTH)?;
+    let class = read_class_set(
+        cursor,
+        scope.tables,
+        scope.flags.unicode,
+        MAX_NESTING_DEPTH,
+        opened,
+    )?;
     // The scan in front has refused these already.
     if class.value.levels > left {
-        return Err(cursor.refuse(FaultKind::TooDeep));
+        return Err(refused(opened, FaultKind::TooDeep));
     }
     Ok(make_class_set(cursor.alloc, class.negated, class.value, scope)?)
 }
@@ -104,20 +115,20 @@ fn read_brace(cursor: &mut Cursor, scope: &Scope, c: u32, front: &[u32]) -> Resu
     ensures { ReadsAs (IsNode (context_of scope.now) 0 true) (source cursor.new) result (brace_by (context_of scope.now) c (source cursor.old)) }
 {
     if scope.flags.unicode {
-        Err(cursor.refuse(FaultKind::InvalidAtom))
+        Err(refused(front.len(), FaultKind::InvalidAtom))
     } else if read_quantifier(front).is_some() {
-        Err(cursor.refuse(FaultKind::InvalidBracedQuantifier))
+        Err(refused(front.len(), FaultKind::InvalidBracedQuantifier))
     } else {
         Ok(make_literal(cursor.alloc, c, scope)?)
     }
 }
 
-/// Reads an escape, behind its backslash.
-fn read_escaped(cursor: &mut Cursor, scope: &Scope) -> Result<Node, Fault>
+/// Reads an escape, behind its backslash. `begin` is how many code points were left before that.
+fn read_escaped(cursor: &mut Cursor, scope: &Scope, begin: usize) -> Result<Node, Fault>
     ensures { ReadsAs (IsNode (context_of scope.now) 0 true) (source cursor.new) result (escaped_at (context_of scope.now) (source cursor.old)) }
 {
     let Some(c) = cursor.rest.first().copied() else {
-        return Err(cursor.refuse(FaultKind::IncompleteEscape));
+        return Err(refused(begin, FaultKind::IncompleteEscape));
     };
     let rest = &cursor.rest[1..];
     if let Some((kind, negated)) = class_letter(c) {
@@ -134,14 +145,14 @@ fn read_escaped(cursor: &mut Cursor, scope: &Scope) -> Result<Node, Fault>
         Ok(make_literal(cursor.alloc, u32::from('\\'), scope)?)
     } else if begins_property(c, scope) {
         cursor.rest = rest;
-        read_property_atom(cursor, scope, c == u32::from('P'))
+        read_property_atom(cursor, scope, c == u32::from('P'), begin)
     } else if begins_number(c) {
-        read_numbered(cursor, scope, c)
+        read_numbered(cursor, scope, c, begin)
     } else if begins_name(c, scope) {
         cursor.rest = rest;
-        read_named(cursor, scope)
+        read_named(cursor, scope, begin)
     } else {
-        read_character(cursor, scope, c)
+        read_character(cursor, scope, c, begin)
     }
 }
 
@@ -167,7 +178,7 @@ fn begins_number(c: u32) -> bool
 }
 
 /// Reads a reference by number, which begins with `c`, or where there are not so many groups the escape of a character.
-fn read_numbered(cursor: &mut Cursor, scope: &Scope, c: u32) -> Result<Node, Fault>
+fn read_numbered(cursor: &mut Cursor, scope: &Scope, c: u32, begin: usize) -> Result<Node, Fault>
     requires front { source cursor.now ≡ c ∷ drop 1 (source cursor.now) }
     requires digit { begins_number c ≡ true }
     ensures { ReadsAs (IsNode (context_of scope.now) 0 true) (source cursor.new) result
@@ -181,16 +192,16 @@ fn read_numbered(cursor: &mut Cursor, scope: &Scope, c: u32) -> Result<Node, Fau
         });
     }
     if scope.flags.unicode {
-        return Err(cursor.refuse(FaultKind::InvalidEscape));
+        return Err(refused(begin, FaultKind::InvalidEscape));
     }
-    read_character(cursor, scope, c)
+    read_character(cursor, scope, c, begin)
 }
 
 /// Reads a reference by name, behind `\k`.
-fn read_named(cursor: &mut Cursor, scope: &Scope) -> Result<Node, Fault>
+fn read_named(cursor: &mut Cursor, scope: &Scope, begin: usize) -> Result<Node, Fault>
     ensures { ReadsAs (IsNode (context_of scope.now) 0 true) (source cursor.new) result (named_at (context_of scope.now) (source cursor.old)) }
 {
-    let groups = read_reference(cursor, scope)?;
+    let groups = read_reference(cursor, scope, begin)?;
     Ok(make_references(cursor.alloc, groups, scope.flags.icase)?)
 }
 
@@ -212,26 +223,31 @@ fn begins_with_letter(source: &[u32]) -> bool
 }
 
 /// Reads the escape of one character, which begins with `c`.
-fn read_character(cursor: &mut Cursor, scope: &Scope, c: u32) -> Result<Node, Fault>
+fn read_character(cursor: &mut Cursor, scope: &Scope, c: u32, begin: usize) -> Result<Node, Fault>
     requires { source cursor.now ≡ c ∷ drop 1 (source cursor.now) }
     ensures { ReadsAs (IsNode (context_of scope.now) 0 true) (source cursor.new) result
         (character_at (context_of scope.now) c (drop 1 (source cursor.old))) }
 {
     let Some((found, rest)) = read_escape(cursor.rest, scope.flags.unicode) else {
-        return Err(cursor.refuse(escape_fault(cursor.rest)));
+        return Err(refused(begin, escape_fault(cursor.rest)));
     };
     cursor.rest = rest;
     Ok(make_literal(cursor.alloc, found, scope)?)
 }
 
 /// Reads a property, behind `\p` or `\P`.
-fn read_property_atom(cursor: &mut Cursor, scope: &Scope, negated: bool) -> Result<Node, Fault>
+fn read_property_atom(
+    cursor: &mut Cursor,
+    scope: &Scope,
+    negated: bool,
+    begin: usize,
+) -> Result<Node, Fault>
     ensures { ReadsAs (IsNode (context_of scope.now) 0 true) (source cursor.new) result
         (property_atom_at (context_of scope.now) negated (source cursor.old)) }
 {
     match read_property(cursor, scope.flags.unicode_sets, scope.tables)? {
         Property::Points(set) => Ok(make_property(cursor.alloc, set, negated, scope)?),
-        Property::Strings(_) if negated => Err(cursor.refuse(FaultKind::InvalidEscape)),
+        Property::Strings(_) if negated => Err(refused(begin, FaultKind::InvalidEscape)),
         Property::Strings(strings) => {
             let copies = Vec::from_clones(cursor.alloc, strings)?;
             Ok(make_strings(cursor.alloc, copies, scope.flags.icase)?)

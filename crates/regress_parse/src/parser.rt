@@ -3,7 +3,7 @@ ghost use Rattle.std.specs.Prelude.{◌≤◌};
 ghost use Rattle.regress_base.specs.Limits.{max_capture_groups, max_loops};
 
 use regress_base::types::{CaptureGroupID, LoopID, MAX_CAPTURE_GROUPS, MAX_LOOPS};
-use regress_syntax::fault::FaultKind;
+use regress_syntax::fault::{FaultKind, refused};
 use regress_syntax::{Cursor, Fault, Group, Scope};
 
 /// What is still to read, and how many groups and loops were counted before it.
@@ -64,29 +64,29 @@ impl Parser<'_> {
     ghost use Rattle.regress_syntax.specs.Views.{group_of};
     ghost use Rattle.regress_parse.specs.Parsing.{text, counted};
 
-    /// Counts a group, if it captures. The fault comes where it is one too many.
-    pub(crate) fn count_group(&mut self, kind: &Group) -> Result<(), Fault>
+    /// Counts a group, if it captures. The fault comes where it is one too many; so many code points were left there.
+    pub(crate) fn count_group(&mut self, kind: &Group, left: usize) -> Result<(), Fault>
         ensures ok { OnOk result (counted self.new ≡ added (counted self.old) (counts_of_group (group_of kind.now))) }
         ensures err { FailsBy result (λ told. (told ≡ TooManyGroups) × (max_capture_groups < self.old.group_count + opened_by (group_of kind.now))) }
         ensures text { text self.new ≡ text self.old }
     {
         if let Group::Capture(_) = kind {
             if usize::from(self.group_count) >= MAX_CAPTURE_GROUPS {
-                return Err(self.cursor.refuse(FaultKind::TooManyGroups));
+                return Err(refused(left, FaultKind::TooManyGroups));
             }
             self.group_count += 1;
         }
         Ok(())
     }
 
-    /// Counts a loop. The fault comes where it is one too many.
-    pub(crate) fn count_loop(&mut self) -> Result<(), Fault>
+    /// Counts a loop. The fault comes where it is one too many; so many code points were left there.
+    pub(crate) fn count_loop(&mut self, left: usize) -> Result<(), Fault>
         ensures ok { OnOk result (counted self.new ≡ added (counted self.old) one_loop) }
         ensures err { FailsBy result (λ told. (told ≡ TooManyLoops) × (max_loops < self.old.loop_count + 1)) }
         ensures text { text self.new ≡ text self.old }
     {
         if usize::from(self.loop_count) >= MAX_LOOPS {
-            return Err(self.cursor.refuse(FaultKind::TooManyLoops));
+            return Err(refused(left, FaultKind::TooManyLoops));
         }
         self.loop_count += 1;
         Ok(())

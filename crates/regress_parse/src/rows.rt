@@ -92,10 +92,11 @@ impl Parser<'_> {
             (term_at (context_in around.now) (text self.old)) }
     {
         let first = self.group_count;
+        let opened = self.cursor.rest.len();
         if self.cursor.try_consume('(') {
             let kind = read_group(&mut self.cursor, around.scope.tables)?;
             let allowed = kind.allows_quantifier(around.scope.flags.unicode);
-            let item = self.consume_group(kind, around)?;
+            let item = self.consume_group(kind, opened, around)?;
             return self.consume_times(item, allowed, first, around);
         }
         let allowed = !begins_anchor(self.cursor.rest);
@@ -121,24 +122,25 @@ impl Parser<'_> {
         if !may_begin(self.cursor.rest) {
             return Ok(item);
         }
+        let left = self.cursor.rest.len();
         let times = read_times(&mut self.cursor, &around.scope, allowed)?;
         let Some(quantifier) = times else {
             return Ok(item);
         };
-        self.count_loop()?;
+        self.count_loop(left)?;
         Ok(make_loop(self.cursor.alloc, item, quantifier, first..self.group_count)?)
     }
 
-    /// Reads a group, behind what opens it.
+    /// Reads a group, behind what opens it. `opened` is how many code points were left before that.
     #[cycle(parser)]
-    fn consume_group(&mut self, kind: Group, around: &Around) -> Result<Node, Fault>
+    fn consume_group(&mut self, kind: Group, opened: usize, around: &Around) -> Result<Node, Fault>
         ensures value { Yields (item_part (table_in around.now) (names_around around.now)) (direction_of around.now) around.now.depth (counted self.old) self.new result
             (item_behind pattern_at (context_in around.now) (opens (group_of kind), text self.old)) }
     {
         let first = self.group_count;
-        self.count_group(&kind)?;
+        self.count_group(&kind, opened)?;
         let contents = self.consume_disjunction(&around.inside(&kind))?;
-        self.cursor.consume_closing()?;
+        self.cursor.consume_closing(opened)?;
         Ok(make_group(self.cursor.alloc, kind, first..self.group_count, contents)?)
     }
 }

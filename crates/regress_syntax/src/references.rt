@@ -11,7 +11,7 @@ use crate::names::read_group_name;
 use crate::scope::Scope;
 use regress_lexical::cursor::Cursor;
 use regress_lexical::digits::{Read, read_count};
-use regress_lexical::fault::{Fault, FaultKind};
+use regress_lexical::fault::{Fault, FaultKind, refused};
 use std::alloc::{AllocError, Global};
 
 /// Reads the number of a group by the whole run of digits, where there are so many groups.
@@ -33,17 +33,24 @@ pub fn has_references_by_name(scope: &Scope) -> bool
     scope.flags.unicode || scope.groups.has_names()
 }
 
-/// Reads a reference by name, behind `\k`: the groups of that name, by their numbers from 1.
-pub fn read_reference<'a>(cursor: &mut Cursor, scope: &Scope<'a>) -> Result<&'a [u32], Fault>
+/// Reads a reference by name, behind `\k`: the groups of that name, by their numbers from 1. `begin` is how many code
+/// points were left before the backslash.
+pub fn read_reference<'a>(
+    cursor: &mut Cursor,
+    scope: &Scope<'a>,
+    begin: usize,
+) -> Result<&'a [u32], Fault>
     ensures { ReadsAs (λ numbers. AreReferences (context_of scope.now) numbers.now) (source cursor.new) result (named_at (context_of scope.now) (source cursor.old)) }
 {
     let Some((name, rest)) = read_group_name(cursor.alloc, cursor.rest, scope.tables)? else {
-        return Err(cursor.refuse(FaultKind::InvalidReference));
+        return Err(refused(begin, FaultKind::InvalidReference));
     };
     let numbers = scope.groups.numbers_of(&name);
     if numbers.is_empty() {
         let name = name_text(cursor.alloc, &name)?;
-        return Err(cursor.refuse(FaultKind::UnknownName(name)));
+        // The name is behind its `<`.
+        let left = cursor.rest.len().saturating_sub(1);
+        return Err(refused(left, FaultKind::UnknownName(name)));
     }
     cursor.rest = rest;
     Ok(numbers)

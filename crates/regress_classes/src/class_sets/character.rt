@@ -8,7 +8,7 @@ ghost use Rattle.regress_lexical.specs.Views.{source};
 use regress_lexical::cursor::Cursor;
 use regress_lexical::digits::is_letter;
 use regress_lexical::escape::{escape_fault, read_escape};
-use regress_lexical::fault::{Fault, FaultKind};
+use regress_lexical::fault::{Fault, FaultKind, refused};
 
 /// Reads a character (this project's profile of ECMA-262, ClassSetCharacter). The fault comes where a code point doesn't
 /// stand for itself, or where a backslash begins no escape of a character.
@@ -17,8 +17,9 @@ pub(super) fn read_set_character(cursor: &mut Cursor, unicode: bool) -> Result<u
     ensures value { AlwaysReads (λ c. c) (source cursor.new) result (set_character_at unicode (source cursor.old)) }
     ensures in_range { IfOk result IsCodePoint }
 {
+    let begin = cursor.rest.len();
     if cursor.try_consume('\\') {
-        return read_escaped_character(cursor, unicode);
+        return read_escaped_character(cursor, unicode, begin);
     }
     match cursor.rest {
         [c, rest @ ..] if !is_set_syntax(*c) && !(is_double(*c) && begins_double(rest)) => {
@@ -29,13 +30,17 @@ pub(super) fn read_set_character(cursor: &mut Cursor, unicode: bool) -> Result<u
     }
 }
 
-/// Reads the escape of a character, behind its backslash.
-pub(super) fn read_escaped_character(cursor: &mut Cursor, unicode: bool) -> Result<u32, Fault>
+/// Reads the escape of a character, behind its backslash. `begin` is how many code points were left before that.
+pub(super) fn read_escaped_character(
+    cursor: &mut Cursor,
+    unicode: bool,
+    begin: usize,
+) -> Result<u32, Fault>
     ensures value { AlwaysReads (λ c. c) (source cursor.new) result (escaped_character_at unicode (source cursor.old)) }
     ensures in_range { IfOk result IsCodePoint }
 {
     let Some((c, rest)) = cursor.rest.split_first() else {
-        return Err(cursor.refuse(FaultKind::IncompleteSetEscape));
+        return Err(refused(begin, FaultKind::IncompleteSetEscape));
     };
     let c = *c;
     if c == u32::from('b') {
@@ -47,7 +52,7 @@ pub(super) fn read_escaped_character(cursor: &mut Cursor, unicode: bool) -> Resu
         return Ok(c);
     }
     let Some((point, behind)) = read_escape(cursor.rest, unicode) else {
-        return Err(cursor.refuse(escape_fault(cursor.rest)));
+        return Err(refused(begin, escape_fault(cursor.rest)));
     };
     cursor.rest = behind;
     Ok(point)

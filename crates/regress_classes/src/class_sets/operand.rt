@@ -18,7 +18,7 @@ use regress_base::charclasses::CharacterClassType;
 use regress_base::codepointset::CodePointSet;
 use regress_base::sets::set_is_canonical;
 use regress_lexical::cursor::Cursor;
-use regress_lexical::fault::{Fault, FaultKind};
+use regress_lexical::fault::{Fault, FaultKind, refused};
 use std::alloc::{AllocError, Global};
 
 /// A character, which may be an end of a range, or what holds some of them and strings.
@@ -41,16 +41,17 @@ impl Operand {
     }
 }
 
-/// Reads an escape, behind its backslash.
+/// Reads an escape, behind its backslash. `begin` is how many code points were left before that.
 pub(super) fn read_escaped_operand(
     cursor: &mut Cursor,
     around: &Surroundings,
+    begin: usize,
 ) -> Result<Operand, Fault>
     ensures { ReadsAs IsOperand (source cursor.new) result
         (escaped_operand_at (table_of around.now.tables.now) around.now.unicode around.now.negated (source cursor.old)) }
 {
     let Some((c, rest)) = cursor.rest.split_first() else {
-        return Err(cursor.refuse(FaultKind::IncompleteSetEscape));
+        return Err(refused(begin, FaultKind::IncompleteSetEscape));
     };
     let c = *c;
     if let Some((kind, negated)) = class_letter(c) {
@@ -58,12 +59,12 @@ pub(super) fn read_escaped_operand(
         Ok(Operand::Class(class_value(cursor.alloc, kind, negated)?))
     } else if c == u32::from('q') {
         cursor.rest = rest;
-        read_quoted(cursor, around.unicode)
+        read_quoted(cursor, around.unicode, begin)
     } else if is_property_letter(c) {
         cursor.rest = rest;
-        read_property_operand(cursor, around, c == u32::from('P'))
+        read_property_operand(cursor, around, c == u32::from('P'), begin)
     } else {
-        let character = read_escaped_character(cursor, around.unicode)?;
+        let character = read_escaped_character(cursor, around.unicode, begin)?;
         Ok(Operand::Character(character))
     }
 }
@@ -82,6 +83,7 @@ fn read_property_operand(
     cursor: &mut Cursor,
     around: &Surroundings,
     negated: bool,
+    begin: usize,
 ) -> Result<Operand, Fault>
     ensures { ReadsAs IsOperand (source cursor.new) result
         (property_operand_at (table_of around.now.tables.now) around.now.negated negated (source cursor.old)) }
@@ -93,7 +95,7 @@ fn read_property_operand(
         }
         Property::Strings(strings) => {
             if around.negated || negated {
-                return Err(cursor.refuse(FaultKind::InvalidEscape));
+                return Err(refused(begin, FaultKind::InvalidEscape));
             }
             let value = string_value(cursor.alloc, strings)?;
             Ok(Operand::Class(value))

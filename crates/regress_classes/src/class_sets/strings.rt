@@ -9,20 +9,25 @@ use super::character::read_set_character;
 use super::operand::Operand;
 use super::value::Value;
 use regress_lexical::cursor::Cursor;
-use regress_lexical::fault::{Fault, FaultKind};
+use regress_lexical::fault::{Fault, FaultKind, refused};
 
-/// Reads strings, behind `\q` (ECMA-262, ClassStringDisjunction).
-pub(super) fn read_quoted(cursor: &mut Cursor, unicode: bool) -> Result<Operand, Fault>
+/// Reads strings, behind `\q` (ECMA-262, ClassStringDisjunction). `begin` is how many code points were left before the
+/// backslash.
+pub(super) fn read_quoted(
+    cursor: &mut Cursor,
+    unicode: bool,
+    begin: usize,
+) -> Result<Operand, Fault>
     ensures { ReadsAs IsOperand (source cursor.new) result (quoted_at unicode (source cursor.old)) }
 {
     if !cursor.try_consume('{') {
         return Err(cursor.refuse(FaultKind::StringsWithoutBrace));
     }
-    Ok(Operand::Class(read_strings(cursor, unicode)?))
+    Ok(Operand::Class(read_strings(cursor, unicode, begin)?))
 }
 
 /// Reads strings with `|` between them, up to `}`.
-fn read_strings(cursor: &mut Cursor, unicode: bool) -> Result<Value, Fault>
+fn read_strings(cursor: &mut Cursor, unicode: bool, begin: usize) -> Result<Value, Fault>
     ensures { let t = source cursor.old in
         ReadsAs (λ held strings. IsValue held (value_of_strings strings)) (source cursor.new) result (strings_by (length t + 1) unicode [] t) }
 {
@@ -33,7 +38,7 @@ fn read_strings(cursor: &mut Cursor, unicode: bool) -> Result<Value, Fault>
             value.add_string(string)?;
             string = Vec::new(cursor.alloc);
         } else if cursor.rest.is_empty() {
-            return Err(cursor.refuse(FaultKind::UnbalancedStrings));
+            return Err(refused(begin, FaultKind::UnbalancedStrings));
         } else {
             string.push(read_set_character(cursor, unicode)?)?;
         }

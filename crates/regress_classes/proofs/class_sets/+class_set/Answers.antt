@@ -100,7 +100,7 @@ pub read_contents-returns-then-is_empty : goal.read_contents-returns-then-is_emp
 read_contents-returns-then-is_empty t c =
     let around = c.args.around.now in
     let same : source c.try_consume.new.self ≡ source c.args.cursor.now = c.try_consume.ensures.moves ∙ cond-false _ _ _ c.if-try_consume.false in
-    on_refused c.refuse.result
+    on_refused c.refused.result
     (no_contents (table_of around.tables.now) around.unicode (inner_of around) (ends around) around.negated (source c.args.cursor.now)
     (sym same ∙ length-none (source c.try_consume.new.self) (sym c.if-is_empty.ensures)))
 
@@ -178,12 +178,12 @@ read_part_behind-returns-then-not-try_consume t c = λ operand is. (
 pub read_parts-returns-then-is_empty : goal.read_parts-returns-then-is_empty
 read_parts-returns-then-is_empty t c = λ held is.
     let around = c.args.around.now in
-    let l = c.loop-cursor in
+    let l = c.loop-union in
     let so_far = l.invariant held is in
-    on_refused c.refuse.result
+    on_refused c.refused.result
     (so_far.whole
     ∙ no_first (table_of around.tables.now) around.unicode (inner_of around) (ends around) around.negated so_far.value (source l.cursor)
-    (sym c.is_at.ensures ∙ c.loop-cursor-test.true)
+    (sym c.is_at.ensures ∙ c.loop-union-test.true)
     (no_operand (table_of around.tables.now) around.unicode (inner_of around) (ends around) around.negated (source l.cursor)
     (length-none (source l.cursor) (sym c.if-is_empty.ensures))))
 
@@ -191,56 +191,56 @@ pub read_parts-returns-in_err-first : goal.read_parts-returns-in_err-first
 read_parts-returns-in_err-first t c = λ held is.
     let p = err_from_is_err_and c.from_residual.result c.from_residual.ensures.1 in
     let around = c.args.around.now in
-    let l = c.loop-cursor in
+    let l = c.loop-union in
     let so_far = l.invariant held is in
     rw (p.1, p.2) (on_refused_then c.in_err-first.field-0.0
     (λ none. so_far.whole
     ∙ no_first (table_of around.tables.now) around.unicode (inner_of around) (ends around) around.negated so_far.value (source l.cursor)
-    (sym c.is_at.ensures ∙ c.loop-cursor-test.true) none)
+    (sym c.is_at.ensures ∙ c.loop-union-test.true) none)
     c.in_err-first.ensures)
 
 pub read_parts-returns-in_err-read_part_behind : goal.read_parts-returns-in_err-read_part_behind
 read_parts-returns-in_err-read_part_behind t c = λ held is.
     let p = err_from_is_err_and c.from_residual-in_err-read_part_behind.result c.from_residual-in_err-read_part_behind.ensures.1 in
     let around = c.args.around.now in
-    let l = c.loop-cursor in
+    let l = c.loop-union in
     let so_far = l.invariant held is in
     let first = c.in_ok-first.ensures in
     rw (p.1, p.2) (on_refused_then c.in_err-read_part_behind.field-0.0
     (λ none. so_far.whole
     ∙ no_part (table_of around.tables.now) around.unicode (inner_of around) (ends around) around.negated so_far.value (source l.cursor)
-    (first.0, source c.read_operand.new.cursor) (sym c.is_at.ensures ∙ c.loop-cursor-test.true) first.1 none)
+    (first.0, source c.read_operand.new.cursor) (sym c.is_at.ensures ∙ c.loop-union-test.true) first.1 none)
     (c.in_err-read_part_behind.ensures first.0 first.2))
 
-pub read_parts-loop-cursor-smaller : goal.read_parts-loop-cursor-smaller
-read_parts-loop-cursor-smaller t c =
+pub read_parts-loop-union-smaller : goal.read_parts-loop-union-smaller
+read_parts-loop-union-smaller t c =
     let around = c.args.around.now in
-    let l = c.loop-cursor in
+    let l = c.loop-union in
     let first = c.in_ok-first.ensures in
     let part = c.in_ok-read_part_behind.ensures first.0 first.2 in
     parts_end (table_of around.tables.now) around.unicode (inner_of around) (ends around) around.negated (source l.cursor)
     (first.0, source c.read_operand.new.cursor) (part.0, source c.read_part_behind.new.cursor) first.1 part.1
 
-pub read_parts-loop-cursor-preserved : goal.read_parts-loop-cursor-preserved
-read_parts-loop-cursor-preserved t c = λ held is.
+pub read_parts-loop-union-preserved : goal.read_parts-loop-union-preserved
+read_parts-loop-union-preserved t c = λ held is.
     let around = c.args.around.now in
-    let l = c.loop-cursor in
+    let l = c.loop-union in
     let so_far = l.invariant held is in
     let first = c.in_ok-first.ensures in
     let part = c.in_ok-read_part_behind.ensures first.0 first.2 in
     read_on IsUnion _ held (joined so_far.value part.0) (source c.args.cursor.now) (source l.cursor) (source c.read_part_behind.new.cursor) l.union
     c.read_part_behind.new.union so_far
     (one_part (table_of around.tables.now) around.unicode (inner_of around) (ends around) around.negated so_far.value (source l.cursor)
-    (first.0, source c.read_operand.new.cursor) (part.0, source c.read_part_behind.new.cursor) (sym c.is_at.ensures ∙ c.loop-cursor-test.true)
+    (first.0, source c.read_operand.new.cursor) (part.0, source c.read_part_behind.new.cursor) (sym c.is_at.ensures ∙ c.loop-union-test.true)
     first.1 part.1)
     (part.2 so_far.value so_far.is)
 
 pub read_parts-returns : goal.read_parts-returns
 read_parts-returns t c = λ held is.
     let around = c.args.around.now in
-    let l = c.loop-cursor in
+    let l = c.loop-union in
     let so_far = l.invariant held is in
-    let closes = sym c.is_at.ensures ∙ c.loop-cursor-test.false in (
+    let closes = sym c.is_at.ensures ∙ c.loop-union-test.false in (
       so_far.value,
       so_far.whole
           ∙ parts_closed (table_of around.tables.now) around.unicode (inner_of around) (ends around) around.negated so_far.value (source l.cursor)
@@ -341,7 +341,7 @@ read_operands-loop-chain-preserved t c = λ held is.
 
 pub read_class_set-returns-then-levels-eq0-clause-value : goal.read_class_set-returns-then-levels-eq0-clause-value
 read_class_set-returns-then-levels-eq0-clause-value t c =
-    on_refused c.refuse.result (no_levels (table_of c.args.tables.now) c.args.unicode c.args.levels (source c.args.cursor.now) c.if-levels-eq0.true)
+    on_refused c.refused.result (no_levels (table_of c.args.tables.now) c.args.unicode c.args.levels (source c.args.cursor.now) c.if-levels-eq0.true)
 
 pub read_class_set-returns-in_err-value-clause-value : goal.read_class_set-returns-in_err-value-clause-value
 read_class_set-returns-in_err-value-clause-value t c =
@@ -356,7 +356,7 @@ pub read_class_set-returns-then-has_strings-clause-value : goal.read_class_set-r
 read_class_set-returns-then-has_strings-clause-value t c =
     let found = c.in_ok-value.ensures in
     let rest = source c.read_contents.new.cursor in
-    on_refused c.refuse-then-has_strings.result
+    on_refused c.refused-then-has_strings.result
     (class_read (table_of c.args.tables.now) c.args.unicode c.args.levels (c.args.levels - 1) (source c.args.cursor.now)
     (source c.try_consume-negated.new.self) c.try_consume-negated.result (Some (found.0, rest)) (omega (arith, c.if-levels-eq0.false))
     c.try_consume-negated.ensures.found c.try_consume-negated.ensures.moves found.1

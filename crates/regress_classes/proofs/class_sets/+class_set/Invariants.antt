@@ -28,14 +28,14 @@ decreases-read_behind l = 8 * l.around.now.levels + 4
 abbrev pub decreases-read_contents : goal.decreases-read_contents
 decreases-read_contents l = 8 * l.around.now.levels + 5
 
-abbrev pub invariant-read_parts-loop-cursor : goal.invariant-read_parts-loop-cursor
-invariant-read_parts-loop-cursor l =
+abbrev pub invariant-read_parts-loop-union : goal.invariant-read_parts-loop-union
+invariant-read_parts-loop-union l =
     (held : Value) → IsUnion l.fn.union held →
     ReadFrom IsUnion (parts_onto (table_of l.around.tables.now) l.around.unicode (inner_of l.around) l.around.negated) held (source l.fn.cursor)
     (source l.cursor) l.union
 
-abbrev pub decreases-read_parts-loop-cursor : goal.decreases-read_parts-loop-cursor
-decreases-read_parts-loop-cursor l = length (source l.cursor)
+abbrev pub decreases-read_parts-loop-union : goal.decreases-read_parts-loop-union
+decreases-read_parts-loop-union l = length (source l.cursor)
 
 abbrev pub invariant-read_operands-loop-chain : goal.invariant-read_operands-loop-chain
 invariant-read_operands-loop-chain l =

@@ -29,7 +29,7 @@ returns-then-class-left c =
     let flags = c.args.scope.now.flags in
     let found = c.in_ok-class-2.ensures.value in
     let here = cond-true _ _ _ c.if-not-scope.false ∙ ap (found_map (λ (negated, value). class_set flags negated value)) found.1 in
-    on_refused c.refuse.result
+    on_refused c.refused.result
     (subst (λ (f : Found Atom). IfSome f (λ x. c.args.left < levels_of_atom x.0)) (sym here) (omega (arith, found.2.1.levels)))
 
 pub returns : goal.returns

@@ -17,7 +17,7 @@ returns-then-is_empty c =
     let found : group_name_at ctx.setting.table (source c.args.cursor.now) ≡ Some (name, c.in-Some.rest.now) =
     sym c.in_ok-name.ensures ∙ ap (option_map (λ found. (found.0.items, found.1.now))) c.in-Some.is in
     let numbers = c.numbers_of-numbers.ensures ∙ ap (λ (name : List ℕ). groups_named name 1 ctx.names) c.deref.ensures.value in
-    on_refused c.refuse-then-is_empty.result
+    on_refused c.refused-then-is_empty.result
     (named-unknown ctx (source c.args.cursor.now) name c.in-Some.rest.now found
     (sym numbers ∙ length-none _ (sym c.is_empty.ensures ∙ c.if-is_empty.true)))
 

@@ -25,7 +25,7 @@ pub returns-then-is_empty : goal.returns-then-is_empty
 returns-then-is_empty c =
     let l = c.loop-cursor in
     let same : source c.try_consume.new.self ≡ source l.cursor = c.try_consume.ensures.moves ∙ cond-false _ _ _ c.if-try_consume.false in
-    on_refused c.refuse.result
+    on_refused c.refused.result
     (no_character c.args.unicode (source c.args.cursor.now) (source l.cursor) l.string.items l.value l.invariant
     (sym c.is_at.ensures ∙ c.loop-cursor-test.true) (sym c.try_consume.ensures.found ∙ c.if-try_consume.false)
     (character_at_end c.args.unicode (source l.cursor) (sym same ∙ length-none (source c.try_consume.new.self) (sym c.if-is_empty.ensures))))
