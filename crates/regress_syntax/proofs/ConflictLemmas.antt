@@ -31,6 +31,12 @@ tied Less o o' h k = absurd (true≢false h)
 tied Equal o o' h k = (refl, h, k)
 tied Greater o o' h k = absurd (true≢false k)
 
+-- so is what is compared before something else
+first_not_less : (r o : Ordering) → is_lt (ordering_then r o) ≡ false → is_lt r ≡ false
+first_not_less Less o h = absurd (true≢false h)
+first_not_less Equal o h = refl
+first_not_less Greater o h = refl
+
 names_tied : (a b : List ℕ) (o o' : Ordering) → is_lt (ordering_then (slice_cmp nat_cmp b a) o) ≡ false →
     is_lt (ordering_then (slice_cmp nat_cmp a b) o') ≡ false → (bytes_eq b a ≡ true) × (is_lt o ≡ false) × (is_lt o' ≡ false)
 names_tied a b o o' h h' =
@@ -239,10 +245,15 @@ conflict-captures a b e =
 
 -- how groups are sorted
 abbrev by_name_and_path : NamedGroup → NamedGroup → Ordering
-by_name_and_path = then_cmp (on (λ (g : NamedGroup). g.name.items) (slice_cmp nat_cmp)) (on (λ (g : NamedGroup). g.path.levels.items) by_levels)
+by_name_and_path =
+    then_cmp (on (λ (g : NamedGroup). g.name.items) (slice_cmp nat_cmp))
+    (then_cmp (on (λ (g : NamedGroup). g.path.levels.items) by_levels) (on (λ (g : NamedGroup). g.left) nat_cmp))
 
 is_order : IsStrictWeakOrder (λ x y. is_lt (by_name_and_path x y))
-is_order = ranks_by (then_total (on_total (λ (g : NamedGroup). g.name.items) nat_list_cmp_total) (on_total (λ (g : NamedGroup). g.path.levels.items) by_levels_total)) (λ (g : NamedGroup). g)
+is_order =
+    ranks_by (then_total (on_total (λ (g : NamedGroup). g.name.items) nat_list_cmp_total)
+    (then_total (on_total (λ (g : NamedGroup). g.path.levels.items) by_levels_total) (on_total (λ (g : NamedGroup). g.left) nat_cmp_total)))
+    (λ (g : NamedGroup). g)
 
 groups_between : (x y z : NamedGroup) → is_lt (by_name_and_path y x) ≡ false → is_lt (by_name_and_path z y) ≡ false →
     conflict (capture_of x) (capture_of z) ≡ true →
@@ -251,12 +262,13 @@ groups_between x y z h h' e =
     let alike : bytes_eq z.name.items x.name.items ≡ true = (and_parts _ _ e).0 in
     let same : z.name.items ≡ x.name.items = (bytes_eq-Decides _ _).0 alike in
     let paths : are_together x.path.levels.items z.path.levels.items ≡ true = conflict-captures x z (bytes_eq-sym z.name.items x.name.items alike) ∙ e in
-    let above : is_lt (ordering_then (slice_cmp nat_cmp x.name.items y.name.items) (by_levels z.path.levels.items y.path.levels.items)) ≡ false =
-    subst (λ (n : List ℕ). is_lt (ordering_then (slice_cmp nat_cmp n y.name.items) (by_levels z.path.levels.items y.path.levels.items)) ≡ false) same h' in
+    let behind = ordering_then (by_levels z.path.levels.items y.path.levels.items) (nat_cmp z.left y.left) in
+    let above : is_lt (ordering_then (slice_cmp nat_cmp x.name.items y.name.items) behind) ≡ false =
+    subst (λ (n : List ℕ). is_lt (ordering_then (slice_cmp nat_cmp n y.name.items) behind) ≡ false) same h' in
     let ties = names_tied x.name.items y.name.items _ _ h above in
     let first : bytes_eq x.name.items y.name.items ≡ true = bytes_eq-sym y.name.items x.name.items ties.0 in
     let second : bytes_eq y.name.items z.name.items ≡ true = subst (λ n. bytes_eq y.name.items n ≡ true) (sym same) ties.0 in
-    elim (paths_between x.path.levels.items y.path.levels.items z.path.levels.items ties.1 ties.2 paths) [
+    elim (paths_between x.path.levels.items y.path.levels.items z.path.levels.items (first_not_less _ _ ties.1) (first_not_less _ _ ties.2) paths) [
       | inl together ↦ inl (sym (conflict-captures x y first) ∙ together)
       | inr together ↦ inr (sym (conflict-captures y z second) ∙ together)
     ]

@@ -55,10 +55,12 @@ fn find_names(
     let mut mode = Mode::Plain;
     let mut rest = pattern;
     while let Some((c, behind)) = skip_quiet(rest).split_first() {
+        let left = behind.len().saturating_add(1);
         if let Some(mark) = read_mark(alloc, mode, *c, behind, sets, tables)? {
-            scanner.pass(mark)?;
+            scanner.pass(mark, left)?;
         }
         mode = mode.behind(*c, sets);
+        scanner.watch(mode.levels(), left);
         rest = behind;
     }
     scanner.finish()

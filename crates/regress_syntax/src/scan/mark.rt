@@ -39,6 +39,14 @@ pub(super) enum Mark {
 }
 
 impl Mode {
+    /// How many classes are open inside an outermost one.
+    pub(super) fn levels(self) -> usize {
+        match self {
+            Mode::Plain => 0,
+            Mode::Class { depth, .. } => depth,
+        }
+    }
+
     /// The mode behind a code point that begins no escape.
     pub(super) fn behind(self, c: u32, sets: bool) -> Mode
         requires room { depth_of (mode_of self) + 1 < 2 ^ 64 }

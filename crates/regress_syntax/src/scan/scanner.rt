@@ -30,6 +30,9 @@ pub(super) struct Scanner {
     names: Vec<Option<Name>>,
     /// The capture groups that have names.
     named: Vec<NamedGroup>,
+    /// How many code points are left from the first parenthesis or bracket on that opens a level past
+    /// `MAX_NESTING_DEPTH`.
+    too_deep: Option<usize>,
 }
 
 /// A capture group with a name, and the path of its place: `MAX_NESTING_DEPTH` levels of it at most, so that the paths of
@@ -38,6 +41,8 @@ pub(super) struct Scanner {
 struct NamedGroup {
     name: Name,
     path: Path,
+    /// How many code points are left from the name on.
+    left: usize,
 }
 
 impl Scanner {
@@ -54,11 +59,12 @@ impl Scanner {
             deepest: 1,
             names: Vec::new(alloc),
             named: Vec::new(alloc),
+            too_deep: None,
         })
     }
 
-    /// Moves behind a mark.
-    pub(super) fn pass(&mut self, mark: Mark) -> Result<(), AllocError>
+    /// Moves behind a mark. `left` is how many code points are left from its first one on.
+    pub(super) fn pass(&mut self, mark: Mark, left: usize) -> Result<(), AllocError>
         requires { highest_at (place_of self.old) + 1 < 2 ^ 64 }
         ensures found { (all rest : List Written) → Behind all (mark_of mark ∷ rest) self.old → OnOk result (Behind all rest self.new) }
         ensures numbers { OnOk result (highest_at (place_of self.new) ≤ highest_at (place_of self.old) + 1) }
@@ -66,7 +72,8 @@ impl Scanner {
         match mark {
             Mark::Opens => self.open()?,
             Mark::Captures(name) => {
-                self.add(name)?;
+                // The name is behind `(?<`.
+                self.add(name, left.saturating_sub(3))?;
                 self.open()?;
             }
             Mark::Closes => self.path.leave(),
@@ -97,8 +104,18 @@ impl Scanner {
         self.deepest = self.deepest.max(self.path.depth().saturating_add(levels));
     }
 
-    /// Adds a capture group at the place.
-    fn add(&mut self, name: Option<Name>) -> Result<(), AllocError>
+    /// Notes the place, if so many levels of classes open there lie past the limit of levels and none did before.
+    pub(super) fn watch(&mut self, levels: usize, left: usize)
+        ensures { self.new ≡ record self.old { too_deep = self.new.too_deep } }
+    {
+        let depth = self.path.depth().saturating_add(levels);
+        if depth > MAX_NESTING_DEPTH as usize && self.too_deep.is_none() {
+            self.too_deep = Some(left);
+        }
+    }
+
+    /// Adds a capture group at the place. `left` is how many code points are left from its name on, if it has one.
+    fn add(&mut self, name: Option<Name>, left: usize) -> Result<(), AllocError>
         ensures same { OnOk result (self.new ≡ record self.old { names = self.new.names; named = self.new.named }) }
         ensures names { OnOk result (names_of self.new.names.items ≡ names_of self.old.names.items ++ names_of (name ∷ [])) }
         ensures named { length (path_of self.old.path) ≤ max_nesting_depth →
@@ -109,6 +126,7 @@ impl Scanner {
             self.named.push(NamedGroup {
                 name: name.clone()?,
                 path: self.path.outermost(self.alloc, MAX_NESTING_DEPTH as usize)?,
+                left,
             })?;
         }
         self.names.push(name)?;
@@ -127,10 +145,10 @@ impl Scanner {
         named.sort()?;
         // Paths that differ past the limit alone count as one: the pattern is refused in any case.
         if !are_neighbours_apart(&named) {
-            return Err(refused(0, FaultKind::DuplicateName));
+            return Err(refused(second_name(&named), FaultKind::DuplicateName));
         }
         if self.deepest > MAX_NESTING_DEPTH as usize {
-            return Err(refused(0, FaultKind::TooDeep));
+            return Err(refused(self.too_deep.unwrap_or(0), FaultKind::TooDeep));
         }
         Ok(self.names)
     }
@@ -150,4 +168,18 @@ fn are_neighbours_apart(groups: &[NamedGroup]) -> bool
     ensures { IsAllAdjacentAnswer (λ x y apart. apart ≡ not (conflict (capture_of x) (capture_of y))) groups.now result }
 {
     groups.is_sorted_by(|group, next| !group.conflicts_with(next))
+}
+
+/// How many code points are left from the second name on of two neighbours that conflict, the first such name if there
+/// are several.
+fn second_name(groups: &[NamedGroup]) -> usize {
+    let mut left = 0;
+    for pair in groups.windows(2) {
+        if let [group, next] = pair {
+            if group.conflicts_with(next) {
+                left = left.max(group.left.min(next.left));
+            }
+        }
+    }
+    left
 }

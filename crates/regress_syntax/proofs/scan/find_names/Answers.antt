@@ -1,9 +1,10 @@
-use Rattle.std.proofs.Common.{[], length, sym, subst, ap, ◌∙◌, arith}
+use Rattle.std.proofs.Common.{◌≡◌, ◌≤◌, ◌+◌, [], length, sym, subst, ap, ◌∙◌, arith}
 use Rattle.std.specs.Option.{option_map}
 use Rattle.regress_unicode.specs.TableOf.{table_of}
 use Rattle.regress_syntax.specs.Scan.{plain, marks}
-use Rattle.regress_syntax.specs.Scanning.{mode_of, mark_of, Behind}
-use Rattle.regress_syntax.proofs.ScannerLemmas.{depth-mode_behind, at_mark, at_no_mark, all_passed}
+use Rattle.regress_syntax.specs.declared.scan.scanner.Scanner.{Scanner}
+use Rattle.regress_syntax.specs.Scanning.{mode_of, mark_of, place_of, highest_at, Behind}
+use Rattle.regress_syntax.proofs.ScannerLemmas.{depth-mode_behind, at_mark, at_no_mark, all_passed, watched}
 use Rattle.regress_syntax.proofs.scan.find_names.Goals as goal
 use Rattle.regress_syntax.proofs.scan.find_names.Goals.{in-Some-2+in_ok-pass, in_default-2}
 
@@ -13,8 +14,14 @@ loop-c-preserved c =
     let all = marks c.args.sets table plain c.args.pattern.now in
     let found : Behind all (marks c.args.sets table (mode_of c.loop-c.mode) c.skip_quiet.result.now) c.loop-c.scanner =
     subst (λ ms. Behind all ms c.loop-c.scanner) (c.skip_quiet.ensures.same c.args.sets table c.loop-c.mode) c.loop-c.invariant.found in
+    let same : highest_at (place_of c.watch.new.self) ≡ highest_at (place_of c.match-branch-3.scanner) =
+    ap (λ (s : Scanner). highest_at (place_of s)) c.watch.ensures in
+    let number : highest_at (place_of c.match-branch-3.scanner) ≤ highest_at (place_of c.loop-c.scanner) + 1 = elim c.match-branch-3.branch [
+      | in-Some-2+in_ok-pass w ↦ rw w.scanner-is w.in_ok-pass.ensures.numbers
+      | in_default-2 w ↦ rw w.scanner-is (omega arith)
+    ] in
     rw c.behind-mode.ensures (record {
-      found = elim c.match-branch-3.branch [
+      found = watched _ _ c.match-branch-3.scanner c.watch.new.self c.watch.ensures (elim c.match-branch-3.branch [
         | in-Some-2+in_ok-pass w ↦
             rw w.scanner-is (w.in_ok-pass.ensures.found _ _
             (at_mark c.args.sets table (mode_of c.loop-c.mode) _ _ _ all (mark_of w.in-Some-2.mark) c.loop-c.scanner c.in-Some.ensures.cases.0
@@ -23,11 +30,8 @@ loop-c-preserved c =
             rw w.scanner-is
             (at_no_mark c.args.sets table (mode_of c.loop-c.mode) _ _ _ all c.loop-c.scanner c.in-Some.ensures.cases.0
             (sym c.in_ok-mark.ensures ∙ ap (option_map mark_of) w.in_default-2.is) found)
-      ];
-      numbers = elim c.match-branch-3.branch [
-        | in-Some-2+in_ok-pass w ↦ rw w.scanner-is (omega (arith, w.in_ok-pass.ensures.numbers, c.loop-c.invariant.numbers, ap length c.in-Some.ensures.cases.0))
-        | in_default-2 w ↦ rw w.scanner-is (omega (arith, c.loop-c.invariant.numbers, ap length c.in-Some.ensures.cases.0))
-      ];
+      ]);
+      numbers = omega (arith, same, number, c.loop-c.invariant.numbers, ap length c.in-Some.ensures.cases.0);
       depth = omega (arith, depth-mode_behind c.args.sets (mode_of c.loop-c.mode) c.in-Some.c.now, ap length c.in-Some.ensures.cases.0);
     })
 
