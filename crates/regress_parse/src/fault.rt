@@ -61,7 +61,7 @@ pub enum PlacedFault {
     #[error("{error}")]
     Syntax {
         error: Error,
-        /// Where reading stopped: the index of a code point of the pattern, or its length. `docs/GRAMMAR.md` says more.
+        /// Where that is: the index of a code point of the pattern, or its length. `docs/GRAMMAR.md` tells it for each text.
         place: usize,
     },
     /// Memory was wanting, which says nothing of the pattern.

@@ -66,7 +66,8 @@ pub fn try_parse(
     Ok(try_parse_with_place(alloc, pattern, flags, tables)?)
 }
 
-/// Answers what `try_parse` does, and with a fault of the pattern where reading stopped.
+/// Answers what `try_parse` does, and with a fault of the pattern where in it that is. `docs/GRAMMAR.md` tells the place
+/// for each text.
 pub fn try_parse_with_place(
     alloc: Global,
     pattern: &[u32],

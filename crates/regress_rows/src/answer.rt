@@ -1,7 +1,7 @@
 //! What a line comes to.
 
 use crate::generated::generated;
-use crate::parsing::points_in;
+use crate::parsing::{placed, points_in};
 use crate::row::row_difference;
 use crate::tear::{in_range, torn};
 use crate::trees::{answered, optimize_watched, whole};
@@ -79,6 +79,7 @@ fn answer_under(
         "lower" | "pieces" => lowered(alloc, call, flags, &points_in(alloc, on)?, tables),
         "ascend" | "descend" | "named" => large(alloc, call, flags, on, tables),
         "whole" => whole(alloc, flags, on, tables),
+        "place" => placed(alloc, flags, on, tables),
         _ => answered(alloc, call, flags, on, tables),
     }
 }

@@ -6,7 +6,7 @@ ghost use Rattle.regress_tree.specs.WellFormed.{IsWellFormed};
 use regress_base::codepointset::CODE_POINT_MAX;
 use regress_base::types::Flags;
 use regress_notation::{Fault, Promise, check, read_pattern};
-use regress_parse::{Error, ParseFault, try_parse};
+use regress_parse::{Error, ParseFault, PlacedFault, try_parse, try_parse_with_place};
 use regress_tree::ir::Regex;
 use regress_unicode::Tables;
 use std::alloc::Global;
@@ -41,4 +41,19 @@ pub(crate) fn told(alloc: Global, error: Error) -> Result<String, Fault> {
     check(copy == error, Promise::CopyIsEqual)?;
     let fault = ParseFault::Syntax(copy);
     Ok(format!(in alloc; "error: {fault}")?)
+}
+
+/// Where a pattern's fault is, and its text.
+pub(crate) fn placed(
+    alloc: Global,
+    flags: Flags,
+    pattern: &str,
+    tables: &Tables,
+) -> Result<String, Fault> {
+    let points = points_in(alloc, pattern)?;
+    match try_parse_with_place(alloc, &points, flags, tables) {
+        Ok(_) => Ok(String::from_str(alloc, "a tree")?),
+        Err(PlacedFault::Syntax { error, place }) => Ok(format!(in alloc; "{place} {error}")?),
+        Err(PlacedFault::Memory(_)) => Err(Fault::Memory),
+    }
 }

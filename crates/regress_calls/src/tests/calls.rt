@@ -1,8 +1,10 @@
 //! The caller of docs/CALLING.md, and calls that carry a fact and answer nothing.
 
 use crate::caller::optimized_text;
+use crate::caret::pointed_at;
 use regress_front::codepointset::canonical_form_is_unique;
 use regress_front::types::{Flags, limits_are_as_defined};
+use regress_front::unicode::Tables;
 use std::test::Fail;
 
 #[test]
@@ -26,5 +28,17 @@ fn another_crate_calls_the_library(rt: HostRuntime) -> Result<(), Fail> {
             assert_eq!(rt; told.as_str(), "Unbalanced parenthesis");
         }
     }
+    Ok(())
+}
+
+#[test]
+fn a_caret_stands_under_the_place_of_a_fault(rt: HostRuntime) -> Result<(), Fail> {
+    let alloc = rt.alloc();
+    let tables = Tables::small(alloc)?;
+    match pointed_at(alloc, "ab[c", Flags::default(), &tables)? {
+        Some(shown) => assert_eq!(rt; shown.as_str(), "ab[c\n  ^ Unbalanced bracket"),
+        None => assert!(rt; false, "it is accepted"),
+    }
+    assert!(rt; pointed_at(alloc, "ab", Flags::default(), &tables)?.is_none());
     Ok(())
 }
