@@ -1,14 +1,19 @@
 -- What is written of a tree.
-use Rattle.std.proofs.Common.{◌≡◌, ℕ, zero, suc, ◌+◌, ◌-◌, ◌^◌, false, true, List, [], ◌++◌, length, replicate, refl, sym, ap, ◌∙◌, arith, append_assoc, append-nil}
+use Rattle.std.proofs.Common.{◌≡◌, ℕ, zero, suc, ◌+◌, ◌-◌, ◌^◌, false, true, List, [], ◌∷◌, ◌++◌, length, ◌<◌, drop, get_or, replicate, refl, sym, ap, rules, ◌∙◌, arith, append_assoc, append-nil}
 use native.Mathlib.Numerals.{unary_clauses}
 use Rattle.std.proofs.lemmas.Grind.{common_steps}
 use Rattle.std.proofs.Output.{has_written_append, has_written_of_eq}
 use Rattle.std.specs.List.{repeat}
-use Rattle.std.specs.Fmt.{HasWritten, digits, padded_integral, format_spec, char_count}
+use Rattle.std.specs.Result.{IsErr}
+use Rattle.std.specs.declared.result.Result.{Result}
+use Rattle.std.specs.declared.fmt.Error.{Error}
+use Rattle.std.proofs.lemmas.List.{drop_more}
+use Rattle.std.specs.Fmt.{HasWritten, WritesOnOk, IsPlainFormatter, digits, padded_integral, format_spec, char_count}
 use Rattle.std.specs.declared.fmt.Formatter.{Formatter}
 use Rattle.regress_tree.specs.Visits.{deeper}
 use Rattle.regress_tree.specs.Copies.{is_leaf}
-use Rattle.regress_tree.specs.Tree.{Tree, leaf, cat, alt, wrapped}
+use Rattle.regress_tree.specs.Tree.{Tree, leaf, cat, alt, wrapped, tree, trees}
+use Rattle.regress_tree.specs.declared.ir.node.Node.{Node}
 use Rattle.regress_tree.specs.Display.{node_text, line, printed_at, printed_in_row}
 
 -- a numeral with zeros before it, up to four places
@@ -48,3 +53,18 @@ module _ {W : Type 0} (took : W → List ℕ → W → Type 0) where
   leaf_written depth (cat parts) f g is own = cc
   leaf_written depth (alt left right) f g is own = cc
   leaf_written depth (wrapped w body) f g is own = cc
+
+  -- one more part of a row, and then the others
+  pub part_written : (depth : ℕ) (parts : List Node) (i : ℕ) (part : Node) (f g h : Formatter W) → i < length parts → part ≡ get_or parts i part →
+      HasWritten took f (printed_at depth (tree part)) g → HasWritten took g (printed_in_row depth (trees (drop (i + 1) parts))) h →
+      HasWritten took f (printed_in_row depth (trees (drop i parts))) h
+  part_written depth parts i part f g h within is own rest =
+      let cut = drop_more parts i part within ∙ ap (λ n. n ∷ drop (i + 1) parts) (sym is) in
+      rw cut (has_written_append took _ _ _ _ _ own rest)
+
+  -- what failed has nothing to show
+  pub nothing_on_err : (f g : Formatter W) (r : Result (Unit {0}) Error) (text : List ℕ) → IsErr r → WritesOnOk took f r text g
+  nothing_on_err f g r text failed plain ok = first_of (search (rules, failed, ok), grind (arith, failed, ok))
+
+  pub has_written_nothing : (f : Formatter W) → IsPlainFormatter f → HasWritten took f [] f
+  has_written_nothing f plain = search (rules, plain)

@@ -1,7 +1,9 @@
 -- Where parts may stand, whatever the number of capture groups.
-use Rattle.std.proofs.Common.{ℕ, ◌≤◌, List, [], ◌++◌, max, subst, arith}
-use Rattle.regress_tree.specs.Tree.{Leaf, back_ref, Wrapper, capture_group, loop, loop_one, lookaround, Tree, Trees, leaf, cat, alt, wrapped, no_trees, more_trees, row_append}
-use Rattle.regress_tree.specs.WellFormed.{Capture, captures, captures_in_row, captures_of_wrapper, Position, inside, last_of, position_in, LeafMayStand, WrapperMayStand, MayStand, RowMayStand}
+use Rattle.std.proofs.Common.{◌≡◌, ℕ, ◌≤◌, ◌==◌, ◌↔◌, Bool, true, false, not, IsTrue, All, nat_le, length, refl, List, [], ◌∷◌, ◌++◌, max, subst, arith}
+use Rattle.std.proofs.lemmas.Bool.{leb-true, le-leb, false≢true}
+use Rattle.regress_base.specs.Intervals.{Bounds, IsCanonical, code_point_max}
+use Rattle.regress_tree.specs.Tree.{Leaf, bracket, back_ref, string_set, Wrapper, capture_group, loop, loop_one, lookaround, Tree, Trees, leaf, cat, alt, wrapped, no_trees, more_trees, row_append}
+use Rattle.regress_tree.specs.WellFormed.{Capture, captures, captures_in_row, captures_of_wrapper, Position, inside, one_character, IsSmallSet, last_of, position_in, LeafMayStand, WrapperMayStand, MayStand, RowMayStand}
 use Rattle.regress_tree.specs.Survey.{past_ids, reference_of, reference, reference_in_row, StandsAt}
 use Rattle.regress_tree.proofs.laws.Rows.{row_append-none, RowMayStand-append, RowMayStand-split}
 use Rattle.regress_tree.proofs.SurveyLemmas.{past-append}
@@ -136,3 +138,36 @@ stands-single t s = (s.0, (tt, s.1))
 
 pub single-stands : (t : Tree) → StandsAt inside (cat (more_trees t no_trees)) → StandsAt inside t
 single-stands t s = (s.0, s.1.1)
+
+-- A leaf that refers to no group stands whatever their number.
+
+pub stands-where : {P : Type 0} (told : Bool) → (IsTrue told ↔ P) → IsTrue told ↔ ((n : ℕ) × P)
+stands-where told e = (λ yes. (0, e.0 yes), λ s. e.1 s.1)
+
+pub bracket-stands-where : (told invert : Bool) (intervals : List Bounds) → (IsTrue told ↔ IsCanonical intervals) →
+    IsTrue told ↔ StandsAt inside (leaf (bracket invert intervals))
+bracket-stands-where told invert intervals e = (λ yes. (0, record { canonical = e.0 yes; some = tt }), λ s. e.1 s.1.canonical)
+
+pub strings-stand-where : (told icase : Bool) (strings : List (List ℕ)) → (IsTrue told ↔ All (All (λ c. c ≤ code_point_max)) strings) →
+    IsTrue told ↔ StandsAt inside (leaf (string_set strings icase))
+strings-stand-where told icase strings e = (λ yes. (0, record { free = tt; bounded = e.0 yes }), λ s. e.1 s.1.bounded)
+
+-- A reference stands where there are as many groups as its number.
+pub reference-stands-where : (group : ℕ) (icase : Bool) → IsTrue (nat_le 1 group) ↔ StandsAt inside (leaf (back_ref group icase))
+reference-stands-where group icase =
+    (λ yes. (group, record { free = tt; low = leb-true 1 group yes; high = omega arith }), λ s. le-leb 1 group s.1.low)
+
+-- A small set stands as one character where it is not empty.
+
+pub some-small_set : (told empty : Bool) (count : ℕ) (members : List ℕ) (greatest : ℕ) → count ≡ length members → empty ≡ false →
+    empty ≡ (count == 0) → (IsTrue told ↔ IsSmallSet members greatest inside) → IsTrue told ↔ IsSmallSet members greatest one_character
+some-small_set told empty count [] greatest len some is e = absurd (grind (arith, len, some, is))
+some-small_set told empty count (m ∷ ms) greatest len some is e = (
+  λ stands. let s = e.0 stands in record { bounded = s.bounded; small = s.small; some = λ none. cc },
+  λ s. e.1 (record { bounded = s.bounded; small = s.small; some = tt }),
+)
+
+pub no-small_set : (empty : Bool) (count : ℕ) (members : List ℕ) (greatest : ℕ) → count ≡ length members → empty ≡ true →
+    empty ≡ (count == 0) → IsTrue (not empty) ↔ IsSmallSet members greatest one_character
+no-small_set empty count [] greatest len none is = rw none (λ denied. absurd (false≢true denied), λ s. absurd (s.some refl))
+no-small_set empty count (m ∷ ms) greatest len none is = absurd (grind (arith, len, none, is))

@@ -1,11 +1,10 @@
 -- Each answer puts the visits of the calls together.
 use Rattle.std.proofs.Common.{◌≡◌, true, arith, rules, ◌∙◌, sym, ap, refl, le_refl, le_trans, drop, ◌+◌, ◌∷◌}
 use Rattle.std.proofs.lemmas.List.{drop_more, drop_all}
-use Rattle.regress_tree.specs.declared.ir.node.Node.{the_lemmas}
 use Rattle.regress_tree.specs.Tree.{tree}
-use Rattle.regress_tree.specs.Copies.{is_leaf}
 use Rattle.regress_tree.specs.Visits.{Calls, before_children, without_children, after_children, in_cat, in_wrapped, no_more, one_more}
 use Rattle.regress_tree.proofs.laws.Nodes.{tree-Cat, tree-Alt}
+use Rattle.regress_tree.proofs.NodeLemmas.{leaf_of}
 use Rattle.regress_tree.proofs.laws.Visits.{at_leaf, in_Alt, right_smaller, down_next, further_next, after_next}
 use Rattle.regress_tree.proofs.ir.visit.+visit.Goals as goal
 
@@ -33,8 +32,7 @@ visit_inside-returns-in-Some-clause-visited g t c =
 
 pub visit_inside-returns-in_default-body-clause-visited : goal.visit_inside-returns-in_default-body-clause-visited
 visit_inside-returns-in_default-body-clause-visited g t c =
-    let no_body = c.in_default-body.ensures.body in
-    let holds_none : is_leaf (tree c.args.n.now) ≡ true = first_of (search (rules, the_lemmas), grind (arith, the_lemmas)) in
+    let holds_none = leaf_of c.args.n.now c.in_default.not-Cat c.in_default.not-Alt c.in_default-body.ensures.body in
     at_leaf _ (tree c.args.n.now) holds_none
 
 pub visit_before-returns-in_default : goal.visit_before-returns-in_default

@@ -2,13 +2,13 @@
 use Rattle.std.proofs.Common.{rules, arith, ◌∙◌, ap, ◌≡◌, true, false, length-set, [], take, drop}
 use Rattle.std.proofs.lemmas.List.{drop_all, take_all}
 use Rattle.regress_tree.proofs.laws.Rows.{row_append-none}
-use Rattle.regress_tree.specs.declared.ir.node.Node.{Node, the_lemmas}
+use Rattle.regress_tree.specs.declared.ir.node.Node.{Node}
 use Rattle.regress_tree.specs.Tree.{tree, no_trees}
-use Rattle.regress_tree.specs.Copies.{is_leaf}
 use Rattle.regress_tree.specs.Visits.{CallsMut, nodes, Visited, before_children, without_children, after_children, in_cat, in_alt, in_wrapped, no_more, one_more}
 use Rattle.regress_tree.specs.Climbs.{further}
 use Rattle.regress_tree.proofs.laws.Nodes.{tree-Cat, tree-Alt}
 use Rattle.regress_tree.proofs.laws.Levels.{out-Cat, out-Alt, alt_of}
+use Rattle.regress_tree.proofs.NodeLemmas.{leaf_of}
 use Rattle.regress_tree.proofs.laws.Visits.{at_leaf, further_next, nodes_down, levels_down, before_down, after_down, call_adds, next_is, nodes_next, unvisited_next, visited_next}
 use Rattle.regress_tree.proofs.ir.visit_mut.+visit_mut.Goals.{visit_before-else-loop-here-test, visit_before-then-loop-here-test+then-not-shift, visit_after-then-loop-levels-test+else-shift, visit_after-else-loop-levels-test}
 use Rattle.regress_tree.proofs.ir.visit_mut.+visit_mut.Goals as goal
@@ -50,8 +50,7 @@ visit_inside-returns-in-Some-clause-visited g t c =
 
 pub visit_inside-returns-in_default-body_mut : goal.visit_inside-returns-in_default-body_mut
 visit_inside-returns-in_default-body_mut g t c =
-    let no_body = c.in_default-body_mut.ensures.body in
-    let holds_none : is_leaf (tree c.args.n.now) ≡ true = first_of (search (rules, the_lemmas), grind (arith, the_lemmas)) in
+    let holds_none = leaf_of c.args.n.now c.in_default.not-Cat c.in_default.not-Alt c.in_default-body_mut.ensures.body in
     let stays : tree c.body_mut.follows.lender-at-none ≡ tree c.args.n.now = c.body_mut.follows.holds-at-none in
     record { callable = c.requires.callable; visited = rw stays (at_leaf _ (tree c.args.n.now) holds_none) }
 

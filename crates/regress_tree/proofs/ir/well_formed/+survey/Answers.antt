@@ -1,11 +1,11 @@
 -- Each answer is a lemma on plain trees, at the values of the call.
-use Rattle.std.proofs.Common.{◌≡◌, ◌<◌, true, false, length, inl, inr, rules, arith, sym, ap, subst, ◌∙◌}
+use Rattle.std.proofs.Common.{◌≡◌, ◌<◌, true, false, length, inl, inr, le_trans, rules, arith, sym, ap, subst, ◌∙◌}
 use Rattle.std.specs.Prelude.{option_map, string_bytes}
 use Rattle.std.proofs.lemmas.Bool.{false≢true, not-true}
 use Rattle.regress_tree.specs.Tree.{tree, wrapped, capture_group, loop, lookaround}
 use Rattle.regress_tree.proofs.laws.Nodes.{tree-CaptureGroup, tree-Loop, tree-LookaroundAssertion}
 use Rattle.regress_tree.proofs.laws.Levels.{alt_of}
-use Rattle.regress_tree.specs.declared.ir.node.Node.{the_lemmas}
+use Rattle.regress_tree.proofs.laws.Visits.{right_smaller}
 use Rattle.regress_tree.specs.WellFormed.{inside}
 use Rattle.regress_tree.specs.Survey.{fill, SurveyedAt, RefusedAt}
 use Rattle.regress_tree.proofs.PassLemmas.{SpineSurveyed, spine-start, spine-next, spine-last, spine-fail, spine-fail-last, parts-next, parts-fail, group-pass, loop-pass, loop-fail, look-pass, look-fail}
@@ -33,7 +33,7 @@ survey-loop-node-preserved t c =
     let is = alt_of l.node.now c.in-Alt.left c.in-Alt.right c.deref.result.now c.in-Alt.is c.deref.ensures in
     let so_far = subst (λ x. SpineSurveyed (tree c.args.node.now) x c.args.ids.now l.ids l.groups) is l.invariant.so_far in
     record {
-      smaller = first_of (search (rules, the_lemmas), grind (arith, the_lemmas));
+      smaller = rw c.deref-node.ensures (le_trans (right_smaller _ _ _ c.in-Alt.is) l.invariant.smaller);
       so_far = rw (c.deref-node.ensures, c.join-groups.ensures)
           (spine-next (tree c.args.node.now) c.args.ids.now l.ids l.groups (tree c.deref.result.now) (tree c.in-Alt.right.value)
           c.survey.new.ids c.in_ok-survey.field-0 so_far c.in_ok-survey.ensures);

@@ -1,0 +1,29 @@
+-- A leaf stands inside where it is as it must be, whatever the number of groups.
+use Rattle.std.proofs.lemmas.Bool.{leb-true, le-leb}
+use Rattle.regress_tree.proofs.laws.Nodes.{tree-Char, tree-ByteSequence, tree-ByteSet, tree-CharSet, tree-Bracket, tree-BackRef}
+use Rattle.regress_tree.proofs.NodeLemmas.{tree-StringSet}
+use Rattle.regress_tree.proofs.StandingLemmas.{stands-where, bracket-stands-where, reference-stands-where, strings-stand-where}
+use Rattle.regress_tree.proofs.ir.well_formed.leaf_stands.Goals as goal
+
+pub returns-in-Char : goal.returns-in-Char
+returns-in-Char c = rw (c.in-Char.is, tree-Char) (stands-where _ (leb-true _ _, le-leb _ _))
+
+pub returns-in-ByteSequence : goal.returns-in-ByteSequence
+returns-in-ByteSequence c = rw (c.in-ByteSequence.is, tree-ByteSequence) (stands-where _ (rw c.deref.ensures.value at c.is_encoded.ensures))
+
+pub returns-in-ByteSet : goal.returns-in-ByteSet
+returns-in-ByteSet c = rw (c.in-ByteSet.is, tree-ByteSet) (stands-where _ (rw c.deref-in-ByteSet.ensures.value at c.is_byte_set.ensures))
+
+pub returns-in-CharSet : goal.returns-in-CharSet
+returns-in-CharSet c = rw (c.in-CharSet.is, tree-CharSet) (stands-where _ (rw c.deref-in-CharSet.ensures.value at c.is_char_set.ensures))
+
+pub returns-in-Bracket : goal.returns-in-Bracket
+returns-in-Bracket c =
+    rw (c.in-Bracket.is, tree-Bracket) (bracket-stands-where _ _ _ (rw c.intervals.ensures.value at c.is_canonical.ensures))
+
+pub returns-in-BackRef : goal.returns-in-BackRef
+returns-in-BackRef c = rw (c.in-BackRef.is, tree-BackRef) (reference-stands-where c.in-BackRef.group c.in-BackRef.icase)
+
+pub returns-in-StringSet : goal.returns-in-StringSet
+returns-in-StringSet c =
+    rw (c.in-StringSet.is, tree-StringSet) (strings-stand-where _ c.in-StringSet.icase _ (rw c.deref-in-StringSet.ensures.value at c.are_strings.ensures))
