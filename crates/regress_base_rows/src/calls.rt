@@ -1,6 +1,6 @@
 //! What a line calls.
 
-use crate::{intervals, plain, searches, sets, tables, unicode, utf8, whole};
+use crate::{intervals, lookups, plain, searches, sets, tables, unicode, utf8, whole};
 use regress_notation::{Fault, read_flags};
 use regress_unicode::Tables;
 use std::alloc::Global;
@@ -29,7 +29,7 @@ fn answer_to_one(alloc: Global, call: &str, on: &str, tables: &Tables) -> Result
         "fold" | "uppercase" => unicode::images(alloc, call, on, tables),
         "unfold" | "unfold_upper" => unicode::unfolded(alloc, call, on, tables),
         "starts" | "continues" => unicode::names(alloc, call, on, tables),
-        "strings" => unicode::strings(alloc, on, tables),
+        "strings" => lookups::strings(alloc, on, tables),
         "points" => intervals::counted(alloc, on),
         "class" => plain::class(alloc, on),
         "plain" => plain::values(alloc, on),
@@ -70,10 +70,11 @@ fn answer_to_two(
         "char_set" => searches::of_four(alloc, one, two),
         "places" => searches::places(alloc, one, two),
         "range" => tables::range(alloc, one, two),
-        "set" => unicode::listed_set(alloc, one, two, tables),
+        "set" => lookups::listed_set(alloc, one, two, tables),
+        "extent" => lookups::extent(alloc, one, two, tables),
         "entry" => {
             let tables = tables::table_of(alloc, "", one)?;
-            unicode::listed_set(alloc, "general_category", two, &tables)
+            lookups::listed_set(alloc, "general_category", two, &tables)
         }
         _ => Err(Fault::Line),
     }

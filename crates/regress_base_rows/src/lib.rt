@@ -4,6 +4,7 @@
 
 mod calls;
 mod intervals;
+mod lookups;
 mod plain;
 mod searches;
 mod sets;

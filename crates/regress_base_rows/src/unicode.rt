@@ -1,4 +1,4 @@
-//! Calls on a table.
+//! Calls on the maps and the names of a table.
 
 use regress_base::types::Flags;
 use regress_notation::{Fault, listed, read_point, read_points, read_set, written};
@@ -76,37 +76,4 @@ pub(crate) fn names(
         }
     }
     Ok(listed(alloc, &found)?)
-}
-
-/// The set of a name in a list, or `none`.
-pub(crate) fn listed_set(
-    alloc: Global,
-    list: &str,
-    name: &str,
-    tables: &Tables,
-) -> Result<String, Fault> {
-    let set = match list {
-        "general_category" => tables.general_category(name),
-        "script" => tables.script(name),
-        "script_extensions" => tables.script_extensions(name),
-        "binary" => tables.binary(name),
-        _ => return Err(Fault::Line),
-    };
-    Ok(match set {
-        Some(set) => written(alloc, set.intervals())?,
-        None => String::from_str(alloc, "none")?,
-    })
-}
-
-/// The strings of a name, with ` | ` behind each, or `none`.
-pub(crate) fn strings(alloc: Global, name: &str, tables: &Tables) -> Result<String, Fault> {
-    let Some(strings) = tables.strings(name) else {
-        return Ok(String::from_str(alloc, "none")?);
-    };
-    let mut text = String::new(alloc);
-    for string in strings {
-        text.push_str(&listed(alloc, string)?)?;
-        text.push_str(" | ")?;
-    }
-    Ok(text)
 }

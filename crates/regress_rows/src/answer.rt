@@ -3,6 +3,7 @@
 use crate::generated::generated;
 use crate::parsing::{placed, points_in};
 use crate::row::row_difference;
+use crate::tables::TablesOfLines;
 use crate::tear::{in_range, torn};
 use crate::trees::{answered, optimize_watched, whole};
 use regress_base::types::Flags;
@@ -13,12 +14,18 @@ use regress_unicode::{Tables, TablesError};
 use std::alloc::{AllocError, Global};
 use std::hash::{DefaultHasher, Hash, Hasher};
 
-/// What a line comes to, if it should come to something else. A line that begins with flags is a row.
+/// What a line comes to over the table that it asks for, if it should come to something else.
 pub(crate) fn difference(
     alloc: Global,
     line: &str,
-    tables: &Tables,
+    tables: &mut TablesOfLines,
 ) -> Result<Option<String>, Fault> {
+    let (tables, line) = tables.asked_by(alloc, line)?;
+    difference_over(alloc, line, tables)
+}
+
+/// What a line comes to over a table, if it should come to something else. A line that begins with flags is a row.
+fn difference_over(alloc: Global, line: &str, tables: &Tables) -> Result<Option<String>, Fault> {
     let (first, row) = line.split_once('\t').ok_or(Fault::Line)?;
     if let Some(flags) = read_flags(first) {
         return row_difference(alloc, flags, row, tables);

@@ -3,8 +3,8 @@ ghost use Rattle.std.specs.Prelude.{◌≡◌, ◌↔◌};
 
 use crate::answer::difference;
 use crate::failure::{Failure, unread};
+use crate::tables::TablesOfLines;
 use regress_notation::Fault;
-use regress_unicode::Tables;
 use std::alloc::Global;
 use std::io::{self, BufRead, Write};
 
@@ -30,7 +30,7 @@ pub(crate) fn run_lines<R: BufRead + Drop, W: Write>(
     input: R,
     out: &mut W,
 ) -> Result<Tally, Failure> {
-    let tables = Tables::small(alloc)?;
+    let mut tables = TablesOfLines::new(alloc)?;
     let mut tally = Tally { hold: 0, differ: 0 };
     for (before, line) in input.lines(alloc).enumerate() {
         let line = match line {
@@ -41,7 +41,7 @@ pub(crate) fn run_lines<R: BufRead + Drop, W: Write>(
             continue;
         }
         let number = before.saturating_add(1);
-        let written = match difference(alloc, &line, &tables) {
+        let written = match difference(alloc, &line, &mut tables) {
             Ok(None) => {
                 tally.hold = tally.hold.saturating_add(1);
                 continue;

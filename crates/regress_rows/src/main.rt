@@ -1,6 +1,6 @@
 //! Lines of data, read from standard input, that say what a pattern or a call comes to, compared with the library's
-//! answers over the small table. So that a line costs no proof, a program reads them. The head of the file `stdin` tells
-//! the forms of lines.
+//! answers over the small table, or over that of all of Unicode. So that a line costs no proof, a program reads them.
+//! The head of the file `stdin` tells the forms of lines.
 //!
 //! Where memory is wanting, in any of them, the program looks whether the call has kept what it promises then;
 //! `tools/refuse_growth` refuses each growth of each call in turn.
@@ -17,6 +17,7 @@ mod generated;
 mod lines;
 mod parsing;
 mod row;
+mod tables;
 mod tear;
 mod trees;
 

@@ -1,29 +1,68 @@
--- What tests of the constants tell: the pairs of a canonical set are intervals, rows can be packed, strings stand where
--- their places say.
-use Rattle.std.proofs.Common.{◌≡◌, ℕ, ℤ, pos, negsuc, ◌+◌, ◌^◌, ◌≤◌, ◌<◌, ◌≤ℤ◌, ◌⊎◌, inl, inr, Bool, true, ◌&&◌, ◌||◌, ◌==◌, nat_le, nat_lt, IsTrue, List, [], ◌∷◌, map, All, length, get_or, slice_range, take, drop, zero, suc, ◌-◌, refl, sym, ap, subst, ◌∙◌, arith}
+-- What tests of the constants tell: a canonical set has intervals, which its ends tell pair by pair, rows can be packed,
+-- strings stand where their places say.
+use Rattle.std.proofs.Common.{◌≡◌, ℕ, ℤ, pos, negsuc, ◌+◌, ◌*◌, ◌/◌, ◌^◌, ◌≤◌, ◌<◌, ◌≤ℤ◌, ◌⊎◌, inl, inr, Bool, true, ◌&&◌, ◌||◌, ◌==◌, nat_le, nat_lt, IsTrue, List, [], ◌∷◌, ◌++◌, map, All, length, get_or, slice_range, take, drop, zero, suc, ◌-◌, refl, sym, ap, subst, ◌∙◌, arith}
 use Rattle.std.specs.List.{list_all}
 use Rattle.std.proofs.lemmas.Bool.Decides.{nat_tests}
 use Rattle.std.proofs.lemmas.Int.{ints}
 use Rattle.std.proofs.lemmas.Bool.{and_parts}
-use Rattle.std.proofs.lemmas.List.{length-drop, length-take, take-append-drop}
+use Rattle.std.proofs.lemmas.List.{length-drop, length-take, take-append-drop, drop_more, append_assoc, append-nil}
 use Rattle.std.proofs.lemmas.List.Folds.{list_all-append, list_all-map}
 use Rattle.std.proofs.lemmas.List.Sums.{AllPass-from_list_all}
 use Rattle.std.proofs.lemmas.List.Elements.{All-cons, All-nil, All-head, All-tail, All-weaker}
-use Rattle.regress_base.specs.Intervals.{IsInterval, IsCanonical, is_canonical_from, code_point_max}
+use Rattle.regress_base.specs.Intervals.{Bounds, IsInterval, IsCanonical, is_canonical_from, code_point_max}
 use Rattle.regress_base.specs.Table.{HasCanonicalSets, HasStrings, is_string}
 use Rattle.regress_unicode.specs.FoldRows.{FoldRow, IsPackableRow}
-use Rattle.regress_ucd.specs.Data.{bounds, set_at, strings_at, is_set_at, are_places, named_set, named_strings, AreSets, AreStringsAt}
+use Rattle.regress_ucd.specs.Data.{paired, set_at, strings_at, is_set_at, are_places, named_set, named_strings, AreSets, AreStringsAt}
 
-intervals_from : (low : ℕ) (pairs : List (ℕ × ℕ)) → IsTrue (is_canonical_from low (map bounds pairs)) →
-    All (λ p. IsInterval (bounds p)) pairs
-intervals_from low [] h = All-nil (λ p. IsInterval (bounds p))
-intervals_from low (p ∷ pairs) h =
-    let here : IsInterval (bounds p) = record { ordered = grind (arith, nat_tests, h); in_range = grind (arith, nat_tests, h) } in
-    let rest : IsTrue (is_canonical_from (p.1 + 2) (map bounds pairs)) = grind (arith, nat_tests, h) in
-    All-cons (λ p. IsInterval (bounds p)) p pairs here (intervals_from (p.1 + 2) pairs rest)
+intervals_from : (low : ℕ) (ivs : List Bounds) → IsTrue (is_canonical_from low ivs) → All IsInterval ivs
+intervals_from low [] h = All-nil IsInterval
+intervals_from low (iv ∷ ivs) h =
+    let here : IsInterval iv = record { ordered = grind (arith, nat_tests, h); in_range = grind (arith, nat_tests, h) } in
+    let rest : IsTrue (is_canonical_from (iv.last + 2) ivs) = grind (arith, nat_tests, h) in
+    All-cons IsInterval iv ivs here (intervals_from (iv.last + 2) ivs rest)
 
-pub canonical_intervals : (pairs : List (ℕ × ℕ)) → IsCanonical (map bounds pairs) → All (λ p. IsInterval (bounds p)) pairs
-canonical_intervals pairs h = intervals_from 0 pairs h
+pub canonical_intervals : (ivs : List Bounds) → IsCanonical ivs → All IsInterval ivs
+canonical_intervals ivs h = intervals_from 0 ivs h
+
+-- ---- pairs of ends
+
+-- the pair of this number, as an interval
+abbrev pub pair_at : List ℕ → ℕ → Bounds
+pair_at ends i = record { first = get_or ends (2 * i) 0; last = get_or ends (2 * i + 1) 0 }
+
+-- what is left of the ends has a pair in front
+next_pair : (ends : List ℕ) (i : ℕ) → i < length ends / 2 →
+    paired (drop (2 * i) ends) ≡ pair_at ends i ∷ paired (drop (2 * (i + 1)) ends)
+next_pair ends i lt =
+    let up : 2 * i < length ends = omega (arith, lt) in
+    let both_up : 2 * i + 1 < length ends = omega (arith, lt) in
+    let next : 2 * i + 1 + 1 ≡ 2 * (i + 1) = omega arith in
+    ap paired (drop_more ends (2 * i) 0 up ∙ ap (λ rest. get_or ends (2 * i) 0 ∷ rest) (drop_more ends (2 * i + 1) 0 both_up))
+    ∙ ap (λ k. pair_at ends i ∷ paired (drop k ends)) next
+
+pub interval_there : (ends : List ℕ) (i : ℕ) → i < length ends / 2 → All IsInterval (paired (drop (2 * i) ends)) →
+    IsInterval (pair_at ends i)
+interval_there ends i lt all = All-head IsInterval (pair_at ends i) (paired (drop (2 * (i + 1)) ends)) (subst (All IsInterval) (next_pair ends i lt) all)
+
+pub intervals_left : (ends : List ℕ) (i : ℕ) → i < length ends / 2 → All IsInterval (paired (drop (2 * i) ends)) →
+    All IsInterval (paired (drop (2 * (i + 1)) ends))
+intervals_left ends i lt all = All-tail IsInterval (pair_at ends i) (paired (drop (2 * (i + 1)) ends)) (subst (All IsInterval) (next_pair ends i lt) all)
+
+pub pair_taken : (ends : List ℕ) (i : ℕ) (taken : List Bounds) → i < length ends / 2 → taken ++ paired (drop (2 * i) ends) ≡ paired ends →
+    (taken ++ (pair_at ends i ∷ [])) ++ paired (drop (2 * (i + 1)) ends) ≡ paired ends
+pair_taken ends i taken lt is =
+    append_assoc taken (pair_at ends i ∷ []) (paired (drop (2 * (i + 1)) ends)) ∙ ap (λ rest. taken ++ rest) (sym (next_pair ends i lt)) ∙ is
+
+unpaired : (ends : List ℕ) → length ends ≤ 1 → paired ends ≡ []
+unpaired [] le = refl
+unpaired (first ∷ []) le = refl
+unpaired (first ∷ last ∷ ends) le = absurd (omega (arith, le))
+
+pub all_taken : (ends : List ℕ) (i : ℕ) (taken : List Bounds) → length ends / 2 ≤ i → taken ++ paired (drop (2 * i) ends) ≡ paired ends →
+    taken ≡ paired ends
+all_taken ends i taken le is =
+    let none : paired (drop (2 * i) ends) ≡ [] = unpaired (drop (2 * i) ends) (omega (arith, le, length-drop (2 * i) ends)) in
+    sym (append-nil taken) ∙ ap (λ rest. taken ++ rest) (sym none) ∙ is
 
 -- ---- rows
 
@@ -62,55 +101,55 @@ packable row h =
 
 -- ---- places, in lists whose lengths are known
 
-abbrev pub is_set_in : List (ℕ × ℕ) → (count from to : ℕ) → Bool
+abbrev pub is_set_in : List ℕ → (count from to : ℕ) → Bool
 is_set_in intervals count from to = are_places count from to && is_canonical_from 0 (set_at intervals from to)
 
-pub set_stands : (intervals : List (ℕ × ℕ)) (count from to : ℕ) → length intervals ≡ count →
+pub set_stands : (intervals : List ℕ) (count from to : ℕ) → length intervals ≡ count →
     IsTrue (is_set_in intervals count from to) → IsTrue (is_set_at intervals from to)
 set_stands intervals count from to is h = subst (λ (n : ℕ). IsTrue (is_set_in intervals n from to)) (sym is) h
 
-drop_none : (b : ℕ) → drop {A = ℕ × ℕ} b [] ≡ []
+drop_none : (b : ℕ) → drop {A = ℕ} b [] ≡ []
 drop_none zero = refl
 drop_none (suc b) = refl
 
-drop_again : (xs : List (ℕ × ℕ)) (a b : ℕ) → drop b (drop a xs) ≡ drop (a + b) xs
+drop_again : (xs : List ℕ) (a b : ℕ) → drop b (drop a xs) ≡ drop (a + b) xs
 drop_again xs zero b = let same : b ≡ 0 + b = omega arith in ap (λ k. drop k xs) same
 drop_again [] (suc a) b = drop_none b ∙ sym (drop_none (suc a + b))
 drop_again (x ∷ xs) (suc a) b =
     let same : suc (a + b) ≡ suc a + b = omega arith in
     drop_again xs a b ∙ ap (λ k. drop k (x ∷ xs)) same
 
-dropped : (xs left : List (ℕ × ℕ)) (at to : ℕ) → at ≤ to → left ≡ drop at xs → drop (to - at) left ≡ drop to xs
+dropped : (xs left : List ℕ) (at to : ℕ) → at ≤ to → left ≡ drop at xs → drop (to - at) left ≡ drop to xs
 dropped xs left at to le is =
     let sum : at + (to - at) ≡ to = omega (arith, le) in
     ap (drop (to - at)) is ∙ drop_again xs at (to - at) ∙ ap (λ k. drop k xs) sum
 
 -- One walk over the intervals: each set stands behind where the one before it begins, or there.
-abbrev pub are_sets_from : (count at : ℕ) → List (ℕ × ℕ) → List (ℕ × ℕ) → Bool
+abbrev pub are_sets_from : (count at : ℕ) → List ℕ → List (ℕ × ℕ) → Bool
 are_sets_from count at left [] = true
 are_sets_from count at left (p ∷ places) =
-    nat_le at p.0 && (are_places count p.0 p.1 && (is_canonical_from 0 (map bounds (take (p.1 - p.0) (drop (p.0 - at) left)))
+    nat_le at p.0 && (are_places count p.0 p.1 && (is_canonical_from 0 (paired (take (p.1 - p.0) (drop (p.0 - at) left)))
     && are_sets_from count p.0 (drop (p.0 - at) left) places))
 
 both : (a b : Bool) → a ≡ true → b ≡ true → (a && b) ≡ true
 both a b x y = rw (x, y)
 
-sets_step : (intervals : List (ℕ × ℕ)) (count at : ℕ) (left : List (ℕ × ℕ)) (p : ℕ × ℕ) (places : List (ℕ × ℕ)) →
+sets_step : (intervals : List ℕ) (count at : ℕ) (left : List ℕ) (p : ℕ × ℕ) (places : List (ℕ × ℕ)) →
     length intervals ≡ count → left ≡ drop at intervals → IsTrue (are_sets_from count at left (p ∷ places)) →
     (drop (p.0 - at) left ≡ drop p.0 intervals → IsTrue (are_sets_from count p.0 (drop (p.0 - at) left) places) →
     All (λ p. IsTrue (is_set_at intervals p.0 p.1)) places) → All (λ p. IsTrue (is_set_at intervals p.0 p.1)) (p ∷ places)
 sets_step intervals count at left p places is here h others =
-    let up : nat_le at p.0 ≡ true = grind (arith, nat_tests, h) in
-    let fit : are_places count p.0 p.1 ≡ true = grind (arith, nat_tests, h) in
-    let canonical : is_canonical_from 0 (map bounds (take (p.1 - p.0) (drop (p.0 - at) left))) ≡ true = grind (arith, nat_tests, h) in
-    let rest : are_sets_from count p.0 (drop (p.0 - at) left) places ≡ true = grind (arith, nat_tests, h) in
+    let first = and_parts (nat_le at p.0) _ h in
+    let second = and_parts (are_places count p.0 p.1) _ first.1 in
+    let third = and_parts (is_canonical_from 0 (paired (take (p.1 - p.0) (drop (p.0 - at) left)))) _ second.1 in
+    let up : nat_le at p.0 ≡ true = first.0 in
     let le : at ≤ p.0 = grind (arith, nat_tests, up) in
     let there : drop (p.0 - at) left ≡ drop p.0 intervals = dropped intervals left at p.0 le here in
-    let set : is_set_in intervals count p.0 p.1 ≡ true = both (are_places count p.0 p.1) _ fit
-    (subst (λ (xs : List (ℕ × ℕ)). is_canonical_from 0 (map bounds (take (p.1 - p.0) xs)) ≡ true) there canonical) in
-    All-cons (λ p. IsTrue (is_set_at intervals p.0 p.1)) p places (set_stands intervals count p.0 p.1 is set) (others there rest)
+    let set : is_set_in intervals count p.0 p.1 ≡ true = both (are_places count p.0 p.1) _ second.0
+    (subst (λ (xs : List ℕ). is_canonical_from 0 (paired (take (p.1 - p.0) xs)) ≡ true) there third.0) in
+    All-cons (λ p. IsTrue (is_set_at intervals p.0 p.1)) p places (set_stands intervals count p.0 p.1 is set) (others there third.1)
 
-sets_from : (intervals : List (ℕ × ℕ)) (count at : ℕ) (left places : List (ℕ × ℕ)) →
+sets_from : (intervals : List ℕ) (count at : ℕ) (left : List ℕ) (places : List (ℕ × ℕ)) →
     length intervals ≡ count → left ≡ drop at intervals → IsTrue (are_sets_from count at left places) →
     All (λ p. IsTrue (is_set_at intervals p.0 p.1)) places
 sets_from intervals count at left [] is here h = All-nil (λ p. IsTrue (is_set_at intervals p.0 p.1))
@@ -118,7 +157,7 @@ sets_from intervals count at left (p ∷ places) is here h =
     sets_step intervals count at left p places is here h (λ there rest.
     sets_from intervals count p.0 (drop (p.0 - at) left) places is there rest)
 
-pub sets_stand : (intervals places : List (ℕ × ℕ)) (count : ℕ) → length intervals ≡ count →
+pub sets_stand : (intervals : List ℕ) (places : List (ℕ × ℕ)) (count : ℕ) → length intervals ≡ count →
     IsTrue (are_sets_from count 0 intervals places) → All (λ p. IsTrue (is_set_at intervals p.0 p.1)) places
 sets_stand intervals places count is h = sets_from intervals count 0 intervals places is refl h
 
@@ -155,7 +194,7 @@ places_at P (n ∷ names) (suc k) d h lt =
 
 -- ---- what sets and strings under names keep
 
-pub canonical_sets : {A : Type 0} (name_of : A → List ℕ) (intervals : List (ℕ × ℕ)) (names : List (A × ℕ × ℕ)) →
+pub canonical_sets : {A : Type 0} (name_of : A → List ℕ) (intervals : List ℕ) (names : List (A × ℕ × ℕ)) →
     AreSets intervals (map (λ n. (n.1, n.2)) names) → HasCanonicalSets (map (λ n. named_set intervals (name_of n.0) n.1 n.2) names)
 canonical_sets name_of intervals [] h = All-nil (λ entry. IsCanonical entry.value)
 canonical_sets name_of intervals (n ∷ names) h =

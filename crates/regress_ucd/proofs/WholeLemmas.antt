@@ -25,7 +25,7 @@ parts_are : (parts : Parts) (folds uppers : List FoldRow) (id_start id_continue 
 parts_are parts folds uppers id_start id_continue general_category script script_extensions binary strings e1 e2 e3 e4 e5 e6 e7 e8 e9 =
     rw (e1, e2, e3, e4, e5, e6, e7, e8, e9)
 
-pub unicode_from : (intervals listed : List (ℕ × ℕ)) (points : List ℕ) →
+pub unicode_from : (intervals : List ℕ) (listed : List (ℕ × ℕ)) (points : List ℕ) →
     intervals ≡ INTERVALS.now → listed ≡ STRINGS.now → points ≡ POINTS.now →
     (folds uppers : List FoldRow) (id_start id_continue : List Bounds)
     (general_category script script_extensions binary : List (String Global × List Bounds))
@@ -54,9 +54,9 @@ unicode_from intervals listed points same strings_same points_same folds uppers 
     (e9 ∙ ap (λ xs. map (λ n. named_strings xs points n.0.now n.1 n.2) STRING_NAMES.now) strings_same
     ∙ ap (λ xs. map (λ n. named_strings STRINGS.now xs n.0.now n.1 n.2) STRING_NAMES.now) points_same)
 
-pub sets_in : (intervals : List (ℕ × ℕ)) → intervals ≡ INTERVALS.now → (places : List (ℕ × ℕ)) → AreSets INTERVALS.now places →
+pub sets_in : (intervals : List ℕ) → intervals ≡ INTERVALS.now → (places : List (ℕ × ℕ)) → AreSets INTERVALS.now places →
     AreSets intervals places
-sets_in intervals same places h = subst (λ (xs : List (ℕ × ℕ)). AreSets xs places) (sym same) h
+sets_in intervals same places h = subst (λ (xs : List ℕ). AreSets xs places) (sym same) h
 
 pub strings_in : (listed : List (ℕ × ℕ)) (points : List ℕ) → listed ≡ STRINGS.now → points ≡ POINTS.now → (places : List (ℕ × ℕ)) →
     AreStrings STRINGS.now POINTS.now places → AreStrings listed points places

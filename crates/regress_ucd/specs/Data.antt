@@ -1,20 +1,22 @@
 -- What the constants say, as plain data.
-use Rattle.std.specs.Prelude.{ℕ, Bool, ◌&&◌, nat_le, IsTrue, List, map, All, length, slice_range, ℤ}
+use Rattle.std.specs.Prelude.{ℕ, Bool, ◌&&◌, nat_le, IsTrue, List, [], ◌∷◌, map, All, length, slice_range, ℤ}
 use Rattle.regress_base.specs.Intervals.{Bounds, is_canonical_from}
 use Rattle.regress_unicode.specs.FoldRows.{FoldRow}
 use Rattle.regress_base.specs.Table.{Named}
 
--- an interval, by its first and its last code point
-abbrev pub bounds : ℕ × ℕ → Bounds
-bounds pair = record { first = pair.0; last = pair.1 }
+-- the intervals whose first and last code points the list has in turn
+abbrev pub paired : List ℕ → List Bounds
+paired [] = []
+paired (first ∷ []) = []
+paired (first ∷ last ∷ ends) = record { first = first; last = last } ∷ paired ends
 
 -- a row of a map of cases, by start, length, delta and modulo
 abbrev pub row : ℕ × ℕ × ℤ × ℕ → FoldRow
 row r = record { start = r.0; length = r.1; delta = r.2; modulo = r.3 }
 
--- the set whose intervals stand from one place up to the other
-abbrev pub set_at : List (ℕ × ℕ) → ℕ → ℕ → List Bounds
-set_at intervals from to = map bounds (slice_range intervals from to)
+-- the set whose intervals have their ends from one place up to the other
+abbrev pub set_at : List ℕ → ℕ → ℕ → List Bounds
+set_at intervals from to = paired (slice_range intervals from to)
 
 -- the string whose code points stand from one place up to the other
 abbrev pub strings_at : List (ℕ × ℕ) → List ℕ → ℕ → ℕ → List (List ℕ)
@@ -25,11 +27,11 @@ abbrev pub are_places : ℕ → ℕ → ℕ → Bool
 are_places count from to = nat_le from to && nat_le to count
 
 -- whether a canonical set stands there
-abbrev pub is_set_at : List (ℕ × ℕ) → ℕ → ℕ → Bool
+abbrev pub is_set_at : List ℕ → ℕ → ℕ → Bool
 is_set_at intervals from to = are_places (length intervals) from to && is_canonical_from 0 (set_at intervals from to)
 
 -- a set under a name
-abbrev pub named_set : List (ℕ × ℕ) → List ℕ → ℕ → ℕ → Named (List Bounds)
+abbrev pub named_set : List ℕ → List ℕ → ℕ → ℕ → Named (List Bounds)
 named_set intervals name from to = record { name = name; value = set_at intervals from to }
 
 -- strings under a name
@@ -42,7 +44,7 @@ pub record AreStringsAt (listed : List (ℕ × ℕ)) (code_points : List ℕ) (f
   pub points : All (λ place. IsTrue (are_places (length code_points) place.0 place.1)) (slice_range listed from to)
 
 -- a canonical set stands at each of the places
-abbrev pub AreSets : List (ℕ × ℕ) → List (ℕ × ℕ) → Type 0
+abbrev pub AreSets : List ℕ → List (ℕ × ℕ) → Type 0
 AreSets intervals places = All (λ p. IsTrue (is_set_at intervals p.0 p.1)) places
 
 -- strings stand at each of the places

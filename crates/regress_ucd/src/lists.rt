@@ -4,8 +4,8 @@ ghost use Rattle.std.specs.Prelude.{◌≡◌};
 use super::intervals::INTERVALS;
 use super::strings::{POINTS, STRINGS};
 
-/// The intervals of all sets.
-pub(super) fn intervals() -> &'static [(u32, u32)]
+/// The first and last code points of the intervals of all sets.
+pub(super) fn intervals() -> &'static [u32]
     ensures { result.now ≡ INTERVALS.now }
 {
     INTERVALS

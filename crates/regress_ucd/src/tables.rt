@@ -3,7 +3,7 @@ ghost use Rattle.std.specs.Prelude.{◌≡◌, ◌++◌, All, IfOk, map, IsTrue,
 ghost use Rattle.regress_base.specs.Intervals.{IsCanonical, IsInterval};
 ghost use Rattle.regress_unicode.specs.FoldRows.{IsPackableRow};
 ghost use Rattle.regress_unicode.specs.Parts.{sets_of, strings_of};
-ghost use Rattle.regress_ucd.specs.Data.{bounds, row, set_at, strings_at, is_set_at, are_places, AreStringsAt, AreSets, AreStrings, named_set, named_strings};
+ghost use Rattle.regress_ucd.specs.Data.{paired, row, set_at, strings_at, is_set_at, are_places, AreStringsAt, AreSets, AreStrings, named_set, named_strings};
 
 use regress_base::codepointset::{CodePointSet, Interval};
 use regress_unicode::FoldRange;
@@ -23,31 +23,33 @@ pub(super) fn rows(
         .collect(alloc)
 }
 
-/// The intervals with these ends.
-fn intervals(alloc: Global, pairs: &[(u32, u32)]) -> Result<Vec<Interval>, AllocError>
-    requires { All (λ p. IsInterval (bounds p)) pairs.now }
-    ensures { IfOk result (λ intervals. intervals.items ≡ map bounds pairs.now) }
+/// The intervals with these ends, which are first and last code points in turn.
+fn intervals(alloc: Global, ends: &[u32]) -> Result<Vec<Interval>, AllocError>
+    requires { All IsInterval (paired ends.now) }
+    ensures { IfOk result (λ intervals. intervals.items ≡ paired ends.now) }
 {
-    pairs
-        .iter()
-        .map(|(first, last)| Interval::new(*first, *last))
-        .collect(alloc)
+    let count = ends.len() / 2;
+    let mut intervals = Vec::with_capacity(alloc, count)?;
+    for index in 0..count {
+        intervals.push(Interval::new(ends[2 * index], ends[2 * index + 1]))?;
+    }
+    Ok(intervals)
 }
 
 /// The set with these intervals.
 #[tactic(auto, using(crate::proofs::DataLemmas::canonical_intervals))]
-fn set(alloc: Global, pairs: &[(u32, u32)]) -> Result<CodePointSet, AllocError>
-    requires { IsCanonical (map bounds pairs.now) }
-    ensures { IfOk result (λ set. set ≡ map bounds pairs.now) }
+fn set(alloc: Global, ends: &[u32]) -> Result<CodePointSet, AllocError>
+    requires { IsCanonical (paired ends.now) }
+    ensures { IfOk result (λ set. set ≡ paired ends.now) }
 {
-    let intervals = intervals(alloc, pairs)?;
+    let intervals = intervals(alloc, ends)?;
     Ok(CodePointSet::from_sorted_disjoint_intervals(intervals))
 }
 
-/// The set whose intervals stand from one place up to the other.
+/// The set whose intervals have their ends from one place up to the other.
 pub(super) fn set_at(
     alloc: Global,
-    intervals: &[(u32, u32)],
+    intervals: &[u32],
     from: usize,
     to: usize,
 ) -> Result<CodePointSet, AllocError>
@@ -60,7 +62,7 @@ pub(super) fn set_at(
 /// The sets of these names.
 pub(super) fn named_sets(
     alloc: Global,
-    intervals: &[(u32, u32)],
+    intervals: &[u32],
     names: &[(&str, usize, usize)],
 ) -> Result<Vec<(String, CodePointSet)>, AllocError>
     requires { AreSets intervals.now (map (λ n. (n.1, n.2)) names.now) }
@@ -80,7 +82,7 @@ pub(super) fn named_sets(
 /// The sets of these names, and those of the rest of them.
 pub(super) fn all_named_sets(
     alloc: Global,
-    intervals: &[(u32, u32)],
+    intervals: &[u32],
     names: &[(&str, usize, usize)],
     rest: &[(&str, usize, usize)],
 ) -> Result<Vec<(String, CodePointSet)>, AllocError>

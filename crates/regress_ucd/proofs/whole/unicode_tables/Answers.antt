@@ -17,11 +17,11 @@ rows-requires-2 c = uppers
 
 pub set_at-requires : goal.set_at-requires
 set_at-requires c =
-    subst (λ (xs : List (ℕ × ℕ)). IsTrue (is_set_at xs ID_START.0 ID_START.1)) (sym c.intervals-intervals.ensures) id_start
+    subst (λ (xs : List ℕ). IsTrue (is_set_at xs ID_START.0 ID_START.1)) (sym c.intervals-intervals.ensures) id_start
 
 pub set_at-requires-2 : goal.set_at-requires-2
 set_at-requires-2 c =
-    subst (λ (xs : List (ℕ × ℕ)). IsTrue (is_set_at xs ID_CONTINUE.0 ID_CONTINUE.1)) (sym c.intervals-intervals.ensures) id_continue
+    subst (λ (xs : List ℕ). IsTrue (is_set_at xs ID_CONTINUE.0 ID_CONTINUE.1)) (sym c.intervals-intervals.ensures) id_continue
 
 pub named_sets-requires : goal.named_sets-requires
 named_sets-requires c = sets_in _ c.intervals-intervals.ensures (map (λ n. (n.1, n.2)) GENERAL_CATEGORY.now) general_category

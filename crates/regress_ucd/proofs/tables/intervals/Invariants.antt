@@ -1,0 +1,10 @@
+-- The intervals of the pairs taken so far, and what is left of the ends.
+use Rattle.std.proofs.Common.{◌≡◌, ◌++◌, ◌*◌, All, drop}
+use Rattle.regress_base.specs.Intervals.{IsInterval}
+use Rattle.regress_ucd.specs.Data.{paired}
+use Rattle.regress_ucd.proofs.tables.intervals.Given as goal
+
+abbrev pub invariant-loop-index : goal.invariant-loop-index
+invariant-loop-index l =
+    (l.intervals.items ++ paired (drop (2 * l.index) l.ends) ≡ paired l.ends)
+    × All IsInterval (paired (drop (2 * l.index) l.ends))
