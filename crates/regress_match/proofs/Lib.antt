@@ -7,3 +7,5 @@ pub mod ReadingLemmas
 pub mod RunLemmas
 pub mod LeafLemmas
 pub mod BetweenLemmas
+pub mod TurnLemmas
+pub mod SingleLemmas

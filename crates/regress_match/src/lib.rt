@@ -9,6 +9,7 @@ pub mod matching;
 mod reading;
 mod rules;
 mod run;
+mod single;
 mod visits;
 
 pub use matching::{Match, Outcome, match_at};
