@@ -9,3 +9,4 @@ pub mod LeafLemmas
 pub mod BetweenLemmas
 pub mod TurnLemmas
 pub mod SingleLemmas
+pub mod FrontLemmas

@@ -33,7 +33,7 @@ read_parts (Some c) k read e =
     let same : c ≡ read.character = ap character_or e in
     (ap Some same, sym (ap (place_or 0) e) ∙ ap (λ x. k + len_utf8 x) same)
 
-after_parts : (bytes : List ℕ) (k : ℕ) (read : Read) → read_after bytes k ≡ Some read →
+pub after_parts : (bytes : List ℕ) (k : ℕ) (read : Read) → read_after bytes k ≡ Some read →
     (character_at bytes k ≡ Some read.character) × (read.place ≡ k + len_utf8 read.character)
 unfolding read_after
 after_parts bytes k read e = read_parts (character_at bytes k) k read e

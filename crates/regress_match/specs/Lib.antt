@@ -4,3 +4,4 @@ pub mod Leaves
 pub mod Turns
 pub mod Machine
 pub mod Matched
+pub mod Fronts

@@ -3,6 +3,7 @@
 
 mod captures;
 mod characters;
+mod fronts;
 mod leaves;
 mod machine;
 pub mod matching;
@@ -12,4 +13,5 @@ mod run;
 mod single;
 mod visits;
 
+pub use fronts::{first_bytes, next_candidate};
 pub use matching::{Match, Outcome, match_at};
