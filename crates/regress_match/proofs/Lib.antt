@@ -7,3 +7,6 @@ pub mod ReadingLemmas
 pub mod RunLemmas
 pub mod LeafLemmas
 pub mod BetweenLemmas
+pub mod TurnLemmas
+pub mod SingleLemmas
+pub mod FrontLemmas

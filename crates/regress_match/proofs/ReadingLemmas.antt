@@ -35,7 +35,7 @@ first_leads c rest high =
     lead (ltb c 128) (ltb c 2048) (ltb c 65536) c _ _ _ rest (192 + c / 64) (224 + c / 4096) (240 + c / 262144) (ltb-true c 128)
     (omega arith) (omega arith) (omega arith) high
 
-first_of_drop : (bytes : List ℕ) (k : ℕ) → get_or (drop k bytes) 0 0 ≡ get_or bytes k 0
+pub first_of_drop : (bytes : List ℕ) (k : ℕ) → get_or (drop k bytes) 0 0 ≡ get_or bytes k 0
 first_of_drop [] zero = refl
 first_of_drop [] (suc k) = refl
 first_of_drop (b ∷ bytes) zero = refl

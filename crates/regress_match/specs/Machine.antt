@@ -11,6 +11,7 @@ use Rattle.regress_tree.specs.Strings.{any_string}
 use Rattle.regress_tree.specs.Tree.{tree, trees}
 use Rattle.regress_match.specs.Captures.{undone, state, Later}
 use Rattle.regress_match.specs.Subject.{Subject, direction_of}
+use Rattle.regress_match.specs.Turns.{giving_back, taking_more}
 use Rattle.regress_match.specs.declared.captures.Captures.{Captures}
 use Rattle.regress_match.specs.declared.machine.Answer.{Answer}
 use Rattle.regress_match.specs.declared.machine.Answer.TheVariants as answers
@@ -64,6 +65,8 @@ module _ (u : Subject) where
   what_step (whats.Turns r left) = turns left (turn_of r) then_ more_of r
   what_step (whats.Turn r) = moving (turn_of r) then_ more_of r
   what_step (whats.Moved r entry) = λ s. if s.place == entry then [] else more_of r s
+  what_step (whats.GiveBack stop) = giving_back u.direction u.bytes stop
+  what_step (whats.TakeMore node) = taking_more u.direction u.bytes (tree node.now)
 
   abbrev pub choose : List Step → ℕ → Step
   choose [] i = stay

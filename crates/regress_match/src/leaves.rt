@@ -7,12 +7,13 @@ ghost use Rattle.regress_tree.specs.Assertions.{at_anchor, at_boundary, is_line_
 ghost use Rattle.regress_tree.specs.Matching.{steps};
 ghost use Rattle.regress_tree.specs.Reading.{backwards, forwards, of_bytes};
 ghost use Rattle.regress_tree.specs.References.{all_of, back_reference, in_order, characters_from};
-ghost use Rattle.regress_tree.specs.Steps.{State, these_bytes, one_character};
+ghost use Rattle.regress_tree.specs.Steps.{State, these_bytes};
 ghost use Rattle.regress_tree.specs.Tree.{tree};
 ghost use Rattle.regress_unicode.specs.TableOf.{table_of};
 ghost use Rattle.regress_match.specs.Captures.{state};
 ghost use Rattle.regress_match.specs.Leaves.{put, read_of, takes_one, test_of, has_one_outcome};
 ghost use Rattle.regress_match.specs.Subject.{subject, direction_of};
+ghost use Rattle.regress_match.specs.Turns.{one_of};
 
 use crate::captures::Captures;
 use crate::characters::{is_line_terminator, is_word_character, stands_for};
@@ -115,16 +116,30 @@ fn stands_at(bytes: &[u8], written: &[u8], place: usize) -> bool
 
 /// Where a leaf that takes one character goes.
 pub fn one_character(text: &str, rules: Rules<'_>, node: &Node, place: usize) -> Option<usize>
-    ensures { (s : State) → s.place ≡ place → takes_one (tree node.now) ≡ true →
-        put s result ≡ one_character (direction_of rules.entry.backwards) (of_bytes text.now) (test_of (tree node.now)) s }
+    ensures { (s : State) → s.place ≡ place → put s result ≡ one_of (direction_of rules.entry.backwards) text.now (tree node.now) s }
 {
     let (c, to) = next_read(text, rules.backwards, place)?;
     if accepts(node, c) { Some(to) } else { None }
 }
 
-/// Whether a leaf that takes one character takes this one.
+/// Whether it is a leaf that takes one character.
+pub fn takes_one(node: &Node) -> bool
+    ensures { result ≡ takes_one (tree node.now) }
+{
+    matches!(
+        node,
+        Node::Char { .. }
+            | Node::ByteSet(_)
+            | Node::CharSet(_)
+            | Node::MatchAny
+            | Node::MatchAnyExceptLineTerminator
+            | Node::Bracket(_)
+    )
+}
+
+/// Whether a leaf that takes one character takes this one, and no other node does.
 fn accepts(node: &Node, c: u32) -> bool
-    ensures { takes_one (tree node.now) ≡ true → result ≡ test_of (tree node.now) c }
+    ensures { result ≡ test_of (tree node.now) c }
 {
     match node {
         Node::Char { c: literal } => c == *literal,

@@ -3,12 +3,15 @@
 
 mod captures;
 mod characters;
+mod fronts;
 mod leaves;
 mod machine;
 pub mod matching;
 mod reading;
 mod rules;
 mod run;
+mod single;
 mod visits;
 
+pub use fronts::{first_bytes, next_candidate};
 pub use matching::{Match, Outcome, match_at};

@@ -37,6 +37,10 @@ pub enum What<'a> {
     Turn(Repeat<'a>),
     /// A turn began at this place. If it has moved, others may follow.
     Moved(Repeat<'a>, usize),
+    /// A loop over one character has come here. It may stop here, or after fewer turns down to this place.
+    GiveBack(usize),
+    /// One more turn of a loop over this one character, which has no greatest number of them.
+    TakeMore(&'a Node),
 }
 
 /// What is to be done, and what after it: a task of the list, counted from 1, or nothing.

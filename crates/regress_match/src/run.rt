@@ -45,7 +45,16 @@ pub fn run(
         }
         *budget -= 1;
         let here = machine.tasks[task - 1];
-        let next = step(alloc, text, rules, here, place, &mut machine, captures)?;
+        let next = step(
+            alloc,
+            text,
+            rules,
+            here,
+            task,
+            place,
+            &mut machine,
+            captures,
+        )?;
         match settle(alloc, text, rules, next, captures, budget)? {
             Settled::On(to, with) => {
                 place = to;

@@ -8,27 +8,31 @@ ghost use Rattle.regress_tree.specs.Steps.{stay, capture, ◌then_◌, ◌or_◌
 ghost use Rattle.regress_tree.specs.Tree.{tree, trees};
 ghost use Rattle.regress_match.specs.Captures.{state};
 ghost use Rattle.regress_match.specs.Leaves.{put};
-ghost use Rattle.regress_match.specs.Machine.{Continues, Does, IsMachine, onward, what_step, turn_of, more_of};
+ghost use Rattle.regress_match.specs.Machine.{Continues, Does, IsMachine, Pushed, onward, what_step, turn_of, more_of};
 ghost use Rattle.regress_match.specs.Subject.{Subject, subject};
 
 use crate::captures::Captures;
 use crate::leaves::{all_of, leaf};
 use crate::machine::{Looking, Machine, Next, Repeat, Task, What};
 use crate::rules::Rules;
+use crate::single::{give_back, is_single, single, take_more};
 use regress_tree::ir::{Node, Quantifier};
 use std::alloc::{AllocError, Global};
 use std::boxed::BoxedSlice;
 
-/// Does a task.
+/// Does a task, the one of that number.
 pub fn step<'a>(
     alloc: Global,
     text: &str,
     rules: Rules<'_>,
     task: Task<'a>,
+    number: usize,
     place: usize,
     machine: &mut Machine<'a>,
     captures: &mut Captures,
 ) -> Result<Next<'a>, AllocError>
+    requires { let u = subject rules text.now in
+        Pushed u machine.old machine.old (what_step u task.what) task.next number }
     ensures { IfOk result (let u = subject rules.entry text.now in
         Does u (what_step u task.entry.what) machine.old captures.old place task.entry.next machine.new captures.new) }
 {
@@ -60,6 +64,12 @@ pub fn step<'a>(
                 more(repeat, place, task.next, machine, captures)
             }
         }
+        What::GiveBack(stop) => give_back(
+            text, rules, stop, number, place, task.next, machine, captures,
+        ),
+        What::TakeMore(body) => take_more(
+            text, rules, body, number, place, task.next, machine, captures,
+        ),
     }
 }
 
@@ -93,7 +103,9 @@ fn visit<'a>(
                 greedy: quant.greedy,
                 more: more_turns(text.len() + 1, quant),
             };
-            turns(repeat, quant.min, place, next, machine, captures)
+            repetition(
+                text, rules, repeat, quant.min, place, next, machine, captures,
+            )
         }
         Node::Loop1CharBody { loopee, quant } => {
             let repeat = Repeat {
@@ -103,7 +115,9 @@ fn visit<'a>(
                 greedy: quant.greedy,
                 more: more_turns(text.len() + 1, quant),
             };
-            turns(repeat, quant.min, place, next, machine, captures)
+            repetition(
+                text, rules, repeat, quant.min, place, next, machine, captures,
+            )
         }
         Node::LookaroundAssertion {
             negate,
@@ -142,6 +156,27 @@ fn go<'a>(to: Option<usize>, next: usize) -> Next<'a>
     match to {
         Some(place) => Next::Go(place, next),
         None => Next::Back,
+    }
+}
+
+/// Matches a loop: over one character by counting, and any other turn by turn.
+fn repetition<'a>(
+    text: &str,
+    rules: Rules<'_>,
+    repeat: Repeat<'a>,
+    least: usize,
+    place: usize,
+    next: usize,
+    machine: &mut Machine<'a>,
+    captures: &mut Captures,
+) -> Result<Next<'a>, AllocError>
+    ensures { IfOk result (let u = subject rules.entry text.now in
+        Does u (what_step u (What.Turns repeat.entry least)) machine.old captures.old place next machine.new captures.new) }
+{
+    if is_single(text, repeat) {
+        single(text, rules, repeat, least, place, next, machine, captures)
+    } else {
+        turns(repeat, least, place, next, machine, captures)
     }
 }
 

@@ -45,4 +45,4 @@ returns-in_default c = λ one.
     let d = direction_of c.args.rules.backwards in
     let s = state c.args.captures.now c.args.place in
     let takes : takes_one (tree c.args.node.now) ≡ true = first_of (search (rules, the_lemmas), grind (arith, the_lemmas, one)) in
-    takes_one-steps setting bytes d (tree c.args.node.now) s takes ∙ sym (c.one_character.ensures s refl takes)
+    takes_one-steps setting bytes d (tree c.args.node.now) s takes ∙ sym (c.one_character.ensures s refl)

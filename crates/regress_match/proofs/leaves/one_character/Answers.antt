@@ -8,7 +8,7 @@ use Rattle.regress_match.proofs.LeafLemmas.{one_none, one_yes, one_no}
 use Rattle.regress_match.proofs.leaves.one_character.Goals as goal
 
 pub returns-in_err-c : goal.returns-in_err-c
-returns-in_err-c c = λ s at takes.
+returns-in_err-c c = λ s at.
     let d = direction_of c.args.rules.backwards in
     let r = of_bytes c.args.text.now in
     let none : next_character d r s.place ≡ None =
@@ -16,19 +16,19 @@ returns-in_err-c c = λ s at takes.
     rw c.from_residual.ensures (sym (one_none d r (test_of (tree c.args.node.now)) s none))
 
 pub returns-then-accepts : goal.returns-then-accepts
-returns-then-accepts c = λ s at takes.
+returns-then-accepts c = λ s at.
     let d = direction_of c.args.rules.backwards in
     let r = of_bytes c.args.text.now in
     let read = read_of (c.in_ok-c.c, c.in_ok-c.to) in
     let some : next_character d r s.place ≡ Some read =
     ap (next_character d r) at ∙ sym c.next_read.ensures ∙ ap (option_map read_of) c.in_ok-c.was in
-    sym (one_yes d r (test_of (tree c.args.node.now)) s read some (sym (c.accepts.ensures takes) ∙ c.if-accepts.true))
+    sym (one_yes d r (test_of (tree c.args.node.now)) s read some (sym (c.accepts.ensures) ∙ c.if-accepts.true))
 
 pub returns-else-accepts : goal.returns-else-accepts
-returns-else-accepts c = λ s at takes.
+returns-else-accepts c = λ s at.
     let d = direction_of c.args.rules.backwards in
     let r = of_bytes c.args.text.now in
     let read = read_of (c.in_ok-c.c, c.in_ok-c.to) in
     let some : next_character d r s.place ≡ Some read =
     ap (next_character d r) at ∙ sym c.next_read.ensures ∙ ap (option_map read_of) c.in_ok-c.was in
-    sym (one_no d r (test_of (tree c.args.node.now)) s read some (sym (c.accepts.ensures takes) ∙ c.if-accepts.false))
+    sym (one_no d r (test_of (tree c.args.node.now)) s read some (sym (c.accepts.ensures) ∙ c.if-accepts.false))

@@ -9,6 +9,7 @@ use Rattle.regress_match.specs.Subject.{subject, direction_of}
 use Rattle.regress_match.specs.declared.machine.Machine.{Machine}
 use Rattle.regress_match.proofs.CaptureLemmas.{Later-refl, undone-nil, undone-all}
 use Rattle.regress_match.proofs.RunLemmas.{begins, task_done, ends_at, look_holds, look_fails, looked_first, looked_first_negated, looked_none, looked_none_negated, rewound, rewound_trail, ok_always}
+use Rattle.regress_match.proofs.SingleLemmas.{stands}
 use Rattle.regress_match.proofs.run.+run.Goals as goal
 use Rattle.regress_match.proofs.run.+run.Goals.{look-then-looking, look-else-looking, look-then-looking-2, look-else-looking-2}
 
@@ -178,3 +179,9 @@ pub settle-returns-in-Fails-clause-settles : goal.settle-returns-in-Fails-clause
 settle-returns-in-Fails-clause-settles t c = λ outcomes m goes.
     look_fails (subject c.args.rules c.args.text.now) outcomes m c.args.captures.now c.look.new.captures c.in-Look.looking (rw c.in-Look.is at goes)
     c.in_ok-look-in-Look.ensures.later (rw c.in-Fails.is at c.in_ok-look-in-Look.ensures.looks)
+
+pub run-step-requires : goal.run-step-requires
+run-step-requires t c =
+    let so_far = c.loop-budget.invariant in
+    stands (subject c.args.rules c.args.text.now) c.loop-budget.machine c.loop-budget.captures c.loop-budget.task c.index-here.result.now
+    so_far.machine (omega (arith, c.if-task-eq0.false)) so_far.task c.index-here.ensures

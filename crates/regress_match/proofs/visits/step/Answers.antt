@@ -67,3 +67,16 @@ returns-else-place-entry c =
     does_same u _ _ m captures place next c.more.new.machine c.more.new.captures to
     (ap (λ w. what_step u w s) c.in-Moved.is ∙ moved_on u c.in-Moved.repeat c.in-Moved.entry s c.if-place-entry.false) (does u))
     c.more.ensures
+
+pub returns-in-Row : goal.returns-in-Row
+returns-in-Row c =
+    let u = subject c.args.rules c.args.text.now in
+    let m = c.args.machine.now in
+    let captures = c.args.captures.now in
+    let place = c.args.place in
+    let next = c.args.task.next in
+    let s = state captures place in
+    ok_map c.row.result
+    (λ to does.
+    does_same u _ _ m captures place next c.row.new.machine captures to (ap (λ w. what_step u w s) c.in-Row.is) (does u captures))
+    c.row.ensures

@@ -68,14 +68,14 @@ returns-in-Loop c =
       greedy = l.quant.greedy;
       more = c.more_turns.result;
     } in
-    ok_map c.turns.result
+    ok_map c.repetition.result
     (λ to does.
-    does_same u _ _ m captures c.args.place c.args.next c.turns.new.machine c.turns.new.captures to
+    does_same u _ _ m captures c.args.place c.args.next c.repetition.new.machine c.repetition.new.captures to
     (ap (λ t. steps u.setting u.bytes u.direction t s) (ap tree l.is ∙ tree-Loop l.loopee l.quant l.enclosed_groups)
     ∙ loop_is u r l.quant l.enclosed_groups.start l.enclosed_groups.end (tree l.loopee.value) s (ap tree c.deref-in-Loop.ensures)
     c.from.ensures c.from-in-Loop.ensures refl c.more_turns.ensures)
-    (does u))
-    c.turns.ensures
+    does)
+    c.repetition.ensures
 
 pub returns-in-Loop1CharBody : goal.returns-in-Loop1CharBody
 returns-in-Loop1CharBody c =
@@ -91,13 +91,13 @@ returns-in-Loop1CharBody c =
       greedy = l.quant.greedy;
       more = c.more_turns-in-Loop1CharBody.result;
     } in
-    ok_map c.turns-in-Loop1CharBody.result
+    ok_map c.repetition-in-Loop1CharBody.result
     (λ to does.
-    does_same u _ _ m captures c.args.place c.args.next c.turns-in-Loop1CharBody.new.machine c.turns-in-Loop1CharBody.new.captures to
+    does_same u _ _ m captures c.args.place c.args.next c.repetition-in-Loop1CharBody.new.machine c.repetition-in-Loop1CharBody.new.captures to
     (ap (λ t. steps u.setting u.bytes u.direction t s) (ap tree l.is ∙ tree-Loop1CharBody l.loopee l.quant)
     ∙ loop_is u r l.quant 0 0 (tree l.loopee.value) s (ap tree c.deref-in-Loop1CharBody.ensures) refl refl refl c.more_turns-in-Loop1CharBody.ensures)
-    (does u))
-    c.turns-in-Loop1CharBody.ensures
+    does)
+    c.repetition-in-Loop1CharBody.ensures
 
 pub returns-in-LookaroundAssertion : goal.returns-in-LookaroundAssertion
 returns-in-LookaroundAssertion c =

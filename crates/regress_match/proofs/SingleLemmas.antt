@@ -1,0 +1,125 @@
+-- Tasks of loops over one character.
+use Rattle.std.proofs.Common.{◌≡◌, ◌⊎◌, inl, inr, ℕ, ◌+◌, ◌-◌, ◌≤◌, ◌<◌, Bool, true, false, not, [], ◌∷◌, ◌++◌, flat_map, length, Option, Some, None, refl, sym, ap, ap₂, ◌∙◌, arith, append_assoc, append-nil, slice_index_or}
+use mathlib.Core.Path.{fun_ext}
+use Rattle.regress_tree.specs.Matching.{steps}
+use Rattle.regress_tree.specs.Repetition.{turns, up_to}
+use Rattle.regress_tree.specs.Steps.{State, Step}
+use Rattle.regress_tree.specs.Tree.{tree}
+use Rattle.regress_tree.proofs.laws.Groups.{turn-none}
+use Rattle.regress_match.specs.Captures.{state}
+use Rattle.regress_match.specs.Leaves.{put, takes_one}
+use Rattle.regress_match.specs.Machine.{what_step, turn_of, todo, waiting, IsMachine, onward, Pushed, Chosen, Does}
+use Rattle.regress_match.specs.Subject.{Subject, direction_of}
+use Rattle.regress_match.specs.Turns.{opposite, one_of, giving_back}
+use Rattle.regress_match.specs.declared.captures.Captures.{Captures}
+use Rattle.regress_match.specs.declared.machine.Machine.{Machine}
+use Rattle.regress_match.specs.declared.machine.Next.TheVariants as nexts
+use Rattle.regress_match.specs.declared.machine.Repeat.{Repeat}
+use Rattle.regress_match.specs.declared.machine.Task.{Task}
+use Rattle.regress_match.specs.declared.machine.What.TheVariants as whats
+use Rattle.regress_match.proofs.CaptureLemmas.{Later-refl}
+use Rattle.regress_match.proofs.LeafLemmas.{takes_one-steps}
+use Rattle.regress_match.proofs.MachineLemmas.{todo-at}
+use Rattle.regress_match.proofs.TurnLemmas.{lazy_begin}
+
+turn-single : (u : Subject) (r : Repeat) → takes_one (tree r.body.now) ≡ true → r.end ≤ r.start →
+    turn_of u r ≡ one_of u.direction u.bytes (tree r.body.now)
+turn-single u r takes ends =
+    turn-none r.start r.end ends (steps u.setting u.bytes u.direction (tree r.body.now))
+    ∙ fun_ext (λ s. takes_one-steps u.setting u.bytes u.direction (tree r.body.now) s takes)
+
+-- such a loop, by its one character and what its least number of turns comes to
+pub loop_single : (u : Subject) (r : Repeat) (least : ℕ) (s : State) (to : Option ℕ) → takes_one (tree r.body.now) ≡ true → r.end ≤ r.start →
+    turns least (one_of u.direction u.bytes (tree r.body.now)) s ≡ put s to →
+    what_step u (whats.Turns r least) s ≡ flat_map (up_to r.greedy r.more (one_of u.direction u.bytes (tree r.body.now))) (put s to)
+loop_single u r least s to takes ends least-is =
+    ap (λ (T : Step). flat_map (up_to r.greedy r.more T) (turns least T s)) (turn-single u r takes ends)
+    ∙ ap (flat_map (up_to r.greedy r.more (one_of u.direction u.bytes (tree r.body.now)))) least-is
+
+pub loop_short : (u : Subject) (r : Repeat) (least : ℕ) (s : State) (to : Option ℕ) → takes_one (tree r.body.now) ≡ true → r.end ≤ r.start →
+    turns least (one_of u.direction u.bytes (tree r.body.now)) s ≡ put s to → to ≡ None → what_step u (whats.Turns r least) s ≡ []
+loop_short u r least s to takes ends least-is none =
+    loop_single u r least s to takes ends least-is
+    ∙ ap (λ o. flat_map (up_to r.greedy r.more (one_of u.direction u.bytes (tree r.body.now))) (put s o)) none
+
+pub loop_greedy : (u : Subject) (r : Repeat) (least : ℕ) (s : State) (to : Option ℕ) (start end : ℕ) → takes_one (tree r.body.now) ≡ true → r.end ≤ r.start →
+    turns least (one_of u.direction u.bytes (tree r.body.now)) s ≡ put s to → to ≡ Some start → r.greedy ≡ true →
+    up_to true r.more (one_of u.direction u.bytes (tree r.body.now)) (record s { place = start })
+    ≡ giving_back u.direction u.bytes start (record s { place = end }) →
+    what_step u (whats.Turns r least) s ≡ what_step u (whats.GiveBack start) (record s { place = end })
+loop_greedy u r least s to start end takes ends least-is some greedy far =
+    let C = one_of u.direction u.bytes (tree r.body.now) in
+    loop_single u r least s to takes ends least-is
+    ∙ ap (λ o. flat_map (up_to r.greedy r.more C) (put s o)) some
+    ∙ append-nil (up_to r.greedy r.more C (record s { place = start }))
+    ∙ ap (λ (b : Bool). up_to b r.more C (record s { place = start })) greedy ∙ far
+
+more-bound : (b : Bool) (n m : ℕ) → b ≡ false → (b ≡ true) ⊎ (n < m) → n < m
+more-bound b n m lazy (inl greedy) = let bad : ⊥ = cc in absurd bad
+more-bound b n m lazy (inr lt) = lt
+
+pub loop_lazy : (u : Subject) (r : Repeat) (least : ℕ) (s : State) (to : Option ℕ) (start : ℕ) → takes_one (tree r.body.now) ≡ true → r.end ≤ r.start →
+    turns least (one_of u.direction u.bytes (tree r.body.now)) s ≡ put s to → to ≡ Some start → r.greedy ≡ false →
+    (r.greedy ≡ true) ⊎ (length u.bytes < r.more) →
+    what_step u (whats.Turns r least) s ≡ record s { place = start } ∷ what_step u (whats.TakeMore r.body) (record s { place = start })
+loop_lazy u r least s to start takes ends least-is some lazy bound =
+    let C = one_of u.direction u.bytes (tree r.body.now) in
+    loop_single u r least s to takes ends least-is
+    ∙ ap (λ o. flat_map (up_to r.greedy r.more C) (put s o)) some
+    ∙ append-nil (up_to r.greedy r.more C (record s { place = start }))
+    ∙ ap (λ (b : Bool). up_to b r.more C (record s { place = start })) lazy
+    ∙ lazy_begin u.bytes u.direction (tree r.body.now) r.more (record s { place = start }) (more-bound r.greedy (length u.bytes) r.more lazy bound)
+
+pub turned_round : (b : Bool) → direction_of (not b) ≡ opposite (direction_of b)
+turned_round true = refl
+turned_round false = refl
+
+-- A task was pushed, to be done from another place.
+pub goes_pushed_to : (u : Subject) (f g : Step) (m m' : Machine) (c : Captures) (place next task to : ℕ) →
+    (next ≤ length m.tasks.items → Pushed u m m' g next task) → f (state c place) ≡ g (state c to) →
+    Does u f m c place next m' c (nexts.Go to task)
+goes_pushed_to u f g m m' c place next task to pushes same = record {
+  continues = λ le machine.
+      let pushed = pushes le in (
+        pushed.machine c machine,
+        pushed.fits,
+        ap (λ states. onward u m c next states) same
+            ∙ ap₂ ◌++◌ (ap (λ h. h (state c to)) (sym pushed.does)) (sym (pushed.waits c machine)),
+      );
+  later = Later-refl c;
+}
+
+-- On from one place, and else a task from another place.
+pub does_or_at : (u : Subject) (f g : Step) (m m' m'' : Machine) (c : Captures) (place next task to at : ℕ) →
+    (next ≤ length m.tasks.items → Pushed u m m' f next task) → (task ≤ length m'.tasks.items → Chosen u m' m'' c at task) →
+    g (state c place) ≡ state c to ∷ f (state c at) → Does u g m c place next m'' c (nexts.Go to next)
+does_or_at u f g m m' m'' c place next task to at pushes chose same = record {
+  continues = λ le machine.
+      let pushed = pushes le in
+      let choice = chose pushed.fits in
+      let T = todo u m.tasks.items next in
+      let same-todo : todo u m''.tasks.items next ≡ T = ap (λ ts. todo u ts next) choice.same ∙ pushed.others next le in (
+        choice.machine (pushed.machine c machine),
+        omega (arith, le, pushed.grown, ap length choice.same),
+        ap (λ states. onward u m c next states) same
+            ∙ append_assoc (T (state c to)) (flat_map T (f (state c at))) (waiting u m c)
+            ∙ ap₂ ◌++◌ (ap (λ h. h (state c to)) (sym same-todo))
+            (ap₂ ◌++◌ (ap (λ h. h (state c at)) (sym pushed.does)) (sym (pushed.waits c machine)) ∙ sym choice.waits),
+      );
+  later = Later-refl c;
+}
+
+-- A task that stands in the list is as if it had been pushed.
+pub stands : (u : Subject) (m : Machine) (c : Captures) (task : ℕ) (t : Task) → IsMachine m c → 1 ≤ task → task ≤ length m.tasks.items →
+    t ≡ slice_index_or m.tasks.items (task - 1) t → Pushed u m m (what_step u t.what) t.next task
+stands u m c task t is some within at =
+    let found = todo-at u m.tasks.items (task - 1) t is.linked (omega (arith, some, within)) at in
+    let number : task ≡ task - 1 + 1 = omega (arith, some) in
+    record {
+      fits = within;
+      grown = omega arith;
+      does = ap (todo u m.tasks.items) number ∙ found.1;
+      others = λ i le. refl;
+      waits = λ c' machine. refl;
+      machine = λ c' machine. machine;
+    }

@@ -1,0 +1,33 @@
+-- Loops over one character: where they may stop.
+use Rattle.std.specs.Prelude.{ℕ, zero, suc, ◌+◌, ◌==◌, false, List, [], ◌∷◌, length, Option, Some, None, if◌then◌else◌}
+use Rattle.regress_tree.specs.Reading.{Direction, forwards, backwards, Reading, Read, next_character, of_bytes}
+use Rattle.regress_tree.specs.Repetition.{moving, up_to}
+use Rattle.regress_tree.specs.Steps.{State, Step, one_character, ◌then_◌}
+use Rattle.regress_tree.specs.Tree.{Tree}
+use Rattle.regress_match.specs.Leaves.{test_of}
+
+abbrev pub opposite : Direction → Direction
+opposite forwards = backwards
+opposite backwards = forwards
+
+-- on from the place on the other side of a character
+abbrev pub read_on : Step → State → Option Read → List State
+read_on f s None = []
+read_on f s (Some read) = f (record s { place = read.place })
+
+-- The state, and those at the next places in that direction, up to the place `stop` and no more than n of them.
+abbrev pub along : Direction → Reading → (stop n : ℕ) → Step
+along d r stop zero s = s ∷ []
+along d r stop (suc n) s = s ∷ (if s.place == stop then [] else read_on (along d r stop n) s (next_character d r s.place))
+
+-- one character by the test of a leaf
+abbrev pub one_of : Direction → List ℕ → Tree → Step
+one_of d bytes t = one_character d (of_bytes bytes) (test_of t)
+
+-- The outcomes of a greedy loop that has come to a place: there, and then back to the place `stop`.
+abbrev pub giving_back : Direction → List ℕ → (stop : ℕ) → Step
+giving_back d bytes stop = along (opposite d) (of_bytes bytes) stop (length bytes + 1)
+
+-- what a lazy loop with no greatest number of turns does once it has to go on
+abbrev pub taking_more : Direction → List ℕ → Tree → Step
+taking_more d bytes t = moving (one_of d bytes t) then_ up_to false (length bytes + 1) (one_of d bytes t)
