@@ -5,5 +5,6 @@ pub mod DoesLemmas
 pub mod LoopLemmas
 pub mod ReadingLemmas
 pub mod RunLemmas
+pub mod FirstLemmas
 pub mod LeafLemmas
 pub mod BetweenLemmas

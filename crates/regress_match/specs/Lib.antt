@@ -3,3 +3,5 @@ pub mod Captures
 pub mod Leaves
 pub mod Machine
 pub mod Matched
+pub mod Fresh
+pub mod Searched

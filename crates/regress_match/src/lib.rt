@@ -9,6 +9,8 @@ pub mod matching;
 mod reading;
 mod rules;
 mod run;
+pub mod search;
 mod visits;
 
 pub use matching::{Match, Outcome, match_at};
+pub use search::{Matches, find};
