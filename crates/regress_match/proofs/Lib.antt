@@ -8,3 +8,4 @@ pub mod RunLemmas
 pub mod FirstLemmas
 pub mod LeafLemmas
 pub mod BetweenLemmas
+pub mod NamesLemmas

@@ -5,3 +5,5 @@ pub mod Machine
 pub mod Matched
 pub mod Fresh
 pub mod Searched
+pub mod Names
+pub mod Listing

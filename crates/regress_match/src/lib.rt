@@ -6,6 +6,7 @@ mod characters;
 mod leaves;
 mod machine;
 pub mod matching;
+pub mod names;
 mod reading;
 mod rules;
 mod run;
@@ -13,4 +14,5 @@ pub mod search;
 mod visits;
 
 pub use matching::{Match, Outcome, match_at};
+pub use names::{Group, groups, named};
 pub use search::{Matches, find};
