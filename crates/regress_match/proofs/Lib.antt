@@ -5,8 +5,10 @@ pub mod DoesLemmas
 pub mod LoopLemmas
 pub mod ReadingLemmas
 pub mod RunLemmas
+pub mod FirstLemmas
 pub mod LeafLemmas
 pub mod BetweenLemmas
 pub mod TurnLemmas
 pub mod SingleLemmas
 pub mod FrontLemmas
+pub mod NamesLemmas

@@ -1,6 +1,12 @@
--- What a match is.
-use Rattle.std.specs.Prelude.{◌≡◌, ℕ, List, [], ◌∷◌, None, replicate}
+-- What a match is, and what is found.
+use Rattle.std.specs.Prelude.{◌≡◌, ℕ, ◌≤◌, ◌<◌, List, [], ◌∷◌, None, length, replicate}
+use Rattle.std.specs.Str.{IsCharBoundary}
+use Rattle.regress_tree.specs.Matching.{matches}
+use Rattle.regress_tree.specs.Reading.{forwards}
+use Rattle.regress_tree.specs.Setting.{Setting}
 use Rattle.regress_tree.specs.Steps.{State}
+use Rattle.regress_tree.specs.Tree.{Tree}
+use Rattle.regress_tree.specs.WellFormed.{captures}
 use Rattle.regress_match.specs.declared.matching.Outcome.{Outcome}
 use Rattle.regress_match.specs.declared.matching.Outcome.TheVariants as outcomes
 use Rattle.regress_match.specs.declared.matching.Match.{Match}
@@ -8,6 +14,14 @@ use Rattle.regress_match.specs.declared.matching.Match.{Match}
 -- the state at a place in which none of n groups has captured anything
 abbrev pub no_groups : (n place : ℕ) → State
 no_groups n place = record { place = place; captures = replicate n None }
+
+-- the outcomes of a tree from a place with no group set
+abbrev pub outcomes_at : Setting → (text : List ℕ) → Tree → (place : ℕ) → List State
+outcomes_at setting text t place = matches setting text forwards t (no_groups (length (captures t)) place)
+
+-- where a match starts
+abbrev pub start_of : Match → ℕ
+start_of m = m.start
 
 -- the state that a match is
 abbrev pub state_of : Match → State
@@ -21,6 +35,24 @@ IsFirst states outcomes.OutOfSteps = Unit {0}
 
 -- A match starts at this place.
 abbrev pub StartsAt : ℕ → Outcome → Type 0
-StartsAt place (outcomes.Matched m) = m.start ≡ place
+StartsAt place (outcomes.Matched m) = start_of m ≡ place
 StartsAt place outcomes.NoMatch = Unit {0}
 StartsAt place outcomes.OutOfSteps = Unit {0}
+
+module _ (text : List ℕ) (at : ℕ → List State) (origin : ℕ) where
+  -- No boundary of characters from there on and before this place has an outcome.
+  abbrev pub NoneBefore : ℕ → Type 0
+  NoneBefore to = (p : ℕ) → origin ≤ p → p < to → IsCharBoundary text p → at p ≡ []
+
+  -- The first outcome from the least boundary of characters, from there on, that has one.
+  pub record IsLeftmost (m : Match) : Type 0 where
+    pub from : origin ≤ start_of m
+    pub boundary : IsCharBoundary text (start_of m)
+    pub first : (rest : List State) × (at (start_of m) ≡ state_of m ∷ rest)
+    pub least : NoneBefore (start_of m)
+
+  -- what a search comes to
+  abbrev pub Finds : Outcome → Type 0
+  Finds (outcomes.Matched m) = IsLeftmost m
+  Finds outcomes.NoMatch = (p : ℕ) → origin ≤ p → IsCharBoundary text p → at p ≡ []
+  Finds outcomes.OutOfSteps = Unit {0}

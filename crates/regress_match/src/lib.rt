@@ -7,11 +7,15 @@ mod fronts;
 mod leaves;
 mod machine;
 pub mod matching;
+pub mod names;
 mod reading;
 mod rules;
 mod run;
+pub mod search;
 mod single;
 mod visits;
 
 pub use fronts::{first_bytes, next_candidate};
 pub use matching::{Match, Outcome, match_at};
+pub use names::{Group, groups, named};
+pub use search::{Matches, find};

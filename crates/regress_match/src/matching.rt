@@ -1,12 +1,13 @@
 //! Matching at a place.
-ghost use Rattle.std.specs.Prelude.{◌≡◌, ◌+◌, ◌<◌, ◌^◌, ℕ, None, IfOk, length, min, replicate};
+ghost use Rattle.std.specs.Prelude.{◌≡◌, ◌+◌, ◌<◌, ◌≤◌, ◌^◌, ℕ, List, None, IfOk, length, min, replicate, slice_index_or};
 ghost use Rattle.regress_tree.specs.Gathered.{own_group};
-ghost use Rattle.regress_tree.specs.Matching.{matches};
-ghost use Rattle.regress_tree.specs.Reading.{forwards};
+ghost use Rattle.regress_tree.specs.Steps.{State};
 ghost use Rattle.regress_tree.specs.Tree.{tree};
 ghost use Rattle.regress_tree.specs.WellFormed.{captures};
 ghost use Rattle.regress_unicode.specs.TableOf.{table_of};
-ghost use Rattle.regress_match.specs.Matched.{IsFirst, StartsAt, no_groups};
+ghost use Rattle.regress_match.specs.Machine.{Answers};
+ghost use Rattle.regress_match.specs.Matched.{IsFirst, StartsAt, outcomes_at, start_of, state_of};
+ghost use Rattle.regress_match.specs.Fresh.{IsFresh, IfNowhere};
 
 use crate::captures::Captures;
 use crate::machine::Answer;
@@ -19,12 +20,52 @@ use std::alloc::{AllocError, Global};
 /// Where a pattern has matched, in bytes of the text.
 #[derive(Debug, Drop)]
 pub struct Match {
-    /// Where it starts.
-    pub start: usize,
-    /// Where it ends.
-    pub end: usize,
+    start: usize,
+    end: usize,
     /// From where to where each group has last matched, by its id; None where it has not.
-    pub groups: Vec<Option<(usize, usize)>>,
+    groups: Vec<Option<(usize, usize)>>,
+}
+
+impl Match {
+    pub(crate) fn new(start: usize, end: usize, groups: Vec<Option<(usize, usize)>>) -> Match
+        ensures start { start_of result ≡ start }
+        ensures state { state_of result ≡ record { place = end; captures = groups.items } }
+    {
+        Match { start, end, groups }
+    }
+
+    /// The byte place at which it starts.
+    pub fn start(&self) -> usize
+        ensures { result ≡ start_of self.now }
+    {
+        self.start
+    }
+
+    /// The byte place behind it.
+    pub fn end(&self) -> usize
+        ensures { result ≡ (state_of self.now).place }
+    {
+        self.end
+    }
+
+    /// How many groups the pattern has.
+    pub fn group_count(&self) -> usize
+        ensures { result ≡ length (state_of self.now).captures }
+    {
+        self.groups.len()
+    }
+
+    /// From which byte place to which the group with this id has last matched. Ids count from 0 in the order of the opening
+    /// parentheses. None where it has not matched, and where there is no such group.
+    pub fn group(&self, id: usize) -> Option<(usize, usize)>
+        ensures { result ≡ slice_index_or (state_of self.now).captures id None }
+    {
+        if id < self.groups.len() {
+            self.groups[id]
+        } else {
+            None
+        }
+    }
 }
 
 /// What a search for a match comes to.
@@ -48,36 +89,54 @@ pub fn match_at(
     steps: u64,
 ) -> Result<Outcome, AllocError>
     ensures start { IfOk result (StartsAt place) }
-    ensures first { IfOk result (IsFirst (matches (record { flags = regex.now.flags; table = table_of tables.now }) text.now forwards
-        (tree regex.now.node) (no_groups (length (captures (tree regex.now.node))) place))) }
+    ensures first { IfOk result (IsFirst (outcomes_at (record { flags = regex.now.flags; table = table_of tables.now }) text.now
+        (tree regex.now.node) place)) }
 {
-    let mut captures = Captures {
-        spans: no_spans(alloc, group_count(&regex.node))?,
-        trail: Vec::new(alloc),
-    };
+    let mut captures = nothing_captured(alloc, &regex.node)?;
+    let mut left = steps;
+    match first_at(alloc, regex, tables, text, place, &mut captures, &mut left)? {
+        Answer::At(end) => Ok(Outcome::Matched(Match::new(place, end, captures.spans))),
+        Answer::Nowhere => Ok(Outcome::NoMatch),
+        Answer::OutOfSteps => Ok(Outcome::OutOfSteps),
+    }
+}
+
+/// The first outcome from a place with no group set. Where there is none, no group is set then.
+pub(crate) fn first_at(
+    alloc: Global,
+    regex: &Regex,
+    tables: &Tables,
+    text: &str,
+    place: usize,
+    captures: &mut Captures,
+    left: &mut u64,
+) -> Result<Answer, AllocError>
+    requires { IsFresh (tree regex.now.node) captures.old }
+    ensures answers { IfOk result (Answers (outcomes_at (record { flags = regex.now.flags; table = table_of tables.now }) text.now
+        (tree regex.now.node) place) captures.new) }
+    ensures fresh { IfOk result (IfNowhere (IsFresh (tree regex.now.node) captures.new)) }
+    ensures left { IfOk result (λ _. left.new ≤ left.old) }
+{
     let rules = Rules {
         flags: regex.flags,
         tables,
         backwards: false,
     };
-    let mut left = steps;
-    match run(
-        alloc,
-        text,
-        rules,
-        &regex.node,
-        place,
-        &mut captures,
-        &mut left,
-    )? {
-        Answer::At(end) => Ok(Outcome::Matched(Match {
-            start: place,
-            end,
-            groups: captures.spans,
-        })),
-        Answer::Nowhere => Ok(Outcome::NoMatch),
-        Answer::OutOfSteps => Ok(Outcome::OutOfSteps),
+    let answer = run(alloc, text, rules, &regex.node, place, captures, left)?;
+    if let Answer::Nowhere = answer {
+        captures.rewind(0);
     }
+    Ok(answer)
+}
+
+/// No group of a tree has matched.
+pub(crate) fn nothing_captured(alloc: Global, node: &Node) -> Result<Captures, AllocError>
+    ensures { IfOk result (IsFresh (tree node.now)) }
+{
+    Ok(Captures {
+        spans: no_spans(alloc, group_count(node))?,
+        trail: Vec::new(alloc),
+    })
 }
 
 /// So many groups that have not matched.

@@ -1,0 +1,22 @@
+-- The groups of a pattern, and what those of a name have captured.
+use Rattle.std.specs.Prelude.{ℕ, Bool, false, List, [], ◌∷◌, None, Some, Option, if◌then◌else◌, option_map, slice_index_or, string_bytes}
+use Rattle.std.specs.Str.{bytes_eq}
+use Rattle.std.specs.Option.{option_or}
+use Rattle.regress_tree.specs.Steps.{CaptureSpan}
+use Rattle.regress_tree.specs.WellFormed.{Capture}
+use Rattle.regress_match.specs.declared.names.Group.{Group}
+
+-- the capture group that is listed
+abbrev pub capture_of : Group → Capture
+capture_of g = record { id = g.id; name = option_map string_bytes g.name }
+
+-- it has this name
+abbrev pub is_named : List ℕ → Option (List ℕ) → Bool
+is_named name None = false
+is_named name (Some own) = bytes_eq own name
+
+-- the span of the first of these groups that has this name and has matched
+abbrev pub named_span : List ℕ → List (Option CaptureSpan) → List Capture → Option CaptureSpan
+named_span name spans [] = None
+named_span name spans (c ∷ cs) =
+    option_or (if is_named name c.name then slice_index_or spans c.id None else None) (named_span name spans cs)

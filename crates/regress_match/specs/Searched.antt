@@ -1,0 +1,32 @@
+-- A search for one match after the other.
+use Rattle.std.specs.Prelude.{◌≡◌, ℕ, ◌+◌, List, length, max}
+use Rattle.regress_tree.specs.Steps.{State}
+use Rattle.regress_tree.specs.Tree.{tree}
+use Rattle.regress_unicode.specs.TableOf.{table_of}
+use Rattle.regress_match.specs.Matched.{outcomes_at, start_of, state_of}
+use Rattle.regress_match.specs.declared.matching.Outcome.{Outcome}
+use Rattle.regress_match.specs.declared.matching.Outcome.TheVariants as outcomes
+use Rattle.regress_match.specs.declared.search.Matches.{Matches}
+
+-- the place from which the next match is looked for
+abbrev pub next_from : Matches → ℕ
+next_from m = m.from
+
+abbrev pub searched_text : Matches → List ℕ
+searched_text m = m.text.now
+
+-- the outcomes of its tree from each place
+abbrev pub searched_outcomes : Matches → (place : ℕ) → List State
+searched_outcomes m = outcomes_at (record { flags = m.regex.now.flags; table = table_of m.tables.now }) m.text.now (tree m.regex.now.node)
+
+-- Where the next one is looked for behind what was found: behind the match, and at least one byte behind its start, as
+-- behind an empty one. Past the text there is none.
+abbrev pub goes_on_from : List ℕ → ℕ → Outcome → ℕ
+goes_on_from text from (outcomes.Matched m) = max (state_of m).place (start_of m + 1)
+goes_on_from text from outcomes.NoMatch = length text + 1
+goes_on_from text from outcomes.OutOfSteps = from
+
+-- the same tree on the same text
+pub record IsSameSearch (old new : Matches) : Type 0 where
+  pub text : searched_text new ≡ searched_text old
+  pub outcomes : searched_outcomes new ≡ searched_outcomes old

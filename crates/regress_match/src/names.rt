@@ -1,0 +1,141 @@
+//! Groups by their names.
+ghost use Rattle.std.specs.Prelude.{◌≡◌, ◌++◌, ◌∷◌, [], IfOk, map, option_map, string_bytes};
+ghost use Rattle.std.specs.List.Sorted.{IsNonDecreasingBy, IsPermutation};
+ghost use Rattle.regress_tree.specs.Gathered.{own_group};
+ghost use Rattle.regress_tree.specs.Tree.{tree};
+ghost use Rattle.regress_tree.specs.WellFormed.{captures};
+ghost use Rattle.regress_match.specs.Listing.{Adds, Finds};
+ghost use Rattle.regress_match.specs.Matched.{state_of};
+ghost use Rattle.regress_match.specs.Names.{capture_of, is_named, named_span};
+
+use crate::matching::Match;
+use regress_base::types::{CaptureGroupID, CaptureGroupName};
+use regress_tree::ir::{Node, Regex, Walk, walk};
+use std::alloc::{AllocError, Global};
+
+/// A capture group of a pattern.
+#[derive(Debug, Drop)]
+pub struct Group {
+    pub id: CaptureGroupID,
+    /// Not empty. Several groups in different alternatives may share it.
+    pub name: Option<CaptureGroupName>,
+}
+
+/// The groups of a pattern in the order of their ids. The error is want of memory.
+pub fn groups(alloc: Global, regex: &Regex) -> Result<Vec<Group>, AllocError>
+    ensures all { IfOk result (λ groups. IsPermutation (captures (tree regex.now.node)) (map capture_of groups.items)) }
+    ensures sorted { IfOk result (λ groups. IsNonDecreasingBy (λ group. group.id) groups.items) }
+{
+    let mut groups = listed(alloc, &regex.node)?;
+    groups.sort_by_key(|group| group.id)?;
+    Ok(groups)
+}
+
+/// The groups of a tree, each before those inside it.
+fn listed(alloc: Global, node: &Node) -> Result<Vec<Group>, AllocError>
+    ensures { IfOk result (λ groups. map capture_of groups.items ≡ captures (tree node.now)) }
+{
+    let mut listing = Listing {
+        groups: Vec::new(alloc),
+        done: Ok(()),
+    };
+    let mut visit = |node: &Node, _: &mut Walk| listing.visit(alloc, node);
+    walk(false, false, node, &mut visit);
+    listing.done?;
+    Ok(listing.groups)
+}
+
+/// Groups as a walk comes to them, until memory is wanting.
+#[derive(Drop)]
+struct Listing {
+    groups: Vec<Group>,
+    done: Result<(), AllocError>,
+}
+
+impl Listing {
+    /// Adds a node that is a group.
+    fn visit(&mut self, alloc: Global, node: &Node)
+        ensures { Adds self.old self.new (own_group (tree node.now)) }
+    {
+        if let Node::CaptureGroup { id, name, .. } = node {
+            if self.done.is_ok() {
+                self.done = self.add(alloc, *id, name);
+            }
+        }
+    }
+
+    fn add(
+        &mut self,
+        alloc: Global,
+        id: CaptureGroupID,
+        name: &Option<CaptureGroupName>,
+    ) -> Result<(), AllocError>
+        ensures groups { IfOk result (λ _. map capture_of self.new.groups.items
+            ≡ map capture_of self.old.groups.items ++ record { id = id; name = option_map string_bytes name.now } ∷ []) }
+        ensures done { self.new.done ≡ self.old.done }
+    {
+        let name = copy_name(alloc, name)?;
+        self.groups.push(Group { id, name })?;
+        Ok(())
+    }
+}
+
+fn copy_name(
+    alloc: Global,
+    name: &Option<CaptureGroupName>,
+) -> Result<Option<CaptureGroupName>, AllocError>
+    ensures { IfOk result (λ copy. option_map string_bytes copy ≡ option_map string_bytes name.now) }
+{
+    match name {
+        Some(name) => Ok(Some(String::from_str(alloc, name)?)),
+        None => Ok(None),
+    }
+}
+
+/// From which byte place to which the group of this name has matched. Of several that share it, that is the one that has
+/// matched; None where none has, and where the pattern has no such name.
+pub fn named(found: &Match, regex: &Regex, name: &str) -> Option<(usize, usize)>
+    ensures { result ≡ named_span name.now (state_of found.now).captures (captures (tree regex.now.node)) }
+{
+    let mut finder = Finder {
+        name,
+        found,
+        span: None,
+    };
+    let mut visit = |node: &Node, _: &mut Walk| finder.visit(node);
+    walk(false, false, &regex.node, &mut visit);
+    finder.span
+}
+
+/// Looks for a group that has a name and has matched.
+#[derive(Drop)]
+struct Finder<'a> {
+    name: &'a str,
+    found: &'a Match,
+    span: Option<(usize, usize)>,
+}
+
+impl Finder<'_> {
+    /// Takes the span of a node that is one, if there is none yet.
+    fn visit(&mut self, node: &Node)
+        ensures { Finds self.old self.new (own_group (tree node.now)) }
+    {
+        if self.span.is_some() {
+            return;
+        }
+        if let Node::CaptureGroup { id, name, .. } = node {
+            if is_named(name, self.name) {
+                self.span = self.found.group(usize::from(*id));
+            }
+        }
+    }
+}
+
+fn is_named(own: &Option<CaptureGroupName>, name: &str) -> bool
+    ensures { result ≡ is_named name.now (option_map string_bytes own.now) }
+{
+    match own {
+        Some(own) => own.as_str() == name,
+        None => false,
+    }
+}
