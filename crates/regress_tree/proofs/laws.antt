@@ -13,11 +13,13 @@ pub mod Falling
 pub mod Gathered
 pub mod Goal
 pub mod Groups
+pub mod Inherited
 pub mod Levels
 pub mod Literals
 pub mod Measures
 pub mod NodeLists
 pub mod Nodes
+pub mod Onward
 pub mod Outcomes
 pub mod Places
 pub mod Positions

@@ -8,9 +8,11 @@ pub mod Lookaround
 pub mod References
 pub mod Strings
 pub mod Matching
+pub mod Onward
 pub mod Walk
 pub mod Visits
 pub mod Gathered
+pub mod Inherited
 pub mod Held
 pub mod Climbs
 pub mod WellFormed

@@ -29,6 +29,19 @@ impl fmt::Display for Regex {
     }
 }
 
+/// The lines of a tree whose root is this node.
+impl fmt::Display for Node {
+    ghost use Rattle.std.specs.Prelude.{Some};
+    ghost use Rattle.regress_tree.specs.Tree.{tree};
+    ghost use Rattle.regress_tree.specs.Display.{printed};
+
+    ghost output = { λ node. Some (printed (tree node)) };
+
+    fn fmt<W: Write>(&self, f: &mut Formatter<W>) -> fmt::Result {
+        write_tree(self, 0, f)
+    }
+}
+
 // It goes down the right sides of alternatives in a loop: there may be as many levels as alternatives.
 #[cycle(write_tree)]
 fn write_tree<W: Write>(node: &Node, depth: usize, f: &mut Formatter<W>) -> fmt::Result

@@ -1,0 +1,116 @@
+-- What the calls of a walk see of what lies around each node, for a caller of `walk` that keeps it in mind.
+use Rattle.std.proofs.Common.{◌≡◌, ℕ, ◌+◌, ◌≤◌, Bool, false, List, [], ◌∷◌, ◌++◌, sym, subst, arith}
+use Rattle.std.proofs.lemmas.Bool.{false≢true}
+use Rattle.regress_tree.specs.Tree.{Tree, Trees, leaf, cat, alt, wrapped}
+use Rattle.regress_tree.specs.Measures.{levels, levels_of_deepest}
+use Rattle.regress_tree.specs.Visits.{Visited, before_children, without_children, Inside, in_leaf, in_cat, in_alt, in_wrapped, RowVisited, no_more, one_more, deeper}
+use Rattle.regress_tree.specs.Inherited.{inherited, inherited_in_row}
+
+-- Each call leaves the node and skips nothing. `Around a d x` says that in the state a the closure tells x of what lies around a
+-- node at depth d. It then adds this node with x, hands `handed x t` down, and goes on to tell of what lies around at depths up to
+-- this one what it told before. `Added a b ps` says that it has added these pairs between the two states.
+pub record HandsDown {State X : Type 0} (Call : State → Tree → ℕ → Bool → State → Tree → Bool → Type 0) (handed : X → Tree → X)
+    (Around : State → ℕ → X → Type 0) (Added : State → State → List (X × Tree) → Type 0) : Type 0 where
+  pub none : (a : State) → Added a a []
+  pub joined : (a b c : State) (ps qs : List (X × Tree)) → Added a b ps → Added b c qs → Added a c (ps ++ qs)
+  pub adds : (a b : State) (t u : Tree) (d : ℕ) (behind skip : Bool) (x : X) → Around a d x → Call a t d behind b u skip →
+      Added a b ((x, t) ∷ [])
+  pub hands_down : (a b : State) (t u : Tree) (d : ℕ) (behind skip : Bool) (x : X) → Around a d x → Call a t d behind b u skip →
+      Around b (d + 1) (handed x t)
+  pub keeps : (a b : State) (t u : Tree) (d : ℕ) (behind skip : Bool) (e : ℕ) (x : X) → e ≤ d → Around a e x →
+      Call a t d behind b u skip → Around b e x
+  pub leaves : (a b : State) (t u : Tree) (d : ℕ) (behind skip : Bool) → Call a t d behind b u skip → u ≡ t
+  pub goes_on : (a b : State) (t u : Tree) (d : ℕ) (behind skip : Bool) → Call a t d behind b u skip → skip ≡ false
+
+some_level : (t : Tree) → 1 ≤ levels t
+some_level (leaf l) = omega arith
+some_level (cat parts) = omega arith
+some_level (alt left right) = omega arith
+some_level (wrapped w body) = omega arith
+
+-- as deep as the count goes
+abbrev deepest : ℕ
+deepest = 18446744073709551615
+
+module _ {State X : Type 0} (Call : State → Tree → ℕ → Bool → State → Tree → Bool → Type 0) (handed : X → Tree → X)
+    (Around : State → ℕ → X → Type 0) (Added : State → State → List (X × Tree) → Type 0) (r : HandsDown Call handed Around Added) where
+  mutual
+    -- what the closure tells of depths up to that of a tree, it tells behind the visits to it
+    visited_keeps : (t u : Tree) (a b : State) (d : ℕ) (behind : Bool) (e : ℕ) (x : X) → e ≤ d → e ≤ deepest → Around a e x →
+        Visited Call false d behind t u a b → Around b e x
+    visited_keeps t u a c d behind e x up fits around (before_children {left = left} {b = b} call inside) =
+        inside_keeps left u b c d behind e x up fits (r.keeps a b t left d behind false e x up around call) inside
+    visited_keeps t u a b d behind e x up fits around (without_children call) = r.keeps a b t u d behind _ e x up around call
+
+    inside_keeps : (t u : Tree) (a b : State) (d : ℕ) (behind : Bool) (e : ℕ) (x : X) → e ≤ d → e ≤ deepest → Around a e x →
+        Inside Call false d behind t u a b → Around b e x
+    inside_keeps t u a b d behind e x up fits around in_leaf = around
+    inside_keeps t u a b d behind e x up fits around (in_cat {ts = ts} {us = us} row) =
+        row_keeps ts us a b _ behind e x (omega arith) fits around row
+    inside_keeps t u a c d behind e x up fits around
+        (in_alt {left = left} {left' = left'} {right = right} {right' = right'} {b = b} first second) =
+        visited_keeps right right' b c _ behind e x (omega arith) fits
+        (visited_keeps left left' a b _ behind e x (omega arith) fits around first) second
+    inside_keeps t u a b d behind e x up fits around (in_wrapped {t = body} {u = body'} inner) =
+        visited_keeps body body' a b _ _ e x (omega arith) fits around inner
+
+    row_keeps : (ts us : Trees) (a b : State) (d : ℕ) (behind : Bool) (e : ℕ) (x : X) → e ≤ d → e ≤ deepest → Around a e x →
+        RowVisited Call false d behind ts us a b → Around b e x
+    row_keeps ts us a b d behind e x up fits around no_more = around
+    row_keeps ts us a c d behind e x up fits around (one_more {t = t} {u = u} {ts = ts'} {us = us'} {b = b} first rest) =
+        row_keeps ts' us' b c d behind e x up fits (visited_keeps t u a b d behind e x up fits around first) rest
+
+  mutual
+    -- a walk in preorder adds what the nodes of the tree inherit, where the depth is counted to the last level
+    pub visited_inherits : (t u : Tree) (a b : State) (d : ℕ) (behind : Bool) (x : X) → d + levels t ≤ deepest + 1 → Around a d x →
+        Visited Call false d behind t u a b → Added a b (inherited handed x t)
+    visited_inherits t u a c d behind x fits around (before_children {left = left} {b = b} call inside) =
+        let same : left ≡ t = r.leaves a b t left d behind false call in
+        let on : Call a left d behind b left false = subst (λ (v : Tree). Call a v d behind b left false) (sym same) call in
+        subst (λ (v : Tree). Added a c (inherited handed x v)) same
+        (inside_inherits left u a b c d behind x (subst (λ (v : Tree). d + levels v ≤ deepest + 1) (sym same) fits) around on inside)
+    visited_inherits t u a b d behind x fits around (without_children call) =
+        absurd (false≢true (sym (r.goes_on a b t u d behind _ call)))
+
+    inside_inherits : (t u : Tree) (a b c : State) (d : ℕ) (behind : Bool) (x : X) → d + levels t ≤ deepest + 1 → Around a d x →
+        Call a t d behind b t false → Inside Call false d behind t u b c → Added a c (inherited handed x t)
+    inside_inherits t u a b c d behind x fits around call in_leaf = r.adds a b t t d behind false x around call
+    inside_inherits t u a b c d behind x fits around call (in_cat {ts = ts} {us = us} row) =
+        let y = handed x (cat ts) in
+        let below : 1 ≤ levels_of_deepest ts → Around b (deeper d) y =
+        λ some.
+        let down : deeper d ≡ d + 1 = omega arith in
+        rw down (r.hands_down a b (cat ts) _ d behind false x around call) in
+        r.joined a b c ((x, cat ts) ∷ []) (inherited_in_row handed y ts) (r.adds a b (cat ts) _ d behind false x around call)
+        (row_inherits ts us b c (deeper d) behind y (omega arith) below row)
+    inside_inherits t u a b c d behind x fits around call
+        (in_alt {left = left} {left' = left'} {right = right} {right' = right'} {b = m} first second) =
+        let y = handed x (alt left right) in
+        let some : 1 ≤ levels left = some_level left in
+        let down : deeper d ≡ d + 1 = omega arith in
+        let below : Around b (deeper d) y = rw down (r.hands_down a b (alt left right) _ d behind false x around call) in
+        let below' : Around m (deeper d) y = visited_keeps left left' b m (deeper d) behind (deeper d) y (omega arith) (omega arith) below first in
+        r.joined a b c ((x, alt left right) ∷ []) (inherited handed y left ++ inherited handed y right)
+        (r.adds a b (alt left right) _ d behind false x around call)
+        (r.joined b m c (inherited handed y left) (inherited handed y right)
+        (visited_inherits left left' b m (deeper d) behind y (omega arith) below first)
+        (visited_inherits right right' m c (deeper d) behind y (omega arith) below' second))
+    inside_inherits t u a b c d behind x fits around call (in_wrapped {w = w} {t = body} {u = body'} inner) =
+        let y = handed x (wrapped w body) in
+        let some : 1 ≤ levels body = some_level body in
+        let down : deeper d ≡ d + 1 = omega arith in
+        let below : Around b (deeper d) y = rw down (r.hands_down a b (wrapped w body) _ d behind false x around call) in
+        r.joined a b c ((x, wrapped w body) ∷ []) (inherited handed y body)
+        (r.adds a b (wrapped w body) _ d behind false x around call)
+        (visited_inherits body body' b c (deeper d) _ y (omega arith) below inner)
+
+    -- nothing need be told where there is no tree
+    row_inherits : (ts us : Trees) (a b : State) (d : ℕ) (behind : Bool) (x : X) → d + levels_of_deepest ts ≤ deepest + 1 →
+        (1 ≤ levels_of_deepest ts → Around a d x) → RowVisited Call false d behind ts us a b → Added a b (inherited_in_row handed x ts)
+    row_inherits ts us a b d behind x fits around no_more = r.none a
+    row_inherits ts us a c d behind x fits around (one_more {t = t} {u = u} {ts = ts'} {us = us'} {b = b} first rest) =
+        let some : 1 ≤ levels t = some_level t in
+        let here : Around a d x = around (omega arith) in
+        let behind' : Around b d x = visited_keeps t u a b d behind d x (omega arith) (omega arith) here first in
+        r.joined a b c (inherited handed x t) (inherited_in_row handed x ts')
+        (visited_inherits t u a b d behind x (omega arith) here first) (row_inherits ts' us' b c d behind x (omega arith) (λ _. behind') rest)
