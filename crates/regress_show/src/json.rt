@@ -1,0 +1,402 @@
+//! The tree as JSON: an object for each node, with everything that the node has.
+ghost use Rattle.std.specs.Prelude.{◌≡◌, ◌<◌, ◌++◌, true, false, codes, flat_map, option_map, string_bytes, map, IfSome, MatchOption};
+ghost use Rattle.std.specs.Box.{boxed_slice_items};
+ghost use Rattle.std.specs.List.{join_by};
+ghost use Rattle.std.specs.Fmt.{WritesOnOk, decimal};
+ghost use Rattle.regress_tree.specs.Tree.{tree, trees, capture_group, loop, loop_one, lookaround, anchor, word_boundary, alt, bracket, char_set, back_ref, string_set};
+ghost use Rattle.regress_tree.specs.Spine.{is_alt};
+ghost use Rattle.regress_tree.specs.declared.ir.node.Node.{size-Node};
+ghost use Rattle.regress_show.specs.Json as text;
+
+use regress_base::codepointset::Interval;
+use regress_base::types::{
+    AnchorType, BracketContents, CaptureGroupID, CaptureGroupName, Flags, Quantifier,
+};
+use regress_tree::ir::held::body;
+use regress_tree::ir::{Node, Regex};
+use std::boxed::BoxedSlice;
+use std::fmt;
+use std::fmt::{Formatter, Write};
+
+/// A pattern that is displayed as JSON (RFC 8259), in one line without spaces: `{"flags":{..},"node":{..}}`. Each node is
+/// an object with its `kind` and its fields, named as in `Node`; `Cat` has its `parts`, and `Alt` its `alternatives`,
+/// where those of a right side that is an `Alt` stand in the same list. Characters and bytes are numbers, an interval is a
+/// pair, and a name is a text.
+#[derive(Clone, Copy)]
+pub struct Json<'a>(pub &'a Regex);
+
+impl fmt::Display for Json<'_> {
+    ghost use Rattle.std.specs.Prelude.{Some};
+    ghost use Rattle.regress_tree.specs.Tree.{tree};
+    ghost use Rattle.regress_show.specs.Json.{json_of};
+
+    ghost output = { λ json. Some (json_of json.0.now.flags (tree json.0.now.node)) };
+
+    fn fmt<W: Write>(&self, f: &mut Formatter<W>) -> fmt::Result {
+        f.write_str("{\"flags\":")?;
+        write_flags(self.0.flags, f)?;
+        f.write_str(",\"node\":")?;
+        write_node(&self.0.node, f)?;
+        f.write_str("}")
+    }
+}
+
+fn write_flags<W: Write>(flags: Flags, f: &mut Formatter<W>) -> fmt::Result
+    ensures { WritesOnOk W.write_str_gives f.old result (text.flags_json flags) f.new }
+{
+    let (icase, multiline, dot_all) = (flags.icase, flags.multiline, flags.dot_all);
+    let (unicode, unicode_sets) = (flags.unicode, flags.unicode_sets);
+    write!(
+        f,
+        "{{\"icase\":{icase},\"multiline\":{multiline},\"dot_all\":{dot_all},\"unicode\":{unicode},\"unicode_sets\":{unicode_sets}}}"
+    )
+}
+
+#[cycle(write_node)]
+fn write_node<W: Write>(node: &Node, f: &mut Formatter<W>) -> fmt::Result
+    ensures { WritesOnOk W.write_str_gives f.old result (text.node_json (tree node.now)) f.new }
+{
+    write_opening(node, f)?;
+    match node {
+        Node::Cat(parts) => {
+            write_row(parts, f)?;
+            f.write_str("]}")
+        }
+        // The right sides of alternatives take no stack: there may be as many levels as alternatives.
+        Node::Alt(left, right) => {
+            write_node(left, f)?;
+            let mut rest: &Node = right;
+            while let Some((left, right)) = sides(rest) {
+                f.write_str(",")?;
+                write_node(left, f)?;
+                rest = right;
+            }
+            f.write_str(",")?;
+            write_node(rest, f)?;
+            f.write_str("]}")
+        }
+        _ => {
+            let Some(body) = body(node) else {
+                return Ok(());
+            };
+            write_node(body, f)?;
+            f.write_str("}")
+        }
+    }
+}
+
+#[cycle(write_node)]
+fn write_row<W: Write>(parts: &[Node], f: &mut Formatter<W>) -> fmt::Result
+    ensures { WritesOnOk W.write_str_gives f.old result (text.row_json true (trees parts.now)) f.new }
+{
+    let mut first = true;
+    for part in parts {
+        write_comma(first, f)?;
+        write_node(part, f)?;
+        first = false;
+    }
+    Ok(())
+}
+
+/// Writes what stands before a part.
+fn write_comma<W: Write>(first: bool, f: &mut Formatter<W>) -> fmt::Result
+    ensures { WritesOnOk W.write_str_gives f.old result (text.comma first) f.new }
+{
+    if first { Ok(()) } else { f.write_str(",") }
+}
+
+/// Both sides of an `Alt`.
+fn sides(node: &Node) -> Option<(&Node, &Node)>
+    ensures sides { MatchOption result (is_alt (tree node.now) ≡ false)
+        (λ sides. tree node.now ≡ alt (tree sides.0.now) (tree sides.1.now)) }
+    ensures smaller { IfSome result (λ sides. (size-Node sides.0.now < size-Node node.now) × (size-Node sides.1.now < size-Node node.now)) }
+{
+    match node {
+        Node::Alt(left, right) => Some((left, right)),
+        _ => None,
+    }
+}
+
+/// Writes what stands in front of the nodes inside: the whole object, where there are none.
+fn write_opening<W: Write>(node: &Node, f: &mut Formatter<W>) -> fmt::Result
+    ensures { WritesOnOk W.write_str_gives f.old result (text.opening (tree node.now)) f.new }
+{
+    match node {
+        Node::Empty => f.write_str("{\"kind\":\"Empty\"}"),
+        Node::Goal => f.write_str("{\"kind\":\"Goal\"}"),
+        Node::Char { c } => write!(f, "{{\"kind\":\"Char\",\"c\":{c}}}"),
+        Node::ByteSequence(bytes) => write_bytes("ByteSequence", bytes, f),
+        Node::ByteSet(bytes) => write_bytes("ByteSet", bytes, f),
+        Node::CharSet(characters) => write_char_set(characters, f),
+        Node::Cat(_) => f.write_str("{\"kind\":\"Cat\",\"parts\":["),
+        Node::Alt(..) => f.write_str("{\"kind\":\"Alt\",\"alternatives\":["),
+        Node::MatchAny => f.write_str("{\"kind\":\"MatchAny\"}"),
+        Node::MatchAnyExceptLineTerminator => {
+            f.write_str("{\"kind\":\"MatchAnyExceptLineTerminator\"}")
+        }
+        Node::CaptureGroup { id, name, .. } => write_group(*id, name, f),
+        Node::Anchor {
+            anchor_type,
+            multiline,
+        } => write_anchor(*anchor_type, *multiline, f),
+        Node::WordBoundary {
+            invert,
+            unicode_icase,
+        } => write_word_boundary(*invert, *unicode_icase, f),
+        Node::Bracket(contents) => write_bracket(contents, f),
+        Node::Loop {
+            quant,
+            enclosed_groups,
+            ..
+        } => write_loop(quant, enclosed_groups.start, enclosed_groups.end, f),
+        Node::Loop1CharBody { quant, .. } => write_loop_one(quant, f),
+        Node::LookaroundAssertion {
+            negate,
+            backwards,
+            start_group,
+            end_group,
+            ..
+        } => write_lookaround(*negate, *backwards, *start_group, *end_group, f),
+        Node::BackRef { group, icase } => write_reference(*group, *icase, f),
+        Node::StringSet {
+            alternatives,
+            icase,
+        } => write_string_set(alternatives, *icase, f),
+    }
+}
+
+fn write_word_boundary<W: Write>(
+    invert: bool,
+    unicode_icase: bool,
+    f: &mut Formatter<W>,
+) -> fmt::Result
+    ensures { WritesOnOk W.write_str_gives f.old result (text.leaf_json (word_boundary invert unicode_icase)) f.new }
+{
+    write!(
+        f,
+        "{{\"kind\":\"WordBoundary\",\"invert\":{invert},\"unicode_icase\":{unicode_icase}}}"
+    )
+}
+
+fn write_reference<W: Write>(group: u32, icase: bool, f: &mut Formatter<W>) -> fmt::Result
+    ensures { WritesOnOk W.write_str_gives f.old result (text.leaf_json (back_ref group icase)) f.new }
+{
+    write!(
+        f,
+        "{{\"kind\":\"BackRef\",\"group\":{group},\"icase\":{icase}}}"
+    )
+}
+
+fn write_anchor<W: Write>(kind: AnchorType, multiline: bool, f: &mut Formatter<W>) -> fmt::Result
+    ensures { WritesOnOk W.write_str_gives f.old result (text.leaf_json (anchor kind multiline)) f.new }
+{
+    let end = match kind {
+        AnchorType::StartOfLine => "StartOfLine",
+        AnchorType::EndOfLine => "EndOfLine",
+    };
+    write!(
+        f,
+        "{{\"kind\":\"Anchor\",\"anchor_type\":\"{end}\",\"multiline\":{multiline}}}"
+    )
+}
+
+fn write_group<W: Write>(
+    id: CaptureGroupID,
+    name: &Option<CaptureGroupName>,
+    f: &mut Formatter<W>,
+) -> fmt::Result
+    ensures { WritesOnOk W.write_str_gives f.old result (text.front (capture_group id (option_map string_bytes name.now))) f.new }
+{
+    write!(f, "{{\"kind\":\"CaptureGroup\",\"id\":{id},\"name\":")?;
+    write_name(name, f)?;
+    f.write_str(",\"contents\":")
+}
+
+fn write_name<W: Write>(name: &Option<CaptureGroupName>, f: &mut Formatter<W>) -> fmt::Result
+    ensures { WritesOnOk W.write_str_gives f.old result (text.name (option_map string_bytes name.now)) f.new }
+{
+    match name {
+        None => f.write_str("null"),
+        Some(name) if is_word(name.as_bytes()) => write!(f, "\"{name}\""),
+        Some(name) => write_byte_list(name.as_bytes(), f),
+    }
+}
+
+/// Whether a JSON text of these bytes needs no escape, and more: whether they may stand in a name of a pattern.
+fn is_word(bytes: &[u8]) -> bool
+    ensures { result ≡ text.is_word bytes.now }
+{
+    for byte in bytes {
+        if !is_word_byte(*byte) {
+            return false;
+        }
+    }
+    true
+}
+
+fn is_word_byte(byte: u8) -> bool
+    ensures { result ≡ text.is_word_byte byte }
+{
+    matches!(byte, b'0'..=b'9' | b'A'..=b'Z' | b'a'..=b'z' | b'_' | b'$' | 128..=255)
+}
+
+fn write_loop<W: Write>(
+    quant: &Quantifier,
+    start: CaptureGroupID,
+    end: CaptureGroupID,
+    f: &mut Formatter<W>,
+) -> fmt::Result
+    ensures { WritesOnOk W.write_str_gives f.old result (text.front (loop quant.now start end)) f.new }
+{
+    write!(
+        f,
+        "{{\"kind\":\"Loop\",\"enclosed_groups\":[{start},{end}],\"quant\":"
+    )?;
+    write_quantifier(quant, f)?;
+    f.write_str(",\"loopee\":")
+}
+
+fn write_loop_one<W: Write>(quant: &Quantifier, f: &mut Formatter<W>) -> fmt::Result
+    ensures { WritesOnOk W.write_str_gives f.old result (text.front (loop_one quant.now)) f.new }
+{
+    f.write_str("{\"kind\":\"Loop1CharBody\",\"quant\":")?;
+    write_quantifier(quant, f)?;
+    f.write_str(",\"loopee\":")
+}
+
+fn write_lookaround<W: Write>(
+    negate: bool,
+    backwards: bool,
+    start: CaptureGroupID,
+    end: CaptureGroupID,
+    f: &mut Formatter<W>,
+) -> fmt::Result
+    ensures { WritesOnOk W.write_str_gives f.old result (text.front (lookaround negate backwards start end)) f.new }
+{
+    write!(
+        f,
+        "{{\"kind\":\"LookaroundAssertion\",\"negate\":{negate},\"backwards\":{backwards},\"start_group\":{start},\"end_group\":{end},\"contents\":"
+    )
+}
+
+fn write_quantifier<W: Write>(quant: &Quantifier, f: &mut Formatter<W>) -> fmt::Result
+    ensures { WritesOnOk W.write_str_gives f.old result (text.quantifier quant.now) f.new }
+{
+    let (min, greedy) = (quant.min, quant.greedy);
+    write!(f, "{{\"min\":{min},\"max\":")?;
+    write_maximum(quant.max, f)?;
+    write!(f, ",\"greedy\":{greedy}}}")
+}
+
+fn write_maximum<W: Write>(max: Option<usize>, f: &mut Formatter<W>) -> fmt::Result
+    ensures { WritesOnOk W.write_str_gives f.old result (text.number_or_null max) f.new }
+{
+    match max {
+        Some(max) => write!(f, "{max}"),
+        None => f.write_str("null"),
+    }
+}
+
+fn write_bracket<W: Write>(contents: &BracketContents, f: &mut Formatter<W>) -> fmt::Result
+    ensures { WritesOnOk W.write_str_gives f.old result (text.leaf_json (bracket contents.now.invert contents.now.cps)) f.new }
+{
+    let invert = contents.invert;
+    write!(f, "{{\"kind\":\"Bracket\",\"invert\":{invert},\"cps\":[")?;
+    write_intervals(contents.cps.intervals(), f)?;
+    f.write_str("]}")
+}
+
+fn write_intervals<W: Write>(intervals: &[Interval], f: &mut Formatter<W>) -> fmt::Result
+    ensures { WritesOnOk W.write_str_gives f.old result (join_by text.interval (codes ",") intervals.now) f.new }
+{
+    if let [first, rest @ ..] = intervals {
+        write_interval(*first, f)?;
+        for interval in rest {
+            f.write_str(",")?;
+            write_interval(*interval, f)?;
+        }
+    }
+    Ok(())
+}
+
+fn write_interval<W: Write>(interval: Interval, f: &mut Formatter<W>) -> fmt::Result
+    ensures { WritesOnOk W.write_str_gives f.old result (text.interval interval) f.new }
+{
+    let (first, last) = (interval.first(), interval.last());
+    write!(f, "[{first},{last}]")
+}
+
+fn write_string_set<W: Write>(
+    strings: &[BoxedSlice<u32>],
+    icase: bool,
+    f: &mut Formatter<W>,
+) -> fmt::Result
+    ensures { WritesOnOk W.write_str_gives f.old result (text.leaf_json (string_set (map boxed_slice_items strings.now) icase)) f.new }
+{
+    f.write_str("{\"kind\":\"StringSet\",\"alternatives\":[")?;
+    write_strings(strings, f)?;
+    write!(f, "],\"icase\":{icase}}}")
+}
+
+fn write_strings<W: Write>(strings: &[BoxedSlice<u32>], f: &mut Formatter<W>) -> fmt::Result
+    ensures { WritesOnOk W.write_str_gives f.old result (join_by text.numbers (codes ",") (map boxed_slice_items strings.now)) f.new }
+{
+    if let [first, rest @ ..] = strings {
+        write_characters(first, f)?;
+        write_more_strings(rest, f)?;
+    }
+    Ok(())
+}
+
+fn write_more_strings<W: Write>(strings: &[BoxedSlice<u32>], f: &mut Formatter<W>) -> fmt::Result
+    ensures { WritesOnOk W.write_str_gives f.old result
+        (flat_map (λ s. codes "," ++ text.numbers s) (map boxed_slice_items strings.now)) f.new }
+{
+    for string in strings {
+        f.write_str(",")?;
+        write_characters(string, f)?;
+    }
+    Ok(())
+}
+
+fn write_char_set<W: Write>(characters: &[u32], f: &mut Formatter<W>) -> fmt::Result
+    ensures { WritesOnOk W.write_str_gives f.old result (text.leaf_json (char_set characters.now)) f.new }
+{
+    f.write_str("{\"kind\":\"CharSet\",\"characters\":")?;
+    write_characters(characters, f)?;
+    f.write_str("}")
+}
+
+fn write_characters<W: Write>(characters: &[u32], f: &mut Formatter<W>) -> fmt::Result
+    ensures { WritesOnOk W.write_str_gives f.old result (text.numbers characters.now) f.new }
+{
+    f.write_str("[")?;
+    if let [first, rest @ ..] = characters {
+        write!(f, "{first}")?;
+        for c in rest {
+            write!(f, ",{c}")?;
+        }
+    }
+    f.write_str("]")
+}
+
+fn write_bytes<W: Write>(kind: &str, bytes: &[u8], f: &mut Formatter<W>) -> fmt::Result
+    ensures { WritesOnOk W.write_str_gives f.old result (text.node_of_bytes kind.now bytes.now) f.new }
+{
+    write!(f, "{{\"kind\":\"{kind}\",\"bytes\":")?;
+    write_byte_list(bytes, f)?;
+    f.write_str("}")
+}
+
+fn write_byte_list<W: Write>(bytes: &[u8], f: &mut Formatter<W>) -> fmt::Result
+    ensures { WritesOnOk W.write_str_gives f.old result (text.numbers bytes.now) f.new }
+{
+    f.write_str("[")?;
+    if let [first, rest @ ..] = bytes {
+        write!(f, "{first}")?;
+        for byte in rest {
+            write!(f, ",{byte}")?;
+        }
+    }
+    f.write_str("]")
+}
