@@ -2,7 +2,8 @@
 
    Every call answers a status, keeps no state, and touches nothing but what it is handed; what it takes of memory it
    takes from malloc, and gives back before it answers. So any threads may call at once, each with rooms of its own. A
-   call wants stack: 8 MiB serve every pattern of the limits (256 levels of groups and classes).
+   call wants stack, at most 800 KiB in what was measured: patterns as deep as the limits allow, 256 levels of groups and
+   classes. Alternatives take none.
 
    A pointer may be NULL where its length is 0. A pointer to a size, `needed` or `place`, is never NULL. Rooms don't
    overlap one another or the pattern. */
@@ -30,8 +31,8 @@ extern "C" {
 #define REGRESS_FRONT_DOT_ALL 4u      /* s */
 #define REGRESS_FRONT_UNICODE 8u      /* u */
 #define REGRESS_FRONT_UNICODE_SETS 16u /* v */
-/* The small table of Unicode in place of the whole one, which takes a call about a millisecond to make: for patterns of
-   ASCII, and for tests. It knows few properties, and for names the letters of ASCII and those to U+00F6. */
+/* The small table of Unicode in place of the whole one, which takes a call half a millisecond or more to make: for patterns
+   of ASCII, and for tests. It knows few properties, and for names the letters of ASCII and those from U+00C0 to U+00F6. */
 #define REGRESS_FRONT_SMALL_TABLE 32u
 
 /* Which tree: as the pattern is parsed, or in normal form. */

@@ -169,7 +169,9 @@ static void refuse_text(const char *pattern, uint32_t flags) {
     CHECK(wanting > 0);
 }
 
-int main(void) {
+int main(int count, char **arguments) {
+    /* With the word `small` the whole table's requests, which are thousands, are left out. */
+    int small = count > 1 && strcmp(arguments[1], "small") == 0;
     kinds();
     rooms();
     bad_input();
@@ -177,7 +179,9 @@ int main(void) {
     refuse("(?<a>x)|(?<a>y)\\k<a>", SMALL, REGRESS_FRONT_PARSED);
     refuse("(?<=ab)c{2}[a-c]+|[^a]", SMALL | REGRESS_FRONT_ICASE, REGRESS_FRONT_OPTIMIZED);
     refuse("a)", SMALL, REGRESS_FRONT_PARSED);
-    refuse("\\p{L}", REGRESS_FRONT_UNICODE, REGRESS_FRONT_OPTIMIZED);
+    if (!small) {
+        refuse("\\p{L}", REGRESS_FRONT_UNICODE, REGRESS_FRONT_OPTIMIZED);
+    }
     refuse_text("\\k<b>(?<a>x)", SMALL);
     if (wrong) {
         fprintf(stderr, "%d checks fail\n", wrong);

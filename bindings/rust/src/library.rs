@@ -45,7 +45,7 @@ pub struct Flags {
 /// Which table of Unicode a pattern is read by.
 #[derive(Clone, Copy, Debug, Default, PartialEq, Eq)]
 pub enum Table {
-    /// All of Unicode; a call takes about a millisecond to make it.
+    /// All of Unicode; a call takes half a millisecond to make it.
     #[default]
     Whole,
     /// A small one, for patterns of ASCII and for tests.
