@@ -1,0 +1,192 @@
+/* Tests of the calls from C. Linked with --wrap=malloc and --wrap=realloc, so that one request for memory can be refused. */
+
+#include <stdio.h>
+#include <stdlib.h>
+#include <string.h>
+
+#include <regress_front.h>
+
+void *__real_malloc(size_t size);
+void *__real_realloc(void *block, size_t size);
+
+static long requests;
+static long refused = -1;
+
+void *__wrap_malloc(size_t size) {
+    return requests++ == refused ? NULL : __real_malloc(size);
+}
+
+void *__wrap_realloc(void *block, size_t size) {
+    return requests++ == refused ? NULL : __real_realloc(block, size);
+}
+
+static int wrong;
+
+static void check(int holds, const char *what, int line) {
+    if (!holds) {
+        fprintf(stderr, "test.c:%d: %s\n", line, what);
+        wrong++;
+    }
+}
+
+#define CHECK(condition) check((condition), #condition, __LINE__)
+
+#define SMALL REGRESS_FRONT_SMALL_TABLE
+
+/* Room for words, and one word more that stays as it was. */
+#define ROOM 256
+#define MARK 0xA5A5A5A5u
+static uint32_t words[ROOM + 1];
+static size_t needed, place;
+
+static uint32_t parsed(const char *pattern, uint32_t flags, uint32_t optimize, size_t room) {
+    for (size_t i = 0; i <= ROOM; i++) {
+        words[i] = MARK;
+    }
+    return regress_front_parse_utf8(pattern, strlen(pattern), flags, optimize, words, room, &needed, &place);
+}
+
+static int are(const uint32_t *expected, size_t count) {
+    return needed == count && memcmp(words, expected, count * sizeof *words) == 0 && words[count] == MARK;
+}
+
+#define ARE(...) are((const uint32_t[]){__VA_ARGS__}, sizeof((const uint32_t[]){__VA_ARGS__}) / sizeof(uint32_t))
+
+/* One pattern for each kind, its words by the table in the header. */
+static void kinds(void) {
+    CHECK(parsed("", SMALL, 0, ROOM) == REGRESS_FRONT_OK && ARE(6, 2, 0, 0, 1));
+    CHECK(parsed("", SMALL, 1, ROOM) == REGRESS_FRONT_OK && ARE(1));
+    CHECK(parsed("a", SMALL, 0, ROOM) == REGRESS_FRONT_OK && ARE(6, 2, 0, 2, 0x61, 1));
+    CHECK(parsed("ab", SMALL, 1, ROOM) == REGRESS_FRONT_OK && ARE(6, 2, 0, 3, 2, 0, 0x61, 0x62, 1));
+    CHECK(parsed("[ab]", SMALL, 1, ROOM) == REGRESS_FRONT_OK && ARE(6, 2, 0, 4, 2, 0, 0x61, 0x62, 1));
+    CHECK(parsed("a|.", SMALL, 0, ROOM) == REGRESS_FRONT_OK && ARE(6, 2, 0, 7, 2, 0x61, 9, 1));
+    CHECK(parsed(".", SMALL | REGRESS_FRONT_DOT_ALL, 0, ROOM) == REGRESS_FRONT_OK && ARE(6, 2, 0, 8, 1));
+    CHECK(parsed("^$", SMALL | REGRESS_FRONT_MULTILINE, 0, ROOM) == REGRESS_FRONT_OK
+          && ARE(6, 2, 0, 6, 2, 0, 10, 0, 1, 10, 1, 1, 1));
+    CHECK(parsed("\\B", SMALL, 0, ROOM) == REGRESS_FRONT_OK && ARE(6, 2, 0, 11, 1, 0, 1));
+    CHECK(parsed("(a)", SMALL, 0, ROOM) == REGRESS_FRONT_OK && ARE(6, 2, 0, 12, 0, 0, 2, 0x61, 1));
+    CHECK(parsed("(?<n>a)", SMALL, 0, ROOM) == REGRESS_FRONT_OK
+          && ARE(6, 2, 0, 12, 0, 1, 1, 0, 0x6E, 2, 0x61, 1));
+    CHECK(parsed("[^0-9]", SMALL, 0, ROOM) == REGRESS_FRONT_OK && ARE(6, 2, 0, 13, 1, 1, 0, 0x30, 0x39, 1));
+    CHECK(parsed("(a){2,3}?", SMALL, 0, ROOM) == REGRESS_FRONT_OK
+          && ARE(6, 2, 0, 14, 0, 1, 0, 2, 0, 1, 3, 0, 12, 0, 0, 2, 0x61, 1));
+    CHECK(parsed("[0-9]*", SMALL, 1, ROOM) == REGRESS_FRONT_OK
+          && ARE(6, 2, 0, 15, 1, 0, 0, 0, 13, 0, 1, 0, 0x30, 0x39, 1));
+    CHECK(parsed("(?<!(a))", SMALL, 0, ROOM) == REGRESS_FRONT_OK
+          && ARE(6, 2, 0, 16, 1, 1, 0, 1, 12, 0, 0, 2, 0x61, 1));
+    CHECK(parsed("(a)\\1", SMALL | REGRESS_FRONT_ICASE, 0, ROOM) == REGRESS_FRONT_OK);
+    CHECK(words[needed - 4] == 17 && words[needed - 3] == 1 && words[needed - 2] == 1 && words[needed - 1] == 1);
+    CHECK(parsed("[\\q{xy}]", SMALL | REGRESS_FRONT_UNICODE | REGRESS_FRONT_UNICODE_SETS, 0, ROOM) == REGRESS_FRONT_OK);
+    int found = 0;
+    for (size_t i = 0; i + 7 < needed; i++) {
+        const uint32_t expected[] = {18, 0, 1, 0, 2, 0, 0x78, 0x79};
+        found |= memcmp(words + i, expected, sizeof expected) == 0;
+    }
+    CHECK(found);
+}
+
+/* With too little room nothing is written, and the words needed are told. */
+static void rooms(void) {
+    for (size_t room = 0; room < 6; room++) {
+        CHECK(parsed("a", SMALL, 0, room) == REGRESS_FRONT_ROOM && needed == 6);
+        CHECK(words[0] == MARK && words[room] == MARK);
+    }
+    CHECK(parsed("a", SMALL, 0, 6) == REGRESS_FRONT_OK && ARE(6, 2, 0, 2, 0x61, 1));
+}
+
+static void bad_input(void) {
+    const uint32_t past = 0x110000, greatest = 0x10FFFF, surrogate = 0xD800;
+    CHECK(regress_front_parse(&past, 1, SMALL, 0, words, ROOM, &needed, &place) == REGRESS_FRONT_BAD_INPUT);
+    CHECK(needed == 0 && place == 0);
+    CHECK(regress_front_parse(&greatest, 1, SMALL, 0, words, ROOM, &needed, &place) == REGRESS_FRONT_OK);
+    CHECK(regress_front_parse(&surrogate, 1, SMALL, 0, words, ROOM, &needed, &place) == REGRESS_FRONT_OK);
+    CHECK(regress_front_parse(NULL, 0, SMALL, 0, words, ROOM, &needed, &place) == REGRESS_FRONT_OK);
+    CHECK(regress_front_parse(NULL, 0, SMALL, 0, NULL, 0, &needed, &place) == REGRESS_FRONT_ROOM && needed == 5);
+    CHECK(regress_front_parse(NULL, 1, SMALL, 0, words, ROOM, &needed, &place) == REGRESS_FRONT_BAD_INPUT);
+    CHECK(regress_front_parse(NULL, 0, SMALL, 0, NULL, 1, &needed, &place) == REGRESS_FRONT_BAD_INPUT);
+    CHECK(regress_front_parse(NULL, 0, SMALL, 0, words, ROOM, NULL, &place) == REGRESS_FRONT_BAD_INPUT);
+    CHECK(regress_front_parse(NULL, 0, SMALL, 0, words, ROOM, &needed, NULL) == REGRESS_FRONT_BAD_INPUT);
+    CHECK(parsed("a", 64, 0, ROOM) == REGRESS_FRONT_BAD_INPUT);
+    CHECK(parsed("a", 0x80000000u, 0, ROOM) == REGRESS_FRONT_BAD_INPUT);
+    CHECK(parsed("a", SMALL, 2, ROOM) == REGRESS_FRONT_BAD_INPUT);
+    CHECK(parsed("\xFF", SMALL, 0, ROOM) == REGRESS_FRONT_BAD_INPUT);
+    CHECK(parsed("\xED\xA0\x80", SMALL, 0, ROOM) == REGRESS_FRONT_BAD_INPUT);
+    CHECK(words[0] == MARK);
+}
+
+static void faults(void) {
+    static const char expected[] = "Unbalanced parenthesis";
+    char text[64];
+    memset(text, '#', sizeof text);
+    CHECK(parsed("\xC3\xA9)", SMALL, 0, ROOM) == REGRESS_FRONT_FAULT && place == 1 && needed == 0);
+    CHECK(words[0] == MARK);
+    CHECK(regress_front_fault_utf8("a)", 2, SMALL, text, 5, &needed) == REGRESS_FRONT_ROOM);
+    CHECK(needed == strlen(expected) && text[0] == '#');
+    CHECK(regress_front_fault_utf8("a)", 2, SMALL, text, sizeof text, &needed) == REGRESS_FRONT_FAULT);
+    CHECK(needed == strlen(expected) && memcmp(text, expected, needed) == 0 && text[needed] == '#');
+    CHECK(regress_front_fault_utf8("a", 1, SMALL, NULL, 0, &needed) == REGRESS_FRONT_OK && needed == 0);
+    CHECK(regress_front_fault(NULL, 0, 64, NULL, 0, &needed) == REGRESS_FRONT_BAD_INPUT);
+    CHECK(regress_front_fault_utf8("\xFF", 1, SMALL, NULL, 0, &needed) == REGRESS_FRONT_BAD_INPUT);
+}
+
+/* Each request refused in turn answers want of memory, or what ample memory does. */
+static void refuse(const char *pattern, uint32_t flags, uint32_t optimize) {
+    requests = 0;
+    uint32_t ample = parsed(pattern, flags, optimize, ROOM);
+    size_t ample_needed = needed, ample_place = place, wanting = 0;
+    uint32_t expected[ROOM];
+    long most = requests;
+    memcpy(expected, words, sizeof expected);
+    for (refused = 0; refused < most; refused++) {
+        requests = 0;
+        uint32_t status = parsed(pattern, flags, optimize, ROOM);
+        if (status == REGRESS_FRONT_MEMORY) {
+            wanting++;
+            CHECK(words[0] == MARK);
+        } else {
+            CHECK(status == ample && needed == ample_needed && place == ample_place);
+            CHECK(memcmp(words, expected, sizeof expected) == 0);
+        }
+    }
+    refused = -1;
+    CHECK(wanting > 0);
+    printf("%s: want of memory in %zu of %ld runs\n", pattern, wanting, most);
+}
+
+static void refuse_text(const char *pattern, uint32_t flags) {
+    char text[128];
+    size_t wanting = 0;
+    requests = 0;
+    uint32_t ample = regress_front_fault_utf8(pattern, strlen(pattern), flags, text, sizeof text, &needed);
+    long most = requests;
+    for (refused = 0; refused < most; refused++) {
+        requests = 0;
+        uint32_t status = regress_front_fault_utf8(pattern, strlen(pattern), flags, text, sizeof text, &needed);
+        wanting += status == REGRESS_FRONT_MEMORY;
+        CHECK(status == REGRESS_FRONT_MEMORY || status == ample);
+    }
+    refused = -1;
+    CHECK(wanting > 0);
+}
+
+int main(int count, char **arguments) {
+    /* With the word `small` the whole table's requests, which are thousands, are left out. */
+    int small = count > 1 && strcmp(arguments[1], "small") == 0;
+    kinds();
+    rooms();
+    bad_input();
+    faults();
+    refuse("(?<a>x)|(?<a>y)\\k<a>", SMALL, REGRESS_FRONT_PARSED);
+    refuse("(?<=ab)c{2}[a-c]+|[^a]", SMALL | REGRESS_FRONT_ICASE, REGRESS_FRONT_OPTIMIZED);
+    refuse("a)", SMALL, REGRESS_FRONT_PARSED);
+    if (!small) {
+        refuse("\\p{L}", REGRESS_FRONT_UNICODE, REGRESS_FRONT_OPTIMIZED);
+    }
+    refuse_text("\\k<b>(?<a>x)", SMALL);
+    if (wrong) {
+        fprintf(stderr, "%d checks fail\n", wrong);
+        return 1;
+    }
+    puts("all checks hold");
+    return 0;
+}

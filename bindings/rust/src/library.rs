@@ -1,0 +1,173 @@
+//! The calls of the library.
+
+use crate::node::Node;
+use crate::words::decode;
+use std::error::Error;
+use std::fmt;
+
+extern "C" {
+    fn regress_front_parse_code_points(
+        pattern: *const u32,
+        pattern_length: usize,
+        flags: u32,
+        optimize: u32,
+        words: *mut u32,
+        room: usize,
+        needed: *mut usize,
+        place: *mut usize,
+    ) -> u32;
+
+    fn regress_front_tell_fault(
+        pattern: *const u32,
+        pattern_length: usize,
+        flags: u32,
+        text: *mut u8,
+        room: usize,
+        needed: *mut usize,
+    ) -> u32;
+}
+
+const OK: u32 = 0;
+const FAULT: u32 = 1;
+const MEMORY: u32 = 2;
+const ROOM: u32 = 3;
+
+/// The flags of a pattern, each read by itself: the v of JavaScript is `unicode` and `unicode_sets`.
+#[derive(Clone, Copy, Debug, Default, PartialEq, Eq)]
+pub struct Flags {
+    pub icase: bool,
+    pub multiline: bool,
+    pub dot_all: bool,
+    pub unicode: bool,
+    pub unicode_sets: bool,
+}
+
+/// Which table of Unicode a pattern is read by.
+#[derive(Clone, Copy, Debug, Default, PartialEq, Eq)]
+pub enum Table {
+    /// All of Unicode; a call takes half a millisecond to make it.
+    #[default]
+    Whole,
+    /// A small one, for patterns of ASCII and for tests.
+    Small,
+}
+
+/// Why a pattern has no tree.
+#[derive(Clone, Debug, PartialEq, Eq)]
+pub enum Fault {
+    /// The grammar derives no pattern here; reading stopped at the code point of that index.
+    Syntax { text: String, place: usize },
+    /// Memory was wanting.
+    Memory,
+    /// A number of the pattern is past U+10FFFF.
+    NoCodePoint,
+}
+
+impl fmt::Display for Fault {
+    fn fmt(&self, f: &mut fmt::Formatter<'_>) -> fmt::Result {
+        match self {
+            Fault::Syntax { text, .. } => f.write_str(text),
+            Fault::Memory => f.write_str("out of memory"),
+            Fault::NoCodePoint => f.write_str("no code point"),
+        }
+    }
+}
+
+impl Error for Fault {}
+
+/// The tree of a pattern of code points, as it is parsed. A `&str` gives them by `chars().map(u32::from)`.
+pub fn parse(pattern: &[u32], flags: Flags, table: Table) -> Result<Node, Fault> {
+    tree(pattern, bits(flags, table), 0)
+}
+
+/// The tree in normal form.
+pub fn parse_and_optimize(pattern: &[u32], flags: Flags, table: Table) -> Result<Node, Fault> {
+    tree(pattern, bits(flags, table), 1)
+}
+
+fn bits(flags: Flags, table: Table) -> u32 {
+    u32::from(flags.icase)
+        | u32::from(flags.multiline) << 1
+        | u32::from(flags.dot_all) << 2
+        | u32::from(flags.unicode) << 3
+        | u32::from(flags.unicode_sets) << 4
+        | u32::from(table == Table::Small) << 5
+}
+
+fn tree(pattern: &[u32], bits: u32, optimize: u32) -> Result<Node, Fault> {
+    // Most trees find room at once.
+    let mut words = vec![0; 16 * pattern.len() + 64];
+    let mut answer = words_into(pattern, bits, optimize, &mut words);
+    if answer.status == ROOM {
+        words.resize(answer.needed, 0);
+        answer = words_into(pattern, bits, optimize, &mut words);
+    }
+    match answer.status {
+        OK => Ok(decode(&words[..answer.needed]).expect("the words of a tree")),
+        FAULT => {
+            let text = fault_text(pattern, bits)?;
+            let place = answer.place;
+            Err(Fault::Syntax { text, place })
+        }
+        MEMORY => Err(Fault::Memory),
+        _ => Err(Fault::NoCodePoint),
+    }
+}
+
+struct Answer {
+    status: u32,
+    needed: usize,
+    place: usize,
+}
+
+fn words_into(pattern: &[u32], bits: u32, optimize: u32, words: &mut [u32]) -> Answer {
+    let (mut needed, mut place) = (0, 0);
+    // SAFETY: pointers and lengths are those of slices, which are never null, and the call keeps none of them.
+    let status = unsafe {
+        regress_front_parse_code_points(
+            pattern.as_ptr(),
+            pattern.len(),
+            bits,
+            optimize,
+            words.as_mut_ptr(),
+            words.len(),
+            &mut needed,
+            &mut place,
+        )
+    };
+    Answer {
+        status,
+        needed,
+        place,
+    }
+}
+
+fn fault_text(pattern: &[u32], bits: u32) -> Result<String, Fault> {
+    let mut text = vec![0; 128];
+    let (mut status, mut needed) = text_into(pattern, bits, &mut text);
+    if status == ROOM {
+        text.resize(needed, 0);
+        (status, needed) = text_into(pattern, bits, &mut text);
+    }
+    if status != FAULT {
+        return Err(Fault::Memory);
+    }
+    text.truncate(needed);
+    Ok(String::from_utf8(text).expect("a text in UTF-8"))
+}
+
+fn text_into(pattern: &[u32], bits: u32, text: &mut [u8]) -> (u32, usize) {
+    let mut needed = 0;
+    // SAFETY: as above.
+    let status = unsafe {
+        regress_front_tell_fault(
+            pattern.as_ptr(),
+            pattern.len(),
+            bits,
+            text.as_mut_ptr(),
+            text.len(),
+            &mut needed,
+        )
+    };
+    (status, needed)
+}

@@ -1,0 +1,32 @@
+-- What a call asks for.
+use Rattle.std.specs.Prelude.{ℕ, ◌≤◌, ◌<◌, Bool, not, ◌==◌, bit_and, All, List, if◌then◌else◌}
+use Rattle.regress_base.specs.Intervals.{code_point_max}
+use Rattle.regress_base.specs.Table.{Table}
+use Rattle.regress_base.specs.declared.types.Flags.{Flags}
+use Rattle.regress_unicode.specs.SmallTable.{small_table}
+use Rattle.regress_ucd.specs.UnicodeTable.{unicode_table}
+use Rattle.regress_tree.specs.Setting.{Setting}
+
+-- whether the bit is set
+abbrev pub has : ℕ → ℕ → Bool
+has bits bit = not (bit_and bits bit == 0)
+
+abbrev pub flags_of : ℕ → Flags
+flags_of bits = record {
+  icase = has bits 1;
+  multiline = has bits 2;
+  dot_all = has bits 4;
+  unicode = has bits 8;
+  unicode_sets = has bits 16;
+}
+
+-- the small table by the next bit, else that of all of Unicode
+abbrev pub table_by : ℕ → Table
+table_by bits = if has bits 32 then small_table else unicode_table
+
+abbrev pub setting_by : ℕ → Setting
+setting_by bits = record { flags = flags_of bits; table = table_by bits }
+
+-- code points, no bit that has no meaning, and a number for a choice of two
+abbrev pub IsRequest : List ℕ → ℕ → ℕ → Type 0
+IsRequest pattern bits choice = All (λ c. c ≤ code_point_max) pattern × (bits < 64) × (choice < 2)

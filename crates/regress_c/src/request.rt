@@ -1,0 +1,55 @@
+//! What a call asks for.
+ghost use Rattle.std.specs.Prelude.{◌≡◌, ◌↔◌, IsTrue, IfOk};
+ghost use Rattle.regress_front.specs.TableOf.{table_of};
+ghost use Rattle.regress_c.specs.Request.{flags_of, table_by, IsRequest};
+
+use regress_front::codepointset::CODE_POINT_MAX;
+use regress_front::types::Flags;
+use regress_front::unicode::Tables;
+use regress_ucd::unicode_tables;
+use std::alloc::{AllocError, Global};
+
+const ICASE: u32 = 1;
+
+const MULTILINE: u32 = 2;
+
+const DOT_ALL: u32 = 4;
+
+const UNICODE: u32 = 8;
+
+const UNICODE_SETS: u32 = 16;
+
+const SMALL_TABLE: u32 = 32;
+
+const ALL_BITS: u32 = 63;
+
+/// Whether these are code points, flags that there are, and 0 or 1.
+pub(crate) fn is_request(pattern: &[u32], bits: u32, choice: u32) -> bool
+    ensures { IsTrue result ↔ IsRequest pattern.now bits choice }
+{
+    pattern.iter().all(|c| *c <= CODE_POINT_MAX) && bits <= ALL_BITS && choice < 2
+}
+
+/// The flags of a pattern among the bits.
+pub(crate) fn read_flags(bits: u32) -> Flags
+    ensures { result ≡ flags_of bits }
+{
+    Flags {
+        icase: bits & ICASE != 0,
+        multiline: bits & MULTILINE != 0,
+        dot_all: bits & DOT_ALL != 0,
+        unicode: bits & UNICODE != 0,
+        unicode_sets: bits & UNICODE_SETS != 0,
+    }
+}
+
+/// The table that the bits name.
+pub(crate) fn make_tables(alloc: Global, bits: u32) -> Result<Tables, AllocError>
+    ensures { IfOk result (λ tables. table_of tables ≡ table_by bits) }
+{
+    if bits & SMALL_TABLE != 0 {
+        Tables::small(alloc)
+    } else {
+        unicode_tables(alloc)
+    }
+}

@@ -1,0 +1,58 @@
+//! The words of a pattern's tree.
+ghost use Rattle.std.specs.Prelude.{◌≡◌, ◌≤◌, All, IfOk, length};
+ghost use Rattle.regress_front.specs.Intervals.{code_point_max};
+ghost use Rattle.regress_front.specs.TableOf.{table_of};
+ghost use Rattle.regress_front.specs.SettingOf.{setting_of};
+ghost use Rattle.regress_front.specs.Tree.{tree};
+ghost use Rattle.regress_front.specs.Accepted.{NoneIsAccepted, IsTrueOf};
+ghost use Rattle.regress_front.specs.Fault.{RefusedOnlyIf, Tells, IsPlacedWithin, unplaced};
+ghost use Rattle.regress_c.specs.Request.{setting_by};
+ghost use Rattle.regress_c.specs.Answer.{IsAnswer, AreWords};
+
+use super::request::{make_tables, read_flags};
+use regress_front::ir::Regex;
+use regress_front::optimizer::optimize;
+use regress_front::parse::{PlacedFault, try_parse_with_place};
+use regress_front::types::Flags;
+use regress_front::unicode::Tables;
+use regress_words::encode;
+use std::alloc::Global;
+
+/// The words of the pattern's tree as it is parsed, or optimized.
+pub(crate) fn make_words(
+    alloc: Global,
+    pattern: &[u32],
+    bits: u32,
+    optimized: bool,
+) -> Result<Vec<u32>, PlacedFault>
+    requires { All (λ c. c ≤ code_point_max) pattern.now }
+    ensures words { IfOk result (λ words. AreWords (setting_by bits) pattern.now optimized words.items) }
+    ensures refused { RefusedOnlyIf (unplaced result) (NoneIsAccepted (setting_by bits) pattern.now) }
+    ensures told { Tells (unplaced result) (IsTrueOf (setting_by bits) pattern.now) }
+    ensures place { IsPlacedWithin (length pattern.now) result }
+{
+    let tables = make_tables(alloc, bits).map_err(PlacedFault::Memory)?;
+    let regex = make_tree(alloc, pattern, read_flags(bits), &tables, optimized)?;
+    encode(alloc, &regex.node).map_err(PlacedFault::Memory)
+}
+
+/// The pattern's tree as it is parsed, or optimized.
+fn make_tree(
+    alloc: Global,
+    pattern: &[u32],
+    flags: Flags,
+    tables: &Tables,
+    optimized: bool,
+) -> Result<Regex, PlacedFault>
+    requires { All (λ c. c ≤ code_point_max) pattern.now }
+    ensures answer { IfOk result (λ regex. IsAnswer (setting_of flags tables.now) pattern.now optimized (tree regex.node)) }
+    ensures refused { RefusedOnlyIf (unplaced result) (NoneIsAccepted (setting_of flags tables.now) pattern.now) }
+    ensures told { Tells (unplaced result) (IsTrueOf (setting_of flags tables.now) pattern.now) }
+    ensures place { IsPlacedWithin (length pattern.now) result }
+{
+    let mut regex = try_parse_with_place(alloc, pattern, flags, tables)?;
+    if optimized {
+        optimize(alloc, &mut regex).map_err(PlacedFault::Memory)?;
+    }
+    Ok(regex)
+}

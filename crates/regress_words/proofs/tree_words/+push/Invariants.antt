@@ -1,0 +1,19 @@
+use Rattle.std.proofs.Common.{◌≡◌, ◌≤◌, ◌++◌, drop}
+use Rattle.regress_tree.specs.declared.ir.node.Node.{size-Node}
+use Rattle.regress_tree.specs.Tree.{tree, trees}
+use Rattle.regress_words.specs.Words.{encode, encode_row}
+use Rattle.regress_words.proofs.tree_words.+push.Given as goal
+
+-- What is still to be pushed completes the whole. The loop goes down, and the calls in it go further.
+abbrev pub invariant-push_tree-loop-parts : goal.invariant-push_tree-loop-parts
+invariant-push_tree-loop-parts l = record {
+  smaller : size-Node l.node ≤ size-Node l.initial.node;
+  completes : l.words.items ++ encode (tree l.node) ≡ l.initial.words.items ++ encode (tree l.initial.node);
+}
+
+abbrev pub decreases-push_tree-loop-parts : goal.decreases-push_tree-loop-parts
+decreases-push_tree-loop-parts l = size-Node l.node
+
+abbrev pub invariant-push_trees-loop-part : goal.invariant-push_trees-loop-part
+invariant-push_trees-loop-part l =
+    l.words.items ++ encode_row (trees (drop l.part-index l.parts)) ≡ l.initial.words.items ++ encode_row (trees l.parts)

@@ -1,0 +1,7 @@
+//! Trees as 32-bit words, for callers in other languages.
+#![tactic(auto)]
+
+mod parts;
+mod tree_words;
+
+pub use tree_words::{encode, words_tell_the_tree};
