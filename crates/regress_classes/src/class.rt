@@ -5,7 +5,7 @@ ghost use Rattle.regress_classes.specs.ClassRows.{complement_if, atom_members, b
 ghost use Rattle.regress_base.specs.Table.{Table};
 ghost use Rattle.regress_unicode.specs.TableOf.{table_of};
 ghost use Rattle.regress_lexical.specs.Source.{char};
-ghost use Rattle.regress_lexical.specs.Fault.{FailsOnlyIf};
+ghost use Rattle.regress_lexical.specs.Fault.{FailsByNoLimit, FailsOnlyIf};
 ghost use Rattle.regress_lexical.specs.Reads.{ReadsAs};
 ghost use Rattle.regress_classes.specs.ClassViews.{class_atom_of, IsClassAtomInRange, HasMembers, Adds, IsClassRead};
 ghost use Rattle.regress_lexical.specs.Views.{source};
@@ -28,7 +28,8 @@ pub struct Class {
 
 /// Reads a class, behind its `[` (ECMA-262, CharacterClass with annex B).
 pub fn read_class(cursor: &mut Cursor, tables: &Tables, unicode: bool) -> Result<Class, Fault>
-    ensures { ReadsAs IsClassRead (source cursor.new) result (class_at (table_of tables.now) unicode (source cursor.old)) }
+    ensures value { ReadsAs IsClassRead (source cursor.new) result (class_at (table_of tables.now) unicode (source cursor.old)) }
+    ensures kind { FailsByNoLimit result }
 {
     let inverted = cursor.try_consume('^');
     let set = read_parts(cursor, tables, unicode)?;
@@ -37,8 +38,9 @@ pub fn read_class(cursor: &mut Cursor, tables: &Tables, unicode: bool) -> Result
 
 /// Reads the parts of a class, and the `]` behind them.
 fn read_parts(cursor: &mut Cursor, tables: &Tables, unicode: bool) -> Result<CodePointSet, Fault>
-    ensures { let t = source cursor.old in
+    ensures value { let t = source cursor.old in
         ReadsAs (λ set members. HasMembers members set) (source cursor.new) result (class_parts_by (table_of tables.now) unicode (length t + 1) t) }
+    ensures kind { FailsByNoLimit result }
 {
     let mut gathered = Gathered::new(cursor.alloc);
     while !cursor.is_at(']') {
@@ -55,7 +57,8 @@ fn read_part(
     unicode: bool,
     set: &mut Gathered,
 ) -> Result<(), Fault>
-    ensures { ReadsAs (λ _ members. Adds members set.old set.new) (source cursor.new) result (class_part_at (table_of tables.now) unicode (source cursor.old)) }
+    ensures value { ReadsAs (λ _ members. Adds members set.old set.new) (source cursor.new) result (class_part_at (table_of tables.now) unicode (source cursor.old)) }
+    ensures kind { FailsByNoLimit result }
 {
     if let Some(interval) = take_plain_part(cursor) {
         set.add(interval)?;
@@ -98,7 +101,8 @@ fn read_any_part(
     unicode: bool,
     set: &mut Gathered,
 ) -> Result<(), Fault>
-    ensures { ReadsAs (λ _ members. Adds members set.old set.new) (source cursor.new) result (class_part_at (table_of tables.now) unicode (source cursor.old)) }
+    ensures value { ReadsAs (λ _ members. Adds members set.old set.new) (source cursor.new) result (class_part_at (table_of tables.now) unicode (source cursor.old)) }
+    ensures kind { FailsByNoLimit result }
 {
     let left = cursor.rest.len();
     let first = read_class_atom(cursor, tables, unicode)?;
@@ -140,7 +144,8 @@ fn read_range(
     set: &mut Gathered,
 ) -> Result<(), Fault>
     requires { IsClassAtomInRange first }
-    ensures { ReadsAs (λ _ members. Adds members set.old set.new) (source cursor.new) result (range_at (table_of tables.now) unicode (class_atom_of first.entry) (source cursor.old)) }
+    ensures value { ReadsAs (λ _ members. Adds members set.old set.new) (source cursor.new) result (range_at (table_of tables.now) unicode (class_atom_of first.entry) (source cursor.old)) }
+    ensures kind { FailsByNoLimit result }
 {
     let last = read_class_atom(cursor, tables, unicode)?;
     add_range(set, cursor.alloc, unicode, left, first, last)
@@ -160,6 +165,7 @@ fn add_range(
     ensures ok { OnOk result ((members : List Bounds)
         × (range_of unicode (class_atom_of first.entry) (class_atom_of last.entry) ≡ Some members) × Adds members set.old set.new) }
     ensures err { FailsOnlyIf result (range_of unicode (class_atom_of first.entry) (class_atom_of last.entry) ≡ None) }
+    ensures kind { FailsByNoLimit result }
 {
     if let (ClassAtom::Point(a), ClassAtom::Point(b)) = (first, last) {
         if a > b {

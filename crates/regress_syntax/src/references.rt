@@ -1,6 +1,7 @@
 //! References to groups.
 ghost use Rattle.std.specs.Prelude.{◌≡◌, ◌||◌, true, IfOk, string_bytes, encode_utf8_all};
 ghost use Rattle.regress_lexical.specs.Escapes.{begins_with_digit};
+ghost use Rattle.regress_lexical.specs.Fault.{FailsByNoLimit};
 ghost use Rattle.regress_lexical.specs.Reads.{answered, ReadsAs};
 ghost use Rattle.regress_syntax.specs.Numbering.{group_number_at};
 ghost use Rattle.regress_syntax.specs.Rows.{has_names, named_at};
@@ -35,7 +36,8 @@ pub fn has_references_by_name(scope: &Scope) -> bool
 
 /// Reads a reference by name, behind `\k`: the groups of that name, by their numbers from 1.
 pub fn read_reference<'a>(cursor: &mut Cursor, scope: &Scope<'a>) -> Result<&'a [u32], Fault>
-    ensures { ReadsAs (λ numbers. AreReferences (context_of scope.now) numbers.now) (source cursor.new) result (named_at (context_of scope.now) (source cursor.old)) }
+    ensures value { ReadsAs (λ numbers. AreReferences (context_of scope.now) numbers.now) (source cursor.new) result (named_at (context_of scope.now) (source cursor.old)) }
+    ensures kind { FailsByNoLimit result }
 {
     let Some((name, rest)) = read_group_name(cursor.alloc, cursor.rest, scope.tables)? else {
         return Err(cursor.refuse(FaultKind::InvalidReference));
