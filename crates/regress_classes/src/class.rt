@@ -5,7 +5,7 @@ ghost use Rattle.regress_classes.specs.ClassRows.{complement_if, atom_members, b
 ghost use Rattle.regress_base.specs.Table.{Table};
 ghost use Rattle.regress_unicode.specs.TableOf.{table_of};
 ghost use Rattle.regress_lexical.specs.Source.{char};
-ghost use Rattle.regress_lexical.specs.Fault.{FailsOnlyIf};
+ghost use Rattle.regress_lexical.specs.Fault.{FailsByNoLimit, FailsOnlyIf};
 ghost use Rattle.regress_lexical.specs.Reads.{ReadsAs};
 ghost use Rattle.regress_classes.specs.ClassViews.{class_atom_of, IsClassAtomInRange, HasMembers, Adds, IsClassRead};
 ghost use Rattle.regress_lexical.specs.Views.{source};
@@ -34,7 +34,8 @@ pub fn read_class(
     unicode: bool,
     opened: usize,
 ) -> Result<Class, Fault>
-    ensures { ReadsAs IsClassRead (source cursor.new) result (class_at (table_of tables.now) unicode (source cursor.old)) }
+    ensures value { ReadsAs IsClassRead (source cursor.new) result (class_at (table_of tables.now) unicode (source cursor.old)) }
+    ensures kind { FailsByNoLimit result }
 {
     let inverted = cursor.try_consume('^');
     let set = read_parts(cursor, tables, unicode, opened)?;
@@ -48,8 +49,9 @@ fn read_parts(
     unicode: bool,
     opened: usize,
 ) -> Result<CodePointSet, Fault>
-    ensures { let t = source cursor.old in
+    ensures value { let t = source cursor.old in
         ReadsAs (λ set members. HasMembers members set) (source cursor.new) result (class_parts_by (table_of tables.now) unicode (length t + 1) t) }
+    ensures kind { FailsByNoLimit result }
 {
     let mut gathered = Gathered::new(cursor.alloc);
     while !cursor.is_at(']') {
@@ -67,7 +69,8 @@ fn read_part(
     opened: usize,
     set: &mut Gathered,
 ) -> Result<(), Fault>
-    ensures { ReadsAs (λ _ members. Adds members set.old set.new) (source cursor.new) result (class_part_at (table_of tables.now) unicode (source cursor.old)) }
+    ensures value { ReadsAs (λ _ members. Adds members set.old set.new) (source cursor.new) result (class_part_at (table_of tables.now) unicode (source cursor.old)) }
+    ensures kind { FailsByNoLimit result }
 {
     if let Some(interval) = take_plain_part(cursor) {
         set.add(interval)?;
@@ -111,7 +114,8 @@ fn read_any_part(
     opened: usize,
     set: &mut Gathered,
 ) -> Result<(), Fault>
-    ensures { ReadsAs (λ _ members. Adds members set.old set.new) (source cursor.new) result (class_part_at (table_of tables.now) unicode (source cursor.old)) }
+    ensures value { ReadsAs (λ _ members. Adds members set.old set.new) (source cursor.new) result (class_part_at (table_of tables.now) unicode (source cursor.old)) }
+    ensures kind { FailsByNoLimit result }
 {
     let left = cursor.rest.len();
     let first = read_class_atom(cursor, tables, unicode, opened)?;
@@ -154,7 +158,8 @@ fn read_range(
     set: &mut Gathered,
 ) -> Result<(), Fault>
     requires { IsClassAtomInRange first }
-    ensures { ReadsAs (λ _ members. Adds members set.old set.new) (source cursor.new) result (range_at (table_of tables.now) unicode (class_atom_of first.entry) (source cursor.old)) }
+    ensures value { ReadsAs (λ _ members. Adds members set.old set.new) (source cursor.new) result (range_at (table_of tables.now) unicode (class_atom_of first.entry) (source cursor.old)) }
+    ensures kind { FailsByNoLimit result }
 {
     let last = read_class_atom(cursor, tables, unicode, opened)?;
     add_range(set, cursor.alloc, unicode, left, first, last)
@@ -174,6 +179,7 @@ fn add_range(
     ensures ok { OnOk result ((members : List Bounds)
         × (range_of unicode (class_atom_of first.entry) (class_atom_of last.entry) ≡ Some members) × Adds members set.old set.new) }
     ensures err { FailsOnlyIf result (range_of unicode (class_atom_of first.entry) (class_atom_of last.entry) ≡ None) }
+    ensures kind { FailsByNoLimit result }
 {
     if let (ClassAtom::Point(a), ClassAtom::Point(b)) = (first, last) {
         if a > b {

@@ -2,6 +2,7 @@
 ghost use Rattle.std.specs.Prelude.{◌≡◌, ◌∷◌, Some, IfOk};
 ghost use Rattle.regress_classes.specs.ClassRows.{class_atom_at, class_escape_at, class_control_at, class_property_at};
 ghost use Rattle.regress_lexical.specs.Source.{char};
+ghost use Rattle.regress_lexical.specs.Fault.{FailsByNoLimit};
 ghost use Rattle.regress_lexical.specs.Reads.{Reads};
 ghost use Rattle.regress_classes.specs.ClassViews.{class_atom_of, IsClassAtomInRange};
 ghost use Rattle.regress_lexical.specs.Views.{source};
@@ -44,6 +45,7 @@ pub fn read_class_atom<'a>(
 ) -> Result<ClassAtom<'a>, Fault>
     ensures value { Reads class_atom_of (source cursor.new) result (class_atom_at (table_of tables.now) unicode (source cursor.old)) }
     ensures in_range { IfOk result IsClassAtomInRange }
+    ensures kind { FailsByNoLimit result }
 {
     let begin = cursor.rest.len();
     match cursor.next() {
@@ -63,6 +65,7 @@ fn read_escaped_atom<'a>(
 ) -> Result<ClassAtom<'a>, Fault>
     ensures value { Reads class_atom_of (source cursor.new) result (class_escape_at (table_of tables.now) unicode (source cursor.old)) }
     ensures in_range { IfOk result IsClassAtomInRange }
+    ensures kind { FailsByNoLimit result }
 {
     let Some((c, rest)) = cursor.rest.split_first() else {
         return Err(refused(begin, FaultKind::UnterminatedEscape));
@@ -102,6 +105,7 @@ fn read_class_property<'a>(
     ensures value { Reads class_atom_of (source cursor.new) result
         (class_property_at (table_of tables.now) negated (source cursor.old)) }
     ensures in_range { IfOk result IsClassAtomInRange }
+    ensures kind { FailsByNoLimit result }
 {
     match read_property(cursor, false, tables)? {
         Property::Points(set) => Ok(ClassAtom::Property { set, negated }),

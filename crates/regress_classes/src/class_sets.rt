@@ -1,6 +1,7 @@
 //! Classes with the flag v.
-ghost use Rattle.std.specs.Prelude.{◌≡◌, ◌<◌, ◌+◌, ◌-◌, ◌^◌, Bool, true, false, drop, [], ◌∷◌, if◌then◌else◌, IfOk, OnOk, OnErr};
+ghost use Rattle.std.specs.Prelude.{◌≡◌, ◌<◌, ◌≤◌, length, ◌+◌, ◌-◌, ◌^◌, Bool, true, false, drop, [], ◌∷◌, if◌then◌else◌, IfOk, OnOk, OnErr};
 ghost use Rattle.regress_classes.specs.ClassSets.{Value as Written, Operand as WrittenOperand, nested, are_at, operand_at, part_behind, contents_behind, contents_at, class_set_by};
+ghost use Rattle.regress_lexical.specs.Fault.{is_limit, FailsByNoLimit, FailsByLevelsOnlyIf};
 ghost use Rattle.regress_lexical.specs.Reads.{ReadsAs};
 ghost use Rattle.regress_classes.specs.ClassViews.{IsValue, IsUnion, Joins, IsOperand, IsClassSetRead, inner_of, parts_onto, operands_onto, sign_of, applied};
 ghost use Rattle.regress_lexical.specs.Views.{source};
@@ -79,7 +80,9 @@ impl Operator {
     }
 
     /// The fault where something else stands behind an operand.
-    fn unexpected(self) -> FaultKind {
+    fn unexpected(self) -> FaultKind
+        ensures { is_limit result ≡ false }
+    {
         match self {
             Operator::Intersection => FaultKind::UnexpectedInIntersection,
             Operator::Subtraction => FaultKind::UnexpectedInSubtraction,
@@ -99,6 +102,7 @@ pub fn read_class_set(
 ) -> Result<ClassSet, Fault>
     ensures value { ReadsAs IsClassSetRead (source cursor.new) result (class_set_by (table_of tables.now) unicode levels (source cursor.old)) }
     ensures levels { IfOk result (λ class. class.value.levels < levels) }
+    ensures kind { FailsByLevelsOnlyIf result (levels ≤ length (source cursor.old)) }
 {
     if levels == 0 {
         return Err(refused(opened, FaultKind::TooDeep));
@@ -121,8 +125,9 @@ pub fn read_class_set(
 /// Reads what a class holds, up to its `]`.
 #[cycle(class_set)]
 fn read_contents(cursor: &mut Cursor, around: &Surroundings) -> Result<Value, Fault>
-    ensures { ReadsAs IsValue (source cursor.new) result
+    ensures value { ReadsAs IsValue (source cursor.new) result
         (contents_at (table_of around.now.tables.now) around.now.unicode (inner_of around.now) around.now.negated (source cursor.old)) }
+    ensures kind { FailsByLevelsOnlyIf result (around.now.levels < length (source cursor.old)) }
 {
     if cursor.try_consume(']') {
         return Ok(Value::new(cursor.alloc));
@@ -144,8 +149,9 @@ fn read_behind(
     left: usize,
 ) -> Result<Value, Fault>
     requires { (operand : WrittenOperand) × IsOperand first operand }
-    ensures { (operand : WrittenOperand) → IsOperand first operand → ReadsAs IsValue (source cursor.new) result
+    ensures value { (operand : WrittenOperand) → IsOperand first operand → ReadsAs IsValue (source cursor.new) result
         (contents_behind (table_of around.now.tables.now) around.now.unicode (inner_of around.now) around.now.negated (operand, source cursor.old)) }
+    ensures kind { FailsByLevelsOnlyIf result (around.now.levels < length (source cursor.old)) }
 {
     if try_consume_both(cursor, '&') {
         let value = first.into_value(cursor.alloc)?;
@@ -190,8 +196,9 @@ fn are_at(source: &[u32], c: char) -> bool
 /// Reads the parts up to `]`, which join what is held already.
 #[cycle(class_set)]
 fn read_parts(cursor: &mut Cursor, around: &Surroundings, mut union: Union) -> Result<Value, Fault>
-    ensures { (held : Written) → IsUnion union held → ReadsAs IsValue (source cursor.new) result
+    ensures value { (held : Written) → IsUnion union held → ReadsAs IsValue (source cursor.new) result
         (parts_onto (table_of around.now.tables.now) around.now.unicode (inner_of around.now) around.now.negated held (source cursor.old)) }
+    ensures kind { FailsByLevelsOnlyIf result (around.now.levels < length (source cursor.old)) }
 {
     while !cursor.is_at(']') {
         if cursor.rest.is_empty() {
@@ -216,8 +223,9 @@ fn read_part_behind(
     union: &mut Union,
 ) -> Result<(), Fault>
     requires { (operand : WrittenOperand) × IsOperand first operand }
-    ensures { (operand : WrittenOperand) → IsOperand first operand → ReadsAs (λ _ part. Joins part union.old union.new) (source cursor.new) result
+    ensures value { (operand : WrittenOperand) → IsOperand first operand → ReadsAs (λ _ part. Joins part union.old union.new) (source cursor.new) result
         (part_behind (table_of around.now.tables.now) around.now.unicode (inner_of around.now) around.now.negated (operand, source cursor.old)) }
+    ensures kind { FailsByLevelsOnlyIf result (around.now.levels < length (source cursor.old)) }
 {
     if !cursor.try_consume('-') {
         union.add_operand(first)?;
@@ -240,9 +248,10 @@ fn read_operands(
     value: Value,
     operator: Operator,
 ) -> Result<Value, Fault>
-    ensures { (held : Written) → IsValue value held → ReadsAs IsValue (source cursor.new) result
+    ensures value { (held : Written) → IsValue value held → ReadsAs IsValue (source cursor.new) result
         (operands_onto (table_of around.now.tables.now) around.now.unicode (inner_of around.now) around.now.negated
         (sign_of operator) (applied operator) held (source cursor.old)) }
+    ensures kind { FailsByLevelsOnlyIf result (around.now.levels < length (source cursor.old)) }
 {
     let mut chain = Chain::new(value, operator);
     loop {
@@ -260,6 +269,7 @@ fn read_operands(
 fn consume_operator(cursor: &mut Cursor, operator: Operator, opened: usize) -> Result<(), Fault>
     ensures ok { OnOk result ((are_at (sign_of operator) (source cursor.old) ≡ true) × (source cursor.new ≡ drop 2 (source cursor.old))) }
     ensures err { OnErr result (are_at (sign_of operator) (source cursor.old) ≡ false) }
+    ensures kind { FailsByNoLimit result }
 {
     if try_consume_both(cursor, operator.sign()) {
         return Ok(());
@@ -276,8 +286,9 @@ fn consume_operator(cursor: &mut Cursor, operator: Operator, opened: usize) -> R
 /// Reads an operand (this project's profile of ECMA-262, ClassSetOperand).
 #[cycle(class_set)]
 fn read_operand(cursor: &mut Cursor, around: &Surroundings) -> Result<Operand, Fault>
-    ensures { ReadsAs IsOperand (source cursor.new) result
+    ensures value { ReadsAs IsOperand (source cursor.new) result
         (operand_at (table_of around.now.tables.now) around.now.unicode (inner_of around.now) around.now.negated (source cursor.old)) }
+    ensures kind { FailsByLevelsOnlyIf result (around.now.levels < length (source cursor.old)) }
 {
     if cursor.rest.is_empty() {
         return Err(cursor.refuse(FaultKind::EmptyOperand));

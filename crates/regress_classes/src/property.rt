@@ -2,6 +2,7 @@
 ghost use Rattle.std.specs.Prelude.{◌≡◌, ◌==◌, ◌||◌, true, [], ◌∷◌, string_bytes, option_map, IfOk, IfSome, IfNone};
 ghost use Rattle.regress_lexical.specs.Digits.{front};
 ghost use Rattle.regress_classes.specs.Properties.{is_property_character, lone_value, list_named, value_in, closed_property, property_word_at, braced_property_at, property_at};
+ghost use Rattle.regress_lexical.specs.Fault.{FailsByNoLimit};
 ghost use Rattle.regress_lexical.specs.Reads.{Reads};
 ghost use Rattle.regress_classes.specs.ClassViews.{property_of};
 ghost use Rattle.regress_lexical.specs.Views.{source};
@@ -41,7 +42,8 @@ pub fn read_property<'a>(
     sets: bool,
     tables: &'a Tables,
 ) -> Result<Property<'a>, Fault>
-    ensures { Reads property_of (source cursor.new) result (property_at sets (table_of tables.now) (source cursor.old)) }
+    ensures value { Reads property_of (source cursor.new) result (property_at sets (table_of tables.now) (source cursor.old)) }
+    ensures kind { FailsByNoLimit result }
 {
     if !cursor.try_consume('{') {
         return Err(cursor.refuse(FaultKind::PropertyWithoutBrace));

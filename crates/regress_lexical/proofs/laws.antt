@@ -4,3 +4,4 @@ pub mod Digits
 pub mod Behind
 pub mod InRange
 pub mod Quantifiers
+pub mod Faults

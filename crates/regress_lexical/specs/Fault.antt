@@ -1,6 +1,7 @@
 -- When a pattern is refused.
-use Rattle.std.specs.Prelude.{Result, Ok, Err}
+use Rattle.std.specs.Prelude.{◌≡◌, ◌⊎◌, Bool, true, false, Result, Ok, Err}
 use Rattle.regress_lexical.specs.declared.fault.FaultKind.{FaultKind}
+use Rattle.regress_lexical.specs.declared.fault.FaultKind.TheVariants.{TooDeep, TooManyGroups, TooManyLoops}
 use Rattle.regress_lexical.specs.declared.fault.Fault.{Fault}
 use Rattle.regress_lexical.specs.declared.fault.Fault.TheVariants.{Refused, Memory}
 
@@ -23,3 +24,18 @@ FailsOnlyIf (Err fault) P = OnRefused fault P
 abbrev pub FailsBy : {X : Type 0} → Result X Fault → (FaultKind → Type 0) → Type 0
 FailsBy (Ok x) P = Unit {0}
 FailsBy (Err fault) P = OnKind fault P
+
+-- whether it speaks of a limit
+abbrev pub is_limit : FaultKind → Bool
+is_limit TooDeep = true
+is_limit TooManyGroups = true
+is_limit TooManyLoops = true
+is_limit other = false
+
+-- A fault of the pattern speaks of no limit.
+abbrev pub FailsByNoLimit : {X : Type 0} → Result X Fault → Type 0
+FailsByNoLimit result = FailsBy result (λ kind. is_limit kind ≡ false)
+
+-- It speaks of none but that of levels, and of that only if this holds.
+abbrev pub FailsByLevelsOnlyIf : {X : Type 0} → Result X Fault → Type 0 → Type 0
+FailsByLevelsOnlyIf result P = FailsBy result (λ kind. (is_limit kind ≡ false) ⊎ ((kind ≡ TooDeep) × P))

@@ -52,6 +52,7 @@ pub struct Cursor<'a> {
 impl Cursor<'_> {
     ghost use Rattle.std.specs.Prelude.{◌≡◌, [], ◌∷◌, drop, length, if◌then◌else◌, IfSome, IfNone, OnOk, OnErr, true, false};
     ghost use Rattle.regress_lexical.specs.Beginnings.{may_begin};
+    ghost use Rattle.regress_lexical.specs.Fault.{FailsByNoLimit};
     ghost use Rattle.regress_lexical.specs.Source.{is_at, ends_alternative, closing};
     ghost use Rattle.regress_lexical.specs.Views.{source};
     ghost use Rattle.regress_lexical.specs.declared.fault.Fault.TheVariants.{Refused};
@@ -125,6 +126,7 @@ impl Cursor<'_> {
     pub fn consume_closing(&mut self, opened: usize) -> Result<(), Fault>
         ensures ok { OnOk result (source self.old ≡ closing ∷ source self.new) }
         ensures err { OnErr result (is_at closing (source self.old) ≡ false) }
+        ensures kind { FailsByNoLimit result }
     {
         if self.try_consume(')') {
             Ok(())

@@ -1,5 +1,5 @@
 //! Escapes of one character.
-ghost use Rattle.std.specs.Prelude.{◌≡◌, ◌≤◌, true, ◌∷◌, length, drop, Some, None, if◌then◌else◌, ◌&&◌, ◌+◌, nat_le, All, IfSome};
+ghost use Rattle.std.specs.Prelude.{◌≡◌, ◌≤◌, true, false, ◌∷◌, length, drop, Some, None, if◌then◌else◌, ◌&&◌, ◌+◌, nat_le, All, IfSome};
 ghost use Rattle.regress_lexical.specs.Escapes.{
   braced_hex_at,
   unit_at,
@@ -16,6 +16,7 @@ ghost use Rattle.regress_lexical.specs.Escapes.{
   escape_at,
 };
 ghost use Rattle.regress_lexical.specs.Source.{IsCodePoint, char};
+ghost use Rattle.regress_lexical.specs.Fault.{is_limit};
 ghost use Rattle.regress_lexical.specs.Digits as digits_spec;
 ghost use Rattle.regress_lexical.specs.Reads.{answered};
 
@@ -206,7 +207,9 @@ pub fn read_escape<'a>(source: &'a [u32], unicode: bool) -> Read<'a, u32>
 }
 
 /// Why there is no escape behind a backslash.
-pub fn escape_fault(source: &[u32]) -> FaultKind {
+pub fn escape_fault(source: &[u32]) -> FaultKind
+    ensures { is_limit result ≡ false }
+{
     match source {
         [c, ..] if *c == u32::from('u') => FaultKind::InvalidUnicodeEscape,
         _ => FaultKind::InvalidEscape,

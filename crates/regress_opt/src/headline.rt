@@ -12,7 +12,7 @@ ghost use Rattle.regress_tree.specs.NormalForm.{IsNormal};
 ghost use Rattle.regress_parse.specs.Fault.{RefusedOnlyIf, Tells};
 ghost use Rattle.regress_syntax.specs.Syntax.{Pattern};
 ghost use Rattle.regress_parse.specs.TreeOf.{tree_of};
-ghost use Rattle.regress_parse.specs.Accepted.{IsAccepted, NoneIsAccepted, IsTrueOf, OneIsDerived, OfAccepted, Means};
+ghost use Rattle.regress_parse.specs.Accepted.{IsAccepted, NoneIsAccepted, IsTrueOf, MayExceed, OneIsDerived, OfAccepted, Means};
 ghost use Rattle.regress_opt.specs.Optimized.{IsOptimized};
 
 use crate::optimizer::optimize;
@@ -38,6 +38,7 @@ pub fn parse_and_optimize(
     ensures accepted { IfOk result (λ _. (p : Pattern) × IsAccepted (setting_of flags tables.now) pattern.now p) }
     ensures refused { RefusedOnlyIf result (NoneIsAccepted (setting_of flags tables.now) pattern.now) }
     ensures told { Tells result (IsTrueOf (setting_of flags tables.now) pattern.now) }
+    ensures limits { Tells result (MayExceed pattern.now) }
     ensures only { OneIsDerived (setting_of flags tables.now) pattern.now }
 
     // It is in normal form, and as it was parsed where that is.

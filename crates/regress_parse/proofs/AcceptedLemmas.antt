@@ -17,7 +17,7 @@ use Rattle.regress_syntax.proofs.laws.SameNames.{apart_by_marks}
 use Rattle.regress_syntax.proofs.laws.Scan.{named_by-pattern, deepest-whole}
 use Rattle.regress_parse.specs.Reader.{pattern_at}
 use Rattle.regress_parse.specs.Parsing.{Fits, Exceeds, pattern_part}
-use Rattle.regress_parse.specs.Accepted.{own_context, IsDerived, IsWithinLimits, IsAccepted, NoneIsAccepted, Says, IsTrueOf}
+use Rattle.regress_parse.specs.Accepted.{own_context, IsDerived, IsWithinLimits, NoneIsAccepted, Says, IsTrueOf}
 use Rattle.regress_parse.proofs.GrammarLemmas.{pattern_at-sound, pattern_at-complete}
 use Rattle.regress_parse.proofs.GroupLemmas.{length-names}
 

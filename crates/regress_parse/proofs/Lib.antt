@@ -17,3 +17,4 @@ pub mod MeaningLemmas
 pub mod GroupLemmas
 pub mod CodePointLemmas
 pub mod WellFormedLemmas
+pub mod ReachLemmas

@@ -1,5 +1,5 @@
 -- What a call of the parser builds, from what it answers.
-use Rattle.std.proofs.Common.{◌≡◌, ◌∙◌, ℕ, Some, refl, sym, ap, subst, Result}
+use Rattle.std.proofs.Common.{◌≡◌, ◌∙◌, ℕ, Some, refl, sym, ap, subst}
 use Rattle.std.specs.Option.{IsSomeAnd}
 use Rattle.regress_tree.specs.declared.ir.node.Node.{Node}
 use Rattle.regress_tree.specs.Reading.{Direction}
@@ -7,7 +7,7 @@ use Rattle.regress_lexical.specs.Source.{Source, Found}
 use Rattle.regress_syntax.specs.Syntax.{Counts}
 use Rattle.regress_lexical.proofs.laws.Sources.{some_and}
 use Rattle.regress_parse.specs.declared.parser.Parser.{Parser}
-use Rattle.regress_parse.specs.Parsing.{Part, text, Builds, Yields}
+use Rattle.regress_parse.specs.Parsing.{Part, text, Builds}
 
 module _ {A : Type 0} (part : A → Part) (d : Direction) (depth : ℕ) (before : Counts) (new : Parser) (found : Found A) where
   pub built : (node : Node) → IsSomeAnd found (λ x. Builds d depth before new node (part x.0) x.1) →

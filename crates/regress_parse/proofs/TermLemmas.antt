@@ -13,14 +13,14 @@ use Rattle.regress_base.specs.Table.{Table}
 use Rattle.regress_base.specs.declared.types.Quantifier.{Quantifier}
 use Rattle.regress_lexical.specs.Source.{Source, Found, ◌>>=◌, found_map, opening, closing, is_at, is_plain}
 use Rattle.regress_lexical.specs.Beginnings.{may_begin}
-use Rattle.regress_syntax.specs.Syntax.{Name, Atom, Group, Pattern, Item, one, either, literal, atom, group, Counts, added, counts_of_item, opened_by, levels, levels_of_atom}
+use Rattle.regress_syntax.specs.Syntax.{Name, Atom, Group, Pattern, Item, literal, atom, group, Counts, added, counts_of_item, levels_of_atom}
 use Rattle.regress_syntax.specs.Rows.{Context, context_inside, Head, single, opens, head_of_item, allows, group_at, head_at, times_at}
 use Rattle.regress_lexical.proofs.laws.Sources.{found_then, from_each, to_each, on_kind_then, on_each_kind}
 use Rattle.regress_syntax.proofs.laws.Plain.{plain_head, no_times}
 use Rattle.regress_syntax.proofs.laws.Scan.{one_level}
 use Rattle.regress_parse.specs.Reader.{Term, closed, item_behind, quantified, pattern_at, item_at, term_at}
 use Rattle.regress_base.specs.Limits.{max_loops, max_nesting_depth}
-use Rattle.regress_parse.specs.Parsing.{Fits, Exceeds, pattern_part, term_part, item_part, atom_at, ReadsAtom, Builds, Yields, text, counted}
+use Rattle.regress_parse.specs.Parsing.{Exceeds, pattern_part, term_part, item_part, atom_at, ReadsAtom, Builds, Yields, text, counted}
 use Rattle.regress_parse.specs.TreeOf.{tree_of_atom}
 use Rattle.regress_parse.specs.declared.parser.Parser.{Parser}
 use Rattle.regress_parse.proofs.CountLemmas.{Fits-inside, Exceeds-around, added-nothing}

@@ -1,5 +1,5 @@
 -- Which patterns are accepted, and what it is for a tree to mean what its pattern does.
-use Rattle.std.specs.Prelude.{◌≡◌, ◌⊎◌, ℕ, ◌<◌, ◌≤◌, List, [], map, encode_utf8_all}
+use Rattle.std.specs.Prelude.{◌≡◌, ◌⊎◌, ℕ, ◌<◌, ◌≤◌, List, [], length, map, encode_utf8_all}
 use Rattle.regress_base.specs.Limits.{max_capture_groups, max_loops, max_nesting_depth}
 use Rattle.regress_tree.specs.Reading.{IsText, forwards}
 use Rattle.regress_tree.specs.Steps.{State, IsStateOf, byte_state}
@@ -52,6 +52,13 @@ Says kind p =
 abbrev pub IsTrueOf : Setting → Source → FaultKind → Type 0
 IsTrueOf setting source kind =
     (p : Pattern) → IsDerived setting source p → Says kind p ⊎ (max_capture_groups < (counts p).groups)
+
+-- The source is long enough to be past the limit of which a fault of this kind speaks: each group and each loop takes a code
+-- point, and so does each level but the first.
+pub record MayExceed (source : Source) (kind : FaultKind) : Type 0 where
+  pub groups : kind ≡ TooManyGroups → max_capture_groups < length source
+  pub loops : kind ≡ TooManyLoops → max_loops < length source
+  pub levels : kind ≡ TooDeep → max_nesting_depth ≤ length source
 
 -- It stands for one pattern at most, within the limits or not.
 abbrev pub OneIsDerived : Setting → Source → Type 0

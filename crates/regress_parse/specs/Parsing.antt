@@ -1,5 +1,5 @@
 -- How the parser's values stand to what the grammar reads. No public contract cites this.
-use Rattle.std.specs.Prelude.{◌≡◌, ◌⊎◌, ℕ, ◌+◌, ◌<◌, ◌≤◌, Bool, ◌||◌, List, [], ◌∷◌, Option, Some, None, IfSome, string_bytes, Result, Ok, Err}
+use Rattle.std.specs.Prelude.{◌≡◌, ◌⊎◌, ℕ, ◌+◌, ◌<◌, ◌≤◌, Bool, ◌||◌, List, [], ◌∷◌, length, Option, Some, None, IfSome, string_bytes, Result, Ok, Err}
 use Rattle.std.specs.Option.{IsSomeAnd}
 use Rattle.regress_tree.specs.declared.ir.node.Node.{Node}
 use Rattle.regress_tree.specs.Reading.{Direction, forwards}
@@ -13,7 +13,7 @@ use Rattle.regress_parse.specs.declared.fault.PlacedFault.{PlacedFault}
 use Rattle.regress_parse.specs.declared.fault.PlacedFault.TheVariants.{Syntax, Memory}
 use Rattle.regress_parse.specs.Fault.{text_of}
 use Rattle.regress_lexical.specs.declared.fault.FaultKind.{FaultKind}
-use Rattle.regress_lexical.specs.declared.fault.FaultKind.TheVariants.{TooManyGroups, TooManyLoops}
+use Rattle.regress_lexical.specs.declared.fault.FaultKind.TheVariants.{TooManyGroups, TooManyLoops, TooDeep}
 use Rattle.regress_lexical.specs.Fault.{OnRefused, OnKind}
 use Rattle.regress_lexical.specs.Source.{Source, Found, char, is_at}
 use Rattle.regress_syntax.specs.Syntax.{Name, Atom, Pattern, Terms, Item, Counts, nothing_counted, added, counts, counts_of_terms, counts_of_term, counts_of_item, levels, levels_of_atom, levels_of_terms, levels_of_item}
@@ -65,6 +65,17 @@ Exceeds kind before depth part =
     ((kind ≡ TooManyGroups) × (max_capture_groups < before.groups + part.counts.groups))
     ⊎ ((kind ≡ TooManyLoops) × (max_loops < before.loops + part.counts.loops))
     ⊎ (max_nesting_depth < depth + part.levels)
+
+-- What was counted, the levels around, and what is still to read reach past the limit of which a fault of this kind speaks.
+pub record Reaches (kind : FaultKind) (before : Counts) (depth : ℕ) (t : Source) : Type 0 where
+  pub groups : kind ≡ TooManyGroups → max_capture_groups < before.groups + length t
+  pub loops : kind ≡ TooManyLoops → max_loops < before.loops + length t
+  pub levels : kind ≡ TooDeep → max_nesting_depth < depth + length t
+
+-- Between two places of the source no more was counted than was read.
+pub record Spends (before now : Counts) (t rest : Source) : Type 0 where
+  pub groups : now.groups + length rest ≤ before.groups + length t
+  pub loops : now.loops + length rest ≤ before.loops + length t
 
 -- what the parser has counted
 abbrev pub counted : Parser → Counts

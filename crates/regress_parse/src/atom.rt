@@ -1,7 +1,9 @@
 //! Items that hold no pattern.
-ghost use Rattle.std.specs.Prelude.{◌≡◌, ◌∷◌, true, false, not, ◌&&◌, ◌||◌, ◌==◌, drop};
+ghost use Rattle.std.specs.Prelude.{◌≡◌, ◌∷◌, true, false, not, ◌&&◌, ◌||◌, ◌==◌, ◌≤◌, ◌<◌, length, drop};
 ghost use Rattle.regress_lexical.specs.Digits.{is_between};
 ghost use Rattle.regress_lexical.specs.Escapes.{begins_with_letter};
+ghost use Rattle.regress_base.specs.Limits.{max_nesting_depth};
+ghost use Rattle.regress_lexical.specs.Fault.{FailsByNoLimit, FailsByLevelsOnlyIf};
 ghost use Rattle.regress_lexical.specs.Reads.{ReadsAs};
 ghost use Rattle.regress_lexical.specs.Source.{IsCodePoint, char, is_one_of};
 ghost use Rattle.regress_lexical.specs.Views.{source};
@@ -31,8 +33,10 @@ use regress_tree::ir::{AnchorType, Node};
 /// Reads an item that holds no pattern. The fault comes where there is none, and where more levels of classes lie in it
 /// than are left.
 pub(crate) fn read_atom(cursor: &mut Cursor, scope: &Scope, left: u32) -> Result<Node, Fault>
-    ensures { ReadsAtom (context_of scope.now) left (not (is_anchor (source cursor.old))) (source cursor.new) result
+    requires { left ≤ max_nesting_depth }
+    ensures value { ReadsAtom (context_of scope.now) left (not (is_anchor (source cursor.old))) (source cursor.new) result
         (atom_at (context_of scope.now) (source cursor.old)) }
+    ensures kind { FailsByLevelsOnlyIf result (left < length (source cursor.old)) }
 {
     let front = cursor.rest;
     let Some(c) = cursor.next() else {
@@ -60,8 +64,9 @@ fn read_other(cursor: &mut Cursor, scope: &Scope, c: u32, front: &[u32]) -> Resu
     requires code_point { IsCodePoint c }
     requires no_class { (c == char "[") ≡ false }
     requires front { front.now ≡ c ∷ source cursor.now }
-    ensures { ReadsAs (IsNode (context_of scope.now) 0 (not (c == char "^" || c == char "$"))) (source cursor.new) result
+    ensures value { ReadsAs (IsNode (context_of scope.now) 0 (not (c == char "^" || c == char "$"))) (source cursor.new) result
         (atom_by (context_of scope.now) c (source cursor.old)) }
+    ensures kind { FailsByNoLimit result }
 {
     if c == u32::from('.') {
         Ok(make_dot(scope))
@@ -87,7 +92,9 @@ fn read_brackets(
     left: u32,
     opened: usize,
 ) -> Result<Node, Fault>
-    ensures { ReadsAtom (context_of scope.now) left true (source cursor.new) result (brackets_at (context_of scope.now) (source cursor.old)) }
+    requires { left ≤ max_nesting_depth }
+    ensures value { ReadsAtom (context_of scope.now) left true (source cursor.new) result (brackets_at (context_of scope.now) (source cursor.old)) }
+    ensures kind { FailsByLevelsOnlyIf result (left ≤ length (source cursor.old)) }
 {
     if !scope.flags.unicode_sets {
         let class = read_class(cursor, scope.tables, scope.flags.unicode, opened)?;
@@ -112,7 +119,8 @@ fn read_brackets(
 fn read_brace(cursor: &mut Cursor, scope: &Scope, c: u32, front: &[u32]) -> Result<Node, Fault>
     requires code_point { IsCodePoint c }
     requires front { front.now ≡ c ∷ source cursor.now }
-    ensures { ReadsAs (IsNode (context_of scope.now) 0 true) (source cursor.new) result (brace_by (context_of scope.now) c (source cursor.old)) }
+    ensures value { ReadsAs (IsNode (context_of scope.now) 0 true) (source cursor.new) result (brace_by (context_of scope.now) c (source cursor.old)) }
+    ensures kind { FailsByNoLimit result }
 {
     if scope.flags.unicode {
         Err(refused(front.len(), FaultKind::InvalidAtom))
@@ -125,7 +133,8 @@ fn read_brace(cursor: &mut Cursor, scope: &Scope, c: u32, front: &[u32]) -> Resu
 
 /// Reads an escape, behind its backslash. `begin` is how many code points were left before that.
 fn read_escaped(cursor: &mut Cursor, scope: &Scope, begin: usize) -> Result<Node, Fault>
-    ensures { ReadsAs (IsNode (context_of scope.now) 0 true) (source cursor.new) result (escaped_at (context_of scope.now) (source cursor.old)) }
+    ensures value { ReadsAs (IsNode (context_of scope.now) 0 true) (source cursor.new) result (escaped_at (context_of scope.now) (source cursor.old)) }
+    ensures kind { FailsByNoLimit result }
 {
     let Some(c) = cursor.rest.first().copied() else {
         return Err(refused(begin, FaultKind::IncompleteEscape));
@@ -181,8 +190,9 @@ fn begins_number(c: u32) -> bool
 fn read_numbered(cursor: &mut Cursor, scope: &Scope, c: u32, begin: usize) -> Result<Node, Fault>
     requires front { source cursor.now ≡ c ∷ drop 1 (source cursor.now) }
     requires digit { begins_number c ≡ true }
-    ensures { ReadsAs (IsNode (context_of scope.now) 0 true) (source cursor.new) result
+    ensures value { ReadsAs (IsNode (context_of scope.now) 0 true) (source cursor.new) result
         (numbered_at (context_of scope.now) c (drop 1 (source cursor.old))) }
+    ensures kind { FailsByNoLimit result }
 {
     if let Some((group, rest)) = read_group_number(cursor.rest, scope.groups.count()) {
         cursor.rest = rest;
@@ -199,7 +209,8 @@ fn read_numbered(cursor: &mut Cursor, scope: &Scope, c: u32, begin: usize) -> Re
 
 /// Reads a reference by name, behind `\k`.
 fn read_named(cursor: &mut Cursor, scope: &Scope, begin: usize) -> Result<Node, Fault>
-    ensures { ReadsAs (IsNode (context_of scope.now) 0 true) (source cursor.new) result (named_at (context_of scope.now) (source cursor.old)) }
+    ensures value { ReadsAs (IsNode (context_of scope.now) 0 true) (source cursor.new) result (named_at (context_of scope.now) (source cursor.old)) }
+    ensures kind { FailsByNoLimit result }
 {
     let groups = read_reference(cursor, scope, begin)?;
     Ok(make_references(cursor.alloc, groups, scope.flags.icase)?)
@@ -225,8 +236,9 @@ fn begins_with_letter(source: &[u32]) -> bool
 /// Reads the escape of one character, which begins with `c`.
 fn read_character(cursor: &mut Cursor, scope: &Scope, c: u32, begin: usize) -> Result<Node, Fault>
     requires { source cursor.now ≡ c ∷ drop 1 (source cursor.now) }
-    ensures { ReadsAs (IsNode (context_of scope.now) 0 true) (source cursor.new) result
+    ensures value { ReadsAs (IsNode (context_of scope.now) 0 true) (source cursor.new) result
         (character_at (context_of scope.now) c (drop 1 (source cursor.old))) }
+    ensures kind { FailsByNoLimit result }
 {
     let Some((found, rest)) = read_escape(cursor.rest, scope.flags.unicode) else {
         return Err(refused(begin, escape_fault(cursor.rest)));
@@ -242,8 +254,9 @@ fn read_property_atom(
     negated: bool,
     begin: usize,
 ) -> Result<Node, Fault>
-    ensures { ReadsAs (IsNode (context_of scope.now) 0 true) (source cursor.new) result
+    ensures value { ReadsAs (IsNode (context_of scope.now) 0 true) (source cursor.new) result
         (property_atom_at (context_of scope.now) negated (source cursor.old)) }
+    ensures kind { FailsByNoLimit result }
 {
     match read_property(cursor, scope.flags.unicode_sets, scope.tables)? {
         Property::Points(set) => Ok(make_property(cursor.alloc, set, negated, scope)?),

@@ -6,12 +6,12 @@ ghost use Rattle.regress_tree.specs.Tree.{tree};
 ghost use Rattle.regress_tree.specs.WellFormed.{IsWellFormed};
 ghost use Rattle.regress_lexical.specs.Fault.{FailsBy};
 ghost use Rattle.regress_lexical.specs.Source.{IsCodePoint};
-ghost use Rattle.regress_syntax.specs.Syntax.{Pattern};
+ghost use Rattle.regress_syntax.specs.Syntax.{Pattern, nothing_counted};
 ghost use Rattle.regress_syntax.specs.Views.{context_of};
 ghost use Rattle.regress_parse.specs.TreeOf.{tree_of};
-ghost use Rattle.regress_parse.specs.Accepted.{IsAccepted, NoneIsAccepted, IsTrueOf, OneIsDerived, OfAccepted, Means};
+ghost use Rattle.regress_parse.specs.Accepted.{IsAccepted, NoneIsAccepted, IsTrueOf, MayExceed, OneIsDerived, OfAccepted, Means};
 ghost use Rattle.regress_parse.specs.Fault.{RefusedOnlyIf, Tells, unplaced, IsPlacedWithin};
-ghost use Rattle.regress_parse.specs.Parsing.{YieldsWhole};
+ghost use Rattle.regress_parse.specs.Parsing.{YieldsWhole, Reaches};
 
 use crate::fault::{ParseFault, PlacedFault, place};
 use crate::parser::{Around, Parser};
@@ -55,6 +55,7 @@ pub fn try_parse(
         × IsAccepted (setting_of flags tables.now) pattern.now p × (tree r.node ≡ tree_of (table_of tables.now) p)) }
     ensures refused { RefusedOnlyIf result (NoneIsAccepted (setting_of flags tables.now) pattern.now) }
     ensures told { Tells result (IsTrueOf (setting_of flags tables.now) pattern.now) }
+    ensures limits { Tells result (MayExceed pattern.now) }
     ensures only { OneIsDerived (setting_of flags tables.now) pattern.now }
 
     // What the tree is good for.
@@ -82,6 +83,7 @@ pub fn try_parse_with_place(
         × IsAccepted (setting_of flags tables.now) pattern.now p × (tree r.node ≡ tree_of (table_of tables.now) p)) }
     ensures refused { RefusedOnlyIf (unplaced result) (NoneIsAccepted (setting_of flags tables.now) pattern.now) }
     ensures told { Tells (unplaced result) (IsTrueOf (setting_of flags tables.now) pattern.now) }
+    ensures limits { Tells (unplaced result) (MayExceed pattern.now) }
     ensures place { IsPlacedWithin (length pattern.now) result }
     ensures only { OneIsDerived (setting_of flags tables.now) pattern.now }
 
@@ -103,6 +105,7 @@ fn parse(alloc: Global, pattern: &[u32], flags: Flags, tables: &Tables) -> Resul
     ensures accepted { IfOk result (λ r. (p : Pattern)
         × IsAccepted (setting_of flags tables.now) pattern.now p × (tree r.node ≡ tree_of (table_of tables.now) p)) }
     ensures told { FailsBy result (IsTrueOf (setting_of flags tables.now) pattern.now) }
+    ensures limits { FailsBy result (MayExceed pattern.now) }
     ensures only { OneIsDerived (setting_of flags tables.now) pattern.now }
     ensures meaning { let setting = setting_of flags tables.now in
         IfOk result (λ r. OfAccepted setting pattern.now (Means setting (tree r.node))) }
@@ -126,7 +129,8 @@ fn parse(alloc: Global, pattern: &[u32], flags: Flags, tables: &Tables) -> Resul
 /// Parses the whole source, up to its end.
 fn parse_body(alloc: Global, pattern: &[u32], scope: &Scope) -> Result<Node, Fault>
     requires { All IsCodePoint pattern.now }
-    ensures { YieldsWhole (context_of scope.now) pattern.now result }
+    ensures value { YieldsWhole (context_of scope.now) pattern.now result }
+    ensures reached { FailsBy result (λ kind. Reaches kind nothing_counted 1 pattern.now) }
 {
     let mut parser = Parser {
         cursor: Cursor {

@@ -1,12 +1,13 @@
 //! The grammar, form by form.
-ghost use Rattle.std.specs.Prelude.{◌≡◌, ◌≤◌, false, Some};
-ghost use Rattle.regress_lexical.specs.Source.{Source, ends_alternative};
+ghost use Rattle.std.specs.Prelude.{◌≡◌, ◌≤◌, ◌+◌, ◌∷◌, false, Some};
+ghost use Rattle.regress_lexical.specs.Fault.{FailsBy};
+ghost use Rattle.regress_lexical.specs.Source.{Source, opening, ends_alternative};
 ghost use Rattle.regress_syntax.specs.Views.{group_of};
 ghost use Rattle.regress_syntax.specs.Syntax.{Item, Counts};
 ghost use Rattle.regress_syntax.specs.Rows.{opens, allows, head_of_item};
 ghost use Rattle.regress_base.specs.Limits.{max_nesting_depth};
 ghost use Rattle.regress_parse.specs.Reader.{Term, pattern_at, terms_at, term_at, item_behind, with_times};
-ghost use Rattle.regress_parse.specs.Parsing.{text, counted, direction_of, context_in, table_in, names_around, pattern_part, terms_part, term_part, item_part, Builds, Yields};
+ghost use Rattle.regress_parse.specs.Parsing.{text, counted, direction_of, context_in, table_in, names_around, pattern_part, terms_part, term_part, item_part, Builds, Yields, Reaches};
 
 use crate::atom::{begins_anchor, read_atom};
 use crate::build::{make_alt, make_cat, make_group, make_literal, make_loop};
@@ -23,6 +24,7 @@ impl Parser<'_> {
     pub(crate) fn consume_disjunction(&mut self, around: &Around) -> Result<Node, Fault>
         ensures value { Yields (pattern_part (table_in around.now) (names_around around.now)) (direction_of around.now) around.now.depth (counted self.old) self.new result
             (pattern_at (context_in around.now) (text self.old)) }
+        ensures reached { FailsBy result (λ kind. Reaches kind (counted self.old) (around.now.depth + 1) (text self.old)) }
     {
         if around.depth >= MAX_NESTING_DEPTH {
             return Err(self.cursor.refuse(FaultKind::TooDeep));
@@ -50,6 +52,7 @@ impl Parser<'_> {
         requires { around.now.depth ≤ max_nesting_depth }
         ensures value { Yields (terms_part (table_in around.now) (names_around around.now)) (direction_of around.now) around.now.depth (counted self.old) self.new result
             (terms_at (context_in around.now) (text self.old)) }
+        ensures reached { FailsBy result (λ kind. Reaches kind (counted self.old) around.now.depth (text self.old)) }
     {
         if self.cursor.ends_alternative() {
             return Ok(Node::Empty);
@@ -71,6 +74,7 @@ impl Parser<'_> {
             Builds (direction_of around.now) around.now.depth before self.old first (term_part (table_in around.now) (names_around around.now) x) (text self.old) →
             Yields (terms_part (table_in around.now) (names_around around.now)) (direction_of around.now) around.now.depth before self.new result
             (terms_at (context_in around.now) t) }
+        ensures reached { FailsBy result (λ kind. Reaches kind (counted self.old) around.now.depth (text self.old)) }
     {
         let mut parts = Vec::new(self.cursor.alloc);
         parts.push(first)?;
@@ -90,6 +94,7 @@ impl Parser<'_> {
         requires { around.now.depth ≤ max_nesting_depth }
         ensures value { Yields (term_part (table_in around.now) (names_around around.now)) (direction_of around.now) around.now.depth (counted self.old) self.new result
             (term_at (context_in around.now) (text self.old)) }
+        ensures reached { FailsBy result (λ kind. Reaches kind (counted self.old) around.now.depth (text self.old)) }
     {
         let first = self.group_count;
         let opened = self.cursor.rest.len();
@@ -118,6 +123,7 @@ impl Parser<'_> {
             Builds (direction_of around.now) around.now.depth before self.old item (item_part (table_in around.now) (names_around around.now) x) (text self.old) →
             Yields (term_part (table_in around.now) (names_around around.now)) (direction_of around.now) around.now.depth before self.new result
             (with_times (context_in around.now) (Some (x, text self.old))) }
+        ensures reached { FailsBy result (λ kind. Reaches kind (counted self.old) around.now.depth (text self.old)) }
     {
         if !may_begin(self.cursor.rest) {
             return Ok(item);
@@ -136,6 +142,7 @@ impl Parser<'_> {
     fn consume_group(&mut self, kind: Group, opened: usize, around: &Around) -> Result<Node, Fault>
         ensures value { Yields (item_part (table_in around.now) (names_around around.now)) (direction_of around.now) around.now.depth (counted self.old) self.new result
             (item_behind pattern_at (context_in around.now) (opens (group_of kind), text self.old)) }
+        ensures reached { FailsBy result (λ kind. Reaches kind (counted self.old) around.now.depth (opening ∷ text self.old)) }
     {
         let first = self.group_count;
         self.count_group(&kind, opened)?;

@@ -3,8 +3,8 @@ use Rattle.std.proofs.Common.{◌≡◌, ℕ, zero, suc, ◌+◌, Bool, true, fa
 use Rattle.std.specs.List.{zip, find}
 use Rattle.std.specs.Option.{MatchOption}
 use Rattle.std.proofs.lemmas.List.{map-append, reverse-append, reverse-reverse}
-use Rattle.regress_syntax.specs.Paths.{Path, are_alternatives, outside, next_alternative}
-use Rattle.regress_syntax.specs.Scanning.{level_of, path_of, highest}
+use Rattle.regress_syntax.specs.Paths.{are_alternatives, next_alternative}
+use Rattle.regress_syntax.specs.Scanning.{level_of, path_of}
 use Rattle.regress_syntax.specs.declared.scan.path.Level.{Level as CodeLevel}
 use Rattle.regress_syntax.specs.declared.scan.path.Path.{Path as CodePath}
 

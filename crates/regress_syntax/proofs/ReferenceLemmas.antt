@@ -8,7 +8,6 @@ use Rattle.regress_lexical.specs.Quantifiers.{count_at}
 use Rattle.regress_lexical.proofs.laws.Digits.{front_digit}
 use Rattle.regress_syntax.specs.Meaning.{groups_named}
 use Rattle.regress_syntax.specs.Names.{group_name_at}
-use Rattle.regress_syntax.specs.Numbering.{group_number_at}
 use Rattle.regress_syntax.specs.Rows.{Context, has_name, named_at}
 use Rattle.regress_syntax.specs.Syntax.{Name, is_named, by_name, back_reference}
 

@@ -6,3 +6,4 @@ pub mod Rows
 pub mod Paths
 pub mod SameNames
 pub mod Scan
+pub mod Lengths

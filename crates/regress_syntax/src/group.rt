@@ -1,4 +1,5 @@
 //! What a parenthesis opens.
+ghost use Rattle.regress_lexical.specs.Fault.{FailsByNoLimit};
 ghost use Rattle.regress_lexical.specs.Reads.{Reads, AlwaysReads};
 ghost use Rattle.regress_syntax.specs.Rows.{opens, named_group_at, modified_at, angle_at, behind_mark_at, group_at};
 ghost use Rattle.regress_syntax.specs.Views.{group_of};
@@ -42,7 +43,8 @@ impl Group {
 
 /// Reads what a parenthesis opens, behind it.
 pub fn read_group(cursor: &mut Cursor, tables: &Tables) -> Result<Group, Fault>
-    ensures { Reads (λ kind. opens (group_of kind)) (source cursor.new) result (group_at (table_of tables.now) (source cursor.old)) }
+    ensures value { Reads (λ kind. opens (group_of kind)) (source cursor.new) result (group_at (table_of tables.now) (source cursor.old)) }
+    ensures kind { FailsByNoLimit result }
 {
     if cursor.try_consume('?') {
         read_behind_mark(cursor, tables)
@@ -53,7 +55,8 @@ pub fn read_group(cursor: &mut Cursor, tables: &Tables) -> Result<Group, Fault>
 
 /// Reads what stands behind `(?`.
 fn read_behind_mark(cursor: &mut Cursor, tables: &Tables) -> Result<Group, Fault>
-    ensures { Reads (λ kind. opens (group_of kind)) (source cursor.new) result (behind_mark_at (table_of tables.now) (source cursor.old)) }
+    ensures value { Reads (λ kind. opens (group_of kind)) (source cursor.new) result (behind_mark_at (table_of tables.now) (source cursor.old)) }
+    ensures kind { FailsByNoLimit result }
 {
     if cursor.try_consume(':') {
         Ok(Group::Grouping)
@@ -76,7 +79,8 @@ fn read_behind_mark(cursor: &mut Cursor, tables: &Tables) -> Result<Group, Fault
 
 /// Reads a lookbehind or a name, from its `<` on.
 fn read_behind_angle(cursor: &mut Cursor, tables: &Tables) -> Result<Group, Fault>
-    ensures { Reads (λ kind. opens (group_of kind)) (source cursor.new) result (angle_at (table_of tables.now) (source cursor.old)) }
+    ensures value { Reads (λ kind. opens (group_of kind)) (source cursor.new) result (angle_at (table_of tables.now) (source cursor.old)) }
+    ensures kind { FailsByNoLimit result }
 {
     match cursor.rest {
         [_, next, rest @ ..] if *next == u32::from('=') => {
@@ -99,7 +103,8 @@ fn read_behind_angle(cursor: &mut Cursor, tables: &Tables) -> Result<Group, Faul
 
 /// Reads the name of a capture group.
 fn read_named(cursor: &mut Cursor, tables: &Tables) -> Result<Group, Fault>
-    ensures { Reads (λ kind. opens (group_of kind)) (source cursor.new) result (named_group_at (table_of tables.now) (source cursor.old)) }
+    ensures value { Reads (λ kind. opens (group_of kind)) (source cursor.new) result (named_group_at (table_of tables.now) (source cursor.old)) }
+    ensures kind { FailsByNoLimit result }
 {
     match read_group_name(cursor.alloc, cursor.rest, tables)? {
         Some((name, rest)) => {
@@ -112,7 +117,8 @@ fn read_named(cursor: &mut Cursor, tables: &Tables) -> Result<Group, Fault>
 
 /// Reads modifiers. At the end of the pattern a name is wanting.
 fn read_modified(cursor: &mut Cursor) -> Result<Group, Fault>
-    ensures { AlwaysReads (λ kind. opens (group_of kind)) (source cursor.new) result (modified_at (source cursor.old)) }
+    ensures value { AlwaysReads (λ kind. opens (group_of kind)) (source cursor.new) result (modified_at (source cursor.old)) }
+    ensures kind { FailsByNoLimit result }
 {
     match read_modifiers(cursor.rest) {
         Some((change, rest)) => {

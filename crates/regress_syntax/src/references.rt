@@ -1,6 +1,7 @@
 //! References to groups.
 ghost use Rattle.std.specs.Prelude.{◌≡◌, ◌||◌, true, IfOk, string_bytes, encode_utf8_all};
 ghost use Rattle.regress_lexical.specs.Escapes.{begins_with_digit};
+ghost use Rattle.regress_lexical.specs.Fault.{FailsByNoLimit};
 ghost use Rattle.regress_lexical.specs.Reads.{answered, ReadsAs};
 ghost use Rattle.regress_syntax.specs.Numbering.{group_number_at};
 ghost use Rattle.regress_syntax.specs.Rows.{has_names, named_at};
@@ -40,7 +41,8 @@ pub fn read_reference<'a>(
     scope: &Scope<'a>,
     begin: usize,
 ) -> Result<&'a [u32], Fault>
-    ensures { ReadsAs (λ numbers. AreReferences (context_of scope.now) numbers.now) (source cursor.new) result (named_at (context_of scope.now) (source cursor.old)) }
+    ensures value { ReadsAs (λ numbers. AreReferences (context_of scope.now) numbers.now) (source cursor.new) result (named_at (context_of scope.now) (source cursor.old)) }
+    ensures kind { FailsByNoLimit result }
 {
     let Some((name, rest)) = read_group_name(cursor.alloc, cursor.rest, scope.tables)? else {
         return Err(refused(begin, FaultKind::InvalidReference));

@@ -1,4 +1,5 @@
 //! The quantifier behind an item.
+ghost use Rattle.regress_lexical.specs.Fault.{FailsByNoLimit};
 ghost use Rattle.regress_lexical.specs.Reads.{AlwaysReads};
 ghost use Rattle.regress_syntax.specs.Rows.{times_at};
 ghost use Rattle.regress_syntax.specs.Views.{context_of};
@@ -18,7 +19,8 @@ pub fn read_times(
     scope: &Scope,
     allowed: bool,
 ) -> Result<Option<Quantifier>, Fault>
-    ensures { AlwaysReads (λ q. q) (source cursor.new) result (times_at (context_of scope.now) allowed (source cursor.old)) }
+    ensures value { AlwaysReads (λ q. q) (source cursor.new) result (times_at (context_of scope.now) allowed (source cursor.old)) }
+    ensures kind { FailsByNoLimit result }
 {
     if !may_begin(cursor.rest) {
         return Ok(None);

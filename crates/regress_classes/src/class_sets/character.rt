@@ -1,6 +1,7 @@
 //! Characters of a class with the flag v.
 ghost use Rattle.std.specs.Prelude.{◌≡◌, IfOk};
 ghost use Rattle.regress_classes.specs.ClassSets.{is_set_syntax, is_double, begins_double, is_reserved, escaped_character_at, set_character_at};
+ghost use Rattle.regress_lexical.specs.Fault.{FailsByNoLimit};
 ghost use Rattle.regress_lexical.specs.Reads.{AlwaysReads};
 ghost use Rattle.regress_lexical.specs.Source.{IsCodePoint};
 ghost use Rattle.regress_lexical.specs.Views.{source};
@@ -16,6 +17,7 @@ use regress_lexical::fault::{Fault, FaultKind, refused};
 pub(super) fn read_set_character(cursor: &mut Cursor, unicode: bool) -> Result<u32, Fault>
     ensures value { AlwaysReads (λ c. c) (source cursor.new) result (set_character_at unicode (source cursor.old)) }
     ensures in_range { IfOk result IsCodePoint }
+    ensures kind { FailsByNoLimit result }
 {
     let begin = cursor.rest.len();
     if cursor.try_consume('\\') {
@@ -38,6 +40,7 @@ pub(super) fn read_escaped_character(
 ) -> Result<u32, Fault>
     ensures value { AlwaysReads (λ c. c) (source cursor.new) result (escaped_character_at unicode (source cursor.old)) }
     ensures in_range { IfOk result IsCodePoint }
+    ensures kind { FailsByNoLimit result }
 {
     let Some((c, rest)) = cursor.rest.split_first() else {
         return Err(refused(begin, FaultKind::IncompleteSetEscape));

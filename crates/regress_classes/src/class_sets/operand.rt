@@ -2,6 +2,7 @@
 ghost use Rattle.std.specs.Prelude.{◌≡◌, true, All, IfOk};
 ghost use Rattle.regress_classes.specs.ClassRows.{class_members, complement_if};
 ghost use Rattle.regress_classes.specs.ClassSets.{Operand as Written, only, value_of, value_of_strings, property_operand_at, escaped_operand_at};
+ghost use Rattle.regress_lexical.specs.Fault.{FailsByNoLimit};
 ghost use Rattle.regress_lexical.specs.Reads.{ReadsAs};
 ghost use Rattle.regress_lexical.specs.Source.{IsCodePoint};
 ghost use Rattle.regress_classes.specs.ClassViews.{strings_of, IsValue, IsOperand};
@@ -47,8 +48,9 @@ pub(super) fn read_escaped_operand(
     around: &Surroundings,
     begin: usize,
 ) -> Result<Operand, Fault>
-    ensures { ReadsAs IsOperand (source cursor.new) result
+    ensures value { ReadsAs IsOperand (source cursor.new) result
         (escaped_operand_at (table_of around.now.tables.now) around.now.unicode around.now.negated (source cursor.old)) }
+    ensures kind { FailsByNoLimit result }
 {
     let Some((c, rest)) = cursor.rest.split_first() else {
         return Err(refused(begin, FaultKind::IncompleteSetEscape));
@@ -85,8 +87,9 @@ fn read_property_operand(
     negated: bool,
     begin: usize,
 ) -> Result<Operand, Fault>
-    ensures { ReadsAs IsOperand (source cursor.new) result
+    ensures value { ReadsAs IsOperand (source cursor.new) result
         (property_operand_at (table_of around.now.tables.now) around.now.negated negated (source cursor.old)) }
+    ensures kind { FailsByNoLimit result }
 {
     match read_property(cursor, true, around.tables)? {
         Property::Points(set) => {

@@ -1,6 +1,7 @@
 //! Strings of a class with the flag v.
 ghost use Rattle.std.specs.Prelude.{◌≡◌, ◌+◌, [], length};
 ghost use Rattle.regress_classes.specs.ClassSets.{value_of_strings, strings_by, quoted_at};
+ghost use Rattle.regress_lexical.specs.Fault.{FailsByNoLimit};
 ghost use Rattle.regress_lexical.specs.Reads.{ReadsAs};
 ghost use Rattle.regress_classes.specs.ClassViews.{IsValue, IsOperand};
 ghost use Rattle.regress_lexical.specs.Views.{source};
@@ -18,7 +19,8 @@ pub(super) fn read_quoted(
     unicode: bool,
     begin: usize,
 ) -> Result<Operand, Fault>
-    ensures { ReadsAs IsOperand (source cursor.new) result (quoted_at unicode (source cursor.old)) }
+    ensures value { ReadsAs IsOperand (source cursor.new) result (quoted_at unicode (source cursor.old)) }
+    ensures kind { FailsByNoLimit result }
 {
     if !cursor.try_consume('{') {
         return Err(cursor.refuse(FaultKind::StringsWithoutBrace));
@@ -28,8 +30,9 @@ pub(super) fn read_quoted(
 
 /// Reads strings with `|` between them, up to `}`.
 fn read_strings(cursor: &mut Cursor, unicode: bool, begin: usize) -> Result<Value, Fault>
-    ensures { let t = source cursor.old in
+    ensures value { let t = source cursor.old in
         ReadsAs (λ held strings. IsValue held (value_of_strings strings)) (source cursor.new) result (strings_by (length t + 1) unicode [] t) }
+    ensures kind { FailsByNoLimit result }
 {
     let mut value = Value::new(cursor.alloc);
     let mut string = Vec::new(cursor.alloc);

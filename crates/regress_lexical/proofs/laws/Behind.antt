@@ -1,9 +1,10 @@
 -- What a reader leaves stands at the end of the source that it was given.
-use Rattle.std.proofs.Common.{◌≡◌, ℕ, suc, ◌+◌, ◌≤◌, Bool, true, false, not, cond, ◌&&◌, ◌||◌, ◌==◌, [], ◌∷◌, length, drop, Option, Some, None, refl, sym, ap, ◌∙◌, subst, arith, length-drop}
+use Rattle.std.proofs.Common.{◌≡◌, ℕ, suc, ◌+◌, ◌≤◌, ◌<◌, Bool, true, false, not, cond, ◌&&◌, ◌||◌, ◌==◌, [], ◌∷◌, length, drop, Option, Some, None, refl, sym, ap, ◌∙◌, subst, arith, length-drop}
 use Rattle.std.proofs.lemmas.Option.{none-some, same_Some}
 use Rattle.std.proofs.lemmas.List.{drop-drop}
 use Rattle.std.proofs.lemmas.List.Elements.{All-drop}
 use Rattle.std.specs.List.{All}
+use Rattle.regress_base.specs.declared.types.Quantifier.{Quantifier}
 use Rattle.regress_lexical.specs.Source.{Source, Found, ◌>>=◌, found_map, IsCodePoint, is_at, question_mark}
 use Rattle.regress_lexical.specs.Digits.{is_decimal, is_octal, is_hex, number, behind, hex_at}
 use Rattle.regress_lexical.specs.Escapes.{braced_hex_at, unit_at, second_half_at, paired, with_second_half, unicode_at, or_itself, octal_digits, letter_escape, begins_with_digit, is_syntax_character, control_at, other_escape, escape_at}
@@ -172,3 +173,13 @@ pub quantifier_at-ends : (t : Source) → Ends (quantifier_at t) t
 unfolding quantifier_at
 quantifier_at-ends [] = ends_none []
 quantifier_at-ends (c ∷ t) = ends_more _ c t (ends_then (times_by c t) greedy_or_lazy t (times_by-ends c t) greedy_or_lazy-ends)
+
+-- a quantifier takes a code point at least
+pub quantifier_at-shortens : (t : Source) (x : Quantifier × Source) → quantifier_at t ≡ Some x → length x.1 < length t
+unfolding quantifier_at
+quantifier_at-shortens [] x e = absurd (none-some x e)
+quantifier_at-shortens (c ∷ t) x e =
+    omega (
+      arith,
+      behind_shorter t x.1 ((ends_then (times_by c t) greedy_or_lazy t (times_by-ends c t) greedy_or_lazy-ends).each x e),
+    )

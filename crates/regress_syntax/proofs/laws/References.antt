@@ -6,7 +6,7 @@ use Rattle.regress_lexical.specs.Source.{Source}
 use Rattle.regress_lexical.specs.Digits.{is_decimal, number, front}
 use Rattle.regress_lexical.proofs.laws.Behind.{behind_front, Ends, ends_none, ends_some, ends_cond}
 use Rattle.regress_syntax.specs.Numbering.{group_number_at}
-use Rattle.regress_syntax.specs.Rows.{Context, numbered_at, character_at}
+use Rattle.regress_syntax.specs.Rows.{Context, numbered_at}
 use Rattle.regress_syntax.specs.Syntax.{by_number, back_reference}
 
 pub group_number_at-ends : (groups : ℕ) (t : Source) → Ends (group_number_at groups t) t

@@ -8,8 +8,8 @@ use Rattle.regress_lexical.specs.Views.{source}
 use Rattle.regress_classes.proofs.ClassLemmas.{alone_read}
 use Rattle.regress_classes.proofs.class.read_any_part.Goals as goal
 
-pub returns-in_ok-add_atom : goal.returns-in_ok-add_atom
-returns-in_ok-add_atom c = (
+pub returns-in_ok-add_atom-clause-value : goal.returns-in_ok-add_atom-clause-value
+returns-in_ok-add_atom-clause-value c = (
   atom_members (class_atom_of c.in_ok-first.first),
   alone_read (table_of c.args.tables.now) c.args.unicode (source c.args.cursor.now) (source c.read_class_atom.new.cursor) (class_atom_of c.in_ok-first.first)
       c.in_ok-first.ensures.value (sym c.if-try_consume_hyphen.ensures.found)

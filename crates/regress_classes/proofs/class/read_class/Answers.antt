@@ -7,18 +7,18 @@ use Rattle.regress_lexical.proofs.laws.Sources.{on_refused_then}
 use Rattle.regress_classes.proofs.ClassLemmas.{class_is}
 use Rattle.regress_classes.proofs.class.read_class.Goals as goal
 
-pub returns-in_err-set : goal.returns-in_err-set
-returns-in_err-set c =
+pub returns-in_err-set-clause-value : goal.returns-in_err-set-clause-value
+returns-in_err-set-clause-value c =
     let p = err_from_is_err_and c.from_residual.result c.from_residual.ensures.1 in
     let caret = c.try_consume-inverted in
     rw (p.1, p.2) (on_refused_then c.in_err-set.field-0.0
     (class_is (table_of c.args.tables.now) c.args.unicode caret.result (source c.args.cursor.now) (source caret.new.self) None caret.ensures.found caret.ensures.moves)
-    c.in_err-set.ensures)
+    c.in_err-set.ensures.value)
 
-pub returns : goal.returns
-returns c =
+pub returns-clause-value : goal.returns-clause-value
+returns-clause-value c =
     let caret = c.try_consume-inverted in
-    let found = c.in_ok-set.ensures in (
+    let found = c.in_ok-set.ensures.value in (
       (caret.result, found.0),
       class_is (table_of c.args.tables.now) c.args.unicode caret.result (source c.args.cursor.now) (source caret.new.self) (Some (found.0, source c.read_parts.new.cursor))
           caret.ensures.found caret.ensures.moves found.1,

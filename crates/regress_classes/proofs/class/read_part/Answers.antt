@@ -9,14 +9,14 @@ use Rattle.regress_classes.specs.ClassViews.{Adds}
 use Rattle.regress_classes.proofs.ClassLemmas.{adds_one}
 use Rattle.regress_classes.proofs.class.read_part.Goals as goal
 
-pub returns-in-Some : goal.returns-in-Some
-returns-in-Some c = (
+pub returns-in-Some-clause-value : goal.returns-in-Some-clause-value
+returns-in-Some-clause-value c = (
   c.in-Some.interval ∷ [],
   c.in-Some.ensures.some (table_of c.args.tables.now) c.args.unicode,
   adds_one c.in-Some.interval c.args.set.now c.add.new.self c.in_ok-add.ensures,
 )
 
-pub returns : goal.returns
-returns c =
+pub returns-clause-value : goal.returns-clause-value
+returns-clause-value c =
     subst (λ (t : Source). ReadsAs (λ _ members. Adds members c.args.set.now c.read_any_part.new.set) (source c.read_any_part.new.cursor) c.read_any_part.result (class_part_at (table_of c.args.tables.now) c.args.unicode t))
-    c.in_default.ensures.none c.read_any_part.ensures
+    c.in_default.ensures.none c.read_any_part.ensures.value

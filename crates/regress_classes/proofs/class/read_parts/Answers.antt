@@ -12,25 +12,25 @@ use Rattle.regress_classes.proofs.class.read_parts.Goals as goal
 
 pub loop-cursor-smaller : goal.loop-cursor-smaller
 loop-cursor-smaller c =
-    let found = c.in_ok-read_part.ensures in
+    let found = c.in_ok-read_part.ensures.value in
     class_part_at-shortens (table_of c.args.tables.now) c.args.unicode (source c.loop-cursor.cursor) (found.0, source c.read_part.new.cursor) found.1
 
 pub loop-cursor-preserved : goal.loop-cursor-preserved
 loop-cursor-preserved c =
-    let found = c.in_ok-read_part.ensures in
+    let found = c.in_ok-read_part.ensures.value in
     one_more_read (table_of c.args.tables.now) c.args.unicode _ (source c.loop-cursor.cursor) (source c.read_part.new.cursor) c.loop-cursor.gathered c.read_part.new.set found.0
     c.loop-cursor.invariant (sym c.is_at.ensures ∙ c.loop-cursor-test.true) found.1 found.2
 
-pub returns-in_err-read_part : goal.returns-in_err-read_part
-returns-in_err-read_part c =
+pub returns-in_err-read_part-clause-value : goal.returns-in_err-read_part-clause-value
+returns-in_err-read_part-clause-value c =
     let p = err_from_is_err_and c.from_residual.result c.from_residual.ensures.1 in
     rw (p.1, p.2) (on_refused_then c.in_err-read_part.field-0.0
     (none_behind (table_of c.args.tables.now) c.args.unicode _ (source c.loop-cursor.cursor) c.loop-cursor.gathered c.loop-cursor.invariant
     (sym c.is_at.ensures ∙ c.loop-cursor-test.true))
-    c.in_err-read_part.ensures)
+    c.in_err-read_part.ensures.value)
 
-pub returns : goal.returns
-returns c =
+pub returns-clause-value : goal.returns-clause-value
+returns-clause-value c =
     let closes : is_at 93 (source c.loop-cursor.cursor) ≡ true = sym c.is_at.ensures ∙ c.loop-cursor-test.false in
     let all = all_read (table_of c.args.tables.now) c.args.unicode _ (source c.loop-cursor.cursor) c.loop-cursor.gathered _ c.loop-cursor.invariant closes c.in_ok-into_set.ensures in (
       all.0,

@@ -1,4 +1,4 @@
-use Rattle.std.proofs.Common.{◌≡◌, ◌+◌, ◌*◌, length}
+use Rattle.std.proofs.Common.{◌≡◌, ◌≤◌, ◌+◌, ◌*◌, length}
 use Rattle.regress_unicode.specs.TableOf.{table_of}
 use Rattle.regress_classes.specs.ClassSets.{Value}
 use Rattle.regress_classes.specs.ClassViews.{IsValue, IsUnion, IsChain, inner_of, parts_onto, operands_onto, sign_of, applied}
@@ -30,20 +30,22 @@ decreases-read_contents l = 8 * l.around.now.levels + 5
 
 abbrev pub invariant-read_parts-loop-union : goal.invariant-read_parts-loop-union
 invariant-read_parts-loop-union l =
-    (held : Value) → IsUnion l.fn.union held →
+    ((held : Value) → IsUnion l.fn.union held →
     ReadFrom IsUnion (parts_onto (table_of l.around.tables.now) l.around.unicode (inner_of l.around) l.around.negated) held (source l.fn.cursor)
-    (source l.cursor) l.union
+    (source l.cursor) l.union)
+    × (length (source l.cursor) ≤ length (source l.fn.cursor))
 
 abbrev pub decreases-read_parts-loop-union : goal.decreases-read_parts-loop-union
 decreases-read_parts-loop-union l = length (source l.cursor)
 
 abbrev pub invariant-read_operands-loop-chain : goal.invariant-read_operands-loop-chain
 invariant-read_operands-loop-chain l =
-    (held : Value) → IsValue l.fn.value held →
+    ((held : Value) → IsValue l.fn.value held →
     (l.chain.operator ≡ l.operator)
     × ReadFrom IsChain
     (operands_onto (table_of l.around.tables.now) l.around.unicode (inner_of l.around) l.around.negated (sign_of l.operator) (applied l.operator))
-    held (source l.fn.cursor) (source l.cursor) l.chain
+    held (source l.fn.cursor) (source l.cursor) l.chain)
+    × (length (source l.cursor) ≤ length (source l.fn.cursor))
 
 abbrev pub decreases-read_operands-loop-chain : goal.decreases-read_operands-loop-chain
 decreases-read_operands-loop-chain l = length (source l.cursor)

@@ -11,8 +11,8 @@ invariant_of-cursor c = record {
       c.args.cursor.now.in_range;
 }
 
-pub returns : goal.returns
-returns c = (
+pub returns-clause-value : goal.returns-clause-value
+returns-clause-value c = (
   literal c.args.scope.now.flags c.in-Some.found,
   search rules,
   record { node = c.in_ok-make_literal.ensures; levels = omega arith; allows = refl },

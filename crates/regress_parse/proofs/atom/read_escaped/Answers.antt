@@ -12,8 +12,8 @@ use Rattle.regress_parse.specs.Parsing.{IsNode}
 use Rattle.regress_parse.proofs.EscapeRows.{class_read, lone_read, property_read, character_read}
 use Rattle.regress_parse.proofs.atom.read_escaped.Goals as goal
 
-pub returns-in_ok-make_class_escape : goal.returns-in_ok-make_class_escape
-returns-in_ok-make_class_escape c =
+pub returns-in_ok-make_class_escape-clause-value : goal.returns-in_ok-make_class_escape-clause-value
+returns-in_ok-make_class_escape-clause-value c =
     let ctx = context_of c.args.scope.now in
     let t = source c.args.cursor.now in
     let letter = c.in-Some.c in
@@ -27,8 +27,8 @@ returns-in_ok-make_class_escape c =
       record { node = c.in_ok-make_class_escape.ensures; levels = omega arith; allows = refl },
     )
 
-pub returns-then-c-from : goal.returns-then-c-from
-returns-then-c-from c =
+pub returns-then-c-from-clause-value : goal.returns-then-c-from-clause-value
+returns-then-c-from-clause-value c =
     let ctx = context_of c.args.scope.now in
     let t = source c.args.cursor.now in
     let front : t ≡ c.in-Some.c ∷ drop 1 t = search rules in
@@ -40,8 +40,8 @@ returns-then-c-from c =
       record { node = c.make_boundary.ensures; levels = omega arith; allows = refl },
     )
 
-pub returns-then-c-from-2 : goal.returns-then-c-from-2
-returns-then-c-from-2 c =
+pub returns-then-c-from-2-clause-value : goal.returns-then-c-from-2-clause-value
+returns-then-c-from-2-clause-value c =
     let ctx = context_of c.args.scope.now in
     let t = source c.args.cursor.now in
     let front : t ≡ c.in-Some.c ∷ drop 1 t = search rules in
@@ -53,8 +53,8 @@ returns-then-c-from-2 c =
       record { node = c.make_boundary-then-c-from-2.ensures; levels = omega arith; allows = refl },
     )
 
-pub returns-in_ok-make_literal : goal.returns-in_ok-make_literal
-returns-in_ok-make_literal c =
+pub returns-in_ok-make_literal-clause-value : goal.returns-in_ok-make_literal-clause-value
+returns-in_ok-make_literal-clause-value c =
     let ctx = context_of c.args.scope.now in
     let t = source c.args.cursor.now in
     let letter = c.in-Some.c in
@@ -68,8 +68,8 @@ returns-in_ok-make_literal c =
       record { node = c.in_ok-make_literal.ensures; levels = omega arith; allows = refl },
     )
 
-pub returns-then-begins_property : goal.returns-then-begins_property
-returns-then-begins_property c =
+pub returns-then-begins_property-clause-value : goal.returns-then-begins_property-clause-value
+returns-then-begins_property-clause-value c =
     let ctx = context_of c.args.scope.now in
     let t = source c.args.cursor.now in
     let letter = c.in-Some.c in
@@ -78,10 +78,10 @@ returns-then-begins_property c =
     let read = property_read ctx letter (drop 1 t) (sym c.begins_property.ensures ∙ c.if-begins_property.true) in
     subst (λ (found : Found Atom). ReadsAs (IsNode ctx 0 true) (source c.read_property_atom.new.cursor) c.read_property_atom.result found)
     (ap₂ (λ (d : ℕ) (u : Source). property_atom_at ctx (letter == d) u) c.from-then-begins_property.ensures rest ∙ sym read ∙ sym (ap (escaped_at ctx) front))
-    c.read_property_atom.ensures
+    c.read_property_atom.ensures.value
 
-pub returns-else-begins_name : goal.returns-else-begins_name
-returns-else-begins_name c =
+pub returns-else-begins_name-clause-value : goal.returns-else-begins_name-clause-value
+returns-else-begins_name-clause-value c =
     let ctx = context_of c.args.scope.now in
     let t = source c.args.cursor.now in
     let letter = c.in-Some.c in
@@ -96,4 +96,4 @@ returns-else-begins_name c =
     (sym c.begins_number.ensures ∙ c.if-begins_number.false)
     (sym c.begins_name.ensures ∙ c.if-begins_name.false) in
     subst (λ (found : Found Atom). ReadsAs (IsNode ctx 0 true) (source c.read_character.new.cursor) c.read_character.result found)
-    (sym read ∙ sym (ap (escaped_at ctx) front)) c.read_character.ensures
+    (sym read ∙ sym (ap (escaped_at ctx) front)) c.read_character.ensures.value

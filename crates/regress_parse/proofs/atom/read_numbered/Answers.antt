@@ -16,8 +16,8 @@ invariant_of-cursor c = record {
       c.args.cursor.now.in_range;
 }
 
-pub returns-in-Some : goal.returns-in-Some
-returns-in-Some c =
+pub returns-in-Some-clause-value : goal.returns-in-Some-clause-value
+returns-in-Some-clause-value c =
     let ctx = context_of c.args.scope.now in
     let t = source c.args.cursor.now in
     let found : group_number_at ctx.groups t ≡ Some (c.in-Some.group, c.in-Some.rest.now) =

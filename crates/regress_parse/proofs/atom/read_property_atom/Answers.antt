@@ -14,14 +14,14 @@ use Rattle.regress_classes.proofs.laws.Values.{same_strings}
 use Rattle.regress_parse.proofs.AtomLemmas.{property-levels, property-allows}
 use Rattle.regress_parse.proofs.atom.read_property_atom.Goals as goal
 
-pub returns-in_ok-make_property-in-Points : goal.returns-in_ok-make_property-in-Points
-returns-in_ok-make_property-in-Points c =
+pub returns-in_ok-make_property-in-Points-clause-value : goal.returns-in_ok-make_property-in-Points-clause-value
+returns-in_ok-make_property-in-Points-clause-value c =
     let ctx = context_of c.args.scope.now in
     let rest = source c.read_property.new.cursor in
     let members = c.in-Points.set.now in (
       point_property ctx c.args.negated members,
       ap (λ (found : Found Property). found >>= property_atom ctx c.args.negated)
-          (c.in_ok-set.ensures ∙ ap (λ property. Some (property_of property, rest)) c.in-Points.is),
+          (c.in_ok-set.ensures.value ∙ ap (λ property. Some (property_of property, rest)) c.in-Points.is),
       record {
         node = c.in_ok-make_property-in-Points.ensures;
         levels = property-levels ctx c.args.negated members;
@@ -29,8 +29,8 @@ returns-in_ok-make_property-in-Points c =
       },
     )
 
-pub returns-in_ok-make_strings-in-Strings-2 : goal.returns-in_ok-make_strings-in-Strings-2
-returns-in_ok-make_strings-in-Strings-2 c =
+pub returns-in_ok-make_strings-in-Strings-2-clause-value : goal.returns-in_ok-make_strings-in-Strings-2-clause-value
+returns-in_ok-make_strings-in-Strings-2-clause-value c =
     let ctx = context_of c.args.scope.now in
     let rest = source c.read_property.new.cursor in
     let strings = c.in-Strings.field-0.now in
@@ -39,7 +39,7 @@ returns-in_ok-make_strings-in-Strings-2 c =
     same_strings _ strings copies c.in_ok-copies-in-Strings-2.ensures.items (λ x y clones. same_from_all_zip _ _ _ clones.0 (λ c d same. same)) in (
       string_property ctx.setting.flags (strings_of strings),
       ap (λ (found : Found Property). found >>= property_atom ctx c.args.negated)
-          (c.in_ok-set.ensures ∙ ap (λ property. Some (property_of property, rest)) c.in-Strings.is)
+          (c.in_ok-set.ensures.value ∙ ap (λ property. Some (property_of property, rest)) c.in-Strings.is)
           ∙ cond-false _ _ _ c.if-negated.false,
       record {
         node = c.in_ok-make_strings-in-Strings-2.ensures ∙ ap (λ (ss : List (List ℕ)). leaf (string_set ss ctx.setting.flags.icase)) same;

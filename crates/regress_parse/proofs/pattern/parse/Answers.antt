@@ -3,6 +3,7 @@ use Rattle.std.proofs.lemmas.Result.{err_from_is_err_and}
 use Rattle.regress_base.specs.Limits.{max_capture_groups}
 use Rattle.regress_tree.specs.Reading.{forwards}
 use Rattle.regress_tree.specs.Tree.{Tree, trees, cat, more_trees, no_trees}
+use Rattle.regress_unicode.specs.TableOf.{table_of}
 use Rattle.regress_syntax.specs.SettingOf.{setting_of}
 use Rattle.regress_tree.specs.WellFormed.{IsWellFormed}
 use Rattle.regress_tree.proofs.laws.Nodes.{tree-Cat, tree-Goal}
@@ -13,6 +14,7 @@ use Rattle.regress_parse.specs.Parsing.{YieldsWhole}
 use Rattle.regress_parse.specs.TreeOf.{tree_of, tree_of_pattern}
 use Rattle.regress_parse.specs.Accepted.{Means}
 use Rattle.regress_parse.proofs.AcceptedLemmas.{found_names, scanned, most, scanned-is, names_found, derived_reads, same_derived, marks-say, reading-says, marks-apart, fit-limits}
+use Rattle.regress_parse.proofs.ReachLemmas.{whole_exceeds, marks_exceed}
 use Rattle.regress_parse.proofs.GrammarLemmas.{pattern_at-sound}
 use Rattle.regress_parse.proofs.MeaningLemmas.{tree_of-means}
 use Rattle.regress_parse.proofs.WellFormedLemmas.{tree_of-well_formed}
@@ -37,8 +39,19 @@ returns-in_err-body-clause-told c =
     let found = c.in_ok-groups.ensures in
     let same = scanned-is setting t found.whole c.in_ok-groups.groups.count (names_in c.in_ok-groups.groups) found.names found.count in
     let yields : YieldsWhole (scanned setting t found.whole (most setting t found.whole)) t (Err c.in_err-body.field-0.0) =
-    subst (λ ctx. YieldsWhole ctx t (Err c.in_err-body.field-0.0)) same c.in_err-body.ensures in
+    subst (λ ctx. YieldsWhole ctx t (Err c.in_err-body.field-0.0)) same c.in_err-body.ensures.value in
     rw (p.1, p.2) (on_kind_then c.in_err-body.field-0.0 (reading-says setting t found.whole found.levels) yields)
+
+pub returns-in_err-groups-clause-limits : goal.returns-in_err-groups-clause-limits
+returns-in_err-groups-clause-limits c =
+    let p = err_from_is_err_and c.from_residual.result c.from_residual.ensures.1 in
+    rw (p.1, p.2) (on_kind_then c.in_err-groups.field-0.0
+    (marks_exceed c.args.flags.unicode_sets (table_of c.args.tables.now) c.args.pattern.now) c.in_err-groups.ensures.refused)
+
+pub returns-in_err-body-clause-limits : goal.returns-in_err-body-clause-limits
+returns-in_err-body-clause-limits c =
+    let p = err_from_is_err_and c.from_residual-in_err-body.result c.from_residual-in_err-body.ensures.1 in
+    rw (p.1, p.2) (on_kind_then c.in_err-body.field-0.0 (whole_exceeds c.args.pattern.now) c.in_err-body.ensures.reached)
 
 pub returns-in_err-body-clause-only : goal.returns-in_err-body-clause-only
 returns-in_err-body-clause-only c =
@@ -56,7 +69,7 @@ returns-clause-accepted c =
     let found = c.in_ok-groups.ensures in
     let same = scanned-is setting t found.whole c.in_ok-groups.groups.count (names_in c.in_ok-groups.groups) found.names found.count in
     let here = scanned setting t found.whole (most setting t found.whole) in
-    let read : YieldsWhole here t (Ok c.in_ok-body.body) = subst (λ ctx. YieldsWhole ctx t (Ok c.in_ok-body.body)) same c.in_ok-body.ensures in
+    let read : YieldsWhole here t (Ok c.in_ok-body.body) = subst (λ ctx. YieldsWhole ctx t (Ok c.in_ok-body.body)) same c.in_ok-body.ensures.value in
     let p = read.0 in
     let few : (counts p).groups < max_capture_groups + 1 = omega (arith, read.2.groups) in
     let derived = derived_reads setting t found.whole p read.1 few in

@@ -10,8 +10,8 @@ use Rattle.regress_lexical.proofs.laws.Behind.{behind_all}
 use Rattle.regress_syntax.proofs.laws.NameEnds.{group_name_at-ends}
 use Rattle.regress_syntax.proofs.references.read_reference.Goals as goal
 
-pub returns-then-is_empty : goal.returns-then-is_empty
-returns-then-is_empty c =
+pub returns-then-is_empty-clause-value : goal.returns-then-is_empty-clause-value
+returns-then-is_empty-clause-value c =
     let ctx = context_of c.args.scope.now in
     let name = c.in-Some.name.items in
     let found : group_name_at ctx.setting.table (source c.args.cursor.now) ≡ Some (name, c.in-Some.rest.now) =
@@ -32,8 +32,8 @@ invariant_of-cursor c =
           c.args.cursor.now.in_range;
     }
 
-pub returns : goal.returns
-returns c =
+pub returns-clause-value : goal.returns-clause-value
+returns-clause-value c =
     let ctx = context_of c.args.scope.now in
     let name = c.in-Some.name.items in
     let found : group_name_at ctx.setting.table (source c.args.cursor.now) ≡ Some (name, c.in-Some.rest.now) =

@@ -12,7 +12,7 @@ invariant_of-cursor c = record {
       c.args.cursor.now.in_range;
 }
 
-pub returns-then-not-may_begin : goal.returns-then-not-may_begin
-returns-then-not-may_begin c =
+pub returns-then-not-may_begin-clause-value : goal.returns-then-not-may_begin-clause-value
+returns-then-not-may_begin-clause-value c =
     no_times (context_of c.args.scope.now) c.args.allowed (source c.args.cursor.now)
     (sym c.may_begin.ensures ∙ c.if-not-may_begin.true)

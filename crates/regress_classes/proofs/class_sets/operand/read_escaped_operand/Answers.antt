@@ -7,8 +7,8 @@ use Rattle.regress_lexical.specs.Views.{source}
 use Rattle.regress_classes.proofs.ClassOperandLemmas.{class_escape_read}
 use Rattle.regress_classes.proofs.class_sets.operand.read_escaped_operand.Goals as goal
 
-pub returns-in_ok-class_value : goal.returns-in_ok-class_value
-returns-in_ok-class_value c =
+pub returns-in_ok-class_value-clause-value : goal.returns-in_ok-class_value-clause-value
+returns-in_ok-class_value-clause-value c =
     let around = c.args.around.now in
     let named : CharacterClassType × Bool = (c.in-Some-class_letter.kind, c.in-Some-class_letter.negated) in
     let front : source c.args.cursor.now ≡ c.in-Some.c.now ∷ c.in-Some.rest.now = search rules in (

@@ -17,25 +17,25 @@ string_value-requires c =
     let rest = source c.read_property.new.cursor in
     (property_at-in_range (table_of tables) tables.sound.lawful true (source c.args.cursor.now)).each
     (of_strings (strings_of c.in-Strings.strings.now), rest)
-    (c.in_ok-set.ensures ∙ ap (λ property. Some (property_of property, rest)) c.in-Strings.is)
+    (c.in_ok-set.ensures.value ∙ ap (λ property. Some (property_of property, rest)) c.in-Strings.is)
 
-pub returns-in_ok-value-in-Points : goal.returns-in_ok-value-in-Points
-returns-in_ok-value-in-Points c =
+pub returns-in_ok-value-in-Points-clause-value : goal.returns-in_ok-value-in-Points-clause-value
+returns-in_ok-value-in-Points-clause-value c =
     let rest = source c.read_property.new.cursor in
     let value = only (complement_if c.args.negated c.in-Points.set.now) in (
       class value,
       ap (λ (found : Found Property). found >>= property_operand c.args.around.now.negated c.args.negated)
-          (c.in_ok-set.ensures ∙ ap (λ property. Some (property_of property, rest)) c.in-Points.is),
+          (c.in_ok-set.ensures.value ∙ ap (λ property. Some (property_of property, rest)) c.in-Points.is),
       (value, refl, c.in_ok-value-in-Points.ensures),
     )
 
-pub returns-in_ok-value-in-Strings : goal.returns-in_ok-value-in-Strings
-returns-in_ok-value-in-Strings c =
+pub returns-in_ok-value-in-Strings-clause-value : goal.returns-in_ok-value-in-Strings-clause-value
+returns-in_ok-value-in-Strings-clause-value c =
     let rest = source c.read_property.new.cursor in
     let value = value_of_strings (strings_of c.in-Strings.strings.now) in (
       class value,
       ap (λ (found : Found Property). found >>= property_operand c.args.around.now.negated c.args.negated)
-          (c.in_ok-set.ensures ∙ ap (λ property. Some (property_of property, rest)) c.in-Strings.is)
+          (c.in_ok-set.ensures.value ∙ ap (λ property. Some (property_of property, rest)) c.in-Strings.is)
           ∙ cond-false _ _ _ (ap₂ (λ a b. a || b) c.if-around.false c.if-negated.false),
       (value, refl, c.in_ok-value-in-Strings.ensures),
     )

@@ -5,9 +5,9 @@ use Rattle.regress_lexical.specs.Views.{source}
 use Rattle.regress_classes.proofs.ClassStringLemmas.{quoted}
 use Rattle.regress_classes.proofs.class_sets.strings.read_quoted.Goals as goal
 
-pub returns : goal.returns
-returns c =
-    let found = c.in_ok-read_strings.ensures in
+pub returns-clause-value : goal.returns-clause-value
+returns-clause-value c =
+    let found = c.in_ok-read_strings.ensures.value in
     let opens = sym c.try_consume.ensures.found ∙ c.if-not-try_consume.false in (
       class (value_of_strings found.0),
       quoted c.args.unicode (source c.args.cursor.now) (source c.try_consume.new.self) _ opens

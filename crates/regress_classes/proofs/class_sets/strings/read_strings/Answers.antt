@@ -21,8 +21,8 @@ loop-cursor-preserved-then-try_consume c =
     c.new-string-then-try_consume.ensures.items
     (c.in_ok-add_string.ensures (value_of_strings l.invariant.strings) l.invariant.value)
 
-pub returns-then-is_empty : goal.returns-then-is_empty
-returns-then-is_empty c =
+pub returns-then-is_empty-clause-value : goal.returns-then-is_empty-clause-value
+returns-then-is_empty-clause-value c =
     let l = c.loop-cursor in
     let same : source c.try_consume.new.self ≡ source l.cursor = c.try_consume.ensures.moves ∙ cond-false _ _ _ c.if-try_consume.false in
     on_refused c.refused.result
@@ -30,8 +30,8 @@ returns-then-is_empty c =
     (sym c.is_at.ensures ∙ c.loop-cursor-test.true) (sym c.try_consume.ensures.found ∙ c.if-try_consume.false)
     (character_at_end c.args.unicode (source l.cursor) (sym same ∙ length-none (source c.try_consume.new.self) (sym c.if-is_empty.ensures))))
 
-pub returns-in_err-read_set_character : goal.returns-in_err-read_set_character
-returns-in_err-read_set_character c =
+pub returns-in_err-read_set_character-clause-value : goal.returns-in_err-read_set_character-clause-value
+returns-in_err-read_set_character-clause-value c =
     let p = err_from_is_err_and c.from_residual-in_err-read_set_character.result c.from_residual-in_err-read_set_character.ensures.1 in
     let l = c.loop-cursor in
     let same : source c.try_consume.new.self ≡ source l.cursor = c.try_consume.ensures.moves ∙ cond-false _ _ _ c.if-try_consume.false in
@@ -59,8 +59,8 @@ loop-cursor-preserved c =
     (sym c.try_consume.ensures.found ∙ c.if-try_consume.false) (rw same at c.in_ok-read_set_character.ensures.value)
     c.in_ok-read_set_character.ensures.in_range c.in_ok-push.ensures.items
 
-pub returns : goal.returns
-returns c =
+pub returns-clause-value : goal.returns-clause-value
+returns-clause-value c =
     let l = c.loop-cursor in
     let closes = sym c.is_at.ensures ∙ c.loop-cursor-test.false in
     all_strings_read c.args.unicode (source c.args.cursor.now) (source l.cursor) (source c.try_consume-2.new.self) l.string.items l.value

@@ -1,57 +1,59 @@
 -- Each answer is a lemma on what was read, at the values of the call.
-use Rattle.std.proofs.Common.{◌≡◌, ◌+◌, ◌-◌, Bool, false, not, ◌∷◌, Some, None, Ok, Err, length, refl, sym, ap, ◌∙◌, subst, arith, length-drop}
+use Rattle.std.proofs.Common.{◌≡◌, ◌+◌, ◌-◌, ◌<◌, Bool, false, not, ◌∷◌, inr, drop, Some, None, Ok, Err, length, refl, sym, ap, ◌∙◌, subst, arith, length-drop}
 use Rattle.std.proofs.lemmas.Result.{err_from_is_err_and}
 use Rattle.regress_lexical.specs.declared.fault.FaultKind.TheVariants.{TooDeep}
-use Rattle.regress_lexical.specs.Source.{Source, Found, opening, is_at, ends_alternative, bar as the_bar}
-use Rattle.regress_syntax.specs.Syntax.{literal, atom}
-use Rattle.regress_syntax.specs.Rows.{opens, allows, head_at}
+use Rattle.regress_lexical.specs.Source.{Source, Found, found_map, opening, is_at, ends_alternative, bar as the_bar}
+use Rattle.regress_syntax.specs.Syntax.{Group, Counts, literal, atom}
+use Rattle.regress_syntax.specs.Rows.{Context, opens, allows, group_at, head_at}
 use Rattle.regress_syntax.specs.Views.{group_of}
 use Rattle.regress_base.specs.Limits.{max_nesting_depth}
 use Rattle.regress_lexical.specs.Views.{source}
 use Rattle.regress_lexical.proofs.laws.Sources.{at_front, on_kind_then, on_each_kind}
+use Rattle.regress_lexical.specs.Fault.{OnKind}
+use Rattle.regress_lexical.proofs.laws.Faults.{fails_then, by_levels_then}
 use Rattle.regress_syntax.proofs.laws.Rows.{head_at-shortens}
+use Rattle.regress_syntax.proofs.laws.Lengths.{opened_by-one}
+use Rattle.regress_parse.proofs.ReachLemmas.{no_limit, levels_reach, groups_reach, reaches_before, spends_same, spends_then, spends_read, costs_spends, terms_at-costs, item_at-costs, term_at-costs}
 use Rattle.regress_parse.specs.TreeOf.{joined}
 use Rattle.regress_parse.specs.Reader.{Term, item_behind, pattern_at, terms_at, term_at, item_at, with_times}
-use Rattle.regress_parse.specs.Parsing.{text, counted, context_in, table_in, names_around, direction_of, terms_part, term_part, item_part, atom_at, ReadsAtom, Yields}
+use Rattle.regress_parse.specs.Parsing.{text, counted, context_in, table_in, names_around, direction_of, terms_part, term_part, item_part, atom_at, ReadsAtom, Yields, Reaches, Spends}
 use Rattle.regress_parse.proofs.CountLemmas.{added-nothing}
 use Rattle.regress_parse.proofs.ReaderLemmas.{terms_at-shortens, term_at-shortens, term_at-is}
 use Rattle.regress_parse.proofs.SoFarLemmas.{TermsSoFar, terms-first, terms-step, terms-end, terms-fail, no_terms-yield, one_term-yields, first_term-fails}
 use Rattle.regress_parse.proofs.AlternativesLemmas.{alternatives-start, alternatives-step, lone-yields, first-fail, alternatives-fail}
-use Rattle.regress_parse.proofs.TermLemmas.{front_is, times-fail, too_deep, plain_term, no_term, opening_head, opening_item, opened_same, atom_yields, atom_allowed}
+use Rattle.regress_parse.proofs.TermLemmas.{front_is, times-fail, too_deep, plain_term, no_term, opening_head, opening_item, opened_same, atom_item, atom_yields, atom_allowed}
 use Rattle.regress_parse.proofs.ParserLemmas.{built, built_here, of_built}
 use Rattle.regress_parse.proofs.parser.Parser.+parser.Goals as goal
 
-pub consume_alternative-returns-then-ends_alternative : goal.consume_alternative-returns-then-ends_alternative
-consume_alternative-returns-then-ends_alternative t c =
+-- a bar takes a code point
+behind_bar_spends : (now : Counts) (t rest : Source) → rest ≡ drop 1 t → Spends now now t rest
+behind_bar_spends now t rest same = spends_read now t rest (omega (arith, ap length same, length-drop 1 t))
+
+pub consume_alternative-returns-then-ends_alternative-clause-value : goal.consume_alternative-returns-then-ends_alternative-clause-value
+consume_alternative-returns-then-ends_alternative-clause-value t c =
     let around = c.args.around.now in
     let old = c.args.self.now in
-    record {
-      value = no_terms-yield (table_in around) (names_around around) (direction_of around) (context_in around) around.depth old
-          (sym c.ends_alternative.ensures ∙ c.if-ends_alternative.true) c.requires;
-    }
+    no_terms-yield (table_in around) (names_around around) (direction_of around) (context_in around) around.depth old
+    (sym c.ends_alternative.ensures ∙ c.if-ends_alternative.true) c.requires
 
-pub consume_alternative-returns-then-ends_alternative-2 : goal.consume_alternative-returns-then-ends_alternative-2
-consume_alternative-returns-then-ends_alternative-2 t c =
+pub consume_alternative-returns-then-ends_alternative-2-clause-value : goal.consume_alternative-returns-then-ends_alternative-2-clause-value
+consume_alternative-returns-then-ends_alternative-2-clause-value t c =
     let around = c.args.around.now in
     let old = c.args.self.now in
-    record {
-      value = one_term-yields (table_in around) (names_around around) (direction_of around) (context_in around) around.depth old
-          c.consume_term-first.new.self c.consume_term-first.result
-          (sym c.ends_alternative.ensures ∙ c.if-ends_alternative.false)
-          (sym c.ends_alternative-2.ensures ∙ c.if-ends_alternative-2.true) c.requires c.consume_term-first.ensures.value;
-    }
+    one_term-yields (table_in around) (names_around around) (direction_of around) (context_in around) around.depth old
+    c.consume_term-first.new.self c.consume_term-first.result
+    (sym c.ends_alternative.ensures ∙ c.if-ends_alternative.false)
+    (sym c.ends_alternative-2.ensures ∙ c.if-ends_alternative-2.true) c.requires c.consume_term-first.ensures.value
 
-pub consume_alternative-returns-in_err-first : goal.consume_alternative-returns-in_err-first
-consume_alternative-returns-in_err-first t c =
+pub consume_alternative-returns-in_err-first-clause-value : goal.consume_alternative-returns-in_err-first-clause-value
+consume_alternative-returns-in_err-first-clause-value t c =
     let p = err_from_is_err_and c.from_residual.result c.from_residual.ensures.1 in
     let around = c.args.around.now in
     let old = c.args.self.now in
-    record {
-      value = rw (p.1, p.2) (on_kind_then c.in_err-first.field-0.0
-          (λ kind. first_term-fails (table_in around) (names_around around) (direction_of around) (context_in around) around.depth old kind
-          (sym c.ends_alternative.ensures ∙ c.if-ends_alternative.false) c.requires)
-          c.in_err-first.ensures.value);
-    }
+    rw (p.1, p.2) (on_kind_then c.in_err-first.field-0.0
+    (λ kind. first_term-fails (table_in around) (names_around around) (direction_of around) (context_in around) around.depth old kind
+    (sym c.ends_alternative.ensures ∙ c.if-ends_alternative.false) c.requires)
+    c.in_err-first.ensures.value)
 
 pub consume_alternative-consume_terms-requires : goal.consume_alternative-consume_terms-requires
 consume_alternative-consume_terms-requires t c =
@@ -61,19 +63,17 @@ consume_alternative-consume_terms-requires t c =
     (term_at (context_in around) (text old)) c.in_ok-first.field-0 c.in_ok-first.ensures.value in
     omega (arith, c.requires, term_at-shortens (context_in around) (text old) found.0 found.1, ap length found.2.rest)
 
-pub consume_alternative-returns : goal.consume_alternative-returns
-consume_alternative-returns t c =
+pub consume_alternative-returns-clause-value : goal.consume_alternative-returns-clause-value
+consume_alternative-returns-clause-value t c =
     let around = c.args.around.now in
     let old = c.args.self.now in
     let ctx = context_in around in
     let found = built (term_part (table_in around) (names_around around)) (direction_of around) around.depth (counted old) c.consume_term-first.new.self
     (term_at ctx (text old)) c.in_ok-first.field-0 c.in_ok-first.ensures.value in
     let b = found.2 in
-    record {
-      value = c.consume_terms.ensures.value (text old) (counted old) found.0.0 (sym c.ends_alternative.ensures ∙ c.if-ends_alternative.false)
-          (found.1 ∙ ap (λ (u : Source). Some (found.0.0, u)) (sym b.rest))
-          (record { node = b.node; fits = b.fits; counts = b.counts; rest = refl });
-    }
+    c.consume_terms.ensures.value (text old) (counted old) found.0.0 (sym c.ends_alternative.ensures ∙ c.if-ends_alternative.false)
+    (found.1 ∙ ap (λ (u : Source). Some (found.0.0, u)) (sym b.rest))
+    (record { node = b.node; fits = b.fits; counts = b.counts; rest = refl })
 
 pub consume_terms-loop-self-init : goal.consume_terms-loop-self-init
 consume_terms-loop-self-init t c =
@@ -84,6 +84,7 @@ consume_terms-loop-self-init t c =
           terms-first (table_in around) (names_around around) (direction_of around) (context_in around) around.depth t before c.args.first x (text old)
           (counted old) goes_on found b.node b.counts b.fits),
       omega arith,
+      spends_same (counted old) (text old),
     )
 
 pub consume_terms-loop-self-preserved-in_ok-push-2 : goal.consume_terms-loop-self-preserved-in_ok-push-2
@@ -104,24 +105,23 @@ consume_terms-loop-self-preserved-in_ok-push-2 t c =
           (sym (added-nothing (counted l.self)))
           (record { groups = omega (arith, l.self.groups_within); loops = omega (arith, l.self.loops_within); levels = omega (arith, c.requires) })),
       omega (arith, l.invariant.1, ap length c.in-Some.ensures.some),
+      spends_then l.invariant.2 (spends_read (counted l.self) (text l.self) rest (omega (arith, ap length c.in-Some.ensures.some))),
     )
 
-pub consume_terms-returns-in_err-consume_term : goal.consume_terms-returns-in_err-consume_term
-consume_terms-returns-in_err-consume_term t c =
+pub consume_terms-returns-in_err-consume_term-clause-value : goal.consume_terms-returns-in_err-consume_term-clause-value
+consume_terms-returns-in_err-consume_term-clause-value t c =
     let from = c.from_residual-in_err-consume_term in
     let p = err_from_is_err_and from.result from.ensures.1 in
     let l = c.loop-self in
     let around = c.args.around.now in
     let here : source c.next_plain.new.self ≡ text l.self = c.in_default.ensures.none in
     let goes_on = ap ends_alternative here ∙ sym c.ends_alternative.ensures ∙ c.loop-self-test.true in
-    record {
-      value = λ t before x begins first b.
-          let h = subst (λ (u : Source). TermsSoFar (table_in around) (names_around around) (direction_of around) (context_in around) around.depth
-          t before u (counted l.self) l.parts.items) (sym here) (l.invariant.0 t before x begins first b) in
-          rw (p.1, p.2) (on_kind_then c.in_err-consume_term.field-0.0
-          (λ kind. terms-fail _ _ _ _ _ _ _ kind (source c.next_plain.new.self) (counted l.self) l.parts.items h goes_on)
-          c.in_err-consume_term.ensures.value);
-    }
+    λ t before x begins first b.
+    let h = subst (λ (u : Source). TermsSoFar (table_in around) (names_around around) (direction_of around) (context_in around) around.depth
+    t before u (counted l.self) l.parts.items) (sym here) (l.invariant.0 t before x begins first b) in
+    rw (p.1, p.2) (on_kind_then c.in_err-consume_term.field-0.0
+    (λ kind. terms-fail _ _ _ _ _ _ _ kind (source c.next_plain.new.self) (counted l.self) l.parts.items h goes_on)
+    c.in_err-consume_term.ensures.value)
 
 pub consume_terms-loop-self-smaller : goal.consume_terms-loop-self-smaller
 consume_terms-loop-self-smaller t c =
@@ -148,51 +148,45 @@ consume_terms-loop-self-preserved t c =
           terms-step _ _ _ _ _ _ _ there (counted l.self) l.parts.items c.in_ok-consume_term.field-0 found.0.0 found.0.1
           (counted c.consume_term.new.self) h goes_on found.1 b.node b.counts b.fits),
       omega (arith, l.invariant.1, term_at-shortens (context_in around) there found.0 found.1, ap length here),
+      spends_then l.invariant.2 (subst (λ (u : Source). Spends (counted l.self) (counted c.consume_term.new.self) u found.0.1) here
+          (costs_spends (counted l.self) b.counts (term_at-costs (context_in around) there found.0 found.1))),
     )
 
-pub consume_terms-returns : goal.consume_terms-returns
-consume_terms-returns t c =
+pub consume_terms-returns-clause-value : goal.consume_terms-returns-clause-value
+consume_terms-returns-clause-value t c =
     let l = c.loop-self in
-    record {
-      value = λ t before x begins first b.
-          let h = l.invariant.0 t before x begins first b in
-          let end = terms-end _ _ _ _ _ _ _ (text l.self) (counted l.self) l.parts.items h
-          (sym c.ends_alternative.ensures ∙ c.loop-self-test.false) in
-          rw end (record {
-            node = c.make_cat.ensures ∙ ap (joined (direction_of c.args.around.now)) h.nodes;
-            fits = h.fits;
-            counts = h.counts;
-            rest = refl;
-          });
-    }
+    λ t before x begins first b.
+    let h = l.invariant.0 t before x begins first b in
+    let end = terms-end _ _ _ _ _ _ _ (text l.self) (counted l.self) l.parts.items h
+    (sym c.ends_alternative.ensures ∙ c.loop-self-test.false) in
+    rw end (record {
+      node = c.make_cat.ensures ∙ ap (joined (direction_of c.args.around.now)) h.nodes;
+      fits = h.fits;
+      counts = h.counts;
+      rest = refl;
+    })
 
-pub consume_disjunction-returns-then-around-ge-MAX_NESTING_DEPTH : goal.consume_disjunction-returns-then-around-ge-MAX_NESTING_DEPTH
-consume_disjunction-returns-then-around-ge-MAX_NESTING_DEPTH t c =
+pub consume_disjunction-returns-then-around-ge-MAX_NESTING_DEPTH-clause-value : goal.consume_disjunction-returns-then-around-ge-MAX_NESTING_DEPTH-clause-value
+consume_disjunction-returns-then-around-ge-MAX_NESTING_DEPTH-clause-value t c =
     let around = c.args.around.now in
-    record {
-      value = rw c.refuse.ensures (too_deep (table_in around) (names_around around) (context_in around) TooDeep (counted c.args.self.now) around.depth
-          (pattern_at (context_in around) (text c.args.self.now)) c.if-around-ge-MAX_NESTING_DEPTH.true);
-    }
+    rw c.refuse.ensures (too_deep (table_in around) (names_around around) (context_in around) TooDeep (counted c.args.self.now) around.depth
+    (pattern_at (context_in around) (text c.args.self.now)) c.if-around-ge-MAX_NESTING_DEPTH.true)
 
-pub consume_disjunction-returns-then-not-is_at : goal.consume_disjunction-returns-then-not-is_at
-consume_disjunction-returns-then-not-is_at t c =
+pub consume_disjunction-returns-then-not-is_at-clause-value : goal.consume_disjunction-returns-then-not-is_at-clause-value
+consume_disjunction-returns-then-not-is_at-clause-value t c =
     let around = c.args.around.now in
     let old = c.args.self.now in
-    record {
-      value = lone-yields (table_in around) (names_around around) (direction_of around) (context_in around) around.depth (text old) (counted old)
-          c.consume_alternative-first.new.self c.consume_alternative-first.result (sym c.is_at.ensures ∙ c.if-not-is_at.true)
-          c.consume_alternative-first.ensures.value;
-    }
+    lone-yields (table_in around) (names_around around) (direction_of around) (context_in around) around.depth (text old) (counted old)
+    c.consume_alternative-first.new.self c.consume_alternative-first.result (sym c.is_at.ensures ∙ c.if-not-is_at.true)
+    c.consume_alternative-first.ensures.value
 
-pub consume_disjunction-returns-in_err-last : goal.consume_disjunction-returns-in_err-last
-consume_disjunction-returns-in_err-last t c =
+pub consume_disjunction-returns-in_err-last-clause-value : goal.consume_disjunction-returns-in_err-last-clause-value
+consume_disjunction-returns-in_err-last-clause-value t c =
     let p = err_from_is_err_and c.from_residual.result c.from_residual.ensures.1 in
     let around = c.args.around.now in
-    record {
-      value = rw (p.1, p.2) (on_kind_then c.in_err-last.field-0.0
-          (λ kind. first-fail (table_in around) (names_around around) (context_in around) kind around.depth (text c.args.self.now) (counted c.args.self.now))
-          c.in_err-last.ensures.value);
-    }
+    rw (p.1, p.2) (on_kind_then c.in_err-last.field-0.0
+    (λ kind. first-fail (table_in around) (names_around around) (context_in around) kind around.depth (text c.args.self.now) (counted c.args.self.now))
+    c.in_err-last.ensures.value)
 
 pub consume_disjunction-loop-inside-init : goal.consume_disjunction-loop-inside-init
 consume_disjunction-loop-inside-init t c =
@@ -201,21 +195,21 @@ consume_disjunction-loop-inside-init t c =
     let found = built (terms_part (table_in around) (names_around around)) (direction_of around) (around.depth + 1) (counted old) c.consume_alternative-first.new.self
     (terms_at (context_in around) (text old)) c.in_ok-last.last c.in_ok-last.ensures.value in
     let b = found.2 in
-    rw (b.rest, c.new-before.ensures.items)
-    (alternatives-start _ _ _ _ _ (text c.args.self.now) (counted c.args.self.now) found.0.1 (counted c.consume_alternative-first.new.self)
-    c.in_ok-last.last found.0.0 found.1 b.node b.counts b.fits)
+    rw (b.rest, c.new-before.ensures.items) (
+      alternatives-start _ _ _ _ _ (text c.args.self.now) (counted c.args.self.now) found.0.1 (counted c.consume_alternative-first.new.self)
+          c.in_ok-last.last found.0.0 found.1 b.node b.counts b.fits,
+      costs_spends (counted old) b.counts (terms_at-costs (context_in around) (text old) found.0 found.1),
+    )
 
-pub consume_disjunction-returns-in_err-last-2 : goal.consume_disjunction-returns-in_err-last-2
-consume_disjunction-returns-in_err-last-2 t c =
+pub consume_disjunction-returns-in_err-last-2-clause-value : goal.consume_disjunction-returns-in_err-last-2-clause-value
+consume_disjunction-returns-in_err-last-2-clause-value t c =
     let p = err_from_is_err_and c.from_residual-in_err-last-2.result c.from_residual-in_err-last-2.ensures.1 in
     let l = c.loop-inside in
     let past = c.loop-inside-test.ensures in
-    record {
-      value = rw (p.1, p.2) (on_kind_then c.in_err-last-2.field-0.0
-          (λ kind refused. alternatives-fail _ _ _ _ kind _ _ _ (text l.self) (counted l.self) l.before.items l.last l.invariant (sym past.found)
-          (rw past.moves at refused))
-          c.in_err-last-2.ensures.value);
-    }
+    rw (p.1, p.2) (on_kind_then c.in_err-last-2.field-0.0
+    (λ kind refused. alternatives-fail _ _ _ _ kind _ _ _ (text l.self) (counted l.self) l.before.items l.last l.invariant.0 (sym past.found)
+    (rw past.moves at refused))
+    c.in_err-last-2.ensures.value)
 
 pub consume_disjunction-loop-inside-smaller : goal.consume_disjunction-loop-inside-smaller
 consume_disjunction-loop-inside-smaller t c =
@@ -243,25 +237,26 @@ consume_disjunction-loop-inside-preserved t c =
     c.consume_alternative.new.self (terms_at (context_in around) (source c.try_consume.new.self)) c.in_ok-last-2.last
     c.in_ok-last-2.ensures.value in
     let b = found.2 in
-    rw (b.rest, c.in_ok-push.ensures.items)
-    (alternatives-step _ _ _ _ _ _ _ (text l.self) (counted l.self) l.before.items l.last c.in_ok-last-2.last found.0.0 found.0.1
-    (counted c.consume_alternative.new.self) l.invariant (sym past.found)
-    (subst (λ u. terms_at (context_in around) u ≡ Some found.0) past.moves found.1) b.node b.counts b.fits)
+    rw (b.rest, c.in_ok-push.ensures.items) (
+      alternatives-step _ _ _ _ _ _ _ (text l.self) (counted l.self) l.before.items l.last c.in_ok-last-2.last found.0.0 found.0.1
+          (counted c.consume_alternative.new.self) l.invariant.0 (sym past.found)
+          (subst (λ u. terms_at (context_in around) u ≡ Some found.0) past.moves found.1) b.node b.counts b.fits,
+      spends_then l.invariant.1 (spends_then (behind_bar_spends (counted l.self) (text l.self) (source c.try_consume.new.self) past.moves)
+          (costs_spends (counted l.self) b.counts (terms_at-costs (context_in around) (source c.try_consume.new.self) found.0 found.1))),
+    )
 
-pub consume_term-returns-in_err-kind : goal.consume_term-returns-in_err-kind
-consume_term-returns-in_err-kind t c =
+pub consume_term-returns-in_err-kind-clause-value : goal.consume_term-returns-in_err-kind-clause-value
+consume_term-returns-in_err-kind-clause-value t c =
     let p = err_from_is_err_and c.from_residual.result c.from_residual.ensures.1 in
     let around = c.args.around.now in
     let old = c.args.self.now in
     let past = c.if-try_consume.ensures in
     let here = source c.try_consume.new.self in
     let front : text old ≡ opening ∷ here = front_is opening (text old) here (sym past.found) past.moves in
-    record {
-      value = rw (p.1, p.2) (on_each_kind c.in_err-kind.field-0.0
-          (λ kind none. rw (no_term (table_in around) (names_around around) (context_in around) (text old)
-          (ap (head_at (context_in around)) front ∙ opening_head (table_in around) (names_around around) (context_in around) here ∙ none)) tt)
-          c.in_err-kind.ensures);
-    }
+    rw (p.1, p.2) (on_each_kind c.in_err-kind.field-0.0
+    (λ kind none. rw (no_term (table_in around) (names_around around) (context_in around) (text old)
+    (ap (head_at (context_in around)) front ∙ opening_head (table_in around) (names_around around) (context_in around) here ∙ none)) tt)
+    c.in_err-kind.ensures.value)
 
 pub consume_term-consume_group-requires : goal.consume_term-consume_group-requires
 consume_term-consume_group-requires t c =
@@ -271,11 +266,11 @@ consume_term-consume_group-requires t c =
     let here = source c.try_consume.new.self in
     let front : text old ≡ opening ∷ here = front_is opening (text old) here (sym past.found) past.moves in
     let shorter = head_at-shortens (context_in around) (text old) _
-    (ap (head_at (context_in around)) front ∙ opening_head (table_in around) (names_around around) (context_in around) here ∙ c.in_ok-kind.ensures) in
+    (ap (head_at (context_in around)) front ∙ opening_head (table_in around) (names_around around) (context_in around) here ∙ c.in_ok-kind.ensures.value) in
     omega (arith, shorter)
 
-pub consume_term-returns-in_err-item : goal.consume_term-returns-in_err-item
-consume_term-returns-in_err-item t c =
+pub consume_term-returns-in_err-item-clause-value : goal.consume_term-returns-in_err-item-clause-value
+consume_term-returns-in_err-item-clause-value t c =
     let p = err_from_is_err_and c.from_residual-in_err-item.result c.from_residual-in_err-item.ensures.1 in
     let around = c.args.around.now in
     let ctx = context_in around in
@@ -285,14 +280,12 @@ consume_term-returns-in_err-item t c =
     let there = source c.read_group.new.cursor in
     let front : text old ≡ opening ∷ here = front_is opening (text old) here (sym past.found) past.moves in
     let same : item_at ctx (text old) ≡ item_behind pattern_at ctx (opens (group_of c.in_ok-kind.kind), there) =
-    ap (item_at ctx) front ∙ opening_item (table_in around) (names_around around) ctx here (opens (group_of c.in_ok-kind.kind), there) c.in_ok-kind.ensures in
-    record {
-      value = rw (p.1, p.2, term_at-is ctx (text old), same)
-          (on_kind_then c.in_err-item.field-0.0 (λ kind. times-fail (table_in around) (names_around around) ctx kind _ (counted old) around.depth) c.in_err-item.ensures.value);
-    }
+    ap (item_at ctx) front ∙ opening_item (table_in around) (names_around around) ctx here (opens (group_of c.in_ok-kind.kind), there) c.in_ok-kind.ensures.value in
+    rw (p.1, p.2, term_at-is ctx (text old), same)
+    (on_kind_then c.in_err-item.field-0.0 (λ kind. times-fail (table_in around) (names_around around) ctx kind _ (counted old) around.depth) c.in_err-item.ensures.value)
 
-pub consume_term-returns-then-try_consume : goal.consume_term-returns-then-try_consume
-consume_term-returns-then-try_consume t c =
+pub consume_term-returns-then-try_consume-clause-value : goal.consume_term-returns-then-try_consume-clause-value
+consume_term-returns-then-try_consume-clause-value t c =
     let around = c.args.around.now in
     let ctx = context_in around in
     let old = c.args.self.now in
@@ -302,22 +295,20 @@ consume_term-returns-then-try_consume t c =
     let there = source c.read_group.new.cursor in
     let front : text old ≡ opening ∷ here = front_is opening (text old) here (sym past.found) past.moves in
     let same : item_at ctx (text old) ≡ item_behind pattern_at ctx (opens kind, there) =
-    ap (item_at ctx) front ∙ opening_item (table_in around) (names_around around) ctx here (opens kind, there) c.in_ok-kind.ensures in
+    ap (item_at ctx) front ∙ opening_item (table_in around) (names_around around) ctx here (opens kind, there) c.in_ok-kind.ensures.value in
     let x = built_here (item_part (table_in around) (names_around around)) (direction_of around) around.depth (counted old) c.consume_group.new.self
     (item_behind pattern_at ctx (opens kind, there)) c.in_ok-item.item c.in_ok-item.ensures.value in
-    record {
-      value = subst (λ (f : Found Term). Yields (term_part (table_in around) (names_around around)) (direction_of around) around.depth (counted old)
-          c.consume_times.new.self c.consume_times.result f)
-          (sym (term_at-is ctx (text old) ∙ ap (with_times ctx) (same ∙ x.1)))
-          (c.consume_times.ensures.value x.0 (counted old) refl
-          (c.allows_quantifier-allowed.ensures
-          ∙ sym (ap (allows ctx.setting.flags.unicode)
-          (opened_same (table_in around) (names_around around) ctx kind there (x.0, text c.consume_group.new.self) x.1)))
-          x.2);
-    }
+    subst (λ (f : Found Term). Yields (term_part (table_in around) (names_around around)) (direction_of around) around.depth (counted old)
+    c.consume_times.new.self c.consume_times.result f)
+    (sym (term_at-is ctx (text old) ∙ ap (with_times ctx) (same ∙ x.1)))
+    (c.consume_times.ensures.value x.0 (counted old) refl
+    (c.allows_quantifier-allowed.ensures
+    ∙ sym (ap (allows ctx.setting.flags.unicode)
+    (opened_same (table_in around) (names_around around) ctx kind there (x.0, text c.consume_group.new.self) x.1)))
+    x.2)
 
-pub consume_term-returns-in_err-item-2 : goal.consume_term-returns-in_err-item-2
-consume_term-returns-in_err-item-2 t c =
+pub consume_term-returns-in_err-item-2-clause-value : goal.consume_term-returns-in_err-item-2-clause-value
+consume_term-returns-in_err-item-2-clause-value t c =
     let p = err_from_is_err_and c.from_residual-in_err-item-2.result c.from_residual-in_err-item-2.ensures.1 in
     let around = c.args.around.now in
     let ctx = context_in around in
@@ -328,17 +319,15 @@ consume_term-returns-in_err-item-2 t c =
     let none : is_at opening here ≡ false = ap (is_at opening) same ∙ sym past.found in
     let all : around.depth + (max_nesting_depth - around.depth) ≡ max_nesting_depth = omega (arith, c.requires) in
     let read = subst (λ (b : Bool). ReadsAtom ctx (max_nesting_depth - around.depth) (not b) (source c.read_atom.new.cursor) (Err c.in_err-item-2.field-0.0) (atom_at ctx here))
-    (sym c.begins_anchor-allowed.ensures) c.in_err-item-2.ensures in
-    record {
-      value = rw (p.1, p.2, ← same, term_at-is ctx here)
-          (on_kind_then c.in_err-item-2.field-0.0 (λ kind. times-fail (table_in around) (names_around around) ctx kind _ (counted old) around.depth)
-          (atom_yields (table_in around) (names_around around) ctx (direction_of around) around.depth (max_nesting_depth - around.depth)
-          (not c.begins_anchor-allowed.result) old old (Err c.in_err-item-2.field-0.0) here none
-          all refl read refl refl));
-    }
+    (sym c.begins_anchor-allowed.ensures) c.in_err-item-2.ensures.value in
+    rw (p.1, p.2, ← same, term_at-is ctx here)
+    (on_kind_then c.in_err-item-2.field-0.0 (λ kind. times-fail (table_in around) (names_around around) ctx kind _ (counted old) around.depth)
+    (atom_yields (table_in around) (names_around around) ctx (direction_of around) around.depth (max_nesting_depth - around.depth)
+    (not c.begins_anchor-allowed.result) old old (Err c.in_err-item-2.field-0.0) here none
+    all refl read refl refl))
 
-pub consume_term-returns : goal.consume_term-returns
-consume_term-returns t c =
+pub consume_term-returns-clause-value : goal.consume_term-returns-clause-value
+consume_term-returns-clause-value t c =
     let around = c.args.around.now in
     let ctx = context_in around in
     let old = c.args.self.now in
@@ -349,22 +338,173 @@ consume_term-returns t c =
     let all : around.depth + (max_nesting_depth - around.depth) ≡ max_nesting_depth = omega (arith, c.requires) in
     let built_atom = c.in_ok-item-2.item in
     let read = subst (λ (b : Bool). ReadsAtom ctx (max_nesting_depth - around.depth) (not b) (source c.read_atom.new.cursor) (Ok built_atom) (atom_at ctx here))
-    (sym c.begins_anchor-allowed.ensures) c.in_ok-item-2.ensures in
+    (sym c.begins_anchor-allowed.ensures) c.in_ok-item-2.ensures.value in
+    subst (λ (u : Source). Yields (term_part (table_in around) (names_around around)) (direction_of around) around.depth (counted old)
+    c.consume_times-2.new.self c.consume_times-2.result (term_at ctx u)) same
+    (subst (λ (f : Found Term). Yields (term_part (table_in around) (names_around around)) (direction_of around) around.depth (counted old)
+    c.consume_times-2.new.self c.consume_times-2.result f)
+    (sym (term_at-is ctx here))
+    (of_built (item_part (table_in around) (names_around around)) (direction_of around) around.depth (counted old) _ (item_at ctx here)
+    (with_times ctx)
+    (Yields (term_part (table_in around) (names_around around)) (direction_of around) around.depth (counted old)
+    c.consume_times-2.new.self c.consume_times-2.result)
+    built_atom
+    (λ x found b. c.consume_times-2.ensures.value x (counted old) refl
+    (atom_allowed (table_in around) (names_around around) ctx (max_nesting_depth - around.depth)
+    (not c.begins_anchor-allowed.result) _ (Ok built_atom) here none read (x, _) found) b)
+    (atom_yields (table_in around) (names_around around) ctx (direction_of around) around.depth (max_nesting_depth - around.depth)
+    (not c.begins_anchor-allowed.result) old _ (Ok built_atom) here none
+    all refl read refl refl)))
+
+-- ---- limits
+
+pub consume_alternative-returns-clause-reached : goal.consume_alternative-returns-clause-reached
+consume_alternative-returns-clause-reached t c =
+    let around = c.args.around.now in
+    let old = c.args.self.now in
+    let new = c.consume_term-first.new.self in
+    let found = built_here (term_part (table_in around) (names_around around)) (direction_of around) around.depth (counted old) new
+    (term_at (context_in around) (text old)) c.in_ok-first.field-0 c.in_ok-first.ensures.value in
+    fails_then c.consume_terms.result
+    (reaches_before around.depth around.depth
+    (costs_spends (counted old) found.2.counts (term_at-costs (context_in around) (text old) (found.0, text new) found.1))
+    (omega (arith, term_at-shortens (context_in around) (text old) (found.0, text new) found.1)))
+    c.consume_terms.ensures.reached
+
+pub consume_terms-returns-in_err-consume_term-clause-reached : goal.consume_terms-returns-in_err-consume_term-clause-reached
+consume_terms-returns-in_err-consume_term-clause-reached t c =
+    let from = c.from_residual-in_err-consume_term in
+    let p = err_from_is_err_and from.result from.ensures.1 in
+    let l = c.loop-self in
+    let around = c.args.around.now in
+    let here : source c.next_plain.new.self ≡ text l.self = c.in_default.ensures.none in
+    rw (p.1, p.2) (on_kind_then c.in_err-consume_term.field-0.0
+    (reaches_before around.depth around.depth
+    (spends_then l.invariant.2 (spends_read (counted l.self) (text l.self) (source c.next_plain.new.self) (omega (arith, ap length here))))
+    (omega (arith, l.invariant.1, ap length here)))
+    c.in_err-consume_term.ensures.reached)
+
+pub consume_disjunction-returns-then-around-ge-MAX_NESTING_DEPTH-clause-reached : goal.consume_disjunction-returns-then-around-ge-MAX_NESTING_DEPTH-clause-reached
+consume_disjunction-returns-then-around-ge-MAX_NESTING_DEPTH-clause-reached t c =
+    let around = c.args.around.now in
+    let old = c.args.self.now in
+    rw c.refuse.ensures
+    (levels_reach (counted old) (around.depth + 1) (text old) TooDeep (inr (refl, omega (arith, c.if-around-ge-MAX_NESTING_DEPTH.true))))
+
+pub consume_disjunction-returns-in_err-last-2-clause-reached : goal.consume_disjunction-returns-in_err-last-2-clause-reached
+consume_disjunction-returns-in_err-last-2-clause-reached t c =
+    let p = err_from_is_err_and c.from_residual-in_err-last-2.result c.from_residual-in_err-last-2.ensures.1 in
+    let l = c.loop-inside in
+    let around = c.args.around.now in
+    let past = c.loop-inside-test.ensures in
+    rw (p.1, p.2) (on_kind_then c.in_err-last-2.field-0.0
+    (reaches_before (around.depth + 1) (around.depth + 1)
+    (spends_then l.invariant.1 (behind_bar_spends (counted l.self) (text l.self) (source c.try_consume.new.self) past.moves))
+    (omega (arith, l.invariant.0.shorter, ap length past.moves, length-drop 1 (text l.self))))
+    c.in_err-last-2.ensures.reached)
+
+pub consume_term-returns-in_err-kind-clause-reached : goal.consume_term-returns-in_err-kind-clause-reached
+consume_term-returns-in_err-kind-clause-reached t c =
+    let p = err_from_is_err_and c.from_residual.result c.from_residual.ensures.1 in
+    rw (p.1, p.2) (on_kind_then c.in_err-kind.field-0.0
+    (no_limit (counted c.args.self.now) c.args.around.now.depth (text c.args.self.now)) c.in_err-kind.ensures.kind)
+
+-- what a parenthesis opens leaves less
+opened_shorter : (ctx : Context) (t here there : Source) (kind : Group) → t ≡ opening ∷ here → group_at ctx.setting.table here ≡ Some (opens kind, there) →
+    length there < length t
+opened_shorter ctx t here there kind front found =
+    head_at-shortens ctx t (opens kind, there) (ap (head_at ctx) front ∙ opening_head ctx.setting.table ctx.names ctx here ∙ found)
+
+pub consume_term-returns-in_err-item-clause-reached : goal.consume_term-returns-in_err-item-clause-reached
+consume_term-returns-in_err-item-clause-reached t c =
+    let p = err_from_is_err_and c.from_residual-in_err-item.result c.from_residual-in_err-item.ensures.1 in
+    let around = c.args.around.now in
+    let old = c.args.self.now in
+    let past = c.if-try_consume.ensures in
+    let here = source c.try_consume.new.self in
+    let there = source c.read_group.new.cursor in
+    let shorter = opened_shorter (context_in around) (text old) here there (group_of c.in_ok-kind.kind)
+    (front_is opening (text old) here (sym past.found) past.moves) c.in_ok-kind.ensures.value in
+    rw (p.1, p.2) (on_kind_then c.in_err-item.field-0.0
+    (reaches_before around.depth around.depth (spends_read (counted old) (text old) (opening ∷ there) (omega (arith, shorter))) (omega (arith, shorter)))
+    c.in_err-item.ensures.reached)
+
+pub consume_term-returns-then-try_consume-clause-reached : goal.consume_term-returns-then-try_consume-clause-reached
+consume_term-returns-then-try_consume-clause-reached t c =
+    let around = c.args.around.now in
+    let ctx = context_in around in
+    let old = c.args.self.now in
+    let new = c.consume_group.new.self in
+    let past = c.if-try_consume.ensures in
+    let here = source c.try_consume.new.self in
+    let kind = group_of c.in_ok-kind.kind in
+    let there = source c.read_group.new.cursor in
+    let front : text old ≡ opening ∷ here = front_is opening (text old) here (sym past.found) past.moves in
+    let same : item_at ctx (text old) ≡ item_behind pattern_at ctx (opens kind, there) =
+    ap (item_at ctx) front ∙ opening_item (table_in around) (names_around around) ctx here (opens kind, there) c.in_ok-kind.ensures.value in
+    let x = built_here (item_part (table_in around) (names_around around)) (direction_of around) around.depth (counted old) new
+    (item_behind pattern_at ctx (opens kind, there)) c.in_ok-item.item c.in_ok-item.ensures.value in
+    let cost = item_at-costs ctx (text old) (x.0, text new) (same ∙ x.1) in
+    fails_then c.consume_times.result
+    (reaches_before around.depth around.depth (costs_spends (counted old) x.2.counts cost) (omega (arith, cost.groups))) c.consume_times.ensures.reached
+
+pub consume_term-returns-in_err-item-2-clause-reached : goal.consume_term-returns-in_err-item-2-clause-reached
+consume_term-returns-in_err-item-2-clause-reached t c =
+    let p = err_from_is_err_and c.from_residual-in_err-item-2.result c.from_residual-in_err-item-2.ensures.1 in
+    let around = c.args.around.now in
+    let old = c.args.self.now in
+    let same : source c.try_consume.new.self ≡ text old = c.if-try_consume.ensures.moves in
+    rw (p.1, p.2) (on_kind_then c.in_err-item-2.field-0.0
+    (λ kind told. levels_reach (counted old) around.depth (text old) kind
+    (by_levels_then (λ few. omega (arith, few, c.requires, ap length same)) kind told))
+    c.in_err-item-2.ensures.kind)
+
+pub consume_term-returns-clause-reached : goal.consume_term-returns-clause-reached
+consume_term-returns-clause-reached t c =
+    let around = c.args.around.now in
+    let ctx = context_in around in
+    let old = c.args.self.now in
+    let here = source c.try_consume.new.self in
+    let there = source c.read_atom.new.cursor in
+    let same : here ≡ text old = c.if-try_consume.ensures.moves in
+    let none : is_at opening here ≡ false = ap (is_at opening) same ∙ sym c.if-try_consume.ensures.found in
+    let found = c.in_ok-item-2.ensures.value in
+    let cost = item_at-costs ctx here (atom found.0, there)
+    (atom_item (table_in around) (names_around around) ctx here none ∙ ap (found_map atom) found.1) in
+    fails_then c.consume_times-2.result
+    (reaches_before around.depth around.depth (spends_read (counted old) (text old) there (omega (arith, cost.groups, ap length same)))
+    (omega (arith, cost.groups, ap length same)))
+    c.consume_times-2.ensures.reached
+
+pub consume_group-returns-in_err-count_group-clause-reached : goal.consume_group-returns-in_err-count_group-clause-reached
+consume_group-returns-in_err-count_group-clause-reached t c =
+    let p = err_from_is_err_and c.from_residual.result c.from_residual.ensures.1 in
+    let around = c.args.around.now in
+    let old = c.args.self.now in
+    rw (p.1, p.2) (on_kind_then c.in_err-count_group.field-0.0
+    (λ kind told. groups_reach (counted old) around.depth (opening ∷ text old) kind told.0
+    (omega (arith, told.1, opened_by-one (group_of c.args.kind))))
+    c.in_err-count_group.ensures.err)
+
+pub consume_group-returns-in_err-contents-clause-reached : goal.consume_group-returns-in_err-contents-clause-reached
+consume_group-returns-in_err-contents-clause-reached t c =
+    let p = err_from_is_err_and c.from_residual-in_err-contents.result c.from_residual-in_err-contents.ensures.1 in
+    let around = c.args.around.now in
+    let old = c.args.self.now in
+    let counts = c.in_ok-count_group.ensures.ok in
+    let same = c.in_ok-count_group.ensures.text in
+    let spent : Spends (counted old) (counted c.count_group.new.self) (opening ∷ text old) (text c.count_group.new.self) =
     record {
-      value = subst (λ (u : Source). Yields (term_part (table_in around) (names_around around)) (direction_of around) around.depth (counted old)
-          c.consume_times-2.new.self c.consume_times-2.result (term_at ctx u)) same
-          (subst (λ (f : Found Term). Yields (term_part (table_in around) (names_around around)) (direction_of around) around.depth (counted old)
-          c.consume_times-2.new.self c.consume_times-2.result f)
-          (sym (term_at-is ctx here))
-          (of_built (item_part (table_in around) (names_around around)) (direction_of around) around.depth (counted old) _ (item_at ctx here)
-          (with_times ctx)
-          (Yields (term_part (table_in around) (names_around around)) (direction_of around) around.depth (counted old)
-          c.consume_times-2.new.self c.consume_times-2.result)
-          built_atom
-          (λ x found b. c.consume_times-2.ensures.value x (counted old) refl
-          (atom_allowed (table_in around) (names_around around) ctx (max_nesting_depth - around.depth)
-          (not c.begins_anchor-allowed.result) _ (Ok built_atom) here none read (x, _) found) b)
-          (atom_yields (table_in around) (names_around around) ctx (direction_of around) around.depth (max_nesting_depth - around.depth)
-          (not c.begins_anchor-allowed.result) old _ (Ok built_atom) here none
-          all refl read refl refl)));
-    }
+      groups = omega (arith, ap (λ (n : Counts). n.groups) counts, opened_by-one (group_of c.args.kind), ap length same);
+      loops = omega (arith, ap (λ (n : Counts). n.loops) counts, ap length same);
+    } in
+    rw (p.1, p.2) (on_kind_then c.in_err-contents.field-0.0
+    (reaches_before around.depth (around.depth + 1) spent (omega (arith, ap length same)))
+    (subst (λ deep. OnKind c.in_err-contents.field-0.0 (λ kind. Reaches kind (counted c.count_group.new.self) (deep + 1) (text c.count_group.new.self)))
+    c.inside.ensures.depth c.in_err-contents.ensures.reached))
+
+pub consume_group-returns-in_err-consume_closing-clause-reached : goal.consume_group-returns-in_err-consume_closing-clause-reached
+consume_group-returns-in_err-consume_closing-clause-reached t c =
+    let p = err_from_is_err_and c.from_residual-in_err-consume_closing.result c.from_residual-in_err-consume_closing.ensures.1 in
+    rw (p.1, p.2) (on_kind_then c.in_err-consume_closing.field-0.0
+    (no_limit (counted c.args.self.now) c.args.around.now.depth (opening ∷ text c.args.self.now)) c.in_err-consume_closing.ensures.kind)

@@ -2,7 +2,7 @@ use Rattle.std.proofs.Common.{◌≡◌, ◌≤◌, ◌+◌, ◌*◌, false, Som
 use Rattle.regress_lexical.specs.Source.{Source, ends_alternative}
 use Rattle.regress_syntax.specs.Syntax.{Counts}
 use Rattle.regress_parse.specs.Reader.{Term, term_at}
-use Rattle.regress_parse.specs.Parsing.{text, counted, context_in, table_in, names_around, direction_of, term_part, Builds}
+use Rattle.regress_parse.specs.Parsing.{text, counted, context_in, table_in, names_around, direction_of, term_part, Builds, Spends}
 use Rattle.regress_parse.proofs.SoFarLemmas.{TermsSoFar}
 use Rattle.regress_parse.proofs.AlternativesLemmas.{AlternativesSoFar}
 use Rattle.regress_parse.proofs.parser.Parser.+parser.Given as goal
@@ -31,6 +31,7 @@ invariant-consume_terms-loop-self l =
     TermsSoFar (table_in l.around) (names_around l.around) (direction_of l.around) (context_in l.around) l.around.depth t before
     (text l.self) (counted l.self) l.parts.items)
     × (length (text l.self) ≤ length (text l.fn.self))
+    × Spends (counted l.fn.self) (counted l.self) (text l.fn.self) (text l.self)
 
 abbrev pub decreases-consume_terms-loop-self : goal.decreases-consume_terms-loop-self
 decreases-consume_terms-loop-self l = length (text l.self)
@@ -39,6 +40,7 @@ abbrev pub invariant-consume_disjunction-loop-inside : goal.invariant-consume_di
 invariant-consume_disjunction-loop-inside l =
     AlternativesSoFar (table_in l.around) (names_around l.around) (direction_of l.around) (context_in l.around) l.around.depth (text l.fn.self) (counted l.fn.self)
     (text l.self) (counted l.self) l.before.items l.last
+    × Spends (counted l.fn.self) (counted l.self) (text l.fn.self) (text l.self)
 
 abbrev pub decreases-consume_disjunction-loop-inside : goal.decreases-consume_disjunction-loop-inside
 decreases-consume_disjunction-loop-inside l = length (text l.self)

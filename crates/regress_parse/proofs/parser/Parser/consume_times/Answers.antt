@@ -6,101 +6,106 @@ use Rattle.regress_lexical.proofs.laws.Sources.{on_refused, on_kind_then, on_eac
 use Rattle.regress_syntax.specs.Syntax.{Counts, added, one_loop, counts_of_item}
 use Rattle.regress_tree.specs.Tree.{tree}
 use Rattle.regress_parse.specs.TreeOf.{tree_of_times}
-use Rattle.regress_parse.specs.Parsing.{text, context_in, table_in, names_around, direction_of, term_part, item_part}
+use Rattle.regress_parse.specs.Parsing.{text, counted, context_in, table_in, names_around, direction_of, term_part, item_part}
 use Rattle.regress_parse.proofs.CountLemmas.{added-assoc, added-nothing, Fits-inside}
+use Rattle.regress_parse.proofs.ReachLemmas.{no_limit, loops_reach, begins_some}
 use Rattle.regress_parse.proofs.TermLemmas.{alone, times_read, times-too_many}
 use Rattle.regress_parse.proofs.parser.Parser.consume_times.Goals as goal
 
-pub returns-then-not-may_begin : goal.returns-then-not-may_begin
-returns-then-not-may_begin c =
+pub returns-then-not-may_begin-clause-value : goal.returns-then-not-may_begin-clause-value
+returns-then-not-may_begin-clause-value c =
     let around = c.args.around.now in
     let table = table_in around in
     let names = names_around around in
     let ctx = context_in around in
     let old = c.args.self.now in
-    record {
-      value = λ x before first allowed b.
-          alone table names ctx (direction_of around) around.depth before old (Ok c.args.item) (Some (x, text old))
-          (sym c.may_begin.ensures ∙ c.if-not-may_begin.true) b;
-    }
+    λ x before first allowed b.
+    alone table names ctx (direction_of around) around.depth before old (Ok c.args.item) (Some (x, text old))
+    (sym c.may_begin.ensures ∙ c.if-not-may_begin.true) b
 
-pub returns-in_err-times : goal.returns-in_err-times
-returns-in_err-times c =
+pub returns-in_err-times-clause-value : goal.returns-in_err-times-clause-value
+returns-in_err-times-clause-value c =
     let p = err_from_is_err_and c.from_residual.result c.from_residual.ensures.1 in
     let around = c.args.around.now in
     let table = table_in around in
     let names = names_around around in
     let ctx = context_in around in
     let old = c.args.self.now in
-    record {
-      value = λ x before first allowed b.
-          rw (p.1, p.2) (on_each_kind c.in_err-times.field-0.0
-          (λ kind none. rw (times_read table names ctx (Some (x, text old)) (x, text old) c.args.allowed None refl allowed none) tt)
-          (on_refused c.in_err-times.field-0.0 c.in_err-times.ensures));
-    }
+    λ x before first allowed b.
+    rw (p.1, p.2) (on_each_kind c.in_err-times.field-0.0
+    (λ kind none. rw (times_read table names ctx (Some (x, text old)) (x, text old) c.args.allowed None refl allowed none) tt)
+    (on_refused c.in_err-times.field-0.0 c.in_err-times.ensures.value))
 
-pub returns-in_default : goal.returns-in_default
-returns-in_default c =
+pub returns-in_default-clause-value : goal.returns-in_default-clause-value
+returns-in_default-clause-value c =
     let around = c.args.around.now in
     let table = table_in around in
     let names = names_around around in
     let ctx = context_in around in
     let old = c.args.self.now in
-    record {
-      value = λ x before first allowed b.
-          let read = times_read table names ctx (Some (x, text old)) (x, text old) c.args.allowed (Some (None, source c.read_times.new.cursor)) refl allowed
-          (c.in_ok-times.ensures ∙ ap (λ q. Some (q, source c.read_times.new.cursor)) c.in_default.is) in
-          rw read (record {
-            node = b.node;
-            fits = Fits-inside before before around.depth around.depth (item_part table names x) (term_part table names (x, None))
-                (omega arith) (omega arith) (omega arith) b.fits;
-            counts = b.counts ∙ ap (added before) (sym (added-nothing (item_part table names x).counts));
-            rest = refl;
-          });
-    }
+    λ x before first allowed b.
+    let read = times_read table names ctx (Some (x, text old)) (x, text old) c.args.allowed (Some (None, source c.read_times.new.cursor)) refl allowed
+    (c.in_ok-times.ensures.value ∙ ap (λ q. Some (q, source c.read_times.new.cursor)) c.in_default.is) in
+    rw read (record {
+      node = b.node;
+      fits = Fits-inside before before around.depth around.depth (item_part table names x) (term_part table names (x, None))
+          (omega arith) (omega arith) (omega arith) b.fits;
+      counts = b.counts ∙ ap (added before) (sym (added-nothing (item_part table names x).counts));
+      rest = refl;
+    })
 
-pub returns-in_err-count_loop : goal.returns-in_err-count_loop
-returns-in_err-count_loop c =
+pub returns-in_err-count_loop-clause-value : goal.returns-in_err-count_loop-clause-value
+returns-in_err-count_loop-clause-value c =
     let p = err_from_is_err_and c.from_residual-in_err-count_loop.result c.from_residual-in_err-count_loop.ensures.1 in
     let around = c.args.around.now in
     let table = table_in around in
     let names = names_around around in
     let ctx = context_in around in
     let old = c.args.self.now in
-    record {
-      value = λ x before first allowed b.
-          let read = times_read table names ctx (Some (x, text old)) (x, text old) c.args.allowed (Some (Some c.in-Some.quantifier, source c.read_times.new.cursor)) refl allowed
-          (c.in_ok-times.ensures ∙ ap (λ q. Some (q, source c.read_times.new.cursor)) c.in-Some.is) in
-          rw (p.1, p.2) (on_kind_then c.in_err-count_loop.field-0.0
-          (λ kind told. times-too_many table names ctx kind told.0 _ _ x c.in-Some.quantifier before around.depth read
-          (omega (arith, ap (λ (n : Counts). n.loops) b.counts, told.1)))
-          c.in_err-count_loop.ensures.err);
-    }
+    λ x before first allowed b.
+    let read = times_read table names ctx (Some (x, text old)) (x, text old) c.args.allowed (Some (Some c.in-Some.quantifier, source c.read_times.new.cursor)) refl allowed
+    (c.in_ok-times.ensures.value ∙ ap (λ q. Some (q, source c.read_times.new.cursor)) c.in-Some.is) in
+    rw (p.1, p.2) (on_kind_then c.in_err-count_loop.field-0.0
+    (λ kind told. times-too_many table names ctx kind told.0 _ _ x c.in-Some.quantifier before around.depth read
+    (omega (arith, ap (λ (n : Counts). n.loops) b.counts, told.1)))
+    c.in_err-count_loop.ensures.err)
 
-pub returns : goal.returns
-returns c =
+pub returns-clause-value : goal.returns-clause-value
+returns-clause-value c =
     let around = c.args.around.now in
     let table = table_in around in
     let names = names_around around in
     let ctx = context_in around in
     let old = c.args.self.now in
-    record {
-      value = λ x before first allowed b.
-          let read = times_read table names ctx (Some (x, text old)) (x, text old) c.args.allowed (Some (Some c.in-Some.quantifier, source c.read_times.new.cursor)) refl allowed
-          (c.in_ok-times.ensures ∙ ap (λ q. Some (q, source c.read_times.new.cursor)) c.in-Some.is) in
-          let counts = c.in_ok-count_loop.ensures.ok ∙ ap (λ n. added n one_loop) b.counts ∙ added-assoc before _ one_loop in
-          let groups : c.count_loop.new.self.group_count ≡ before.groups + (counts_of_item x).groups =
-          omega (arith, ap (λ (n : Counts). n.groups) counts) in
-          rw read (record {
-            node = c.in_ok-make_loop.ensures
-                ∙ ap (λ start. tree_of_times (Some c.in-Some.quantifier) start c.count_loop.new.self.group_count (tree c.args.item)) (sym first)
-                ∙ ap₂ (λ end body. tree_of_times (Some c.in-Some.quantifier) before.groups end body) groups b.node;
-            fits = record {
-              groups = omega (arith, b.fits.groups);
-              loops = omega (arith, ap (λ (n : Counts). n.loops) counts, c.count_loop.new.self.loops_within);
-              levels = b.fits.levels;
-            };
-            counts = counts;
-            rest = c.in_ok-count_loop.ensures.text;
-          });
-    }
+    λ x before first allowed b.
+    let read = times_read table names ctx (Some (x, text old)) (x, text old) c.args.allowed (Some (Some c.in-Some.quantifier, source c.read_times.new.cursor)) refl allowed
+    (c.in_ok-times.ensures.value ∙ ap (λ q. Some (q, source c.read_times.new.cursor)) c.in-Some.is) in
+    let counts = c.in_ok-count_loop.ensures.ok ∙ ap (λ n. added n one_loop) b.counts ∙ added-assoc before _ one_loop in
+    let groups : c.count_loop.new.self.group_count ≡ before.groups + (counts_of_item x).groups =
+    omega (arith, ap (λ (n : Counts). n.groups) counts) in
+    rw read (record {
+      node = c.in_ok-make_loop.ensures
+          ∙ ap (λ start. tree_of_times (Some c.in-Some.quantifier) start c.count_loop.new.self.group_count (tree c.args.item)) (sym first)
+          ∙ ap₂ (λ end body. tree_of_times (Some c.in-Some.quantifier) before.groups end body) groups b.node;
+      fits = record {
+        groups = omega (arith, b.fits.groups);
+        loops = omega (arith, ap (λ (n : Counts). n.loops) counts, c.count_loop.new.self.loops_within);
+        levels = b.fits.levels;
+      };
+      counts = counts;
+      rest = c.in_ok-count_loop.ensures.text;
+    })
+
+pub returns-in_err-times-clause-reached : goal.returns-in_err-times-clause-reached
+returns-in_err-times-clause-reached c =
+    let p = err_from_is_err_and c.from_residual.result c.from_residual.ensures.1 in
+    rw (p.1, p.2) (on_kind_then c.in_err-times.field-0.0
+    (no_limit (counted c.args.self.now) c.args.around.now.depth (text c.args.self.now)) c.in_err-times.ensures.kind)
+
+pub returns-in_err-count_loop-clause-reached : goal.returns-in_err-count_loop-clause-reached
+returns-in_err-count_loop-clause-reached c =
+    let p = err_from_is_err_and c.from_residual-in_err-count_loop.result c.from_residual-in_err-count_loop.ensures.1 in
+    let old = c.args.self.now in
+    let some = begins_some (text old) (sym c.may_begin.ensures ∙ c.if-not-may_begin.false) in
+    rw (p.1, p.2) (on_kind_then c.in_err-count_loop.field-0.0
+    (λ kind told. loops_reach (counted old) c.args.around.now.depth (text old) kind told.0 (omega (arith, told.1, some))) c.in_err-count_loop.ensures.err)

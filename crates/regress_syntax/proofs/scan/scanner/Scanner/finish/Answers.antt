@@ -1,5 +1,4 @@
 use Rattle.std.proofs.Common.{◌∙◌, arith}
-use Rattle.regress_lexical.proofs.laws.Sources.{on_refused}
 use Rattle.regress_syntax.proofs.ConflictLemmas.{apart_in_any_order, conflict_in_any_order}
 use Rattle.regress_syntax.proofs.ScannerLemmas.{apart_behind, refused_behind, levels_behind}
 use Rattle.regress_syntax.proofs.scan.scanner.Scanner.finish.Goals as goal

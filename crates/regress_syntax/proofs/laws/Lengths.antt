@@ -1,0 +1,164 @@
+-- What a source comes to at most: each group, loop and level takes a code point of it.
+use Rattle.std.proofs.Common.{◌≡◌, ℕ, ◌+◌, ◌-◌, ◌≤◌, ◌<◌, max, Bool, true, false, ◌&&◌, ◌==◌, cond, ⊎_elim, List, [], ◌∷◌, ◌++◌, drop, length, Option, Some, None, refl, ap, arith}
+use Rattle.std.specs.Option.{option_to_list}
+use Rattle.std.proofs.lemmas.Option.{none-some, same_Some, cond_some}
+use Rattle.regress_base.specs.declared.types.Quantifier.{Quantifier}
+use Rattle.regress_base.specs.Table.{Table, IsLawful}
+use Rattle.regress_lexical.specs.Source.{Source, Found, opening, closing, bar, question_mark, is_at}
+use Rattle.regress_lexical.specs.Quantifiers.{quantifier_at, is_ordered}
+use Rattle.regress_lexical.proofs.laws.Sources.{chosen}
+use Rattle.regress_lexical.proofs.laws.Behind.{quantifier_at-shortens}
+use Rattle.regress_classes.specs.ClassSets.{Value, class_set_at}
+use Rattle.regress_syntax.specs.Syntax.{Name, Group, grouping, modified, capture, look, opened_by}
+use Rattle.regress_syntax.specs.Names.{group_name_at}
+use Rattle.regress_syntax.specs.Rows.{Context, no_quantifier_at, this_quantifier, times_at}
+use Rattle.regress_syntax.specs.Marks.{Mark, opens, captures, closes, next, nests}
+use Rattle.regress_syntax.specs.Scan.{Mode, plain, escape, class, class_escape, opened_at, mode_behind, mark_at, marks, named_by, deepest}
+use Rattle.regress_syntax.proofs.ScanSets.{gives_class_set_at}
+
+-- ---- rows
+
+-- a parenthesis opens one group at most
+pub opened_by-one : (kind : Group) → opened_by kind ≤ 1
+opened_by-one grouping = omega arith
+opened_by-one (modified change) = omega arith
+opened_by-one (capture name) = omega arith
+opened_by-one (look negate direction) = omega arith
+
+-- a quantifier takes a code point
+pub times_at-takes : (ctx : Context) (allowed : Bool) (t : Source) (q : Quantifier) (rest : Source) → times_at ctx allowed t ≡ Some (Some q, rest) →
+    length rest < length t
+unfolding times_at
+times_at-takes ctx allowed t q rest e = by (quantifier_at t) refl e
+  where
+    by : (found : Found Quantifier) → quantifier_at t ≡ found →
+        elim found as (λ _. Found (Option Quantifier)) [
+          | None ↦ no_quantifier_at ctx t
+          | Some x ↦ this_quantifier ctx allowed x
+        ] ≡ Some (Some q, rest) → length rest < length t
+    by None same h =
+        ⊎_elim (λ (brace : _ × (None ≡ Some (Some q, rest))). absurd (none-some (Some q, rest) brace.1))
+        (λ (none : _ × (Some (None, t) ≡ Some (Some q, rest))).
+        absurd (none-some q (ap (λ (z : Option Quantifier × Source). z.0) (same_Some (None, t) (Some q, rest) none.1))))
+        (chosen (ctx.setting.flags.unicode && is_at 123 t) _ _ _ h)
+    by (Some x) same h =
+        let found = cond_some (allowed && is_ordered x.0) (Some x.0, x.1) (Some q, rest) h in
+        omega (
+          arith,
+          quantifier_at-shortens t x same,
+          ap (λ (z : Option Quantifier × Source). length z.1) found.1,
+        )
+
+-- ---- marks
+
+one_named : (found : Option Mark) (ms : List Mark) → length (named_by (option_to_list found ++ ms)) ≤ length (named_by ms) + 1
+one_named None ms = omega arith
+one_named (Some opens) ms = omega arith
+one_named (Some (captures name)) ms = omega arith
+one_named (Some closes) ms = omega arith
+one_named (Some next) ms = omega arith
+one_named (Some (nests levels)) ms = omega arith
+
+-- no more groups than code points
+pub named_by-length : (sets : Bool) (table : Table) (m : Mode) (t : Source) → length (named_by (marks sets table m t)) ≤ length t
+unfolding marks
+named_by-length sets table m [] = omega arith
+named_by-length sets table m (c ∷ t) =
+    omega (
+      arith,
+      one_named (mark_at sets table m c t) (marks sets table (mode_behind sets m c) t),
+      named_by-length sets table (mode_behind sets m c) t,
+    )
+
+-- how many levels of classes a scan has passed since it stands in a class
+abbrev passed : Mode → ℕ
+passed plain = 0
+passed escape = 0
+passed (class depth deepest) = deepest
+passed (class_escape depth deepest) = deepest
+
+-- it stands in no more than it has passed
+abbrev IsInside : Mode → Type 0
+IsInside plain = Unit {0}
+IsInside escape = Unit {0}
+IsInside (class depth deepest) = depth ≤ deepest
+IsInside (class_escape depth deepest) = depth ≤ deepest
+
+-- from each number of open levels on, no more are reached than there are code points
+abbrev NoDeeper : ℕ → List Mark → Type 0
+NoDeeper k ms = (n : ℕ) → 1 ≤ n → deepest n ms ≤ n + k
+
+opened_deeper : (k : ℕ) (found : Option (Name × Source)) (question : Bool) (ms : List Mark) → NoDeeper k ms → (n : ℕ) → 1 ≤ n →
+    deepest n (cond question (elim found as (λ _. Mark) [ None ↦ opens | Some x ↦ captures (Some x.0) ]) (captures None) ∷ ms) ≤ n + (k + 1)
+opened_deeper k None true ms h n some = omega (arith, h (n + 1) (omega arith))
+opened_deeper k (Some x) true ms h n some = omega (arith, h (n + 1) (omega arith))
+opened_deeper k found false ms h n some = omega (arith, h (n + 1) (omega arith))
+
+plain_deeper : (table : Table) (t : Source) (k : ℕ) (opened closed barred : Bool) (ms : List Mark) → NoDeeper k ms → NoDeeper (k + 1)
+    (option_to_list (cond opened (Some (opened_at table t)) (cond closed (Some closes) (cond barred (Some next) None))) ++ ms)
+plain_deeper table t k true closed barred ms h n some = opened_deeper k (group_name_at table (drop 1 t)) (is_at question_mark t) ms h n some
+plain_deeper table t k false true barred ms h n some = omega (arith, some, h (max 1 (n - 1)) (omega arith))
+plain_deeper table t k false false true ms h n some = omega (arith, h n some)
+plain_deeper table t k false false false ms h n some = omega (arith, h n some)
+
+class_deeper : (levels k : ℕ) (closed : Bool) (ms : List Mark) → levels ≤ k → NoDeeper k ms →
+    NoDeeper k (option_to_list (cond closed (Some (nests levels)) None) ++ ms)
+class_deeper levels k true ms few h n some = omega (arith, few, h n some)
+class_deeper levels k false ms few h n some = omega (arith, h n some)
+
+-- the same of a source in whatever mode
+abbrev AllNoDeeper : (sets : Bool) → Table → Source → Type 0
+AllNoDeeper sets table t = (m : Mode) → IsInside m → NoDeeper (passed m + length t) (marks sets table m t)
+
+behind_plain : (sets : Bool) (table : Table) (t : Source) → AllNoDeeper sets table t → (backslash bracket : Bool) →
+    NoDeeper (length t) (marks sets table (cond backslash escape (cond bracket (class 0 0) plain)) t)
+behind_plain sets table t all true bracket k some = omega (arith, all escape tt k some)
+behind_plain sets table t all false true k some = omega (arith, all (class 0 0) (omega arith) k some)
+behind_plain sets table t all false false k some = omega (arith, all plain tt k some)
+
+behind_in_class : (sets : Bool) (table : Table) (t : Source) → AllNoDeeper sets table t → (depth most : ℕ) → depth ≤ most →
+    (backslash opened outermost bracket : Bool) → NoDeeper (most + 1 + length t)
+    (marks sets table (cond backslash (class_escape depth most) (cond opened (class (depth + 1) (max most (depth + 1)))
+    (cond outermost plain (cond bracket (class (depth - 1) most) (class depth most))))) t)
+behind_in_class sets table t all depth most inside true opened outermost bracket k some =
+    omega (arith, all (class_escape depth most) inside k some)
+behind_in_class sets table t all depth most inside false true outermost bracket k some =
+    omega (arith, inside, all (class (depth + 1) (max most (depth + 1))) (omega arith) k some)
+behind_in_class sets table t all depth most inside false false true bracket k some = omega (arith, all plain tt k some)
+behind_in_class sets table t all depth most inside false false false true k some =
+    omega (arith, all (class (depth - 1) most) (omega (arith, inside)) k some)
+behind_in_class sets table t all depth most inside false false false false k some = omega (arith, all (class depth most) inside k some)
+
+no_deeper : (sets : Bool) (table : Table) (t : Source) → AllNoDeeper sets table t
+unfolding marks
+no_deeper sets table [] m inside n some = omega arith
+no_deeper sets table (c ∷ t) plain inside n some =
+    omega (
+      arith,
+      plain_deeper table t (length t) (c == opening) (c == closing) (c == bar) (marks sets table (mode_behind sets plain c) t)
+          (behind_plain sets table t (no_deeper sets table t) (c == 92) (c == 91)) n some,
+    )
+no_deeper sets table (c ∷ t) escape inside n some = omega (arith, no_deeper sets table t plain tt n some)
+no_deeper sets table (c ∷ t) (class depth most) inside n some =
+    omega (
+      arith,
+      class_deeper most (most + 1 + length t) (c == 93 && depth == 0 && sets) (marks sets table (mode_behind sets (class depth most) c) t)
+          (omega arith)
+          (behind_in_class sets table t (no_deeper sets table t) depth most inside (c == 92) (c == 91 && sets) (c == 93 && depth == 0) (c == 93))
+          n some,
+    )
+no_deeper sets table (c ∷ t) (class_escape depth most) inside n some = omega (arith, no_deeper sets table t (class depth most) inside n some)
+
+-- no more levels than code points, beside the pattern's own
+pub deepest-length : (sets : Bool) (table : Table) (t : Source) → deepest 1 (marks sets table plain t) ≤ 1 + length t
+deepest-length sets table t = omega (arith, no_deeper sets table t plain tt 1 (omega arith))
+
+-- so it is for what lies in a class
+pub class_set_at-levels : (table : Table) → IsLawful table → (unicode : Bool) (t : Source) (x : (Bool × Value) × Source) →
+    class_set_at table unicode t ≡ Some x → x.0.1.levels ≤ length t
+class_set_at-levels table lawful unicode t x e =
+    omega (
+      arith,
+      no_deeper true table t (class 0 0) (omega arith) 1 (omega arith),
+      ap (deepest 1) ((gives_class_set_at table unicode t).each x e),
+    )
