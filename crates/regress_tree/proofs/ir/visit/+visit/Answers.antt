@@ -1,5 +1,5 @@
 -- Each answer puts the visits of the calls together.
-use Rattle.std.proofs.Common.{◌≡◌, true, arith, rules, ◌∙◌, sym, ap, refl, le_refl, le_trans, drop, ◌+◌, ◌∷◌}
+use Rattle.std.proofs.Common.{◌∙◌, sym, ap, refl, le_refl, le_trans, drop, ◌+◌, ◌∷◌}
 use Rattle.std.proofs.lemmas.List.{drop_more, drop_all}
 use Rattle.regress_tree.specs.Tree.{tree}
 use Rattle.regress_tree.specs.Visits.{Calls, before_children, without_children, after_children, in_cat, in_wrapped, no_more, one_more}

@@ -1,5 +1,5 @@
 -- Each answer puts the visits of the calls together.
-use Rattle.std.proofs.Common.{rules, arith, ◌∙◌, ap, ◌≡◌, true, false, length-set, [], take, drop}
+use Rattle.std.proofs.Common.{rules, arith, ◌∙◌, ap, ◌≡◌, false, length-set, [], take, drop}
 use Rattle.std.proofs.lemmas.List.{drop_all, take_all}
 use Rattle.regress_tree.proofs.laws.Rows.{row_append-none}
 use Rattle.regress_tree.specs.declared.ir.node.Node.{Node}
