@@ -1,0 +1,2 @@
+pub mod SearchingLemmas
+pub mod FoundLemmas

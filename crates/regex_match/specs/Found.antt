@@ -1,0 +1,23 @@
+-- What is found of a pattern.
+use Rattle.std.specs.Prelude.{◌≡◌, ℕ, ◌≤◌, List, length, map, encode_utf8_all}
+use Rattle.regress_front.specs.Accepted.{IsAccepted}
+use Rattle.regress_front.specs.Meaning.{meaning}
+use Rattle.regress_front.specs.Reading.{IsText, byte_place, forwards}
+use Rattle.regress_front.specs.Setting.{Setting}
+use Rattle.regress_front.specs.Source.{Source}
+use Rattle.regress_front.specs.Steps.{byte_state}
+use Rattle.regress_front.specs.Syntax.{Pattern}
+use Rattle.regress_front.specs.Tree.{Tree}
+use Rattle.regress_front.specs.WellFormed.{captures}
+use Rattle.regress_match.specs.Matched.{no_groups, outcomes_at}
+
+-- Behind each character of each text, the outcomes of the tree over the UTF-8 are those of the pattern over the
+-- characters, place for byte place, in their order.
+abbrev pub FindsWhatMeans : Setting → Tree → Pattern → Type 0
+FindsWhatMeans setting t p = (text : List ℕ) (k : ℕ) → IsText text → k ≤ length text →
+    outcomes_at setting (encode_utf8_all text) t (byte_place text k)
+    ≡ map (byte_state text) (meaning setting text forwards p (no_groups (length (captures t)) k))
+
+-- so does the tree for the pattern that the source stands for
+abbrev pub FindsWhatIsAccepted : Setting → Source → Tree → Type 0
+FindsWhatIsAccepted setting source t = (p : Pattern) → IsAccepted setting source p → FindsWhatMeans setting t p

@@ -1,0 +1,136 @@
+//! `regex-match [--] PATTERN [FLAGS]` prints where a pattern matches the text of standard input.
+//! It ends with the status that `run_match` answers. An argument that isn't UTF-8 is none that is taken:
+//! status 2 and the usage. Want of memory for the arguments or the buffer is status 3, as elsewhere.
+#![tactic(auto)]
+
+ghost use Rattle.std.specs.Prelude.{◌≤◌};
+
+mod arguments;
+mod failure;
+mod lines;
+mod searching;
+
+use arguments::{Asked, arguments, read_asked};
+use failure::{Failure, tell};
+use searching::print_matches;
+use std::alloc::Global;
+use std::env::Env;
+use std::io::{BufWriter, Read, Write};
+use std::process::ExitCode;
+
+fn main(rt: HostRuntime) -> ExitCode {
+    ExitCode::from(run(&rt, rt.stdin(), rt.stdout(), &mut rt.stderr()))
+}
+
+/// Runs the program in its environment, which tells its arguments.
+fn run<R: Env + AllocGlobal, I: Read + Drop, W: Write + Drop, E: Write>(
+    rt: &R,
+    input: I,
+    out: W,
+    err: &mut E,
+) -> u8
+    ensures known { result ≤ 7 }
+{
+    match arguments(rt) {
+        Ok(args) => run_buffered(rt.alloc(), &args, input, out, err),
+        Err(failure) => tell(failure, err),
+    }
+}
+
+/// Runs `run_match` with a buffer before its output. Where no memory is found for that it ends with 3.
+fn run_buffered<I: Read + Drop, W: Write + Drop, E: Write>(
+    alloc: Global,
+    args: &[String],
+    input: I,
+    out: W,
+    err: &mut E,
+) -> u8
+    ensures known { result ≤ 7 }
+{
+    match BufWriter::new(alloc, out) {
+        Ok(mut out) => run_match(alloc, args, input, &mut out, err),
+        Err(_) => tell(Failure::Memory, err),
+    }
+}
+
+/// Runs the program on its arguments, without its own name, and answers its status:
+/// - 0: there is a match, and each has its line in `out`; or the help was asked for, and is there;
+/// - 1: there is none;
+/// - 2: the arguments aren't taken, and `err` has the usage;
+/// - 3: memory was wanting, and `err` has `error: out of memory`;
+/// - 4: `out` can't be written;
+/// - 5: the pattern has a fault, and `error: ` with its text and place was written to `err`;
+/// - 6: the steps were used up, and `err` has `error: out of steps`;
+/// - 7: the input can't be read or isn't UTF-8, and `err` has `error: ` and that.
+///
+/// With 3, 4 and 6 `out` may have taken lines of the first matches. A failing write to `err` changes no status.
+pub fn run_match<I: Read + Drop, W: Write, E: Write>(
+    alloc: Global,
+    args: &[String],
+    input: I,
+    out: &mut W,
+    err: &mut E,
+) -> u8
+    ensures known { result ≤ 7 }
+{
+    match answer(alloc, args, input, out) {
+        Ok(true) => 0,
+        Ok(false) => 1,
+        Err(failure) => tell(failure, err),
+    }
+}
+
+/// Prints what the arguments ask for, and answers whether there was something.
+fn answer<I: Read + Drop, W: Write>(
+    alloc: Global,
+    args: &[String],
+    input: I,
+    out: &mut W,
+) -> Result<bool, Failure> {
+    match read_asked(args) {
+        None => Err(Failure::Usage),
+        Some(Asked::Help) => print_help(out),
+        Some(Asked::Matches(request)) => print_matches(alloc, request, input, out),
+    }
+}
+
+/// What the program is asked, and what it answers.
+const HELP: &str = "\
+usage: regex-match [--] PATTERN [FLAGS]
+
+Prints where PATTERN matches the text of standard input, a line for each match, from left to right and
+none overlapping: its span in bytes and, for each group in order, a space and its span, as in
+    0-5 0-2 year=3-7 -
+A group with a name has it in front. A `-` alone stands for a group that captured nothing.
+
+PATTERN is of ECMAScript's syntax, over characters, under the whole of Unicode. FLAGS are letters, each
+at most once:
+    i  letters match in either case
+    m  ^ and $ match at lines too
+    s  . matches line ends too
+    u  the syntax and the folds of u
+    v  the syntax of v: operations on classes, strings in classes
+A first argument -- is left out, so that PATTERN may begin with two hyphens.
+
+status:
+    0  there is a match, or this help was asked for
+    1  there is none
+    2  the arguments are not taken
+    3  memory was wanting
+    4  standard output can't be written
+    5  PATTERN has a fault
+    6  a billion steps were used up; the lines of the matches found so far are written
+    7  standard input can't be read, or isn't UTF-8
+";
+
+/// Prints the help.
+fn print_help<W: Write>(out: &mut W) -> Result<bool, Failure> {
+    match out.write_all(HELP.as_bytes()) {
+        Ok(()) => {}
+        Err(_) => return Err(Failure::Output),
+    }
+    match out.flush() {
+        Ok(()) => Ok(true),
+        Err(_) => Err(Failure::Output),
+    }
+}
