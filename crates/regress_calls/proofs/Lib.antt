@@ -1,1 +1,3 @@
+pub mod LengthLemmas
 pub mod ListedLemmas
+pub mod NestedLemmas

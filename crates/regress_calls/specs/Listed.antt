@@ -1,5 +1,5 @@
 -- What a linter lists.
-use Rattle.std.specs.Prelude.{◌≡◌, false, List, [], ◌++◌, map, option_map, string_bytes}
+use Rattle.std.specs.Prelude.{◌≡◌, false, List, ◌++◌, map, option_map, string_bytes}
 use Rattle.regress_front.specs.Tree.{Tree}
 use Rattle.regress_tree.specs.Gathered.{own_group}
 use Rattle.regress_front.specs.WellFormed.{Capture}

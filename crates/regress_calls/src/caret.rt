@@ -1,5 +1,4 @@
 //! Shows where a pattern's fault is. docs/CALLING.md has this text.
-
 use crate::caller::code_points;
 use regress_front::parse::{PlacedFault, try_parse_with_place};
 use regress_front::types::Flags;

@@ -1,10 +1,12 @@
 //! A linter, which is what a user of the tree writes first. docs/CALLING.md has this text.
-ghost use Rattle.std.specs.Prelude.{◌≡◌, ◌++◌, [], ◌∷◌, IfOk, OnOk, option_map, string_bytes};
+ghost use Rattle.std.specs.Prelude.{◌≡◌, ◌≤◌, ◌++◌, [], ◌∷◌, IfOk, OnOk, option_map, string_bytes};
 ghost use Rattle.regress_front.specs.Tree.{tree};
 ghost use Rattle.regress_front.specs.WellFormed.{captures};
+ghost use Rattle.regress_front.specs.Measures.{levels};
 ghost use Rattle.regress_calls.specs.Listed.{groups_of, Notes};
+ghost use Rattle.regress_calls.specs.Nested.{is_around, is_unbounded, has_nested, Watches};
 
-use regress_front::ir::{Node, Quantifier, Regex, Walk, walk};
+use regress_front::ir::{Node, Regex, Walk, walk};
 use std::alloc::{AllocError, Global};
 
 /// A capture group: its number from 0, and its name, if it has one.
@@ -22,13 +24,15 @@ pub struct Report {
     /// How many loops there are, of either kind.
     pub loops: usize,
     pub lookarounds: usize,
-    /// Whether an unbounded loop lies in another one, so that matching may take exponential time.
+    /// Whether an unbounded loop lies in another one, so that matching may take exponential time. It may take that
+    /// without such loops too, as in `(?:a|a)*`.
     pub nested: bool,
 }
 
 /// Lists the capture groups of a tree, counts its loops and lookarounds, and warns of unbounded loops in one another.
 pub fn lint(alloc: Global, regex: &Regex) -> Result<Report, AllocError>
     ensures groups { IfOk result (λ report. groups_of report.groups.items ≡ captures (tree regex.now.node)) }
+    ensures nested { IfOk result (λ report. levels (tree regex.now.node) ≤ usize.MAX → report.nested ≡ has_nested (tree regex.now.node)) }
 {
     let mut linter = Linter {
         alloc,
@@ -63,19 +67,18 @@ struct Linter {
 impl Linter {
     /// Takes notice of a node, before those inside it.
     fn visit(&mut self, node: &Node, depth: usize)
-        ensures { Notes self.old self.new (tree node.now) }
+        ensures notes { Notes self.old self.new (tree node.now) }
+        ensures loops { Watches depth (is_unbounded (tree node.now)) self.old.repeated_at self.new.repeated_at self.old.report.nested self.new.report.nested }
     {
-        if self.repeated_at.is_some_and(|around| depth <= around) {
-            self.repeated_at = None;
-        }
+        self.watch(depth, is_unbounded(node));
         match node {
             Node::CaptureGroup { id, name, .. } => {
                 if self.list(*id, name).is_err() {
                     self.wanting = true;
                 }
             }
-            Node::Loop { quant, .. } | Node::Loop1CharBody { quant, .. } => {
-                self.repeat(quant, depth)
+            Node::Loop { .. } | Node::Loop1CharBody { .. } => {
+                self.report.loops = self.report.loops.saturating_add(1);
             }
             Node::LookaroundAssertion { .. } => {
                 self.report.lookarounds = self.report.lookarounds.saturating_add(1);
@@ -87,6 +90,8 @@ impl Linter {
     /// Lists a capture group. Where no memory is found for its name it is left out.
     fn list(&mut self, id: u16, name: &Option<String>) -> Result<(), AllocError>
         ensures wanting { self.new.wanting ≡ self.old.wanting }
+        ensures around { self.new.repeated_at ≡ self.old.repeated_at }
+        ensures nested { self.new.report.nested ≡ self.old.report.nested }
         ensures listed { OnOk result (groups_of self.new.report.groups.items
             ≡ groups_of self.old.report.groups.items ++ record { id = id; name = option_map string_bytes name.now } ∷ []) }
     {
@@ -98,18 +103,36 @@ impl Linter {
         Ok(())
     }
 
-    /// Counts a loop, and looks whether it and one around it are both unbounded.
-    fn repeat(&mut self, quant: &Quantifier, depth: usize)
+    /// Looks whether a node, an unbounded loop or not, lies in an unbounded loop, and keeps in mind the outermost one.
+    fn watch(&mut self, depth: usize, unbounded: bool)
         ensures wanting { self.new.wanting ≡ self.old.wanting }
         ensures groups { self.new.report.groups ≡ self.old.report.groups }
+        ensures loops { Watches depth unbounded self.old.repeated_at self.new.repeated_at self.old.report.nested self.new.report.nested }
     {
-        self.report.loops = self.report.loops.saturating_add(1);
-        if quant.max.is_none() {
-            if self.repeated_at.is_some() {
-                self.report.nested = true;
-            } else {
-                self.repeated_at = Some(depth);
-            }
+        if self.is_repeated(depth) {
+            self.report.nested = self.report.nested || unbounded;
+        } else {
+            self.repeated_at = unbounded.then_some(depth);
         }
+    }
+
+    /// Whether an unbounded loop that it has in mind lies around what is at that depth.
+    fn is_repeated(&self, depth: usize) -> bool
+        ensures { result ≡ is_around depth self.now.repeated_at }
+    {
+        match self.repeated_at {
+            Some(outermost) => outermost < depth,
+            None => false,
+        }
+    }
+}
+
+/// Whether it is a loop with no greatest number of turns.
+fn is_unbounded(node: &Node) -> bool
+    ensures { result ≡ is_unbounded (tree node.now) }
+{
+    match node {
+        Node::Loop { quant, .. } | Node::Loop1CharBody { quant, .. } => quant.max.is_none(),
+        _ => false,
     }
 }

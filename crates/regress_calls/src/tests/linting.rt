@@ -31,3 +31,23 @@ fn a_linter_lists_groups_and_warns_of_nested_loops(rt: HostRuntime) -> Result<()
     }
     Ok(())
 }
+
+#[test]
+fn unbounded_loops_in_one_another_are_told(rt: HostRuntime) -> Result<(), Fail> {
+    let alloc = rt.alloc();
+    for (pattern, wanted) in [
+        ("(a*)*", true),
+        ("(?:b|(?=a{2,}))+", true),
+        ("a*(?:b(?:c+d)?)*", true),
+        ("(?:a+){2}", false),
+        // the loop before is no longer around
+        ("(?:b(?:c(?:a+)))(?:d?)e*", false),
+        ("(?:a*|b+)c*", false),
+        // two ways to match, and one loop
+        ("(?:a|a)*", false),
+    ] {
+        let report = lint(alloc, &parsed(alloc, pattern, false)?)?;
+        assert_eq!(rt; report.nested, wanted, "{pattern}");
+    }
+    Ok(())
+}

@@ -25,7 +25,7 @@ fn behind(alloc: Global) -> Result<Node, AllocError> {
 }
 
 /// An alternation of one more than so many alternatives, each empty.
-fn alternation(alloc: Global, bars: usize) -> Result<Node, AllocError> {
+pub fn alternation(alloc: Global, bars: usize) -> Result<Node, AllocError> {
     let mut node = Node::Empty;
     for _ in 0..bars {
         node = Node::Alt(Box::new(alloc, Node::Empty)?, Box::new(alloc, node)?);

@@ -1,0 +1,144 @@
+-- Loops around a node, and whether some are in one another.
+use Rattle.std.proofs.Common.{◌≡◌, ℕ, ◌<◌, ◌≤◌, Bool, true, false, ◌&&◌, ◌||◌, List, [], ◌∷◌, ◌++◌, ◌+◌, Option, Some, None, subst, refl, sym, ap, ap₂, ◌∙◌, arith}
+use Rattle.std.specs.Bool.{then_some}
+use Rattle.std.specs.List.{list_any}
+use Rattle.std.proofs.Math.Bool.{or-false, or_assoc}
+use Rattle.std.proofs.lemmas.Bool.{false≢true}
+use Rattle.std.proofs.lemmas.List.Folds.{list_any-append}
+use Rattle.regress_front.specs.Shapes.{some_node, some_node_in_row, some_node_inside}
+use Rattle.regress_front.specs.Tree.{Tree, Trees, leaf, cat, alt, wrapped, no_trees, more_trees}
+use Rattle.regress_tree.specs.Inherited.{inherited, inherited_in_row}
+use Rattle.regress_calls.specs.Nested.{is_unbounded, is_unbounded_loop, has_nested, is_around, Watches}
+
+-- ---- one call
+
+around_further : (old : Option ℕ) (depth d : ℕ) → depth < d → is_around depth old ≡ true → is_around d old ≡ true
+around_further None depth d further is = absurd (false≢true is)
+around_further (Some at) depth d further is = grind arith
+
+outermost_inside : (unbounded : Bool) (depth d : ℕ) → depth < d → is_around d (then_some unbounded depth) ≡ unbounded
+outermost_inside true depth d further = grind arith
+outermost_inside false depth d further = refl
+
+outermost_outside : (unbounded : Bool) (old : Option ℕ) (depth d : ℕ) → d ≤ depth → is_around depth old ≡ false →
+    is_around d (then_some unbounded depth) ≡ is_around d old
+outermost_outside true None depth d out none = grind arith
+outermost_outside true (Some at) depth d out none = grind arith
+outermost_outside false None depth d out none = refl
+outermost_outside false (Some at) depth d out none = grind arith
+
+-- one is around already,
+pub watches_around : (depth : ℕ) (unbounded : Bool) (old : Option ℕ) (before after : Bool) → is_around depth old ≡ true →
+    after ≡ (before || unbounded) → Watches depth unbounded old old before after
+watches_around depth unbounded old before after is met = record {
+  met = met ∙ ap (λ b. before || (b && unbounded)) (sym is);
+  inside = λ d further. around_further old depth d further is ∙ ap (λ b. b || unbounded) (sym is);
+  outside = λ d out. refl;
+}
+
+-- or none
+pub watches_outermost : (depth : ℕ) (unbounded : Bool) (old new : Option ℕ) (before after : Bool) → is_around depth old ≡ false →
+    new ≡ then_some unbounded depth → after ≡ before → Watches depth unbounded old new before after
+watches_outermost depth unbounded old new before after is outermost met = record {
+  met = met ∙ sym (or-false before) ∙ ap (λ b. before || (b && unbounded)) (sym is);
+  inside = λ d further.
+      ap (is_around d) outermost ∙ outermost_inside unbounded depth d further ∙ ap (λ b. b || unbounded) (sym is);
+  outside = λ d out. ap (is_around d) outermost ∙ outermost_outside unbounded old depth d out is;
+}
+
+-- ---- all calls
+
+-- what a node inherits: whether an unbounded loop lies around
+abbrev pub handed : Bool → Tree → Bool
+handed around t = around || is_unbounded t
+
+abbrev pub is_met : Bool × Tree → Bool
+is_met p = p.0 && is_unbounded p.1
+
+at_wrapper : (x u s n : Bool) → ((x && u) || (((x || u) && s) || n)) ≡ ((x && (u || s)) || ((u && s) || n))
+at_wrapper true true s n = refl
+at_wrapper true false s n = refl
+at_wrapper false true s n = refl
+at_wrapper false false s n = refl
+
+at_two : (x s n s' n' : Bool) → (((x && s) || n) || ((x && s') || n')) ≡ ((x && (s || s')) || (n || n'))
+at_two true true n s' n' = refl
+at_two true false true s' n' = grind arith
+at_two true false false s' n' = refl
+at_two false s n s' n' = refl
+
+at_part : (x : Bool) (p q : Bool → Bool) → p (x || false) ≡ q (x || false) → ((x && false) || p (x || false)) ≡ q x
+at_part true p q same = same
+at_part false p q same = same
+
+at_none : (x : Bool) → ((x && false) || false) ≡ ((x && false) || (false && false))
+at_none true = refl
+at_none false = refl
+
+at_nothing : (x : Bool) → false ≡ ((x && false) || false)
+at_nothing true = refl
+at_nothing false = refl
+
+abbrev nested_in_row : Trees → Bool
+nested_in_row = some_node_in_row (λ t. is_unbounded t && some_node_inside is_unbounded t)
+
+mutual
+  -- some node is met in a tree: an unbounded loop, if there is one around, or one in one of the tree
+  pub met_in : (around : Bool) (t : Tree) → list_any is_met (inherited handed around t) ≡ ((around && some_node is_unbounded t) || has_nested t)
+  met_in around (leaf l) = at_none around
+  met_in around (cat parts) =
+      at_part around (λ x. list_any is_met (inherited_in_row handed x parts))
+      (λ x. (x && some_node_in_row is_unbounded parts) || nested_in_row parts) (met_in_row (around || false) parts)
+  met_in around (alt left right) =
+      at_part around (λ x. list_any is_met (inherited handed x left ++ inherited handed x right))
+      (λ x. (x && (some_node is_unbounded left || some_node is_unbounded right)) || (has_nested left || has_nested right))
+      (list_any-append is_met (inherited handed (around || false) left) (inherited handed (around || false) right)
+      ∙ ap₂ ◌||◌ (met_in (around || false) left) (met_in (around || false) right) ∙ at_two (around || false) _ _ _ _)
+  met_in around (wrapped w body) =
+      ap (λ b. (around && is_unbounded_loop w) || b) (met_in (around || is_unbounded_loop w) body)
+      ∙ at_wrapper around (is_unbounded_loop w) (some_node is_unbounded body) (has_nested body)
+
+  met_in_row : (around : Bool) (ts : Trees) → list_any is_met (inherited_in_row handed around ts)
+      ≡ ((around && some_node_in_row is_unbounded ts) || nested_in_row ts)
+  met_in_row around no_trees = at_nothing around
+  met_in_row around (more_trees t ts) =
+      list_any-append is_met (inherited handed around t) (inherited_in_row handed around ts)
+      ∙ ap₂ ◌||◌ (met_in around t) (met_in_row around ts) ∙ at_two around _ _ _ _
+
+-- ---- calls one after another
+
+pub met_none : (b : Bool) → b ≡ (b || false)
+met_none b = sym (or-false b)
+
+pub met_more : (a b c : Bool) (ps qs : List (Bool × Tree)) → b ≡ (a || list_any is_met ps) → c ≡ (b || list_any is_met qs) →
+    c ≡ (a || list_any is_met (ps ++ qs))
+met_more a b c ps qs first second =
+    second ∙ ap (λ x. x || list_any is_met qs) first ∙ or_assoc a (list_any is_met ps) (list_any is_met qs)
+    ∙ ap (λ x. a || x) (sym (list_any-append is_met ps qs))
+
+pub met_here : (depth : ℕ) (t : Tree) (old new : Option ℕ) (before after x : Bool) → Watches depth (is_unbounded t) old new before after →
+    is_around depth old ≡ x → after ≡ (before || list_any is_met ((x, t) ∷ []))
+met_here depth t old new before after x watches is =
+    watches.met ∙ ap (λ b. before || b) (ap (λ b. b && is_unbounded t) is ∙ sym (or-false (x && is_unbounded t)))
+
+pub around_inside : (depth : ℕ) (t : Tree) (old new : Option ℕ) (before after x : Bool) → Watches depth (is_unbounded t) old new before after →
+    is_around depth old ≡ x → is_around (depth + 1) new ≡ handed x t
+around_inside depth t old new before after x watches is = watches.inside (depth + 1) (omega arith) ∙ ap (λ b. b || is_unbounded t) is
+
+pub around_outside : (depth : ℕ) (t : Tree) (old new : Option ℕ) (before after : Bool) (d : ℕ) (x : Bool) → d ≤ depth →
+    Watches depth (is_unbounded t) old new before after → is_around d old ≡ x → is_around d new ≡ x
+around_outside depth t old new before after d x up watches is = watches.outside d up ∙ is
+
+-- a call on the tree at that depth
+pub at_call : (d here : ℕ) (t shown : Tree) (old new : Option ℕ) (before after : Bool) → here ≡ d → shown ≡ t →
+    Watches here (is_unbounded shown) old new before after → Watches d (is_unbounded t) old new before after
+at_call d here t shown old new before after deep on watches =
+    subst (λ (k : ℕ). Watches k (is_unbounded t) old new before after) deep
+    (subst (λ (u : Tree). Watches here (is_unbounded u) old new before after) on watches)
+
+-- from none met on
+pub from_none : (first : Bool) (t : Tree) → first ≡ false → (first || list_any is_met (inherited handed false t)) ≡ has_nested t
+from_none first t none = ap (λ b. b || list_any is_met (inherited handed false t)) none ∙ met_in false t
+
+pub told_same : (told last wanted : Bool) → told ≡ last → last ≡ wanted → told ≡ wanted
+told_same told last wanted same is = same ∙ is
