@@ -1,0 +1,18 @@
+-- How a run of the program ends.
+use Rattle.regress_parse.specs.declared.fault.PlacedFault.{PlacedFault}
+use Rattle.regress_parse.specs.declared.fault.PlacedFault.TheVariants as fault
+use Rattle.regex_tree.specs.declared.failure.Failure.{Failure}
+use Rattle.regex_tree.specs.declared.failure.Failure.TheVariants.{Syntax, Usage, Memory, Output}
+use Rattle.regex_tree.specs.Shown.{Asked, IsAcceptedPattern, NoneIsAcceptedOf}
+
+-- a fault of the parser as a failure
+abbrev pub failure_of : PlacedFault → Failure
+failure_of (fault.Syntax e place) = Syntax e place
+failure_of (fault.Memory e) = Memory
+
+-- A fault of the pattern is told only of one that isn't accepted, and one of the output only where there is output.
+abbrev pub IsDue : Asked → Failure → Type 0
+IsDue asked (Syntax e place) = NoneIsAcceptedOf asked
+IsDue asked Usage = ⊥
+IsDue asked Memory = Unit {0}
+IsDue asked Output = IsAcceptedPattern asked

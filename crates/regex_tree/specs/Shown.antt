@@ -1,0 +1,73 @@
+-- What is shown of a pattern.
+use Rattle.std.specs.Prelude.{◌≡◌, ℕ, Bool, List, ◌++◌, Option, codes, if◌then◌else◌}
+use Rattle.std.specs.Io.KnownBytes.{Appends}
+use Rattle.regress_base.specs.Table.{Table}
+use Rattle.regress_base.specs.declared.types.Flags.{Flags}
+use Rattle.regress_unicode.specs.SmallTable.{small_table}
+use Rattle.regress_rewrite.specs.Law.{MeansTheSame}
+use Rattle.regress_ucd.specs.UnicodeTable.{unicode_table}
+use Rattle.regress_tree.specs.Display.{printed}
+use Rattle.regress_tree.specs.NormalForm.{IsNormal}
+use Rattle.regress_tree.specs.Reading.{forwards}
+use Rattle.regress_tree.specs.WellFormed.{captures}
+use Rattle.regress_tree.specs.Setting.{Setting}
+use Rattle.regress_tree.specs.Tree.{Tree}
+use Rattle.regress_syntax.specs.Syntax.{Pattern}
+use Rattle.regress_parse.specs.Accepted as parse
+use Rattle.regress_parse.specs.TreeOf.{tree_of}
+use Rattle.regress_show.specs.Json.{json_of}
+use Rattle.regex_tree.specs.declared.request.Format.{Format}
+use Rattle.regex_tree.specs.declared.request.Format.TheVariants.{Text, Json}
+use Rattle.regex_tree.specs.declared.request.Stage.{Stage}
+use Rattle.regex_tree.specs.declared.request.Stage.TheVariants.{Parsed, Optimized, Both}
+
+-- a pattern by its characters, its flags, and whether the table is the small one
+pub record Asked : Type 0 where
+  pub text : List ℕ
+  pub flags : Flags
+  pub small : Bool
+
+abbrev pub asked : List ℕ → Flags → Bool → Asked
+asked text flags small = record { text = text; flags = flags; small = small }
+
+abbrev pub table_asked : Bool → Table
+table_asked small = if small then small_table else unicode_table
+
+abbrev pub setting_asked : Asked → Setting
+setting_asked asked = record { flags = asked.flags; table = table_asked asked.small }
+
+abbrev pub IsAccepted : Asked → Pattern → Type 0
+IsAccepted asked p = parse.IsAccepted (setting_asked asked) asked.text p
+
+abbrev pub IsAcceptedPattern : Asked → Type 0
+IsAcceptedPattern asked = (p : Pattern) × IsAccepted asked p
+
+abbrev pub NoneIsAcceptedOf : Asked → Type 0
+NoneIsAcceptedOf asked = parse.NoneIsAccepted (setting_asked asked) asked.text
+
+-- one tree
+abbrev pub shown : Format → Flags → Tree → List ℕ
+shown Text flags t = printed t
+shown Json flags t = json_of flags t ++ codes "\n"
+
+-- a tree in normal form that means what the other one does, and captures the same
+pub record IsOptimized (t optimized : Tree) : Type 0 where
+  pub normal : IsNormal optimized
+  pub meaning : MeansTheSame forwards t optimized
+  pub captures : captures optimized ≡ captures t
+
+-- what is shown of a parsed tree
+abbrev pub IsShown : Stage → Format → Flags → Tree → List ℕ → Type 0
+IsShown Parsed format flags t bytes = bytes ≡ shown format flags t
+IsShown Optimized format flags t bytes = (optimized : Tree) × IsOptimized t optimized × (bytes ≡ shown format flags optimized)
+IsShown Both format flags t bytes =
+    (optimized : Tree) × IsOptimized t optimized × (bytes ≡ (shown format flags t ++ codes "--\n") ++ shown format flags optimized)
+
+-- what is shown of a pattern that is accepted
+abbrev pub IsOutput : Stage → Format → Asked → List ℕ → Type 0
+IsOutput stage format asked bytes = (p : Pattern) × IsAccepted asked p
+    × IsShown stage format asked.flags (tree_of (table_asked asked.small) p) bytes
+
+-- A writer has taken bytes of which this holds. Where it tells what it holds, it holds these more.
+abbrev pub Took : Option (List ℕ) → Option (List ℕ) → (List ℕ → Type 0) → Type 0
+Took old new P = (bytes : List ℕ) × P bytes × Appends old new bytes

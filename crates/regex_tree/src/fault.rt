@@ -1,0 +1,52 @@
+//! A fault of a pattern, for a person and for a tool.
+
+use regress_parse::Error;
+use std::io::{self, Write};
+
+/// Writes a fault, the pattern in a line of its own, and a caret under the place. A control character of the pattern is
+/// shown as U+FFFD, so that the pattern is one line.
+pub(crate) fn write_fault<E: Write>(
+    error: &Error,
+    pattern: &str,
+    place: usize,
+    err: &mut E,
+) -> io::Result<()> {
+    writeln!(err, "error: {error}")?;
+    write!(err, "  ")?;
+    for c in pattern.chars() {
+        let shown = if c.is_control() { '\u{FFFD}' } else { c };
+        write!(err, "{shown}")?;
+    }
+    write!(err, "\n  ")?;
+    for _column in 0..place {
+        write!(err, " ")?;
+    }
+    writeln!(err, "^")
+}
+
+/// Writes `{"fault":"..","place":0}` and a line feed.
+pub(crate) fn write_json_fault<W: Write>(
+    error: &Error,
+    place: usize,
+    out: &mut W,
+) -> io::Result<()> {
+    write!(out, "{{\"fault\":\"")?;
+    for c in error.text.chars() {
+        write_json_character(c, out)?;
+    }
+    writeln!(out, "\",\"place\":{place}}}")?;
+    out.flush()
+}
+
+/// Writes a character of a text of JSON.
+fn write_json_character<W: Write>(c: char, out: &mut W) -> io::Result<()> {
+    match c {
+        '"' => write!(out, "\\\""),
+        '\\' => write!(out, "\\\\"),
+        c if c < ' ' => {
+            let number = u32::from(c);
+            write!(out, "\\u{number:04x}")
+        }
+        c => write!(out, "{c}"),
+    }
+}

@@ -1,0 +1,103 @@
+//! `regex-tree [--json|--text] [--parsed|--optimized] [--small] [--] PATTERN [FLAGS]` shows the tree of a pattern.
+//! It ends with the status that `run_tree` answers. An argument that isn't UTF-8 is none that is taken: status 2 and the
+//! usage. Want of memory for the arguments or the buffer is status 3, as elsewhere.
+#![tactic(auto)]
+
+ghost use Rattle.std.specs.Prelude.{◌≤◌};
+
+mod arguments;
+mod failure;
+mod fault;
+mod request;
+#[cfg(test)]
+mod tests;
+mod trees;
+
+use arguments::arguments;
+use failure::{Failure, USAGE, tell};
+use fault::{write_fault, write_json_fault};
+use request::{Asked, Format, Request, read_request};
+use std::alloc::Global;
+use std::env::Env;
+use std::io::{BufWriter, Write};
+use std::process::ExitCode;
+use trees::show;
+
+fn main(rt: HostRuntime) -> ExitCode {
+    ExitCode::from(run(&rt, rt.stdout(), &mut rt.stderr()))
+}
+
+/// Runs the program in its environment, which tells its arguments.
+fn run<R: Env + AllocGlobal, W: Write + Drop, E: Write>(rt: &R, out: W, err: &mut E) -> u8
+    ensures known { result ≤ 4 }
+{
+    match arguments(rt) {
+        Ok(args) => run_buffered(rt.alloc(), &args, out, err),
+        Err(failure) => tell(failure, err),
+    }
+}
+
+/// Runs `run_tree` with a buffer before its output. Where no memory is found for that it ends with 3.
+fn run_buffered<W: Write + Drop, E: Write>(
+    alloc: Global,
+    args: &[String],
+    out: W,
+    err: &mut E,
+) -> u8
+    ensures known { result ≤ 4 }
+{
+    match BufWriter::new(alloc, out) {
+        Ok(mut out) => run_tree(alloc, args, &mut out, err),
+        Err(_) => tell(Failure::Memory, err),
+    }
+}
+
+/// Runs the program on its arguments, without its own name, and answers its status:
+/// - 0: what was asked for was written to `out`: trees, or the usage;
+/// - 1: the pattern has a fault, which was written to `err` with its place, or with `--json` to `out` as an object;
+/// - 2: the arguments are none that are taken, and `err` has the usage;
+/// - 3: memory was wanting, and `err` has `error: out of memory`;
+/// - 4: `out` can't be written; it may have taken the front of what 0 writes.
+///
+/// A failing write to `err` changes no status.
+pub fn run_tree<W: Write, E: Write>(alloc: Global, args: &[String], out: &mut W, err: &mut E) -> u8
+    ensures known { result ≤ 4 }
+{
+    match read_request(args) {
+        Some(Asked::Tree(request)) => run_request(alloc, &request, out, err),
+        Some(Asked::Usage) => match write_usage(out) {
+            Ok(()) => 0,
+            Err(failure) => tell(failure, err),
+        },
+        None => tell(Failure::Usage, err),
+    }
+}
+
+fn run_request<W: Write, E: Write>(
+    alloc: Global,
+    request: &Request<'_>,
+    out: &mut W,
+    err: &mut E,
+) -> u8
+    ensures known { result ≤ 4 }
+{
+    match show(alloc, request, out) {
+        Ok(()) => 0,
+        Err(Failure::Syntax { error, place }) => match request.format {
+            Format::Text => {
+                let _ = write_fault(&error, request.pattern, place, err);
+                1
+            }
+            Format::Json => match write_json_fault(&error, place, out) {
+                Ok(()) => 1,
+                Err(_) => tell(Failure::Output, err),
+            },
+        },
+        Err(failure) => tell(failure, err),
+    }
+}
+
+fn write_usage<W: Write>(out: &mut W) -> Result<(), Failure> {
+    write!(out, "{USAGE}").map_err(|_| Failure::Output)?;
+    out.flush().map_err(|_| Failure::Output)
+}

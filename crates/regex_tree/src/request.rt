@@ -1,0 +1,179 @@
+//! What the program is asked.
+ghost use Rattle.std.specs.Prelude.{◌≡◌};
+ghost use Rattle.regex_tree.specs.Request.{no_flags, with_letter, with_letters};
+
+use regress_base::types::Flags;
+
+/// What the arguments ask for.
+pub(crate) enum Asked<'a> {
+    Tree(Request<'a>),
+    Usage,
+}
+
+/// A pattern, the flags that the letters name, and what is to be shown of it.
+#[derive(Clone, Copy)]
+pub(crate) struct Request<'a> {
+    pub(crate) pattern: &'a str,
+    pub(crate) flags: Flags,
+    pub(crate) format: Format,
+    pub(crate) stage: Stage,
+    /// Whether the table is the small one, or that of all of Unicode.
+    pub(crate) small: bool,
+}
+
+#[derive(Clone, Copy)]
+pub(crate) enum Format {
+    /// A line for each node.
+    Text,
+    Json,
+}
+
+/// Which tree is shown.
+#[derive(Clone, Copy)]
+pub(crate) enum Stage {
+    Parsed,
+    Optimized,
+    /// The parsed one, a line `--`, and the optimized one.
+    Both,
+}
+
+/// What the options in front of the pattern say. The last one of a kind stands.
+#[derive(Clone, Copy)]
+struct Options {
+    help: bool,
+    format: Format,
+    stage: Option<Stage>,
+    small: bool,
+}
+
+const NO_OPTIONS: Options = Options {
+    help: false,
+    format: Format::Text,
+    stage: None,
+    small: false,
+};
+
+impl Options {
+    /// The tree that is asked for. JSON is of one tree.
+    fn stage(&self) -> Stage {
+        match (self.stage, self.format) {
+            (Some(stage), _) => stage,
+            (None, Format::Text) => Stage::Both,
+            (None, Format::Json) => Stage::Parsed,
+        }
+    }
+}
+
+/// Reads `[OPTION ..] [--] PATTERN [FLAGS]`, or nothing where there are fewer or more arguments, an option is unknown, or
+/// a letter is none of `imsuv` or comes twice.
+pub(crate) fn read_request(args: &[String]) -> Option<Asked<'_>> {
+    let (options, rest) = read_options(args)?;
+    if options.help {
+        return Some(Asked::Usage);
+    }
+    let (pattern, flags) = read_pattern(rest)?;
+    Some(Asked::Tree(Request {
+        pattern,
+        flags,
+        format: options.format,
+        stage: options.stage(),
+        small: options.small,
+    }))
+}
+
+/// The options, and the arguments behind them. None where one is unknown.
+fn read_options(args: &[String]) -> Option<(Options, &[String])> {
+    let mut options = NO_OPTIONS;
+    let mut rest = args;
+    while let [first, behind @ ..] = rest {
+        let word = first.as_str();
+        if !word.starts_with('-') {
+            break;
+        }
+        rest = behind;
+        if word == "--" {
+            break;
+        }
+        options = with_option(options, word)?;
+    }
+    Some((options, rest))
+}
+
+/// The options with one more.
+fn with_option(options: Options, word: &str) -> Option<Options> {
+    match word {
+        "--help" | "-h" => Some(Options {
+            help: true,
+            ..options
+        }),
+        "--text" => Some(Options {
+            format: Format::Text,
+            ..options
+        }),
+        "--json" => Some(Options {
+            format: Format::Json,
+            ..options
+        }),
+        "--parsed" => Some(Options {
+            stage: Some(Stage::Parsed),
+            ..options
+        }),
+        "--optimized" => Some(Options {
+            stage: Some(Stage::Optimized),
+            ..options
+        }),
+        "--small" => Some(Options {
+            small: true,
+            ..options
+        }),
+        _ => None,
+    }
+}
+
+/// Reads `PATTERN [FLAGS]`.
+fn read_pattern(args: &[String]) -> Option<(&str, Flags)> {
+    match args {
+        [pattern] => Some((pattern.as_str(), Flags::default())),
+        [pattern, letters] => Some((pattern.as_str(), read_flags(letters.as_bytes())?)),
+        _ => None,
+    }
+}
+
+fn read_flags(letters: &[u8]) -> Option<Flags>
+    ensures { result ≡ with_letters no_flags letters.now }
+{
+    let mut flags = Flags::default();
+    for letter in letters {
+        flags = with_letter(flags, *letter)?;
+    }
+    Some(flags)
+}
+
+/// The flags with that of one letter more, which was not there.
+fn with_letter(flags: Flags, letter: u8) -> Option<Flags>
+    ensures { result ≡ with_letter flags letter }
+{
+    match letter {
+        b'i' if !flags.icase => Some(Flags {
+            icase: true,
+            ..flags
+        }),
+        b'm' if !flags.multiline => Some(Flags {
+            multiline: true,
+            ..flags
+        }),
+        b's' if !flags.dot_all => Some(Flags {
+            dot_all: true,
+            ..flags
+        }),
+        b'u' if !flags.unicode => Some(Flags {
+            unicode: true,
+            ..flags
+        }),
+        b'v' if !flags.unicode_sets => Some(Flags {
+            unicode_sets: true,
+            ..flags
+        }),
+        _ => None,
+    }
+}

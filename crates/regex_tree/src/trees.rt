@@ -1,0 +1,107 @@
+//! The trees that are shown of a pattern.
+ghost use Rattle.std.specs.Prelude.{◌≡◌, ◌⊎◌, ◌++◌, IfOk, IfErr, OnOk, chars, codes};
+ghost use Rattle.std.specs.Io.KnownBytes.{Appends};
+ghost use Rattle.regress_unicode.specs.TableOf.{table_of};
+ghost use Rattle.regress_tree.specs.Tree.{tree};
+ghost use Rattle.regress_tree.specs.WellFormed.{IsWellFormed};
+ghost use Rattle.regex_tree.specs.declared.failure.Failure.TheVariants.{Memory, Output};
+ghost use Rattle.regex_tree.specs.Ending.{IsDue};
+ghost use Rattle.regex_tree.specs.Shown.{IsAcceptedPattern, IsOutput, IsShown, Took, asked, shown, table_asked};
+
+use crate::failure::Failure;
+use crate::request::{Format, Request, Stage};
+use regress_base::util::code_points;
+use regress_opt::optimize;
+use regress_parse::try_parse_with_place;
+use regress_show::Json;
+use regress_tree::ir::Regex;
+use regress_ucd::unicode_tables;
+use regress_unicode::Tables;
+use std::alloc::{AllocError, Global};
+use std::io::{self, Write};
+
+/// Shows what the request asks for.
+pub(crate) fn show<W: Write>(
+    alloc: Global,
+    request: &Request<'_>,
+    out: &mut W,
+) -> Result<(), Failure>
+    ensures due { IfErr result (IsDue (asked (chars request.now.pattern.now) request.now.flags request.now.small)) }
+    ensures shown { OnOk result (Took (W.contents out.old) (W.contents out.new)
+        (IsOutput request.now.stage request.now.format (asked (chars request.now.pattern.now) request.now.flags request.now.small))) }
+{
+    let points = code_points(alloc, request.pattern)?;
+    let tables = tables(alloc, request.small)?;
+    let regex = try_parse_with_place(alloc, &points, request.flags, &tables)?;
+    show_parsed(alloc, regex, request.stage, request.format, out)
+}
+
+fn tables(alloc: Global, small: bool) -> Result<Tables, AllocError>
+    ensures { IfOk result (λ tables. table_of tables ≡ table_asked small) }
+{
+    if small {
+        Tables::small(alloc)
+    } else {
+        unicode_tables(alloc)
+    }
+}
+
+/// Shows what was parsed. The parsed tree is written and flushed before the optimized one is made.
+fn show_parsed<W: Write>(
+    alloc: Global,
+    mut regex: Regex,
+    stage: Stage,
+    format: Format,
+    out: &mut W,
+) -> Result<(), Failure>
+    requires { IsWellFormed (tree regex.node) }
+    ensures shown { OnOk result (Took (W.contents out.old) (W.contents out.new) (IsShown stage format regex.flags (tree regex.node))) }
+    ensures failed { IfErr result (λ failure. (failure ≡ Memory) ⊎ (failure ≡ Output)) }
+{
+    match stage {
+        Stage::Parsed => write_tree(&regex, format, "", out),
+        Stage::Optimized => {
+            optimize(alloc, &mut regex)?;
+            write_tree(&regex, format, "", out)
+        }
+        Stage::Both => {
+            write_tree(&regex, format, "--\n", out)?;
+            optimize(alloc, &mut regex)?;
+            write_tree(&regex, format, "", out)
+        }
+    }
+}
+
+/// Writes a tree and what comes behind it, and flushes: what is written then stays written.
+fn write_tree<W: Write>(
+    regex: &Regex,
+    format: Format,
+    behind: &str,
+    out: &mut W,
+) -> Result<(), Failure>
+    ensures written { OnOk result (Appends (W.contents out.old) (W.contents out.new)
+        (shown format regex.now.flags (tree regex.now.node) ++ behind.now)) }
+    ensures failed { IfErr result (λ failure. failure ≡ Output) }
+{
+    match format {
+        Format::Text => write_text(regex, behind, out).map_err(|_| Failure::Output),
+        Format::Json => write_json(regex, behind, out).map_err(|_| Failure::Output),
+    }
+}
+
+fn write_text<W: Write>(regex: &Regex, behind: &str, out: &mut W) -> io::Result<()>
+    ensures { OnOk result (Appends (W.contents out.old) (W.contents out.new)
+        (shown (Format.Text) regex.now.flags (tree regex.now.node) ++ behind.now)) }
+{
+    write!(out, "{regex}{behind}")?;
+    out.flush()
+}
+
+fn write_json<W: Write>(regex: &Regex, behind: &str, out: &mut W) -> io::Result<()>
+    ensures { OnOk result (Appends (W.contents out.old) (W.contents out.new)
+        (shown (Format.Json) regex.now.flags (tree regex.now.node) ++ behind.now)) }
+{
+    let json = Json(regex);
+    write!(out, "{json}\n{behind}")?;
+    out.flush()
+}
