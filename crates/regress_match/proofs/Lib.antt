@@ -11,4 +11,5 @@ pub mod BetweenLemmas
 pub mod TurnLemmas
 pub mod SingleLemmas
 pub mod FrontLemmas
+pub mod SkippedLemmas
 pub mod NamesLemmas

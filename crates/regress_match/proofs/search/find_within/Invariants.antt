@@ -6,13 +6,13 @@ use Rattle.regress_match.specs.Fresh.{IsFresh}
 use Rattle.regress_match.specs.Matched.{NoneBefore, outcomes_at}
 use Rattle.regress_match.proofs.search.find_within.Given as goal
 
-abbrev pub invariant-loop-place : goal.invariant-loop-place
-invariant-loop-place l = record {
+abbrev pub invariant-loop-from : goal.invariant-loop-from
+invariant-loop-from l = record {
   fresh : IsFresh (tree l.regex.node) l.captures;
-  from : l.fn.from ≤ l.place;
-  none : NoneBefore l.text (outcomes_at (record { flags = l.regex.flags; table = table_of l.tables }) l.text (tree l.regex.node)) l.fn.from l.place;
+  from : l.fn.from ≤ l.from;
+  none : NoneBefore l.text (outcomes_at (record { flags = l.regex.flags; table = table_of l.tables }) l.text (tree l.regex.node)) l.fn.from l.from;
   left : l.left ≤ l.fn.left;
 }
 
-abbrev pub decreases-loop-place : goal.decreases-loop-place
-decreases-loop-place l = length l.text + 1 - l.place
+abbrev pub decreases-loop-from : goal.decreases-loop-from
+decreases-loop-from l = length l.text + 1 - l.from
