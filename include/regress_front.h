@@ -85,7 +85,7 @@ uint32_t regress_front_tell_fault_of_text(const uint8_t *pattern, size_t pattern
 
    Writes the words of the tree to `words`, which has room for `room` of them, and leaves what is behind them. `needed`
    is how many words the tree takes, for OK and ROOM, else 0: a caller asks with room 0, and again with room enough.
-   `place` is for FAULT where reading stopped, as an index of a code point, 0 to the length, else 0. */
+   `place` is for FAULT where that is, as an index of a code point, 0 to the length, else 0. */
 static inline uint32_t regress_front_parse(const uint32_t *pattern, size_t pattern_length, uint32_t flags,
                                           uint32_t optimize, uint32_t *words, size_t room, size_t *needed,
                                           size_t *place) {

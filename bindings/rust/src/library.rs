@@ -55,7 +55,7 @@ pub enum Table {
 /// Why a pattern has no tree.
 #[derive(Clone, Debug, PartialEq, Eq)]
 pub enum Fault {
-    /// The grammar derives no pattern here; reading stopped at the code point of that index.
+    /// The pattern has a fault, at the code point of that index.
     Syntax { text: String, place: usize },
     /// Memory was wanting.
     Memory,

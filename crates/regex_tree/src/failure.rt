@@ -38,7 +38,7 @@ It ends with one of these:
 /// can't be written only where it comes from a write.
 #[derive(Debug, Drop)]
 pub(crate) enum Failure {
-    /// The pattern has a fault, where reading stopped at that code point: status 1.
+    /// The pattern has a fault, at that code point: status 1.
     Syntax { error: Error, place: usize },
     /// The arguments are none that are taken: status 2.
     Usage,
