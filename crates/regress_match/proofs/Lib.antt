@@ -6,9 +6,9 @@ pub mod LoopLemmas
 pub mod ReadingLemmas
 pub mod RunLemmas
 pub mod FirstLemmas
-pub mod LeafLemmas
 pub mod BetweenLemmas
 pub mod TurnLemmas
+pub mod LeafLemmas
 pub mod SingleLemmas
 pub mod FrontLemmas
 pub mod SkippedLemmas

@@ -11,7 +11,7 @@ ghost use Rattle.regress_tree.specs.Steps.{State, these_bytes};
 ghost use Rattle.regress_tree.specs.Tree.{tree};
 ghost use Rattle.regress_unicode.specs.TableOf.{table_of};
 ghost use Rattle.regress_match.specs.Captures.{state};
-ghost use Rattle.regress_match.specs.Leaves.{put, read_of, takes_one, test_of, has_one_outcome};
+ghost use Rattle.regress_match.specs.Leaves.{put, read_of, sole_character, takes_one, test_of, has_one_outcome};
 ghost use Rattle.regress_match.specs.Subject.{subject, direction_of};
 ghost use Rattle.regress_match.specs.Turns.{one_of};
 
@@ -126,15 +126,29 @@ pub fn one_character(text: &str, rules: Rules<'_>, node: &Node, place: usize) ->
 pub fn takes_one(node: &Node) -> bool
     ensures { result ≡ takes_one (tree node.now) }
 {
-    matches!(
-        node,
+    match node {
         Node::Char { .. }
-            | Node::ByteSet(_)
-            | Node::CharSet(_)
-            | Node::MatchAny
-            | Node::MatchAnyExceptLineTerminator
-            | Node::Bracket(_)
-    )
+        | Node::ByteSet(_)
+        | Node::CharSet(_)
+        | Node::MatchAny
+        | Node::MatchAnyExceptLineTerminator
+        | Node::Bracket(_) => true,
+        Node::ByteSequence(bytes) => sole_character(bytes).is_some(),
+        _ => false,
+    }
+}
+
+/// The character of which these bytes are the UTF-8, where they are that of one.
+fn sole_character(bytes: &[u8]) -> Option<u32>
+    ensures { result ≡ sole_character bytes.now }
+{
+    // no character takes more, so a long literal is not looked through
+    if bytes.len() > 4 {
+        return None;
+    }
+    let text = str::from_utf8(bytes).ok()?;
+    let (c, to) = read_after(text, 0)?;
+    if to == text.len() { Some(c) } else { None }
 }
 
 /// Whether a leaf that takes one character takes this one, and no other node does.
@@ -143,6 +157,7 @@ fn accepts(node: &Node, c: u32) -> bool
 {
     match node {
         Node::Char { c: literal } => c == *literal,
+        Node::ByteSequence(bytes) => sole_character(bytes) == Some(c),
         Node::ByteSet(bytes) => lists_byte(bytes, c),
         Node::CharSet(characters) => lists(characters, c),
         Node::MatchAny => true,
