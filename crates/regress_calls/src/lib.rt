@@ -1,10 +1,8 @@
-//! Callers of the library, a linter and a recursion, as another crate would write them, and tests of what lines of
-//! data can't say. It stands above `regress_front`, since a crate with tests is proved twice.
+//! Callers of the library, a linter and a recursion, as another crate would write them. Their tests stand in
+//! `regress_calls_tests`.
 #![tactic(auto)]
 
 pub mod caller;
 pub mod caret;
 pub mod length;
 pub mod linter;
-#[cfg(test)]
-mod tests;

@@ -10,7 +10,7 @@ mod linting;
 mod passes;
 mod walks;
 
-use crate::caller::code_points;
+use regress_calls::caller::code_points;
 use regress_front::ir::Regex;
 use regress_front::parse::{ParseFault, try_parse};
 use regress_front::types::Flags;

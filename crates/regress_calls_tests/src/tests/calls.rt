@@ -1,7 +1,7 @@
 //! The caller of docs/CALLING.md, and calls that carry a fact and answer nothing.
 
-use crate::caller::optimized_text;
-use crate::caret::pointed_at;
+use regress_calls::caller::optimized_text;
+use regress_calls::caret::pointed_at;
 use regress_front::codepointset::canonical_form_is_unique;
 use regress_front::types::{Flags, limits_are_as_defined};
 use regress_front::unicode::Tables;

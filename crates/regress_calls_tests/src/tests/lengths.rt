@@ -2,7 +2,7 @@
 
 use super::parsed;
 use super::walks::alternation;
-use crate::length::least_length;
+use regress_calls::length::least_length;
 use std::test::Fail;
 
 #[test]

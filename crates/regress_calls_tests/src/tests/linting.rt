@@ -1,7 +1,7 @@
 //! The linter of docs/CALLING.md.
 
 use super::parsed;
-use crate::linter::lint;
+use regress_calls::linter::lint;
 use std::test::Fail;
 
 #[test]
