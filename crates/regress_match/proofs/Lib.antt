@@ -11,5 +11,5 @@ pub mod TurnLemmas
 pub mod LeafLemmas
 pub mod SingleLemmas
 pub mod FrontLemmas
-pub mod SkippedLemmas
+pub mod CandidateLemmas
 pub mod NamesLemmas

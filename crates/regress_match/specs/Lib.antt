@@ -5,7 +5,7 @@ pub mod Turns
 pub mod Machine
 pub mod Matched
 pub mod Fronts
-pub mod Skipped
+pub mod Candidates
 pub mod Fresh
 pub mod Searched
 pub mod Names

@@ -1,6 +1,7 @@
 //! A matcher for the trees of `regress_tree`, proved against what they mean.
 #![tactic(auto)]
 
+mod candidates;
 mod captures;
 mod characters;
 mod fronts;

@@ -1,15 +1,13 @@
 //! Searching a text from left to right.
-ghost use Rattle.std.specs.Prelude.{◌≡◌, ◌≤◌, IfOk, IfSome, OnErr, length};
+ghost use Rattle.std.specs.Prelude.{◌≡◌, ◌≤◌, IfOk, OnErr, length};
 ghost use Rattle.regress_tree.specs.Tree.{tree};
 ghost use Rattle.regress_unicode.specs.TableOf.{table_of};
 ghost use Rattle.regress_match.specs.Matched.{Finds, outcomes_at};
-ghost use Rattle.regress_match.specs.Skipped.{Skips};
 ghost use Rattle.regress_match.specs.Searched.{IsSameSearch, goes_on_from, next_from, searched_outcomes, searched_text};
 
-use crate::fronts::{first_bytes, next_candidate};
+use crate::candidates::{candidates_of, next_place};
 use crate::machine::Answer;
 use crate::matching::{Match, Outcome, first_at, nothing_captured};
-use regress_base::bytesearch::ByteBitmap;
 use regress_tree::ir::Regex;
 use regress_unicode::Tables;
 use std::alloc::{AllocError, Global};
@@ -45,10 +43,10 @@ pub(crate) fn find_within(
     ensures left { IfOk result (λ _. left.new ≤ left.old) }
 {
     let mut captures = nothing_captured(alloc, &regex.node)?;
-    let needed = first_bytes(&regex.node);
+    let candidates = candidates_of(&regex.node);
     let mut from = from;
     while from <= text.len() {
-        let Some(place) = next_place(&needed, text, from) else {
+        let Some(place) = next_place(&candidates, text, from) else {
             return Ok(Outcome::NoMatch);
         };
         if text.is_char_boundary(place) {
@@ -63,18 +61,6 @@ pub(crate) fn find_within(
         from = place + 1;
     }
     Ok(Outcome::NoMatch)
-}
-
-/// The least place from `from` on where one of the bytes stands with which a match begins, if such are known.
-fn next_place(needed: &Option<ByteBitmap>, text: &str, from: usize) -> Option<usize>
-    requires { from ≤ length text.now }
-    ensures skips { Skips needed.now text.now from result }
-    ensures within { IfSome result (λ place. (from ≤ place) × (place ≤ length text.now)) }
-{
-    match needed {
-        Some(set) => next_candidate(set, text.as_bytes(), from),
-        None => Some(from),
-    }
 }
 
 /// The matches of a text, from left to right, of which none begins before the end of the one before it.
