@@ -3,7 +3,7 @@ use Rattle.std.proofs.Common.{◌≡◌, ℕ, List, ◌++◌, Option, Some, None
 use Rattle.std.specs.Io.KnownBytes.{Appends}
 use Rattle.std.specs.Prelude.{Result, Ok, Err, OnOk}
 use Rattle.regex_front.specs.declared.failure.Failure.{Failure}
-use Rattle.regex_front.specs.Request.{Request}
+use Rattle.regress_arguments.specs.Request.{Request}
 use Rattle.regex_front.specs.Printed.{IsParsedText, IsOptimizedText, IsOutput, Took}
 
 -- two writes

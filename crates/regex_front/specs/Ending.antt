@@ -4,7 +4,7 @@ use Rattle.regress_front.specs.declared.parse.ParseFault.{ParseFault}
 use Rattle.regress_front.specs.declared.parse.ParseFault.TheVariants as fault
 use Rattle.regex_front.specs.declared.failure.Failure.{Failure}
 use Rattle.regex_front.specs.declared.failure.Failure.TheVariants.{Syntax, Usage, Memory, Output}
-use Rattle.regex_front.specs.Request.{Request}
+use Rattle.regress_arguments.specs.Request.{Request}
 use Rattle.regex_front.specs.Printed.{IsAcceptedPattern, NoneIsAccepted}
 
 -- the status of a failure
@@ -31,10 +31,3 @@ abbrev pub Ends : Option Request → Result (Unit {0}) Failure → Type 0
 Ends None r = r ≡ Err Usage
 Ends (Some request) (Ok done) = IsAcceptedPattern request
 Ends (Some request) (Err failure) = IsDue request failure
-
--- The arguments can't be had: one isn't UTF-8, or no memory was found for them.
-abbrev pub IsOfArguments : Failure → Type 0
-IsOfArguments (Syntax e) = ⊥
-IsOfArguments Usage = Unit {0}
-IsOfArguments Memory = Unit {0}
-IsOfArguments Output = ⊥

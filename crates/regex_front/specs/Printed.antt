@@ -10,7 +10,7 @@ use Rattle.regress_front.specs.NormalForm.{IsNormal}
 use Rattle.regress_front.specs.Syntax.{Pattern}
 use Rattle.regress_front.specs.TreeOf.{tree_of}
 use Rattle.regress_front.specs.Accepted as parse
-use Rattle.regex_front.specs.Request.{Request}
+use Rattle.regress_arguments.specs.Request.{Request}
 
 -- its flags, and the table that the program has
 abbrev pub setting_of_request : Request → Setting

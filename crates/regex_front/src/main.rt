@@ -6,17 +6,14 @@
 ghost use Rattle.std.specs.Prelude.{◌≡◌, ◌≢◌, ◌≤◌, ◌↔◌, ◌⊎◌, None, IfSome, IfErr, OnOk};
 ghost use Rattle.regex_front.specs.declared.failure.Failure.TheVariants.{Memory, Output};
 ghost use Rattle.regex_front.specs.Printed.{IsAcceptedPattern, NoneIsAccepted, IsParsedText, IsOutput, Took};
-ghost use Rattle.regex_front.specs.Request.{request_of};
+ghost use Rattle.regress_arguments.specs.Request.{request_of};
 ghost use Rattle.regex_front.specs.Ending.{Ends};
 
-mod arguments;
 mod failure;
-#[cfg(test)]
-mod tests;
 mod trees;
 
-use arguments::{Request, arguments, read_request};
 use failure::{Failure, tell};
+use regress_arguments::{ArgumentsError, arguments, read_pattern};
 use std::alloc::Global;
 use std::env::Env;
 use std::io::{BufWriter, Write};
@@ -33,7 +30,8 @@ fn run<R: Env + AllocGlobal, W: Write + Drop, E: Write>(rt: &R, out: W, err: &mu
 {
     match arguments(rt) {
         Ok(args) => run_buffered(rt.alloc(), &args, out, err),
-        Err(failure) => tell(failure, err),
+        Err(ArgumentsError::NotUtf8) => tell(Failure::Usage, err),
+        Err(ArgumentsError::OutOfMemory) => tell(Failure::Memory, err),
     }
 }
 
@@ -94,7 +92,7 @@ fn print_request<W: Write>(alloc: Global, args: &[String], out: &mut W) -> Resul
     ensures wanting { IfErr result (λ failure. failure ≡ Memory → (out.new ≡ out.old) ⊎ IfSome (request_of args.now)
         (λ request. Took (W.contents out.old) (W.contents out.new) (IsParsedText request))) }
 {
-    let Some(Request { pattern, flags }) = read_request(args) else {
+    let Some((pattern, flags)) = read_pattern(args) else {
         return Err(Failure::Usage);
     };
     print_trees(alloc, pattern, flags, out)

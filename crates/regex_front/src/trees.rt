@@ -16,7 +16,8 @@ use regress_front::optimizer::parse_and_optimize;
 use regress_front::parse::try_parse;
 use regress_front::types::Flags;
 use regress_front::unicode::Tables;
-use std::alloc::{AllocError, Global};
+use regress_front::util::code_points;
+use std::alloc::Global;
 use std::io::{self, Write};
 
 /// Prints the tree of a pattern as it is parsed, and then as it is optimized.
@@ -81,16 +82,4 @@ fn write_tree<W: Write>(regex: &Regex, behind: &str, out: &mut W) -> io::Result<
 {
     write!(out, "{regex}{behind}")?;
     out.flush()
-}
-
-/// The characters of a pattern, as the parser reads them.
-fn code_points(alloc: Global, pattern: &str) -> Result<Vec<u32>, AllocError>
-    ensures characters { IfOk result (λ points. points.items ≡ chars pattern.now) }
-    ensures in_range { IfOk result (λ points. All (λ c. c ≤ CODE_POINT_MAX) points.items) }
-{
-    let mut points = Vec::new(alloc);
-    for c in pattern.chars() {
-        points.push(u32::from(c))?;
-    }
-    Ok(points)
 }

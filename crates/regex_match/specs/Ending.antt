@@ -18,12 +18,3 @@ status_of Input = 7
 abbrev pub failure_of : PlacedFault → Failure
 failure_of (fault.Syntax e place) = Syntax e place
 failure_of (fault.Memory e) = Memory
-
--- The arguments can't be had: one isn't UTF-8, or no memory was found for them.
-abbrev pub IsOfArguments : Failure → Type 0
-IsOfArguments Usage = Unit {0}
-IsOfArguments Memory = Unit {0}
-IsOfArguments Output = ⊥
-IsOfArguments (Syntax e place) = ⊥
-IsOfArguments OutOfSteps = ⊥
-IsOfArguments Input = ⊥

@@ -5,13 +5,14 @@
 
 ghost use Rattle.std.specs.Prelude.{◌≤◌};
 
-mod arguments;
+mod asked;
 mod failure;
 mod lines;
 mod searching;
 
-use arguments::{Asked, arguments, read_asked};
+use asked::{Asked, read_asked};
 use failure::{Failure, tell};
+use regress_arguments::{ArgumentsError, arguments};
 use searching::print_matches;
 use std::alloc::Global;
 use std::env::Env;
@@ -33,7 +34,8 @@ fn run<R: Env + AllocGlobal, I: Read + Drop, W: Write + Drop, E: Write>(
 {
     match arguments(rt) {
         Ok(args) => run_buffered(rt.alloc(), &args, input, out, err),
-        Err(failure) => tell(failure, err),
+        Err(ArgumentsError::NotUtf8) => tell(Failure::Usage, err),
+        Err(ArgumentsError::OutOfMemory) => tell(Failure::Memory, err),
     }
 }
 
@@ -90,7 +92,7 @@ fn answer<I: Read + Drop, W: Write>(
     match read_asked(args) {
         None => Err(Failure::Usage),
         Some(Asked::Help) => print_help(out),
-        Some(Asked::Matches(request)) => print_matches(alloc, request, input, out),
+        Some(Asked::Matches(pattern, flags)) => print_matches(alloc, pattern, flags, input, out),
     }
 }
 

@@ -4,7 +4,6 @@ ghost use Rattle.regress_front.specs.SettingOf.{setting_of};
 ghost use Rattle.regress_front.specs.Tree.{tree};
 ghost use Rattle.regex_match.specs.Found.{FindsWhatIsAccepted};
 
-use crate::arguments::Request;
 use crate::failure::Failure;
 use crate::lines::write_match;
 use regress_front::codepointset::CODE_POINT_MAX;
@@ -13,9 +12,10 @@ use regress_front::optimizer::optimize;
 use regress_front::parse::try_parse_with_place;
 use regress_front::types::Flags;
 use regress_front::unicode::Tables;
+use regress_front::util::code_points;
 use regress_match::{Group, Matches, Outcome, groups};
 use regress_ucd::unicode_tables;
-use std::alloc::{AllocError, Global};
+use std::alloc::Global;
 use std::io::{self, ErrorKind, Read, Write};
 
 /// How many steps all matches of a run may take: some minute's.
@@ -24,13 +24,14 @@ const STEPS: u64 = 1_000_000_000;
 /// Prints the matches of a pattern in the input, and answers whether there is one.
 pub(crate) fn print_matches<I: Read + Drop, W: Write>(
     alloc: Global,
-    request: Request<'_>,
+    pattern: &str,
+    flags: Flags,
     input: I,
     out: &mut W,
 ) -> Result<bool, Failure> {
-    let points = code_points(alloc, request.pattern)?;
+    let points = code_points(alloc, pattern)?;
     let tables = unicode_tables(alloc)?;
-    let regex = prepared(alloc, &points, request.flags, &tables)?;
+    let regex = prepared(alloc, &points, flags, &tables)?;
     let groups = groups(alloc, &regex)?;
     let text = io::read_to_string(alloc, input).map_err(unread)?;
     let mut matches = Matches::new(&regex, &tables, &text, 0, STEPS);
@@ -80,16 +81,4 @@ fn unread(error: io::Error) -> Failure {
         ErrorKind::OutOfMemory => Failure::Memory,
         _ => Failure::Input,
     }
-}
-
-/// The characters of a pattern, as the parser reads them.
-fn code_points(alloc: Global, pattern: &str) -> Result<Vec<u32>, AllocError>
-    ensures characters { IfOk result (λ points. points.items ≡ chars pattern.now) }
-    ensures in_range { IfOk result (λ points. All (λ c. c ≤ CODE_POINT_MAX) points.items) }
-{
-    let mut points = Vec::new(alloc);
-    for c in pattern.chars() {
-        points.push(u32::from(c))?;
-    }
-    Ok(points)
 }

@@ -5,17 +5,14 @@
 
 ghost use Rattle.std.specs.Prelude.{◌≤◌};
 
-mod arguments;
 mod failure;
 mod fault;
 mod request;
-#[cfg(test)]
-mod tests;
 mod trees;
 
-use arguments::arguments;
 use failure::{Failure, USAGE, tell};
 use fault::{write_fault, write_json_fault};
+use regress_arguments::{ArgumentsError, arguments};
 use request::{Asked, Format, Request, read_request};
 use std::alloc::Global;
 use std::env::Env;
@@ -33,7 +30,8 @@ fn run<R: Env + AllocGlobal, W: Write + Drop, E: Write>(rt: &R, out: W, err: &mu
 {
     match arguments(rt) {
         Ok(args) => run_buffered(rt.alloc(), &args, out, err),
-        Err(failure) => tell(failure, err),
+        Err(ArgumentsError::NotUtf8) => tell(Failure::Usage, err),
+        Err(ArgumentsError::OutOfMemory) => tell(Failure::Memory, err),
     }
 }
 

@@ -1,7 +1,6 @@
 //! What the program is asked.
-ghost use Rattle.std.specs.Prelude.{◌≡◌};
-ghost use Rattle.regex_tree.specs.Request.{no_flags, with_letter, with_letters};
 
+use regress_arguments::read_pattern;
 use regress_base::types::Flags;
 
 /// What the arguments ask for.
@@ -125,54 +124,6 @@ fn with_option(options: Options, word: &str) -> Option<Options> {
         "--small" => Some(Options {
             small: true,
             ..options
-        }),
-        _ => None,
-    }
-}
-
-/// Reads `PATTERN [FLAGS]`.
-fn read_pattern(args: &[String]) -> Option<(&str, Flags)> {
-    match args {
-        [pattern] => Some((pattern.as_str(), Flags::default())),
-        [pattern, letters] => Some((pattern.as_str(), read_flags(letters.as_bytes())?)),
-        _ => None,
-    }
-}
-
-fn read_flags(letters: &[u8]) -> Option<Flags>
-    ensures { result ≡ with_letters no_flags letters.now }
-{
-    let mut flags = Flags::default();
-    for letter in letters {
-        flags = with_letter(flags, *letter)?;
-    }
-    Some(flags)
-}
-
-/// The flags with that of one letter more, which was not there.
-fn with_letter(flags: Flags, letter: u8) -> Option<Flags>
-    ensures { result ≡ with_letter flags letter }
-{
-    match letter {
-        b'i' if !flags.icase => Some(Flags {
-            icase: true,
-            ..flags
-        }),
-        b'm' if !flags.multiline => Some(Flags {
-            multiline: true,
-            ..flags
-        }),
-        b's' if !flags.dot_all => Some(Flags {
-            dot_all: true,
-            ..flags
-        }),
-        b'u' if !flags.unicode => Some(Flags {
-            unicode: true,
-            ..flags
-        }),
-        b'v' if !flags.unicode_sets => Some(Flags {
-            unicode_sets: true,
-            ..flags
         }),
         _ => None,
     }

@@ -1,6 +1,6 @@
 use Rattle.std.proofs.Common.{◌≡◌, drop}
-use Rattle.regex_tree.specs.Request.{no_flags, with_letters}
-use Rattle.regex_tree.proofs.request.read_flags.Given as goal
+use Rattle.regress_arguments.specs.Letters.{no_flags, with_letters}
+use Rattle.regress_arguments.proofs.flags.read_flags.Given as goal
 
 -- the letters that are left give the flags so far what all of them give none
 abbrev pub invariant-loop-letter : goal.invariant-loop-letter

@@ -1,7 +1,0 @@
-use Rattle.std.proofs.Common.{◌≡◌, drop}
-use Rattle.regex_match.specs.Request.{no_flags, with_letters}
-use Rattle.regex_match.proofs.arguments.read_flags.Given as goal
-
--- the letters that are left give the flags so far what all of them give none
-abbrev pub invariant-loop-letter : goal.invariant-loop-letter
-invariant-loop-letter l = with_letters l.flags (drop l.letter-index l.letters) ≡ with_letters no_flags l.letters

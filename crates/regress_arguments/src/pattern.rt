@@ -1,0 +1,18 @@
+//! `PATTERN [FLAGS]`.
+ghost use Rattle.std.specs.Prelude.{◌≡◌, option_map, chars};
+ghost use Rattle.regress_arguments.specs.Request.{request_of};
+
+use crate::flags::read_flags;
+use regress_base::types::Flags;
+
+/// Reads `PATTERN [FLAGS]`: the pattern, and the flags that the letters name. None where there are fewer or more
+/// arguments, or the letters name no flags.
+pub fn read_pattern(args: &[String]) -> Option<(&str, Flags)>
+    ensures { option_map (λ found. (chars found.0.now, found.1)) result ≡ request_of args.now }
+{
+    match args {
+        [pattern] => Some((pattern.as_str(), Flags::default())),
+        [pattern, letters] => Some((pattern.as_str(), read_flags(letters.as_str())?)),
+        _ => None,
+    }
+}
