@@ -10,9 +10,7 @@ use Rattle.regress_tree.specs.Matching.{steps_in_row}
 use Rattle.regress_tree.specs.Reading.{forwards, of_bytes}
 use Rattle.regress_tree.specs.Setting.{Setting}
 use Rattle.regress_tree.specs.Steps.{capture, captured}
-use Rattle.regress_tree.specs.declared.ir.node.Node.{Node-F, fold-roll-Node}
-use Rattle.regress_tree.specs.declared.ir.node.Node.TheVariants.{Anchor, rolls-Anchor}
-use Rattle.regress_tree.specs.Tree.{Tree, Trees, tree, tree_of_level, more_trees, leaf, anchor, cat, alt, wrapped, capture_group}
+use Rattle.regress_tree.specs.Tree.{Tree, Trees, more_trees, leaf, anchor, cat, alt, wrapped, capture_group}
 use Rattle.regress_match.specs.Candidates.{is_start, IsAnchored, AreCandidates, Skips}
 use Rattle.regress_match.specs.Matched.{NoneBefore, outcomes_at}
 use Rattle.regress_match.specs.declared.candidates.Candidates.{Candidates}
@@ -22,9 +20,6 @@ use Rattle.regress_match.proofs.RunLemmas.{distinct_none}
 
 not-zero : (k : ℕ) → (k ≡ 0 → ⊥) → (k == 0) ≡ false
 not-zero k some = grind arith
-
-pub tree-Anchor : (kind : AnchorType) (multiline : Bool) → tree (Anchor kind multiline) ≡ leaf (anchor kind multiline)
-tree-Anchor kind multiline = ap tree (sym (rolls-Anchor kind multiline)) ∙ fold-roll-Node Tree tree_of_level (Node-F.Anchor kind multiline)
 
 pub anchored-leaf : (kind : AnchorType) (multiline : Bool) → is_start kind multiline ≡ true → IsAnchored (leaf (anchor kind multiline))
 anchored-leaf StartOfLine false is =

@@ -2,11 +2,12 @@
 use Rattle.std.specs.Prelude.{◌≡◌, ℕ, Bool, Option, option_map, string_bytes, String}
 use Rattle.std.proofs.Common.{Vec, Box, Global, sym, ap, ◌∙◌}
 use Rattle.regress_tree.specs.declared.ir.node.Node.{Node, Node-F, fold-roll-Node}
-use Rattle.regress_tree.specs.declared.ir.node.Node.TheVariants.{Empty, Goal, Char, ByteSequence, ByteSet, CharSet, Cat, Alt, CaptureGroup, Bracket, Loop, Loop1CharBody, LookaroundAssertion, BackRef, rolls-Empty, rolls-Goal, rolls-Char, rolls-ByteSequence, rolls-ByteSet, rolls-CharSet, rolls-Cat, rolls-Alt, rolls-CaptureGroup, rolls-Bracket, rolls-Loop, rolls-Loop1CharBody, rolls-LookaroundAssertion, rolls-BackRef}
+use Rattle.regress_tree.specs.declared.ir.node.Node.TheVariants.{Empty, Goal, Char, ByteSequence, ByteSet, CharSet, Anchor, Cat, Alt, CaptureGroup, Bracket, Loop, Loop1CharBody, LookaroundAssertion, BackRef, rolls-Empty, rolls-Goal, rolls-Char, rolls-ByteSequence, rolls-ByteSet, rolls-CharSet, rolls-Anchor, rolls-Cat, rolls-Alt, rolls-CaptureGroup, rolls-Bracket, rolls-Loop, rolls-Loop1CharBody, rolls-LookaroundAssertion, rolls-BackRef}
+use Rattle.regress_base.specs.declared.types.AnchorType.{AnchorType}
 use Rattle.regress_base.specs.declared.types.Quantifier.{Quantifier}
 use Rattle.regress_base.specs.declared.types.bracket.BracketContents.{BracketContents}
 use Rattle.std.specs.declared.ops.Range.{Range}
-use Rattle.regress_tree.specs.Tree.{Tree, tree, trees, tree_of_level, leaf, empty, goal, char, byte_sequence, byte_set, char_set, cat, alt, bracket, back_ref, wrapped, capture_group, loop, loop_one, lookaround}
+use Rattle.regress_tree.specs.Tree.{Tree, tree, trees, tree_of_level, leaf, empty, goal, char, byte_sequence, byte_set, char_set, anchor, cat, alt, bracket, back_ref, wrapped, capture_group, loop, loop_one, lookaround}
 
 pub tree-Empty : tree Empty ≡ leaf empty
 tree-Empty = ap tree (sym rolls-Empty) ∙ fold-roll-Node Tree tree_of_level Node-F.Empty
@@ -26,6 +27,9 @@ tree-ByteSet bytes = ap tree (sym (rolls-ByteSet bytes)) ∙ fold-roll-Node Tree
 pub tree-CharSet : (characters : Vec ℕ Global) → tree (CharSet characters) ≡ leaf (char_set characters.items)
 tree-CharSet characters =
     ap tree (sym (rolls-CharSet characters)) ∙ fold-roll-Node Tree tree_of_level (Node-F.CharSet characters)
+
+pub tree-Anchor : (kind : AnchorType) (multiline : Bool) → tree (Anchor kind multiline) ≡ leaf (anchor kind multiline)
+tree-Anchor kind multiline = ap tree (sym (rolls-Anchor kind multiline)) ∙ fold-roll-Node Tree tree_of_level (Node-F.Anchor kind multiline)
 
 pub tree-Cat : (parts : Vec Node Global) → tree (Cat parts) ≡ cat (trees parts.items)
 tree-Cat parts = ap tree (sym (rolls-Cat parts)) ∙ fold-roll-Node Tree tree_of_level (Node-F.Cat parts)

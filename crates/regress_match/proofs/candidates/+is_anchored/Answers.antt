@@ -3,9 +3,9 @@ use Rattle.std.specs.Prelude.{option_map, string_bytes}
 use Rattle.regress_tree.specs.Tree.{tree, trees, cat, wrapped, capture_group}
 use Rattle.regress_tree.specs.declared.ir.node.Node.{the_lemmas}
 use Rattle.regress_tree.proofs.laws.Levels.{alt_of}
-use Rattle.regress_tree.proofs.laws.Nodes.{tree-Cat, tree-CaptureGroup}
+use Rattle.regress_tree.proofs.laws.Nodes.{tree-Anchor, tree-Cat, tree-CaptureGroup}
 use Rattle.regress_match.specs.Candidates.{IsAnchored}
-use Rattle.regress_match.proofs.CandidateLemmas.{tree-Anchor, anchored-leaf, anchored-alt, anchored-group}
+use Rattle.regress_match.proofs.CandidateLemmas.{anchored-leaf, anchored-alt, anchored-group}
 use Rattle.regress_match.proofs.candidates.+is_anchored.Goals as goal
 
 pub is_anchored-loop-node-init : goal.is_anchored-loop-node-init
