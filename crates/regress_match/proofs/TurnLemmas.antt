@@ -1,14 +1,14 @@
 -- Loops over one character: turns move, and each can be given back.
-use Rattle.std.proofs.Common.{◌≡◌, ◌⊎◌, inl, inr, ⊎_elim, ℕ, zero, suc, ◌+◌, ◌-◌, ◌≤◌, ◌<◌, ◌==◌, Bool, true, false, not, List, [], ◌∷◌, ◌++◌, filter, flat_map, length, drop, Option, Some, None, refl, sym, ap, subst, ◌∙◌, arith, append_assoc, append-nil, if◌then◌else◌, nat_le, not-suc-le-zero}
+use Rattle.std.proofs.Common.{◌≡◌, ℕ, zero, suc, ◌+◌, ◌-◌, ◌≤◌, ◌<◌, ◌==◌, Bool, true, false, not, List, [], ◌∷◌, ◌++◌, filter, flat_map, length, drop, Option, Some, None, refl, sym, ap, subst, ◌∙◌, arith, append_assoc, append-nil, if◌then◌else◌, not-suc-le-zero}
 use Rattle.std.specs.Char.{len_utf8, encode_utf8}
-use Rattle.std.specs.Option.{option_or, option_and_then, option_map}
-use Rattle.std.proofs.lemmas.Bool.{leb-true, eqb-true}
+use Rattle.std.specs.Option.{option_map}
 use Rattle.std.proofs.lemmas.List.{length-append, length-drop}
 use Rattle.std.proofs.lemmas.Str.{length-encode, len_utf8_bounds}
-use Rattle.regress_tree.specs.Reading.{Direction, forwards, backwards, Read, next_character, character_at, read_after, read_before, read_before_by, of_bytes}
+use Rattle.regress_tree.specs.Reading.{Direction, forwards, backwards, Read, next_character, character_at, read_after, read_before, of_bytes}
 use Rattle.regress_tree.specs.Repetition.{turns, moving, up_to}
 use Rattle.regress_tree.specs.Steps.{State, Step, one_character, moved}
 use Rattle.regress_tree.specs.Tree.{Tree}
+use Rattle.regress_tree.proofs.laws.ByteSequences.{before_parts}
 use Rattle.regress_tree.proofs.laws.Characters.{character_at_parts}
 use Rattle.regress_tree.proofs.laws.Readings.{read_before-behind}
 use Rattle.regress_match.specs.Leaves.{put, test_of}
@@ -42,45 +42,6 @@ after_of : (bytes : List ℕ) (k c : ℕ) → character_at bytes k ≡ Some c �
 unfolding read_after
 after_of bytes k c e = ap (option_map (λ x. record { character = x; place = k + len_utf8 x })) e
 
-test_parts : (t : Bool) (x read : Read) → (if t then Some x else None) ≡ Some read → (t ≡ true) × (x ≡ read)
-test_parts true x read e = (refl, ap (λ o. or_else o) e)
-  where
-    or_else : Option Read → Read
-    or_else None = x
-    or_else (Some y) = y
-test_parts false x read e = let bad : ⊥ = cc in absurd bad
-
-by_parts : (b : Bool) (o : Option ℕ) (n k : ℕ) (read : Read) →
-    (if b then option_and_then {U = Read} (λ c. if len_utf8 c == n then Some (record { character = c; place = k - n }) else None) o else None) ≡ Some read →
-    (b ≡ true) × (o ≡ Some read.character) × (len_utf8 read.character ≡ n) × (read.place ≡ k - n)
-by_parts true None n k read e = let bad : ⊥ = cc in absurd bad
-by_parts true (Some c) n k read e =
-    let parts = test_parts (len_utf8 c == n) (record { character = c; place = k - n }) read e in
-    let same : c ≡ read.character = ap (λ (x : Read). x.character) parts.1 in
-    (refl, ap Some same, ap len_utf8 (sym same) ∙ eqb-true (len_utf8 c) n parts.0, sym (ap (λ (x : Read). x.place) parts.1))
-by_parts false o n k read e = let bad : ⊥ = cc in absurd bad
-
-before_by_parts : (bytes : List ℕ) (n k : ℕ) (read : Read) → read_before_by bytes n k ≡ Some read →
-    (character_at bytes read.place ≡ Some read.character) × (k ≡ read.place + len_utf8 read.character)
-before_by_parts bytes n k read e =
-    let parts = by_parts (nat_le n k) (character_at bytes (k - n)) n k read e in
-    let le : n ≤ k = leb-true n k parts.0 in
-    (subst (λ i. character_at bytes i ≡ Some read.character) (sym parts.3) parts.1, omega (arith, le, parts.2, parts.3))
-
-or_parts : (o p : Option Read) (read : Read) → option_or o p ≡ Some read → (o ≡ Some read) ⊎ (p ≡ Some read)
-or_parts None p read e = inr e
-or_parts (Some x) p read e = inl e
-
-before_parts : (bytes : List ℕ) (k : ℕ) (read : Read) → read_before bytes k ≡ Some read →
-    (character_at bytes read.place ≡ Some read.character) × (k ≡ read.place + len_utf8 read.character)
-unfolding read_before
-before_parts bytes k read e =
-    ⊎_elim (before_by_parts bytes 1 k read)
-    (λ e2. ⊎_elim (before_by_parts bytes 2 k read)
-    (λ e3. ⊎_elim (before_by_parts bytes 3 k read) (before_by_parts bytes 4 k read) (or_parts _ _ read e3))
-    (or_parts _ _ read e2))
-    (or_parts _ _ read e)
-
 within : (bytes : List ℕ) (k c : ℕ) → character_at bytes k ≡ Some c → (k < k + len_utf8 c) × (k + len_utf8 c ≤ length bytes)
 within bytes k c e =
     let parts = character_at_parts bytes k c e in
@@ -103,7 +64,7 @@ module _ (bytes : List ℕ) where
       ap (read_before bytes) parts.1 ∙ read_before-behind bytes k read.character found.1.0 found.0 found.1.1
   back_again backwards k read e =
       let parts = before_parts bytes k read e in
-      after_of bytes read.place read.character parts.0 ∙ ap (λ i. Some (record { character = read.character; place = i })) (sym parts.1)
+      after_of bytes read.place read.character parts.stands_there ∙ ap (λ i. Some (record { character = read.character; place = i })) parts.ends_there
 
   less_ahead : (d : Direction) (k : ℕ) (read : Read) → next_character d (of_bytes bytes) k ≡ Some read →
       (ahead d bytes read.place < ahead d bytes k) × (ahead d bytes k ≤ length bytes)
@@ -113,8 +74,8 @@ module _ (bytes : List ℕ) where
       (omega (arith, parts.1, fits.0, fits.1), omega arith)
   less_ahead backwards k read e =
       let parts = before_parts bytes k read e in
-      let fits = within bytes read.place read.character parts.0 in
-      (omega (arith, parts.1, fits.0, fits.1), omega (arith, parts.1, fits.0, fits.1))
+      let fits = within bytes read.place read.character parts.stands_there in
+      (omega (arith, parts.ends_there, fits.0, fits.1), omega (arith, parts.ends_there, fits.0, fits.1))
 
   differs : (d : Direction) (j k : ℕ) → ahead d bytes j < ahead d bytes k → (j == k) ≡ false
   differs d j k less = unequal j k (λ e. irreflexive (ahead d bytes k) (subst (λ i. ahead d bytes i < ahead d bytes k) e less))

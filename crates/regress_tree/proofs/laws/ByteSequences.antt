@@ -138,9 +138,9 @@ ends-append bytes k first second =
     (subst (λ j. stands bytes j second ≡ true) to_second later.1)))
 
 -- what is read before a place is a character that ends there
-record IsBefore (bytes : List ℕ) (k : ℕ) (r : Read) : Type 0 where
-  stands_there : character_at bytes r.place ≡ Some r.character
-  ends_there : r.place + len_utf8 r.character ≡ k
+pub record IsBefore (bytes : List ℕ) (k : ℕ) (r : Read) : Type 0 where
+  pub stands_there : character_at bytes r.place ≡ Some r.character
+  pub ends_there : r.place + len_utf8 r.character ≡ k
 
 before_by_parts : (bytes : List ℕ) (n k : ℕ) (r : Read) → read_before_by bytes n k ≡ Some r → IsBefore bytes k r
 before_by_parts bytes n k r = by_test (nat_le n k) refl (character_at bytes (k - n)) refl
@@ -160,7 +160,7 @@ or_parts : (o p : Option Read) (r : Read) → option_or o p ≡ Some r → (o �
 or_parts None p r e = inr e
 or_parts (Some x) p r e = inl e
 
-before_parts : (bytes : List ℕ) (k : ℕ) (r : Read) → read_before bytes k ≡ Some r → IsBefore bytes k r
+pub before_parts : (bytes : List ℕ) (k : ℕ) (r : Read) → read_before bytes k ≡ Some r → IsBefore bytes k r
 unfolding read_before
 before_parts bytes k r e =
     ⊎_elim (before_by_parts bytes 1 k r)
