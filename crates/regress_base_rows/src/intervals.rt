@@ -1,45 +1,46 @@
 //! Calls on intervals, and the range of equals in a list.
 
 use regress_base::util::equal_range_by;
-use regress_notation::{Fault, read_interval, read_number, read_numbers};
-use std::alloc::Global;
-use std::fmt::Write;
+use regress_notation::Call;
+
+/// Makes the call of this name, and answers whether there is one.
+pub(crate) fn answer(call: &mut Call, name: &str) -> bool {
+    match name {
+        "compare" => compare(call),
+        "overlap" => overlap(call),
+        "points" => count(call),
+        "equal" => find_equal(call),
+        _ => return false,
+    }
+    true
+}
 
 /// For each number where the interval lies as seen from it, and whether that is a member.
-pub(crate) fn compared(alloc: Global, interval: &str, numbers: &str) -> Result<String, Fault> {
-    let interval = read_interval(interval).ok_or(Fault::Line)?;
-    let mut text = String::new(alloc);
-    for number in &read_numbers(alloc, numbers)? {
-        let (order, inside) = (interval.compare(*number), interval.contains(*number));
-        if !text.is_empty() {
-            text.push(' ')?;
-        }
-        if write!(text, "{order:?} {inside}").is_err() {
-            return Err(Fault::Memory);
-        }
+fn compare(call: &mut Call) {
+    let interval = call.interval();
+    for number in &call.numbers() {
+        call.show(&interval.compare(*number));
+        call.tell(&interval.contains(*number));
     }
-    Ok(text)
 }
 
 /// Whether two intervals have a member in common.
-pub(crate) fn overlapping(alloc: Global, one: &str, other: &str) -> Result<String, Fault> {
-    let one = read_interval(one).ok_or(Fault::Line)?;
-    let other = read_interval(other).ok_or(Fault::Line)?;
-    let overlap = one.overlaps(other);
-    Ok(format!(in alloc; "{overlap}")?)
+fn overlap(call: &mut Call) {
+    let one = call.interval();
+    let other = call.interval();
+    call.tell(&one.overlaps(other));
 }
 
 /// The code points of an interval as a range, and how many they are.
-pub(crate) fn counted(alloc: Global, interval: &str) -> Result<String, Fault> {
-    let interval = read_interval(interval).ok_or(Fault::Line)?;
-    let (points, count) = (interval.codepoints(), interval.count_codepoints());
-    Ok(format!(in alloc; "{points:?} {count}")?)
+fn count(call: &mut Call) {
+    let interval = call.interval();
+    call.show(&interval.codepoints());
+    call.tell(&interval.count_codepoints());
 }
 
 /// The range of the numbers of an ascending list that are equal to one.
-pub(crate) fn equal(alloc: Global, wanted: &str, list: &str) -> Result<String, Fault> {
-    let wanted = read_number(wanted).ok_or(Fault::Line)?;
-    let list = read_numbers(alloc, list)?;
-    let range = equal_range_by(&list, |number: &u32| number.cmp(&wanted));
-    Ok(format!(in alloc; "{range:?}")?)
+fn find_equal(call: &mut Call) {
+    let wanted = call.number();
+    let list = call.numbers();
+    call.show(&equal_range_by(&list, |number: &u32| number.cmp(&wanted)));
 }

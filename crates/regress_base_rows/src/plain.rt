@@ -3,58 +3,79 @@
 use regress_base::charclasses::{
     digit_intervals, line_terminator_intervals, white_space_intervals, word_intervals,
 };
-use regress_base::codepointset::CODE_POINT_MAX;
+use regress_base::codepointset::{CODE_POINT_MAX, CodePointSet};
 use regress_base::types::{
     BracketContents, GroupData, LoopData, MAX_CAPTURE_GROUPS, MAX_CHAR_SET_LENGTH, MAX_LOOPS,
     MAX_NESTING_DEPTH,
 };
-use regress_notation::{Fault, read_number, read_set, written};
-use std::alloc::Global;
+use regress_notation::{Call, Fault, read_number};
+
+/// Makes the call of this name, and answers whether there is one.
+pub(crate) fn answer(call: &mut Call, name: &str) -> bool {
+    match name {
+        "class" => class(call),
+        "plain" => values(call),
+        "bracket" => bracket(call),
+        "group" => group(call),
+        _ => return false,
+    }
+    true
+}
 
 /// The intervals of a class of characters.
-pub(crate) fn class(alloc: Global, name: &str) -> Result<String, Fault> {
-    match name {
-        "digits" => Ok(written(alloc, &digit_intervals())?),
-        "words" => Ok(written(alloc, &word_intervals())?),
-        "spaces" => Ok(written(alloc, &white_space_intervals())?),
-        "line terminators" => Ok(written(alloc, &line_terminator_intervals())?),
-        _ => Err(Fault::Line),
+fn class(call: &mut Call) {
+    match call.field() {
+        "digits" => call.tell_intervals(&digit_intervals()),
+        "words" => call.tell_intervals(&word_intervals()),
+        "spaces" => call.tell_intervals(&white_space_intervals()),
+        "line terminators" => call.tell_intervals(&line_terminator_intervals()),
+        _ => call.fail(Fault::Line),
     }
 }
 
 /// The limits, or a loop that has not begun.
-pub(crate) fn values(alloc: Global, name: &str) -> Result<String, Fault> {
-    match name {
-        "limits" => Ok(format!(in alloc;
-            "{MAX_CAPTURE_GROUPS} {MAX_LOOPS} {MAX_NESTING_DEPTH} {MAX_CHAR_SET_LENGTH} {CODE_POINT_MAX}"
-        )?),
+fn values(call: &mut Call) {
+    match call.field() {
+        "limits" => {
+            call.tell(&MAX_CAPTURE_GROUPS);
+            call.tell(&MAX_LOOPS);
+            call.tell(&MAX_NESTING_DEPTH);
+            call.tell(&MAX_CHAR_SET_LENGTH);
+            call.tell(&CODE_POINT_MAX);
+        }
         "loop" => {
             let LoopData { iters, entry } = LoopData::new(7u32);
-            Ok(format!(in alloc; "{iters} {entry}")?)
+            call.tell(&iters);
+            call.tell(&entry);
         }
-        _ => Err(Fault::Line),
+        _ => call.fail(Fault::Line),
     }
 }
 
 /// Whether a copy of a bracket accepts nothing, and how it is shown. The first field is `^` where it is inverted.
-pub(crate) fn bracket(alloc: Global, inverted: &str, set: &str) -> Result<String, Fault> {
-    let contents = BracketContents {
-        invert: inverted == "^",
-        cps: read_set(alloc, set)?,
+fn bracket(call: &mut Call) {
+    let alloc = call.alloc();
+    let invert = call.field() == "^";
+    let cps = call.set();
+    let contents = BracketContents { invert, cps };
+    call.tell(&contents.is_empty());
+    let nothing = BracketContents {
+        invert,
+        cps: CodePointSet::new(alloc),
     };
-    let copy = contents.try_clone(alloc)?;
-    let (empty, copied) = (contents.is_empty(), copy.is_empty());
-    Ok(format!(in alloc; "{empty} {copied} {copy:?}")?)
+    let copy = call.made(contents.try_clone(alloc), nothing);
+    call.tell(&copy.is_empty());
+    call.show(&copy);
 }
 
 /// Which ends of a group are matched, its range, and its range where it is reset. An end that is no number is not set.
-pub(crate) fn group(alloc: Global, start: &str, end: &str) -> Result<String, Fault> {
+fn group(call: &mut Call) {
     let mut group = GroupData::<u32>::new();
-    group.start = read_number(start);
-    group.end = read_number(end);
-    let (started, ended) = (group.start_matched(), group.end_matched());
-    let range = group.as_range();
+    group.start = read_number(call.field());
+    group.end = read_number(call.field());
+    call.tell(&group.start_matched());
+    call.tell(&group.end_matched());
+    call.show(&group.as_range());
     group.reset();
-    let reset = group.as_range();
-    Ok(format!(in alloc; "{started} {ended} {range:?} {reset:?}")?)
+    call.show(&group.as_range());
 }

@@ -4,66 +4,95 @@ use regress_base::bytesearch::{
     AsciiBitmap, ByteArraySet, ByteBitmap, ByteSearcher, ByteSet, EmptyString, Needle,
     SmallArraySet, charset_contains,
 };
-use regress_notation::{Fault, Promise, check, listed, read_bytes, read_numbers};
-use std::alloc::Global;
+use regress_notation::{Call, Fault, Promise};
+
+/// Makes the call of this name, and answers whether there is one.
+pub(crate) fn answer(call: &mut Call, name: &str) -> bool {
+    match name {
+        "find" => find(call),
+        "places" => places(call),
+        "bitmap" => bitmap(call),
+        "bitor" => join(call),
+        "ascii" => ascii(call),
+        "small" => members_of_small(call),
+        "char_set" => members_of_four(call),
+        _ => return false,
+    }
+    true
+}
 
 /// Where a search finds the first member of a text.
-pub(crate) fn found(alloc: Global, kind: &str, members: &str, text: &str) -> Result<String, Fault> {
-    let members = read_bytes(alloc, members)?;
-    let text = read_bytes(alloc, text)?;
-    let place = search(kind, &members, &text)?;
-    Ok(format!(in alloc; "{place:?}")?)
+fn find(call: &mut Call) {
+    let kind = call.field();
+    let members = call.bytes();
+    let text = call.bytes();
+    match search(kind, &members, &text) {
+        Some(place) => call.show(&place),
+        None => call.fail(Fault::Line),
+    }
 }
 
 /// A search of one kind. Arrays and small sets are by the number of their members.
-fn search(kind: &str, members: &[u8], text: &[u8]) -> Result<Option<usize>, Fault> {
-    Ok(match kind {
-        "bitmap" => ByteBitmap::new(members).find_in(text),
-        "complement" => ByteBitmap::new(members).bitnot().find_in(text),
-        "needle" => Needle::new(members).find_in(text),
-        "empty" => EmptyString {}.find_in(text),
-        "array" => match *members {
-            [a] => ByteSearcher::find_in(&[a], text),
-            [a, b] => ByteSearcher::find_in(&[a, b], text),
-            [a, b, c] => ByteSearcher::find_in(&[a, b, c], text),
-            _ => return Err(Fault::Line),
-        },
-        "small" => match *members {
-            [a, b] => SmallArraySet::find_in([a, b], text),
-            [a, b, c] => SmallArraySet::find_in([a, b, c], text),
-            [a, b, c, d] => SmallArraySet::find_in([a, b, c, d], text),
-            _ => return Err(Fault::Line),
-        },
-        "wrapped" => match *members {
-            [a, b] => ByteArraySet([a, b]).find_in(text),
-            [a, b, c, d] => ByteArraySet([a, b, c, d]).find_in(text),
-            _ => return Err(Fault::Line),
-        },
-        _ => return Err(Fault::Line),
-    })
+fn search(kind: &str, members: &[u8], text: &[u8]) -> Option<Option<usize>> {
+    match kind {
+        "bitmap" => Some(ByteBitmap::new(members).find_in(text)),
+        "complement" => Some(ByteBitmap::new(members).bitnot().find_in(text)),
+        "needle" => Some(Needle::new(members).find_in(text)),
+        "empty" => Some(EmptyString {}.find_in(text)),
+        "array" => search_array(members, text),
+        "small" => search_small(members, text),
+        "wrapped" => search_wrapped(members, text),
+        _ => None,
+    }
+}
+
+fn search_array(members: &[u8], text: &[u8]) -> Option<Option<usize>> {
+    match *members {
+        [a] => Some(ByteSearcher::find_in(&[a], text)),
+        [a, b] => Some(ByteSearcher::find_in(&[a, b], text)),
+        [a, b, c] => Some(ByteSearcher::find_in(&[a, b, c], text)),
+        _ => None,
+    }
+}
+
+fn search_small(members: &[u8], text: &[u8]) -> Option<Option<usize>> {
+    match *members {
+        [a, b] => Some(SmallArraySet::find_in([a, b], text)),
+        [a, b, c] => Some(SmallArraySet::find_in([a, b, c], text)),
+        [a, b, c, d] => Some(SmallArraySet::find_in([a, b, c, d], text)),
+        _ => None,
+    }
+}
+
+fn search_wrapped(members: &[u8], text: &[u8]) -> Option<Option<usize>> {
+    match *members {
+        [a, b] => Some(ByteArraySet([a, b]).find_in(text)),
+        [a, b, c, d] => Some(ByteArraySet([a, b, c, d]).find_in(text)),
+        _ => None,
+    }
 }
 
 /// Says that the last of the members is found at each place of each text of at most 67 bytes that has no other, also
 /// where it stands once more behind, and nowhere where it is missing.
-pub(crate) fn places(alloc: Global, kind: &str, members: &str) -> Result<String, Fault> {
-    let members = read_bytes(alloc, members)?;
-    let member = *members.last().ok_or(Fault::Line)?;
+fn places(call: &mut Call) {
+    let kind = call.field();
+    let members = call.bytes();
+    let member = call.read(members.last().copied(), 0);
     for length in 0..=67 {
-        check(
-            search(kind, &members, &[0; 67][..length])?.is_none(),
-            Promise::FoundFirst,
-        )?;
+        let nowhere = search(kind, &members, &[0; 67][..length]);
+        call.check(nowhere == Some(None), Promise::FoundFirst);
         for place in 0..length {
-            let once = text_with(member, place, place);
-            let twice = text_with(member, place, place + 3);
-            check(
-                search(kind, &members, &once[..length])? == Some(place)
-                    && search(kind, &members, &twice[..length])? == Some(place),
-                Promise::FoundFirst,
-            )?;
+            let once = search(kind, &members, &text_with(member, place, place)[..length]);
+            let twice = search(
+                kind,
+                &members,
+                &text_with(member, place, place + 3)[..length],
+            );
+            let first = Some(Some(place));
+            call.check(once == first && twice == first, Promise::FoundFirst);
         }
     }
-    Ok(String::from_str(alloc, "at each place")?)
+    call.say("at each place");
 }
 
 /// A text of zeros that has a byte at two places, as far as it is so long.
@@ -79,36 +108,39 @@ fn text_with(byte: u8, place: usize, other: usize) -> [u8; 67] {
 }
 
 /// A bitmap, how many members it has and, if they are at most four, these and then zeros.
-pub(crate) fn bitmap(alloc: Global, members: &str) -> Result<String, Fault> {
-    let bitmap = ByteBitmap::new(&read_bytes(alloc, members)?);
+fn bitmap(call: &mut Call) {
+    let bitmap = ByteBitmap::new(&call.bytes());
     let count = bitmap.count_bits();
+    call.show(&bitmap);
+    call.tell(&count);
     if count <= 4 {
-        let array = bitmap.as_array::<4>();
-        return Ok(format!(in alloc; "{bitmap:?} {count} {array:?}")?);
+        call.show(&bitmap.as_array::<4>());
     }
-    Ok(format!(in alloc; "{bitmap:?} {count}")?)
 }
 
 /// The union of two bitmaps, its complement, and whether the first one was the second.
-pub(crate) fn joined(alloc: Global, one: &str, other: &str) -> Result<String, Fault> {
-    let mut joined = ByteBitmap::new(&read_bytes(alloc, one)?);
-    let other = ByteBitmap::new(&read_bytes(alloc, other)?);
+fn join(call: &mut Call) {
+    let mut joined = ByteBitmap::new(&call.bytes());
+    let other = ByteBitmap::new(&call.bytes());
     let same = joined == other;
     joined.bitor(&other);
     let mut outside = ByteBitmap::default();
     outside.bitor(&joined);
     outside.bitnot();
-    Ok(format!(in alloc; "{joined:?} {outside:?} {same}")?)
+    call.show(&joined);
+    call.show(&outside);
+    call.tell(&same);
 }
 
 /// A bitmap of ASCII, and those of all bytes that are not in it.
-pub(crate) fn ascii(alloc: Global, members: &str) -> Result<String, Fault> {
+fn ascii(call: &mut Call) {
     let mut bitmap = AsciiBitmap::default();
-    for byte in &read_bytes(alloc, members)? {
+    for byte in &call.bytes() {
         if *byte > 127 {
-            return Err(Fault::Line);
+            call.fail(Fault::Line);
+        } else {
+            bitmap.set(*byte);
         }
-        bitmap.set(*byte);
     }
     let mut outside = ByteBitmap::default();
     for byte in 0..=u8::MAX {
@@ -116,19 +148,20 @@ pub(crate) fn ascii(alloc: Global, members: &str) -> Result<String, Fault> {
             outside.set(byte);
         }
     }
-    Ok(format!(in alloc; "{bitmap:?} {outside:?}")?)
+    call.show(&bitmap);
+    call.show(&outside);
 }
 
 /// Those of the bytes that are in a small set, by itself, wrapped and, if it has four members, as code points.
-pub(crate) fn members_of_small(alloc: Global, set: &str, bytes: &str) -> Result<String, Fault> {
-    let set = read_bytes(alloc, set)?;
-    let mut members = Vec::new(alloc);
-    for byte in &read_bytes(alloc, bytes)? {
-        if is_in_small(&set, *byte).ok_or(Fault::Line)? {
-            members.push(u32::from(*byte))?;
+fn members_of_small(call: &mut Call) {
+    let set = call.bytes();
+    for byte in &call.bytes() {
+        match is_in_small(&set, *byte) {
+            Some(true) => call.tell(byte),
+            Some(false) => {}
+            None => call.fail(Fault::Line),
         }
     }
-    Ok(listed(alloc, &members)?)
 }
 
 fn is_in_small(set: &[u8], byte: u8) -> Option<bool> {
@@ -144,16 +177,15 @@ fn is_in_small(set: &[u8], byte: u8) -> Option<bool> {
 }
 
 /// Those of the numbers that are in a set of four code points.
-pub(crate) fn of_four(alloc: Global, set: &str, numbers: &str) -> Result<String, Fault> {
-    let set = read_numbers(alloc, set)?;
+fn members_of_four(call: &mut Call) {
+    let set = call.numbers();
     let [a, b, c, d] = *set.as_slice() else {
-        return Err(Fault::Line);
+        call.fail(Fault::Line);
+        return;
     };
-    let mut members = Vec::new(alloc);
-    for number in &read_numbers(alloc, numbers)? {
+    for number in &call.numbers() {
         if charset_contains(&[a, b, c, d], *number) {
-            members.push(*number)?;
+            call.tell(number);
         }
     }
-    Ok(listed(alloc, &members)?)
 }

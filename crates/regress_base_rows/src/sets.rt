@@ -1,84 +1,107 @@
 //! Calls on sets of code points.
 
 use regress_base::codepointset::{CodePointSet, is_canonical};
-use regress_notation::{
-    Fault, Promise, check, listed, read_intervals, read_points, read_set, written,
-};
-use std::alloc::{AllocError, Global};
+use regress_notation::{Call, Fault, Promise};
+use std::alloc::AllocError;
 
-/// The set behind `add`, or `add_one` of the first of each interval.
-pub(crate) fn added(alloc: Global, call: &str, set: &str, added: &str) -> Result<String, Fault> {
-    let mut set = read_set(alloc, set)?;
-    for interval in &read_intervals(alloc, added)? {
-        let before = set.try_clone(alloc)?;
-        let answer = match call {
-            "add" => set.add(*interval),
-            _ => set.add_one(interval.first()),
-        };
-        kept(answer, &set, &before)?;
+/// Makes the call of this name, and answers whether there is one.
+pub(crate) fn answer(call: &mut Call, name: &str) -> bool {
+    match name {
+        "add" => add(call),
+        "add_one" => add_one(call),
+        "add_set" | "intersect" | "remove" => combine(call, name),
+        "inverted" => invert(call),
+        "members" => members(call),
+        "canonical" => copy_canonical(call),
+        _ => return false,
     }
-    Ok(written(alloc, set.intervals())?)
+    true
+}
+
+/// The set behind `add` of each interval.
+fn add(call: &mut Call) {
+    let mut set = call.set();
+    for interval in &call.intervals() {
+        let before = copy_of(call, &set);
+        let added = set.add(*interval);
+        keep(call, added, &set, &before);
+    }
+    call.tell_intervals(set.intervals());
+}
+
+/// The set behind `add_one` of the first of each interval.
+fn add_one(call: &mut Call) {
+    let mut set = call.set();
+    for interval in &call.intervals() {
+        let before = copy_of(call, &set);
+        let added = set.add_one(interval.first());
+        keep(call, added, &set, &before);
+    }
+    call.tell_intervals(set.intervals());
 }
 
 /// The set behind a call on another set.
-pub(crate) fn combined(alloc: Global, call: &str, set: &str, other: &str) -> Result<String, Fault> {
-    let mut set = read_set(alloc, set)?;
-    let other = read_set(alloc, other)?;
-    let before = set.try_clone(alloc)?;
-    let answer = match call {
+fn combine(call: &mut Call, name: &str) {
+    let mut set = call.set();
+    let other = call.set();
+    let before = copy_of(call, &set);
+    let combined = match name {
         "add_set" => set.add_set(other),
         "intersect" => set.intersect(other.intervals()),
         _ => set.remove(other.intervals()),
     };
-    kept(answer, &set, &before)?;
-    Ok(written(alloc, set.intervals())?)
+    keep(call, combined, &set, &before);
+    call.tell_intervals(set.intervals());
 }
 
-/// What a call answered: a refused growth leaves the set as it was.
-fn kept(
-    answer: Result<(), AllocError>,
-    set: &CodePointSet,
-    before: &CodePointSet,
-) -> Result<(), Fault> {
-    if answer.is_ok() {
-        return Ok(());
+fn copy_of(call: &mut Call, set: &CodePointSet) -> CodePointSet {
+    let alloc = call.alloc();
+    call.made(set.try_clone(alloc), CodePointSet::new(alloc))
+}
+
+/// What was done: a refused growth leaves the set as it was.
+fn keep(call: &mut Call, done: Result<(), AllocError>, set: &CodePointSet, before: &CodePointSet) {
+    if done.is_err() {
+        call.check(set == before, Promise::SetIsKept);
+        call.fail(Fault::Memory);
     }
-    check(set == before, Promise::SetIsKept)?;
-    Err(Fault::Memory)
 }
 
 /// The complement, which has as many intervals as is told beforehand, and gives back the set.
-pub(crate) fn inverted(alloc: Global, set: &str) -> Result<String, Fault> {
-    let set = read_set(alloc, set)?;
-    let inverted = set.inverted()?;
-    check(
-        set.inverted_interval_count() == inverted.intervals().len(),
-        Promise::CopyIsEqual,
-    )?;
-    check(inverted.inverted()? == set, Promise::CopyIsEqual)?;
-    Ok(written(alloc, inverted.intervals())?)
+fn invert(call: &mut Call) {
+    let set = call.set();
+    let inverted = complement_of(call, &set);
+    let again = complement_of(call, &inverted);
+    let count = inverted.intervals().len();
+    call.check(set.inverted_interval_count() == count, Promise::CopyIsEqual);
+    call.check(again == set, Promise::CopyIsEqual);
+    call.tell_intervals(inverted.intervals());
+}
+
+fn complement_of(call: &mut Call, set: &CodePointSet) -> CodePointSet {
+    let alloc = call.alloc();
+    call.made(set.inverted(), CodePointSet::new(alloc))
 }
 
 /// Those of the code points that are members.
-pub(crate) fn members(alloc: Global, set: &str, points: &str) -> Result<String, Fault> {
-    let set = read_set(alloc, set)?;
-    let mut members = Vec::new(alloc);
-    for point in &read_points(alloc, points)? {
+fn members(call: &mut Call) {
+    let set = call.set();
+    for point in &call.points() {
         if set.contains(*point) {
-            members.push(*point)?;
+            call.tell(point);
         }
     }
-    Ok(listed(alloc, &members)?)
 }
 
 /// A copy of the set of these intervals, if they are canonical, and how it is shown.
-pub(crate) fn canonical(alloc: Global, intervals: &str) -> Result<String, Fault> {
-    let intervals = read_intervals(alloc, intervals)?;
+fn copy_canonical(call: &mut Call) {
+    let intervals = call.intervals();
     if !is_canonical(&intervals) {
-        return Ok(String::from_str(alloc, "no")?);
+        call.say("no");
+        return;
     }
     let set = CodePointSet::from_sorted_disjoint_intervals(intervals);
-    let copy = set.try_clone(alloc)?;
-    check(copy == set, Promise::CopyIsEqual)?;
-    Ok(format!(in alloc; "{copy:?}")?)
+    let copy = copy_of(call, &set);
+    call.check(copy == set, Promise::CopyIsEqual);
+    call.show(&copy);
 }

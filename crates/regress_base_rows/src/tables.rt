@@ -3,67 +3,95 @@ ghost use Rattle.std.specs.Prelude.{IfSome};
 ghost use Rattle.regress_unicode.specs.FoldRows.{IsModulo};
 
 use regress_base::codepointset::CodePointSet;
-use regress_notation::{Fault, read_number, read_numbers, read_set};
+use regress_notation::{Call, Fault, read_number};
 use regress_unicode::{CodePointRange, FoldRange, Tables, TablesError};
-use std::alloc::Global;
+
+/// Makes the call of this name, and answers whether there is one.
+pub(crate) fn answer(call: &mut Call, name: &str) -> bool {
+    match name {
+        "tables" => make(call),
+        "range" => range(call),
+        _ => return false,
+    }
+    true
+}
 
 /// A table of rows for folds and for upper cases, of sets for the first and the further characters of names with a `;`
 /// between them, and of lists of sets and of strings.
-pub(crate) fn made(
-    alloc: Global,
-    folds: &str,
-    uppers: &str,
-    names: &str,
-    sets: &str,
-    strings: &str,
-) -> Result<String, Fault> {
+fn make(call: &mut Call) {
+    let alloc = call.alloc();
+    let folds = read_rows(call);
+    let uppers = read_rows(call);
+    let names = call.field();
     let (starts, further) = names.split_once(';').unwrap_or((names, ""));
-    match Tables::new(
+    let (starts, further) = (call.set_in(starts), call.set_in(further));
+    let sets = call.field();
+    let made = Tables::new(
         alloc,
-        read_rows(alloc, folds)?,
-        read_rows(alloc, uppers)?,
-        read_set(alloc, starts)?,
-        read_set(alloc, further)?,
-        read_sets(alloc, sets)?,
-        read_sets(alloc, sets)?,
-        read_sets(alloc, sets)?,
-        read_sets(alloc, sets)?,
-        read_strings(alloc, strings)?,
-    ) {
-        Ok(_) => Ok(String::from_str(alloc, "accepted")?),
-        Err(TablesError::Memory(_)) => Err(Fault::Memory),
-        Err(refusal) => Ok(format!(in alloc; "{refusal}")?),
+        folds,
+        uppers,
+        starts,
+        further,
+        sets_in(call, sets),
+        sets_in(call, sets),
+        sets_in(call, sets),
+        sets_in(call, sets),
+        read_strings(call),
+    );
+    match made {
+        Ok(_) => call.say("accepted"),
+        Err(TablesError::Memory(_)) => call.fail(Fault::Memory),
+        Err(refusal) => call.tell(&refusal),
     }
 }
 
 /// The table of these rows for folds, and for upper cases too, and of lists of these sets.
-pub(crate) fn table_of(alloc: Global, rows: &str, sets: &str) -> Result<Tables, Fault> {
+pub(crate) fn table_of(call: &mut Call, rows: &str, sets: &str) -> Option<Tables> {
+    let alloc = call.alloc();
     let made = Tables::new(
         alloc,
-        read_rows(alloc, rows)?,
-        read_rows(alloc, rows)?,
+        rows_in(call, rows),
+        rows_in(call, rows),
         CodePointSet::new(alloc),
         CodePointSet::new(alloc),
-        read_sets(alloc, sets)?,
+        sets_in(call, sets),
         Vec::new(alloc),
         Vec::new(alloc),
         Vec::new(alloc),
         Vec::new(alloc),
     );
     match made {
-        Ok(tables) => Ok(tables),
-        Err(TablesError::Memory(_)) => Err(Fault::Memory),
-        Err(_) => Err(Fault::Line),
+        Ok(tables) => Some(tables),
+        Err(TablesError::Memory(_)) => {
+            call.fail(Fault::Memory);
+            None
+        }
+        Err(_) => {
+            call.fail(Fault::Line);
+            None
+        }
     }
 }
 
 /// Rows, with spaces between them.
-fn read_rows(alloc: Global, text: &str) -> Result<Vec<FoldRange>, Fault> {
-    let mut rows = Vec::new(alloc);
+fn read_rows(call: &mut Call) -> Vec<FoldRange> {
+    let field = call.field();
+    rows_in(call, field)
+}
+
+fn rows_in(call: &mut Call, text: &str) -> Vec<FoldRange> {
+    let mut rows = Vec::new(call.alloc());
     for part in text.split_whitespace() {
-        rows.push(read_row(part).ok_or(Fault::Line)?)?;
+        match read_row(part) {
+            Some(row) => {
+                if rows.push(row).is_err() {
+                    call.fail(Fault::Memory);
+                }
+            }
+            None => call.fail(Fault::Line),
+        }
     }
-    Ok(rows)
+    rows
 }
 
 /// A row: its start, its length, how far it moves, and which of its code points do, as `0x41,26,32,1`.
@@ -71,10 +99,17 @@ fn read_row(text: &str) -> Option<FoldRange> {
     let (start, rest) = text.split_once(',')?;
     let (length, rest) = rest.split_once(',')?;
     let (delta, modulo) = rest.split_once(',')?;
-    let start = read_number(start)?;
-    let length = read_number(length)?;
-    let delta = delta.parse::<i32>().ok()?;
-    let modulo = read_modulo(modulo)?;
+    row_of(
+        read_number(start)?,
+        read_number(length)?,
+        delta.parse::<i32>().ok()?,
+        read_modulo(modulo)?,
+    )
+}
+
+fn row_of(start: u32, length: u32, delta: i32, modulo: u8) -> Option<FoldRange>
+    requires { IsModulo modulo }
+{
     if length == 0 || length > 4096 || start > 0xFFFFF || start + length >= 0x100000 {
         return None;
     }
@@ -98,37 +133,63 @@ fn read_modulo(text: &str) -> Option<u8>
 }
 
 /// Sets with names, as `Nd=0x30-0x39;Zl=0x2028`.
-fn read_sets(alloc: Global, text: &str) -> Result<Vec<(String, CodePointSet)>, Fault> {
-    let mut sets = Vec::new(alloc);
+fn sets_in(call: &mut Call, text: &str) -> Vec<(String, CodePointSet)> {
+    let mut sets = Vec::new(call.alloc());
     for part in text.split_terminator(';') {
-        let (name, set) = part.split_once('=').ok_or(Fault::Line)?;
-        sets.push((String::from_str(alloc, name)?, read_set(alloc, set)?))?;
+        let (name, written) = named_part(call, part);
+        let name = own(call, name);
+        let set = call.set_in(written);
+        if sets.push((name, set)).is_err() {
+            call.fail(Fault::Memory);
+        }
     }
-    Ok(sets)
+    sets
+}
+
+/// The name of a part, and what has it.
+fn named_part<'a>(call: &mut Call, part: &'a str) -> (&'a str, &'a str) {
+    call.read(part.split_once('='), (part, ""))
+}
+
+fn own(call: &mut Call, name: &str) -> String {
+    let alloc = call.alloc();
+    call.made(String::from_str(alloc, name), String::new(alloc))
 }
 
 /// Lists of strings with names, as `Keys=0x23 0x20E3,0x2A 0x20E3;None=`, where a `,` stands between strings.
-fn read_strings(alloc: Global, text: &str) -> Result<Vec<(String, Vec<Vec<u32>>)>, Fault> {
-    let mut lists = Vec::new(alloc);
-    for part in text.split_terminator(';') {
-        let (name, written) = part.split_once('=').ok_or(Fault::Line)?;
-        let mut strings = Vec::new(alloc);
-        for string in written.split(',') {
-            strings.push(read_numbers(alloc, string)?)?;
+fn read_strings(call: &mut Call) -> Vec<(String, Vec<Vec<u32>>)> {
+    let mut lists = Vec::new(call.alloc());
+    for part in call.field().split_terminator(';') {
+        let (name, written) = named_part(call, part);
+        let name = own(call, name);
+        let strings = strings_in(call, written);
+        if lists.push((name, strings)).is_err() {
+            call.fail(Fault::Memory);
         }
-        lists.push((String::from_str(alloc, name)?, strings))?;
     }
-    Ok(lists)
+    lists
+}
+
+fn strings_in(call: &mut Call, text: &str) -> Vec<Vec<u32>> {
+    let mut strings = Vec::new(call.alloc());
+    for string in text.split(',') {
+        let numbers = call.numbers_in(string);
+        if strings.push(numbers).is_err() {
+            call.fail(Fault::Memory);
+        }
+    }
+    strings
 }
 
 /// The ends of a packed range, by its start and its length.
-pub(crate) fn range(alloc: Global, start: &str, length: &str) -> Result<String, Fault> {
-    let start = read_number(start).ok_or(Fault::Line)?;
-    let length = read_number(length).ok_or(Fault::Line)?;
+fn range(call: &mut Call) {
+    let start = call.number();
+    let length = call.number();
     if length == 0 || length > 4096 || start > 0xFFFFF || start + length >= 0x100000 {
-        return Err(Fault::Line);
+        call.fail(Fault::Line);
+        return;
     }
     let range = CodePointRange::from(start, length);
-    let (first, last) = (range.first(), range.last());
-    Ok(format!(in alloc; "{first} {last}")?)
+    call.tell(&range.first());
+    call.tell(&range.last());
 }

@@ -1,79 +1,83 @@
 //! Calls on the maps and the names of a table.
 
+use regress_base::codepointset::CodePointSet;
 use regress_base::types::Flags;
-use regress_notation::{Fault, listed, read_point, read_points, read_set, written};
+use regress_notation::{Call, read_flags};
 use regress_unicode::{
     Tables, add_icase_code_points, expand_code_point, fold, unfold_char, unfold_uppercase_char,
     uppercase,
 };
-use std::alloc::Global;
+
+/// Makes the call of this name, and answers whether there is one.
+pub(crate) fn answer(call: &mut Call, name: &str, tables: &Tables) -> bool {
+    match name {
+        "close" => close(call, tables),
+        "fold" => folds(call, tables),
+        "uppercase" => upper_cases(call, tables),
+        "unfold" => unfold(call, tables),
+        "unfold_upper" => unfold_upper(call, tables),
+        "expand" => expand(call, tables),
+        "starts" => members(call, tables.id_start()),
+        "continues" => members(call, tables.id_continue()),
+        _ => return false,
+    }
+    true
+}
 
 /// The closure of a set by the folds.
-pub(crate) fn closed(alloc: Global, set: &str, tables: &Tables) -> Result<String, Fault> {
-    let closed = add_icase_code_points(read_set(alloc, set)?, tables)?;
-    Ok(written(alloc, closed.intervals())?)
+fn close(call: &mut Call, tables: &Tables) {
+    let set = call.set();
+    let alloc = call.alloc();
+    let closed = call.made(add_icase_code_points(set, tables), CodePointSet::new(alloc));
+    call.tell_intervals(closed.intervals());
 }
 
-/// The folds or the upper cases of code points.
-pub(crate) fn images(
-    alloc: Global,
-    call: &str,
-    points: &str,
-    tables: &Tables,
-) -> Result<String, Fault> {
-    let mut images = Vec::new(alloc);
-    for point in &read_points(alloc, points)? {
-        images.push(match call {
-            "fold" => fold(*point, tables),
-            _ => uppercase(*point, tables),
-        })?;
+/// The folds of code points.
+fn folds(call: &mut Call, tables: &Tables) {
+    for point in &call.points() {
+        call.tell(&fold(*point, tables));
     }
-    Ok(listed(alloc, &images)?)
 }
 
-/// The code points with the fold or the upper case of one.
-pub(crate) fn unfolded(
-    alloc: Global,
-    call: &str,
-    point: &str,
-    tables: &Tables,
-) -> Result<String, Fault> {
-    let point = read_point(point).ok_or(Fault::Line)?;
-    let points = match call {
-        "unfold" => unfold_char(alloc, point, tables)?,
-        _ => unfold_uppercase_char(alloc, point, tables)?,
-    };
-    Ok(listed(alloc, &points)?)
+/// The upper cases of code points.
+fn upper_cases(call: &mut Call, tables: &Tables) {
+    for point in &call.points() {
+        call.tell(&uppercase(*point, tables));
+    }
+}
+
+/// The code points with the fold of one.
+fn unfold(call: &mut Call, tables: &Tables) {
+    let alloc = call.alloc();
+    let point = call.point();
+    let points = call.made(unfold_char(alloc, point, tables), Vec::new(alloc));
+    call.tell_each(&points);
+}
+
+/// The code points with the upper case of one.
+fn unfold_upper(call: &mut Call, tables: &Tables) {
+    let alloc = call.alloc();
+    let point = call.point();
+    let points = call.made(unfold_uppercase_char(alloc, point, tables), Vec::new(alloc));
+    call.tell_each(&points);
 }
 
 /// The code points that a literal stands for.
-pub(crate) fn expanded(
-    alloc: Global,
-    flags: Flags,
-    point: &str,
-    tables: &Tables,
-) -> Result<String, Fault> {
-    let point = read_point(point).ok_or(Fault::Line)?;
-    let points = expand_code_point(alloc, point, flags.icase, flags.unicode, tables)?;
-    Ok(listed(alloc, &points)?)
+fn expand(call: &mut Call, tables: &Tables) {
+    let alloc = call.alloc();
+    let letters = call.field();
+    let flags = call.read(read_flags(letters), Flags::default());
+    let point = call.point();
+    let points = expand_code_point(alloc, point, flags.icase, flags.unicode, tables);
+    let points = call.made(points, Vec::new(alloc));
+    call.tell_each(&points);
 }
 
-/// Those of the code points with which names begin, or go on.
-pub(crate) fn names(
-    alloc: Global,
-    call: &str,
-    points: &str,
-    tables: &Tables,
-) -> Result<String, Fault> {
-    let set = match call {
-        "starts" => tables.id_start(),
-        _ => tables.id_continue(),
-    };
-    let mut found = Vec::new(alloc);
-    for point in &read_points(alloc, points)? {
+/// Those of the code points that are in a set.
+fn members(call: &mut Call, set: &CodePointSet) {
+    for point in &call.points() {
         if set.contains(*point) {
-            found.push(*point)?;
+            call.tell(point);
         }
     }
-    Ok(listed(alloc, &found)?)
 }

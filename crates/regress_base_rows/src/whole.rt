@@ -5,39 +5,51 @@ use crate::utf8::first_byte;
 use regress_base::bytesearch::ByteBitmap;
 use regress_base::codepointset::{CODE_POINT_MAX, CodePointSet, Interval};
 use regress_base::util::add_utf8_first_bytes_to_bitmap;
-use regress_notation::{Fault, Promise, check, read_points};
+use regress_notation::{Call, Fault, Promise};
 use regress_unicode::{Tables, add_icase_code_points, fold, unfold_char};
 use std::alloc::{AllocError, Global};
 
+/// Makes the call of this name, and answers whether there is one.
+pub(crate) fn answer(call: &mut Call, name: &str, tables: &Tables) -> bool {
+    match name {
+        "all" => check_all(call, tables),
+        "first_bytes_between" => first_bytes_between(call),
+        "closed_between" => closed_between(call, tables),
+        _ => return false,
+    }
+    call.say("so it is");
+    true
+}
+
 /// Says that each image is its own image, that planes 15 and 16 are their own images, or that each code point is unfolded
 /// to all that have its image and no others.
-pub(crate) fn checked(alloc: Global, what: &str, tables: &Tables) -> Result<String, Fault> {
-    match what {
+fn check_all(call: &mut Call, tables: &Tables) {
+    match call.field() {
         "images" => {
             for point in 0..=CODE_POINT_MAX {
                 let image = fold(point, tables);
-                check(fold(image, tables) == image, Promise::Idempotent)?;
+                call.check(fold(image, tables) == image, Promise::Idempotent);
             }
         }
         "planes 15 and 16 stay" => {
             for point in 0xF0000..=CODE_POINT_MAX {
-                check(fold(point, tables) == point, Promise::Idempotent)?;
+                call.check(fold(point, tables) == point, Promise::Idempotent);
             }
         }
-        "unfolding" => {
-            let moves = moves(alloc, tables)?;
-            for point in 0..=CODE_POINT_MAX {
-                let unfolded = unfold_char(alloc, point, tables)?;
-                let expected = with_image(alloc, &moves, fold(point, tables))?;
-                check(
-                    unfolded.as_slice() == expected.as_slice(),
-                    Promise::Unfolded,
-                )?;
-            }
-        }
-        _ => return Err(Fault::Line),
+        "unfolding" => check_unfolding(call, tables),
+        _ => call.fail(Fault::Line),
     }
-    Ok(String::from_str(alloc, "so it is")?)
+}
+
+fn check_unfolding(call: &mut Call, tables: &Tables) {
+    let alloc = call.alloc();
+    let moves = call.made(moves(alloc, tables), Vec::new(alloc));
+    for point in 0..=CODE_POINT_MAX {
+        let unfolded = call.made(unfold_char(alloc, point, tables), Vec::new(alloc));
+        let expected = with_image(alloc, &moves, fold(point, tables));
+        let expected = call.made(expected, Vec::new(alloc));
+        call.check(unfolded == expected, Promise::Unfolded);
+    }
 }
 
 /// A code point that another one is the fold of.
@@ -72,8 +84,8 @@ fn with_image(alloc: Global, moves: &[Move], image: u32) -> Result<Vec<u32>, All
 }
 
 /// Says that of each interval between two bounds the first bytes are those of its code points one by one.
-pub(crate) fn first_bytes_between(alloc: Global, bounds: &str) -> Result<String, Fault> {
-    let bounds = read_points(alloc, bounds)?;
+fn first_bytes_between(call: &mut Call) {
+    let bounds = call.points();
     for first in &bounds {
         let mut expected = ByteBitmap::default();
         let mut from = *first;
@@ -85,52 +97,52 @@ pub(crate) fn first_bytes_between(alloc: Global, bounds: &str) -> Result<String,
                 from = *last;
                 let mut bitmap = ByteBitmap::default();
                 add_utf8_first_bytes_to_bitmap(Interval::new(*first, *last), &mut bitmap);
-                check(bitmap == expected, Promise::FirstBytes)?;
+                call.check(bitmap == expected, Promise::FirstBytes);
             }
         }
     }
-    Ok(String::from_str(alloc, "so it is")?)
 }
 
 /// Says that each interval between two bounds is closed by all that have an image of one of its code points.
-pub(crate) fn closed_between(
-    alloc: Global,
-    bounds: &str,
-    tables: &Tables,
-) -> Result<String, Fault> {
-    let bounds = read_points(alloc, bounds)?;
-    let moves = moves(alloc, tables)?;
+fn closed_between(call: &mut Call, tables: &Tables) {
+    let alloc = call.alloc();
+    let bounds = call.points();
+    let moves = call.made(moves(alloc, tables), Vec::new(alloc));
     for first in &bounds {
         for last in &bounds {
             if first <= last && *last <= CODE_POINT_MAX {
-                let interval = Interval::new(*first, *last);
-                let mut set = CodePointSet::new(alloc);
-                set.add(interval)?;
-                let closed = add_icase_code_points(set, tables)?;
-                let expected = closure_of(alloc, interval, &moves)?;
-                check(closed == expected, Promise::Closed)?;
+                check_closure(call, tables, &moves, Interval::new(*first, *last));
             }
         }
     }
-    Ok(String::from_str(alloc, "so it is")?)
 }
 
-/// An interval, and what has an image of one of its code points.
-fn closure_of(
-    alloc: Global,
-    interval: Interval,
-    moves: &[Move],
-) -> Result<CodePointSet, AllocError> {
-    let mut closure = CodePointSet::new(alloc);
-    closure.add(interval)?;
+fn check_closure(call: &mut Call, tables: &Tables, moves: &[Move], interval: Interval) {
+    let set = set_of(call, interval);
+    let mut expected = set_of(call, interval);
+    let closed = add_icase_code_points(set, tables);
+    let closed = call.made(closed, CodePointSet::new(call.alloc()));
+    add_images(call, &mut expected, interval, moves);
+    call.check(closed == expected, Promise::Closed);
+}
+
+fn set_of(call: &mut Call, interval: Interval) -> CodePointSet {
+    let mut set = CodePointSet::new(call.alloc());
+    call.done(set.add(interval));
+    set
+}
+
+/// Adds what has an image of one of the interval's code points.
+fn add_images(call: &mut Call, closure: &mut CodePointSet, interval: Interval, moves: &[Move]) {
+    let alloc = call.alloc();
     for Move { from, to } in moves {
         if interval.contains(*from) || interval.contains(*to) {
-            for point in &with_image(alloc, moves, *to)? {
+            let points = call.made(with_image(alloc, moves, *to), Vec::new(alloc));
+            for point in &points {
                 if *point <= CODE_POINT_MAX {
-                    closure.add_one(*point)?;
+                    call.done(closure.add_one(*point));
                 }
             }
         }
     }
-    Ok(closure)
 }

@@ -3,7 +3,7 @@
 use std::alloc::{AllocError, AllocFailed};
 
 /// Why a call has no answer.
-#[derive(Debug, Drop)]
+#[derive(Clone, Copy, Debug)]
 pub enum Fault {
     /// The line is no call.
     Line,

@@ -1,43 +1,56 @@
 //! Patterns that are made by rule.
 
-use regress_notation::Fault;
+use crate::trees::optimize_watched;
+use regress_base::types::Flags;
+use regress_notation::{Call, Fault, Promise};
+use regress_parse::{ParseFault, try_parse};
+use regress_tree_rows::parts;
+use regress_unicode::Tables;
 use std::alloc::{AllocError, Global};
 
-/// A class of so many ranges of two, ascending or descending, or so many groups with names in a row.
-pub(crate) fn generated(alloc: Global, call: &str, number: u16) -> Result<Vec<u32>, Fault> {
-    let mut points = Vec::new(alloc);
-    match call {
-        "ascend" => {
-            points.push(u32::from('['))?;
-            for index in 0..number {
-                push_range(&mut points, u32::from(index))?;
-            }
-            points.push(u32::from(']'))?;
+/// The parts of the optimized tree of a large pattern, and the size of the first.
+pub(crate) fn parts_of_large(call: &mut Call, name: &str, flags: Flags, tables: &Tables) {
+    let alloc = call.alloc();
+    let number = call.number();
+    let points = call.made(generated(alloc, name, number), Vec::new(alloc));
+    let points = call.in_range(points);
+    match try_parse(alloc, &points, flags, tables) {
+        Ok(regex) => {
+            let mut regex = regex;
+            optimize_watched(call, &mut regex);
+            parts(call, &regex.node);
         }
-        "descend" => {
-            points.push(u32::from('['))?;
-            for index in 0..number {
-                push_range(&mut points, u32::from(number - index))?;
-            }
-            points.push(u32::from(']'))?;
-        }
-        _ => {
-            for index in 0..number {
-                let group = format!(in alloc; "(?<a{index}>x)")?;
-                for c in group.chars() {
-                    points.push(u32::from(c))?;
-                }
-            }
-        }
+        Err(ParseFault::Syntax(_)) => call.fail(Fault::Broken(Promise::ClassIsRead)),
+        Err(ParseFault::Memory(_)) => call.fail(Fault::Memory),
     }
+}
+
+/// A class of so many ranges of two, ascending or descending, or so many groups with names in a row.
+fn generated(alloc: Global, name: &str, number: u32) -> Result<Vec<u32>, AllocError> {
+    match name {
+        "ascend" => class(alloc, number, false),
+        "descend" => class(alloc, number, true),
+        _ => groups(alloc, number),
+    }
+}
+
+fn class(alloc: Global, number: u32, descends: bool) -> Result<Vec<u32>, AllocError> {
+    let mut points = vec![in alloc; u32::from('[')]?;
+    for index in 0..number {
+        let place = if descends { number - index } else { index };
+        let first = 0x80000u32.saturating_add(place.saturating_mul(3));
+        points.extend_from_slice(&[first, u32::from('-'), first.saturating_add(1)])?;
+    }
+    points.push(u32::from(']'))?;
     Ok(points)
 }
 
-/// The range of two of this number.
-fn push_range(points: &mut Vec<u32>, index: u32) -> Result<(), AllocError> {
-    let first = 0x80000u32.saturating_add(index.saturating_mul(3));
-    points.push(first)?;
-    points.push(u32::from('-'))?;
-    points.push(first.saturating_add(1))?;
-    Ok(())
+fn groups(alloc: Global, number: u32) -> Result<Vec<u32>, AllocError> {
+    let mut points = Vec::new(alloc);
+    for index in 0..number {
+        for c in format!(in alloc; "(?<a{index}>x)")?.chars() {
+            points.push(u32::from(c))?;
+        }
+    }
+    Ok(points)
 }

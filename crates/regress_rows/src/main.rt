@@ -12,35 +12,48 @@
 #![tactic(auto)]
 
 mod answer;
-mod failure;
 mod generated;
-mod lines;
 mod parsing;
-mod row;
 mod tables;
 mod tear;
 mod trees;
 
-use failure::{Failure, tell};
-use lines::{Tally, run_lines};
+use regress_notation::{Failure, run_lines};
 use std::io::{BufReader, BufWriter, Write};
 use std::process::ExitCode;
+use tables::TablesOfLines;
 
 fn main(rt: HostRuntime) -> ExitCode {
-    let status = match run(&rt) {
-        Ok(tally) => tally.status(),
-        Err(failure) => tell(&failure, &mut rt.stderr()),
-    };
-    ExitCode::from(status)
+    ExitCode::from(match run(&rt) {
+        Ok(status) => status,
+        Err(failure) => {
+            tell(failure, &mut rt.stderr());
+            failure.status()
+        }
+    })
 }
 
-/// Hands standard input and output to `run_lines`. Only want of memory keeps a buffer from being made.
-fn run(rt: &HostRuntime) -> Result<Tally, Failure> {
+/// Hands standard input and output to `run_lines`. Only want of memory keeps a buffer or a table from being made.
+fn run(rt: &HostRuntime) -> Result<u8, Failure> {
     let Ok(input) = BufReader::new(rt.alloc(), rt.stdin()) else {
         return Err(Failure::Memory);
     };
     let Ok(mut out) = BufWriter::new(rt.alloc(), rt.stdout()) else {
         return Err(Failure::Memory);
     };
-    run_lines(rt.alloc(), input, &mut out)
+    let Ok(mut tables) = TablesOfLines::new(rt.alloc()) else {
+        return Err(Failure::Memory);
+    };
+    run_lines(rt.alloc(), input, &mut out, &mut tables)
+}
+
+/// Writes what a failure has to say to `err`. A failing write changes nothing.
+fn tell<E: Write>(failure: Failure, err: &mut E) {
+    let _ = match failure {
+        Failure::Line(number) => writeln!(err, "line {number} has no form of a line"),
+        Failure::Memory => err.write_all(b"out of memory\n"),
+        Failure::Input => err.write_all(b"the lines can't be read\n"),
+        Failure::Output => Ok(()),
+        Failure::NoLine => err.write_all(b"no line was read\n"),
+    };
 }

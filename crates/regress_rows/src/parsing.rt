@@ -1,59 +1,58 @@
 //! From what a line writes to a tree.
-ghost use Rattle.std.specs.Prelude.{◌≤◌, All, IfOk};
+ghost use Rattle.std.specs.Prelude.{IfSome};
 ghost use Rattle.regress_tree.specs.Tree.{tree};
 ghost use Rattle.regress_tree.specs.WellFormed.{IsWellFormed};
 
-use regress_base::codepointset::CODE_POINT_MAX;
 use regress_base::types::Flags;
-use regress_notation::{Fault, Promise, check, read_pattern};
+use regress_notation::{Call, Fault, Promise};
 use regress_parse::{Error, ParseFault, PlacedFault, try_parse, try_parse_with_place};
 use regress_tree::ir::Regex;
 use regress_unicode::Tables;
-use std::alloc::Global;
 
-/// The code points that a line writes as a pattern.
-pub(crate) fn points_in(alloc: Global, pattern: &str) -> Result<Vec<u32>, Fault>
-    ensures { IfOk result (λ points. All (λ c. c ≤ CODE_POINT_MAX) points.items) }
+/// The tree of a pattern; where it has none, its fault is told.
+pub(crate) fn read_tree(call: &mut Call, flags: Flags, tables: &Tables) -> Option<Regex>
+    ensures { IfSome result (λ regex. IsWellFormed (tree regex.node)) }
 {
-    read_pattern(alloc, pattern)?.ok_or(Fault::Line)
-}
-
-/// The tree of a pattern, or its fault.
-pub(crate) fn tree_of(
-    alloc: Global,
-    flags: Flags,
-    pattern: &str,
-    tables: &Tables,
-) -> Result<Result<Regex, Error>, Fault>
-    ensures { IfOk result (λ found. IfOk found (λ regex. IsWellFormed (tree regex.node))) }
-{
-    let points = points_in(alloc, pattern)?;
-    match try_parse(alloc, &points, flags, tables) {
-        Ok(regex) => Ok(Ok(regex)),
-        Err(ParseFault::Syntax(error)) => Ok(Err(error)),
-        Err(ParseFault::Memory(_)) => Err(Fault::Memory),
+    let points = call.pattern();
+    match try_parse(call.alloc(), &points, flags, tables) {
+        Ok(regex) => Some(regex),
+        Err(fault) => {
+            tell_fault(call, fault);
+            None
+        }
     }
 }
 
-/// A fault as lines write it, by a copy of its text.
-pub(crate) fn told(alloc: Global, error: Error) -> Result<String, Fault> {
-    let copy = error.try_clone(alloc)?;
-    check(copy == error, Promise::CopyIsEqual)?;
-    let fault = ParseFault::Syntax(copy);
-    Ok(format!(in alloc; "error: {fault}")?)
+/// Adds a fault as lines write it, by a copy of its text.
+pub(crate) fn tell_fault(call: &mut Call, fault: ParseFault) {
+    match fault {
+        ParseFault::Syntax(error) => {
+            let copy = copy_of(call, &error);
+            call.check(copy == error, Promise::CopyIsEqual);
+            call.say("error: ");
+            call.add(&ParseFault::Syntax(copy));
+        }
+        ParseFault::Memory(_) => call.fail(Fault::Memory),
+    }
+}
+
+fn copy_of(call: &mut Call, error: &Error) -> Error {
+    let alloc = call.alloc();
+    let nothing = Error {
+        text: String::new(alloc),
+    };
+    call.made(error.try_clone(alloc), nothing)
 }
 
 /// Where a pattern's fault is, and its text.
-pub(crate) fn placed(
-    alloc: Global,
-    flags: Flags,
-    pattern: &str,
-    tables: &Tables,
-) -> Result<String, Fault> {
-    let points = points_in(alloc, pattern)?;
-    match try_parse_with_place(alloc, &points, flags, tables) {
-        Ok(_) => Ok(String::from_str(alloc, "a tree")?),
-        Err(PlacedFault::Syntax { error, place }) => Ok(format!(in alloc; "{place} {error}")?),
-        Err(PlacedFault::Memory(_)) => Err(Fault::Memory),
+pub(crate) fn find_fault(call: &mut Call, flags: Flags, tables: &Tables) {
+    let points = call.pattern();
+    match try_parse_with_place(call.alloc(), &points, flags, tables) {
+        Ok(_) => call.say("a tree"),
+        Err(PlacedFault::Syntax { error, place }) => {
+            call.tell(&place);
+            call.tell(&error);
+        }
+        Err(PlacedFault::Memory(_)) => call.fail(Fault::Memory),
     }
 }

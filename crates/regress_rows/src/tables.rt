@@ -1,5 +1,7 @@
 //! The tables that lines ask for.
 
+use crate::answer::difference_over;
+use regress_notation::{Fault, Lines};
 use regress_ucd::unicode_tables;
 use regress_unicode::Tables;
 use std::alloc::{AllocError, Global};
@@ -20,18 +22,6 @@ impl TablesOfLines {
         })
     }
 
-    /// The table that a line asks for, and what the line says of it: all of Unicode behind `unicode`, else the small one.
-    pub(crate) fn asked_by<'a>(
-        &mut self,
-        alloc: Global,
-        line: &'a str,
-    ) -> Result<(&Tables, &'a str), AllocError> {
-        match line.strip_prefix("unicode\t") {
-            Some(rest) => Ok((self.unicode(alloc)?, rest)),
-            None => Ok((&self.small, line)),
-        }
-    }
-
     /// The table of all of Unicode, made if no line has asked for it before.
     fn unicode(&mut self, alloc: Global) -> Result<&Tables, AllocError> {
         let made = match self.unicode.take() {
@@ -39,5 +29,18 @@ impl TablesOfLines {
             None => unicode_tables(alloc)?,
         };
         Ok(self.unicode.insert(made))
+    }
+}
+
+/// A line is over the table of all of Unicode behind `unicode`, else over the small one.
+impl Lines for TablesOfLines {
+    fn difference(&mut self, alloc: Global, line: &str) -> Result<Option<String>, Fault> {
+        let Some(rest) = line.strip_prefix("unicode\t") else {
+            return difference_over(alloc, line, &self.small);
+        };
+        match self.unicode(alloc) {
+            Ok(tables) => difference_over(alloc, rest, tables),
+            Err(_) => Err(Fault::Memory),
+        }
     }
 }

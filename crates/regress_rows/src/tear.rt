@@ -1,10 +1,9 @@
 //! Patterns that are torn: cut, with a code point twice, with two swapped.
-ghost use Rattle.std.specs.Prelude.{◌≤◌, All, IfOk};
+ghost use Rattle.std.specs.Prelude.{◌≤◌, All};
 
-use crate::parsing::points_in;
 use regress_base::codepointset::CODE_POINT_MAX;
 use regress_base::types::Flags;
-use regress_notation::{Fault, Promise, check};
+use regress_notation::{Call, Fault, Promise};
 use regress_opt::parse_and_optimize;
 use regress_parse::ParseFault;
 use regress_unicode::Tables;
@@ -22,69 +21,64 @@ enum Tear {
 }
 
 /// Says that each pattern that comes of tearing one, under all flags, has a tree or a fault.
-pub(crate) fn torn(alloc: Global, pattern: &str, tables: &Tables) -> Result<String, Fault> {
-    let points = points_in(alloc, pattern)?;
-    for tear in [Tear::Cut, Tear::Double, Tear::Swap] {
-        for at in 0..points.len() {
-            let torn = in_range(torn_at(alloc, &points, tear, at)?)?;
-            parse_under_all_flags(alloc, &torn, tables)?;
-        }
+pub(crate) fn parse_all_torn(call: &mut Call, tables: &Tables) {
+    let points = call.pattern();
+    for place in 0..points.len() {
+        parse_torn(call, tables, &points, Tear::Cut, place);
+        parse_torn(call, tables, &points, Tear::Double, place);
+        parse_torn(call, tables, &points, Tear::Swap, place);
     }
-    Ok(String::from_str(alloc, "a tree or a fault")?)
+    call.say("a tree or a fault");
+}
+
+fn parse_torn(call: &mut Call, tables: &Tables, points: &[u32], tear: Tear, place: usize) {
+    let alloc = call.alloc();
+    let torn = call.made(torn_at(alloc, points, tear, place), Vec::new(alloc));
+    let torn = call.in_range(torn);
+    for number in 0..32u8 {
+        parse_under(call, &torn, flags_of(number), tables);
+    }
 }
 
 /// The pattern, torn at a place.
-fn torn_at(alloc: Global, points: &[u32], tear: Tear, at: usize) -> Result<Vec<u32>, AllocError> {
-    let mut torn = Vec::new(alloc);
-    for (place, point) in points.iter().enumerate() {
-        match tear {
-            Tear::Cut if place > at => {}
-            Tear::Double if place == at => {
-                torn.push(*point)?;
-                torn.push(*point)?;
-            }
-            Tear::Swap if place == at => {}
-            Tear::Swap if at < place && place - at == 1 => {
-                torn.push(*point)?;
-                if let Some(before) = points.get(at) {
-                    torn.push(*before)?;
-                }
-            }
-            _ => torn.push(*point)?,
+fn torn_at(
+    alloc: Global,
+    points: &[u32],
+    tear: Tear,
+    place: usize,
+) -> Result<Vec<u32>, AllocError> {
+    let (front, back) = points.split_at_checked(place).unwrap_or((points, &[]));
+    let mut torn = Vec::from_slice(alloc, front)?;
+    match (tear, back) {
+        (Tear::Cut, [first, ..]) => torn.push(*first)?,
+        (Tear::Double, [first, ..]) => {
+            torn.push(*first)?;
+            torn.extend_from_slice(back)?;
         }
+        (Tear::Swap, [first, second, rest @ ..]) => {
+            torn.push(*second)?;
+            torn.push(*first)?;
+            torn.extend_from_slice(rest)?;
+        }
+        _ => {}
     }
     Ok(torn)
 }
 
-/// The numbers, if each is a code point.
-pub(crate) fn in_range(points: Vec<u32>) -> Result<Vec<u32>, Fault>
-    ensures { IfOk result (λ points. All (λ c. c ≤ CODE_POINT_MAX) points.items) }
-{
-    if points.iter().all(|c| *c <= CODE_POINT_MAX) {
-        Ok(points)
-    } else {
-        Err(Fault::Line)
-    }
-}
-
-/// Under each set of flags the pattern has an optimized tree, which is well formed, or a fault.
-fn parse_under_all_flags(alloc: Global, points: &[u32], tables: &Tables) -> Result<(), Fault>
+/// Says that the pattern has an optimized tree, which is well formed, or a fault.
+fn parse_under(call: &mut Call, points: &[u32], flags: Flags, tables: &Tables)
     requires { All (λ c. c ≤ CODE_POINT_MAX) points.now }
 {
-    for number in 0..32u8 {
-        let flags = flags_of(number);
-        match parse_and_optimize(alloc, points, flags, tables) {
-            Ok((regex, done)) => {
-                done?;
-                check(regex.is_well_formed(), Promise::WellFormed)?;
-            }
-            Err(ParseFault::Syntax(error)) => {
-                check(!error.text.is_empty(), Promise::FaultIsTold)?;
-            }
-            Err(ParseFault::Memory(_)) => return Err(Fault::Memory),
+    match parse_and_optimize(call.alloc(), points, flags, tables) {
+        Ok((regex, done)) => {
+            call.done(done);
+            call.check(regex.is_well_formed(), Promise::WellFormed);
         }
+        Err(ParseFault::Syntax(error)) => {
+            call.check(!error.text.is_empty(), Promise::FaultIsTold);
+        }
+        Err(ParseFault::Memory(_)) => call.fail(Fault::Memory),
     }
-    Ok(())
 }
 
 /// The flags whose bits are set, in the order of `imsuv`.

@@ -2,129 +2,167 @@
 ghost use Rattle.regress_tree.specs.Tree.{tree};
 ghost use Rattle.regress_tree.specs.WellFormed.{IsWellFormed};
 
-use crate::parsing::{points_in, told, tree_of};
+use crate::parsing::{read_tree, tell_fault};
 use regress_base::types::Flags;
-use regress_notation::{Fault, Promise, check};
+use regress_notation::{Call, Fault, Promise};
 use regress_opt::{optimize, parse_and_optimize};
-use regress_parse::ParseFault;
 use regress_tree::ir::Regex;
 use regress_tree_rows::{
-    Census, asked, check_kept, first_part, in_one_line, is_changed, is_normal, is_same, parts,
-    passed, rewritten, turned,
+    Census, ask, check_kept, first_part, is_changed, is_normal, is_same, parts, pass, rewrite,
+    tell_tree, turn,
 };
 use regress_unicode::Tables;
-use std::alloc::{AllocError, Global};
 
-/// What a call comes to on the parsed tree of a pattern, or its fault.
-pub(crate) fn answered(
-    alloc: Global,
-    call: &str,
-    flags: Flags,
-    pattern: &str,
-    tables: &Tables,
-) -> Result<String, Fault> {
-    match tree_of(alloc, flags, pattern, tables)? {
-        Ok(regex) => on_tree(alloc, call, regex),
-        Err(error) => told(alloc, error),
+/// The parsed tree of a row's pattern or its fault and, if it is asked for, a tab and the optimized tree, which each
+/// rewrite leaves as it is.
+pub(crate) fn tell_trees(call: &mut Call, flags: Flags, with_second: bool, tables: &Tables) {
+    let Some(regex) = read_tree(call, flags, tables) else {
+        return;
+    };
+    tell_tree(call, &regex);
+    if with_second {
+        call.say("\t");
+        tell_settled(call, regex);
     }
 }
 
-fn on_tree(alloc: Global, call: &str, regex: Regex) -> Result<String, Fault>
+fn tell_settled(call: &mut Call, regex: Regex)
     requires { IsWellFormed (tree regex.node) }
 {
     let mut regex = regex;
-    check(regex.is_well_formed(), Promise::WellFormed)?;
-    match call {
-        "parse" => {}
-        "optimize" => optimize_watched(alloc, &mut regex)?,
-        "copy" => {
-            let copy = regex.try_clone(alloc)?;
-            check(copy.flags == regex.flags, Promise::CopyIsEqual)?;
-            return Ok(in_one_line(alloc, &copy)?);
+    optimize_watched(call, &mut regex);
+    tell_tree(call, &regex);
+    check_settled(call, &mut regex);
+}
+
+/// Makes a call on the parsed tree of a pattern, or tells its fault.
+pub(crate) fn make_on_tree(call: &mut Call, name: &str, flags: Flags, tables: &Tables) {
+    if let Some(regex) = read_tree(call, flags, tables) {
+        let mut regex = regex;
+        call.check(regex.is_well_formed(), Promise::WellFormed);
+        if !make_on_parsed(call, name, &regex) {
+            make_on_changed(call, name, &mut regex);
         }
-        "units" => {
-            let Census { units, .. } = Census::of(alloc, &regex.try_clone(alloc)?.node)?;
-            return Ok(format!(in alloc; "{units}")?);
+    }
+}
+
+/// Makes a call on a tree that stays as it is, and answers whether there is one.
+fn make_on_parsed(call: &mut Call, name: &str, regex: &Regex) -> bool
+    requires { IsWellFormed (tree regex.now.node) }
+{
+    match name {
+        "parse" => tell_tree(call, regex),
+        "copy" => copy(call, regex),
+        "units" => units(call, regex),
+        "pass" => pass(call, regex),
+        "first" => call.show(first_part(first_part(&regex.node))),
+        "ask" => ask(call, first_part(&regex.node)),
+        "turn" => turn(call, regex),
+        _ => return false,
+    }
+    true
+}
+
+fn make_on_changed(call: &mut Call, name: &str, regex: &mut Regex)
+    requires { IsWellFormed (tree regex.old.node) }
+{
+    match name {
+        "optimize" => {
+            optimize_watched(call, regex);
+            tell_tree(call, regex);
         }
-        "pass" => return passed(alloc, &regex),
-        "count" => return counted(alloc, regex),
+        "count" => count(call, regex),
         "settled" => {
-            optimize_watched(alloc, &mut regex)?;
-            check(is_settled(alloc, &mut regex)?, Promise::Settled)?;
-            return Ok(String::from_str(alloc, "so it is")?);
+            optimize_watched(call, regex);
+            check_settled(call, regex);
+            call.say("so it is");
         }
         "parts" => {
-            optimize_watched(alloc, &mut regex)?;
-            return parts(alloc, &regex.node);
+            optimize_watched(call, regex);
+            parts(call, &regex.node);
         }
-        "first" => {
-            let leaf = first_part(first_part(&regex.node));
-            return Ok(format!(in alloc; "{leaf:?}")?);
-        }
-        "ask" => return asked(alloc, first_part(&regex.node)),
-        "turn" => return turned(alloc, regex),
-        _ => return rewritten(alloc, call, regex),
+        _ => rewrite(call, name, regex),
     }
-    Ok(in_one_line(alloc, &regex)?)
+}
+
+fn copy(call: &mut Call, regex: &Regex) {
+    match regex.try_clone(call.alloc()) {
+        Ok(copy) => {
+            call.check(copy.flags == regex.flags, Promise::CopyIsEqual);
+            tell_tree(call, &copy);
+        }
+        Err(_) => call.fail(Fault::Memory),
+    }
+}
+
+/// The units of a copy.
+fn units(call: &mut Call, regex: &Regex) {
+    match regex.try_clone(call.alloc()) {
+        Ok(copy) => {
+            let census = Census::of(call, &copy.node);
+            call.tell(&census.units);
+        }
+        Err(_) => call.fail(Fault::Memory),
+    }
 }
 
 /// The units of the parsed tree, those of the optimized one, and the loops in that.
-fn counted(alloc: Global, regex: Regex) -> Result<String, Fault>
-    requires { IsWellFormed (tree regex.node) }
+fn count(call: &mut Call, regex: &mut Regex)
+    requires { IsWellFormed (tree regex.old.node) }
 {
-    let mut regex = regex;
-    let before = Census::of(alloc, &regex.node)?.units;
-    optimize_watched(alloc, &mut regex)?;
-    let Census { units, loops, .. } = Census::of(alloc, &regex.node)?;
-    Ok(format!(in alloc; "{before} {units} {loops}")?)
+    let before = Census::of(call, &regex.node);
+    optimize_watched(call, regex);
+    let after = Census::of(call, &regex.node);
+    call.tell(&before.units);
+    call.tell(&after.units);
+    call.tell(&after.loops);
 }
 
 /// Optimizes a tree. Where memory is wanting, all but the normal form is kept, and a second call reaches that too.
-pub(crate) fn optimize_watched(alloc: Global, regex: &mut Regex) -> Result<(), Fault>
+pub(crate) fn optimize_watched(call: &mut Call, regex: &mut Regex)
     requires { IsWellFormed (tree regex.old.node) }
     ensures { IsWellFormed (tree regex.new.node) }
 {
-    let before = Census::of(alloc, &regex.node)?;
-    let answer = optimize(alloc, regex);
-    check_kept(alloc, regex, &before)?;
+    let before = Census::of(call, &regex.node);
+    let answer = optimize(call.alloc(), regex);
+    check_kept(call, regex, &before);
     if answer.is_err() {
-        optimize(alloc, regex)?;
-        check_kept(alloc, regex, &before)?;
+        let again = optimize(call.alloc(), regex);
+        call.done(again);
+        check_kept(call, regex, &before);
     }
-    check(is_normal(&regex.node), Promise::Normal)?;
-    if answer.is_err() {
-        return Err(Fault::Memory);
-    }
-    Ok(())
+    call.check(is_normal(&regex.node), Promise::Normal);
+    call.done(answer);
 }
 
 /// The optimized tree of a pattern, or its fault, by one call.
-pub(crate) fn whole(
-    alloc: Global,
-    flags: Flags,
-    pattern: &str,
-    tables: &Tables,
-) -> Result<String, Fault> {
-    let points = points_in(alloc, pattern)?;
-    match parse_and_optimize(alloc, &points, flags, tables) {
+pub(crate) fn whole(call: &mut Call, flags: Flags, tables: &Tables) {
+    let points = call.pattern();
+    match parse_and_optimize(call.alloc(), &points, flags, tables) {
         Ok((regex, optimized)) => {
-            check(regex.is_well_formed(), Promise::WellFormed)?;
-            check(regex.flags == flags, Promise::CopyIsEqual)?;
-            optimized?;
-            Ok(in_one_line(alloc, &regex)?)
+            call.check(regex.is_well_formed(), Promise::WellFormed);
+            call.check(regex.flags == flags, Promise::CopyIsEqual);
+            call.done(optimized);
+            tell_tree(call, &regex);
         }
-        Err(ParseFault::Syntax(error)) => told(alloc, error),
-        Err(ParseFault::Memory(_)) => Err(Fault::Memory),
+        Err(fault) => tell_fault(call, fault),
     }
 }
 
-/// Whether each of the rewrites answers that it changes nothing, and neither they nor `optimize` change a node.
-pub(crate) fn is_settled(alloc: Global, regex: &mut Regex) -> Result<bool, AllocError>
+/// Says that each of the rewrites answers that it changes nothing, and neither they nor `optimize` change a node.
+fn check_settled(call: &mut Call, regex: &mut Regex)
     requires { IsWellFormed (tree regex.old.node) }
 {
-    let before = regex.try_clone(alloc)?;
-    let changed = is_changed(alloc, regex)?;
-    let kept = is_same(&regex.node, &before.node);
-    optimize(alloc, regex)?;
-    Ok(!changed && kept && is_same(&regex.node, &before.node))
+    let Ok(before) = regex.try_clone(call.alloc()) else {
+        call.fail(Fault::Memory);
+        return;
+    };
+    let changed = is_changed(call, regex);
+    call.check(
+        !changed && is_same(&regex.node, &before.node),
+        Promise::Settled,
+    );
+    let again = optimize(call.alloc(), regex);
+    call.done(again);
+    call.check(is_same(&regex.node, &before.node), Promise::Settled);
 }

@@ -1,8 +1,9 @@
 //! What a tree has, by a plain walk.
 
 use regress_base::types::CaptureGroupName;
+use regress_notation::{Call, Fault};
 use regress_tree::ir::{Node, Walk, walk};
-use std::alloc::{AllocError, Global};
+use std::alloc::AllocError;
 use std::fmt::Write;
 
 /// How many units a loop may add that must take a turn.
@@ -23,12 +24,12 @@ pub struct Census {
 
 impl Census {
     /// Takes a walk over the tree.
-    pub fn of(alloc: Global, node: &Node) -> Result<Census, AllocError> {
+    pub fn of(call: &mut Call, node: &Node) -> Census {
         let mut census = Census {
             units: 0,
             loops: 0,
             taken: 0,
-            groups: String::new(alloc),
+            groups: String::new(call.alloc()),
         };
         let mut wanting = false;
         walk(
@@ -42,9 +43,9 @@ impl Census {
             },
         );
         if wanting {
-            return Err(AllocError);
+            call.fail(Fault::Memory);
         }
-        Ok(census)
+        census
     }
 
     fn count(&mut self, node: &Node) -> Result<(), AllocError> {

@@ -4,6 +4,7 @@
 
 mod census;
 mod literals;
+mod named;
 mod nodes;
 mod printing;
 mod rewriting;
@@ -12,9 +13,10 @@ mod shapes;
 mod wanting;
 
 pub use census::Census;
-pub use literals::lowered;
-pub use nodes::{asked, duplicated, first_part, named, parts, printed_bytes, turned};
-pub use printing::in_one_line;
-pub use rewriting::{check_kept, is_changed, passed, rewritten};
+pub use literals::{copy_pieces, lower};
+pub use named::answer;
+pub use nodes::{ask, first_part, parts, turn};
+pub use printing::tell_tree;
+pub use rewriting::{check_kept, is_changed, pass, rewrite};
 pub use same::is_same;
 pub use shapes::is_normal;

@@ -1,34 +1,39 @@
 //! Lowered literals.
-ghost use Rattle.std.specs.Prelude.{◌≤◌, All};
 
-use crate::printing::in_one_line;
-use regress_base::codepointset::CODE_POINT_MAX;
+use crate::printing::tell_tree;
 use regress_base::types::Flags;
 use regress_literal::literal::{Piece, lower_code_point_sequence};
-use regress_notation::{Fault, Promise, check};
+use regress_notation::{Call, Fault, Promise};
 use regress_tree::ir::{Node, Regex};
 use regress_unicode::Tables;
-use std::alloc::Global;
 
-/// The nodes of lowered literals, in a `Cat`, or how copies of their pieces are shown.
-pub fn lowered(
-    alloc: Global,
-    call: &str,
-    flags: Flags,
-    points: &[u32],
-    tables: &Tables,
-) -> Result<String, Fault>
-    requires { All (λ c. c ≤ CODE_POINT_MAX) points.now }
-{
-    let pieces = lower_code_point_sequence(alloc, points, flags.icase, flags.unicode, tables)?;
-    if call == "lower" {
-        let node = Node::Cat(Piece::into_nodes(alloc, pieces)?);
-        return Ok(in_one_line(alloc, &Regex { node, flags })?);
-    }
+/// The nodes of lowered literals, in a `Cat`.
+pub fn lower(call: &mut Call, flags: Flags, tables: &Tables) {
+    let alloc = call.alloc();
+    let pieces = lowered(call, flags, tables);
+    let nodes = call.made(Piece::into_nodes(alloc, pieces), Vec::new(alloc));
+    let node = Node::Cat(nodes);
+    tell_tree(call, &Regex { node, flags });
+}
+
+/// How copies of the pieces of lowered literals are shown.
+pub fn copy_pieces(call: &mut Call, flags: Flags, tables: &Tables) {
+    let alloc = call.alloc();
+    let pieces = lowered(call, flags, tables);
     let mut copies = Vec::new(alloc);
     for piece in &pieces {
-        copies.push(piece.try_clone(alloc)?)?;
+        let copy = call.made(piece.try_clone(alloc), Piece::Char(0));
+        if copies.push(copy).is_err() {
+            call.fail(Fault::Memory);
+        }
     }
-    check(copies == pieces, Promise::CopyIsEqual)?;
-    Ok(format!(in alloc; "{copies:?}")?)
+    call.check(copies == pieces, Promise::CopyIsEqual);
+    call.show(&copies);
+}
+
+fn lowered(call: &mut Call, flags: Flags, tables: &Tables) -> Vec<Piece> {
+    let alloc = call.alloc();
+    let points = call.pattern();
+    let pieces = lower_code_point_sequence(alloc, &points, flags.icase, flags.unicode, tables);
+    call.made(pieces, Vec::new(alloc))
 }

@@ -3,80 +3,105 @@ ghost use Rattle.regress_tree.specs.Tree.{tree};
 ghost use Rattle.regress_tree.specs.WellFormed.{IsWellFormed};
 
 use crate::census::Census;
-use crate::printing::in_one_line;
+use crate::printing::tell_tree;
 use crate::wanting::Wanting;
-use regress_notation::{Fault, Promise, check};
+use regress_notation::{Call, Fault, Promise};
 use regress_rewrite::rewrites::{
     Flatten, FormLiteralBytes, Promote1CharLoops, PropagateEarlyFails, RemoveEmpties,
     SimplifyBrackets, UnrollLoops,
 };
 use regress_rewrite::{Rewrite, run_pass};
 use regress_tree::ir::Regex;
-use std::alloc::{AllocError, Global};
 
 /// What two passes of a rewrite answer, and the tree behind them.
-pub fn rewritten(alloc: Global, rewrite: &str, regex: Regex) -> Result<String, Fault>
-    requires { IsWellFormed (tree regex.node) }
+pub fn rewrite(call: &mut Call, name: &str, regex: &mut Regex)
+    requires { IsWellFormed (tree regex.old.node) }
 {
-    match rewrite {
-        "simplify_brackets" => run_twice(alloc, regex, &mut SimplifyBrackets { alloc }),
-        "flatten" => run_twice(alloc, regex, &mut Flatten { alloc }),
-        "unroll_loops" => run_twice(alloc, regex, &mut UnrollLoops { alloc }),
-        "promote_1char_loops" => run_twice(alloc, regex, &mut Promote1CharLoops { alloc }),
-        "form_literal_bytes" => run_twice(alloc, regex, &mut FormLiteralBytes { alloc }),
-        "remove_empties" => run_twice(alloc, regex, &mut RemoveEmpties),
-        "propagate_early_fails" => run_twice(alloc, regex, &mut PropagateEarlyFails { alloc }),
-        _ => Err(Fault::Line),
+    let alloc = call.alloc();
+    match name {
+        "simplify_brackets" => run_twice(call, regex, &mut SimplifyBrackets { alloc }),
+        "flatten" => run_twice(call, regex, &mut Flatten { alloc }),
+        "unroll_loops" => run_twice(call, regex, &mut UnrollLoops { alloc }),
+        "promote_1char_loops" => run_twice(call, regex, &mut Promote1CharLoops { alloc }),
+        "form_literal_bytes" => run_twice(call, regex, &mut FormLiteralBytes { alloc }),
+        "remove_empties" => run_twice(call, regex, &mut RemoveEmpties),
+        "propagate_early_fails" => run_twice(call, regex, &mut PropagateEarlyFails { alloc }),
+        _ => call.fail(Fault::Line),
     }
 }
 
-fn run_twice<R: Rewrite>(alloc: Global, regex: Regex, pass: &mut R) -> Result<String, Fault>
-    requires { IsWellFormed (tree regex.node) }
+fn run_twice<R: Rewrite>(call: &mut Call, regex: &mut Regex, rewrite: &mut R)
+    requires { IsWellFormed (tree regex.old.node) }
 {
-    let mut regex = regex;
-    let first = run_pass(&mut regex, pass)?;
-    let second = run_pass(&mut regex, pass)?;
-    let line = in_one_line(alloc, &regex)?;
-    Ok(format!(in alloc; "{first} {second} {line}")?)
+    let first = changes(call, regex, rewrite);
+    let second = changes(call, regex, rewrite);
+    call.tell(&first);
+    call.tell(&second);
+    call.say(" ");
+    tell_tree(call, regex);
 }
 
-/// Whether one of the rewrites answers that it changes the tree.
-pub fn is_changed(alloc: Global, regex: &mut Regex) -> Result<bool, AllocError>
+/// Whether a rewrite answers that it changes the tree.
+fn changes<R: Rewrite>(call: &mut Call, regex: &mut Regex, rewrite: &mut R) -> bool
     requires { IsWellFormed (tree regex.old.node) }
     ensures { IsWellFormed (tree regex.new.node) }
 {
-    Ok(
-        run_pass(regex, &mut SimplifyBrackets { alloc })?
-            || run_pass(regex, &mut Flatten { alloc })?
-            || run_pass(regex, &mut UnrollLoops { alloc })?
-            || run_pass(regex, &mut Promote1CharLoops { alloc })?
-            || run_pass(regex, &mut FormLiteralBytes { alloc })?
-            || run_pass(regex, &mut RemoveEmpties)?
-            || run_pass(regex, &mut PropagateEarlyFails { alloc })?,
-    )
+    let answer = run_pass(regex, rewrite);
+    call.made(answer, false)
+}
+
+/// Whether one of the rewrites answers that it changes the tree.
+pub fn is_changed(call: &mut Call, regex: &mut Regex) -> bool
+    requires { IsWellFormed (tree regex.old.node) }
+    ensures { IsWellFormed (tree regex.new.node) }
+{
+    let alloc = call.alloc();
+    changes(call, regex, &mut SimplifyBrackets { alloc })
+        || changes(call, regex, &mut Flatten { alloc })
+        || changes(call, regex, &mut UnrollLoops { alloc })
+        || changes(call, regex, &mut Promote1CharLoops { alloc })
+        || changes(call, regex, &mut FormLiteralBytes { alloc })
+        || changes(call, regex, &mut RemoveEmpties)
+        || changes(call, regex, &mut PropagateEarlyFails { alloc })
 }
 
 /// The flattened tree, after passes for which memory is wanting at the first node, at the second, and so on.
-pub fn passed(alloc: Global, regex: &Regex) -> Result<String, Fault>
+pub fn pass(call: &mut Call, regex: &Regex)
     requires { IsWellFormed (tree regex.now.node) }
 {
-    let before = Census::of(alloc, &regex.node)?;
+    let before = Census::of(call, &regex.node);
     for nodes in 0..1000 {
-        let mut copy = regex.try_clone(alloc)?;
-        let rewrite = Flatten { alloc };
-        let answer = run_pass(&mut copy, &mut Wanting { nodes, rewrite });
-        check_kept(alloc, &copy, &before)?;
-        if answer.is_ok() {
-            return Ok(in_one_line(alloc, &copy)?);
+        let Ok(copy) = regex.try_clone(call.alloc()) else {
+            call.fail(Fault::Memory);
+            return;
+        };
+        if is_passed(call, copy, nodes, &before) {
+            return;
         }
     }
-    Err(Fault::Broken(Promise::PassEnds))
+    call.fail(Fault::Broken(Promise::PassEnds));
+}
+
+fn is_passed(call: &mut Call, regex: Regex, nodes: usize, before: &Census) -> bool
+    requires { IsWellFormed (tree regex.node) }
+{
+    let mut regex = regex;
+    let rewrite = Flatten {
+        alloc: call.alloc(),
+    };
+    let answer = run_pass(&mut regex, &mut Wanting { nodes, rewrite });
+    check_kept(call, &regex, before);
+    if answer.is_err() {
+        return false;
+    }
+    tell_tree(call, &regex);
+    true
 }
 
 /// What holds of a rewritten tree whatever is answered.
-pub fn check_kept(alloc: Global, regex: &Regex, before: &Census) -> Result<(), Fault> {
-    let after = Census::of(alloc, &regex.node)?;
-    check(regex.is_well_formed(), Promise::WellFormed)?;
-    check(after.has_groups_of(before), Promise::GroupsAreKept)?;
-    check(after.is_within_bound_of(before), Promise::WithinBound)
+pub fn check_kept(call: &mut Call, regex: &Regex, before: &Census) {
+    let after = Census::of(call, &regex.node);
+    call.check(regex.is_well_formed(), Promise::WellFormed);
+    call.check(after.has_groups_of(before), Promise::GroupsAreKept);
+    call.check(after.is_within_bound_of(before), Promise::WithinBound);
 }
