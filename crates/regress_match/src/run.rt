@@ -57,6 +57,8 @@ pub fn run(
         )?;
         match settle(alloc, text, rules, next, captures, budget)? {
             Settled::On(to, with) => {
+                // one task may go over many characters
+                *budget = budget.saturating_sub(to.abs_diff(place) as u64);
                 place = to;
                 task = with;
             }
