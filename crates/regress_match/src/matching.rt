@@ -79,7 +79,8 @@ pub enum Outcome {
     OutOfSteps,
 }
 
-/// Matches a pattern from the byte place on, with no group set, in at most so many steps. The error is want of memory.
+/// Matches a pattern from the byte place on, with no group set, in at most so many steps: one for each task, and one for
+/// each byte that it goes over. The error is want of memory.
 pub fn match_at(
     alloc: Global,
     regex: &Regex,
