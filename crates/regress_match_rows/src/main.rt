@@ -7,10 +7,12 @@
 #![tactic(auto)]
 
 mod answer;
-mod lines;
+mod outcome;
 mod places;
 
-use lines::{Failure, run_lines};
+use answer::SmallTable;
+use regress_notation::{Failure, run_lines};
+use regress_unicode::Tables;
 use std::io::{BufReader, BufWriter};
 use std::process::ExitCode;
 
@@ -21,7 +23,7 @@ fn main(rt: HostRuntime) -> ExitCode {
     })
 }
 
-/// Hands standard input and output to `run_lines`. Only want of memory keeps a buffer from being made.
+/// Hands standard input and output to `run_lines`. Only want of memory keeps a buffer or the table from being made.
 fn run(rt: &HostRuntime) -> Result<u8, Failure> {
     let Ok(input) = BufReader::new(rt.alloc(), rt.stdin()) else {
         return Err(Failure::Memory);
@@ -29,5 +31,8 @@ fn run(rt: &HostRuntime) -> Result<u8, Failure> {
     let Ok(mut out) = BufWriter::new(rt.alloc(), rt.stdout()) else {
         return Err(Failure::Memory);
     };
-    run_lines(rt.alloc(), input, &mut out)
+    let Ok(tables) = Tables::small(rt.alloc()) else {
+        return Err(Failure::Memory);
+    };
+    run_lines(rt.alloc(), input, &mut out, &mut SmallTable { tables })
 }

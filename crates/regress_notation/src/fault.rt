@@ -1,6 +1,6 @@
 //! Why a call has no answer.
 
-use std::alloc::{AllocError, AllocFailed};
+use std::alloc::AllocError;
 
 /// Why a call has no answer.
 #[derive(Clone, Copy, Debug)]
@@ -51,20 +51,5 @@ pub enum Promise {
 impl From<AllocError> for Fault {
     fn from(_: AllocError) -> Fault {
         Fault::Memory
-    }
-}
-
-impl<T: Drop> From<AllocFailed<T>> for Fault {
-    fn from(_: AllocFailed<T>) -> Fault {
-        Fault::Memory
-    }
-}
-
-/// Nothing where the promise is kept, and else that it is broken.
-pub fn check(is_kept: bool, promise: Promise) -> Result<(), Fault> {
-    if is_kept {
-        Ok(())
-    } else {
-        Err(Fault::Broken(promise))
     }
 }

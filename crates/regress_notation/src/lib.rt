@@ -18,9 +18,7 @@ mod numbers;
 mod pattern;
 
 pub use call::Call;
-pub use fault::{Fault, Promise, check};
-pub use intervals::{read_interval, read_intervals, read_set, written};
+pub use fault::{Fault, Promise};
 pub use letters::read_flags;
 pub use lines::{Failure, Lines, run_lines};
-pub use numbers::{listed, read_bytes, read_number, read_numbers, read_point, read_points};
-pub use pattern::read_pattern;
+pub use numbers::read_number;

@@ -6,7 +6,7 @@ use std::alloc::{AllocError, Global};
 
 /// The code points of a pattern as a line writes it. Nothing is answered where a `⟨` has no `⟩` behind it, or what
 /// stands between is neither a code point nor a text with its number.
-pub fn read_pattern(alloc: Global, text: &str) -> Result<Option<Vec<u32>>, AllocError>
+pub(crate) fn read_pattern(alloc: Global, text: &str) -> Result<Option<Vec<u32>>, AllocError>
     ensures { IfOk result (λ read. IfSome read (λ points. All (λ c. c ≤ CODE_POINT_MAX) points.items)) }
 {
     let mut points = Vec::new(alloc);

@@ -1,0 +1,112 @@
+//! What is asked of a text, and how lines write what is found.
+
+use crate::places::{byte_place, characters_before};
+use regress_match::{Match, Matches, Outcome, find, match_at};
+use regress_notation::{Call, Fault, read_number};
+use regress_tree::ir::Regex;
+use regress_unicode::Tables;
+
+/// How many steps a line takes that says nothing else.
+const STEPS: u64 = 10_000_000;
+
+/// What is asked of a text.
+#[derive(Clone, Copy)]
+pub(crate) enum Question {
+    /// The first match, in so many steps.
+    First(u64),
+    /// What matches from the place behind so many characters.
+    At(u32),
+    /// All matches.
+    All,
+}
+
+pub(crate) fn read_question(call: &mut Call) -> Question {
+    let field = call.field();
+    if field == "find" {
+        return Question::First(STEPS);
+    }
+    if field == "all" {
+        return Question::All;
+    }
+    let (name, number) = field.split_once(' ').unwrap_or((field, ""));
+    let number = call.read(read_number(number), 0);
+    match name {
+        "at" => Question::At(number),
+        "find" => Question::First(u64::from(number)),
+        _ => {
+            call.fail(Fault::Line);
+            Question::All
+        }
+    }
+}
+
+/// Adds what a tree answers.
+pub(crate) fn answer_question(
+    call: &mut Call,
+    question: Question,
+    regex: &Regex,
+    tables: &Tables,
+    text: &str,
+) {
+    match question {
+        Question::First(steps) => {
+            let outcome = find(call.alloc(), regex, tables, text, 0, steps);
+            let outcome = call.made(outcome, Outcome::NoMatch);
+            tell(call, text, &outcome);
+        }
+        Question::At(characters) => {
+            let place = call.read(byte_place(text, characters), 0);
+            let outcome = match_at(call.alloc(), regex, tables, text, place, STEPS);
+            let outcome = call.made(outcome, Outcome::NoMatch);
+            tell(call, text, &outcome);
+        }
+        Question::All => tell_all(call, regex, tables, text),
+    }
+}
+
+/// Adds all matches, with ` | ` between them. There are a hundred at most.
+fn tell_all(call: &mut Call, regex: &Regex, tables: &Tables, text: &str) {
+    let mut matches = Matches::new(regex, tables, text, 0, STEPS);
+    for number in 0..100 {
+        let outcome = matches.next(call.alloc());
+        let outcome = call.made(outcome, Outcome::NoMatch);
+        let is_last = matches!(&outcome, Outcome::NoMatch);
+        if is_last && number > 0 {
+            return;
+        }
+        if number > 0 {
+            call.say(" | ");
+        }
+        tell(call, text, &outcome);
+        if is_last {
+            return;
+        }
+    }
+}
+
+/// Adds an outcome as lines write it.
+fn tell(call: &mut Call, text: &str, outcome: &Outcome) {
+    match outcome {
+        Outcome::Matched(found) => tell_spans(call, text, found),
+        Outcome::NoMatch => call.say("none"),
+        Outcome::OutOfSteps => call.say("out of steps"),
+    }
+}
+
+/// Adds the spans of a match and of its groups, in characters.
+fn tell_spans(call: &mut Call, text: &str, found: &Match) {
+    tell_span(call, text, found.start(), found.end());
+    for id in 0..found.group_count() {
+        call.say(" ");
+        match found.group(id) {
+            Some((start, end)) => tell_span(call, text, start, end),
+            None => call.say("-"),
+        }
+    }
+}
+
+fn tell_span(call: &mut Call, text: &str, start: usize, end: usize) {
+    call.add(&characters_before(text, start));
+    call.say("-");
+    call.add(&characters_before(text, end));
+}
