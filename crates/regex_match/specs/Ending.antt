@@ -1,7 +1,10 @@
 -- How a run of the program ends.
-use Rattle.std.specs.Prelude.{ℕ}
+use Rattle.std.specs.Prelude.{◌≡◌, ℕ, Bool, true, Option, Some, None, Result, Ok, Err}
 use Rattle.regress_front.specs.declared.parse.PlacedFault.{PlacedFault}
 use Rattle.regress_front.specs.declared.parse.PlacedFault.TheVariants as fault
+use Rattle.regress_arguments.specs.Request.{Request}
+use Rattle.regex_match.specs.Accepted.{IsAcceptedPattern, NoneIsAccepted}
+use Rattle.regex_match.specs.Asked.{Task, help, matches}
 use Rattle.regex_match.specs.declared.failure.Failure.{Failure}
 use Rattle.regex_match.specs.declared.failure.Failure.TheVariants.{Usage, Memory, Output, Syntax, OutOfSteps, Input}
 
@@ -18,3 +21,20 @@ status_of Input = 7
 abbrev pub failure_of : PlacedFault → Failure
 failure_of (fault.Syntax e place) = Syntax e place
 failure_of (fault.Memory e) = Memory
+
+-- When a failure is due: a fault where no pattern is accepted, and what comes behind it where one is.
+abbrev pub IsDue : (accepted none : Type 0) → Failure → Type 0
+IsDue accepted none Usage = ⊥
+IsDue accepted none Memory = Unit {0}
+IsDue accepted none Output = accepted
+IsDue accepted none (Syntax e place) = none
+IsDue accepted none OutOfSteps = accepted
+IsDue accepted none Input = accepted
+
+-- What a run answers: nothing is asked, or the help is there, or the pattern is accepted, or a failure is due.
+abbrev pub Ends : Option Task → Result Bool Failure → Type 0
+Ends None r = r ≡ Err Usage
+Ends (Some help) (Ok any) = any ≡ true
+Ends (Some help) (Err failure) = failure ≡ Output
+Ends (Some (matches request)) (Ok any) = IsAcceptedPattern request
+Ends (Some (matches request)) (Err failure) = IsDue (IsAcceptedPattern request) (NoneIsAccepted request) failure

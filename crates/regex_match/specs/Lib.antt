@@ -1,2 +1,4 @@
+pub mod Asked
+pub mod Accepted
 pub mod Ending
 pub mod Found

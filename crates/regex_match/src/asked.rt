@@ -1,4 +1,7 @@
 //! What the program is asked.
+ghost use Rattle.std.specs.Prelude.{◌≡◌, option_map};
+ghost use Rattle.regress_arguments.specs.Request.{request_of};
+ghost use Rattle.regex_match.specs.Asked.{matches, task, task_of};
 
 use regress_arguments::read_pattern;
 use regress_front::types::Flags;
@@ -12,18 +15,20 @@ pub(crate) enum Asked<'a> {
 }
 
 /// Reads `--help` or, perhaps behind `--`, `PATTERN [FLAGS]`. Nothing else may begin with two hyphens.
-pub(crate) fn read_asked(args: &[String]) -> Option<Asked<'_>> {
+pub(crate) fn read_asked(args: &[String]) -> Option<Asked<'_>>
+    ensures { option_map task result ≡ task_of args.now }
+{
     match args {
-        [first, rest @ ..] if first.starts_with("--") => match first.as_str() {
-            "--" => read_matches(rest),
-            "--help" if rest.is_empty() => Some(Asked::Help),
-            _ => None,
-        },
+        [first, rest @ ..] if first.as_str() == "--" => read_matches(rest),
+        [first] if first.as_str() == "--help" => Some(Asked::Help),
+        [first, ..] if first.starts_with("--") => None,
         _ => read_matches(args),
     }
 }
 
-fn read_matches(args: &[String]) -> Option<Asked<'_>> {
+fn read_matches(args: &[String]) -> Option<Asked<'_>>
+    ensures { option_map task result ≡ option_map matches (request_of args.now) }
+{
     let (pattern, flags) = read_pattern(args)?;
     Some(Asked::Matches(pattern, flags))
 }

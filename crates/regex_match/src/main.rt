@@ -3,7 +3,10 @@
 //! status 2 and the usage. Want of memory for the arguments or the buffer is status 3, as elsewhere.
 #![tactic(auto)]
 
-ghost use Rattle.std.specs.Prelude.{◌≤◌};
+ghost use Rattle.std.specs.Prelude.{◌≡◌, ◌≤◌, ◌↔◌, Some, None, IfSome};
+ghost use Rattle.regex_match.specs.Accepted.{IsAcceptedPattern, NoneIsAccepted};
+ghost use Rattle.regex_match.specs.Asked.{OfPattern, OrHelp, help, task_of};
+ghost use Rattle.regex_match.specs.Ending.{Ends};
 
 mod asked;
 mod failure;
@@ -74,6 +77,12 @@ pub fn run_match<I: Read + Drop, W: Write, E: Write>(
     err: &mut E,
 ) -> u8
     ensures known { result ≤ 7 }
+    ensures usage { (result ≡ 2) ↔ (task_of args.now ≡ None) }
+
+    // The pattern is one exactly as the status says, under its flags and the whole of Unicode.
+    ensures found { result ≡ 0 → IfSome (task_of args.now) (OrHelp IsAcceptedPattern) }
+    ensures none { result ≡ 1 → IfSome (task_of args.now) (OfPattern IsAcceptedPattern) }
+    ensures refused { result ≡ 5 → IfSome (task_of args.now) (OfPattern NoneIsAccepted) }
 {
     match answer(alloc, args, input, out) {
         Ok(true) => 0,
@@ -88,7 +97,9 @@ fn answer<I: Read + Drop, W: Write>(
     args: &[String],
     input: I,
     out: &mut W,
-) -> Result<bool, Failure> {
+) -> Result<bool, Failure>
+    ensures { Ends (task_of args.now) result }
+{
     match read_asked(args) {
         None => Err(Failure::Usage),
         Some(Asked::Help) => print_help(out),
@@ -126,7 +137,9 @@ status:
 ";
 
 /// Prints the help.
-fn print_help<W: Write>(out: &mut W) -> Result<bool, Failure> {
+fn print_help<W: Write>(out: &mut W) -> Result<bool, Failure>
+    ensures { Ends (Some help) result }
+{
     match out.write_all(HELP.as_bytes()) {
         Ok(()) => {}
         Err(_) => return Err(Failure::Output),

@@ -1,7 +1,11 @@
 //! The matches of a text, each in its line.
-ghost use Rattle.std.specs.Prelude.{◌≡◌, ◌≤◌, All, IfOk, chars};
+ghost use Rattle.std.specs.Prelude.{◌≡◌, ◌≤◌, All, Some, IfOk, IfErr, ⊤, chars};
+ghost use Rattle.regress_front.specs.Accepted.{IsAccepted, NoneIsAccepted};
 ghost use Rattle.regress_front.specs.SettingOf.{setting_of};
+ghost use Rattle.regress_front.specs.Syntax.{Pattern};
 ghost use Rattle.regress_front.specs.Tree.{tree};
+ghost use Rattle.regex_match.specs.Asked.{matches};
+ghost use Rattle.regex_match.specs.Ending.{Ends, IsDue};
 ghost use Rattle.regex_match.specs.Found.{FindsWhatIsAccepted};
 
 use crate::failure::Failure;
@@ -28,7 +32,9 @@ pub(crate) fn print_matches<I: Read + Drop, W: Write>(
     flags: Flags,
     input: I,
     out: &mut W,
-) -> Result<bool, Failure> {
+) -> Result<bool, Failure>
+    ensures { Ends (Some (matches (chars pattern.now, flags))) result }
+{
     let points = code_points(alloc, pattern)?;
     let tables = unicode_tables(alloc)?;
     let regex = prepared(alloc, &points, flags, &tables)?;
@@ -47,6 +53,8 @@ fn prepared(alloc: Global, points: &[u32], flags: Flags, tables: &Tables) -> Res
     // What matching answers of the tree, it answers of the pattern.
     ensures finds { IfOk result (λ regex. FindsWhatIsAccepted (setting_of flags tables.now) points.now (tree regex.node)) }
     ensures flags { IfOk result (λ regex. regex.flags ≡ flags) }
+    ensures accepted { IfOk result (λ _. (p : Pattern) × IsAccepted (setting_of flags tables.now) points.now p) }
+    ensures due { IfErr result (IsDue ⊥ (NoneIsAccepted (setting_of flags tables.now) points.now)) }
 {
     let mut regex = try_parse_with_place(alloc, points, flags, tables)?;
     optimize(alloc, &mut regex)?;
@@ -59,7 +67,9 @@ fn write_all<W: Write>(
     matches: &mut Matches<'_>,
     groups: &[Group],
     out: &mut W,
-) -> Result<bool, Failure> {
+) -> Result<bool, Failure>
+    ensures { IfErr result (IsDue ⊤ ⊥) }
+{
     let mut any = false;
     loop {
         match matches.next(alloc)? {
@@ -76,7 +86,9 @@ fn write_all<W: Write>(
 }
 
 /// Why the input can't be had.
-fn unread(error: io::Error) -> Failure {
+fn unread(error: io::Error) -> Failure
+    ensures { IsDue ⊤ ⊥ result }
+{
     match error.kind() {
         ErrorKind::OutOfMemory => Failure::Memory,
         _ => Failure::Input,

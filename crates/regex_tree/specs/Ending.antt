@@ -1,9 +1,17 @@
 -- How a run of the program ends.
+use Rattle.std.specs.Prelude.{ℕ}
 use Rattle.regress_parse.specs.declared.fault.PlacedFault.{PlacedFault}
 use Rattle.regress_parse.specs.declared.fault.PlacedFault.TheVariants as fault
 use Rattle.regex_tree.specs.declared.failure.Failure.{Failure}
 use Rattle.regex_tree.specs.declared.failure.Failure.TheVariants.{Syntax, Usage, Memory, Output}
 use Rattle.regex_tree.specs.Shown.{Asked, IsAcceptedPattern, NoneIsAcceptedOf}
+
+-- the status of a failure
+abbrev pub status_of : Failure → ℕ
+status_of (Syntax e place) = 1
+status_of Usage = 2
+status_of Memory = 3
+status_of Output = 4
 
 -- a fault of the parser as a failure
 abbrev pub failure_of : PlacedFault → Failure

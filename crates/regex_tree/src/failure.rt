@@ -1,6 +1,7 @@
 //! Why a run ends with another status than 0.
-ghost use Rattle.std.specs.Prelude.{◌≡◌, ◌≤◌};
+ghost use Rattle.std.specs.Prelude.{◌≡◌};
 ghost use Rattle.regex_tree.specs.declared.failure.Failure.TheVariants.{Output};
+ghost use Rattle.regex_tree.specs.Ending.{status_of};
 
 use regress_parse::{Error, ParseFault, PlacedFault};
 use std::alloc::AllocError;
@@ -73,34 +74,24 @@ impl From<PlacedFault> for Failure {
     }
 }
 
-/// The status of a failure.
-pub(crate) fn status(failure: &Failure) -> u8
-    ensures { result ≤ 4 }
-{
-    match failure {
-        Failure::Syntax { .. } => 1,
-        Failure::Usage => 2,
-        Failure::Memory => 3,
-        Failure::Output => 4,
-    }
-}
-
 /// Writes what a failure has to say to `err`, and answers its status. A failing write changes nothing.
 pub(crate) fn tell<E: Write>(failure: Failure, err: &mut E) -> u8
-    ensures known { result ≤ 4 }
+    ensures status { result ≡ status_of failure }
     ensures quiet { failure ≡ Output → err.new ≡ err.old }
 {
-    match &failure {
+    match failure {
         Failure::Syntax { error, .. } => {
             let _ = writeln!(err, "error: {error}");
+            1
         }
         Failure::Usage => {
-            let _ = write!(err, "{USAGE}");
+            let _ = err.write_all(USAGE.as_bytes());
+            2
         }
         Failure::Memory => {
             let _ = writeln!(err, "error: out of memory");
+            3
         }
-        Failure::Output => {}
+        Failure::Output => 4,
     }
-    status(&failure)
 }

@@ -3,25 +3,34 @@
 use regress_parse::Error;
 use std::io::{self, Write};
 
-/// Writes a fault, the pattern in a line of its own, and a caret under the place. A control character of the pattern is
-/// shown as U+FFFD, so that the pattern is one line.
+/// Writes a fault, the pattern in a line of its own, and a caret under the place.
 pub(crate) fn write_fault<E: Write>(
     error: &Error,
     pattern: &str,
     place: usize,
     err: &mut E,
 ) -> io::Result<()> {
-    writeln!(err, "error: {error}")?;
-    write!(err, "  ")?;
+    write!(err, "error: {error}\n  ")?;
+    write_in_one_line(pattern, err)?;
+    err.write_all(b"\n  ")?;
+    write_spaces(place, err)?;
+    err.write_all(b"^\n")
+}
+
+/// Writes a pattern with each control character as U+FFFD, so that it is one line.
+fn write_in_one_line<E: Write>(pattern: &str, err: &mut E) -> io::Result<()> {
     for c in pattern.chars() {
         let shown = if c.is_control() { '\u{FFFD}' } else { c };
         write!(err, "{shown}")?;
     }
-    write!(err, "\n  ")?;
-    for _column in 0..place {
-        write!(err, " ")?;
+    Ok(())
+}
+
+fn write_spaces<E: Write>(count: usize, err: &mut E) -> io::Result<()> {
+    for _space in 0..count {
+        err.write_all(b" ")?;
     }
-    writeln!(err, "^")
+    Ok(())
 }
 
 /// Writes `{"fault":"..","place":0}` and a line feed.

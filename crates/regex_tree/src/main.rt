@@ -3,7 +3,9 @@
 //! usage. Want of memory for the arguments or the buffer is status 3, as elsewhere.
 #![tactic(auto)]
 
-ghost use Rattle.std.specs.Prelude.{◌≤◌};
+ghost use Rattle.std.specs.Prelude.{◌≡◌, ◌≢◌, ◌≤◌, ◌↔◌, IfErr, None};
+ghost use Rattle.regex_tree.specs.Taken.{taken_of};
+ghost use Rattle.regex_tree.specs.declared.failure.Failure.TheVariants.{Output};
 
 mod failure;
 mod fault;
@@ -60,6 +62,7 @@ fn run_buffered<W: Write + Drop, E: Write>(
 /// A failing write to `err` changes no status.
 pub fn run_tree<W: Write, E: Write>(alloc: Global, args: &[String], out: &mut W, err: &mut E) -> u8
     ensures known { result ≤ 4 }
+    ensures usage { (result ≡ 2) ↔ (taken_of args.now ≡ None) }
 {
     match read_request(args) {
         Some(Asked::Tree(request)) => run_request(alloc, &request, out, err),
@@ -78,6 +81,7 @@ fn run_request<W: Write, E: Write>(
     err: &mut E,
 ) -> u8
     ensures known { result ≤ 4 }
+    ensures asked { result ≢ 2 }
 {
     match show(alloc, request, out) {
         Ok(()) => 0,
@@ -95,7 +99,10 @@ fn run_request<W: Write, E: Write>(
     }
 }
 
-fn write_usage<W: Write>(out: &mut W) -> Result<(), Failure> {
-    write!(out, "{USAGE}").map_err(|_| Failure::Output)?;
+fn write_usage<W: Write>(out: &mut W) -> Result<(), Failure>
+    ensures { IfErr result (λ failure. failure ≡ Output) }
+{
+    out.write_all(USAGE.as_bytes())
+        .map_err(|_| Failure::Output)?;
     out.flush().map_err(|_| Failure::Output)
 }

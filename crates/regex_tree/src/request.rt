@@ -1,4 +1,6 @@
 //! What the program is asked.
+ghost use Rattle.std.specs.Prelude.{◌≡◌, option_map};
+ghost use Rattle.regex_tree.specs.Taken.{no_options, options_of, taken, taken_of, with_option};
 
 use regress_arguments::read_pattern;
 use regress_base::types::Flags;
@@ -65,7 +67,9 @@ impl Options {
 
 /// Reads `[OPTION ..] [--] PATTERN [FLAGS]`, or nothing where there are fewer or more arguments, an option is unknown, or
 /// a letter is none of `imsuv` or comes twice.
-pub(crate) fn read_request(args: &[String]) -> Option<Asked<'_>> {
+pub(crate) fn read_request(args: &[String]) -> Option<Asked<'_>>
+    ensures { option_map taken result ≡ taken_of args.now }
+{
     let (options, rest) = read_options(args)?;
     if options.help {
         return Some(Asked::Usage);
@@ -81,25 +85,29 @@ pub(crate) fn read_request(args: &[String]) -> Option<Asked<'_>> {
 }
 
 /// The options, and the arguments behind them. None where one is unknown.
-fn read_options(args: &[String]) -> Option<(Options, &[String])> {
+fn read_options(args: &[String]) -> Option<(Options, &[String])>
+    ensures { option_map (λ found. (found.0, found.1.now)) result ≡ options_of no_options args.now }
+{
     let mut options = NO_OPTIONS;
     let mut rest = args;
     while let [first, behind @ ..] = rest {
         let word = first.as_str();
         if !word.starts_with('-') {
-            break;
+            return Some((options, rest));
         }
-        rest = behind;
         if word == "--" {
-            break;
+            return Some((options, behind));
         }
         options = with_option(options, word)?;
+        rest = behind;
     }
     Some((options, rest))
 }
 
 /// The options with one more.
-fn with_option(options: Options, word: &str) -> Option<Options> {
+fn with_option(options: Options, word: &str) -> Option<Options>
+    ensures { result ≡ with_option options word.now }
+{
     match word {
         "--help" | "-h" => Some(Options {
             help: true,

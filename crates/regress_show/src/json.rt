@@ -248,10 +248,9 @@ fn write_loop<W: Write>(
 ) -> fmt::Result
     ensures { WritesOnOk W.write_str_gives f.old result (text.front (loop quant.now start end)) f.new }
 {
-    write!(
-        f,
-        "{{\"kind\":\"Loop\",\"enclosed_groups\":[{start},{end}],\"quant\":"
-    )?;
+    f.write_str("{\"kind\":\"Loop\",\"enclosed_groups\":")?;
+    write_pair(u32::from(start), u32::from(end), f)?;
+    f.write_str(",\"quant\":")?;
     write_quantifier(quant, f)?;
     f.write_str(",\"loopee\":")
 }
@@ -322,7 +321,12 @@ fn write_intervals<W: Write>(intervals: &[Interval], f: &mut Formatter<W>) -> fm
 fn write_interval<W: Write>(interval: Interval, f: &mut Formatter<W>) -> fmt::Result
     ensures { WritesOnOk W.write_str_gives f.old result (text.interval interval) f.new }
 {
-    let (first, last) = (interval.first(), interval.last());
+    write_pair(interval.first(), interval.last(), f)
+}
+
+fn write_pair<W: Write>(first: u32, last: u32, f: &mut Formatter<W>) -> fmt::Result
+    ensures { WritesOnOk W.write_str_gives f.old result (text.pair first last) f.new }
+{
     write!(f, "[{first},{last}]")
 }
 

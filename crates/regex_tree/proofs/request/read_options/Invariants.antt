@@ -1,9 +1,10 @@
-use Rattle.std.proofs.Common.{length}
+use Rattle.std.proofs.Common.{◌≡◌, length}
+use Rattle.regex_tree.specs.Taken.{no_options, options_of}
 use Rattle.regex_tree.proofs.request.read_options.Given as goal
 
--- The options are only tested.
+-- What is left says with the options so far what all of them say with none.
 abbrev pub invariant-loop-rest : goal.invariant-loop-rest
-invariant-loop-rest l = Unit {0}
+invariant-loop-rest l = options_of l.options l.rest ≡ options_of no_options l.args
 
 abbrev pub decreases-loop-rest : goal.decreases-loop-rest
 decreases-loop-rest l = length l.rest

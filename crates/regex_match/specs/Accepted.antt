@@ -1,0 +1,16 @@
+-- Which patterns are accepted.
+use Rattle.regress_arguments.specs.Request.{Request}
+use Rattle.regress_front.specs.Accepted as parse
+use Rattle.regress_front.specs.Setting.{Setting}
+use Rattle.regress_front.specs.Syntax.{Pattern}
+use Rattle.regress_ucd.specs.UnicodeTable.{unicode_table}
+
+-- its flags, and the whole of Unicode
+abbrev pub setting_of_request : Request → Setting
+setting_of_request (text, flags) = record { flags = flags; table = unicode_table }
+
+abbrev pub IsAcceptedPattern : Request → Type 0
+IsAcceptedPattern request = (p : Pattern) × parse.IsAccepted (setting_of_request request) request.0 p
+
+abbrev pub NoneIsAccepted : Request → Type 0
+NoneIsAccepted request = parse.NoneIsAccepted (setting_of_request request) request.0

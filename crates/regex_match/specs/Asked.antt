@@ -1,0 +1,36 @@
+-- What the program is asked.
+use Rattle.std.specs.Prelude.{ℕ, ◌&&◌, List, [], ◌∷◌, Option, Some, None, option_map, if◌then◌else◌, ◌==◌, length, bytes_eq, chars, codes, String, string_bytes}
+use Rattle.std.specs.List.{starts_with}
+use Rattle.std.specs.declared.alloc.Global.{Global}
+use Rattle.regress_arguments.specs.Request.{Request, request_of}
+use Rattle.regex_match.specs.declared.asked.Asked.{Asked}
+use Rattle.regex_match.specs.declared.asked.Asked.TheVariants.{Help, Matches}
+
+-- the help, or the matches of a pattern
+pub data Task : Type 0 where
+  help : Task
+  matches : Request → Task
+
+-- What is asked, as the code has it.
+abbrev pub task : Asked → Task
+task Help = help
+task (Matches pattern flags) = matches (chars pattern.now, flags)
+
+-- `--help`, or `PATTERN [FLAGS]`, perhaps behind `--`. Nothing else may begin with two hyphens.
+abbrev pub task_of : List (String Global) → Option Task
+task_of [] = None
+task_of (first ∷ rest) =
+    if bytes_eq (string_bytes first) (codes "--") then option_map matches (request_of rest)
+    else if bytes_eq (string_bytes first) (codes "--help") && (length rest == 0) then Some help
+    else if starts_with (λ b c. b == c) (string_bytes first) (codes "--") then None
+    else option_map matches (request_of (first ∷ rest))
+
+-- of a pattern this holds, and the help isn't asked for
+abbrev pub OfPattern : (Request → Type 0) → Task → Type 0
+OfPattern P help = ⊥
+OfPattern P (matches request) = P request
+
+-- the help is asked for, or of a pattern this holds
+abbrev pub OrHelp : (Request → Type 0) → Task → Type 0
+OrHelp P help = Unit {0}
+OrHelp P (matches request) = P request
