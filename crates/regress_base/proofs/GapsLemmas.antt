@@ -1,13 +1,13 @@
 -- The gaps of a canonical list are its complement.
-use Rattle.std.proofs.Common.{◌≡◌, ℕ, ◌+◌, ◌-◌, ◌<◌, ◌≤◌, Bool, true, false, not, ◌||◌, ◌&&◌, cond, nat_lt, nat_le, inl, inr, IsTrue, List, [], ◌∷◌, ◌++◌, length, drop, get_or, slice_get, Some, None, refl, sym, ap, ◌∙◌, subst, le_refl, le-ltb, lt-ltb, arith}
+use Rattle.std.proofs.Common.{◌≡◌, ℕ, ◌+◌, ◌-◌, ◌<◌, ◌≤◌, Bool, true, false, not, ◌||◌, cond, nat_lt, nat_le, inl, inr, IsTrue, List, [], ◌∷◌, ◌++◌, length, drop, get_or, slice_get, Some, None, refl, sym, ap, ◌∙◌, subst, le_refl, le-ltb, lt-ltb, arith}
 use Rattle.std.proofs.lemmas.List.{drop_more, drop_all, append_assoc, append-nil}
 use Rattle.std.proofs.lemmas.Option.{none-some, same_Some, get_or_from_slice_get}
-use Rattle.std.proofs.lemmas.Bool.{cases_lt, cond-true, cond-false, and_left, or_left, or_from, le-leb, lt-leb}
+use Rattle.std.proofs.lemmas.Bool.{cases_lt, cond-true, cond-false, or_left, or_from, le-leb, lt-leb}
 use mir.Val.{bool_byte}
 use Rattle.regress_base.specs.Intervals.{Bounds, is_member, is_canonical_from, IsCanonical, IsComplement, code_point_max}
 use Rattle.regress_base.proofs.WithinLemmas.{pair, le-is_within, lt-is_within, gt-is_within}
 use Rattle.regress_base.proofs.MemberLemmas.{is_member-nil, is_member-cons, is_member-one}
-use Rattle.regress_base.proofs.CanonicalLemmas.{canonical_parts, canonical_cons, canonical_lower, no_member_below, no_member_past_end}
+use Rattle.regress_base.proofs.CanonicalLemmas.{canonical_parts, canonical_cons, canonical_lower, no_member_below}
 use Rattle.regress_base.proofs.UniqueLemmas.{canonical_unique}
 
 -- the gaps from a number on, before, between and behind the intervals

@@ -33,7 +33,7 @@ small_uppers =
 abbrev interval : ℕ → ℕ → Bounds
 interval first last = record { first = first; last = last }
 
-abbrev set : List ℕ → List Bounds → Named (List Bounds)
+abbrev pub set : List ℕ → List Bounds → Named (List Bounds)
 set name intervals = record { name = name; value = intervals }
 
 -- the parts of the small table

@@ -1,8 +1,8 @@
 //! The small table.
-ghost use Rattle.std.specs.Prelude.{◌≡◌, IfOk, string_bytes, map};
+ghost use Rattle.std.specs.Prelude.{◌≡◌, ◌++◌, ◌∷◌, [], IfOk, OnOk};
 ghost use Rattle.regress_base.specs.Intervals.{IsCanonical};
 ghost use Rattle.regress_unicode.specs.Parts.{sets_of, strings_of};
-ghost use Rattle.regress_unicode.specs.SmallTable.{small_folds, small_uppers, small_parts, small_table};
+ghost use Rattle.regress_unicode.specs.SmallTable.{small_folds, small_uppers, small_parts, small_table, set};
 
 use super::{FoldRange, Tables};
 use regress_base::codepointset::{CODE_POINT_MAX, CodePointSet, Interval};
@@ -103,59 +103,59 @@ fn small_id_continue(alloc: Global) -> Result<CodePointSet, AllocError>
     Ok(CodePointSet::from_sorted_disjoint_intervals(intervals))
 }
 
-/// A set under a name.
-fn entry(
-    alloc: Global,
+/// Adds a set under a name.
+fn push_entry(
+    entries: &mut Vec<(String, CodePointSet)>,
     name: &str,
     intervals: &[Interval],
-) -> Result<(String, CodePointSet), AllocError>
+) -> Result<(), AllocError>
     requires { IsCanonical intervals.now }
-    ensures name { IfOk result (λ entry. string_bytes entry.0 ≡ name.now) }
-    ensures value { IfOk result (λ entry. entry.1 ≡ intervals.now) }
+    ensures { OnOk result (sets_of entries.new.items ≡ sets_of entries.old.items ++ set name.now intervals.now ∷ []) }
 {
-    let set = CodePointSet::from_sorted_disjoint_intervals(Vec::from_slice(alloc, intervals)?);
-    Ok((String::from_str(alloc, name)?, set))
+    let alloc = *entries.allocator();
+    let intervals = Vec::from_slice(alloc, intervals)?;
+    let name = String::from_str(alloc, name)?;
+    entries.push((
+        name,
+        CodePointSet::from_sorted_disjoint_intervals(intervals),
+    ))?;
+    Ok(())
 }
 
 fn small_general_category(alloc: Global) -> Result<Vec<(String, CodePointSet)>, AllocError>
     ensures { IfOk result (λ entries. sets_of entries.items ≡ small_parts.general_category) }
 {
-    let entries = vec![in alloc;
-        entry(alloc, "Zl", &[Interval::new(0x2028, 0x2028)])?,
-        entry(alloc, "Line_Separator", &[Interval::new(0x2028, 0x2028)])?,
-        entry(alloc, "Zp", &[Interval::new(0x2029, 0x2029)])?,
-        entry(
-            alloc,
-            "Paragraph_Separator",
-            &[Interval::new(0x2029, 0x2029)]
-        )?,
-    ]?;
+    let mut entries = Vec::new(alloc);
+    let (line, paragraph) = (Interval::new(0x2028, 0x2028), Interval::new(0x2029, 0x2029));
+    push_entry(&mut entries, "Zl", &[line])?;
+    push_entry(&mut entries, "Line_Separator", &[line])?;
+    push_entry(&mut entries, "Zp", &[paragraph])?;
+    push_entry(&mut entries, "Paragraph_Separator", &[paragraph])?;
     Ok(entries)
 }
 
 fn small_script(alloc: Global) -> Result<Vec<(String, CodePointSet)>, AllocError>
     ensures { IfOk result (λ entries. sets_of entries.items ≡ small_parts.script) }
 {
-    let entries = vec![in alloc;
-        entry(alloc, "Ogam", &[Interval::new(0x1680, 0x169C)])?,
-        entry(alloc, "Ogham", &[Interval::new(0x1680, 0x169C)])?,
-    ]?;
+    let mut entries = Vec::new(alloc);
+    let ogham = Interval::new(0x1680, 0x169C);
+    push_entry(&mut entries, "Ogam", &[ogham])?;
+    push_entry(&mut entries, "Ogham", &[ogham])?;
     Ok(entries)
 }
 
 fn small_binary(alloc: Global) -> Result<Vec<(String, CodePointSet)>, AllocError>
     ensures { IfOk result (λ entries. sets_of entries.items ≡ small_parts.binary) }
 {
+    let mut entries = Vec::new(alloc);
+    push_entry(&mut entries, "ASCII", &[Interval::new(0, 0x7F)])?;
+    push_entry(&mut entries, "Any", &[Interval::new(0, CODE_POINT_MAX)])?;
     let hex_digits = [
         Interval::new(0x30, 0x39),
         Interval::new(0x41, 0x46),
         Interval::new(0x61, 0x66),
     ];
-    let entries = vec![in alloc;
-        entry(alloc, "ASCII", &[Interval::new(0, 0x7F)])?,
-        entry(alloc, "Any", &[Interval::new(0, CODE_POINT_MAX)])?,
-        entry(alloc, "ASCII_Hex_Digit", &hex_digits)?,
-    ]?;
+    push_entry(&mut entries, "ASCII_Hex_Digit", &hex_digits)?;
     Ok(entries)
 }
 

@@ -1,5 +1,5 @@
 -- Each row adds what it moves, and one whose images lie beyond the ends moves nothing.
-use Rattle.std.proofs.Common.{◌≡◌, ◌≤◌, ◌∙◌, List, All, inl, inr, ap, subst, arith}
+use Rattle.std.proofs.Common.{◌≡◌, ℕ, ◌<◌, ◌≤◌, ◌∙◌, List, All, inl, inr, ap, subst, arith}
 use Rattle.std.proofs.lemmas.List.{take_all}
 use Rattle.std.proofs.lemmas.List.Elements.{All-nil, All-more}
 use Rattle.regress_base.specs.Intervals.{is_member}
@@ -9,6 +9,13 @@ use Rattle.regress_unicode.specs.Shifts.{lands_by, backward}
 use Rattle.regress_unicode.proofs.ClosingLemmas.{found_none, row_more, row_no_more, beyond}
 use Rattle.regress_unicode.proofs.closure.sources.Goals as goal
 use Rattle.regress_unicode.proofs.closure.sources.Goals.{then-first-high+then-low-shifted+in_ok-push_moved, else-first-high, else-first-high-via-then-first-high+else-low-shifted, else-first-high-via-else-first-high}
+
+-- a code point at most the last one is below what that is below, and one from the first one on above what that is above
+below : (y last found low : ℕ) → y ≤ last → found ≡ last → found < low → y < low
+below y last found low le is lt = omega arith
+
+above : (y first found high : ℕ) → first ≤ y → found ≡ first → high < found → high < y
+above y first found high le is lt = omega arith
 
 pub loop-row-init : goal.loop-row-init
 loop-row-init c = record {
@@ -40,10 +47,10 @@ loop-row-preserved c =
                   (let last : w'.shifted.result ≡ (backward row).last = w'.shifted.ensures.value
                   ∙ ap (moved row.delta) (omega (arith, w'.last.ensures.value)) in
                   beyond c.args.intervals.now c.ends-low.result.0 c.ends-low.result.1 y c.ends-low.ensures
-                  (inl (omega (arith, to, last, w'.if-low-shifted.false))))
+                  (inl (below y _ _ _ to last w'.if-low-shifted.false)))
               | else-first-high-via-else-first-high w' ↦
                   beyond c.args.intervals.now c.ends-low.result.0 c.ends-low.result.1 y c.ends-low.ensures
-                  (inr (omega (arith, from, first, w'.if-first-high.false)))
+                  (inr (above y _ _ _ from first w'.if-first-high.false))
             ])
             (c.loop-row.invariant.members x);
         nonempty = nonempty;

@@ -1,4 +1,4 @@
-use Rattle.std.proofs.Common.{◌<◌, ◌/◌, ◌%◌, get_or, ◌^◌, arith}
+use Rattle.std.proofs.Common.{◌<◌, ◌/◌, ◌%◌, get_or, ◌^◌, arith, rules}
 use Rattle.std.specs.Int.{w16}
 use Rattle.regress_base.specs.ByteBitmap.{contains}
 use Rattle.regress_base.proofs.CellLemmas.{bit_in-not, not-below}
@@ -14,3 +14,6 @@ returns-clause-complement c b =
     let low : b % 16 < 16 = omega arith in
     let fits : get_or old (b / 16) 0 < 2 ^ 16 = c.loop-i.invariant.fit (b / 16) (omega arith) in
     bit_in-not w16 old new b low fits (c.loop-i.invariant.cells.changed (b / 16) (omega arith)))
+
+pub loop-i-preserved : goal.loop-i-preserved
+loop-i-preserved c = search rules
