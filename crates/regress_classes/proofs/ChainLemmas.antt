@@ -12,10 +12,11 @@ use Rattle.regress_base.specs.Intervals.{Bounds, is_member, IsCanonical, interva
 use Rattle.regress_base.proofs.laws.Sets.{is_member-nil, no_member_past_end, intervals_of-member, intervals_of-canonical}
 use Rattle.regress_classes.specs.declared.class_sets.value.Value.{Value as CodeValue}
 use Rattle.regress_classes.specs.declared.class_sets.chain.Taken.{Taken}
+use Rattle.regress_classes.specs.declared.class_sets.others.Others.{Others}
 use Rattle.regress_classes.specs.declared.class_sets.Operator.{Operator}
 use Rattle.regress_classes.specs.declared.class_sets.Operator.TheVariants as operators
 use Rattle.regress_classes.specs.ClassSets.{Value, is_among}
-use Rattle.regress_classes.specs.ClassViews.{HasMembers, IsValue, IsLeft, strings_of, applied, kept}
+use Rattle.regress_classes.specs.ClassViews.{HasMembers, HasOthers, IsValue, AreLeft, IsLeft, strings_of, applied, kept}
 use Rattle.regress_classes.proofs.ClassSetLemmas.{kept_strings}
 
 -- ---- both operators alike
@@ -95,26 +96,63 @@ strings_joined olds news both s e =
     ∙ list_any-append (λ other. bytes_eq other s) (strings_of olds) (strings_of news))
     ∙ neither (is_among (strings_of olds) s) (is_among (strings_of news) s)
 
+-- ---- strings and levels that are left
+
+pub others_first : (operator : Operator) (a b : Value) (first taken : Others) → HasOthers a first → HasOthers b taken →
+    AreLeft operator first taken (left_of operator a b)
+others_first operator a b first taken h k = record {
+  strings = ap₂ (λ (l m : List (List ℕ)). filter (λ s. kept operator (is_among l s)) m) (sym k.strings) (sym h.strings);
+  has_empty = ap₂ (λ x y. x && kept operator y) (sym h.has_empty) (sym k.has_empty);
+  levels = ap₂ max (sym h.levels) (sym k.levels);
+}
+
+pub others_more : (operator : Operator) (first : Others) (v b : Value) (old operand new : Others) → AreLeft operator first old v → HasOthers b operand →
+    ((s : List ℕ) → kept operator (is_among (strings_of new.strings.items) s)
+    ≡ (kept operator (is_among (strings_of old.strings.items) s) && kept operator (is_among (strings_of operand.strings.items) s))) →
+    kept operator new.has_empty ≡ (kept operator old.has_empty && kept operator operand.has_empty) →
+    new.levels ≡ max old.levels operand.levels → AreLeft operator first new (applied operator v b)
+others_more operator first v b old operand new h k strings has_empty levels = subst (AreLeft operator first new) (sym (applied_is operator v b)) (record {
+  strings = ap₂ (λ (l m : List (List ℕ)). filter (λ s. kept operator (is_among l s)) m) (sym k.strings) h.strings
+      ∙ sym (filter_both (λ s. kept operator (is_among (strings_of old.strings.items) s)) (λ s. kept operator (is_among (strings_of operand.strings.items) s))
+      (λ s. kept operator (is_among (strings_of new.strings.items) s)) strings (strings_of first.strings.items));
+  has_empty = ap₂ (λ x y. x && kept operator y) h.has_empty (sym k.has_empty)
+      ∙ and_both first.has_empty (kept operator old.has_empty) (kept operator operand.has_empty)
+      ∙ ap (λ x. first.has_empty && x) (sym has_empty);
+  levels = omega (arith, h.levels, k.levels, levels);
+})
+  where
+    and_both : (x y z : Bool) → ((x && y) && z) ≡ (x && (y && z))
+    and_both true y z = refl
+    and_both false y z = refl
+
+pub others_over : (operator : Operator) (first new taken : Others) (v : Value) → AreLeft operator first taken v →
+    new.strings.items ≡ filter (λ string. kept operator (is_among (strings_of taken.strings.items) string.items)) first.strings.items →
+    new.has_empty ≡ (first.has_empty && kept operator taken.has_empty) → new.levels ≡ max first.levels taken.levels → HasOthers v new
+others_over operator first new taken v h strings has_empty levels = record {
+  strings = ap strings_of strings
+      ∙ kept_strings (λ s. kept operator (is_among (strings_of taken.strings.items) s))
+      (λ string. kept operator (is_among (strings_of taken.strings.items) string.items)) (λ string. refl) first.strings.items
+      ∙ sym h.strings;
+  has_empty = has_empty ∙ sym h.has_empty;
+  levels = levels ∙ sym h.levels;
+}
+
 -- ---- what is left
 
 -- the first operand behind the operator
 pub left_first : (operator : Operator) (first : CodeValue) (a b : Value) (operand : CodeValue) (taken : Taken) (none dropped : List Bounds) →
     IsValue first a → IsValue operand b → none ≡ [] →
     ((c : ℕ) → c ≤ code_point_max → is_member dropped c ≡ not (kept operator (is_member operand.set c))) →
-    ((c : ℕ) → is_member taken.points c ≡ (is_member none c || is_member dropped c)) →
-    taken.strings ≡ operand.strings → taken.has_empty ≡ operand.has_empty → taken.levels ≡ operand.levels →
+    ((c : ℕ) → is_member taken.points c ≡ (is_member none c || is_member dropped c)) → HasOthers b taken.others →
     IsLeft operator first taken (applied operator a b)
-left_first operator first a b operand taken none dropped h k empty drops adds strings has_empty levels =
+left_first operator first a b operand taken none dropped h k empty drops adds others =
     subst (IsLeft operator first taken) (sym (applied_is operator a b)) (record {
       canonical = h.members.canonical;
       members = members_left operator first.set a.members b.members none taken.points dropped h.members.canonical
           (λ c. sym (h.members.each c) ∙ sym (and-true (is_member first.set c))
           ∙ ap (λ x. is_member first.set c && not x) (sym (ap (λ (l : List Bounds). is_member l c) empty ∙ is_member-nil c)))
           (λ c within. drops c within ∙ ap (λ x. not (kept operator x)) (k.members.each c)) adds;
-      strings = ap₂ (λ (l m : List (List ℕ)). filter (λ s. kept operator (is_among l s)) m)
-          (sym k.strings ∙ ap (λ (v : Vec (Vec ℕ Global) Global). strings_of v.items) (sym strings)) (sym h.strings);
-      has_empty = ap₂ (λ x y. x && kept operator y) (sym h.has_empty) (sym k.has_empty ∙ sym has_empty);
-      levels = ap₂ max (sym h.levels) (sym k.levels ∙ sym levels);
+      others = others_first operator a b first.others taken.others h.others others;
     })
 
 -- one more
@@ -122,43 +160,24 @@ pub left_more : (operator : Operator) (first : CodeValue) (v b : Value) (operand
     IsLeft operator first old v → IsValue operand b →
     ((c : ℕ) → c ≤ code_point_max → is_member dropped c ≡ not (kept operator (is_member operand.set c))) →
     ((c : ℕ) → is_member new.points c ≡ (is_member old.points c || is_member dropped c)) →
-    ((s : List ℕ) → kept operator (is_among (strings_of new.strings.items) s)
-    ≡ (kept operator (is_among (strings_of old.strings.items) s) && kept operator (is_among (strings_of operand.strings.items) s))) →
-    kept operator new.has_empty ≡ (kept operator old.has_empty && kept operator operand.has_empty) →
-    new.levels ≡ max old.levels operand.levels → IsLeft operator first new (applied operator v b)
-left_more operator first v b operand old new dropped h k drops adds strings has_empty levels =
-    subst (IsLeft operator first new) (sym (applied_is operator v b)) (record {
-      canonical = h.canonical;
-      members = members_left operator first.set v.members b.members old.points new.points dropped h.canonical h.members
-          (λ c within. drops c within ∙ ap (λ x. not (kept operator x)) (k.members.each c)) adds;
-      strings = ap₂ (λ (l m : List (List ℕ)). filter (λ s. kept operator (is_among l s)) m) (sym k.strings) h.strings
-          ∙ sym (filter_both (λ s. kept operator (is_among (strings_of old.strings.items) s)) (λ s. kept operator (is_among (strings_of operand.strings.items) s))
-          (λ s. kept operator (is_among (strings_of new.strings.items) s)) strings (strings_of first.strings.items));
-      has_empty = ap₂ (λ x y. x && kept operator y) h.has_empty (sym k.has_empty)
-          ∙ and_both first.has_empty (kept operator old.has_empty) (kept operator operand.has_empty)
-          ∙ ap (λ x. first.has_empty && x) (sym has_empty);
-      levels = omega (arith, h.levels, k.levels, levels);
-    })
-  where
-    and_both : (x y z : Bool) → ((x && y) && z) ≡ (x && (y && z))
-    and_both true y z = refl
-    and_both false y z = refl
+    AreLeft operator first.others new.others (applied operator v b) → IsLeft operator first new (applied operator v b)
+left_more operator first v b operand old new dropped h k drops adds others = record {
+  canonical = h.canonical;
+  members = subst (λ (left : Value). (c : ℕ) → is_member left.members c ≡ (is_member first.set c && not (is_member new.points c)))
+      (sym (applied_is operator v b))
+      (members_left operator first.set v.members b.members old.points new.points dropped h.canonical h.members
+      (λ c within. drops c within ∙ ap (λ x. not (kept operator x)) (k.members.each c)) adds);
+  others = others;
+}
 
 -- the first operand once all of it is taken away
 pub left_over : (operator : Operator) (old new : CodeValue) (taken : Taken) (points : List Bounds) (v : Value) → IsLeft operator old taken v →
     HasMembers taken.points points → IsCanonical new.set →
-    ((c : ℕ) → is_member new.set c ≡ (is_member old.set c && not (is_member points c))) →
-    new.strings.items ≡ filter (λ string. kept operator (is_among (strings_of taken.strings.items) string.items)) old.strings.items →
-    new.has_empty ≡ (old.has_empty && kept operator taken.has_empty) → new.levels ≡ max old.levels taken.levels → IsValue new v
-left_over operator old new taken points v h has canonical members strings has_empty levels = record {
+    ((c : ℕ) → is_member new.set c ≡ (is_member old.set c && not (is_member points c))) → HasOthers v new.others → IsValue new v
+left_over operator old new taken points v h has canonical members others = record {
   members = record {
     canonical = canonical;
     each = λ c. members c ∙ ap (λ x. is_member old.set c && not x) (has.each c) ∙ sym (h.members c);
   };
-  strings = ap strings_of strings
-      ∙ kept_strings (λ s. kept operator (is_among (strings_of taken.strings.items) s))
-      (λ string. kept operator (is_among (strings_of taken.strings.items) string.items)) (λ string. refl) old.strings.items
-      ∙ sym h.strings;
-  has_empty = has_empty ∙ sym h.has_empty;
-  levels = levels ∙ sym h.levels;
+  others = others;
 }

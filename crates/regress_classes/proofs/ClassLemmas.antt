@@ -1,11 +1,12 @@
 -- What a class holds, part by part.
-use Rattle.std.proofs.Common.{◌≡◌, ℕ, ◌+◌, Bool, true, false, cond, ◌||◌, List, [], ◌∷◌, ◌++◌, length, drop, Some, None, refl, sym, ap, ◌∙◌, append_assoc, append-nil}
-use Rattle.std.proofs.lemmas.Bool.{cond-false}
+use Rattle.std.proofs.Common.{◌≡◌, ℕ, ◌+◌, ◌≤◌, ◌==◌, Bool, true, false, cond, not, ◌&&◌, ◌||◌, Option, List, [], ◌∷◌, ◌++◌, length, drop, Some, None, refl, sym, ap, ◌∙◌, append_assoc, append-nil, arith}
+use Rattle.std.proofs.lemmas.Bool.{cond-true, cond-false, and_parts, le-leb}
+use Rattle.std.specs.Prelude.{nat_le}
 use Rattle.regress_base.specs.Intervals.{Bounds, is_within, is_member, IsCanonical, IsComplement}
 use Rattle.regress_base.proofs.laws.Sets.{or_assoc, is_member-one, is_member-append}
 use Rattle.regress_base.specs.Table.{Table}
 use Rattle.regress_lexical.specs.Source.{Source, Found, ◌>>=◌, is_at}
-use Rattle.regress_classes.specs.ClassRows.{ClassAtom, atom_members, class_atom_at, complement, begins_range, range_at, class_part_at, class_parts_by, class_at}
+use Rattle.regress_classes.specs.ClassRows.{ClassAtom, point, range_of, atom_members, class_atom_at, complement, begins_range, range_at, class_part_at, class_parts_by, class_at}
 use Rattle.regress_classes.specs.ClassViews.{HasMembers, Adds}
 use Rattle.regress_classes.proofs.laws.Values.{complement_is}
 use Rattle.regress_classes.proofs.laws.Pieces.{more_parts, parts_closed, parts_go_on}
@@ -30,6 +31,14 @@ more_parts-more : (xs ys : List Bounds) (found : Found (List Bounds)) → more_p
 more_parts-more xs ys None = refl
 more_parts-more xs ys (Some x) = ap (λ (l : List Bounds). Some (l, x.1)) (sym (append_assoc xs ys x.0))
 
+no : (b : Bool) → not b ≡ true → b ≡ false
+no true e = sym e
+no false e = refl
+
+pub no_front : (k : ℕ) (t : Source) → length t ≡ 0 → is_at k t ≡ false
+no_front k [] e = refl
+no_front k (c ∷ t) e = absurd (omega arith)
+
 module _ (table : Table) (unicode : Bool) where
   -- an atom that begins no range is a part
   pub alone_read : (t rest : Source) (atom : ClassAtom) → class_atom_at table unicode t ≡ Some (atom, rest) →
@@ -38,6 +47,30 @@ module _ (table : Table) (unicode : Bool) where
       ap (λ (first : Found ClassAtom). first >>= λ (x : ClassAtom × Source).
       cond (begins_range x.1) (range_at table unicode x.0 (drop 1 x.1)) (Some (atom_members x.0, x.1))) found
       ∙ cond-false _ _ _ alone
+
+  -- ---- code points that stand for themselves
+
+  itself_read : (s t : Source) (c : ℕ) → s ≡ c ∷ t → (not (c == 93) && not (c == 92)) ≡ true → class_atom_at table unicode s ≡ Some (point c, t)
+  itself_read s t c front plain =
+      let parts = and_parts (not (c == 93)) (not (c == 92)) plain in
+      ap (class_atom_at table unicode) front ∙ cond-false _ _ _ (no (c == 93) parts.0) ∙ cond-false _ _ _ (no (c == 92) parts.1)
+
+  pub plain_point_read : (s t : Source) (c : ℕ) → s ≡ c ∷ t → (not (c == 93) && not (c == 92)) ≡ true → is_at 45 t ≡ false →
+      class_part_at table unicode s ≡ Some (record { first = c; last = c } ∷ [], t)
+  plain_point_read s t c front plain alone =
+      alone_read s t (point c) (itself_read s t c front plain) (ap (λ b. b && not (is_at 93 (drop 1 t))) alone)
+
+  pub plain_range_read : (s t u v : Source) (a b : ℕ) → s ≡ a ∷ t → t ≡ 45 ∷ u → u ≡ b ∷ v → (not (a == 93) && not (a == 92)) ≡ true →
+      (not (b == 93) && not (b == 92)) ≡ true → a ≤ b → class_part_at table unicode s ≡ Some (record { first = a; last = b } ∷ [], v)
+  plain_range_read s t u v a b front hyphen behind plain plain' le =
+      ap (λ (first : Found ClassAtom). first >>= λ (x : ClassAtom × Source).
+      cond (begins_range x.1) (range_at table unicode x.0 (drop 1 x.1)) (Some (atom_members x.0, x.1))) (itself_read s t a front plain)
+      ∙ cond-true _ _ _ (ap begins_range (hyphen ∙ ap (λ (r : Source). 45 ∷ r) behind) ∙ (and_parts (not (b == 93)) (not (b == 92)) plain').0)
+      ∙ ap (λ (r : Source). range_at table unicode (point a) (drop 1 r)) hyphen
+      ∙ ap (λ (last : Found ClassAtom). last >>= λ (x : ClassAtom × Source).
+      elim (range_of unicode (point a) x.0) as (λ _. Found (List Bounds)) [ None ↦ None | Some members ↦ Some (members, x.1) ]) (itself_read u v b behind plain')
+      ∙ ap (λ (o : Option (List Bounds)). elim o as (λ _. Found (List Bounds)) [ None ↦ None | Some members ↦ Some (members, v) ])
+      (cond-true (nat_le a b) _ _ (le-leb a b le))
 
   -- ---- the parts so far
 

@@ -1,27 +1,45 @@
 -- Operands of a class with the flag v, as they are read.
-use Rattle.std.proofs.Common.{◌≡◌, ℕ, Bool, true, false, ◌∷◌, drop, Option, Some, None, sym, ap, ◌∙◌}
+use Rattle.std.proofs.Common.{◌≡◌, ℕ, Bool, true, false, not, ◌&&◌, ◌||◌, cond, [], ◌∷◌, length, drop, Some, None, refl, sym, ap, arith, ◌∙◌}
 use Rattle.std.proofs.lemmas.Bool.{cond-true, cond-false}
-use Rattle.std.proofs.lemmas.Option.{none-some, same_Some}
-use Rattle.regress_base.specs.declared.charclasses.CharacterClassType.{CharacterClassType}
 use Rattle.regress_base.specs.Table.{Table}
-use Rattle.regress_lexical.specs.Source.{Source, Found, found_map, is_at, first_row}
-use Rattle.regress_classes.specs.ClassRows.{class_letter, class_members}
-use Rattle.regress_classes.specs.ClassSets.{Value, only, nested, Operand, character, class, set_character_at, operand_at, operand_rows, escaped_operand_at}
+use Rattle.regress_lexical.specs.Source.{Source, Found, found_map, is_at}
+use Rattle.regress_classes.specs.ClassSets.{Value, nested, Operand, character, class, is_set_syntax, is_double, begins_double, escaped_character_at, set_character_at, operand_at, escaped_operand_at}
 
--- a class by an escape
-pub class_escape_read : (table : Table) (unicode in_negated : Bool) (t : Source) (c : ℕ) (rest : Source) (named : CharacterClassType × Bool) →
-    t ≡ c ∷ rest → class_letter c ≡ Some named →
-    escaped_operand_at table unicode in_negated t ≡ Some (class (only (class_members named)), rest)
-class_escape_read table unicode in_negated t c rest named front letter =
-    ap (escaped_operand_at table unicode in_negated) front ∙ by (class_letter c) letter
-  where
-    by : (found : Option (CharacterClassType × Bool)) → found ≡ Some named →
-        elim found as (λ _. Found Operand) [
-          | Some name ↦ Some (class (only (class_members name)), rest)
-          | None ↦ first_row (operand_rows table unicode in_negated c rest)
-        ] ≡ Some (class (only (class_members named)), rest)
-    by None e = absurd (none-some _ e)
-    by (Some name) e = ap (λ (n : CharacterClassType × Bool). Some (class (only (class_members n)), rest)) (same_Some name named e)
+-- ---- rows of characters
+
+module _ (unicode : Bool) where
+  pub set_escape_read : (t mid : Source) → is_at 92 t ≡ true → mid ≡ drop 1 t → set_character_at unicode t ≡ escaped_character_at unicode mid
+  unfolding set_character_at
+  set_escape_read [] mid escapes moved = absurd cc
+  set_escape_read (c ∷ t) mid escapes moved = cond-true _ _ _ escapes ∙ ap (escaped_character_at unicode) (sym moved)
+
+  pub no_character : (t : Source) → length t ≡ 0 → set_character_at unicode t ≡ None
+  unfolding set_character_at
+  no_character [] e = refl
+  no_character (c ∷ t) e = absurd (omega arith)
+
+  character_by : (t : Source) (c : ℕ) (rest : Source) → t ≡ c ∷ rest → is_at 92 t ≡ false →
+      set_character_at unicode t ≡ cond (is_set_syntax c || (is_double c && begins_double rest)) None (Some (c, rest))
+  unfolding set_character_at
+  character_by t c rest front no_escape = ap (set_character_at unicode) front ∙ cond-false _ _ _ (ap (is_at 92) (sym front) ∙ no_escape)
+
+  pub itself_read : (t : Source) (c : ℕ) (rest : Source) → t ≡ c ∷ rest → is_at 92 t ≡ false →
+      not (is_set_syntax c || (is_double c && begins_double rest)) ≡ true → set_character_at unicode t ≡ Some (c, rest)
+  itself_read t c rest front no_escape itself =
+      character_by t c rest front no_escape ∙ if_not (is_set_syntax c || (is_double c && begins_double rest)) itself
+    where
+      if_not : (b : Bool) → not b ≡ true → cond {A = Found ℕ} b None (Some (c, rest)) ≡ Some (c, rest)
+      if_not true e = absurd cc
+      if_not false e = refl
+
+  pub no_itself : (t : Source) (c : ℕ) (rest : Source) → t ≡ c ∷ rest → is_at 92 t ≡ false →
+      not (is_set_syntax c || (is_double c && begins_double rest)) ≡ false → set_character_at unicode t ≡ None
+  no_itself t c rest front no_escape other =
+      character_by t c rest front no_escape ∙ if_not (is_set_syntax c || (is_double c && begins_double rest)) other
+    where
+      if_not : (b : Bool) → not b ≡ false → cond {A = Found ℕ} b None (Some (c, rest)) ≡ None
+      if_not true e = refl
+      if_not false e = absurd cc
 
 -- ---- rows of operands
 

@@ -12,10 +12,11 @@ use Rattle.std.specs.declared.alloc.Global.{Global}
 use Rattle.regress_base.specs.Intervals.{Bounds, is_within, is_member, IsCanonical, IsComplement, intervals_of}
 use Rattle.regress_base.proofs.laws.Sets.{is_member-one, is_member-append, canonical_is, intervals_of-agree}
 use Rattle.regress_classes.specs.declared.class_sets.value.Value.{Value as CodeValue}
+use Rattle.regress_classes.specs.declared.class_sets.others.Others.{Others}
 use Rattle.regress_classes.specs.declared.class_sets.union.Union.{Union as CodeUnion}
 use Rattle.regress_classes.specs.ClassRows.{complement, complement_if, one_point}
 use Rattle.regress_classes.specs.ClassSets.{Value, nothing, only, joined, nested, is_among, value_of_string}
-use Rattle.regress_classes.specs.ClassViews.{HasMembers, IsValue, IsUnion, strings_of}
+use Rattle.regress_classes.specs.ClassViews.{HasMembers, HasOthers, IsValue, IsUnion, strings_of}
 
 -- ---- members of a set
 
@@ -83,6 +84,13 @@ nothing-joined a = rw (zero-max a.levels) refl
     zero-max : (i : ℕ) → max 0 i ≡ i
     zero-max i = omega arith
 
+others_only : (a : Value) (members : List Bounds) (held : Others) → HasOthers a held → HasOthers (joined a (only members)) held
+others_only a members held h = record {
+  strings = h.strings ∙ sym (append-nil a.strings);
+  has_empty = h.has_empty ∙ sym (or_false a.has_empty);
+  levels = omega (arith, h.levels);
+}
+
 -- the same with one code point more
 pub with_point : (a : Value) (c : ℕ) (old : CodeValue) (set : List Bounds) → IsValue old a → IsCanonical set →
     ((n : ℕ) → is_member set n ≡ (is_member old.set n || (n == c))) →
@@ -92,9 +100,7 @@ with_point a c old set h canonical e = record {
     canonical = canonical;
     each = λ n. e n ∙ ap₂ (λ x y. x || y) (h.members.each n) (is_one_point c n) ∙ sym (is_member-append a.members (one_point c) n);
   };
-  strings = h.strings ∙ sym (append-nil a.strings);
-  has_empty = h.has_empty ∙ sym (or_false a.has_empty);
-  levels = omega (arith, h.levels);
+  others = others_only a (one_point c) old.others h.others;
 }
 
 -- the same for parts
@@ -103,9 +109,7 @@ pub union_points : (a : Value) (members : List Bounds) (old : CodeUnion) (points
     IsUnion (record old { points = points }) (joined a (only members))
 union_points a members old points h e = record {
   members = λ n. e n ∙ ap (λ b. b || is_member members n) (h.members n) ∙ sym (is_member-append a.members members n);
-  strings = h.strings ∙ sym (append-nil a.strings);
-  has_empty = h.has_empty ∙ sym (or_false a.has_empty);
-  levels = omega (arith, h.levels);
+  others = others_only a members old.others h.others;
 }
 
 -- a string of one is a code point
@@ -155,40 +159,16 @@ kept_strings test p same (string ∷ strings) =
     if_kept true rest = ap (λ l. string.items ∷ l) rest
     if_kept false rest = rest
 
--- what the other one has, or what it lacks, of both kinds
-pub held_where : (keep : Bool → Bool) (a b : Value) (old other : CodeValue) (set : List Bounds) (strings : Vec (Vec ℕ Global) Global)
-    (has_empty : Bool) (levels : ℕ) (p : Vec ℕ Global → Bool) → IsValue old a → IsValue other b → IsCanonical set →
-    ((c : ℕ) → is_member set c ≡ (is_member old.set c && keep (is_member other.set c))) →
-    ((string : Vec ℕ Global) → p string ≡ keep (is_among (strings_of other.strings.items) string.items)) →
-    strings.items ≡ filter p old.strings.items → has_empty ≡ (old.has_empty && keep other.has_empty) → levels ≡ max old.levels other.levels →
-    IsValue (record { set = set; strings = strings; has_empty = has_empty; levels = levels }) (record {
-      members = intervals_of (λ c. is_member a.members c && keep (is_member b.members c));
-      strings = filter (λ s. keep (is_among b.strings s)) a.strings;
-      has_empty = a.has_empty && keep b.has_empty;
-      levels = max a.levels b.levels;
-    })
-held_where keep a b old other set strings has_empty levels p h k canonical members same kept empty deep = record {
-  members = members_where (λ c. is_member a.members c && keep (is_member b.members c)) set canonical
-      (λ c. members c ∙ ap₂ (λ x y. x && keep y) (h.members.each c) (k.members.each c));
-  strings = ap strings_of kept
-      ∙ kept_strings (λ s. keep (is_among b.strings s)) p (λ string. same string ∙ ap (λ l. keep (is_among l string.items)) k.strings) old.strings.items
-      ∙ ap (filter (λ s. keep (is_among b.strings s))) h.strings;
-  has_empty = empty ∙ ap₂ (λ x y. x && keep y) h.has_empty k.has_empty;
-  levels = deep ∙ ap₂ max h.levels k.levels;
-}
-
 -- a class in another one
 pub held_nested : (read : Bool × Value) (negated : Bool) (old : CodeValue) (set : List Bounds) → (negated ≡ read.0) × IsValue old read.1 →
     HasMembers (complement_if negated old.set) set →
-    IsValue (record old { set = set; levels = old.levels + 1 }) (nested read)
+    IsValue (record { set = set; others = record old.others { levels = old.others.levels + 1 } }) (nested read)
 held_nested (negated, value) b old set (same, h) members = rw (sym same) (record {
   members = record {
     canonical = members.canonical;
     each = λ c. members.each c ∙ complements b c;
   };
-  strings = h.strings;
-  has_empty = h.has_empty;
-  levels = ap (λ n. n + 1) h.levels;
+  others = record { strings = h.others.strings; has_empty = h.others.has_empty; levels = ap (λ n. n + 1) h.others.levels };
 })
   where
     complements : (b : Bool) (c : ℕ) → is_member (complement_if b old.set) c ≡ is_member (complement_if b value.members) c

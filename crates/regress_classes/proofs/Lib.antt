@@ -5,5 +5,6 @@ mod ClassLemmas
 mod ClassOperandLemmas
 mod ClassSetLemmas
 mod ClassStringLemmas
+mod EscapeRows
 mod GatheredLemmas
 mod PropertyLemmas

@@ -10,6 +10,7 @@ use Rattle.regress_classes.specs.declared.class_atom.ClassAtom.TheVariants as cl
 use Rattle.regress_classes.specs.declared.property.Property.{Property as CodeProperty}
 use Rattle.regress_classes.specs.declared.property.Property.TheVariants as properties
 use Rattle.regress_classes.specs.declared.class_sets.value.Value.{Value as CodeValue}
+use Rattle.regress_classes.specs.declared.class_sets.others.Others.{Others}
 use Rattle.regress_classes.specs.declared.class_sets.union.Union.{Union as CodeUnion}
 use Rattle.regress_classes.specs.declared.class_sets.chain.Chain.{Chain}
 use Rattle.regress_classes.specs.declared.class_sets.chain.Taken.{Taken}
@@ -57,19 +58,21 @@ abbrev pub property_of : CodeProperty → Property
 property_of (properties.Points members) = of_points members.now
 property_of (properties.Strings written) = of_strings (strings_of written.now)
 
--- what the code has read of a class with the flag v is this value
-pub record IsValue (held : CodeValue) (value : Value) : Type 0 where
-  pub members : HasMembers value.members held.set
+-- what the code holds beside the members of a value
+pub record HasOthers (value : Value) (held : Others) : Type 0 where
   pub strings : strings_of held.strings.items ≡ value.strings
   pub has_empty : held.has_empty ≡ value.has_empty
   pub levels : held.levels ≡ value.levels
 
+-- what the code has read of a class with the flag v is this value
+pub record IsValue (held : CodeValue) (value : Value) : Type 0 where
+  pub members : HasMembers value.members held.set
+  pub others : HasOthers value held.others
+
 -- the same of parts, of which the code points are still gathered
 pub record IsUnion (held : CodeUnion) (value : Value) : Type 0 where
   pub members : (c : ℕ) → is_member held.points c ≡ is_member value.members c
-  pub strings : strings_of held.strings.items ≡ value.strings
-  pub has_empty : held.has_empty ≡ value.has_empty
-  pub levels : held.levels ≡ value.levels
+  pub others : HasOthers value held.others
 
 -- The new union has what the part holds too.
 abbrev pub Joins : Value → (old new : CodeUnion) → Type 0
@@ -107,13 +110,17 @@ abbrev pub kept : Operator → Bool → Bool
 kept operators.Intersection has = has
 kept operators.Subtraction has = not has
 
+-- The value has what is left of these where the others are taken away.
+pub record AreLeft (operator : Operator) (first taken : Others) (value : Value) : Type 0 where
+  pub strings : value.strings ≡ filter (λ s. kept operator (is_among (strings_of taken.strings.items) s)) (strings_of first.strings.items)
+  pub has_empty : value.has_empty ≡ (first.has_empty && kept operator taken.has_empty)
+  pub levels : value.levels ≡ max first.levels taken.levels
+
 -- The value is what is left of the first operand where these are taken away.
 pub record IsLeft (operator : Operator) (first : CodeValue) (taken : Taken) (value : Value) : Type 0 where
   pub canonical : IsCanonical first.set
   pub members : (c : ℕ) → is_member value.members c ≡ (is_member first.set c && not (is_member taken.points c))
-  pub strings : value.strings ≡ filter (λ s. kept operator (is_among (strings_of taken.strings.items) s)) (strings_of first.strings.items)
-  pub has_empty : value.has_empty ≡ (first.has_empty && kept operator taken.has_empty)
-  pub levels : value.levels ≡ max first.levels taken.levels
+  pub others : AreLeft operator first.others taken.others value
 
 -- what a chain of operators comes to so far
 abbrev pub IsChain : Chain → Value → Type 0

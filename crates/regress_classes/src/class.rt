@@ -1,5 +1,5 @@
 //! What stands between brackets, without the flag v.
-ghost use Rattle.std.specs.Prelude.{◌≡◌, ◌+◌, ◌==◌, ◌&&◌, not, Bool, drop, if◌then◌else◌, Some, None, List, [], ◌∷◌, length, OnOk, IfSome, IfNone};
+ghost use Rattle.std.specs.Prelude.{◌≡◌, ◌+◌, ◌==◌, ◌&&◌, not, Bool, true, drop, if◌then◌else◌, Some, None, List, [], ◌∷◌, length, OnOk, IfSome, IfNone};
 ghost use Rattle.regress_base.specs.Intervals.{Bounds};
 ghost use Rattle.regress_classes.specs.ClassRows.{complement_if, atom_members, begins_range, range_of, range_at, class_part_at, class_parts_by, class_at};
 ghost use Rattle.regress_base.specs.Table.{Table};
@@ -85,18 +85,29 @@ fn take_plain_part(cursor: &mut Cursor) -> Option<Interval>
         class_part_at table unicode (source cursor.old) ≡ Some (part ∷ [], source cursor.new)) }
     ensures none { IfNone result (source cursor.new ≡ source cursor.old) }
 {
-    match cursor.rest {
-        [a, hyphen, b, rest @ ..]
-            if *hyphen == u32::from('-') && is_itself(*a) && is_itself(*b) && a <= b => {
+    let (first, behind) = split_plain(cursor.rest)?;
+    match behind.split_first() {
+        Some((hyphen, rest)) if *hyphen == u32::from('-') => {
+            let (last, rest) = split_plain(rest)?;
+            if first > last {
+                return None;
+            }
             cursor.rest = rest;
-            Some(Interval::new(*a, *b))
+            Some(Interval::new(first, last))
         }
-        [a, rest @ ..] if is_itself(*a) && rest.first() != Some(&u32::from('-')) => {
-            cursor.rest = rest;
-            Some(Interval::new(*a, *a))
+        _ => {
+            cursor.rest = behind;
+            Some(Interval::new(first, first))
         }
-        _ => None,
     }
+}
+
+/// The code point at the front and what is behind it, if it stands for itself.
+fn split_plain(source: &[u32]) -> Option<(u32, &[u32])>
+    ensures { IfSome result (λ found. (source.now ≡ found.0 ∷ found.1.now) × ((not (found.0 == char "]") && not (found.0 == char "\\")) ≡ true)) }
+{
+    let (c, rest) = source.split_first()?;
+    is_itself(*c).then_some((*c, rest))
 }
 
 /// Whether the code point stands for itself between brackets.

@@ -10,6 +10,7 @@ ghost use Rattle.regress_unicode.specs.TableOf.{table_of};
 mod chain;
 mod character;
 mod operand;
+mod others;
 mod strings;
 mod union;
 mod value;
@@ -17,6 +18,7 @@ mod value;
 use chain::Chain;
 use character::read_set_character;
 use operand::{Operand, read_escaped_operand};
+pub use others::Others;
 use regress_base::codepointset::Interval;
 use regress_lexical::cursor::Cursor;
 use regress_lexical::fault::{Fault, FaultKind, refused};
@@ -35,14 +37,14 @@ pub struct ClassSet {
 impl ClassSet {
     /// What it holds in the class around it, where a negated one is complemented.
     fn into_nested(self) -> Result<Value, AllocError>
-        requires { self.value.levels < 2 ^ 32 - 1 }
+        requires { self.value.others.levels < 2 ^ 32 - 1 }
         ensures { IfOk result (λ held. (read : Bool × Written) → IsClassSetRead self read → IsValue held (nested read)) }
     {
         let ClassSet { negated, mut value } = self;
         if negated {
             value.set = value.set.inverted()?;
         }
-        value.levels += 1;
+        value.others.levels += 1;
         Ok(value)
     }
 }
@@ -101,7 +103,7 @@ pub fn read_class_set(
     opened: usize,
 ) -> Result<ClassSet, Fault>
     ensures value { ReadsAs IsClassSetRead (source cursor.new) result (class_set_by (table_of tables.now) unicode levels (source cursor.old)) }
-    ensures levels { IfOk result (λ class. class.value.levels < levels) }
+    ensures levels { IfOk result (λ class. class.value.others.levels < levels) }
     ensures kind { FailsByLevelsOnlyIf result (levels ≤ length (source cursor.old)) }
 {
     if levels == 0 {

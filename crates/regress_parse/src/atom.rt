@@ -108,7 +108,7 @@ fn read_brackets(
         opened,
     )?;
     // The scan in front has refused these already.
-    if class.value.levels > left {
+    if class.value.others.levels > left {
         return Err(refused(opened, FaultKind::TooDeep));
     }
     Ok(make_class_set(cursor.alloc, class.negated, class.value, scope)?)
@@ -136,10 +136,10 @@ fn read_escaped(cursor: &mut Cursor, scope: &Scope, begin: usize) -> Result<Node
     ensures value { ReadsAs (IsNode (context_of scope.now) 0 true) (source cursor.new) result (escaped_at (context_of scope.now) (source cursor.old)) }
     ensures kind { FailsByNoLimit result }
 {
-    let Some(c) = cursor.rest.first().copied() else {
+    let Some((c, rest)) = cursor.rest.split_first() else {
         return Err(refused(begin, FaultKind::IncompleteEscape));
     };
-    let rest = &cursor.rest[1..];
+    let c = *c;
     if let Some((kind, negated)) = class_letter(c) {
         cursor.rest = rest;
         Ok(make_class_escape(cursor.alloc, kind, negated, scope)?)

@@ -177,8 +177,8 @@ pub(crate) fn make_class_set(
         (intervals_of (is_in_class (table_of scope.now.tables.now) scope.now.flags false written.members))) }
 {
     let alone = !value.has_strings();
-    let has_empty = value.has_empty;
-    let mut strings = value.strings;
+    let has_empty = value.others.has_empty;
+    let mut strings = value.others.strings;
     sort_longest_first(&mut strings)?;
     let contents = BracketContents {
         invert: negated,

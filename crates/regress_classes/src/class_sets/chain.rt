@@ -1,11 +1,12 @@
 //! Chains of operators in a class with the flag v.
-ghost use Rattle.std.specs.Prelude.{◌≡◌, ◌≤◌, ◌&&◌, ℕ, not, List, IfOk, OnOk};
+ghost use Rattle.std.specs.Prelude.{◌≡◌, ◌≤◌, ℕ, not, IfOk};
 ghost use Rattle.regress_base.specs.Intervals.{is_member};
-ghost use Rattle.regress_classes.specs.ClassSets.{Value as Written, is_among};
-ghost use Rattle.regress_classes.specs.ClassViews.{IsValue, IsChain, IsLeft, strings_of, applied, kept};
+ghost use Rattle.regress_classes.specs.ClassSets.{Value as Written};
+ghost use Rattle.regress_classes.specs.ClassViews.{IsValue, IsChain, IsLeft, applied, kept};
 
 use super::Operator;
-use super::value::{Value, keep_strings};
+use super::others::Others;
+use super::value::Value;
 use crate::gathered::Gathered;
 use regress_base::codepointset::{CODE_POINT_MAX, CodePointSet};
 use std::alloc::{AllocError, Global};
@@ -25,10 +26,7 @@ pub struct Taken {
     /// The code points that are dropped.
     points: Gathered,
     /// The strings that `&&` keeps, or that `--` drops.
-    strings: Vec<Vec<u32>>,
-    /// Whether the empty string is one of these.
-    has_empty: bool,
-    levels: u32,
+    others: Others,
 }
 
 impl Chain {
@@ -89,13 +87,11 @@ impl Taken {
         ensures { IfOk result (λ taken. (first : Value) (a b : Written) →
             IsValue first a → IsValue operand b → IsLeft operator first taken (applied operator a b)) }
     {
-        let mut points = Gathered::new(*operand.strings.allocator());
+        let mut points = Gathered::new(*operand.others.strings.allocator());
         points.add_set(dropped_points(operator, operand.set)?)?;
         Ok(Taken {
             points,
-            strings: operand.strings,
-            has_empty: operand.has_empty,
-            levels: operand.levels,
+            others: operand.others,
         })
     }
 
@@ -108,9 +104,7 @@ impl Taken {
         points.add_set(dropped_points(operator, operand.set)?)?;
         Ok(Taken {
             points,
-            strings: both_strings(operator, self.strings, operand.strings)?,
-            has_empty: both(operator, self.has_empty, operand.has_empty),
-            levels: self.levels.max(operand.levels),
+            others: self.others.and(operator, operand.others)?,
         })
     }
 
@@ -120,7 +114,7 @@ impl Taken {
     {
         let points = self.points.into_set()?;
         value.set.remove(points.intervals())?;
-        value.apply_rest(operator, &self.strings, self.has_empty, self.levels)?;
+        value.others.apply(operator, &self.others)?;
         Ok(value)
     }
 }
@@ -133,36 +127,5 @@ fn dropped_points(operator: Operator, set: CodePointSet) -> Result<CodePointSet,
     match operator {
         Operator::Intersection => set.inverted(),
         Operator::Subtraction => Ok(set),
-    }
-}
-
-/// The strings that both keep, or that either drops.
-fn both_strings(
-    operator: Operator,
-    mut strings: Vec<Vec<u32>>,
-    mut others: Vec<Vec<u32>>,
-) -> Result<Vec<Vec<u32>>, AllocError>
-    ensures { IfOk result (λ both. (s : List ℕ) → kept operator (is_among (strings_of both.items) s)
-        ≡ (kept operator (is_among (strings_of strings.items) s) && kept operator (is_among (strings_of others.items) s))) }
-{
-    match operator {
-        Operator::Intersection => {
-            keep_strings(&mut others, &strings)?;
-            Ok(others)
-        }
-        Operator::Subtraction => {
-            strings.append(&mut others)?;
-            Ok(strings)
-        }
-    }
-}
-
-/// Whether both keep the empty string, or either drops it.
-fn both(operator: Operator, has_empty: bool, other: bool) -> bool
-    ensures { kept operator result ≡ (kept operator has_empty && kept operator other) }
-{
-    match operator {
-        Operator::Intersection => has_empty && other,
-        Operator::Subtraction => has_empty || other,
     }
 }

@@ -1,5 +1,5 @@
 //! Characters of a class with the flag v.
-ghost use Rattle.std.specs.Prelude.{◌≡◌, IfOk};
+ghost use Rattle.std.specs.Prelude.{◌≡◌, ◌&&◌, ◌||◌, not, IfOk};
 ghost use Rattle.regress_classes.specs.ClassSets.{is_set_syntax, is_double, begins_double, is_reserved, escaped_character_at, set_character_at};
 ghost use Rattle.regress_lexical.specs.Fault.{FailsByNoLimit};
 ghost use Rattle.regress_lexical.specs.Reads.{AlwaysReads};
@@ -13,7 +13,6 @@ use regress_lexical::fault::{Fault, FaultKind, refused};
 
 /// Reads a character (this project's profile of ECMA-262, ClassSetCharacter). The fault comes where a code point doesn't
 /// stand for itself, or where a backslash begins no escape of a character.
-#[tactic(auto, unfolding(crate::specs::ClassSets::set_character_at))]
 pub(super) fn read_set_character(cursor: &mut Cursor, unicode: bool) -> Result<u32, Fault>
     ensures value { AlwaysReads (λ c. c) (source cursor.new) result (set_character_at unicode (source cursor.old)) }
     ensures in_range { IfOk result IsCodePoint }
@@ -23,13 +22,20 @@ pub(super) fn read_set_character(cursor: &mut Cursor, unicode: bool) -> Result<u
     if cursor.try_consume('\\') {
         return read_escaped_character(cursor, unicode, begin);
     }
-    match cursor.rest {
-        [c, rest @ ..] if !is_set_syntax(*c) && !(is_double(*c) && begins_double(rest)) => {
+    match cursor.rest.split_first() {
+        Some((c, rest)) if is_itself(*c, rest) => {
             cursor.rest = rest;
             Ok(*c)
         }
         _ => Err(cursor.refuse(FaultKind::InvalidSetCharacter)),
     }
+}
+
+/// Whether the code point stands for itself before the rest.
+fn is_itself(c: u32, rest: &[u32]) -> bool
+    ensures { result ≡ not (is_set_syntax c || (is_double c && begins_double rest.now)) }
+{
+    !is_set_syntax(c) && !(is_double(c) && begins_double(rest))
 }
 
 /// Reads the escape of a character, behind its backslash. `begin` is how many code points were left before that.

@@ -6,6 +6,7 @@ ghost use Rattle.regress_lexical.specs.Source.{IsCodePoint};
 ghost use Rattle.regress_classes.specs.ClassViews.{IsValue, IsUnion, IsOperand};
 
 use super::operand::Operand;
+use super::others::Others;
 use super::value::Value;
 use crate::gathered::Gathered;
 use regress_base::codepointset::Interval;
@@ -15,9 +16,7 @@ use std::alloc::{AllocError, Global};
 #[derive(Drop)]
 pub struct Union {
     points: Gathered,
-    strings: Vec<Vec<u32>>,
-    has_empty: bool,
-    levels: u32,
+    others: Others,
 }
 
 impl Union {
@@ -27,9 +26,7 @@ impl Union {
     {
         Union {
             points: Gathered::new(alloc),
-            strings: Vec::new(alloc),
-            has_empty: false,
-            levels: 0,
+            others: Others::new(alloc),
         }
     }
 
@@ -61,14 +58,11 @@ impl Union {
     }
 
     /// Adds what a value holds.
-    fn join(&mut self, mut other: Value) -> Result<(), AllocError>
+    fn join(&mut self, other: Value) -> Result<(), AllocError>
         ensures { OnOk result ((a b : Written) → IsUnion self.old a → IsValue other b → IsUnion self.new (joined a b)) }
     {
         self.points.add_set(other.set)?;
-        self.strings.append(&mut other.strings)?;
-        self.has_empty |= other.has_empty;
-        self.levels = self.levels.max(other.levels);
-        Ok(())
+        self.others.join(other.others)
     }
 
     /// The value, where all of them are read.
@@ -77,9 +71,7 @@ impl Union {
     {
         Ok(Value {
             set: self.points.into_set()?,
-            strings: self.strings,
-            has_empty: self.has_empty,
-            levels: self.levels,
+            others: self.others,
         })
     }
 }

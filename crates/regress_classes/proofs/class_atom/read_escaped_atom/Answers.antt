@@ -1,12 +1,20 @@
--- What is left of code points are code points.
-use Rattle.std.proofs.Common.{ℕ, ◌∷◌, sym, ap, ◌∙◌, subst}
+-- Which row it is, and that what is left of code points are code points.
+use Rattle.std.proofs.Common.{◌≡◌, ℕ, false, not, ◌&&◌, ◌||◌, ◌==◌, ◌∷◌, Some, sym, ap, ◌∙◌, subst}
+use Rattle.std.proofs.lemmas.Bool.{ne_eqb, and_left, and_right}
 use Rattle.std.specs.List.{All}
 use Rattle.std.proofs.lemmas.List.Elements.{All-tail}
-use Rattle.regress_lexical.specs.Source.{IsCodePoint}
+use Rattle.regress_lexical.specs.Reads.{Reads}
+use Rattle.regress_lexical.specs.Source.{IsCodePoint, Found, found_map}
+use Rattle.regress_lexical.specs.Views.{source}
+use Rattle.regress_unicode.specs.TableOf.{table_of}
+use Rattle.regress_lexical.proofs.laws.Sources.{on_refused}
+use Rattle.regress_classes.specs.ClassRows.{ClassAtom, point, class_property_at}
+use Rattle.regress_classes.proofs.EscapeRows.{set_read, backspace_read, hyphen_read, control_read, property_read, point_read}
 use Rattle.regress_classes.specs.ClassViews.{class_atom_of}
 use Rattle.regress_lexical.proofs.laws.Behind.{behind_all, escape_at-ends}
 use Rattle.regress_classes.proofs.laws.Pieces.{class_control_at-ends}
 use Rattle.regress_classes.proofs.class_atom.read_escaped_atom.Goals as goal
+use Rattle.regress_classes.proofs.class_atom.read_escaped_atom.Goals.{else-c-from-2-via-then-c-from-2+else-unicode, else-c-from-2-via-else-c-from-2, else-c-from-3-via-then-c-from-3+else-not-unicode, else-c-from-3-via-else-c-from-3, else-is_property_letter-via-then-is_property_letter+else-unicode-2, else-is_property_letter-via-else-is_property_letter}
 
 pub invariant_of-cursor-then-not-unicode : goal.invariant_of-cursor-then-not-unicode
 invariant_of-cursor-then-not-unicode c =
@@ -30,3 +38,89 @@ invariant_of-cursor-else-is_property_letter c = record {
       (c.in-Some-read_escape.point, c.in-Some-read_escape.behind.now) (sym c.in-Some-read_escape.ensures.value))
       c.args.cursor.now.in_range;
 }
+
+pub returns-in-Some-class_letter-clause-value : goal.returns-in-Some-class_letter-clause-value
+returns-in-Some-class_letter-clause-value c =
+    let letter = c.in-Some.c.now in
+    let front = c.in-Some.ensures.cases.0 in
+    let named = c.in-Some-class_letter in
+    set_read (table_of c.args.tables.now) c.args.unicode (source c.args.cursor.now) letter c.in-Some.rest.now front
+    (named.kind, named.negated) (sym c.class_letter.ensures ∙ named.is)
+
+pub returns-then-c-from-clause-value : goal.returns-then-c-from-clause-value
+returns-then-c-from-clause-value c =
+    let letter = c.in-Some.c.now in
+    let front = c.in-Some.ensures.cases.0 in
+    backspace_read (table_of c.args.tables.now) c.args.unicode (source c.args.cursor.now) letter c.in-Some.rest.now front
+    (c.if-c-from.true ∙ c.from.ensures)
+
+pub returns-then-unicode-clause-value : goal.returns-then-unicode-clause-value
+returns-then-unicode-clause-value c =
+    let letter = c.in-Some.c.now in
+    let front = c.in-Some.ensures.cases.0 in
+    hyphen_read (table_of c.args.tables.now) c.args.unicode (source c.args.cursor.now) letter c.in-Some.rest.now front
+    (c.if-c-from-2.true ∙ c.from-else-c-from.ensures) c.if-unicode.true
+
+pub returns-then-not-unicode-clause-value : goal.returns-then-not-unicode-clause-value
+returns-then-not-unicode-clause-value c =
+    let letter = c.in-Some.c.now in
+    let front = c.in-Some.ensures.cases.0 in
+    control_read (table_of c.args.tables.now) c.args.unicode (source c.args.cursor.now) letter c.in-Some.rest.now front
+    (c.if-c-from-3.true ∙ c.from-else-c-from-2.ensures) c.if-not-unicode.true
+    ∙ sym c.class_control.ensures.value
+
+pub returns-then-unicode-2-clause-value : goal.returns-then-unicode-2-clause-value
+returns-then-unicode-2-clause-value c =
+    let letter = c.in-Some.c.now in
+    let front = c.in-Some.ensures.cases.0 in
+    let row = property_read (table_of c.args.tables.now) c.args.unicode (source c.args.cursor.now) letter c.in-Some.rest.now front
+    (sym c.is_property_letter.ensures ∙ c.if-is_property_letter.true) c.if-unicode-2.true in
+    subst (Reads class_atom_of (source c.read_class_property.new.cursor) c.read_class_property.result)
+    (ap (λ d. class_property_at (table_of c.args.tables.now) (letter == d) c.in-Some.rest.now) c.from-then-unicode-2.ensures ∙ sym row)
+    c.read_class_property.ensures.value
+
+pub returns-in-Some-read_escape-clause-value : goal.returns-in-Some-read_escape-clause-value
+returns-in-Some-read_escape-clause-value c =
+    let letter = c.in-Some.c.now in
+    let front = c.in-Some.ensures.cases.0 in
+    let hyphen : (letter == 45 && c.args.unicode) ≡ false = elim c.else-c-from-2.branch [
+      | else-c-from-2-via-then-c-from-2+else-unicode w ↦ and_right (letter == 45) c.args.unicode w.if-unicode.false
+      | else-c-from-2-via-else-c-from-2 w ↦
+          and_left (letter == 45) c.args.unicode (ne_eqb letter 45 (λ e. w.if-c-from-2.false (e ∙ sym c.from-else-c-from.ensures)))
+    ] in
+    let control : (letter == 99 && not c.args.unicode) ≡ false = elim c.else-c-from-3.branch [
+      | else-c-from-3-via-then-c-from-3+else-not-unicode w ↦ and_right (letter == 99) (not c.args.unicode) (ap not w.if-not-unicode.false)
+      | else-c-from-3-via-else-c-from-3 w ↦
+          and_left (letter == 99) (not c.args.unicode) (ne_eqb letter 99 (λ e. w.if-c-from-3.false (e ∙ sym c.from-else-c-from-2.ensures)))
+    ] in
+    let property : ((letter == 112 || letter == 80) && c.args.unicode) ≡ false = elim c.else-is_property_letter.branch [
+      | else-is_property_letter-via-then-is_property_letter+else-unicode-2 w ↦ and_right (letter == 112 || letter == 80) c.args.unicode w.if-unicode-2.false
+      | else-is_property_letter-via-else-is_property_letter w ↦
+          and_left (letter == 112 || letter == 80) c.args.unicode (sym c.is_property_letter.ensures ∙ w.if-is_property_letter.false)
+    ] in
+    let row = point_read (table_of c.args.tables.now) c.args.unicode (source c.args.cursor.now) letter c.in-Some.rest.now front
+    (sym c.class_letter.ensures ∙ c.in_default-class_letter.is) (ne_eqb letter 98 (λ e. c.if-c-from.false (e ∙ sym c.from.ensures))) hyphen control property in
+    row ∙ ap (found_map point) (sym c.in-Some-read_escape.ensures.value)
+
+pub returns-in_default-read_escape-clause-value : goal.returns-in_default-read_escape-clause-value
+returns-in_default-read_escape-clause-value c =
+    let letter = c.in-Some.c.now in
+    let front = c.in-Some.ensures.cases.0 in
+    let hyphen : (letter == 45 && c.args.unicode) ≡ false = elim c.else-c-from-2.branch [
+      | else-c-from-2-via-then-c-from-2+else-unicode w ↦ and_right (letter == 45) c.args.unicode w.if-unicode.false
+      | else-c-from-2-via-else-c-from-2 w ↦
+          and_left (letter == 45) c.args.unicode (ne_eqb letter 45 (λ e. w.if-c-from-2.false (e ∙ sym c.from-else-c-from.ensures)))
+    ] in
+    let control : (letter == 99 && not c.args.unicode) ≡ false = elim c.else-c-from-3.branch [
+      | else-c-from-3-via-then-c-from-3+else-not-unicode w ↦ and_right (letter == 99) (not c.args.unicode) (ap not w.if-not-unicode.false)
+      | else-c-from-3-via-else-c-from-3 w ↦
+          and_left (letter == 99) (not c.args.unicode) (ne_eqb letter 99 (λ e. w.if-c-from-3.false (e ∙ sym c.from-else-c-from-2.ensures)))
+    ] in
+    let property : ((letter == 112 || letter == 80) && c.args.unicode) ≡ false = elim c.else-is_property_letter.branch [
+      | else-is_property_letter-via-then-is_property_letter+else-unicode-2 w ↦ and_right (letter == 112 || letter == 80) c.args.unicode w.if-unicode-2.false
+      | else-is_property_letter-via-else-is_property_letter w ↦
+          and_left (letter == 112 || letter == 80) c.args.unicode (sym c.is_property_letter.ensures ∙ w.if-is_property_letter.false)
+    ] in
+    let row = point_read (table_of c.args.tables.now) c.args.unicode (source c.args.cursor.now) letter c.in-Some.rest.now front
+    (sym c.class_letter.ensures ∙ c.in_default-class_letter.is) (ne_eqb letter 98 (λ e. c.if-c-from.false (e ∙ sym c.from.ensures))) hyphen control property in
+    on_refused c.refused-in_default-read_escape.result (row ∙ ap (found_map point) (sym c.in_default-read_escape.ensures.value))

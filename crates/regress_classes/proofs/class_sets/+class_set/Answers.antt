@@ -410,7 +410,7 @@ read_class_set-returns-clause-levels t c =
     let read = read_class_set-returns-clause-value t c in
     let fewer = (class_set_by-levels (table_of tables) tables.sound.lawful c.args.unicode c.args.levels (source c.args.cursor.now)
     c.args.cursor.now.in_range).each (read.0, source c.read_contents.new.cursor) read.1 in
-    omega (arith, fewer, read.2.1.levels)
+    omega (arith, fewer, read.2.1.others.levels)
 
 -- ---- levels
 

@@ -34,7 +34,7 @@ returns-then-class-left-clause-value c =
     let found = c.in_ok-class-2.ensures.value in
     let here = cond-true _ _ _ c.if-not-scope.false ∙ ap (found_map (λ (negated, value). class_set flags negated value)) found.1 in
     on_refused c.refused.result
-    (subst (λ (f : Found Atom). IfSome f (λ x. c.args.left < levels_of_atom x.0)) (sym here) (omega (arith, found.2.1.levels)))
+    (subst (λ (f : Found Atom). IfSome f (λ x. c.args.left < levels_of_atom x.0)) (sym here) (omega (arith, found.2.1.others.levels)))
 
 pub returns-clause-value : goal.returns-clause-value
 returns-clause-value c =
@@ -45,7 +45,7 @@ returns-clause-value c =
       cond-true _ _ _ c.if-not-scope.false ∙ ap (found_map (λ (negated, value). class_set flags negated value)) found.1,
       record {
         node = c.in_ok-make_class_set.ensures found.0.1 found.2.1 ∙ ap (tree_of_atom (table_of c.args.scope.now.tables.now) (names_in c.args.scope.now.groups.now)) same;
-        levels = omega (arith, found.2.1.levels);
+        levels = omega (arith, found.2.1.others.levels);
         allows = refl;
       },
     )
@@ -64,7 +64,7 @@ returns-then-class-left-clause-kind c =
       omega (
         arith,
         c.if-class-left.true,
-        found.2.1.levels,
+        found.2.1.others.levels,
         class_set_at-levels (table_of tables) tables.sound.lawful c.args.scope.now.flags.unicode (source c.args.cursor.now)
             (found.0, source c.read_class_set.new.cursor) found.1,
       ),

@@ -1,29 +1,28 @@
 -- Which row it is.
-use Rattle.std.proofs.Common.{◌≡◌, ℕ, false, true, ◌==◌, ◌-◌, ◌∷◌, Some, length, take, drop, arith, rules, length-drop, refl, sym, ap, ap₂, subst, ◌∙◌}
+use Rattle.std.proofs.Common.{◌≡◌, ℕ, false, true, ◌==◌, ◌∷◌, drop, Some, arith, refl, sym, ap, ap₂, subst, ◌∙◌}
 use Rattle.std.proofs.lemmas.Bool.{ne_eqb}
-use Rattle.std.proofs.lemmas.List.{take_all}
 use Rattle.regress_lexical.specs.Reads.{ReadsAs}
-use Rattle.regress_lexical.specs.Source.{Source, Found}
+use Rattle.std.proofs.lemmas.List.Elements.{All-tail}
+use Rattle.std.specs.List.{All}
+use Rattle.regress_lexical.specs.Source.{Source, IsCodePoint}
 use Rattle.regress_lexical.specs.Views.{source}
-use Rattle.regress_syntax.specs.Rows.{escaped_at, escaped_by, is_lone_backslash, property_atom_at}
-use Rattle.regress_syntax.specs.Syntax.{Atom, literal, boundary, class_escape}
+use Rattle.regress_syntax.specs.Rows.{numbered_at, character_at, property_atom_at}
+use Rattle.regress_syntax.specs.Syntax.{literal, boundary, class_escape}
 use Rattle.regress_syntax.specs.Views.{context_of}
 use Rattle.regress_parse.specs.Parsing.{IsNode}
-use Rattle.regress_parse.proofs.EscapeRows.{class_read, lone_read, property_read, character_read}
+use Rattle.regress_parse.proofs.EscapeRows.{class_read, boundary_read, no_boundary_read, lone_read, property_read, number_read, name_read, character_read}
 use Rattle.regress_parse.proofs.atom.read_escaped.Goals as goal
 
 pub returns-in_ok-make_class_escape-clause-value : goal.returns-in_ok-make_class_escape-clause-value
 returns-in_ok-make_class_escape-clause-value c =
     let ctx = context_of c.args.scope.now in
     let t = source c.args.cursor.now in
-    let letter = c.in-Some.c in
-    let named = c.in-Some-class_letter in
-    let front : t ≡ letter ∷ drop 1 t = search rules in
-    let rest : take (length t - 1) (drop 1 t) ≡ drop 1 t = grind (arith, take_all, length-drop) in (
+    let letter = c.in-Some.c.now in
+    let rest = c.in-Some.rest.now in
+    let front = c.in-Some.ensures.cases.0 in
+    let named = c.in-Some-class_letter in (
       class_escape ctx.setting.flags named.kind named.negated,
-      ap (escaped_at ctx) front
-          ∙ class_read ctx letter (drop 1 t) (named.kind, named.negated) (sym c.class_letter.ensures ∙ named.is)
-          ∙ ap (λ (u : Source). Some (class_escape ctx.setting.flags named.kind named.negated, u)) (sym rest),
+      class_read ctx t letter rest front (named.kind, named.negated) (sym c.class_letter.ensures ∙ named.is),
       record { node = c.in_ok-make_class_escape.ensures; levels = omega arith; allows = refl },
     )
 
@@ -31,12 +30,11 @@ pub returns-then-c-from-clause-value : goal.returns-then-c-from-clause-value
 returns-then-c-from-clause-value c =
     let ctx = context_of c.args.scope.now in
     let t = source c.args.cursor.now in
-    let front : t ≡ c.in-Some.c ∷ drop 1 t = search rules in
-    let rest : take (length t - 1) (drop 1 t) ≡ drop 1 t = grind (arith, take_all, length-drop) in (
+    let letter = c.in-Some.c.now in
+    let rest = c.in-Some.rest.now in
+    let front = c.in-Some.ensures.cases.0 in (
       boundary ctx.setting.flags false,
-      ap (escaped_at ctx) front
-          ∙ ap (λ d. escaped_by ctx d (drop 1 t)) (c.if-c-from.true ∙ c.from.ensures)
-          ∙ ap (λ (u : Source). Some (boundary ctx.setting.flags false, u)) (sym rest),
+      boundary_read ctx t letter rest front (c.if-c-from.true ∙ c.from.ensures),
       record { node = c.make_boundary.ensures; levels = omega arith; allows = refl },
     )
 
@@ -44,12 +42,11 @@ pub returns-then-c-from-2-clause-value : goal.returns-then-c-from-2-clause-value
 returns-then-c-from-2-clause-value c =
     let ctx = context_of c.args.scope.now in
     let t = source c.args.cursor.now in
-    let front : t ≡ c.in-Some.c ∷ drop 1 t = search rules in
-    let rest : take (length t - 1) (drop 1 t) ≡ drop 1 t = grind (arith, take_all, length-drop) in (
+    let letter = c.in-Some.c.now in
+    let rest = c.in-Some.rest.now in
+    let front = c.in-Some.ensures.cases.0 in (
       boundary ctx.setting.flags true,
-      ap (escaped_at ctx) front
-          ∙ ap (λ d. escaped_by ctx d (drop 1 t)) (c.if-c-from-2.true ∙ c.from-else-c-from.ensures)
-          ∙ ap (λ (u : Source). Some (boundary ctx.setting.flags true, u)) (sym rest),
+      no_boundary_read ctx t letter rest front (c.if-c-from-2.true ∙ c.from-else-c-from.ensures),
       record { node = c.make_boundary-then-c-from-2.ensures; levels = omega arith; allows = refl },
     )
 
@@ -57,14 +54,13 @@ pub returns-in_ok-make_literal-clause-value : goal.returns-in_ok-make_literal-cl
 returns-in_ok-make_literal-clause-value c =
     let ctx = context_of c.args.scope.now in
     let t = source c.args.cursor.now in
-    let letter = c.in-Some.c in
-    let front : t ≡ letter ∷ drop 1 t = search rules in
-    let rest : take (length t - 1) (drop 1 t) ≡ drop 1 t = grind (arith, take_all, length-drop) in
-    let alone = ap (is_lone_backslash ctx.setting.flags.unicode letter) (sym rest) ∙ sym c.is_lone_backslash.ensures ∙ c.if-is_lone_backslash.true in (
-      literal ctx.setting.flags c.from-then-is_lone_backslash.result,
-      ap (escaped_at ctx) front
-          ∙ lone_read ctx letter (drop 1 t) alone
-          ∙ ap₂ (λ (d : ℕ) (u : Source). Some (literal ctx.setting.flags d, u)) (sym c.from-then-is_lone_backslash.ensures) (sym front),
+    let letter = c.in-Some.c.now in
+    let rest = c.in-Some.rest.now in
+    let front = c.in-Some.ensures.cases.0 in
+    let backslash = c.from-then-is_lone_backslash in (
+      literal ctx.setting.flags backslash.result,
+      lone_read ctx t letter rest front (sym c.is_lone_backslash.ensures ∙ c.if-is_lone_backslash.true)
+          ∙ ap (λ (d : ℕ). Some (literal ctx.setting.flags d, t)) (sym backslash.ensures),
       record { node = c.in_ok-make_literal.ensures; levels = omega arith; allows = refl },
     )
 
@@ -72,28 +68,75 @@ pub returns-then-begins_property-clause-value : goal.returns-then-begins_propert
 returns-then-begins_property-clause-value c =
     let ctx = context_of c.args.scope.now in
     let t = source c.args.cursor.now in
-    let letter = c.in-Some.c in
-    let front : t ≡ letter ∷ drop 1 t = search rules in
-    let rest : take (length t - 1) (drop 1 t) ≡ drop 1 t = grind (arith, take_all, length-drop) in
-    let read = property_read ctx letter (drop 1 t) (sym c.begins_property.ensures ∙ c.if-begins_property.true) in
-    subst (λ (found : Found Atom). ReadsAs (IsNode ctx 0 true) (source c.read_property_atom.new.cursor) c.read_property_atom.result found)
-    (ap₂ (λ (d : ℕ) (u : Source). property_atom_at ctx (letter == d) u) c.from-then-begins_property.ensures rest ∙ sym read ∙ sym (ap (escaped_at ctx) front))
+    let letter = c.in-Some.c.now in
+    let rest = c.in-Some.rest.now in
+    let front = c.in-Some.ensures.cases.0 in
+    let read = property_read ctx t letter rest front (sym c.begins_property.ensures ∙ c.if-begins_property.true) in
+    subst (ReadsAs (IsNode ctx 0 true) (source c.read_property_atom.new.cursor) c.read_property_atom.result)
+    (ap (λ (d : ℕ). property_atom_at ctx (letter == d) rest) c.from-then-begins_property.ensures ∙ sym read)
     c.read_property_atom.ensures.value
+
+pub returns-then-begins_number-clause-value : goal.returns-then-begins_number-clause-value
+returns-then-begins_number-clause-value c =
+    let ctx = context_of c.args.scope.now in
+    let t = source c.args.cursor.now in
+    let letter = c.in-Some.c.now in
+    let rest = c.in-Some.rest.now in
+    let front = c.in-Some.ensures.cases.0 in
+    let read = number_read ctx t letter rest front
+    (sym c.class_letter.ensures ∙ c.in_default-class_letter.is)
+    (ne_eqb letter 98 (λ e. c.if-c-from.false (e ∙ sym c.from.ensures)))
+    (ne_eqb letter 66 (λ e. c.if-c-from-2.false (e ∙ sym c.from-else-c-from.ensures)))
+    (sym c.is_lone_backslash.ensures ∙ c.if-is_lone_backslash.false)
+    (sym c.begins_property.ensures ∙ c.if-begins_property.false)
+    (sym c.begins_number.ensures ∙ c.if-begins_number.true) in
+    subst (ReadsAs (IsNode ctx 0 true) (source c.read_numbered.new.cursor) c.read_numbered.result)
+    (ap (λ (r : Source). numbered_at ctx letter (drop 1 r)) front ∙ sym read) c.read_numbered.ensures.value
+
+pub returns-then-begins_name-clause-value : goal.returns-then-begins_name-clause-value
+returns-then-begins_name-clause-value c =
+    let ctx = context_of c.args.scope.now in
+    let t = source c.args.cursor.now in
+    let letter = c.in-Some.c.now in
+    let rest = c.in-Some.rest.now in
+    let front = c.in-Some.ensures.cases.0 in
+    let read = name_read ctx t letter rest front
+    (sym c.class_letter.ensures ∙ c.in_default-class_letter.is)
+    (ne_eqb letter 98 (λ e. c.if-c-from.false (e ∙ sym c.from.ensures)))
+    (ne_eqb letter 66 (λ e. c.if-c-from-2.false (e ∙ sym c.from-else-c-from.ensures)))
+    (sym c.is_lone_backslash.ensures ∙ c.if-is_lone_backslash.false)
+    (sym c.begins_property.ensures ∙ c.if-begins_property.false)
+    (sym c.begins_number.ensures ∙ c.if-begins_number.false) (sym c.begins_name.ensures ∙ c.if-begins_name.true) in
+    subst (ReadsAs (IsNode ctx 0 true) (source c.read_named.new.cursor) c.read_named.result) (sym read) c.read_named.ensures.value
 
 pub returns-else-begins_name-clause-value : goal.returns-else-begins_name-clause-value
 returns-else-begins_name-clause-value c =
     let ctx = context_of c.args.scope.now in
     let t = source c.args.cursor.now in
-    let letter = c.in-Some.c in
-    let front : t ≡ letter ∷ drop 1 t = search rules in
-    let rest : take (length t - 1) (drop 1 t) ≡ drop 1 t = grind (arith, take_all, length-drop) in
-    let read = character_read ctx letter (drop 1 t)
+    let letter = c.in-Some.c.now in
+    let rest = c.in-Some.rest.now in
+    let front = c.in-Some.ensures.cases.0 in
+    let read = character_read ctx t letter rest front
     (sym c.class_letter.ensures ∙ c.in_default-class_letter.is)
     (ne_eqb letter 98 (λ e. c.if-c-from.false (e ∙ sym c.from.ensures)))
     (ne_eqb letter 66 (λ e. c.if-c-from-2.false (e ∙ sym c.from-else-c-from.ensures)))
-    (ap (is_lone_backslash ctx.setting.flags.unicode letter) (sym rest) ∙ sym c.is_lone_backslash.ensures ∙ c.if-is_lone_backslash.false)
+    (sym c.is_lone_backslash.ensures ∙ c.if-is_lone_backslash.false)
     (sym c.begins_property.ensures ∙ c.if-begins_property.false)
-    (sym c.begins_number.ensures ∙ c.if-begins_number.false)
-    (sym c.begins_name.ensures ∙ c.if-begins_name.false) in
-    subst (λ (found : Found Atom). ReadsAs (IsNode ctx 0 true) (source c.read_character.new.cursor) c.read_character.result found)
-    (sym read ∙ sym (ap (escaped_at ctx) front)) c.read_character.ensures.value
+    (sym c.begins_number.ensures ∙ c.if-begins_number.false) (sym c.begins_name.ensures ∙ c.if-begins_name.false) in
+    subst (ReadsAs (IsNode ctx 0 true) (source c.read_character.new.cursor) c.read_character.result)
+    (ap (λ (r : Source). character_at ctx letter (drop 1 r)) front ∙ sym read) c.read_character.ensures.value
+
+pub read_numbered-requires-clause-front : goal.read_numbered-requires-clause-front
+read_numbered-requires-clause-front c =
+    let front = c.in-Some.ensures.cases.0 in
+    front ∙ ap (λ (r : Source). c.in-Some.c.now ∷ drop 1 r) (sym front)
+
+pub read_character-requires : goal.read_character-requires
+read_character-requires c =
+    let front = c.in-Some.ensures.cases.0 in
+    front ∙ ap (λ (r : Source). c.in-Some.c.now ∷ drop 1 r) (sym front)
+
+pub invariant_of-cursor-then-begins_name : goal.invariant_of-cursor-then-begins_name
+invariant_of-cursor-then-begins_name c = record {
+  in_range = All-tail IsCodePoint c.in-Some.c.now c.in-Some.rest.now (subst (All IsCodePoint) c.in-Some.ensures.cases.0 c.args.cursor.now.in_range);
+}

@@ -102,3 +102,6 @@ returns-clause-well_formed c =
     let found = returns-clause-accepted c in
     subst (λ (t : Tree). IsWellFormed t) (sym found.2)
     (tree_of-well_formed setting c.args.pattern.now found.0 c.args.tables.now.sound.lawful c.requires found.1.derived)
+
+pub returns-clause-flags : goal.returns-clause-flags
+returns-clause-flags c = refl

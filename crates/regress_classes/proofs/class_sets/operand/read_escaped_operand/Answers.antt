@@ -1,19 +1,58 @@
-use Rattle.std.proofs.Common.{◌≡◌, Bool, ◌∷◌, rules, refl, sym, ◌∙◌}
+-- Which row it is.
+use Rattle.std.proofs.Common.{◌≡◌, Bool, ◌||◌, ◌==◌, refl, sym, ap, subst, ◌∙◌}
+use Rattle.std.proofs.lemmas.Bool.{ne_eqb}
 use Rattle.regress_base.specs.declared.charclasses.CharacterClassType.{CharacterClassType}
 use Rattle.regress_unicode.specs.TableOf.{table_of}
-use Rattle.regress_classes.specs.ClassRows.{class_members}
-use Rattle.regress_classes.specs.ClassSets.{only, class}
+use Rattle.regress_lexical.specs.Reads.{ReadsAs}
+use Rattle.regress_lexical.specs.Source.{found_map}
 use Rattle.regress_lexical.specs.Views.{source}
-use Rattle.regress_classes.proofs.ClassOperandLemmas.{class_escape_read}
+use Rattle.regress_classes.specs.ClassRows.{class_members}
+use Rattle.regress_classes.specs.ClassSets.{only, character, class, property_operand_at}
+use Rattle.regress_classes.specs.ClassViews.{IsOperand}
+use Rattle.regress_classes.proofs.EscapeRows.{class_escape_read, quoted_read, property_operand_read, character_escape_read}
 use Rattle.regress_classes.proofs.class_sets.operand.read_escaped_operand.Goals as goal
 
 pub returns-in_ok-class_value-clause-value : goal.returns-in_ok-class_value-clause-value
 returns-in_ok-class_value-clause-value c =
     let around = c.args.around.now in
-    let named : CharacterClassType × Bool = (c.in-Some-class_letter.kind, c.in-Some-class_letter.negated) in
-    let front : source c.args.cursor.now ≡ c.in-Some.c.now ∷ c.in-Some.rest.now = search rules in (
+    let letter = c.in-Some.c.now in
+    let front = c.in-Some.ensures.cases.0 in
+    let named : CharacterClassType × Bool = (c.in-Some-class_letter.kind, c.in-Some-class_letter.negated) in (
       class (only (class_members named)),
-      class_escape_read (table_of around.tables.now) around.unicode around.negated _ c.in-Some.c.now c.in-Some.rest.now named front
+      class_escape_read (table_of around.tables.now) around.unicode around.negated (source c.args.cursor.now) letter c.in-Some.rest.now front named
           (sym c.class_letter.ensures ∙ c.in-Some-class_letter.is),
       (only (class_members named), refl, c.in_ok-class_value.ensures),
+    )
+
+pub returns-then-c-from-clause-value : goal.returns-then-c-from-clause-value
+returns-then-c-from-clause-value c =
+    let around = c.args.around.now in
+    let letter = c.in-Some.c.now in
+    let front = c.in-Some.ensures.cases.0 in
+    subst (ReadsAs IsOperand (source c.read_quoted.new.cursor) c.read_quoted.result)
+    (sym (quoted_read (table_of around.tables.now) around.unicode around.negated (source c.args.cursor.now) letter c.in-Some.rest.now front (c.if-c-from.true ∙ c.from.ensures)))
+    c.read_quoted.ensures.value
+
+pub returns-then-is_property_letter-clause-value : goal.returns-then-is_property_letter-clause-value
+returns-then-is_property_letter-clause-value c =
+    let around = c.args.around.now in
+    let letter = c.in-Some.c.now in
+    let front = c.in-Some.ensures.cases.0 in
+    let row = property_operand_read (table_of around.tables.now) around.unicode around.negated (source c.args.cursor.now) letter c.in-Some.rest.now front
+    (sym c.is_property_letter.ensures ∙ c.if-is_property_letter.true) in
+    subst (ReadsAs IsOperand (source c.read_property_operand.new.cursor) c.read_property_operand.result)
+    (ap (λ d. property_operand_at (table_of around.tables.now) around.negated (letter == d) c.in-Some.rest.now) c.from-then-is_property_letter.ensures ∙ sym row)
+    c.read_property_operand.ensures.value
+
+pub returns-in_ok-character-clause-value : goal.returns-in_ok-character-clause-value
+returns-in_ok-character-clause-value c =
+    let around = c.args.around.now in
+    let letter = c.in-Some.c.now in
+    let front = c.in-Some.ensures.cases.0 in
+    let row = character_escape_read (table_of around.tables.now) around.unicode around.negated (source c.args.cursor.now) letter c.in-Some.rest.now front
+    (sym c.class_letter.ensures ∙ c.in_default-class_letter.is) (ne_eqb letter 113 (λ e. c.if-c-from.false (e ∙ sym c.from.ensures)))
+    (sym c.is_property_letter.ensures ∙ c.if-is_property_letter.false) in (
+      character c.in_ok-character.character,
+      row ∙ ap (found_map character) c.in_ok-character.ensures.value,
+      (refl, c.in_ok-character.ensures.in_range),
     )

@@ -5,13 +5,9 @@ use Rattle.regress_classes.proofs.class_sets.chain.Taken.and.Goals as goal
 
 pub returns : goal.returns
 returns c = λ first v b h k.
-    let strings = c.in_ok-both_strings.field-0 in
-    let has_empty = c.both.result in
-    let levels = c.max.result in
-    subst
-    (λ points. IsLeft c.args.operator first (record { points = points; strings = strings; has_empty = has_empty; levels = levels })
-    (applied c.args.operator v b))
+    let others = c.in_ok-and.field-0 in
+    subst (λ points. IsLeft c.args.operator first (record { points = points; others = others }) (applied c.args.operator v b))
     (sym c.points-2.view_is)
-    (left_more c.args.operator first v b c.args.operand c.args.self
-    (record { points = c.add_set.new.self; strings = strings; has_empty = has_empty; levels = levels }) c.in_ok-dropped_points.field-0 h k
-    c.in_ok-dropped_points.ensures c.in_ok-add_set.ensures c.in_ok-both_strings.ensures c.both.ensures c.max.ensures)
+    (left_more c.args.operator first v b c.args.operand c.args.self (record { points = c.add_set.new.self; others = others })
+    c.in_ok-dropped_points.field-0 h k c.in_ok-dropped_points.ensures c.in_ok-add_set.ensures
+    (c.in_ok-and.ensures first.others v b h.others k.others))

@@ -2,7 +2,7 @@ use Rattle.std.proofs.Common.{ap, filter, ◌∙◌}
 use Rattle.regress_classes.specs.ClassViews.{strings_of}
 use Rattle.regress_classes.specs.ClassSets.{is_among}
 use Rattle.regress_classes.proofs.ChainLemmas.{strings_common, strings_joined}
-use Rattle.regress_classes.proofs.class_sets.chain.both_strings.Goals as goal
+use Rattle.regress_classes.proofs.class_sets.others.both_strings.Goals as goal
 
 pub returns-in_ok-keep_strings-in-Intersection : goal.returns-in_ok-keep_strings-in-Intersection
 returns-in_ok-keep_strings-in-Intersection c = λ s.

@@ -5,7 +5,7 @@ use Rattle.std.specs.Cmp.Lexicographic.{slice_cmp}
 use Rattle.std.specs.List.{list_any}
 use Rattle.std.specs.Ordering.{nat_cmp}
 use Rattle.std.specs.Str.{bytes_eq}
-use Rattle.regress_classes.proofs.class_sets.value.string_set.Given as goal
+use Rattle.regress_classes.proofs.class_sets.others.string_set.Given as goal
 
 abbrev pub invariant-loop-string : goal.invariant-loop-string
 invariant-loop-string l =

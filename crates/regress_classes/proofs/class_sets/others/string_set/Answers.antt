@@ -1,7 +1,7 @@
 -- A turn adds one string.
 use Rattle.std.proofs.Common.{◌∙◌}
 use Rattle.regress_classes.proofs.ClassSetLemmas.{one_more_string, all_strings}
-use Rattle.regress_classes.proofs.class_sets.value.string_set.Goals as goal
+use Rattle.regress_classes.proofs.class_sets.others.string_set.Goals as goal
 
 pub loop-string-preserved : goal.loop-string-preserved
 loop-string-preserved c = λ s.

@@ -1,7 +1,7 @@
 use Rattle.std.proofs.Common.{rules, ap, not, ◌∙◌}
 use Rattle.std.proofs.lemmas.Fn.{filter_same}
 use Rattle.std.proofs.lemmas.List.Elements.{filter_agree}
-use Rattle.regress_classes.proofs.class_sets.value.remove_strings.Goals as goal
+use Rattle.regress_classes.proofs.class_sets.others.remove_strings.Goals as goal
 
 pub returns-in_ok-others : goal.returns-in_ok-others
 returns-in_ok-others c =

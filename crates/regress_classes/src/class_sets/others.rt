@@ -1,0 +1,143 @@
+//! What a class with the flag v holds beside code points.
+ghost use Rattle.std.specs.Prelude.{◌≡◌, ◌&&◌, ℕ, not, max, List, filter, IfOk, OnOk};
+ghost use Rattle.std.specs.BTreeSet.{contains_by};
+ghost use Rattle.std.specs.Cmp.Lexicographic.{slice_cmp};
+ghost use Rattle.std.specs.Ordering.{nat_cmp};
+ghost use Rattle.regress_base.specs.Intervals.{Bounds};
+ghost use Rattle.regress_classes.specs.ClassSets.{Value as Written, only, joined, is_among};
+ghost use Rattle.regress_classes.specs.ClassViews.{HasOthers, AreLeft, strings_of, applied, kept};
+
+use super::Operator;
+use std::alloc::{AllocError, Global};
+use std::collections::BTreeSet;
+
+/// Strings, and how many levels of classes lie in it.
+#[derive(Drop)]
+pub struct Others {
+    /// The strings of two or more, in the order in which they were read, repeats kept.
+    pub strings: Vec<Vec<u32>>,
+    /// Whether the empty string is there.
+    pub has_empty: bool,
+    pub levels: u32,
+}
+
+impl Others {
+    /// Nothing.
+    pub(super) fn new(alloc: Global) -> Others
+        ensures { (members : List Bounds) → HasOthers (only members) result }
+    {
+        Others {
+            strings: Vec::new(alloc),
+            has_empty: false,
+            levels: 0,
+        }
+    }
+
+    /// Adds the others.
+    pub(super) fn join(&mut self, mut other: Others) -> Result<(), AllocError>
+        ensures { OnOk result ((a b : Written) → HasOthers a self.old → HasOthers b other → HasOthers (joined a b) self.new) }
+    {
+        self.strings.append(&mut other.strings)?;
+        self.has_empty |= other.has_empty;
+        self.levels = self.levels.max(other.levels);
+        Ok(())
+    }
+
+    /// Keeps what is in both, or what the other one lacks, and counts the levels.
+    pub(super) fn apply(&mut self, operator: Operator, other: &Others) -> Result<(), AllocError>
+        ensures strings { OnOk result (self.new.strings.items
+            ≡ filter (λ string. kept operator (is_among (strings_of other.now.strings.items) string.items)) self.old.strings.items) }
+        ensures has_empty { OnOk result (self.new.has_empty ≡ (self.old.has_empty && kept operator other.now.has_empty)) }
+        ensures levels { OnOk result (self.new.levels ≡ max self.old.levels other.now.levels) }
+    {
+        match operator {
+            Operator::Intersection => {
+                keep_strings(&mut self.strings, &other.strings)?;
+                self.has_empty &= other.has_empty;
+            }
+            Operator::Subtraction => {
+                remove_strings(&mut self.strings, &other.strings)?;
+                self.has_empty &= !other.has_empty;
+            }
+        }
+        self.levels = self.levels.max(other.levels);
+        Ok(())
+    }
+
+    /// What both keep, or either drops.
+    pub(super) fn and(self, operator: Operator, other: Others) -> Result<Others, AllocError>
+        ensures { IfOk result (λ both. (first : Others) (v b : Written) →
+            AreLeft operator first self v → HasOthers b other → AreLeft operator first both (applied operator v b)) }
+    {
+        Ok(Others {
+            strings: both_strings(operator, self.strings, other.strings)?,
+            has_empty: both(operator, self.has_empty, other.has_empty),
+            levels: self.levels.max(other.levels),
+        })
+    }
+}
+
+/// The strings, to be searched.
+fn string_set(alloc: Global, strings: &[Vec<u32>]) -> Result<BTreeSet<&[u32]>, AllocError>
+    ensures { IfOk result (λ set. (s : List ℕ) →
+        contains_by (λ other. slice_cmp nat_cmp s other.now) set ≡ is_among (strings_of strings.now) s) }
+{
+    let mut set = BTreeSet::new(alloc);
+    for string in strings {
+        set.insert(string.as_slice())?;
+    }
+    Ok(set)
+}
+
+/// Keeps the strings that are among the others.
+fn keep_strings(strings: &mut Vec<Vec<u32>>, others: &[Vec<u32>]) -> Result<(), AllocError>
+    ensures { OnOk result (strings.new.items ≡ filter (λ string. is_among (strings_of others.now) string.items) strings.old.items) }
+{
+    if !strings.is_empty() {
+        let others = string_set(*strings.allocator(), others)?;
+        strings.retain(|string| others.contains(string.as_slice()));
+    }
+    Ok(())
+}
+
+/// Drops the strings that are among the others.
+fn remove_strings(strings: &mut Vec<Vec<u32>>, others: &[Vec<u32>]) -> Result<(), AllocError>
+    ensures { OnOk result (strings.new.items ≡ filter (λ string. not (is_among (strings_of others.now) string.items)) strings.old.items) }
+{
+    if !strings.is_empty() {
+        let others = string_set(*strings.allocator(), others)?;
+        strings.retain(|string| !others.contains(string.as_slice()));
+    }
+    Ok(())
+}
+
+/// The strings that both keep, or that either drops.
+fn both_strings(
+    operator: Operator,
+    mut strings: Vec<Vec<u32>>,
+    mut others: Vec<Vec<u32>>,
+) -> Result<Vec<Vec<u32>>, AllocError>
+    ensures { IfOk result (λ both. (s : List ℕ) → kept operator (is_among (strings_of both.items) s)
+        ≡ (kept operator (is_among (strings_of strings.items) s) && kept operator (is_among (strings_of others.items) s))) }
+{
+    match operator {
+        Operator::Intersection => {
+            keep_strings(&mut others, &strings)?;
+            Ok(others)
+        }
+        Operator::Subtraction => {
+            strings.append(&mut others)?;
+            Ok(strings)
+        }
+    }
+}
+
+/// Whether both keep the empty string, or either drops it.
+fn both(operator: Operator, has_empty: bool, other: bool) -> bool
+    ensures { kept operator result ≡ (kept operator has_empty && kept operator other) }
+{
+    match operator {
+        Operator::Intersection => has_empty && other,
+        Operator::Subtraction => has_empty || other,
+    }
+}
