@@ -11,4 +11,3 @@ mod RootLemmas
 mod StandingLemmas
 mod SurveyLemmas
 mod TextLemmas
-mod VisitLemmas
