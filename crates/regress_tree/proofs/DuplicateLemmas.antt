@@ -1,8 +1,11 @@
 -- Which trees are duplicated.
-use Rattle.std.proofs.Common.{◌≡◌, ℕ, ◌+◌, ◌<◌, ◌≤◌, inl, inr, max, Bool, true, false, not, ◌&&◌, ◌||◌, nat_le, arith}
+use Rattle.std.proofs.Common.{◌≡◌, ℕ, ◌+◌, ◌<◌, ◌≤◌, inl, inr, max, Bool, true, false, not, ◌&&◌, ◌||◌, nat_le, arith, List, length, get_or, drop, sym, ap, ◌∙◌}
 use Rattle.std.proofs.lemmas.Bool.{cases_lt}
 use Rattle.std.proofs.lemmas.Bool.Decides.{nat_tests}
-use Rattle.regress_tree.specs.Tree.{Tree, Trees, leaf, cat, alt, wrapped, no_trees, more_trees}
+use Rattle.regress_tree.specs.declared.ir.node.Node.{Node}
+use Rattle.regress_tree.specs.Tree.{Tree, Trees, leaf, cat, alt, wrapped, no_trees, more_trees, tree, trees}
+use Rattle.regress_tree.specs.Copies.{HasNoGroup, NoneHasGroup}
+use Rattle.regress_tree.proofs.LoopLemmas.{left_is}
 use Rattle.regress_tree.specs.Duplicates.{may_duplicate, may_duplicate_row}
 use Rattle.regress_tree.specs.Measures.{levels, levels_of_deepest}
 use Rattle.regress_tree.specs.Shapes.{on_leaf, is_string_set, has_string_set, some_node_in_row}
@@ -54,3 +57,18 @@ mutual
   may_duplicate_row-is depth (more_trees t ts) h =
       rw (may_duplicate-is depth t, may_duplicate_row-is depth ts h)
       (both_inside depth (levels t) (levels_of_deepest ts) (has_string_set t) (some_node_in_row (on_leaf is_string_set) ts))
+
+-- A row, of which a node is to be duplicated.
+module _ (nodes : List Node) (i : ℕ) (node : Node) (in_row : i < length nodes) (is : node ≡ get_or nodes i node) where
+  left : trees (drop i nodes) ≡ more_trees (tree node) (trees (drop (i + 1) nodes))
+  left = ap trees (left_is nodes i node in_row is)
+
+  pub have_no_group : NoneHasGroup (trees (drop i nodes)) → HasNoGroup (tree node) × NoneHasGroup (trees (drop (i + 1) nodes))
+  have_no_group none = rw left at none
+
+  module _ (depth : ℕ) (still : may_duplicate_row depth (trees (drop i nodes)) ≡ may_duplicate_row depth (trees nodes)) where
+    pub still_next : true ≡ may_duplicate depth (tree node) → may_duplicate_row depth (trees (drop (i + 1) nodes)) ≡ may_duplicate_row depth (trees nodes)
+    still_next one = ap (λ b. b && may_duplicate_row depth (trees (drop (i + 1) nodes))) one ∙ ap (may_duplicate_row depth) (sym left) ∙ still
+
+    pub refused : false ≡ may_duplicate depth (tree node) → false ≡ may_duplicate_row depth (trees nodes)
+    refused one = ap (λ b. b && may_duplicate_row depth (trees (drop (i + 1) nodes))) one ∙ ap (may_duplicate_row depth) (sym left) ∙ still

@@ -4,6 +4,7 @@ mod DisplayLemmas
 mod DuplicateLemmas
 mod GroupIdLemmas
 mod IdLemmas
+mod LoopLemmas
 mod NodeLemmas
 mod PassLemmas
 mod RootLemmas

@@ -33,3 +33,4 @@ pub mod Strings
 pub mod Turned
 pub mod Turns
 pub mod Visits
+pub mod There

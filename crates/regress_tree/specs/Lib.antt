@@ -14,6 +14,7 @@ pub mod Visits
 pub mod Gathered
 pub mod Inherited
 pub mod Held
+pub mod Lefts
 pub mod Climbs
 pub mod WellFormed
 pub mod Measures

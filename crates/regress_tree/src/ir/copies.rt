@@ -72,7 +72,7 @@ fn copy_node(node: &Node, alloc: Global) -> Result<Node, AllocError>
     let mut node = node;
     let mut above = Node::Empty;
     while let Node::Alt(left, right) = node {
-        let left = Box::new(alloc, copy_node(left, alloc)?)?;
+        let left = copy_box(left, alloc)?;
         above = Node::Alt(left, Box::new(alloc, above)?);
         node = right;
     }
@@ -91,7 +91,7 @@ fn copy_other(node: &Node, alloc: Global) -> Result<Node, AllocError>
         Node::Cat(parts) => Node::Cat(copy_nodes(parts, alloc)?),
         Node::CaptureGroup { id, contents, name } => Node::CaptureGroup {
             id: *id,
-            contents: Box::new(alloc, copy_node(contents, alloc)?)?,
+            contents: copy_box(contents, alloc)?,
             name: copy_name(name, alloc)?,
         },
         Node::Loop {
@@ -99,12 +99,12 @@ fn copy_other(node: &Node, alloc: Global) -> Result<Node, AllocError>
             quant,
             enclosed_groups,
         } => Node::Loop {
-            loopee: Box::new(alloc, copy_node(loopee, alloc)?)?,
+            loopee: copy_box(loopee, alloc)?,
             quant: *quant,
             enclosed_groups: enclosed_groups.start..enclosed_groups.end,
         },
         Node::Loop1CharBody { loopee, quant } => Node::Loop1CharBody {
-            loopee: Box::new(alloc, copy_node(loopee, alloc)?)?,
+            loopee: copy_box(loopee, alloc)?,
             quant: *quant,
         },
         Node::LookaroundAssertion {
@@ -118,10 +118,17 @@ fn copy_other(node: &Node, alloc: Global) -> Result<Node, AllocError>
             backwards: *backwards,
             start_group: *start_group,
             end_group: *end_group,
-            contents: Box::new(alloc, copy_node(contents, alloc)?)?,
+            contents: copy_box(contents, alloc)?,
         },
         _ => copy_leaf(node, alloc)?,
     })
+}
+
+#[cycle(copy)]
+fn copy_box(node: &Node, alloc: Global) -> Result<Box<Node>, AllocError>
+    ensures { IfOk result (λ copy. tree copy.value ≡ tree node.now) }
+{
+    Ok(Box::new(alloc, copy_node(node, alloc)?)?)
 }
 
 #[cycle(copy)]

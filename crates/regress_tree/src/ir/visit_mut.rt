@@ -6,7 +6,7 @@ ghost use Rattle.regress_tree.specs.Visits.{CallsMut, Visited, Inside, RowVisite
 ghost use Rattle.regress_tree.specs.Climbs.{ClimbedMut};
 
 use super::held::{body_mut, walk_inside};
-use super::spine::{relink, shift};
+use super::spine::{left_mut, relink, shift};
 use super::{Node, NodeList, Walk};
 
 /// Calls `func` on each node of the tree, with the walk there: before the calls on its children, or with
@@ -66,7 +66,7 @@ fn visit_before<F: FnMut(&mut Node, &mut Walk)>(n: &mut Node, walk: &Walk, func:
             break;
         }
         here = here.inside(1);
-        if let Node::Alt(left, _) = &mut above {
+        if let Some(left) = left_mut(&mut above) {
             visit_mut(false, left, &here, func);
         }
     }
@@ -87,7 +87,7 @@ fn visit_after<F: FnMut(&mut Node, &mut Walk)>(n: &mut Node, walk: &Walk, func: 
     while levels < usize::MAX && shift(n, &mut above) {
         here = here.inside(1);
         levels += 1;
-        if let Node::Alt(left, _) = &mut above {
+        if let Some(left) = left_mut(&mut above) {
             visit_mut(true, left, &here, func);
         }
     }

@@ -1,15 +1,16 @@
 -- Each answer puts the visits of the calls together.
-use Rattle.std.proofs.Common.{rules, arith, ◌∙◌, ap, ◌≡◌, false, length-set, [], take, drop}
+use Rattle.std.proofs.Common.{rules, arith, refl, ◌∙◌, ap, ◌≡◌, true, false, sym, length-set, [], take, drop}
 use Rattle.std.proofs.lemmas.List.{drop_all, take_all}
 use Rattle.regress_tree.proofs.laws.Rows.{row_append-none}
 use Rattle.regress_tree.specs.declared.ir.node.Node.{Node}
-use Rattle.regress_tree.specs.Tree.{tree, no_trees}
+use Rattle.regress_tree.specs.Tree.{alt, tree, no_trees}
 use Rattle.regress_tree.specs.Visits.{CallsMut, nodes, Visited, before_children, without_children, after_children, in_cat, in_alt, in_wrapped, no_more, one_more}
 use Rattle.regress_tree.specs.Climbs.{further}
 use Rattle.regress_tree.proofs.laws.Nodes.{tree-Cat, tree-Alt}
 use Rattle.regress_tree.proofs.laws.Levels.{out-Cat, out-Alt, alt_of}
 use Rattle.regress_tree.proofs.NodeLemmas.{leaf_of}
 use Rattle.regress_tree.proofs.laws.Visits.{at_leaf, further_next, nodes_down, levels_down, before_down, after_down, call_adds, next_is, nodes_next, unvisited_next, visited_next}
+use Rattle.regress_tree.proofs.laws.There.{called_there, visited_there, inside_there, row_visited_there}
 use Rattle.regress_tree.proofs.ir.visit_mut.+visit_mut.Goals.{visit_before-else-loop-here-test, visit_before-then-loop-here-test+then-not-shift, visit_after-then-loop-levels-test+else-shift, visit_after-else-loop-levels-test}
 use Rattle.regress_tree.proofs.ir.visit_mut.+visit_mut.Goals as goal
 
@@ -17,8 +18,9 @@ pub visit_inside-returns-in-Cat-clause-visited : goal.visit_inside-returns-in-Ca
 visit_inside-returns-in-Cat-clause-visited g t c =
     let inner = c.walk_inside-inner.ensures in
     let same = rw (c.in-Cat.is, tree-Cat) at inner.direction in
-    rw (c.in-Cat.is, out-Cat)
-    (simp tree-Cat (in_cat (rw (c.in-Cat.is, out-Cat, inner.depth, same, inner.unicode) at c.visit_row.ensures.visited)))
+    let visited = row_visited_there (CallsMut (goal.F-step g)) inner.unicode inner.depth same c.visit_row.ensures.visited in
+    let whole = in_cat (rw (c.in-Cat.is, out-Cat) at visited) in
+    rw (c.in-Cat.is, out-Cat) (rw (tree-Cat c.in-Cat.parts, tree-Cat c.visit_row.new.parts) whole)
 
 pub visit_inside-returns-in-Alt-clause-visited : goal.visit_inside-returns-in-Alt-clause-visited
 visit_inside-returns-in-Alt-clause-visited g t c =
@@ -29,8 +31,8 @@ visit_inside-returns-in-Alt-clause-visited g t c =
     let right_is = rw (at.is, out-Alt) at c.deref_mut-in-Alt.ensures.value in
     let tree_with = λ (x y : Node). tree-Alt (record at.left { value = x }) (record at.right { value = y }) in
     rw (at.is, out-Alt) (rw (tree_with at.left.value at.right.value, tree_with c.visit_mut.new.n c.visit_mut-in-Alt.new.n)
-    (in_alt (rw (left_is, inner.depth, same, inner.unicode) at c.visit_mut.ensures.visited)
-    (rw (right_is, inner.depth, same, inner.unicode) at c.visit_mut-in-Alt.ensures.visited)))
+    (in_alt (rw left_is at (visited_there (CallsMut (goal.F-step g)) inner.unicode inner.depth same c.visit_mut.ensures.visited))
+    (rw right_is at (visited_there (CallsMut (goal.F-step g)) inner.unicode inner.depth same c.visit_mut-in-Alt.ensures.visited))))
 
 pub visit_inside-visit_mut-requires-in-Some : goal.visit_inside-visit_mut-requires-in-Some
 visit_inside-visit_mut-requires-in-Some g t c κs lives =
@@ -46,7 +48,7 @@ visit_inside-returns-in-Some-clause-visited g t c =
     let value = c.deref_mut-in-Some.ensures.value in
     let new = record c.in-Some.body.now { value = c.visit_mut-in-Some.new.n } in
     let ends = rw (c.in-Some.is, around.is) at (c.body_mut.follows.holds new) in
-    rw (ends, around.is) (in_wrapped (rw (value, inner.depth, turned, inner.unicode) at c.visit_mut-in-Some.ensures.visited))
+    rw (ends, around.is) (in_wrapped (rw value at (visited_there (CallsMut (goal.F-step g)) inner.unicode inner.depth turned c.visit_mut-in-Some.ensures.visited)))
 
 pub visit_inside-returns-in_default-body_mut : goal.visit_inside-returns-in_default-body_mut
 visit_inside-returns-in_default-body_mut g t c =
@@ -54,8 +56,8 @@ visit_inside-returns-in_default-body_mut g t c =
     let stays : tree c.body_mut.follows.lender-at-none ≡ tree c.args.n.now = c.body_mut.follows.holds-at-none in
     record { callable = c.requires.callable; visited = rw stays (at_leaf _ (tree c.args.n.now) holds_none) }
 
-pub visit_before-loop-here-preserved-in-Alt : goal.visit_before-loop-here-preserved-in-Alt
-visit_before-loop-here-preserved-in-Alt g t c =
+pub visit_before-loop-here-preserved-in-Some : goal.visit_before-loop-here-preserved-in-Some
+visit_before-loop-here-preserved-in-Some g t c =
     let l = c.loop-here in
     let walk = c.args.walk.now in
     let Call = CallsMut (goal.F-step g) walk.unicode in
@@ -63,22 +65,23 @@ visit_before-loop-here-preserved-in-Alt g t c =
     let here = c.inside-here.ensures in
     let shifted = c.if-not-shift.ensures in
     let node = c.deref_mut.result.now in
-    let left_is = rw (c.in-Alt.is, out-Alt) at c.deref_mut.ensures.value in
-    let top_is = alt_of c.shift.new.onto c.in-Alt.left c.in-Alt.field-1 node c.in-Alt.is left_is in
-    let called = rw (so_far.direction, so_far.unicode) at c.loop-here-test.ensures.called in
-    let first = rw (here.depth, here.direction, here.unicode, so_far.direction, so_far.unicode) at c.visit_mut.ensures.visited in
-    let fewer = nodes_down Call l.here.depth 0 walk.in_lookbehind (tree c.call.new.n) (tree l.above) _ _ (tree node) (tree node) _ shifted top_is in
+    let left = c.in-Some.ensures.left in
+    let top_is = left.is ∙ ap (λ n. alt (tree n) left.right) (sym c.deref_mut.ensures.value) in
+    let ends = rw (c.in-Some.is, left.is) at (c.left_mut.follows.holds (record c.in-Some.left.now { value = c.visit_mut.new.n })) in
+    let called = called_there (CallsMut (goal.F-step g)) so_far.unicode refl so_far.direction c.loop-here-test.ensures.called in
+    let first = visited_there (CallsMut (goal.F-step g)) (here.unicode ∙ so_far.unicode) here.depth (here.direction ∙ so_far.direction) c.visit_mut.ensures.visited in
+    let fewer = nodes_down Call l.here.depth 0 walk.in_lookbehind (tree c.call.new.n) (tree l.above) (tree c.shift.new.from) (tree c.shift.new.onto) (tree node) (tree node) left.right shifted top_is in
     let no_more = call_adds (goal.F-step g) _ _ _ _ _ _ _ _ c.requires.ends called in
-    rw (c.in-Alt.is, out-Alt, tree-Alt)
-    (record {
+    record {
       callable = c.visit_mut.ensures.callable;
       smaller = omega (arith, fewer, no_more, so_far.smaller);
       direction = here.direction ∙ so_far.direction;
       unicode = here.unicode ∙ so_far.unicode;
       visited = λ u e second.
-          before_down Call l.here.depth 0 walk.in_lookbehind (tree c.call.new.n) (tree l.above) _ _ (tree node) _ _ shifted top_is
-          (tree l.n) _ _ _ e u (λ v. Visited Call false walk.depth walk.in_lookbehind (tree c.args.n.now) v c.args.func.now e) (λ v whole. so_far.visited v e whole) called first (rw here.depth at second);
-    })
+          rw ends
+          (before_down Call l.here.depth 0 walk.in_lookbehind (tree c.call.new.n) (tree l.above) (tree c.shift.new.from) (tree c.shift.new.onto) (tree node)
+          (tree c.visit_mut.new.n) left.right shifted top_is (tree l.n) l.func c.call.new.func c.visit_mut.new.func e u (λ v. Visited Call false walk.depth walk.in_lookbehind (tree c.args.n.now) v c.args.func.now e) (λ v whole. so_far.visited v e whole) called first (rw here.depth at second));
+    }
 
 pub visit_before-returns-clause-visited : goal.visit_before-returns-clause-visited
 visit_before-returns-clause-visited g t c =
@@ -86,17 +89,17 @@ visit_before-returns-clause-visited g t c =
     rw c.relink.ensures
     (elim c.loop-here-test.branch [
       | visit_before-else-loop-here-test w ↦
-          let called = rw (so_far.direction, so_far.unicode) at w.loop-here-test.ensures.called in
+          let called = called_there (CallsMut (goal.F-step g)) so_far.unicode refl so_far.direction w.loop-here-test.ensures.called in
           rw (w.n-is, w.func-is, w.above-is) (so_far.visited _ _ (without_children called))
       | visit_before-then-loop-here-test+then-not-shift w ↦
           let stays = w.if-not-shift.ensures in
-          let called = rw (so_far.direction, so_far.unicode) at w.loop-here-test.ensures.called in
-          let inside = rw (stays.1, so_far.direction, so_far.unicode) at w.visit_inside.ensures.visited in
+          let called = called_there (CallsMut (goal.F-step g)) so_far.unicode refl so_far.direction w.loop-here-test.ensures.called in
+          let inside = rw stays.1 at (inside_there (CallsMut (goal.F-step g)) so_far.unicode refl so_far.direction w.visit_inside.ensures.visited) in
           rw (w.n-is, w.func-is, w.above-is, stays.2) (so_far.visited _ _ (before_children called inside))
     ])
 
-pub visit_after-loop-levels-preserved-in-Alt : goal.visit_after-loop-levels-preserved-in-Alt
-visit_after-loop-levels-preserved-in-Alt g t c =
+pub visit_after-loop-levels-preserved-in-Some : goal.visit_after-loop-levels-preserved-in-Some
+visit_after-loop-levels-preserved-in-Some g t c =
     let l = c.loop-levels in
     let walk = c.args.walk.now in
     let Call = CallsMut (goal.F-step g) walk.unicode in
@@ -104,24 +107,26 @@ visit_after-loop-levels-preserved-in-Alt g t c =
     let here = c.inside-here.ensures in
     let shifted = c.if-shift.ensures in
     let node = c.deref_mut.result.now in
-    let left_is = rw (c.in-Alt.is, out-Alt) at c.deref_mut.ensures.value in
-    let top_is = alt_of c.shift.new.onto c.in-Alt.left c.in-Alt.field-1 node c.in-Alt.is left_is in
-    let first = rw (here.depth, here.direction, here.unicode, so_far.direction, so_far.unicode) at c.visit_mut.ensures.visited in
+    let left = c.in-Some.ensures.left in
+    let top_is = left.is ∙ ap (λ n. alt (tree n) left.right) (sym c.deref_mut.ensures.value) in
+    let ends = rw (c.in-Some.is, left.is) at (c.left_mut.follows.holds (record c.in-Some.left.now { value = c.visit_mut.new.n })) in
+    let first = visited_there (CallsMut (goal.F-step g)) (here.unicode ∙ so_far.unicode) here.depth (here.direction ∙ so_far.direction) c.visit_mut.ensures.visited in
     let depth = so_far.depth ∙ ap (λ k. further k walk.depth) so_far.levels in
-    let fewer = nodes_down Call l.here.depth walk.depth walk.in_lookbehind (tree l.n) (tree l.above) _ _ (tree node) (tree node) _ shifted top_is in
-    rw (c.in-Alt.is, out-Alt, tree-Alt)
-    (record {
+    let fewer = nodes_down Call l.here.depth walk.depth walk.in_lookbehind (tree l.n) (tree l.above) (tree c.shift.new.from) (tree c.shift.new.onto) (tree node) (tree node) left.right shifted top_is in
+    record {
       callable = c.visit_mut.ensures.callable;
       smaller = omega (arith, fewer, so_far.smaller);
-      levels = levels_down Call l.here.depth walk.depth walk.in_lookbehind (tree l.n) (tree l.above) _ _ (tree node) (tree node) _ shifted top_is
-          l.levels so_far.levels;
+      levels = rw ends (levels_down Call l.here.depth walk.depth walk.in_lookbehind (tree l.n) (tree l.above) (tree c.shift.new.from) (tree c.shift.new.onto) (tree node) (tree node) left.right shifted top_is
+          l.levels so_far.levels);
       depth = here.depth ∙ further_next l.levels l.here.depth walk.depth so_far.depth;
       direction = here.direction ∙ so_far.direction;
       unicode = here.unicode ∙ so_far.unicode;
       visited = λ u v m e second climbed.
-          after_down Call l.here.depth walk.depth walk.in_lookbehind (tree l.n) (tree l.above) _ _ (tree node) _ _ shifted top_is
-          _ _ m e u v _ depth (λ x b whole rest. so_far.visited x v b e whole rest) first (rw here.depth at second) climbed;
-    })
+          let ways = rw ends at climbed in
+          after_down Call l.here.depth walk.depth walk.in_lookbehind (tree l.n) (tree l.above) (tree c.shift.new.from) (tree c.shift.new.onto) (tree node)
+          (tree c.visit_mut.new.n) left.right shifted top_is l.func c.visit_mut.new.func m e u v
+          (Visited Call true walk.depth walk.in_lookbehind (tree c.args.n.now) v c.args.func.now e) depth (λ x b whole rest. so_far.visited x v b e whole rest) first (rw here.depth at second) ways;
+    }
 
 pub visit_after-returns-clause-visited : goal.visit_after-returns-clause-visited
 visit_after-returns-clause-visited g t c =
@@ -137,9 +142,9 @@ visit_after-returns-clause-visited g t c =
       | visit_after-then-loop-levels-test+else-shift w ↦ ap tree w.above-is ∙ w.if-shift.ensures.2
       | visit_after-else-loop-levels-test w ↦ ap tree w.above-is
     ] in
-    let inside = rw (n_is, so_far.direction, so_far.unicode) at c.visit_inside.ensures.visited in
-    let called = rw (so_far.direction, so_far.unicode) at c.call.ensures.called in
-    so_far.visited _ _ _ _ (after_children inside called) (rw above_is at c.climb.ensures.climbed)
+    let inside = rw n_is at (inside_there (CallsMut (goal.F-step g)) so_far.unicode refl so_far.direction c.visit_inside.ensures.visited) in
+    let called = called_there (CallsMut (goal.F-step g)) so_far.unicode refl so_far.direction c.call.ensures.called in
+    so_far.visited (tree c.call.new.n) (tree c.climb.new.n) c.call.new.func c.climb.new.func (after_children inside called) (rw above_is at c.climb.ensures.climbed)
 
 pub visit_row-visit_mut-requires : goal.visit_row-visit_mut-requires
 visit_row-visit_mut-requires g t c κs lives =

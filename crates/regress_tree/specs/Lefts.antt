@@ -1,0 +1,20 @@
+-- The left side of an `Alt`.
+use Rattle.std.specs.Prelude.{◌≡◌, Option, OnSome}
+use Rattle.std.specs.Borrow.{MutBor}
+use Rattle.std.specs.declared.alloc.Global.{Global}
+use Rattle.std.specs.declared.boxed.Box.{Box}
+use Rattle.regress_tree.specs.declared.ir.node.Node.{Node}
+use Rattle.regress_tree.specs.Tree.{Tree, alt, tree}
+
+pub record HasLeft (t left : Tree) : Type 0 where
+  pub right : Tree
+  pub is : t ≡ alt left right
+
+-- an `Alt` with another left side, and any other tree as it is
+abbrev pub with_left : Tree → Tree → Tree
+with_left (alt old right) left = alt left right
+with_left t left = t
+
+-- What a node of which the left side was lent ends as.
+abbrev pub LeftAfter : Option (MutBor (Box Node Global)) → Node → Node → Box Node Global → Type 0
+LeftAfter lent old new left = OnSome lent (tree new ≡ with_left (tree old) (tree left.value))
