@@ -38,9 +38,22 @@ pub(crate) fn print_matches<I: Read + Drop, W: Write>(
     let points = code_points(alloc, pattern)?;
     let tables = unicode_tables(alloc)?;
     let regex = prepared(alloc, &points, flags, &tables)?;
-    let groups = groups(alloc, &regex)?;
+    print_found(alloc, &regex, &tables, input, out)
+}
+
+/// Prints the matches of a tree in the input, and answers whether there is one.
+fn print_found<I: Read + Drop, W: Write>(
+    alloc: Global,
+    regex: &Regex,
+    tables: &Tables,
+    input: I,
+    out: &mut W,
+) -> Result<bool, Failure>
+    ensures { IfErr result (IsDue ⊤ ⊥) }
+{
+    let groups = groups(alloc, regex)?;
     let text = io::read_to_string(alloc, input).map_err(unread)?;
-    let mut matches = Matches::new(&regex, &tables, &text, 0, STEPS);
+    let mut matches = Matches::new(regex, tables, &text, 0, STEPS);
     let ended = write_all(alloc, &mut matches, &groups, out);
     out.flush().map_err(|_| Failure::Output)?;
     ended

@@ -39,19 +39,24 @@ pub(crate) fn write_json_fault<W: Write>(
     place: usize,
     out: &mut W,
 ) -> io::Result<()> {
-    write!(out, "{{\"fault\":\"")?;
-    for c in error.text.chars() {
-        write_json_character(c, out)?;
-    }
+    out.write_all(b"{\"fault\":\"")?;
+    write_json_text(&error.text, out)?;
     writeln!(out, "\",\"place\":{place}}}")?;
     out.flush()
+}
+
+fn write_json_text<W: Write>(text: &str, out: &mut W) -> io::Result<()> {
+    for c in text.chars() {
+        write_json_character(c, out)?;
+    }
+    Ok(())
 }
 
 /// Writes a character of a text of JSON.
 fn write_json_character<W: Write>(c: char, out: &mut W) -> io::Result<()> {
     match c {
-        '"' => write!(out, "\\\""),
-        '\\' => write!(out, "\\\\"),
+        '"' => out.write_all(b"\\\""),
+        '\\' => out.write_all(b"\\\\"),
         c if c < ' ' => {
             let number = u32::from(c);
             write!(out, "\\u{number:04x}")

@@ -3,7 +3,7 @@
 //! usage. Want of memory for the arguments or the buffer is status 3, as elsewhere.
 #![tactic(auto)]
 
-ghost use Rattle.std.specs.Prelude.{◌≡◌, ◌≢◌, ◌≤◌, ◌↔◌, IfErr, None};
+ghost use Rattle.std.specs.Prelude.{◌≡◌, ◌≢◌, ◌≤◌, ◌↔◌, ◌⊎◌, IfErr, None};
 ghost use Rattle.regex_tree.specs.Taken.{taken_of};
 ghost use Rattle.regex_tree.specs.declared.failure.Failure.TheVariants.{Output};
 
@@ -15,6 +15,7 @@ mod trees;
 use failure::{Failure, USAGE, tell};
 use fault::{write_fault, write_json_fault};
 use regress_arguments::{ArgumentsError, arguments};
+use regress_parse::Error;
 use request::{Asked, Format, Request, read_request};
 use std::alloc::Global;
 use std::env::Env;
@@ -85,17 +86,30 @@ fn run_request<W: Write, E: Write>(
 {
     match show(alloc, request, out) {
         Ok(()) => 0,
-        Err(Failure::Syntax { error, place }) => match request.format {
-            Format::Text => {
-                let _ = write_fault(&error, request.pattern, place, err);
-                1
-            }
-            Format::Json => match write_json_fault(&error, place, out) {
-                Ok(()) => 1,
-                Err(_) => tell(Failure::Output, err),
-            },
-        },
+        Err(Failure::Syntax { error, place }) => tell_fault(&error, place, request, out, err),
         Err(failure) => tell(failure, err),
+    }
+}
+
+/// Writes a fault of the pattern in the format that is asked for, and answers the status.
+fn tell_fault<W: Write, E: Write>(
+    error: &Error,
+    place: usize,
+    request: &Request<'_>,
+    out: &mut W,
+    err: &mut E,
+) -> u8
+    ensures { (result ≡ 1) ⊎ (result ≡ 4) }
+{
+    match request.format {
+        Format::Text => {
+            let _ = write_fault(error, request.pattern, place, err);
+            1
+        }
+        Format::Json => match write_json_fault(error, place, out) {
+            Ok(()) => 1,
+            Err(_) => tell(Failure::Output, err),
+        },
     }
 }
 
