@@ -16,7 +16,7 @@ use crate::facts::{PartFacts, RowFacts};
 use crate::leaf::finish_leaf;
 use crate::wrapper::finish_wrapper;
 use regress_tree::ir::held::{body_mut, walk_inside};
-use regress_tree::ir::spine::{relink, shift};
+use regress_tree::ir::spine::{left_mut, relink, shift};
 use regress_tree::ir::{Node, NodeList, Walk};
 use std::alloc::{AllocError, Global};
 
@@ -89,7 +89,7 @@ fn normalize_alt(
     requires onto { IsAltOnto right.now (tree node.old) }
     ensures { Normalized (direction_of walk.now) (tree node.old) (tree node.new) result }
 {
-    let Node::Alt(left, _) = node else {
+    let Some(left) = left_mut(node) else {
         unreachable!()
     };
     let left = normalize(alloc, left, walk)?;

@@ -15,7 +15,7 @@ ghost use Rattle.regress_tree.specs.Climbs.{ClimbedMut};
 
 use crate::rewrite::Rewrite;
 use regress_tree::ir::held::{body_mut, walk_inside};
-use regress_tree::ir::spine::{relink, shift};
+use regress_tree::ir::spine::{left_mut, relink, shift};
 use regress_tree::ir::{Node, NodeList, Regex, Walk};
 use std::alloc::AllocError;
 
@@ -94,7 +94,7 @@ fn sweep_down<R: Rewrite>(
     let mut changed = false;
     while *levels < usize::MAX && shift(node, above) {
         *levels += 1;
-        if let Node::Alt(left, _) = above {
+        if let Some(left) = left_mut(above) {
             changed |= sweep(left, pass, &walk.inside(*levels))?;
         }
     }

@@ -4,9 +4,9 @@ use Rattle.regress_tree.specs.Spine.{reattach}
 use Rattle.regress_tree.specs.Tree.{Tree, Trees, alt, wrapped, tree, trees}
 use Rattle.regress_tree.specs.Units.{units}
 use Rattle.regress_tree.specs.Walk.{direction_of}
-use Rattle.regress_tree.proofs.laws.Levels.{out-Alt, out-Cat}
+use Rattle.regress_tree.proofs.laws.Levels.{out-Cat}
 use Rattle.regress_tree.proofs.laws.Measures.{units-positive}
-use Rattle.regress_tree.proofs.laws.Nodes.{tree-Alt, tree-Cat}
+use Rattle.regress_tree.proofs.laws.Nodes.{tree-Cat}
 use Rattle.regress_tree.proofs.laws.Places.{inside_of, direction_inside}
 use Rattle.regress_rewrite.specs.Law.{IsPart}
 use Rattle.regress_rewrite.proofs.laws.Keeps.{IsPart-part}
@@ -68,44 +68,52 @@ normalize-returns-in-Err t c =
 
 pub normalize_alt-returns-in_err-left : goal.normalize_alt-returns-in_err-left
 normalize_alt-returns-in_err-left t c =
-    let left_is = rw (c.in-Alt.is, out-Alt) at c.deref_mut.ensures.value in
+    let left_is = c.deref_mut.ensures.value in
     let d = direction_of c.args.walk.now in
-    let left = tree c.in-Alt.left.value in
-    let right = tree c.in-Alt.field-1.value in
+    let has = c.in-Some.ensures.left in
+    let left = tree c.in-Some.left.now.value in
+    let right = has.right in
+    let ends = rw (c.in-Some.is, has.is) at (c.left_mut.follows.holds (record c.in-Some.left.now { value = c.normalize.new.node })) in
     let made = tree c.normalize.new.node in
     let stands = stands_left d (alt left right) left made right refl _ (rw left_is at c.normalize.ensures) in
-    rw (c.in-Alt.is, out-Alt) (simp tree-Alt (Normalized-error d (alt left right) (alt made right) _ c.from_residual.ensures.0 stands))
+    rw (ends, has.is) (Normalized-error d (alt left right) (alt made right) _ c.from_residual.ensures.0 stands)
 
 pub normalize_alt-finish_alt-requires-clause-part : goal.normalize_alt-finish_alt-requires-clause-part
 normalize_alt-finish_alt-requires-clause-part t c =
-    let left_is = rw (c.in-Alt.is, out-Alt) at c.deref_mut.ensures.value in
+    let left_is = c.deref_mut.ensures.value in
     let d = direction_of c.args.walk.now in
-    let left = tree c.in-Alt.left.value in
-    let right = tree c.in-Alt.field-1.value in
+    let has = c.in-Some.ensures.left in
+    let left = tree c.in-Some.left.now.value in
+    let right = has.right in
+    let ends = rw (c.in-Some.is, has.is) at (c.left_mut.follows.holds (record c.in-Some.left.now { value = c.normalize.new.node })) in
     let made = tree c.normalize.new.node in
     let stands = stands_left d (alt left right) left made right refl _ (rw left_is at c.normalize.ensures) in
-    let part = rw (c.in-Alt.is, tree-Alt) at c.requires.part in
-    rw (c.in-Alt.is, out-Alt, tree-Alt) (IsPart-stands d (alt left right) (alt made right) stands part)
+    let part = rw has.is at c.requires.part in
+    rw ends (IsPart-stands d (alt left right) (alt made right) stands part)
 
 pub normalize_alt-finish_alt-requires-clause-sides : goal.normalize_alt-finish_alt-requires-clause-sides
 normalize_alt-finish_alt-requires-clause-sides t c =
-    let left = tree c.in-Alt.left.value in
-    let right = tree c.in-Alt.field-1.value in
-    let onto = rw (c.in-Alt.is, tree-Alt) at c.requires.onto in
-    rw (c.in-Alt.is, out-Alt, tree-Alt)
+    let has = c.in-Some.ensures.left in
+    let left = tree c.in-Some.left.now.value in
+    let right = has.right in
+    let ends = rw (c.in-Some.is, has.is) at (c.left_mut.follows.holds (record c.in-Some.left.now { value = c.normalize.new.node })) in
+    let onto = rw has.is at c.requires.onto in
+    rw ends
     (both_sides (alt left right) left right c.args.right.now c.in_ok-left.left refl onto (tree c.normalize.new.node) c.in_ok-left.ensures.normal
     c.in_ok-left.ensures.facts)
 
 pub normalize_alt-returns : goal.normalize_alt-returns
 normalize_alt-returns t c =
-    let left_is = rw (c.in-Alt.is, out-Alt) at c.deref_mut.ensures.value in
+    let left_is = c.deref_mut.ensures.value in
     let d = direction_of c.args.walk.now in
-    let left = tree c.in-Alt.left.value in
-    let right = tree c.in-Alt.field-1.value in
+    let has = c.in-Some.ensures.left in
+    let left = tree c.in-Some.left.now.value in
+    let right = has.right in
+    let ends = rw (c.in-Some.is, has.is) at (c.left_mut.follows.holds (record c.in-Some.left.now { value = c.normalize.new.node })) in
     let made = tree c.normalize.new.node in
     let stands = stands_left d (alt left right) left made right refl _ (rw left_is at c.normalize.ensures) in
-    let finished = rw (c.in-Alt.is, out-Alt, tree-Alt) at (c.finish_alt.ensures d) in
-    rw (c.in-Alt.is, tree-Alt) (Normalized-after d (alt left right) (alt made right) _ _ stands finished)
+    let finished = rw ends at (c.finish_alt.ensures d) in
+    rw has.is (Normalized-after d (alt left right) (alt made right) _ _ stands finished)
 
 pub normalize_body-normalize-requires : goal.normalize_body-normalize-requires
 normalize_body-normalize-requires t c =

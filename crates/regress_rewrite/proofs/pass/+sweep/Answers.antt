@@ -1,7 +1,7 @@
 -- Each answer is a lemma on plain trees, at the values of the call.
 use Rattle.std.proofs.Common.{rules, arith, ◌≡◌, ◌+◌, ◌∙◌, true, false, [], take, drop, set, sym, ap, subst, refl, length-set}
 use Rattle.regress_tree.specs.declared.ir.node.Node.{Node, the_lemmas}
-use Rattle.regress_tree.specs.Tree.{Tree, wrapped, no_trees, more_trees, tree, trees}
+use Rattle.regress_tree.specs.Tree.{Tree, alt, wrapped, no_trees, more_trees, tree, trees}
 use Rattle.regress_tree.specs.Copies.{is_leaf}
 use Rattle.regress_tree.specs.Walk.{direction_of}
 use Rattle.regress_tree.specs.Units.{units}
@@ -10,7 +10,8 @@ use Rattle.regress_tree.proofs.laws.Nodes.{tree-Cat, tree-Alt}
 use Rattle.regress_tree.proofs.laws.Places.{inside_of, direction_inside}
 use Rattle.regress_rewrite.specs.Law.{IsPart}
 use Rattle.regress_tree.specs.Spine.{spine_length}
-use Rattle.regress_tree.proofs.laws.Levels.{out-Cat, out-Alt, alt_of}
+use Rattle.regress_tree.proofs.laws.Levels.{out-Cat, out-Alt}
+use Rattle.regress_tree.proofs.laws.There.{visited_there, inside_there, row_visited_there}
 use Rattle.regress_rewrite.proofs.laws.Keeps.{IsPart-kept, IsPart-part}
 use Rattle.regress_rewrite.proofs.SweepLemmas.{Swept-leaf, Swept-error, Swept-put, Swept-walk}
 use Rattle.regress_rewrite.proofs.laws.Spine.{IsPart-reattach, IsPart-down, units_down, levels_down, down_next, down_last}
@@ -29,34 +30,35 @@ sweep_down-sweep-requires g t c κs lives =
     let l = c.loop-levels in
     let shifted = c.if-shift.ensures in
     let node = c.deref_mut.result.now in
-    let left_is = rw (c.in-Alt.is, out-Alt) at c.deref_mut.ensures.value in
-    let top_is = alt_of c.shift.new.onto c.in-Alt.left c.in-Alt.field-1 node c.in-Alt.is left_is in
-    let smaller = units_down (tree l.node) (tree l.above) _ _ (tree node) _ shifted top_is in
-    let part = IsPart-down (tree l.node) (tree l.above) _ _ (tree node) _ shifted top_is _ _ l.invariant.swept.keeps c.requires.part in
+    let left = c.in-Some.ensures.left in
+    let top_is = left.is ∙ ap (λ n. alt (tree n) left.right) (sym c.deref_mut.ensures.value) in
+    let smaller = units_down (tree l.node) (tree l.above) (tree c.shift.new.from) (tree c.shift.new.onto) (tree node) left.right shifted top_is in
+    let part = IsPart-down (tree l.node) (tree l.above) (tree c.shift.new.from) (tree c.shift.new.onto) (tree node) left.right shifted top_is _ _ l.invariant.swept.keeps c.requires.part in
     (omega (arith, smaller, l.invariant.smaller), (search rules, part))
 
-pub sweep_down-loop-levels-preserved-in-Alt : goal.sweep_down-loop-levels-preserved-in-Alt
-sweep_down-loop-levels-preserved-in-Alt g t c =
+pub sweep_down-loop-levels-preserved-in-Some : goal.sweep_down-loop-levels-preserved-in-Some
+sweep_down-loop-levels-preserved-in-Some g t c =
     let l = c.loop-levels in
     let shifted = c.if-shift.ensures in
     let node = c.deref_mut.result.now in
-    let left_is = rw (c.in-Alt.is, out-Alt) at c.deref_mut.ensures.value in
-    let top_is = alt_of c.shift.new.onto c.in-Alt.left c.in-Alt.field-1 node c.in-Alt.is left_is in
+    let left = c.in-Some.ensures.left in
+    let top_is = left.is ∙ ap (λ n. alt (tree n) left.right) (sym c.deref_mut.ensures.value) in
+    let ends = rw (c.in-Some.is, left.is) at (c.left_mut.follows.holds (record c.in-Some.left.now { value = c.sweep.new.node })) in
     let levels : l.levels + 1 ≡ spine_length (tree c.shift.new.onto) = levels_down _ (tree l.node) (tree l.above) _ _ shifted l.invariant.levels in
     let levels = levels ∙ ap spine_length top_is in
     let depth = further-inside _ _ c.args.walk.now.depth _ refl c.inside.ensures.depth c.inside.ensures.same in
-    let first = rw (depth, c.inside.ensures.direction, c.inside.ensures.unicode) at c.in_ok-changed.ensures.visited in
-    let smaller = units_down (tree l.node) (tree l.above) _ _ (tree node) _ shifted top_is in
+    let first = visited_there (Applied g.R.Rewrite.step) c.inside.ensures.unicode depth c.inside.ensures.direction c.in_ok-changed.ensures.visited in
+    let smaller = units_down (tree l.node) (tree l.above) (tree c.shift.new.from) (tree c.shift.new.onto) (tree node) left.right shifted top_is in
     let here = Swept-walk _ c.args.walk.now c.inside.result c.inside.ensures.direction c.in_ok-changed.ensures.swept in
     record {
-      levels = rw (c.in-Alt.is, out-Alt, tree-Alt) levels;
+      levels = rw ends levels;
       visited = λ t u b e second climbed.
           after_down (Applied g.R.Rewrite.step c.args.walk.now.unicode) (further l.levels c.args.walk.now.depth) c.args.walk.now.depth
           c.args.walk.now.in_lookbehind (tree l.node) (tree l.above) _ _ (tree node) _ _ shifted top_is
           _ _ b e t u _ (ap (λ k. further k c.args.walk.now.depth) l.invariant.levels) (λ x m whole rest. l.invariant.visited x u m e whole rest)
-          (rw (← further_next l.levels _ c.args.walk.now.depth refl) at first) (rw (← further_next l.levels _ c.args.walk.now.depth refl) at second) (rw (c.in-Alt.is, out-Alt, tree-Alt) at climbed);
+          (rw (← further_next l.levels _ c.args.walk.now.depth refl) at first) (rw (← further_next l.levels _ c.args.walk.now.depth refl) at second) (rw ends at climbed);
       smaller = omega (arith, smaller, l.invariant.smaller);
-      swept = rw (c.in-Alt.is, out-Alt, tree-Alt) (down_next _ _ g.R.Rewrite.removes _ l.changed _ (tree l.node) (tree l.above) _ _ (tree node) _ _ shifted top_is
+      swept = rw ends (down_next _ _ g.R.Rewrite.removes _ l.changed _ (tree l.node) (tree l.above) _ _ (tree node) _ _ shifted top_is
           l.invariant.swept here);
     }
 
@@ -64,10 +66,11 @@ pub sweep_down-returns-in_err-changed-clause-swept : goal.sweep_down-returns-in_
 sweep_down-returns-in_err-changed-clause-swept g t c =
     let l = c.loop-levels in
     let node = c.deref_mut.result.now in
-    let left_is = rw (c.in-Alt.is, out-Alt) at c.deref_mut.ensures.value in
-    let top_is = alt_of c.shift.new.onto c.in-Alt.left c.in-Alt.field-1 node c.in-Alt.is left_is in
+    let left = c.in-Some.ensures.left in
+    let top_is = left.is ∙ ap (λ n. alt (tree n) left.right) (sym c.deref_mut.ensures.value) in
+    let ends = rw (c.in-Some.is, left.is) at (c.left_mut.follows.holds (record c.in-Some.left.now { value = c.sweep.new.node })) in
     let here = Swept-walk _ c.args.walk.now c.inside.result c.inside.ensures.direction c.sweep.ensures.swept in
-    rw (c.in-Alt.is, out-Alt, tree-Alt)
+    rw ends
     (Swept-error _ _ _ c.from_residual.ensures.0 refl
     (down_next _ _ g.R.Rewrite.removes _ l.changed _ (tree l.node) (tree l.above) _ _ (tree node) _ _ c.if-shift.ensures top_is
     l.invariant.swept here))
@@ -150,39 +153,33 @@ sweep_parts-loop-i-preserved g t c =
           c.sweep.new.node _ l.invariant.swept c.in_ok-changed.ensures.swept;
     }
 
-pub sweep_inside-returns-in-Cat-clause-visited : goal.sweep_inside-returns-in-Cat-clause-visited
-sweep_inside-returns-in-Cat-clause-visited g t c =
+pub sweep_inside-returns-in-Cat : goal.sweep_inside-returns-in-Cat
+sweep_inside-returns-in-Cat g t c =
     let inner = c.walk_inside-inner.ensures in
     let same = rw (c.in-Cat.is, tree-Cat) at inner.direction in
+    let visited = row_visited_there (Applied g.R.Rewrite.step) inner.unicode inner.depth same c.sweep_parts.ensures.visited in
     rw (c.in-Cat.is, out-Cat)
-    (simp tree-Cat (in_cat (rw (c.in-Cat.is, out-Cat, inner.depth, same, inner.unicode) at c.sweep_parts.ensures.visited)))
+    (rw (tree-Cat c.in-Cat.parts, tree-Cat c.sweep_parts.new.parts)
+    (record {
+      visited = in_cat (rw (c.in-Cat.is, out-Cat) at visited);
+      swept = Swept-walk _ c.args.walk.now c.walk_inside-inner.result same (rw (c.in-Cat.is, out-Cat) at c.sweep_parts.ensures.swept);
+    }))
 
-pub sweep_inside-returns-in-Cat-clause-swept : goal.sweep_inside-returns-in-Cat-clause-swept
-sweep_inside-returns-in-Cat-clause-swept g t c =
-    let same = rw (c.in-Cat.is, tree-Cat) at c.walk_inside-inner.ensures.direction in
-    rw (c.in-Cat.is, out-Cat)
-    (simp tree-Cat (Swept-walk _ c.args.walk.now c.walk_inside-inner.result same (rw (c.in-Cat.is, out-Cat) at c.sweep_parts.ensures.swept)))
-
-pub sweep_inside-returns-in-Alt-clause-visited : goal.sweep_inside-returns-in-Alt-clause-visited
-sweep_inside-returns-in-Alt-clause-visited g t c =
+pub sweep_inside-returns-in-Alt : goal.sweep_inside-returns-in-Alt
+sweep_inside-returns-in-Alt g t c =
     let at = c.in-Alt in
     let inner = c.walk_inside-inner.ensures in
     let same = rw (at.is, tree-Alt) at inner.direction in
     let left_is = rw (at.is, out-Alt) at c.deref_mut.ensures.value in
     let right_is = rw (at.is, out-Alt) at c.deref_mut-in-Alt.ensures.value in
     let tree_with = λ (x y : Node). tree-Alt (record at.left { value = x }) (record at.right { value = y }) in
-    rw (at.is, out-Alt) (rw (tree_with at.left.value at.right.value, tree_with c.sweep_sides.new.left c.sweep_sides.new.right)
-    (rw (left_is, right_is, same, inner.unicode) at (c.sweep_sides.ensures.visited c.args.walk.now.depth inner.depth)))
-
-pub sweep_inside-returns-in-Alt-clause-swept : goal.sweep_inside-returns-in-Alt-clause-swept
-sweep_inside-returns-in-Alt-clause-swept g t c =
-    let at = c.in-Alt in
-    let same = rw (at.is, tree-Alt) at c.walk_inside-inner.ensures.direction in
-    let left_is = rw (at.is, out-Alt) at c.deref_mut.ensures.value in
-    let right_is = rw (at.is, out-Alt) at c.deref_mut-in-Alt.ensures.value in
-    let tree_with = λ (x y : Node). tree-Alt (record at.left { value = x }) (record at.right { value = y }) in
-    rw (at.is, out-Alt) (rw (tree_with at.left.value at.right.value, tree_with c.sweep_sides.new.left c.sweep_sides.new.right)
-    (Swept-walk _ c.args.walk.now c.walk_inside-inner.result same (rw (left_is, right_is) at c.sweep_sides.ensures.swept)))
+    let visited = inside_there (Applied g.R.Rewrite.step) inner.unicode refl same (c.sweep_sides.ensures.visited c.args.walk.now.depth inner.depth) in
+    rw (at.is, out-Alt)
+    (rw (tree_with at.left.value at.right.value, tree_with c.sweep_sides.new.left c.sweep_sides.new.right)
+    (record {
+      visited = rw (left_is, right_is) at visited;
+      swept = Swept-walk _ c.args.walk.now c.walk_inside-inner.result same (rw (left_is, right_is) at c.sweep_sides.ensures.swept);
+    }))
 
 pub sweep_inside-sweep-requires : goal.sweep_inside-sweep-requires
 sweep_inside-sweep-requires g t c κs lives =
@@ -202,7 +199,7 @@ sweep_inside-returns-in-Some-clause-visited g t c =
     let value = c.deref_mut-in-Some.ensures.value in
     let new = record c.in-Some.body.now { value = c.sweep.new.node } in
     let ends = rw (c.in-Some.is, around.is) at (c.body_mut.follows.holds new) in
-    rw (ends, around.is) (in_wrapped (rw (value, inner.depth, turned, inner.unicode) at c.sweep.ensures.visited))
+    rw (ends, around.is) (in_wrapped (rw value at (visited_there (Applied g.R.Rewrite.step) inner.unicode inner.depth turned c.sweep.ensures.visited)))
 
 pub sweep_inside-returns-in-Some-clause-swept : goal.sweep_inside-returns-in-Some-clause-swept
 sweep_inside-returns-in-Some-clause-swept g t c =
@@ -307,15 +304,16 @@ sweep_down-returns-in_err-changed-clause-visited g t c u b climbed =
     let l = c.loop-levels in
     let shifted = c.if-shift.ensures in
     let node = c.deref_mut.result.now in
-    let left_is = rw (c.in-Alt.is, out-Alt) at c.deref_mut.ensures.value in
-    let top_is = alt_of c.shift.new.onto c.in-Alt.left c.in-Alt.field-1 node c.in-Alt.is left_is in
+    let left = c.in-Some.ensures.left in
+    let top_is = left.is ∙ ap (λ n. alt (tree n) left.right) (sym c.deref_mut.ensures.value) in
+    let ends = rw (c.in-Some.is, left.is) at (c.left_mut.follows.holds (record c.in-Some.left.now { value = c.sweep.new.node })) in
     let depth = further-inside _ _ c.args.walk.now.depth _ refl c.inside.ensures.depth c.inside.ensures.same in
-    let first = rw (depth, c.inside.ensures.direction, c.inside.ensures.unicode) at c.in_err-changed.ensures.visited in
+    let first = visited_there (Applied g.R.Rewrite.step) c.inside.ensures.unicode depth c.inside.ensures.direction c.in_err-changed.ensures.visited in
     after_down (Applied g.R.Rewrite.step c.args.walk.now.unicode) (further l.levels c.args.walk.now.depth) c.args.walk.now.depth
     c.args.walk.now.in_lookbehind (tree l.node) (tree l.above) _ _ (tree node) _ _ shifted top_is
     _ _ _ b _ u _ (ap (λ k. further k c.args.walk.now.depth) l.invariant.levels) (λ x m whole rest. l.invariant.visited x u m b whole rest)
     (rw (← further_next l.levels _ c.args.walk.now.depth refl) at first) (stays g.R.Rewrite.step c.args.walk.now.unicode _ _ _ _)
-    (rw (c.in-Alt.is, out-Alt, tree-Alt, not_answered _ c.from_residual.ensures.0) at climbed)
+    (rw (ends, not_answered _ c.from_residual.ensures.0) at climbed)
 
 pub sweep_down-returns-in_err-sweep_one-clause-visited : goal.sweep_down-returns-in_err-sweep_one-clause-visited
 sweep_down-returns-in_err-sweep_one-clause-visited g t c u b climbed =
@@ -332,7 +330,7 @@ sweep_down-returns-in_err-sweep_one-clause-visited g t c u b climbed =
     ] in
     let inner = c.inside-2.ensures in
     let depth = further-inside _ _ c.args.walk.now.depth _ refl inner.depth inner.same in
-    let last = rw (n_is, depth, inner.direction, inner.unicode) at c.in_err-sweep_one.ensures.visited in
+    let last = rw n_is at (visited_there (Applied g.R.Rewrite.step) inner.unicode depth inner.direction c.in_err-sweep_one.ensures.visited) in
     l.invariant.visited (tree c.sweep_one.new.node) u (c.sweep_one.new.pass, false) b last (rw (above_is, not_answered _ c.from_residual-in_err-sweep_one.ensures.0) at climbed)
 
 pub sweep_down-returns-clause-visited : goal.sweep_down-returns-clause-visited
@@ -350,5 +348,5 @@ sweep_down-returns-clause-visited g t c u b climbed =
     ] in
     let inner = c.inside-2.ensures in
     let depth = further-inside _ _ c.args.walk.now.depth _ refl inner.depth inner.same in
-    let last = rw (n_is, depth, inner.direction, inner.unicode) at c.in_ok-sweep_one.ensures.visited in
+    let last = rw n_is at (visited_there (Applied g.R.Rewrite.step) inner.unicode depth inner.direction c.in_ok-sweep_one.ensures.visited) in
     l.invariant.visited (tree c.sweep_one.new.node) u (c.sweep_one.new.pass, true) b last (rw above_is at climbed)
