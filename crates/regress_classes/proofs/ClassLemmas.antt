@@ -68,7 +68,8 @@ module _ (table : Table) (unicode : Bool) where
       ∙ cond-true _ _ _ (ap begins_range (hyphen ∙ ap (λ (r : Source). 45 ∷ r) behind) ∙ (and_parts (not (b == 93)) (not (b == 92)) plain').0)
       ∙ ap (λ (r : Source). range_at table unicode (point a) (drop 1 r)) hyphen
       ∙ ap (λ (last : Found ClassAtom). last >>= λ (x : ClassAtom × Source).
-      elim (range_of unicode (point a) x.0) as (λ _. Found (List Bounds)) [ None ↦ None | Some members ↦ Some (members, x.1) ]) (itself_read u v b behind plain')
+      elim (range_of unicode (point a) x.0) as (λ _. Found (List Bounds)) [ None ↦ None | Some members ↦ Some (members, x.1) ])
+      (itself_read u v b behind plain')
       ∙ ap (λ (o : Option (List Bounds)). elim o as (λ _. Found (List Bounds)) [ None ↦ None | Some members ↦ Some (members, v) ])
       (cond-true (nat_le a b) _ _ (le-leb a b le))
 

@@ -3,7 +3,7 @@ use Rattle.std.proofs.Common.{◌≡◌, ℕ, Bool, true, false, not, ◌&&◌, 
 use Rattle.std.proofs.lemmas.Bool.{cond-true, cond-false}
 use Rattle.regress_base.specs.Table.{Table}
 use Rattle.regress_lexical.specs.Source.{Source, Found, found_map, is_at}
-use Rattle.regress_classes.specs.ClassSets.{Value, nested, Operand, character, class, is_set_syntax, is_double, begins_double, escaped_character_at, set_character_at, operand_at, escaped_operand_at}
+use Rattle.regress_classes.specs.ClassSets.{Value, nested, character, class, is_set_syntax, is_double, begins_double, escaped_character_at, set_character_at, operand_at, escaped_operand_at}
 
 -- ---- rows of characters
 

@@ -6,7 +6,7 @@ use Rattle.regress_base.specs.declared.charclasses.CharacterClassType.{Character
 use Rattle.regress_base.specs.Table.{Table}
 use Rattle.regress_lexical.specs.Escapes.{escape_at}
 use Rattle.regress_lexical.specs.Source.{Source, Found, found_map, first_row, is_one_of}
-use Rattle.regress_classes.specs.ClassRows.{ClassAtom, point, set, class_letter, class_members, class_control_at, class_property_at, class_escape_rows, class_escape_by, class_escape_at}
+use Rattle.regress_classes.specs.ClassRows.{ClassAtom, point, set, class_letter, class_members, class_control_at, class_property_at, class_escape_rows, class_escape_at}
 use Rattle.regress_classes.specs.ClassSets.{Operand, character, class, only, quoted_at, property_operand_at, escaped_character_at, operand_rows, escaped_operand_at}
 
 pub property_letter : (c : ℕ) → is_one_of "pP" c ≡ (c == 112 || c == 80)

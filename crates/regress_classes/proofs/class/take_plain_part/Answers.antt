@@ -1,5 +1,5 @@
 -- What is left of code points are code points, and which part it is.
-use Rattle.std.proofs.Common.{◌≡◌, false, List, [], ◌∷◌, Some, sym, ap, subst, ◌∙◌}
+use Rattle.std.proofs.Common.{◌≡◌, false, [], ◌∷◌, Some, sym, ap, subst, ◌∙◌}
 use Rattle.std.proofs.lemmas.Bool.{ne_eqb}
 use Rattle.std.proofs.lemmas.List.Elements.{All-head, All-tail}
 use Rattle.std.specs.List.{All}

@@ -1,14 +1,14 @@
 -- Which row it is, and that what is left of code points are code points.
-use Rattle.std.proofs.Common.{◌≡◌, ℕ, false, not, ◌&&◌, ◌||◌, ◌==◌, ◌∷◌, Some, sym, ap, ◌∙◌, subst}
+use Rattle.std.proofs.Common.{◌≡◌, ℕ, false, not, ◌&&◌, ◌||◌, ◌==◌, ◌∷◌, sym, ap, ◌∙◌, subst}
 use Rattle.std.proofs.lemmas.Bool.{ne_eqb, and_left, and_right}
 use Rattle.std.specs.List.{All}
 use Rattle.std.proofs.lemmas.List.Elements.{All-tail}
 use Rattle.regress_lexical.specs.Reads.{Reads}
-use Rattle.regress_lexical.specs.Source.{IsCodePoint, Found, found_map}
+use Rattle.regress_lexical.specs.Source.{IsCodePoint, found_map}
 use Rattle.regress_lexical.specs.Views.{source}
 use Rattle.regress_unicode.specs.TableOf.{table_of}
 use Rattle.regress_lexical.proofs.laws.Sources.{on_refused}
-use Rattle.regress_classes.specs.ClassRows.{ClassAtom, point, class_property_at}
+use Rattle.regress_classes.specs.ClassRows.{point, class_property_at}
 use Rattle.regress_classes.proofs.EscapeRows.{set_read, backspace_read, hyphen_read, control_read, property_read, point_read}
 use Rattle.regress_classes.specs.ClassViews.{class_atom_of}
 use Rattle.regress_lexical.proofs.laws.Behind.{behind_all, escape_at-ends}

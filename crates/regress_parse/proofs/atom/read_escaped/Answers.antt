@@ -1,5 +1,5 @@
 -- Which row it is.
-use Rattle.std.proofs.Common.{◌≡◌, ℕ, false, true, ◌==◌, ◌∷◌, drop, Some, arith, refl, sym, ap, ap₂, subst, ◌∙◌}
+use Rattle.std.proofs.Common.{ℕ, false, true, ◌==◌, ◌∷◌, drop, Some, arith, refl, sym, ap, subst, ◌∙◌}
 use Rattle.std.proofs.lemmas.Bool.{ne_eqb}
 use Rattle.regress_lexical.specs.Reads.{ReadsAs}
 use Rattle.std.proofs.lemmas.List.Elements.{All-tail}

@@ -1,5 +1,5 @@
 -- Which row it is.
-use Rattle.std.proofs.Common.{◌≡◌, Bool, ◌||◌, ◌==◌, refl, sym, ap, subst, ◌∙◌}
+use Rattle.std.proofs.Common.{Bool, ◌==◌, refl, sym, ap, subst, ◌∙◌}
 use Rattle.std.proofs.lemmas.Bool.{ne_eqb}
 use Rattle.regress_base.specs.declared.charclasses.CharacterClassType.{CharacterClassType}
 use Rattle.regress_unicode.specs.TableOf.{table_of}
@@ -30,7 +30,8 @@ returns-then-c-from-clause-value c =
     let letter = c.in-Some.c.now in
     let front = c.in-Some.ensures.cases.0 in
     subst (ReadsAs IsOperand (source c.read_quoted.new.cursor) c.read_quoted.result)
-    (sym (quoted_read (table_of around.tables.now) around.unicode around.negated (source c.args.cursor.now) letter c.in-Some.rest.now front (c.if-c-from.true ∙ c.from.ensures)))
+    (sym (quoted_read (table_of around.tables.now) around.unicode around.negated (source c.args.cursor.now) letter c.in-Some.rest.now front
+    (c.if-c-from.true ∙ c.from.ensures)))
     c.read_quoted.ensures.value
 
 pub returns-then-is_property_letter-clause-value : goal.returns-then-is_property_letter-clause-value
@@ -41,7 +42,8 @@ returns-then-is_property_letter-clause-value c =
     let row = property_operand_read (table_of around.tables.now) around.unicode around.negated (source c.args.cursor.now) letter c.in-Some.rest.now front
     (sym c.is_property_letter.ensures ∙ c.if-is_property_letter.true) in
     subst (ReadsAs IsOperand (source c.read_property_operand.new.cursor) c.read_property_operand.result)
-    (ap (λ d. property_operand_at (table_of around.tables.now) around.negated (letter == d) c.in-Some.rest.now) c.from-then-is_property_letter.ensures ∙ sym row)
+    (ap (λ d. property_operand_at (table_of around.tables.now) around.negated (letter == d) c.in-Some.rest.now) c.from-then-is_property_letter.ensures
+    ∙ sym row)
     c.read_property_operand.ensures.value
 
 pub returns-in_ok-character-clause-value : goal.returns-in_ok-character-clause-value
