@@ -3,6 +3,7 @@ pub mod EscapeRows
 pub mod ReaderLemmas
 pub mod GrammarLemmas
 pub mod CountLemmas
+mod SettledLemmas
 pub mod StringLemmas
 pub mod ClassTreeLemmas
 pub mod BuildLemmas

@@ -3,6 +3,7 @@ pub mod TreeOf
 pub mod ClassParts
 pub mod Accepted
 pub mod Fault
+pub mod Settled
 pub mod Parsing
 -- what the public contracts cite of the crates below, passed on, so that a caller names one library
 pub use Rattle.regress_base.specs.Table
@@ -15,4 +16,5 @@ pub use Rattle.regress_syntax.specs.Syntax
 pub use Rattle.regress_syntax.specs.Rows
 pub use Rattle.regress_syntax.specs.Grammar
 pub use Rattle.regress_syntax.specs.Meaning
+pub use Rattle.regress_syntax.specs.Misplaced
 pub use Rattle.regress_syntax.specs.Views

@@ -1,5 +1,5 @@
 -- How the parser's values stand to what the grammar reads. No public contract cites this.
-use Rattle.std.specs.Prelude.{◌≡◌, ◌⊎◌, ℕ, ◌+◌, ◌<◌, ◌≤◌, Bool, ◌||◌, List, [], ◌∷◌, length, Option, Some, None, IfSome, string_bytes, Result, Ok, Err}
+use Rattle.std.specs.Prelude.{◌≡◌, ◌⊎◌, ℕ, ◌+◌, ◌-◌, ◌<◌, ◌≤◌, Bool, ◌||◌, List, [], ◌∷◌, length, Option, Some, None, IfSome, string_bytes, Result, Ok, Err}
 use Rattle.std.specs.Option.{IsSomeAnd}
 use Rattle.regress_tree.specs.declared.ir.node.Node.{Node}
 use Rattle.regress_tree.specs.Reading.{Direction, forwards}
@@ -147,7 +147,7 @@ YieldsWhole ctx t (Err fault) =
 -- The fault of a pattern of that length is told so, or memory was wanting for that.
 abbrev pub IsPlaced : ℕ → Fault → PlacedFault → Type 0
 IsPlaced length fault (Syntax e place) =
-    (r : Refusal) × (fault ≡ Refused r) × (string_bytes e.text ≡ text_of r.kind) × (place ≤ length)
+    (r : Refusal) × (fault ≡ Refused r) × (string_bytes e.text ≡ text_of r.kind) × (place ≡ length - r.left) × (place ≤ length)
 IsPlaced length fault (Memory e) = Unit {0}
 
 -- alternatives before a last one

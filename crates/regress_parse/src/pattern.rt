@@ -1,5 +1,5 @@
 //! From a whole pattern to its tree.
-ghost use Rattle.std.specs.Prelude.{◌≡◌, All, length, IfOk};
+ghost use Rattle.std.specs.Prelude.{◌≡◌, ◌-◌, Bool, All, length, IfOk};
 ghost use Rattle.regress_unicode.specs.TableOf.{table_of};
 ghost use Rattle.regress_syntax.specs.SettingOf.{setting_of};
 ghost use Rattle.regress_tree.specs.Tree.{tree};
@@ -7,16 +7,18 @@ ghost use Rattle.regress_tree.specs.WellFormed.{IsWellFormed};
 ghost use Rattle.regress_lexical.specs.Fault.{FailsBy};
 ghost use Rattle.regress_lexical.specs.Source.{IsCodePoint};
 ghost use Rattle.regress_syntax.specs.Syntax.{Pattern, nothing_counted};
+ghost use Rattle.regress_syntax.specs.Scanning.{NotesFirst, IsLocated, FailsAt};
 ghost use Rattle.regress_syntax.specs.Views.{context_of};
 ghost use Rattle.regress_parse.specs.TreeOf.{tree_of};
 ghost use Rattle.regress_parse.specs.Accepted.{IsAccepted, NoneIsAccepted, IsTrueOf, MayExceed, OneIsDerived, OfAccepted, Means};
 ghost use Rattle.regress_parse.specs.Fault.{RefusedOnlyIf, Tells, unplaced, IsPlacedWithin};
+ghost use Rattle.regress_parse.specs.Settled.{TellsAt, IsSettled};
 ghost use Rattle.regress_parse.specs.Parsing.{YieldsWhole, Reaches};
 
 use crate::fault::{ParseFault, PlacedFault, place};
 use crate::parser::{Around, Parser};
 use regress_base::types::Flags;
-use regress_syntax::{Cursor, Fault, FaultKind, Scope, scan_groups};
+use regress_syntax::{Cursor, Fault, FaultKind, Misplaced, Scope, scan_groups};
 use regress_tree::ir::{Node, Regex};
 use regress_unicode::Tables;
 use std::alloc::Global;
@@ -85,6 +87,7 @@ pub fn try_parse_with_place(
     ensures told { Tells (unplaced result) (IsTrueOf (setting_of flags tables.now) pattern.now) }
     ensures limits { Tells (unplaced result) (MayExceed pattern.now) }
     ensures place { IsPlacedWithin (length pattern.now) result }
+    ensures settled { TellsAt result (IsSettled (setting_of flags tables.now) pattern.now) }
     ensures only { OneIsDerived (setting_of flags tables.now) pattern.now }
 
     // What the tree is good for.
@@ -106,19 +109,20 @@ fn parse(alloc: Global, pattern: &[u32], flags: Flags, tables: &Tables) -> Resul
         × IsAccepted (setting_of flags tables.now) pattern.now p × (tree r.node ≡ tree_of (table_of tables.now) p)) }
     ensures told { FailsBy result (IsTrueOf (setting_of flags tables.now) pattern.now) }
     ensures limits { FailsBy result (MayExceed pattern.now) }
+    ensures settled { FailsAt result (λ r. IsSettled (setting_of flags tables.now) pattern.now r.kind (length pattern.now - r.left)) }
     ensures only { OneIsDerived (setting_of flags tables.now) pattern.now }
     ensures meaning { let setting = setting_of flags tables.now in
         IfOk result (λ r. OfAccepted setting pattern.now (Means setting (tree r.node))) }
     ensures well_formed { IfOk result (λ r. IsWellFormed (tree r.node)) }
     ensures flags { IfOk result (λ r. r.flags ≡ flags) }
 {
-    let groups = scan_groups(alloc, pattern, flags.unicode_sets, tables)?;
+    let found = scan_groups(alloc, pattern, flags.unicode_sets, tables)?;
     let scope = Scope {
         flags,
         tables,
-        groups: &groups,
+        groups: &found.groups,
     };
-    let body = parse_body(alloc, pattern, &scope)?;
+    let body = parse_body(alloc, pattern, &scope, found.misplaced)?;
     let parts = vec![in alloc; body, Node::Goal]?;
     Ok(Regex {
         node: Node::Cat(parts),
@@ -126,8 +130,26 @@ fn parse(alloc: Global, pattern: &[u32], flags: Flags, tables: &Tables) -> Resul
     })
 }
 
-/// Parses the whole source, up to its end.
-fn parse_body(alloc: Global, pattern: &[u32], scope: &Scope) -> Result<Node, Fault>
+/// Parses the whole source, up to its end. A fault is told at the place that was noted for its kind, if there is one.
+fn parse_body(
+    alloc: Global,
+    pattern: &[u32],
+    scope: &Scope,
+    misplaced: Misplaced,
+) -> Result<Node, Fault>
+    requires { All IsCodePoint pattern.now }
+    ensures value { YieldsWhole (context_of scope.now) pattern.now result }
+    ensures reached { FailsBy result (λ kind. Reaches kind nothing_counted 1 pattern.now) }
+    ensures located { (sets : Bool) → NotesFirst sets pattern.now misplaced → FailsAt result (IsLocated sets pattern.now) }
+{
+    match parse_source(alloc, pattern, scope) {
+        Ok(body) => Ok(body),
+        Err(fault) => Err(misplaced.locate(fault)),
+    }
+}
+
+/// The same, with a fault at the place where it was met.
+fn parse_source(alloc: Global, pattern: &[u32], scope: &Scope) -> Result<Node, Fault>
     requires { All IsCodePoint pattern.now }
     ensures value { YieldsWhole (context_of scope.now) pattern.now result }
     ensures reached { FailsBy result (λ kind. Reaches kind nothing_counted 1 pattern.now) }

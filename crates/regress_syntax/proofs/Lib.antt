@@ -1,5 +1,6 @@
 pub mod laws
 mod ConflictLemmas
+mod MisplacedLemmas
 mod NameLemmas
 mod NumberingLemmas
 mod PathLemmas

@@ -31,7 +31,7 @@ quiet_letter c e = grind (arith, nat_tests)
 pub quiet_plain : (c : ℕ) → is_plain c ≡ true → is_quiet c ≡ true
 quiet_plain c e = grind (arith, nat_tests)
 
-unquiet : (p a b c d e : Bool) → not (p || a || b || c || d || e) ≡ true →
+pub unquiet : (p a b c d e : Bool) → not (p || a || b || c || d || e) ≡ true →
     (p ≡ false) × (a ≡ false) × (b ≡ false) × (c ≡ false) × (d ≡ false) × (e ≡ false)
 unquiet false false false false false false h = (refl, refl, refl, refl, refl, refl)
 unquiet true a b c d e h = absurd (false≢true h)

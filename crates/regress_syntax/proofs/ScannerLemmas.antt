@@ -131,12 +131,6 @@ behind_captures all rest given old mid new added names named same place counted 
       levels = omega (arith, more, count, behind.levels, ap (λ n. deepest n rest) more, deepest_above (length (path_of old.path) + 1) rest);
     }
 
--- noting a place changes nothing of that
-pub watched : (all rest : List Mark) (old new : Scanner) → new ≡ record old { too_deep = new.too_deep } → Behind all rest old → Behind all rest new
-watched all rest old new same behind =
-    subst (Behind all rest) (sym same)
-    (record { names = behind.names; named = behind.named; some = behind.some; opened = behind.opened; levels = behind.levels })
-
 -- ---- at the end of a pattern
 
 -- as many levels as were counted, unless there are more than can be

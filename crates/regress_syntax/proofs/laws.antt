@@ -7,3 +7,4 @@ pub mod Paths
 pub mod SameNames
 pub mod Scan
 pub mod Lengths
+pub mod Misplaced

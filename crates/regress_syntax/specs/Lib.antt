@@ -7,6 +7,7 @@ pub mod Marks
 pub mod SameNames
 pub mod Paths
 pub mod Scan
+pub mod Misplaced
 pub mod Numbering
 pub mod Scanning
 pub mod Meaning

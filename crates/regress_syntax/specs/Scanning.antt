@@ -1,5 +1,5 @@
 -- What the state of the scan stands for.
-use Rattle.std.specs.Prelude.{◌≡◌, ℕ, ◌-◌, ◌^◌, min, max, ◌≤◌, Bool, List, [], ◌∷◌, ◌++◌, map, length, reverse, Some, option_map, is_some, filter}
+use Rattle.std.specs.Prelude.{◌≡◌, ℕ, ◌+◌, ◌-◌, ◌^◌, min, max, ◌≤◌, Bool, List, [], ◌∷◌, ◌++◌, map, length, reverse, Option, Some, None, option_map, is_some, filter, unwrap_or, Result, Ok, Err}
 use Rattle.regress_base.specs.Limits.{max_nesting_depth}
 use Rattle.regress_syntax.specs.Numbering.{names_of}
 use Rattle.regress_syntax.specs.Marks.{Mark, opens, captures, closes, next, nests}
@@ -13,6 +13,14 @@ use Rattle.regress_syntax.specs.declared.scan.path.Level.{Level as CodeLevel}
 use Rattle.regress_syntax.specs.declared.scan.path.Path.{Path as CodePath}
 use Rattle.regress_syntax.specs.declared.scan.scanner.Scanner.{Scanner}
 use Rattle.regress_syntax.specs.declared.scan.scanner.NamedGroup.{NamedGroup}
+use Rattle.regress_lexical.specs.declared.fault.FaultKind.{FaultKind}
+use Rattle.regress_lexical.specs.declared.fault.FaultKind.TheVariants.{UnbalancedParenthesis, TooDeep}
+use Rattle.regress_lexical.specs.declared.fault.Fault.{Fault}
+use Rattle.regress_lexical.specs.declared.fault.Fault.TheVariants.{Refused, Memory}
+use Rattle.regress_lexical.specs.declared.fault.Refusal.{Refusal}
+use Rattle.regress_lexical.specs.Source.{Source}
+use Rattle.regress_syntax.specs.Misplaced.{Flaw, unopened, too_deep, kind_of, left_at}
+use Rattle.regress_syntax.specs.declared.scan.misplaced.Misplaced.{Misplaced}
 
 -- ---- marks
 
@@ -55,6 +63,14 @@ highest (level ∷ path) = max level.alternative (highest path)
 abbrev pub highest_at : Place → ℕ
 highest_at place = max place.opened (highest place.path)
 
+-- how many levels of groups are open behind a mark
+abbrev pub levels_after : Mark → ℕ → ℕ
+levels_after opens n = n + 1
+levels_after (captures name) n = n + 1
+levels_after closes n = max 1 (n - 1)
+levels_after next n = n
+levels_after (nests levels) n = n
+
 -- ---- groups
 
 -- a group that has a name
@@ -74,3 +90,38 @@ pub record Behind (all rest : List Mark) (scanner : Scanner) : Type 0 where
   pub opened : length (path_of scanner.path) ≤ scanner.deepest
   -- no more are counted than a `usize` has numbers for
   pub levels : min (deepest 1 all) (2 ^ 64 - 1) ≡ min (max scanner.deepest (deepest (length (path_of scanner.path)) rest)) (2 ^ 64 - 1)
+
+-- ---- what is misplaced
+
+-- how many code points are left from the one on that was noted
+abbrev pub noted : Flaw → Misplaced → Option ℕ
+noted unopened misplaced = misplaced.unopened
+noted too_deep misplaced = misplaced.too_deep
+
+-- The first of each in the source was noted, and nothing else.
+abbrev pub NotesFirst : (sets : Bool) → Source → Misplaced → Type 0
+NotesFirst sets t misplaced = (flaw : Flaw) → left_at flaw sets plain 1 t ≡ noted flaw misplaced
+
+-- Where a fault is of such a kind and the source has such a place, that is the fault's.
+abbrev pub IsLocated : (sets : Bool) → Source → Refusal → Type 0
+IsLocated sets t r = (flaw : Flaw) (left : ℕ) → r.kind ≡ kind_of flaw → left_at flaw sets plain 1 t ≡ Some left → r.left ≡ left
+
+-- a fault of the pattern is of a kind and at a place of which this holds
+abbrev pub OnRefusal : Fault → (Refusal → Type 0) → Type 0
+OnRefusal (Refused r) P = P r
+OnRefusal (Memory e) P = Unit {0}
+
+abbrev pub FailsAt : {X : Type 0} → Result X Fault → (Refusal → Type 0) → Type 0
+FailsAt (Ok x) P = Unit {0}
+FailsAt (Err fault) P = OnRefusal fault P
+
+-- what is noted for a fault of this kind
+abbrev pub noted_for : Misplaced → FaultKind → Option ℕ
+noted_for misplaced UnbalancedParenthesis = misplaced.unopened
+noted_for misplaced TooDeep = misplaced.too_deep
+noted_for misplaced other = None
+
+-- the fault, at the place that is noted for it
+abbrev pub located : Misplaced → Fault → Fault
+located misplaced (Refused r) = Refused (record r { left = unwrap_or (noted_for misplaced r.kind) r.left })
+located misplaced (Memory e) = Memory e

@@ -16,6 +16,6 @@ pub use names::Name;
 pub use references::{has_references_by_name, read_group_number, read_reference};
 pub use regress_classes::{Value, class_escape_set};
 pub use regress_lexical::{Change, Cursor, Fault, FaultKind, Refusal, fault};
-pub use scan::scan as scan_groups;
+pub use scan::{Findings, Misplaced, scan as scan_groups};
 pub use scope::Scope;
 pub use times::read_times;

@@ -6,62 +6,83 @@ ghost use Rattle.regress_lexical.specs.Fault.{FailsBy};
 ghost use Rattle.regress_syntax.specs.Numbering.{names_of};
 ghost use Rattle.regress_syntax.specs.Paths.{NoMarksConflict};
 ghost use Rattle.regress_syntax.specs.Scan.{GivesMarks, plain, marks, named_by, deepest, MarksShow};
+ghost use Rattle.regress_syntax.specs.Scanning.{NotesFirst, IsLocated, FailsAt};
 ghost use Rattle.regress_syntax.specs.Views.{names_in};
 
 mod mark;
+mod misplaced;
 mod path;
 mod scanner;
 
 use crate::groups::Groups;
 use crate::names::Name;
 use mark::{Mode, read_mark, skip_quiet};
+pub use misplaced::Misplaced;
 use regress_lexical::fault::{Fault, FaultKind, refused};
 use regress_unicode::Tables;
 use scanner::Scanner;
 use std::alloc::Global;
 
+/// What a scan finds in a pattern.
+#[derive(Drop)]
+pub struct Findings {
+    /// Its capture groups.
+    pub groups: Groups,
+    /// Where it is past mending, if it is.
+    pub misplaced: Misplaced,
+}
+
 /// Finds the capture groups of a pattern and their names, without parsing it; `sets` is the flag v, with which classes
 /// lie in one another. The fault comes where two groups of one name conflict, wherever they stand, else where there are
 /// more levels than `MAX_NESTING_DEPTH`, else where there are more groups than 32 bits number.
-pub fn scan(alloc: Global, pattern: &[u32], sets: bool, tables: &Tables) -> Result<Groups, Fault>
-    ensures names { IfOk result (λ groups. names_in groups ≡ named_by (marks sets (table_of tables.now) plain pattern.now)) }
-    ensures count { IfOk result (λ groups. groups.count ≡ min (length (names_in groups)) max_capture_groups) }
-    ensures apart { IfOk result (λ groups. NoMarksConflict (marks sets (table_of tables.now) plain pattern.now)) }
+pub fn scan(alloc: Global, pattern: &[u32], sets: bool, tables: &Tables) -> Result<Findings, Fault>
+    ensures names { IfOk result (λ found. names_in found.groups ≡ named_by (marks sets (table_of tables.now) plain pattern.now)) }
+    ensures count { IfOk result (λ found. found.groups.count ≡ min (length (names_in found.groups)) max_capture_groups) }
+    ensures apart { IfOk result (λ found. NoMarksConflict (marks sets (table_of tables.now) plain pattern.now)) }
     ensures levels { IfOk result (λ _. deepest 1 (marks sets (table_of tables.now) plain pattern.now) ≤ max_nesting_depth) }
+    ensures misplaced { IfOk result (λ found. NotesFirst sets pattern.now found.misplaced) }
     ensures refused { FailsBy result (MarksShow (marks sets (table_of tables.now) plain pattern.now)) }
+    ensures located { FailsAt result (IsLocated sets pattern.now) }
     ensures whole { GivesMarks sets (table_of tables.now) pattern.now }
 {
-    let names = find_names(alloc, pattern, sets, tables)?;
+    let (names, misplaced) = find_names(alloc, pattern, sets, tables)?;
     // The number of each has 32 bits.
     if names.len() > u32::MAX as usize {
         return Err(refused(0, FaultKind::TooManyGroups));
     }
-    Ok(Groups::new(alloc, names)?)
+    let groups = Groups::new(alloc, names)?;
+    Ok(Findings { groups, misplaced })
 }
 
-/// The name of each capture group, with the same faults.
+/// The name of each capture group and what is misplaced, with the same faults.
 fn find_names(
     alloc: Global,
     pattern: &[u32],
     sets: bool,
     tables: &Tables,
-) -> Result<Vec<Option<Name>>, Fault>
-    ensures names { IfOk result (λ names. names_of names.items ≡ named_by (marks sets (table_of tables.now) plain pattern.now)) }
-    ensures apart { IfOk result (λ names. NoMarksConflict (marks sets (table_of tables.now) plain pattern.now)) }
+) -> Result<(Vec<Option<Name>>, Misplaced), Fault>
+    ensures names { IfOk result (λ found. names_of found.0.items ≡ named_by (marks sets (table_of tables.now) plain pattern.now)) }
+    ensures apart { IfOk result (λ _. NoMarksConflict (marks sets (table_of tables.now) plain pattern.now)) }
     ensures levels { IfOk result (λ _. deepest 1 (marks sets (table_of tables.now) plain pattern.now) ≤ max_nesting_depth) }
+    ensures misplaced { IfOk result (λ found. NotesFirst sets pattern.now found.1) }
     ensures refused { FailsBy result (MarksShow (marks sets (table_of tables.now) plain pattern.now)) }
+    ensures located { FailsAt result (IsLocated sets pattern.now) }
 {
     let mut scanner = Scanner::new(alloc)?;
+    let mut misplaced = Misplaced::none();
     let mut mode = Mode::Plain;
     let mut rest = pattern;
     while let Some((c, behind)) = skip_quiet(rest).split_first() {
-        let left = behind.len().saturating_add(1);
+        let left = behind.len() + 1;
+        misplaced.note(mode, scanner.levels(), *c, sets, left);
         if let Some(mark) = read_mark(alloc, mode, *c, behind, sets, tables)? {
             scanner.pass(mark, left)?;
         }
         mode = mode.behind(*c, sets);
-        scanner.watch(mode.levels(), left);
         rest = behind;
     }
-    scanner.finish()
+    match scanner.finish() {
+        Ok(names) => Ok((names, misplaced)),
+        Err(fault) => Err(misplaced.locate(fault)),
+    }
 }

@@ -1,9 +1,10 @@
 //! What tells the capture groups of a pattern apart.
-ghost use Rattle.std.specs.Prelude.{◌≡◌, ◌<◌, ◌≤◌, ◌+◌, ◌^◌, ◌==◌, Bool, false, drop, length, option_map, IfOk};
+ghost use Rattle.std.specs.Prelude.{◌≡◌, ℕ, ◌<◌, ◌≤◌, ◌+◌, ◌^◌, ◌==◌, Bool, false, drop, length, option_map, IfOk};
 ghost use Rattle.regress_base.specs.Table.{Table};
 ghost use Rattle.regress_unicode.specs.TableOf.{table_of};
 ghost use Rattle.regress_lexical.specs.Source.{char, is_at};
 ghost use Rattle.regress_syntax.specs.Scan.{opened_at, mode_behind, is_quiet, mark_at, marks};
+ghost use Rattle.regress_syntax.specs.Misplaced.{Flaw, left_at};
 ghost use Rattle.regress_syntax.specs.Scanning.{mode_of, mark_of, depth_of};
 ghost use Rattle.regress_syntax.specs.declared.scan.mark.Mode.{Mode as CodeMode};
 
@@ -39,14 +40,6 @@ pub(super) enum Mark {
 }
 
 impl Mode {
-    /// How many classes are open inside an outermost one.
-    pub(super) fn levels(self) -> usize {
-        match self {
-            Mode::Plain => 0,
-            Mode::Class { depth, .. } => depth,
-        }
-    }
-
     /// The mode behind a code point that begins no escape.
     pub(super) fn behind(self, c: u32, sets: bool) -> Mode
         requires room { depth_of (mode_of self) + 1 < 2 ^ 64 }
@@ -100,6 +93,8 @@ fn skip_escaped(source: &[u32]) -> &[u32]
 pub(super) fn skip_quiet(source: &[u32]) -> &[u32]
     ensures same { (sets : Bool) (table : Table) (mode : CodeMode) →
         marks sets table (mode_of mode) source.now ≡ marks sets table (mode_of mode) result.now }
+    ensures flaws { (flaw : Flaw) (sets : Bool) (mode : CodeMode) (n : ℕ) →
+        left_at flaw sets (mode_of mode) n source.now ≡ left_at flaw sets (mode_of mode) n result.now }
     ensures unescaped { is_at (char "\\") result.now ≡ false }
     ensures within { length result.now ≤ length source.now }
 {

@@ -7,7 +7,7 @@ ghost use Rattle.regress_syntax.specs.Numbering.{names_of};
 ghost use Rattle.regress_syntax.specs.Marks.{Mark as Written};
 ghost use Rattle.regress_syntax.specs.Paths.{CaptureAt, NoMarksConflict, conflict, enter};
 ghost use Rattle.regress_syntax.specs.Scan.{named_by, deepest, MarksShow};
-ghost use Rattle.regress_syntax.specs.Scanning.{mark_of, capture_of, bears_name, path_of, place_of, highest_at, Behind};
+ghost use Rattle.regress_syntax.specs.Scanning.{mark_of, capture_of, bears_name, path_of, place_of, highest_at, levels_after, Behind};
 
 use super::mark::Mark;
 use super::path::Path;
@@ -30,9 +30,6 @@ pub(super) struct Scanner {
     names: Vec<Option<Name>>,
     /// The capture groups that have names.
     named: Vec<NamedGroup>,
-    /// How many code points are left from the first parenthesis or bracket on that opens a level past
-    /// `MAX_NESTING_DEPTH`.
-    too_deep: Option<usize>,
 }
 
 /// A capture group with a name, and the path of its place: `MAX_NESTING_DEPTH` levels of it at most, so that the paths of
@@ -51,6 +48,7 @@ impl Scanner {
     pub(super) fn new(alloc: Global) -> Result<Scanner, AllocError>
         ensures found { (all : List Written) → IfOk result (Behind all all) }
         ensures numbers { IfOk result (λ scanner. highest_at (place_of scanner) ≡ 0) }
+        ensures levels { IfOk result (λ scanner. length (path_of scanner.path) ≡ 1) }
     {
         Ok(Scanner {
             alloc,
@@ -59,7 +57,6 @@ impl Scanner {
             deepest: 1,
             names: Vec::new(alloc),
             named: Vec::new(alloc),
-            too_deep: None,
         })
     }
 
@@ -68,6 +65,8 @@ impl Scanner {
         requires { highest_at (place_of self.old) + 1 < 2 ^ 64 }
         ensures found { (all rest : List Written) → Behind all (mark_of mark ∷ rest) self.old → OnOk result (Behind all rest self.new) }
         ensures numbers { OnOk result (highest_at (place_of self.new) ≤ highest_at (place_of self.old) + 1) }
+        ensures levels { 1 ≤ length (path_of self.old.path) →
+            OnOk result (length (path_of self.new.path) ≡ levels_after (mark_of mark) (length (path_of self.old.path))) }
     {
         match mark {
             Mark::Opens => self.open()?,
@@ -104,14 +103,11 @@ impl Scanner {
         self.deepest = self.deepest.max(self.path.depth().saturating_add(levels));
     }
 
-    /// Notes the place, if so many levels of classes open there lie past the limit of levels and none did before.
-    pub(super) fn watch(&mut self, levels: usize, left: usize)
-        ensures { self.new ≡ record self.old { too_deep = self.new.too_deep } }
+    /// How many levels of groups are open, the whole pattern among them.
+    pub(super) fn levels(&self) -> usize
+        ensures { result ≡ length (path_of self.now.path) }
     {
-        let depth = self.path.depth().saturating_add(levels);
-        if depth > MAX_NESTING_DEPTH as usize && self.too_deep.is_none() {
-            self.too_deep = Some(left);
-        }
+        self.path.depth()
     }
 
     /// Adds a capture group at the place. `left` is how many code points are left from its name on, if it has one.
@@ -148,7 +144,7 @@ impl Scanner {
             return Err(refused(second_name(&named), FaultKind::DuplicateName));
         }
         if self.deepest > MAX_NESTING_DEPTH as usize {
-            return Err(refused(self.too_deep.unwrap_or(0), FaultKind::TooDeep));
+            return Err(refused(0, FaultKind::TooDeep));
         }
         Ok(self.names)
     }

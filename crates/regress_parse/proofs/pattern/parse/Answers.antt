@@ -17,36 +17,49 @@ use Rattle.regress_parse.proofs.AcceptedLemmas.{found_names, scanned, most, scan
 use Rattle.regress_parse.proofs.ReachLemmas.{whole_exceeds, marks_exceed}
 use Rattle.regress_parse.proofs.GrammarLemmas.{pattern_at-sound}
 use Rattle.regress_parse.proofs.MeaningLemmas.{tree_of-means}
+use Rattle.regress_parse.proofs.SettledLemmas.{settled}
 use Rattle.regress_parse.proofs.WellFormedLemmas.{tree_of-well_formed}
 use Rattle.regress_parse.proofs.pattern.parse.Goals as goal
 
-pub returns-in_err-groups-clause-told : goal.returns-in_err-groups-clause-told
-returns-in_err-groups-clause-told c =
+pub returns-in_err-found-clause-told : goal.returns-in_err-found-clause-told
+returns-in_err-found-clause-told c =
     let p = err_from_is_err_and c.from_residual.result c.from_residual.ensures.1 in
-    rw (p.1, p.2) (on_kind_then c.in_err-groups.field-0.0
-    (λ kind shown p h. inl (marks-say (setting_of c.args.flags c.args.tables.now) c.args.pattern.now c.in_err-groups.ensures.whole kind shown p h))
-    c.in_err-groups.ensures.refused)
+    rw (p.1, p.2) (on_kind_then c.in_err-found.field-0.0
+    (λ kind shown p h. inl (marks-say (setting_of c.args.flags c.args.tables.now) c.args.pattern.now c.in_err-found.ensures.whole kind shown p h))
+    c.in_err-found.ensures.refused)
 
-pub returns-in_err-groups-clause-only : goal.returns-in_err-groups-clause-only
-returns-in_err-groups-clause-only c =
-    same_derived (setting_of c.args.flags c.args.tables.now) c.args.pattern.now c.in_err-groups.ensures.whole
+pub returns-in_err-found-clause-settled : goal.returns-in_err-found-clause-settled
+returns-in_err-found-clause-settled c =
+    let p = err_from_is_err_and c.from_residual.result c.from_residual.ensures.1 in
+    rw (p.1, p.2) (settled (setting_of c.args.flags c.args.tables.now) c.args.pattern.now c.in_err-found.field-0.0
+    c.args.tables.now.sound.lawful c.in_err-found.ensures.located)
+
+pub returns-in_err-body-clause-settled : goal.returns-in_err-body-clause-settled
+returns-in_err-body-clause-settled c =
+    let p = err_from_is_err_and c.from_residual-in_err-body.result c.from_residual-in_err-body.ensures.1 in
+    rw (p.1, p.2) (settled (setting_of c.args.flags c.args.tables.now) c.args.pattern.now c.in_err-body.field-0.0
+    c.args.tables.now.sound.lawful (c.in_err-body.ensures.located c.args.flags.unicode_sets c.in_ok-found.ensures.misplaced))
+
+pub returns-in_err-found-clause-only : goal.returns-in_err-found-clause-only
+returns-in_err-found-clause-only c =
+    same_derived (setting_of c.args.flags c.args.tables.now) c.args.pattern.now c.in_err-found.ensures.whole
 
 pub returns-in_err-body-clause-told : goal.returns-in_err-body-clause-told
 returns-in_err-body-clause-told c =
     let p = err_from_is_err_and c.from_residual-in_err-body.result c.from_residual-in_err-body.ensures.1 in
     let setting = setting_of c.args.flags c.args.tables.now in
     let t = c.args.pattern.now in
-    let found = c.in_ok-groups.ensures in
-    let same = scanned-is setting t found.whole c.in_ok-groups.groups.count (names_in c.in_ok-groups.groups) found.names found.count in
+    let found = c.in_ok-found.ensures in
+    let same = scanned-is setting t found.whole c.in_ok-found.found.groups.count (names_in c.in_ok-found.found.groups) found.names found.count in
     let yields : YieldsWhole (scanned setting t found.whole (most setting t found.whole)) t (Err c.in_err-body.field-0.0) =
     subst (λ ctx. YieldsWhole ctx t (Err c.in_err-body.field-0.0)) same c.in_err-body.ensures.value in
     rw (p.1, p.2) (on_kind_then c.in_err-body.field-0.0 (reading-says setting t found.whole found.levels) yields)
 
-pub returns-in_err-groups-clause-limits : goal.returns-in_err-groups-clause-limits
-returns-in_err-groups-clause-limits c =
+pub returns-in_err-found-clause-limits : goal.returns-in_err-found-clause-limits
+returns-in_err-found-clause-limits c =
     let p = err_from_is_err_and c.from_residual.result c.from_residual.ensures.1 in
-    rw (p.1, p.2) (on_kind_then c.in_err-groups.field-0.0
-    (marks_exceed c.args.flags.unicode_sets (table_of c.args.tables.now) c.args.pattern.now) c.in_err-groups.ensures.refused)
+    rw (p.1, p.2) (on_kind_then c.in_err-found.field-0.0
+    (marks_exceed c.args.flags.unicode_sets (table_of c.args.tables.now) c.args.pattern.now) c.in_err-found.ensures.refused)
 
 pub returns-in_err-body-clause-limits : goal.returns-in_err-body-clause-limits
 returns-in_err-body-clause-limits c =
@@ -55,19 +68,19 @@ returns-in_err-body-clause-limits c =
 
 pub returns-in_err-body-clause-only : goal.returns-in_err-body-clause-only
 returns-in_err-body-clause-only c =
-    same_derived (setting_of c.args.flags c.args.tables.now) c.args.pattern.now c.in_ok-groups.ensures.whole
+    same_derived (setting_of c.args.flags c.args.tables.now) c.args.pattern.now c.in_ok-found.ensures.whole
 
 pub returns-in_err-parts-clause-only : goal.returns-in_err-parts-clause-only
 returns-in_err-parts-clause-only c =
-    same_derived (setting_of c.args.flags c.args.tables.now) c.args.pattern.now c.in_ok-groups.ensures.whole
+    same_derived (setting_of c.args.flags c.args.tables.now) c.args.pattern.now c.in_ok-found.ensures.whole
 
 -- the pattern that was read, and its tree
 pub returns-clause-accepted : goal.returns-clause-accepted
 returns-clause-accepted c =
     let setting = setting_of c.args.flags c.args.tables.now in
     let t = c.args.pattern.now in
-    let found = c.in_ok-groups.ensures in
-    let same = scanned-is setting t found.whole c.in_ok-groups.groups.count (names_in c.in_ok-groups.groups) found.names found.count in
+    let found = c.in_ok-found.ensures in
+    let same = scanned-is setting t found.whole c.in_ok-found.found.groups.count (names_in c.in_ok-found.found.groups) found.names found.count in
     let here = scanned setting t found.whole (most setting t found.whole) in
     let read : YieldsWhole here t (Ok c.in_ok-body.body) = subst (λ ctx. YieldsWhole ctx t (Ok c.in_ok-body.body)) same c.in_ok-body.ensures.value in
     let p = read.0 in
@@ -87,13 +100,13 @@ returns-clause-accepted c =
     )
 
 pub returns-clause-only : goal.returns-clause-only
-returns-clause-only c = same_derived (setting_of c.args.flags c.args.tables.now) c.args.pattern.now c.in_ok-groups.ensures.whole
+returns-clause-only c = same_derived (setting_of c.args.flags c.args.tables.now) c.args.pattern.now c.in_ok-found.ensures.whole
 
 pub returns-clause-meaning : goal.returns-clause-meaning
 returns-clause-meaning c q accepted =
     let setting = setting_of c.args.flags c.args.tables.now in
     let found = returns-clause-accepted c in
-    let one = same_derived setting c.args.pattern.now c.in_ok-groups.ensures.whole found.0 q found.1.derived accepted.derived in
+    let one = same_derived setting c.args.pattern.now c.in_ok-found.ensures.whole found.0 q found.1.derived accepted.derived in
     subst (λ (t : Tree). Means setting t q) (sym (found.2 ∙ ap (tree_of setting.table) one)) (tree_of-means setting q)
 
 pub returns-clause-well_formed : goal.returns-clause-well_formed

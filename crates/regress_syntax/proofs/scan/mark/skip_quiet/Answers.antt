@@ -3,10 +3,12 @@ use Rattle.std.proofs.lemmas.List.{length-drop}
 use Rattle.regress_base.specs.Table.{Table}
 use Rattle.regress_lexical.specs.Source.{Source}
 use Rattle.regress_syntax.specs.Scan.{is_quiet, marks}
+use Rattle.regress_syntax.specs.Misplaced.{Flaw, left_at}
 use Rattle.regress_syntax.specs.Scanning.{mode_of}
 use Rattle.regress_syntax.specs.declared.scan.mark.Mode.{Mode}
 use Rattle.regress_syntax.specs.declared.scan.mark.Mode.TheVariants.{Plain, Class}
 use Rattle.regress_syntax.proofs.ScanLemmas.{Home, home, in_text, in_class, passes_then, pass_quiet, pass_backslash, pass_escaped}
+use Rattle.regress_syntax.proofs.MisplacedLemmas.{left_quiet, left_escape}
 use Rattle.regress_syntax.proofs.scan.mark.skip_quiet.Goals as goal
 
 home_of : (mode : Mode) → (w : Home) × (mode_of mode ≡ home w)
@@ -30,11 +32,24 @@ escape_skipped : (sets : Bool) (table : Table) (mode : Mode) (c : ℕ) (rest beh
 escape_skipped sets table mode c rest behind split backslash =
     let (w, is) = home_of mode in rw (split, backslash, is) (behind_escape sets table w behind)
 
+quiet_left : (flaw : Flaw) (sets : Bool) (mode : Mode) (n c : ℕ) (rest behind : Source) → rest ≡ c ∷ behind → is_quiet c ≡ true →
+    left_at flaw sets (mode_of mode) n rest ≡ left_at flaw sets (mode_of mode) n behind
+quiet_left flaw sets mode n c rest behind split quiet =
+    let (w, is) = home_of mode in rw (split, is) (left_quiet flaw sets w n c behind quiet)
+
+escape_left : (flaw : Flaw) (sets : Bool) (mode : Mode) (n c : ℕ) (rest behind : Source) → rest ≡ c ∷ behind → c ≡ 92 →
+    left_at flaw sets (mode_of mode) n rest ≡ left_at flaw sets (mode_of mode) n (drop 1 behind)
+escape_left flaw sets mode n c rest behind split backslash =
+    let (w, is) = home_of mode in rw (split, backslash, is) (left_escape flaw sets w n behind)
+
 pub loop-c-preserved-then-is_quiet : goal.loop-c-preserved-then-is_quiet
 loop-c-preserved-then-is_quiet c = record {
   same = λ sets table mode.
       c.loop-c.invariant.same sets table mode
       ∙ quiet_skipped sets table mode c.in-Some.c.now _ _ c.in-Some.ensures.cases.0 (sym c.is_quiet.ensures ∙ c.if-is_quiet.true);
+  flaws = λ flaw sets mode n.
+      c.loop-c.invariant.flaws flaw sets mode n
+      ∙ quiet_left flaw sets mode n c.in-Some.c.now _ _ c.in-Some.ensures.cases.0 (sym c.is_quiet.ensures ∙ c.if-is_quiet.true);
   within = omega (arith, c.loop-c.invariant.within, ap length c.in-Some.ensures.cases.0);
 }
 
@@ -44,5 +59,9 @@ loop-c-preserved c = record {
       c.loop-c.invariant.same sets table mode
       ∙ escape_skipped sets table mode c.in-Some.c.now _ _ c.in-Some.ensures.cases.0 (c.if-c-from.true ∙ c.from.ensures)
       ∙ ap (marks sets table (mode_of mode)) (sym c.skip_escaped-rest.ensures);
+  flaws = λ flaw sets mode n.
+      c.loop-c.invariant.flaws flaw sets mode n
+      ∙ escape_left flaw sets mode n c.in-Some.c.now _ _ c.in-Some.ensures.cases.0 (c.if-c-from.true ∙ c.from.ensures)
+      ∙ ap (left_at flaw sets (mode_of mode) n) (sym c.skip_escaped-rest.ensures);
   within = omega (arith, c.loop-c.invariant.within, ap length c.in-Some.ensures.cases.0, ap length c.skip_escaped-rest.ensures, length-drop 1 c.in-Some.behind.now);
 }

@@ -1,7 +1,8 @@
--- What is left has the same marks in each mode.
-use Rattle.std.proofs.Common.{◌≡◌, Bool, ◌≤◌, length}
+-- What is left has the same marks in each mode, and nothing misplaced was passed.
+use Rattle.std.proofs.Common.{◌≡◌, ℕ, Bool, ◌≤◌, length}
 use Rattle.regress_base.specs.Table.{Table}
 use Rattle.regress_syntax.specs.Scan.{marks}
+use Rattle.regress_syntax.specs.Misplaced.{Flaw, left_at}
 use Rattle.regress_syntax.specs.Scanning.{mode_of}
 use Rattle.regress_syntax.specs.declared.scan.mark.Mode.{Mode}
 use Rattle.regress_syntax.proofs.scan.mark.skip_quiet.Given as goal
@@ -9,6 +10,8 @@ use Rattle.regress_syntax.proofs.scan.mark.skip_quiet.Given as goal
 abbrev pub invariant-loop-c : goal.invariant-loop-c
 invariant-loop-c l = record {
   same : (sets : Bool) (table : Table) (mode : Mode) → marks sets table (mode_of mode) l.source ≡ marks sets table (mode_of mode) l.rest;
+  flaws : (flaw : Flaw) (sets : Bool) (mode : Mode) (n : ℕ) →
+      left_at flaw sets (mode_of mode) n l.source ≡ left_at flaw sets (mode_of mode) n l.rest;
   within : length l.rest ≤ length l.source;
 }
 

@@ -12,7 +12,7 @@ use Rattle.regress_syntax.specs.Views.{context_of}
 use Rattle.regress_parse.specs.declared.parser.Parser.{Parser}
 use Rattle.regress_parse.specs.Parsing.{text, pattern_part, Builds, YieldsWhole}
 use Rattle.regress_parse.specs.Reader.{pattern_at}
-use Rattle.regress_parse.proofs.pattern.parse_body.Goals as goal
+use Rattle.regress_parse.proofs.pattern.parse_source.Goals as goal
 
 module _ (ctx : Context) (t : Source) (new : Parser) (node : Node) where
   Built : Pattern × Source → Type 0

@@ -1,0 +1,129 @@
+-- What a scan passes before the first parenthesis that closes nothing, or that opens a level too many.
+use Rattle.std.proofs.Common.{◌≡◌, ℕ, ◌+◌, ◌-◌, max, Bool, true, false, cond, ◌==◌, ◌&&◌, [], ◌∷◌, drop, length, Option, Some, None, refl, sym, ap, ◌∙◌, subst, arith}
+use Rattle.std.specs.Option.{option_or}
+use Rattle.std.proofs.lemmas.Option.{none-some, same_Some}
+use Rattle.regress_base.specs.Table.{Table}
+use Rattle.regress_lexical.specs.Source.{Source, opening, closing, bar, question_mark, is_at}
+use Rattle.regress_syntax.specs.Marks.{Mark, opens, captures, closes, next, nests}
+use Rattle.regress_syntax.specs.Names.{group_name_at}
+use Rattle.regress_syntax.specs.Syntax.{Name}
+use Rattle.regress_syntax.specs.Scan.{Mode, plain, escape, class, class_escape, mode_behind, mark_at, opened_at, is_quiet}
+use Rattle.regress_syntax.specs.Misplaced.{Flaw, unopened, too_deep, is_flaw, levels_behind, left_at}
+use Rattle.regress_syntax.specs.Scanning.{levels_after}
+use Rattle.regress_syntax.proofs.ScanLemmas.{Home, home, in_text, in_class, unquiet}
+
+-- ---- from one code point to the next
+
+pub left_quiet : (flaw : Flaw) (sets : Bool) (w : Home) (n c : ℕ) (t : Source) → is_quiet c ≡ true →
+    left_at flaw sets (home w) n (c ∷ t) ≡ left_at flaw sets (home w) n t
+unfolding left_at
+left_quiet unopened sets in_text n c t e =
+    let no = unquiet (c == 92) (c == 91) (c == 93) (c == opening) (c == closing) (c == bar) e in rw (no.0, no.1, no.3, no.4) refl
+left_quiet too_deep sets in_text n c t e =
+    let no = unquiet (c == 92) (c == 91) (c == 93) (c == opening) (c == closing) (c == bar) e in rw (no.0, no.1, no.3, no.4) refl
+left_quiet unopened sets (in_class depth deepest) n c t e =
+    let no = unquiet (c == 92) (c == 91) (c == 93) (c == opening) (c == closing) (c == bar) e in rw (no.0, no.1, no.2) refl
+left_quiet too_deep true (in_class depth deepest) n c t e =
+    let no = unquiet (c == 92) (c == 91) (c == 93) (c == opening) (c == closing) (c == bar) e in rw (no.0, no.1, no.2) refl
+left_quiet too_deep false (in_class depth deepest) n c t e =
+    let no = unquiet (c == 92) (c == 91) (c == 93) (c == opening) (c == closing) (c == bar) e in rw (no.0, no.1, no.2) refl
+
+-- behind a backslash
+pub left_escape : (flaw : Flaw) (sets : Bool) (w : Home) (n : ℕ) (t : Source) →
+    left_at flaw sets (home w) n (92 ∷ t) ≡ left_at flaw sets (home w) n (drop 1 t)
+unfolding left_at
+left_escape unopened sets in_text n [] = refl
+left_escape unopened sets in_text n (d ∷ t) = refl
+left_escape too_deep sets in_text n [] = refl
+left_escape too_deep sets in_text n (d ∷ t) = refl
+left_escape unopened sets (in_class depth deepest) n [] = refl
+left_escape unopened sets (in_class depth deepest) n (d ∷ t) = refl
+left_escape too_deep true (in_class depth deepest) n [] = refl
+left_escape too_deep true (in_class depth deepest) n (d ∷ t) = refl
+left_escape too_deep false (in_class depth deepest) n [] = refl
+left_escape too_deep false (in_class depth deepest) n (d ∷ t) = refl
+
+-- the code point itself, or else what is behind it
+left_step : (flaw : Flaw) (sets : Bool) (mode : Mode) (n c : ℕ) (t : Source) →
+    left_at flaw sets mode n (c ∷ t)
+    ≡ option_or (cond (is_flaw flaw sets mode n c) (Some (length t + 1)) None) (left_at flaw sets (mode_behind sets mode c) (levels_behind mode n c) t)
+unfolding left_at
+left_step flaw sets mode n c t = by (is_flaw flaw sets mode n c)
+  where
+    behind : Option ℕ
+    behind = left_at flaw sets (mode_behind sets mode c) (levels_behind mode n c) t
+
+    by : (q : Bool) → cond q (Some (length t + 1)) behind ≡ option_or (cond q (Some (length t + 1)) None) behind
+    by true = refl
+    by false = refl
+
+or_or : (a b c : Option ℕ) → option_or a (option_or b c) ≡ option_or (option_or a b) c
+or_or None b c = refl
+or_or (Some x) b c = refl
+
+or_none : (a : Option ℕ) → option_or a None ≡ a
+or_none None = refl
+or_none (Some x) = refl
+
+-- what was noted before, at a code point, and what is behind it
+pub noted_behind : (flaw : Flaw) (sets : Bool) (mode : Mode) (n m c left : ℕ) (rest t : Source) (whole : Option ℕ) (old new : Option ℕ) →
+    rest ≡ c ∷ t → left ≡ length t + 1 → m ≡ levels_behind mode n c →
+    new ≡ option_or old (cond (is_flaw flaw sets mode n c) (Some left) None) →
+    whole ≡ option_or old (left_at flaw sets mode n rest) → whole ≡ option_or new (left_at flaw sets (mode_behind sets mode c) m t)
+noted_behind flaw sets mode n m c left rest t whole old new split here levels note before =
+    let behind = left_at flaw sets (mode_behind sets mode c) (levels_behind mode n c) t in
+    before ∙ ap (λ u. option_or old (left_at flaw sets mode n u)) split ∙ ap (option_or old) (left_step flaw sets mode n c t)
+    ∙ or_or old (cond (is_flaw flaw sets mode n c) (Some (length t + 1)) None) behind
+    ∙ ap (λ (k : ℕ). option_or (option_or old (cond (is_flaw flaw sets mode n c) (Some k) None)) behind) (sym here)
+    ∙ ap (λ (a : Option ℕ). option_or a behind) (sym note)
+    ∙ ap (λ (k : ℕ). option_or new (left_at flaw sets (mode_behind sets mode c) k t)) (sym levels)
+
+-- nothing is left
+pub all_noted : (flaw : Flaw) (sets : Bool) (mode : Mode) (n : ℕ) (rest : Source) (whole old : Option ℕ) → length rest ≡ 0 →
+    whole ≡ option_or old (left_at flaw sets mode n rest) → whole ≡ old
+unfolding left_at
+all_noted flaw sets mode n [] whole old e before = before ∙ or_none old
+all_noted flaw sets mode n (c ∷ t) whole old e before = absurd (omega arith)
+
+-- ---- levels
+
+after_opened : (n : ℕ) (table : Table) (t : Source) → levels_after (opened_at table t) n ≡ n + 1
+after_opened n table t = by (is_at question_mark t) (group_name_at table (drop 1 t))
+  where
+    by : (q : Bool) (found : Option (Name × Source)) →
+        levels_after (cond q (elim found as (λ _. Mark) [ None ↦ opens | Some x ↦ captures (Some x.0) ]) (captures None)) n ≡ n + 1
+    by true None = refl
+    by true (Some x) = refl
+    by false found = refl
+
+-- a mark, or none, tells how many levels are open behind it
+pub levels_at_mark : (sets : Bool) (table : Table) (mode : Mode) (n c : ℕ) (t : Source) (mark : Mark) → mark_at sets table mode c t ≡ Some mark →
+    levels_after mark n ≡ levels_behind mode n c
+levels_at_mark sets table plain n c t mark e = by (c == opening) (c == closing) (c == bar) e
+  where
+    by : (p q r : Bool) → cond p (Some (opened_at table t)) (cond q (Some closes) (cond r (Some next) None)) ≡ Some mark →
+        levels_after mark n ≡ cond p (n + 1) (cond q (max 1 (n - 1)) n)
+    by true q r e = subst (λ m. levels_after m n ≡ n + 1) (same_Some _ _ e) (after_opened n table t)
+    by false true r e = subst (λ m. levels_after m n ≡ max 1 (n - 1)) (same_Some _ _ e) refl
+    by false false true e = subst (λ m. levels_after m n ≡ n) (same_Some _ _ e) refl
+    by false false false e = absurd (none-some mark e)
+levels_at_mark sets table escape n c t mark e = absurd (none-some mark e)
+levels_at_mark sets table (class depth deepest) n c t mark e = by (c == 93 && depth == 0 && sets) e
+  where
+    by : (q : Bool) → cond q (Some (nests deepest)) None ≡ Some mark → levels_after mark n ≡ n
+    by true e = subst (λ m. levels_after m n ≡ n) (same_Some _ _ e) refl
+    by false e = absurd (none-some mark e)
+levels_at_mark sets table (class_escape depth deepest) n c t mark e = absurd (none-some mark e)
+
+pub levels_at_none : (sets : Bool) (table : Table) (mode : Mode) (n c : ℕ) (t : Source) → mark_at sets table mode c t ≡ None →
+    n ≡ levels_behind mode n c
+levels_at_none sets table plain n c t e = by (c == opening) (c == closing) (c == bar) e
+  where
+    by : (p q r : Bool) → cond p (Some (opened_at table t)) (cond q (Some closes) (cond r (Some next) None)) ≡ None →
+        n ≡ cond p (n + 1) (cond q (max 1 (n - 1)) n)
+    by true q r e = absurd (none-some _ (sym e))
+    by false true r e = absurd (none-some _ (sym e))
+    by false false r e = refl
+levels_at_none sets table escape n c t e = refl
+levels_at_none sets table (class depth deepest) n c t e = refl
+levels_at_none sets table (class_escape depth deepest) n c t e = refl

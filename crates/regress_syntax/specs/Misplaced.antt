@@ -1,0 +1,43 @@
+-- Parentheses that close nothing, and levels past the limit, as a scan finds them.
+use Rattle.std.specs.Prelude.{ℕ, ◌+◌, ◌-◌, max, nat_le, Bool, false, ◌&&◌, [], ◌∷◌, length, Option, Some, None, if◌then◌else◌, ◌==◌}
+use Rattle.regress_base.specs.Limits.{max_nesting_depth}
+use Rattle.regress_lexical.specs.declared.fault.FaultKind.{FaultKind}
+use Rattle.regress_lexical.specs.declared.fault.FaultKind.TheVariants.{UnbalancedParenthesis, TooDeep}
+use Rattle.regress_lexical.specs.Source.{Source, char, opening, closing}
+use Rattle.regress_syntax.specs.Scan.{Mode, plain, escape, class, class_escape, mode_behind}
+
+pub data Flaw : Type 0 where
+  -- a parenthesis that closes nothing
+  unopened : Flaw
+  -- a parenthesis, or with the flag v a bracket in a class, that opens a level past the limit
+  too_deep : Flaw
+
+-- the kind of fault that is told of it
+abbrev pub kind_of : Flaw → FaultKind
+kind_of unopened = UnbalancedParenthesis
+kind_of too_deep = TooDeep
+
+-- whether a code point is one, where n levels of groups are open, the whole pattern among them
+abbrev pub is_flaw : Flaw → (sets : Bool) → Mode → (n : ℕ) → ℕ → Bool
+is_flaw unopened sets plain n c = c == closing && n == 1
+is_flaw unopened sets escape n c = false
+is_flaw unopened sets (class depth deepest) n c = false
+is_flaw unopened sets (class_escape depth deepest) n c = false
+is_flaw too_deep sets plain n c = c == opening && nat_le max_nesting_depth n
+is_flaw too_deep sets escape n c = false
+is_flaw too_deep sets (class depth deepest) n c = sets && c == char "[" && nat_le max_nesting_depth (n + depth)
+is_flaw too_deep sets (class_escape depth deepest) n c = false
+
+-- how many levels of groups are open behind a code point; the whole pattern is never closed
+abbrev pub levels_behind : Mode → (n : ℕ) → ℕ → ℕ
+levels_behind plain n c = if c == opening then n + 1 else if c == closing then max 1 (n - 1) else n
+levels_behind escape n c = n
+levels_behind (class depth deepest) n c = n
+levels_behind (class_escape depth deepest) n c = n
+
+-- how many code points are left from the first one on
+unfoldable pub left_at : Flaw → (sets : Bool) → Mode → (n : ℕ) → Source → Option ℕ
+left_at flaw sets mode n [] = None
+left_at flaw sets mode n (c ∷ t) =
+    if is_flaw flaw sets mode n c then Some (length t + 1)
+    else left_at flaw sets (mode_behind sets mode c) (levels_behind mode n c) t
