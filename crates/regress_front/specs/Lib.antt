@@ -51,8 +51,10 @@ pub use Rattle.regress_syntax.specs.Syntax
 pub use Rattle.regress_syntax.specs.Grammar
 pub use Rattle.regress_syntax.specs.Meaning
 pub use Rattle.regress_syntax.specs.SameNames
+pub use Rattle.regress_syntax.specs.Misplaced
 pub use Rattle.regress_parse.specs.TreeOf
 pub use Rattle.regress_parse.specs.Accepted
 pub use Rattle.regress_parse.specs.Fault
+pub use Rattle.regress_parse.specs.Settled
 -- Rewriting.
 pub use Rattle.regress_rewrite.specs.Law
