@@ -1,42 +1,15 @@
--- Trees with `^` in front, and that the places that a search skips have no outcome.
-use Rattle.std.proofs.Common.{◌≡◌, ◌==◌, ◌≤◌, ◌<◌, ℕ, Bool, true, false, ◌||◌, List, [], ◌++◌, flat_map, map, Option, Some, None, ⊎_elim, refl, sym, ap, ap₂, subst, ◌∙◌, arith, if◌then◌else◌}
+-- The places that a search skips have no outcome.
+use Rattle.std.proofs.Common.{◌≡◌, ◌==◌, ◌≤◌, ◌<◌, ℕ, Bool, true, false, List, [], Option, Some, None, ⊎_elim, refl, sym, subst, ◌∙◌, arith, if◌then◌else◌}
 use Rattle.std.proofs.lemmas.Option.{none-some, same_Some}
-use Rattle.std.proofs.lemmas.Bool.{cases_lt, eqb-true, false≢true}
+use Rattle.std.proofs.lemmas.Bool.{cases_lt, eqb-true}
 use Rattle.std.specs.Str.{IsCharBoundary}
-use Rattle.regress_base.specs.declared.types.AnchorType.{AnchorType}
-use Rattle.regress_base.specs.declared.types.AnchorType.TheVariants.{StartOfLine, EndOfLine}
-use Rattle.regress_tree.specs.Assertions.{at_anchor}
-use Rattle.regress_tree.specs.Matching.{steps_in_row}
-use Rattle.regress_tree.specs.Reading.{forwards, of_bytes}
 use Rattle.regress_tree.specs.Setting.{Setting}
-use Rattle.regress_tree.specs.Steps.{capture, captured}
-use Rattle.regress_tree.specs.Tree.{Tree, Trees, more_trees, leaf, anchor, cat, alt, wrapped, capture_group}
-use Rattle.regress_match.specs.Candidates.{is_start, IsAnchored, AreCandidates, Skips}
+use Rattle.regress_tree.specs.Tree.{Tree}
+use Rattle.regress_prefilter.specs.Candidates.{AreCandidates, Skips}
+use Rattle.regress_prefilter.specs.declared.candidates.Candidates.{Candidates}
+use Rattle.regress_prefilter.specs.declared.candidates.Candidates.TheVariants as candidates
 use Rattle.regress_match.specs.Matched.{NoneBefore, outcomes_at}
-use Rattle.regress_match.specs.declared.candidates.Candidates.{Candidates}
-use Rattle.regress_match.specs.declared.candidates.Candidates.TheVariants as candidates
-use Rattle.regress_match.proofs.LeafLemmas.{holds_is}
 use Rattle.regress_match.proofs.RunLemmas.{distinct_none}
-
-not-zero : (k : ℕ) → (k ≡ 0 → ⊥) → (k == 0) ≡ false
-not-zero k some = grind arith
-
-pub anchored-leaf : (kind : AnchorType) (multiline : Bool) → is_start kind multiline ≡ true → IsAnchored (leaf (anchor kind multiline))
-anchored-leaf StartOfLine false is =
-    λ setting bytes s some.
-    holds_is (at_anchor (of_bytes bytes) StartOfLine false) s false (ap (λ b. b || false) (not-zero s.place some))
-anchored-leaf StartOfLine true is = absurd (false≢true is)
-anchored-leaf EndOfLine multiline is = absurd (false≢true is)
-
-pub anchored-row : (t : Tree) (ts : Trees) → IsAnchored t → IsAnchored (cat (more_trees t ts))
-anchored-row t ts is = λ setting bytes s some. ap (flat_map (steps_in_row setting bytes forwards ts)) (is setting bytes s some)
-
-pub anchored-alt : (left right : Tree) → IsAnchored left → IsAnchored right → IsAnchored (alt left right)
-anchored-alt left right is is' = λ setting bytes s some. ap₂ (λ a b. a ++ b) (is setting bytes s some) (is' setting bytes s some)
-
-pub anchored-group : (id : ℕ) (name : Option (List ℕ)) (t : Tree) → IsAnchored t → IsAnchored (wrapped (capture_group id name) t)
-unfolding capture
-anchored-group id name t is = λ setting bytes s some. ap (map (captured id s.place)) (is setting bytes s some)
 
 start-parts : (from place : ℕ) (b : Bool) → (from == 0) ≡ b → Some place ≡ (if b then Some 0 else None) → place ≡ from
 start-parts from place true is e = same_Some _ _ e ∙ sym (eqb-true from 0 is)

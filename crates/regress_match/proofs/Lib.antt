@@ -10,6 +10,5 @@ pub mod BetweenLemmas
 pub mod TurnLemmas
 pub mod LeafLemmas
 pub mod SingleLemmas
-pub mod FrontLemmas
 pub mod CandidateLemmas
 pub mod NamesLemmas

@@ -7,7 +7,8 @@ use Rattle.regress_tree.specs.Steps.{State, Step}
 use Rattle.regress_tree.specs.Tree.{tree}
 use Rattle.regress_tree.proofs.laws.Groups.{turn-none}
 use Rattle.regress_match.specs.Captures.{state}
-use Rattle.regress_match.specs.Leaves.{put, takes_one}
+use Rattle.regress_prefilter.specs.OneCharacter.{takes_one}
+use Rattle.regress_match.specs.Leaves.{put}
 use Rattle.regress_match.specs.Machine.{what_step, turn_of, todo, waiting, IsMachine, onward, Pushed, Chosen, Does}
 use Rattle.regress_match.specs.Subject.{Subject, direction_of}
 use Rattle.regress_match.specs.Turns.{opposite, one_of, giving_back}
@@ -18,7 +19,7 @@ use Rattle.regress_match.specs.declared.machine.Repeat.{Repeat}
 use Rattle.regress_match.specs.declared.machine.Task.{Task}
 use Rattle.regress_match.specs.declared.machine.What.TheVariants as whats
 use Rattle.regress_match.proofs.CaptureLemmas.{Later-refl}
-use Rattle.regress_match.proofs.LeafLemmas.{takes_one-steps}
+use Rattle.regress_prefilter.proofs.laws.OneCharacter.{takes_one-steps}
 use Rattle.regress_match.proofs.MachineLemmas.{todo-at}
 use Rattle.regress_match.proofs.TurnLemmas.{lazy_begin}
 

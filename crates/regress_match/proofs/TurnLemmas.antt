@@ -11,32 +11,13 @@ use Rattle.regress_tree.specs.Tree.{Tree}
 use Rattle.regress_tree.proofs.laws.ByteSequences.{before_parts}
 use Rattle.regress_tree.proofs.laws.Characters.{character_at_parts}
 use Rattle.regress_tree.proofs.laws.Readings.{read_before-behind}
-use Rattle.regress_match.specs.Leaves.{put, test_of}
+use Rattle.regress_prefilter.specs.OneCharacter.{test_of}
+use Rattle.regress_prefilter.proofs.laws.OneCharacter.{after_parts}
+use Rattle.regress_match.specs.Leaves.{put}
 use Rattle.regress_match.specs.Turns.{opposite, read_on, along, one_of, giving_back, taking_more}
 use Rattle.regress_match.proofs.LoopLemmas.{more_greedy, more_lazy, turns-less}
 
 -- ---- reading moves, and back again
-
-place_or : ℕ → Option Read → ℕ
-place_or k None = k
-place_or k (Some read) = read.place
-
-character_or : Option Read → ℕ
-character_or None = 0
-character_or (Some read) = read.character
-
-read_parts : (o : Option ℕ) (k : ℕ) (read : Read) → option_map (λ c. record { character = c; place = k + len_utf8 c }) o ≡ Some read →
-    (o ≡ Some read.character) × (read.place ≡ k + len_utf8 read.character)
-unfolding place_or character_or
-read_parts None k read e = let bad : ⊥ = cc in absurd bad
-read_parts (Some c) k read e =
-    let same : c ≡ read.character = ap character_or e in
-    (ap Some same, sym (ap (place_or 0) e) ∙ ap (λ x. k + len_utf8 x) same)
-
-pub after_parts : (bytes : List ℕ) (k : ℕ) (read : Read) → read_after bytes k ≡ Some read →
-    (character_at bytes k ≡ Some read.character) × (read.place ≡ k + len_utf8 read.character)
-unfolding read_after
-after_parts bytes k read e = read_parts (character_at bytes k) k read e
 
 after_of : (bytes : List ℕ) (k c : ℕ) → character_at bytes k ≡ Some c → read_after bytes k ≡ Some (record { character = c; place = k + len_utf8 c })
 unfolding read_after

@@ -4,8 +4,6 @@ pub mod Leaves
 pub mod Turns
 pub mod Machine
 pub mod Matched
-pub mod Fronts
-pub mod Candidates
 pub mod Fresh
 pub mod Searched
 pub mod Names

@@ -4,7 +4,7 @@ use Rattle.regress_tree.specs.Reading.{Direction, forwards, backwards, Reading, 
 use Rattle.regress_tree.specs.Repetition.{moving, up_to}
 use Rattle.regress_tree.specs.Steps.{State, Step, one_character, ◌then_◌}
 use Rattle.regress_tree.specs.Tree.{Tree}
-use Rattle.regress_match.specs.Leaves.{test_of}
+use Rattle.regress_prefilter.specs.OneCharacter.{test_of}
 
 abbrev pub opposite : Direction → Direction
 opposite forwards = backwards

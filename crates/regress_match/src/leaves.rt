@@ -11,7 +11,8 @@ ghost use Rattle.regress_tree.specs.Steps.{State, these_bytes};
 ghost use Rattle.regress_tree.specs.Tree.{tree};
 ghost use Rattle.regress_unicode.specs.TableOf.{table_of};
 ghost use Rattle.regress_match.specs.Captures.{state};
-ghost use Rattle.regress_match.specs.Leaves.{put, read_of, sole_character, takes_one, test_of, has_one_outcome};
+ghost use Rattle.regress_prefilter.specs.OneCharacter.{sole_character, takes_one, test_of};
+ghost use Rattle.regress_match.specs.Leaves.{put, read_of, has_one_outcome};
 ghost use Rattle.regress_match.specs.Subject.{subject, direction_of};
 ghost use Rattle.regress_match.specs.Turns.{one_of};
 

@@ -1,10 +1,8 @@
 //! A matcher for the trees of `regress_tree`, proved against what they mean.
 #![tactic(auto)]
 
-mod candidates;
 mod captures;
 mod characters;
-mod fronts;
 mod leaves;
 mod machine;
 pub mod matching;
@@ -16,7 +14,7 @@ pub mod search;
 mod single;
 mod visits;
 
-pub use fronts::{first_bytes, next_candidate};
 pub use matching::{Match, Outcome, match_at};
 pub use names::{Group, groups, named};
+pub use regress_prefilter::{first_bytes, next_candidate};
 pub use search::{Matches, find};

@@ -5,9 +5,9 @@ ghost use Rattle.regress_unicode.specs.TableOf.{table_of};
 ghost use Rattle.regress_match.specs.Matched.{Finds, outcomes_at};
 ghost use Rattle.regress_match.specs.Searched.{IsSameSearch, goes_on_from, next_from, searched_outcomes, searched_text};
 
-use crate::candidates::{candidates_of, next_place};
 use crate::machine::Answer;
 use crate::matching::{Match, Outcome, first_at, nothing_captured};
+use regress_prefilter::candidates::{candidates_of, next_place};
 use regress_tree::ir::Regex;
 use regress_unicode::Tables;
 use std::alloc::{AllocError, Global};

@@ -3,7 +3,8 @@ ghost use Rattle.std.specs.Prelude.{◌≡◌, ◌<◌, ◌≤◌, ◌∷◌, �
 ghost use Rattle.regress_tree.specs.Repetition.{turns, up_to};
 ghost use Rattle.regress_tree.specs.Steps.{State};
 ghost use Rattle.regress_tree.specs.Tree.{tree};
-ghost use Rattle.regress_match.specs.Leaves.{put, takes_one};
+ghost use Rattle.regress_prefilter.specs.OneCharacter.{takes_one};
+ghost use Rattle.regress_match.specs.Leaves.{put};
 ghost use Rattle.regress_match.specs.Machine.{Does, Pushed, what_step};
 ghost use Rattle.regress_match.specs.Subject.{subject, direction_of};
 ghost use Rattle.regress_match.specs.Turns.{giving_back, one_of};

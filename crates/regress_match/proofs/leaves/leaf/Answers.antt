@@ -7,9 +7,10 @@ use Rattle.regress_tree.specs.Setting.{Setting}
 use Rattle.regress_tree.specs.Tree.{tree, leaf, anchor, word_boundary}
 use Rattle.regress_unicode.specs.TableOf.{table_of}
 use Rattle.regress_match.specs.Captures.{state}
-use Rattle.regress_match.specs.Leaves.{takes_one}
+use Rattle.regress_prefilter.specs.OneCharacter.{takes_one}
 use Rattle.regress_match.specs.Subject.{direction_of}
-use Rattle.regress_match.proofs.LeafLemmas.{holds_is, takes_one-steps}
+use Rattle.regress_prefilter.proofs.laws.OneCharacter.{takes_one-steps}
+use Rattle.regress_match.proofs.LeafLemmas.{holds_is}
 use Rattle.regress_match.proofs.leaves.leaf.Goals as goal
 
 pub returns-in-Anchor : goal.returns-in-Anchor

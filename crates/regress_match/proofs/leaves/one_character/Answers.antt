@@ -2,7 +2,8 @@ use Rattle.std.proofs.Common.{◌≡◌, ◌∙◌, ap, sym, None, Some}
 use Rattle.std.specs.Option.{option_map}
 use Rattle.regress_tree.specs.Reading.{next_character, of_bytes}
 use Rattle.regress_tree.specs.Tree.{tree}
-use Rattle.regress_match.specs.Leaves.{read_of, test_of}
+use Rattle.regress_prefilter.specs.OneCharacter.{test_of}
+use Rattle.regress_match.specs.Leaves.{read_of}
 use Rattle.regress_match.specs.Subject.{direction_of}
 use Rattle.regress_match.proofs.LeafLemmas.{one_none, one_yes, one_no}
 use Rattle.regress_match.proofs.leaves.one_character.Goals as goal

@@ -1,8 +1,9 @@
 use Rattle.std.proofs.Common.{rules, arith, ap, sym, subst, length}
 use Rattle.std.specs.Str.{IsUtf8}
 use Rattle.std.proofs.lemmas.Str.{IsUtf8-encode, length-encode, len_utf8_bounds}
-use Rattle.regress_match.specs.Leaves.{sole_character}
-use Rattle.regress_match.proofs.LeafLemmas.{none_of, sole-encodes}
+use Rattle.regress_prefilter.specs.OneCharacter.{sole_character}
+use Rattle.regress_prefilter.proofs.laws.OneCharacter.{sole-encodes}
+use Rattle.regress_match.proofs.LeafLemmas.{none_of}
 use Rattle.regress_match.proofs.leaves.sole_character.Goals as goal
 
 pub returns-then-bytes-gt4 : goal.returns-then-bytes-gt4

@@ -1,9 +1,0 @@
--- Each member is still to come, or its first byte is there.
-use Rattle.std.proofs.Common.{◌≡◌, ◌⊎◌, ℕ, true, drop}
-use Rattle.regress_base.specs.ByteBitmap.{contains}
-use Rattle.regress_base.specs.Listing.{lists}
-use Rattle.regress_match.specs.Fronts.{IsCovered}
-use Rattle.regress_match.proofs.fronts.add_characters.Given as goal
-
-abbrev pub invariant-loop-c : goal.invariant-loop-c
-invariant-loop-c l = (c : ℕ) → lists l.characters c ≡ true → (lists (drop l.c-index l.characters) c ≡ true) ⊎ IsCovered (contains l.set) c

@@ -1,9 +1,0 @@
--- Each member is still to come, or its first byte is there.
-use Rattle.std.proofs.Common.{◌≡◌, ◌⊎◌, ℕ, true, drop}
-use Rattle.regress_base.specs.ByteBitmap.{contains}
-use Rattle.regress_base.specs.Intervals.{is_member}
-use Rattle.regress_match.specs.Fronts.{IsCovered}
-use Rattle.regress_match.proofs.fronts.add_intervals.Given as goal
-
-abbrev pub invariant-loop-interval : goal.invariant-loop-interval
-invariant-loop-interval l = (c : ℕ) → is_member l.intervals c ≡ true → (is_member (drop l.interval-index l.intervals) c ≡ true) ⊎ IsCovered (contains l.set) c

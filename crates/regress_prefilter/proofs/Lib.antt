@@ -1,0 +1,3 @@
+pub mod laws
+mod FrontLemmas
+mod AnchorLemmas

@@ -1,0 +1,9 @@
+-- Each member is still to come, or its first byte is there.
+use Rattle.std.proofs.Common.{◌≡◌, ◌⊎◌, ℕ, true, drop}
+use Rattle.regress_base.specs.ByteBitmap.{contains}
+use Rattle.regress_base.specs.Intervals.{is_member}
+use Rattle.regress_prefilter.specs.Fronts.{IsCovered}
+use Rattle.regress_prefilter.proofs.fronts.add_intervals.Given as goal
+
+abbrev pub invariant-loop-interval : goal.invariant-loop-interval
+invariant-loop-interval l = (c : ℕ) → is_member l.intervals c ≡ true → (is_member (drop l.interval-index l.intervals) c ≡ true) ⊎ IsCovered (contains l.set) c

@@ -1,0 +1,3 @@
+pub mod OneCharacter
+pub mod Fronts
+pub mod Candidates

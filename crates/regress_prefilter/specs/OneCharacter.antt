@@ -1,0 +1,54 @@
+-- Leaves that take one character.
+use Rattle.std.specs.Prelude.{ℕ, Bool, true, false, not, ◌==◌, List, length, Option, Some, None, if◌then◌else◌}
+use Rattle.regress_base.specs.Brackets.{is_accepted}
+use Rattle.regress_base.specs.Listing.{lists}
+use Rattle.regress_tree.specs.Assertions.{is_line_terminator}
+use Rattle.regress_tree.specs.Reading.{Read, read_after}
+use Rattle.regress_tree.specs.Tree.{Leaf, char, byte_sequence, byte_set, char_set, match_any, match_any_except_line_terminator, bracket, Tree, leaf}
+
+-- the character, where the place behind it is n
+abbrev pub up_to_place : ℕ → Option Read → Option ℕ
+up_to_place n None = None
+up_to_place n (Some read) = if read.place == n then Some read.character else None
+
+-- the character of which these bytes are the UTF-8, where they are that of one
+abbrev pub sole_character : List ℕ → Option ℕ
+sole_character written = up_to_place (length written) (read_after written 0)
+
+abbrev pub is_one : Option ℕ → Bool
+is_one None = false
+is_one (Some c) = true
+
+abbrev pub is_this : Option ℕ → ℕ → Bool
+is_this None x = false
+is_this (Some c) x = x == c
+
+-- it matches one character that passes a test
+abbrev pub takes_one_leaf : Leaf → Bool
+takes_one_leaf (char c) = true
+takes_one_leaf (byte_sequence written) = is_one (sole_character written)
+takes_one_leaf (byte_set members) = true
+takes_one_leaf (char_set members) = true
+takes_one_leaf match_any = true
+takes_one_leaf match_any_except_line_terminator = true
+takes_one_leaf (bracket invert intervals) = true
+takes_one_leaf l = false
+
+abbrev pub takes_one : Tree → Bool
+takes_one (leaf l) = takes_one_leaf l
+takes_one t = false
+
+-- the test
+abbrev pub leaf_test : Leaf → ℕ → Bool
+leaf_test (char c) x = x == c
+leaf_test (byte_sequence written) x = is_this (sole_character written) x
+leaf_test (byte_set members) x = lists members x
+leaf_test (char_set members) x = lists members x
+leaf_test match_any x = true
+leaf_test match_any_except_line_terminator x = not (is_line_terminator x)
+leaf_test (bracket invert intervals) x = is_accepted invert intervals x
+leaf_test l x = false
+
+abbrev pub test_of : Tree → ℕ → Bool
+test_of (leaf l) x = leaf_test l x
+test_of t x = false
