@@ -3,7 +3,7 @@ ghost use Rattle.std.specs.Prelude.{◌≡◌, ◌<◌, ◌≤◌, length, ◌+�
 ghost use Rattle.regress_classes.specs.ClassSets.{Value as Written, Operand as WrittenOperand, nested, are_at, operand_at, part_behind, contents_behind, contents_at, class_set_by};
 ghost use Rattle.regress_lexical.specs.Fault.{is_limit, FailsByNoLimit, FailsByLevelsOnlyIf};
 ghost use Rattle.regress_lexical.specs.Reads.{ReadsAs};
-ghost use Rattle.regress_classes.specs.ClassViews.{IsValue, IsUnion, Joins, IsOperand, IsClassSetRead, inner_of, parts_onto, operands_onto, sign_of, applied};
+ghost use Rattle.regress_classes.specs.ClassViews.{IsValue, IsUnion, Joins, IsOperand, IsClassSetRead, inner_of, parts_onto, operands_onto, sign_of, applied, kept};
 ghost use Rattle.regress_lexical.specs.Views.{source};
 ghost use Rattle.regress_unicode.specs.TableOf.{table_of};
 
@@ -78,6 +78,16 @@ impl Operator {
         match self {
             Operator::Intersection => '&',
             Operator::Subtraction => '-',
+        }
+    }
+
+    /// Whether something is left, where an operand behind the operator has it or not.
+    fn keeps(self, has: bool) -> bool
+        ensures { result ≡ kept self has }
+    {
+        match self {
+            Operator::Intersection => has,
+            Operator::Subtraction => !has,
         }
     }
 

@@ -51,15 +51,10 @@ impl Others {
         ensures levels { OnOk result (self.new.levels ≡ max self.old.levels other.now.levels) }
     {
         match operator {
-            Operator::Intersection => {
-                keep_strings(&mut self.strings, &other.strings)?;
-                self.has_empty &= other.has_empty;
-            }
-            Operator::Subtraction => {
-                remove_strings(&mut self.strings, &other.strings)?;
-                self.has_empty &= !other.has_empty;
-            }
+            Operator::Intersection => keep_strings(&mut self.strings, &other.strings)?,
+            Operator::Subtraction => remove_strings(&mut self.strings, &other.strings)?,
         }
+        self.has_empty &= operator.keeps(other.has_empty);
         self.levels = self.levels.max(other.levels);
         Ok(())
     }
