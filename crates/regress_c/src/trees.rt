@@ -31,9 +31,9 @@ pub(crate) fn make_words(
     ensures told { Tells (unplaced result) (IsTrueOf (setting_by bits) pattern.now) }
     ensures place { IsPlacedWithin (length pattern.now) result }
 {
-    let tables = make_tables(alloc, bits).map_err(PlacedFault::Memory)?;
+    let tables = make_tables(alloc, bits)?;
     let regex = make_tree(alloc, pattern, read_flags(bits), &tables, optimized)?;
-    encode(alloc, &regex.node).map_err(PlacedFault::Memory)
+    Ok(encode(alloc, &regex.node)?)
 }
 
 /// The pattern's tree as it is parsed, or optimized.
@@ -52,7 +52,7 @@ fn make_tree(
 {
     let mut regex = try_parse_with_place(alloc, pattern, flags, tables)?;
     if optimized {
-        optimize(alloc, &mut regex).map_err(PlacedFault::Memory)?;
+        optimize(alloc, &mut regex)?;
     }
     Ok(regex)
 }

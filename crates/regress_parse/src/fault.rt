@@ -4,6 +4,7 @@ ghost use Rattle.std.specs.Prelude.{◌≡◌, alloc_error, string_bytes, IfOk};
 ghost use Rattle.regress_parse.specs.Fault.{words, text_of, without_place};
 ghost use Rattle.regress_parse.specs.Parsing.{IsPlaced};
 ghost use Rattle.regress_parse.specs.declared.fault.ParseFault.TheVariants.{Memory};
+ghost use Rattle.regress_parse.specs.declared.fault.PlacedFault.TheVariants.{Memory as PlacedMemory};
 
 use regress_syntax::{Fault, FaultKind};
 use std::alloc::{AllocError, AllocFailed, Global};
@@ -67,6 +68,14 @@ pub enum PlacedFault {
     /// Memory was wanting, which says nothing of the pattern.
     #[error("out of memory")]
     Memory(AllocError),
+}
+
+impl From<AllocError> for PlacedFault {
+    ghost from_gives = { λ _ fault. fault ≡ PlacedMemory alloc_error };
+
+    fn from(given: AllocError) -> PlacedFault {
+        PlacedFault::Memory(given)
+    }
 }
 
 impl From<PlacedFault> for ParseFault {
