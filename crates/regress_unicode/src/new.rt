@@ -41,7 +41,8 @@ impl Tables {
 
     /// The table of these parts: the rows of both maps, the characters that may begin and go on in
     /// a name, and the named sets and strings. Where two entries of a list have one name, the first
-    /// counts.
+    /// counts. Names are compared as they are written, so an alias, as `Lu` of `Uppercase_Letter`, is an entry of
+    /// its own with the same members.
     ///
     /// The error is the first refusal that is due, in the order of [`TablesError`]; want of memory
     /// may be told in place of a later one. For n code points in the rows it takes time n log n and

@@ -17,22 +17,22 @@ pub enum Which {
 /// the folds before the upper cases.
 #[derive(Debug, Drop, thiserror::Error)]
 pub enum TablesError {
-    /// The ranges do not ascend, or two share a code point.
+    /// The ranges do not ascend, or two share a code point: a row from `a` to `z` behind one from `x` on.
     #[error("RangeOrder({0:?})")]
     RangeOrder(Which),
-    /// The first or the last code point of a range moves below 0 or past U+10FFFF.
+    /// The first or the last code point of a range moves below 0 or past U+10FFFF: U+0005 by -6.
     #[error("TargetOutOfRange({0:?})")]
     TargetOutOfRange(Which),
-    /// Some image has another image.
+    /// Some image has another image: `a` goes to `b`, and `b` to `c`.
     #[error("NotIdempotent({0:?})")]
     NotIdempotent(Which),
-    /// More than four code points have one image, it included.
+    /// More than four code points have one image, it included: `b`, `c`, `d` and `e` go to `a`.
     #[error("ClassTooLarge({0:?})")]
     ClassTooLarge(Which),
-    /// A set of identifiers holds an ASCII character other than a letter, a digit or `_`.
+    /// A set of identifiers holds an ASCII character other than a letter, a digit or `_`: `-` may go on in a name.
     #[error("IdentifierPunctuation")]
     IdentifierPunctuation,
-    /// A string is empty, or holds a number past U+10FFFF.
+    /// A string is empty, or holds a number past U+10FFFF: a property of strings has `[]` among them.
     #[error("BadString")]
     BadString,
     /// Memory was wanting, which says nothing of the table.
