@@ -33,8 +33,8 @@ impl Misplaced {
         ensures { (flaw : Flaw) → noted flaw self.new
             ≡ option_or (noted flaw self.old) (if is_flaw flaw sets (mode_of mode) levels c then Some left else None) }
     {
-        self.unopened = first(self.unopened, is_unopened(mode, levels, c), left);
-        self.too_deep = first(self.too_deep, is_too_deep(mode, levels, c, sets), left);
+        note_first(&mut self.unopened, is_unopened(mode, levels, c), left);
+        note_first(&mut self.too_deep, is_too_deep(mode, levels, c, sets), left);
     }
 
     /// The fault, at the place that was noted for its kind, if there is one.
@@ -62,14 +62,12 @@ impl Misplaced {
     }
 }
 
-/// The place found before, or else this one if it is one.
-fn first(before: Option<usize>, is_one: bool, left: usize) -> Option<usize>
-    ensures { result ≡ option_or before (if is_one then Some left else None) }
+/// Notes this place, if it is one and none was noted before.
+fn note_first(place: &mut Option<usize>, is_one: bool, left: usize)
+    ensures { place.new ≡ option_or place.old (if is_one then Some left else None) }
 {
-    if is_one {
-        before.or(Some(left))
-    } else {
-        before
+    if is_one && place.is_none() {
+        *place = Some(left);
     }
 }
 

@@ -16,4 +16,4 @@ each is first deep left old a b e k h j too_deep = j ∙ ap (λ (q : Bool). opti
 pub returns : goal.returns
 returns c =
     each (λ flaw. is_flaw flaw c.args.sets (mode_of c.args.mode) c.args.levels c.args.c) _ _ c.args.left c.args.self.now _ _
-    (c.is_unopened.ensures c.args.sets) c.is_too_deep.ensures c.first-self.ensures c.first-self-2.ensures
+    (c.is_unopened.ensures c.args.sets) c.is_too_deep.ensures c.note_first.ensures c.note_first-2.ensures
