@@ -1,5 +1,5 @@
 //! Where a pattern has a parenthesis too many, or a level too many.
-ghost use Rattle.std.specs.Prelude.{◌≡◌, ◌≤◌, ◌+◌, ◌^◌, Bool, Some, None, unwrap_or, if◌then◌else◌};
+ghost use Rattle.std.specs.Prelude.{◌≡◌, Bool, Some, None, if◌then◌else◌};
 ghost use Rattle.std.specs.Option.{option_or};
 ghost use Rattle.regress_syntax.specs.Misplaced.{Flaw, unopened, too_deep, is_flaw};
 ghost use Rattle.regress_syntax.specs.Scanning.{mode_of, noted, noted_for, located};
