@@ -3,11 +3,12 @@ use Rattle.std.proofs.Common.{◌≡◌, ℕ, ◌+◌, ◌≤◌, List, [], ◌�
 use Rattle.std.proofs.lemmas.List.{length-append, drop_all}
 use Rattle.std.proofs.lemmas.List.Concat.{flat_map-append}
 use mathlib.Core.Path.{fun_ext}
+use Rattle.regress_tree.specs.Reading.{direction_if}
 use Rattle.regress_tree.specs.Steps.{State, Step, ◌then_◌}
 use Rattle.regress_tree.proofs.laws.Outcomes.{flat_map-then}
 use Rattle.regress_match.specs.Captures.{undone, state, Later}
 use Rattle.regress_match.specs.Machine.{what_step, todo, pending, waiting, saved, IsMachine, onward, Pushed, Chosen, Does, Continues}
-use Rattle.regress_match.specs.Subject.{Subject, direction_of}
+use Rattle.regress_match.specs.Subject.{Subject}
 use Rattle.regress_match.specs.Leaves.{put}
 use Rattle.regress_match.specs.declared.machine.Looking.{Looking}
 use Rattle.regress_tree.specs.Lookaround.{look}
@@ -206,7 +207,7 @@ goes_changed u f m c c' place next later is = record {
 
 -- A lookaround comes next.
 pub goes_look : (u : Subject) (f : Step) (m : Machine) (c : Captures) (l : Looking) →
-    f (state c l.place) ≡ look l.negate (steps u.setting u.bytes (direction_of l.backwards) (tree l.body.now)) (state c l.place) →
+    f (state c l.place) ≡ look l.negate (steps u.setting u.bytes (direction_if l.backwards) (tree l.body.now)) (state c l.place) →
     Does u f m c l.place l.next m c (nexts.Look l)
 goes_look u f m c l is = record {
   continues = λ le machine. (machine, le, ap (λ states. onward u m c l.next states) is);

@@ -4,7 +4,7 @@ use Rattle.std.specs.Prelude.{slice_index_or}
 use Rattle.std.specs.Option.{option_or}
 use Rattle.regress_tree.specs.Steps.{CaptureSpan}
 use Rattle.regress_tree.specs.WellFormed.{Capture}
-use Rattle.regress_match.specs.Listing.{Adds, Finds}
+use Rattle.regress_match.specs.Listing.{Lists, Finds}
 use Rattle.regress_match.specs.Matched.{state_of}
 use Rattle.regress_match.specs.Names.{capture_of, is_named, named_span}
 use Rattle.regress_match.specs.declared.names.Finder.{Finder}
@@ -41,10 +41,10 @@ finds_both a b c xs ys first second = record {
       ∙ ap (option_or a.span) (sym (named_span-append a.name.now (state_of a.found.now).captures xs ys));
 }
 
-pub adds_none : (a : Listing) → Adds a a []
+pub adds_none : (a : Listing) → Lists a a []
 adds_none a ok = (ok, sym (append-nil (map capture_of a.groups.items)))
 
-pub adds_both : (a b c : Listing) (xs ys : List Capture) → Adds a b xs → Adds b c ys → Adds a c (xs ++ ys)
+pub adds_both : (a b c : Listing) (xs ys : List Capture) → Lists a b xs → Lists b c ys → Lists a c (xs ++ ys)
 adds_both a b c xs ys first second ok =
     let later = second ok in
     let before = first later.0 in

@@ -2,6 +2,7 @@
 use Rattle.std.proofs.Common.{◌≡◌, ℕ, ◌+◌, ◌-◌, ◌≤◌, true, false, List, [], ◌∷◌, ◌++◌, flat_map, filter, not, length, take, drop, refl, sym, ap, ap₂, subst, ◌∙◌, append-nil, arith, slice_index_or, Option}
 use Rattle.std.proofs.Math.Seq.{drop-append_seam}
 use Rattle.std.proofs.Common.{Result, Ok, Err, IfOk}
+use Rattle.regress_tree.specs.Reading.{direction_if}
 use Rattle.regress_match.specs.declared.captures.Undo.{Undo}
 use Rattle.regress_tree.specs.Lookaround.{look, looked}
 use Rattle.regress_tree.specs.Matching.{steps}
@@ -10,7 +11,7 @@ use Rattle.regress_tree.specs.Tree.{tree}
 use Rattle.regress_tree.proofs.laws.Outcomes.{flat_map-stay}
 use Rattle.regress_match.specs.Captures.{undone, state, Later}
 use Rattle.regress_match.specs.Machine.{what_step, todo, waiting, linked_from, known_from, IsMachine, left_at, onward, Pushed, Does, Continues, Settles}
-use Rattle.regress_match.specs.Subject.{Subject, direction_of}
+use Rattle.regress_match.specs.Subject.{Subject}
 use Rattle.regress_match.specs.declared.captures.Captures.{Captures}
 use Rattle.regress_match.specs.declared.machine.Looking.{Looking}
 use Rattle.regress_match.specs.declared.machine.Machine.{Machine}
@@ -65,7 +66,7 @@ ends_at u m c place task outcomes none left = (
 )
 
 abbrev looking_steps : Subject → Looking → Step
-looking_steps u l = steps u.setting u.bytes (direction_of l.backwards) (tree l.body.now)
+looking_steps u l = steps u.setting u.bytes (direction_if l.backwards) (tree l.body.now)
 
 -- a lookaround holds
 pub look_holds : (u : Subject) (outcomes : List State) (m : Machine) (c c' : Captures) (l : Looking) → Continues u outcomes m c (nexts.Look l) →

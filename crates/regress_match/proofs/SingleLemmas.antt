@@ -1,6 +1,7 @@
 -- Tasks of loops over one character.
 use Rattle.std.proofs.Common.{◌≡◌, ◌⊎◌, inl, inr, ℕ, ◌+◌, ◌-◌, ◌≤◌, ◌<◌, Bool, true, false, not, [], ◌∷◌, ◌++◌, flat_map, length, Option, Some, None, refl, sym, ap, ap₂, ◌∙◌, arith, append_assoc, append-nil, slice_index_or}
 use mathlib.Core.Path.{fun_ext}
+use Rattle.regress_tree.specs.Reading.{direction_if}
 use Rattle.regress_tree.specs.Matching.{steps}
 use Rattle.regress_tree.specs.Repetition.{turns, up_to}
 use Rattle.regress_tree.specs.Steps.{State, Step}
@@ -10,7 +11,7 @@ use Rattle.regress_match.specs.Captures.{state}
 use Rattle.regress_prefilter.specs.OneCharacter.{takes_one}
 use Rattle.regress_match.specs.Leaves.{put}
 use Rattle.regress_match.specs.Machine.{what_step, turn_of, todo, waiting, IsMachine, onward, Pushed, Chosen, Does}
-use Rattle.regress_match.specs.Subject.{Subject, direction_of}
+use Rattle.regress_match.specs.Subject.{Subject}
 use Rattle.regress_match.specs.Turns.{opposite, one_of, giving_back}
 use Rattle.regress_match.specs.declared.captures.Captures.{Captures}
 use Rattle.regress_match.specs.declared.machine.Machine.{Machine}
@@ -71,7 +72,7 @@ loop_lazy u r least s to start takes ends least-is some lazy bound =
     ∙ ap (λ (b : Bool). up_to b r.more C (record s { place = start })) lazy
     ∙ lazy_begin u.bytes u.direction (tree r.body.now) r.more (record s { place = start }) (more-bound r.greedy (length u.bytes) r.more lazy bound)
 
-pub turned_round : (b : Bool) → direction_of (not b) ≡ opposite (direction_of b)
+pub turned_round : (b : Bool) → direction_if (not b) ≡ opposite (direction_if b)
 turned_round true = refl
 turned_round false = refl
 

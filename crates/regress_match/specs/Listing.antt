@@ -8,8 +8,8 @@ use Rattle.regress_match.specs.declared.names.Finder.{Finder}
 use Rattle.regress_match.specs.declared.names.Listing.{Listing}
 
 -- these groups are listed too, as long as memory was found
-abbrev pub Adds : Listing → Listing → List Capture → Type 0
-Adds old new groups = is_ok new.done ≡ true →
+abbrev pub Lists : Listing → Listing → List Capture → Type 0
+Lists old new groups = is_ok new.done ≡ true →
     (is_ok old.done ≡ true) × (map capture_of new.groups.items ≡ map capture_of old.groups.items ++ groups)
 
 -- these groups are looked at too

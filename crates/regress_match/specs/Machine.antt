@@ -4,13 +4,13 @@ use Rattle.std.specs.Box.{boxed_slice_items}
 use Rattle.regress_base.specs.Table.{stands_for}
 use Rattle.regress_tree.specs.Lookaround.{look}
 use Rattle.regress_tree.specs.Matching.{steps, steps_in_row}
-use Rattle.regress_tree.specs.Reading.{of_bytes}
+use Rattle.regress_tree.specs.Reading.{of_bytes, direction_if}
 use Rattle.regress_tree.specs.Repetition.{turn, turns, moving, up_to}
 use Rattle.regress_tree.specs.Steps.{State, Step, stay, ◌then_◌, captured}
 use Rattle.regress_tree.specs.Strings.{any_string}
 use Rattle.regress_tree.specs.Tree.{tree, trees}
 use Rattle.regress_match.specs.Captures.{undone, state, Later}
-use Rattle.regress_match.specs.Subject.{Subject, direction_of}
+use Rattle.regress_match.specs.Subject.{Subject}
 use Rattle.regress_match.specs.Turns.{giving_back, taking_more}
 use Rattle.regress_match.specs.declared.captures.Captures.{Captures}
 use Rattle.regress_match.specs.declared.machine.Answer.{Answer}
@@ -107,7 +107,7 @@ module _ (u : Subject) where
   Continues outcomes m c (nexts.Look l) =
       IsMachine m c × (l.next ≤ length m.tasks.items)
       × (outcomes ≡ onward m c l.next
-      (look l.negate (steps u.setting u.bytes (direction_of l.backwards) (tree l.body.now)) (state c l.place)))
+      (look l.negate (steps u.setting u.bytes (direction_if l.backwards) (tree l.body.now)) (state c l.place)))
 
   -- so does it once lookarounds are matched
   abbrev pub Settles : List State → Machine → Captures → Settled → Type 0

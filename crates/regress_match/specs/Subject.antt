@@ -1,6 +1,6 @@
 -- What is matched against.
-use Rattle.std.specs.Prelude.{ℕ, Bool, List, if◌then◌else◌}
-use Rattle.regress_tree.specs.Reading.{Direction, forwards, backwards}
+use Rattle.std.specs.Prelude.{ℕ, List}
+use Rattle.regress_tree.specs.Reading.{Direction, direction_if}
 use Rattle.regress_tree.specs.Setting.{Setting}
 use Rattle.regress_unicode.specs.TableOf.{table_of}
 use Rattle.regress_match.specs.declared.rules.Rules.{Rules}
@@ -11,13 +11,10 @@ pub record Subject : Type 0 where
   pub bytes : List ℕ
   pub direction : Direction
 
-abbrev pub direction_of : (looks_back : Bool) → Direction
-direction_of looks_back = if looks_back then backwards else forwards
-
 -- the text under these rules
 abbrev pub subject : Rules → List ℕ → Subject
 subject rules bytes = record {
   setting = record { flags = rules.flags; table = table_of rules.tables.now };
   bytes = bytes;
-  direction = direction_of rules.backwards;
+  direction = direction_if rules.backwards;
 }

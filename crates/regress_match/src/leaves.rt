@@ -5,7 +5,7 @@ ghost use Rattle.regress_base.specs.Listing.{lists};
 ghost use Rattle.regress_base.specs.Table.{stands_for};
 ghost use Rattle.regress_tree.specs.Assertions.{at_anchor, at_boundary, is_line_terminator, is_word_character, passes};
 ghost use Rattle.regress_tree.specs.Matching.{steps};
-ghost use Rattle.regress_tree.specs.Reading.{backwards, forwards, of_bytes};
+ghost use Rattle.regress_tree.specs.Reading.{backwards, forwards, of_bytes, direction_if};
 ghost use Rattle.regress_tree.specs.References.{all_of, back_reference, in_order, characters_from};
 ghost use Rattle.regress_tree.specs.Steps.{State, these_bytes};
 ghost use Rattle.regress_tree.specs.Tree.{tree};
@@ -13,7 +13,7 @@ ghost use Rattle.regress_unicode.specs.TableOf.{table_of};
 ghost use Rattle.regress_match.specs.Captures.{state};
 ghost use Rattle.regress_prefilter.specs.OneCharacter.{sole_character, takes_one, test_of};
 ghost use Rattle.regress_match.specs.Leaves.{put, read_of, has_one_outcome};
-ghost use Rattle.regress_match.specs.Subject.{subject, direction_of};
+ghost use Rattle.regress_match.specs.Subject.{subject};
 ghost use Rattle.regress_match.specs.Turns.{one_of};
 
 use crate::captures::Captures;
@@ -69,7 +69,7 @@ fn if_holds(holds: bool, place: usize) -> Option<usize>
 
 /// Where these bytes as they stand go.
 fn these_bytes(bytes: &[u8], backwards: bool, written: &[u8], place: usize) -> Option<usize>
-    ensures { (s : State) → s.place ≡ place → put s result ≡ these_bytes (direction_of backwards) bytes.now written.now s }
+    ensures { (s : State) → s.place ≡ place → put s result ≡ these_bytes (direction_if backwards) bytes.now written.now s }
 {
     if backwards {
         bytes_before(bytes, written, place)
@@ -117,7 +117,7 @@ fn stands_at(bytes: &[u8], written: &[u8], place: usize) -> bool
 
 /// Where a leaf that takes one character goes.
 pub fn one_character(text: &str, rules: Rules<'_>, node: &Node, place: usize) -> Option<usize>
-    ensures { (s : State) → s.place ≡ place → put s result ≡ one_of (direction_of rules.entry.backwards) text.now (tree node.now) s }
+    ensures { (s : State) → s.place ≡ place → put s result ≡ one_of (direction_if rules.entry.backwards) text.now (tree node.now) s }
 {
     let (c, to) = next_read(text, rules.backwards, place)?;
     if accepts(node, c) { Some(to) } else { None }
@@ -306,7 +306,7 @@ pub fn all_of(
 /// The character to which matching comes after so many.
 fn character_in_order(characters: &[u32], backwards: bool, i: usize) -> u32
     requires { i < length characters.now }
-    ensures { result ≡ slice_index (in_order (direction_of backwards) characters.now) i }
+    ensures { result ≡ slice_index (in_order (direction_if backwards) characters.now) i }
 {
     if backwards {
         characters[characters.len() - 1 - i]

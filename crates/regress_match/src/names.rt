@@ -4,7 +4,7 @@ ghost use Rattle.std.specs.List.Sorted.{IsNonDecreasingBy, IsPermutation};
 ghost use Rattle.regress_tree.specs.Gathered.{own_group};
 ghost use Rattle.regress_tree.specs.Tree.{tree};
 ghost use Rattle.regress_tree.specs.WellFormed.{captures};
-ghost use Rattle.regress_match.specs.Listing.{Adds, Finds};
+ghost use Rattle.regress_match.specs.Listing.{Lists, Finds};
 ghost use Rattle.regress_match.specs.Matched.{state_of};
 ghost use Rattle.regress_match.specs.Names.{capture_of, is_named, named_span};
 
@@ -53,9 +53,9 @@ struct Listing {
 }
 
 impl Listing {
-    /// Adds a node that is a group.
+    /// Lists a node that is a group.
     fn visit(&mut self, alloc: Global, node: &Node)
-        ensures { Adds self.old self.new (own_group (tree node.now)) }
+        ensures { Lists self.old self.new (own_group (tree node.now)) }
     {
         if let Node::CaptureGroup { id, name, .. } = node {
             if self.done.is_ok() {

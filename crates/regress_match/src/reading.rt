@@ -1,12 +1,11 @@
 //! How a text is read, character by character, from either side of a place.
 ghost use Rattle.std.specs.Prelude.{◌≡◌, option_map};
-ghost use Rattle.regress_tree.specs.Reading.{next_character, of_bytes, read_after, read_before};
+ghost use Rattle.regress_tree.specs.Reading.{next_character, of_bytes, read_after, read_before, direction_if};
 ghost use Rattle.regress_match.specs.Leaves.{read_of};
-ghost use Rattle.regress_match.specs.Subject.{direction_of};
 
 /// The next character and the place on its other side. None at the end, and where no character has its boundary.
 pub fn next_read(text: &str, backwards: bool, place: usize) -> Option<(u32, usize)>
-    ensures { option_map read_of result ≡ next_character (direction_of backwards) (of_bytes text.now) place }
+    ensures { option_map read_of result ≡ next_character (direction_if backwards) (of_bytes text.now) place }
 {
     if backwards {
         read_before(text, place)

@@ -1,12 +1,13 @@
 //! Runs of the machine, within steps.
 ghost use Rattle.std.specs.Prelude.{◌≡◌, ◌≤◌, [], IfOk, List};
+ghost use Rattle.regress_tree.specs.Reading.{direction_if};
 ghost use Rattle.regress_tree.specs.Lookaround.{look};
 ghost use Rattle.regress_tree.specs.Matching.{steps};
 ghost use Rattle.regress_tree.specs.Steps.{State};
 ghost use Rattle.regress_tree.specs.Tree.{tree};
 ghost use Rattle.regress_match.specs.Captures.{state, undone, Later};
 ghost use Rattle.regress_match.specs.Machine.{Answers, Continues, Looks, Settles};
-ghost use Rattle.regress_match.specs.Subject.{subject, direction_of};
+ghost use Rattle.regress_match.specs.Subject.{subject};
 
 use crate::captures::Captures;
 use crate::machine::{Answer, Looked, Looking, Machine, Next, Settled, What};
@@ -112,7 +113,7 @@ fn look(
     budget: &mut u64,
 ) -> Result<Looked, AllocError>
     ensures looks { IfOk result (let u = subject rules.entry text.now in let l = looking.entry in
-        Looks (look l.negate (steps u.setting u.bytes (direction_of l.backwards) (tree l.body.now)) (state captures.old l.place)) captures.new l.place) }
+        Looks (look l.negate (steps u.setting u.bytes (direction_if l.backwards) (tree l.body.now)) (state captures.old l.place)) captures.new l.place) }
     ensures budget { IfOk result (λ _. budget.new ≤ budget.old) }
     ensures later { IfOk result (λ _. Later captures.old captures.new) }
 {

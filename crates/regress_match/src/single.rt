@@ -1,12 +1,13 @@
 //! Loops over one character, in which no group lies: turns are counted, and given back one by one.
 ghost use Rattle.std.specs.Prelude.{◌≡◌, ◌<◌, ◌≤◌, ◌∷◌, ◌⊎◌, [], ℕ, IfOk, true, length};
+ghost use Rattle.regress_tree.specs.Reading.{direction_if};
 ghost use Rattle.regress_tree.specs.Repetition.{turns, up_to};
 ghost use Rattle.regress_tree.specs.Steps.{State};
 ghost use Rattle.regress_tree.specs.Tree.{tree};
 ghost use Rattle.regress_prefilter.specs.OneCharacter.{takes_one};
 ghost use Rattle.regress_match.specs.Leaves.{put};
 ghost use Rattle.regress_match.specs.Machine.{Does, Pushed, what_step};
-ghost use Rattle.regress_match.specs.Subject.{subject, direction_of};
+ghost use Rattle.regress_match.specs.Subject.{subject};
 ghost use Rattle.regress_match.specs.Turns.{giving_back, one_of};
 
 use crate::captures::Captures;
@@ -62,7 +63,7 @@ pub fn single<'a>(
 /// Where so many turns come to.
 fn exactly(text: &str, rules: Rules<'_>, body: &Node, count: usize, place: usize) -> Option<usize>
     ensures { (s : State) → s.place ≡ place →
-        turns count (one_of (direction_of rules.entry.backwards) text.now (tree body.now)) s ≡ put s result }
+        turns count (one_of (direction_if rules.entry.backwards) text.now (tree body.now)) s ≡ put s result }
 {
     let mut here = place;
     let mut left = count;
@@ -76,7 +77,7 @@ fn exactly(text: &str, rules: Rules<'_>, body: &Node, count: usize, place: usize
 /// Where as many turns come to as can be taken, at most so many.
 fn furthest(text: &str, rules: Rules<'_>, body: &Node, most: usize, place: usize) -> usize
     ensures { (s : State) → s.place ≡ place →
-        (let d = direction_of rules.entry.backwards in
+        (let d = direction_if rules.entry.backwards in
         up_to true most (one_of d text.now (tree body.now)) s ≡ giving_back d text.now place (record { place = result; captures = s.captures })) }
 {
     let mut here = place;

@@ -2,7 +2,7 @@
 use Rattle.std.specs.Prelude.{◌≡◌, ◌⊎◌, ℕ, ◌+◌, ◌-◌, ◌<◌, ◌≤◌, Bool, ◌||◌, List, [], ◌∷◌, length, Option, Some, None, IfSome, string_bytes, Result, Ok, Err}
 use Rattle.std.specs.Option.{IsSomeAnd}
 use Rattle.regress_tree.specs.declared.ir.node.Node.{Node}
-use Rattle.regress_tree.specs.Reading.{Direction, forwards}
+use Rattle.regress_tree.specs.Reading.{Direction, forwards, direction_if}
 use Rattle.regress_base.specs.Table.{Table}
 use Rattle.regress_unicode.specs.TableOf.{table_of}
 use Rattle.regress_tree.specs.Tree.{Tree, tree, alt}
@@ -18,7 +18,7 @@ use Rattle.regress_lexical.specs.Fault.{OnRefused, OnKind}
 use Rattle.regress_lexical.specs.Source.{Source, Found, char, is_at}
 use Rattle.regress_syntax.specs.Syntax.{Name, Atom, Pattern, Terms, Item, Counts, nothing_counted, added, counts, counts_of_terms, counts_of_term, counts_of_item, levels, levels_of_atom, levels_of_terms, levels_of_item}
 use Rattle.regress_syntax.specs.Rows.{Context, atom_allows, atom_by}
-use Rattle.regress_syntax.specs.Views.{names_in, context_of, direction_if}
+use Rattle.regress_syntax.specs.Views.{names_in, context_of}
 use Rattle.regress_lexical.specs.Views.{source}
 use Rattle.regress_parse.specs.declared.parser.Parser.{Parser}
 use Rattle.regress_parse.specs.declared.parser.Around.{Around}

@@ -2,6 +2,7 @@
 ghost use Rattle.std.specs.Prelude.{◌≡◌, ℕ, Bool, false, List, ◌∷◌, ◌++◌, Some, IfOk, OnOk, map, option_map, string_bytes, encode_utf8_all};
 ghost use Rattle.regress_tree.specs.Assertions.{differ};
 ghost use Rattle.regress_base.specs.Intervals.{Bounds, intervals_of};
+ghost use Rattle.regress_tree.specs.Reading.{direction_if};
 ghost use Rattle.regress_tree.specs.Tree.{tree, trees, leaf, bracket, string_set};
 ghost use Rattle.regress_unicode.specs.TableOf.{table_of};
 ghost use Rattle.regress_classes.specs.ClassSets.{Value as WrittenValue};
@@ -10,7 +11,7 @@ ghost use Rattle.regress_lexical.specs.Source.{IsCodePoint};
 ghost use Rattle.regress_classes.specs.ClassRows.{members_of};
 ghost use Rattle.regress_syntax.specs.Syntax.{dot, anchor, boundary};
 ghost use Rattle.regress_syntax.specs.Rows.{point_property};
-ghost use Rattle.regress_syntax.specs.Views.{context_of, names_in, direction_if, group_of};
+ghost use Rattle.regress_syntax.specs.Views.{context_of, names_in, group_of};
 ghost use Rattle.regress_classes.specs.ClassViews.{IsValue, HasMembers, strings_of};
 ghost use Rattle.regress_parse.specs.ClassParts.{strings_part, bracket_part, empty_part};
 ghost use Rattle.regress_parse.specs.TreeOf.{turned, joined, leaf_of_members, leaf_of_literal, references, alternation, tree_of_class, tree_of_atom, tree_of_group, tree_of_times};

@@ -1,7 +1,7 @@
 -- What the values of the code stand for: items, and what lies around them.
 use Rattle.regress_lexical.specs.Views.{change_of}
-use Rattle.std.specs.Prelude.{◌≡◌, ℕ, Bool, List, map, Option, option_map, if◌then◌else◌}
-use Rattle.regress_tree.specs.Reading.{Direction, forwards, backwards}
+use Rattle.std.specs.Prelude.{◌≡◌, ℕ, List, map, Option, option_map}
+use Rattle.regress_tree.specs.Reading.{direction_if}
 use Rattle.regress_syntax.specs.SettingOf.{setting_of}
 use Rattle.regress_syntax.specs.declared.scope.Scope.{Scope}
 use Rattle.regress_syntax.specs.declared.group.Group.{Group as CodeGroup}
@@ -26,9 +26,6 @@ context_of scope = record {
 abbrev pub AreReferences : Context → List ℕ → Atom → Type 0
 AreReferences ctx numbers a =
     (to : Target) × (a ≡ back_reference ctx.setting.flags to) × (numbers ≡ referred ctx.names to)
-
-abbrev pub direction_if : (backwards : Bool) → Direction
-direction_if backwards' = if backwards' then backwards else forwards
 
 abbrev pub group_of : CodeGroup → Group
 group_of groups.Grouping = grouping

@@ -4,7 +4,7 @@ use Rattle.std.specs.Prelude.{if◌then◌else◌}
 use Rattle.std.proofs.lemmas.Bool.{cases_eq, cases_lt, cases_Bool, ne_eqb, eq-eqb, and_parts, and_from}
 use Rattle.std.proofs.lemmas.List.Sums.{sum_by-cons, sum_by-append}
 use Rattle.std.proofs.lemmas.Bool.Decides.{nat_tests}
-use Rattle.regress_tree.specs.declared.ir.groups.Groups.{Groups}
+use Rattle.regress_tree.specs.declared.ir.groups.Tally.{Tally}
 use Rattle.regress_tree.specs.WellFormed.{Capture}
 use Rattle.regress_tree.specs.Survey.{times, least_id, past_ids, fill, IsTally}
 
@@ -173,7 +173,7 @@ has-length start end cs has =
 
 -- The test of a range is right, where the ids differ.
 
-module _ (g : Groups) (cs : List Capture) (referred : ℕ) (tells : IsTally g cs referred) where
+module _ (g : Tally) (cs : List Capture) (referred : ℕ) (tells : IsTally g cs referred) where
   pub fill-has : Differ cs → (start end : ℕ) → end ≤ 65536 → fill start end g ≡ true → HasIds start end cs
   fill-has differ start end small full =
       let a = and_parts (nat_le start g.least) _ full in

@@ -5,7 +5,7 @@ use Rattle.std.proofs.Math.Seq.{split_at}
 use Rattle.std.proofs.lemmas.List.{take_more}
 use Rattle.std.proofs.lemmas.Bool.{false≢true}
 use Rattle.regress_tree.specs.declared.ir.groups.GroupIds.{GroupIds}
-use Rattle.regress_tree.specs.declared.ir.groups.Groups.{Groups}
+use Rattle.regress_tree.specs.declared.ir.groups.Tally.{Tally}
 use Rattle.regress_tree.specs.declared.ir.node.Node.{Node}
 use Rattle.regress_base.specs.declared.types.Quantifier.{Quantifier}
 use Rattle.regress_tree.specs.Tree.{capture_group, loop, lookaround, Tree, Trees, cat, alt, wrapped, no_trees, more_trees, row_append, tree, trees}
@@ -22,8 +22,8 @@ reference-append (more_trees t ts) us = omega (arith, reference-append ts us)
 
 -- Rows.
 
-module _ (ts us : Trees) (before mid : GroupIds) (g : Groups) where
-  pub rows-pass : (after : GroupIds) (h : Groups) → SurveyedAt inside (cat ts) before mid g → SurveyedAt inside (cat us) mid after h →
+module _ (ts us : Trees) (before mid : GroupIds) (g : Tally) where
+  pub rows-pass : (after : GroupIds) (h : Tally) → SurveyedAt inside (cat ts) before mid g → SurveyedAt inside (cat us) mid after h →
       SurveyedAt inside (cat (row_append ts us)) before after (joined g h)
   rows-pass after h a b =
       IsSurveyed-as _ _ _ (stands-append ts us) (sym (captures-append ts us)) (sym (reference-append ts us)) (IsSurveyed-then a b)
@@ -35,7 +35,7 @@ pub rows-fail-first : (ts us : Trees) (before : GroupIds) → RefusedAt inside (
 rows-fail-first ts us before a =
     IsRefused-as _ _ (rows-stand ts us) (sym (captures-append ts us)) (IsRefused-first (StandsAt inside (cat us)) (captures_in_row us) a)
 
-single-pass : (t : Tree) (before after : GroupIds) (g : Groups) → SurveyedAt inside t before after g →
+single-pass : (t : Tree) (before after : GroupIds) (g : Tally) → SurveyedAt inside t before after g →
     SurveyedAt inside (cat (more_trees t no_trees)) before after g
 single-pass t before after g a = IsSurveyed-as _ _ _ (stands-single t) (sym (append-nil (captures t))) (omega arith) a
 
@@ -43,12 +43,12 @@ single-fail : (t : Tree) (before : GroupIds) → RefusedAt inside t before → R
 single-fail t before a = IsRefused-as _ _ (single-stands t) (sym (append-nil (captures t))) a
 
 module _ (parts : List Node) (i : ℕ) (in_row : i < length parts) (d node : Node) (at : node ≡ get_or parts i d)
-    (before mid : GroupIds) (g : Groups) (passed : SurveyedAt inside (cat (trees (take i parts))) before mid g) where
+    (before mid : GroupIds) (g : Tally) (passed : SurveyedAt inside (cat (trees (take i parts))) before mid g) where
   more_parts : trees (take (i + 1) parts) ≡ row_append (trees (take i parts)) (more_trees (tree node) no_trees)
   more_parts =
       ap trees (take_more parts i d in_row ∙ ap (λ n. take i parts ++ n ∷ []) (sym at)) ∙ trees-append (take i parts) (node ∷ [])
 
-  pub parts-next : (after : GroupIds) (h : Groups) → SurveyedAt inside (tree node) mid after h →
+  pub parts-next : (after : GroupIds) (h : Tally) → SurveyedAt inside (tree node) mid after h →
       SurveyedAt inside (cat (trees (take (i + 1) parts))) before after (joined g h)
   parts-next after h here =
       subst (λ ts. SurveyedAt inside (cat ts) before after (joined g h)) (sym more_parts)
@@ -97,16 +97,16 @@ alternatives-stand (more_trees l lefts) t s =
     let rest = alternatives-stand lefts t sides.1 in
     (stands-append (more_trees l no_trees) lefts (stands-single l sides.0, rest.0), rest.1)
 
-pub record SpineSurveyed (whole node : Tree) (before now : GroupIds) (so_far : Groups) : Type 0 where
+pub record SpineSurveyed (whole node : Tree) (before now : GroupIds) (so_far : Tally) : Type 0 where
   pub lefts : Trees
   pub whole_is : whole ≡ alternatives lefts node
   pub passed : SurveyedAt inside (cat lefts) before now so_far
 
-pub spine-start : (t : Tree) (ids : GroupIds) (g : Groups) → IsTally g [] 0 → SpineSurveyed t t ids ids g
+pub spine-start : (t : Tree) (ids : GroupIds) (g : Tally) → IsTally g [] 0 → SpineSurveyed t t ids ids g
 spine-start t ids g told = record { lefts = no_trees; whole_is = refl; passed = IsSurveyed-none (0, (tt, tt)) told }
 
-module _ (whole : Tree) (before mid : GroupIds) (g : Groups) where
-  pub spine-next : (left right : Tree) (after : GroupIds) (h : Groups) → SpineSurveyed whole (alt left right) before mid g →
+module _ (whole : Tree) (before mid : GroupIds) (g : Tally) where
+  pub spine-next : (left right : Tree) (after : GroupIds) (h : Tally) → SpineSurveyed whole (alt left right) before mid g →
       SurveyedAt inside left mid after h → SpineSurveyed whole right before after (joined g h)
   spine-next left right after h s here = record {
     lefts = row_append s.lefts (more_trees left no_trees);
@@ -114,7 +114,7 @@ module _ (whole : Tree) (before mid : GroupIds) (g : Groups) where
     passed = rows-pass s.lefts (more_trees left no_trees) before mid g after h s.passed (single-pass left mid after h here);
   }
 
-  pub spine-last : (node : Tree) (after : GroupIds) (h : Groups) → SpineSurveyed whole node before mid g →
+  pub spine-last : (node : Tree) (after : GroupIds) (h : Tally) → SpineSurveyed whole node before mid g →
       SurveyedAt inside node mid after h → SurveyedAt inside whole before after (joined g h)
   spine-last node after h s here =
       subst (λ t. SurveyedAt inside t before after (joined g h)) (sym s.whole_is)
@@ -134,7 +134,7 @@ module _ (whole : Tree) (before mid : GroupIds) (g : Groups) where
 
 -- What holds one node.
 
-pub group-pass : (id : ℕ) (name : Option (List ℕ)) (body : Tree) (before mid after : GroupIds) (g : Groups) →
+pub group-pass : (id : ℕ) (name : Option (List ℕ)) (body : Tree) (before mid after : GroupIds) (g : Tally) →
     IfSome name (λ bytes. bytes ≢ []) → id < 65536 → holds before id ≡ false →
     ((k : ℕ) → holds mid k ≡ ((k == id) || holds before k)) → SurveyedAt inside body mid after g →
     SurveyedAt inside (wrapped (capture_group id name) body) before after (joined (one id) g)
@@ -152,7 +152,7 @@ group-pass id name body before mid after g named small fresh more p = record {
     max_zero : (n : ℕ) → max 0 n ≡ n
     max_zero n = omega arith
 
-module _ (body : Tree) (before after : GroupIds) (g : Groups) (p : SurveyedAt inside body before after g) (start end : ℕ) where
+module _ (body : Tree) (before after : GroupIds) (g : Tally) (p : SurveyedAt inside body before after g) (start end : ℕ) where
   has_groups : end < 65536 → fill start end g ≡ true → HasGroups start end body
   has_groups small full =
       fill-has g (captures body) (reference body) p.told (differ-held before after (captures body) p.ids) start end (omega arith) full

@@ -3,7 +3,7 @@ use Rattle.std.proofs.Common.{◌≡◌, ℕ, ◌≤◌, ◌&&◌, nat_le, nat_l
 use Rattle.std.specs.Prelude.{if◌then◌else◌}
 use Rattle.std.proofs.lemmas.Bool.{false≢true, cond-true, cond-false, and_parts}
 use Rattle.regress_tree.specs.declared.ir.groups.GroupIds.{GroupIds}
-use Rattle.regress_tree.specs.declared.ir.groups.Groups.{Groups}
+use Rattle.regress_tree.specs.declared.ir.groups.Tally.{Tally}
 use Rattle.regress_tree.specs.NodeTests.{is_goal}
 use Rattle.regress_tree.specs.Shapes.{is_cat}
 use Rattle.regress_tree.specs.Tree.{Tree, Trees, leaf, cat, alt, wrapped, no_trees, more_trees, row_append}
@@ -82,7 +82,7 @@ reference-without (more_trees t (more_trees u us)) = ap (λ r. max (reference t)
 
 -- The whole.
 
-pub cat-passes : (ts : Trees) (before after : GroupIds) (g : Groups) → SurveyedAt inside (cat (without_goal ts)) before after g →
+pub cat-passes : (ts : Trees) (before after : GroupIds) (g : Tally) → SurveyedAt inside (cat (without_goal ts)) before after g →
     SurveyedAt root (cat ts) before after g
 cat-passes ts before after g p =
     IsSurveyed-as _ _ _ (λ s. (s.0, (tt, row-last s.0 ts s.1.1))) (captures-without ts) (reference-without ts) p
@@ -90,7 +90,7 @@ cat-passes ts before after g p =
 pub cat-fails : (ts : Trees) (before : GroupIds) → RefusedAt inside (cat (without_goal ts)) before → RefusedAt root (cat ts) before
 cat-fails ts before f = IsRefused-as _ _ (λ s. (s.0, (tt, last-row s.0 ts s.1.1))) (captures-without ts) f
 
-pub other-passes : (t : Tree) (before after : GroupIds) (g : Groups) → SurveyedAt inside t before after g → SurveyedAt root t before after g
+pub other-passes : (t : Tree) (before after : GroupIds) (g : Tally) → SurveyedAt inside t before after g → SurveyedAt root t before after g
 other-passes t before after g p = IsSurveyed-as _ _ _ (λ s. (s.0, inside-root s.0 t s.1)) refl refl p
 
 pub other-fails : (t : Tree) (before : GroupIds) → is_goal t ≡ false → is_cat t ≡ false → RefusedAt inside t before → RefusedAt root t before
@@ -102,7 +102,7 @@ one_if b = if b then 1 else 0
 from-zero : (k n : ℕ) → one_if (nat_le 0 k && nat_lt k n) ≡ one_if (nat_lt k n)
 from-zero k n = ap (λ b. one_if (b && nat_lt k n)) (le-leb 0 k (omega arith))
 
-pub well_formed-from : (t : Tree) (before after : GroupIds) (g : Groups) → SurveyedAt root t before after g → fill 0 g.count g ≡ true →
+pub well_formed-from : (t : Tree) (before after : GroupIds) (g : Tally) → SurveyedAt root t before after g → fill 0 g.count g ≡ true →
     g.reference ≤ g.count → IsWellFormed t
 well_formed-from t before after g p full low =
     let all = all-has g (captures t) (reference t) p.told (differ-held before after (captures t) p.ids) full in
@@ -116,7 +116,7 @@ well_formed-from t before after g p full low =
       ids = λ k. all.1 k ∙ from-zero k (length (captures t));
     }
 
-pub from-well_formed : (t : Tree) (before after : GroupIds) (g : Groups) → SurveyedAt root t before after g → IsWellFormed t →
+pub from-well_formed : (t : Tree) (before after : GroupIds) (g : Tally) → SurveyedAt root t before after g → IsWellFormed t →
     (fill 0 g.count g ≡ true) × (g.reference ≤ g.count)
 from-well_formed t before after g p w =
     let all = has-all g (captures t) (reference t) p.told (λ k. w.ids k ∙ sym (from-zero k (length (captures t)))) in

@@ -3,7 +3,7 @@ use Rattle.std.proofs.Common.{◌≡◌, ℕ, ◌+◌, ◌<◌, ◌≤◌, ◌==
 use Rattle.std.specs.Prelude.{if◌then◌else◌}
 use Rattle.std.proofs.lemmas.Bool.{cases_eq, ne_eqb, eq-eqb}
 use Rattle.regress_tree.specs.declared.ir.groups.GroupIds.{GroupIds}
-use Rattle.regress_tree.specs.declared.ir.groups.Groups.{Groups}
+use Rattle.regress_tree.specs.declared.ir.groups.Tally.{Tally}
 use Rattle.regress_tree.specs.WellFormed.{Capture}
 use Rattle.regress_tree.specs.Survey.{holds, times_held, times, least_id, past_ids, IsTally, joined, one, IsSurveyed, IsRefused}
 use Rattle.regress_tree.proofs.IdLemmas.{times-append, Differ}
@@ -22,7 +22,7 @@ pub past-append : (cs ds : List Capture) → past_ids (cs ++ ds) ≡ max (past_i
 past-append [] ds = omega arith
 past-append (c ∷ cs) ds = omega (arith, past-append cs ds)
 
-pub IsTally-joined : (g h : Groups) (cs ds : List Capture) (r q : ℕ) → IsTally g cs r → IsTally h ds q → IsTally (joined g h) (cs ++ ds) (max r q)
+pub IsTally-joined : (g h : Tally) (cs ds : List Capture) (r q : ℕ) → IsTally g cs r → IsTally h ds q → IsTally (joined g h) (cs ++ ds) (max r q)
 IsTally-joined g h cs ds r q a b = record {
   count = omega (arith, a.count, b.count, length-append cs ds);
   least = omega (arith, a.least, b.least, least-append cs ds);
@@ -42,7 +42,7 @@ IsTally-one id c same small = record {
 
 -- Two parts, one after the other.
 
-module _ {A B : Type 0} {cs ds : List Capture} {r q : ℕ} {before mid after : GroupIds} {g h : Groups} where
+module _ {A B : Type 0} {cs ds : List Capture} {r q : ℕ} {before mid after : GroupIds} {g h : Tally} where
   pub IsSurveyed-then : IsSurveyed A cs r before mid g → IsSurveyed B ds q mid after h → IsSurveyed (A × B) (cs ++ ds) (max r q) before after (joined g h)
   IsSurveyed-then a b = record {
     stands = (a.stands, b.stands);
@@ -51,7 +51,7 @@ module _ {A B : Type 0} {cs ds : List Capture} {r q : ℕ} {before mid after : G
   }
 
 -- a second part that fails
-pub IsRefused-second : {A B : Type 0} {cs ds : List Capture} {r : ℕ} {before mid : GroupIds} {g : Groups} → IsSurveyed A cs r before mid g →
+pub IsRefused-second : {A B : Type 0} {cs ds : List Capture} {r : ℕ} {before mid : GroupIds} {g : Tally} → IsSurveyed A cs r before mid g →
     IsRefused B ds mid → IsRefused (A × B) (cs ++ ds) before
 IsRefused-second {cs = cs} {ds = ds} a b = record {
   refuted = λ stands differ. b.refuted stands.1 (λ k. omega (arith, a.ids k, differ k, times-append k cs ds));
@@ -66,7 +66,7 @@ IsRefused-first {cs = cs} B ds a = record {
 
 -- The same under another name.
 
-pub IsSurveyed-as : {A : Type 0} {cs : List Capture} {r : ℕ} {before after : GroupIds} {g : Groups} (B : Type 0) (ds : List Capture) (q : ℕ) →
+pub IsSurveyed-as : {A : Type 0} {cs : List Capture} {r : ℕ} {before after : GroupIds} {g : Tally} (B : Type 0) (ds : List Capture) (q : ℕ) →
     (A → B) → cs ≡ ds → r ≡ q → IsSurveyed A cs r before after g → IsSurveyed B ds q before after g
 IsSurveyed-as {r = r} {before = before} {after = after} {g = g} B ds q from same same' p =
     subst (λ s. IsSurveyed B ds s before after g) same'
@@ -79,7 +79,7 @@ IsRefused-as {before = before} B ds to same fails =
 
 -- Where there is no group.
 
-pub IsSurveyed-none : {A : Type 0} {r : ℕ} {ids : GroupIds} {g : Groups} → A → IsTally g [] r → IsSurveyed A [] r ids ids g
+pub IsSurveyed-none : {A : Type 0} {r : ℕ} {ids : GroupIds} {g : Tally} → A → IsTally g [] r → IsSurveyed A [] r ids ids g
 IsSurveyed-none stands told = record { stands = stands; ids = λ k. omega arith; told = told }
 
 -- what passes has ids that differ

@@ -1,5 +1,5 @@
 -- How a text is read, character by character, from either side of a place.
-use Rattle.std.specs.Prelude.{ℕ, ◌+◌, ◌-◌, ◌&&◌, List, All, length, take, drop, Option, Some, None, if◌then◌else◌, nat_eq, nat_le, ◌==◌, slice_get, slice_index, option_map, option_and_then, chars, encode_utf8, encode_utf8_all}
+use Rattle.std.specs.Prelude.{ℕ, Bool, ◌+◌, ◌-◌, ◌&&◌, List, All, length, take, drop, Option, Some, None, if◌then◌else◌, nat_eq, nat_le, ◌==◌, slice_get, slice_index, option_map, option_and_then, chars, encode_utf8, encode_utf8_all}
 use Rattle.std.specs.Char.{IsScalar, len_utf8}
 use Rattle.std.specs.List.{starts_with}
 use Rattle.std.specs.Option.{option_or}
@@ -9,6 +9,9 @@ use lib.Utf8.{scalar}
 pub data Direction : Type 0 where
   forwards : Direction
   backwards : Direction
+
+abbrev pub direction_if : (backwards : Bool) → Direction
+direction_if backwards' = if backwards' then backwards else forwards
 
 -- a character, and the place on its other side
 pub record Read : Type 0 where

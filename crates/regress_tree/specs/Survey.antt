@@ -3,7 +3,7 @@ use Rattle.std.specs.Prelude.{◌≡◌, ℕ, ◌+◌, ◌≤◌, ◌-◌, ◌/�
 use Rattle.regress_base.specs.ByteBitmap.{contains}
 use Rattle.regress_base.specs.declared.bytesearch.bitmap.ByteBitmap.{ByteBitmap}
 use Rattle.regress_tree.specs.declared.ir.groups.GroupIds.{GroupIds}
-use Rattle.regress_tree.specs.declared.ir.groups.Groups.{Groups}
+use Rattle.regress_tree.specs.declared.ir.groups.Tally.{Tally}
 use Rattle.regress_tree.specs.NodeTests.{is_goal}
 use Rattle.regress_tree.specs.Tree.{Leaf, back_ref, Tree, Trees, leaf, cat, alt, wrapped, no_trees, more_trees}
 use Rattle.regress_tree.specs.WellFormed.{Capture, captures, Position, MayStand}
@@ -54,7 +54,7 @@ abbrev mutual
   reference_in_row (more_trees t ts) = max (reference t) (reference_in_row ts)
 
 -- what is told of these groups and of the greatest reference beside them
-pub record IsTally (g : Groups) (cs : List Capture) (referred : ℕ) : Type 0 where
+pub record IsTally (g : Tally) (cs : List Capture) (referred : ℕ) : Type 0 where
   pub count : g.count ≡ min (length cs) 0xFFFFFFFF
   pub least : g.least ≡ least_id cs
   pub past : g.past ≡ past_ids cs
@@ -62,7 +62,7 @@ pub record IsTally (g : Groups) (cs : List Capture) (referred : ℕ) : Type 0 wh
   pub reference : g.reference ≡ referred
 
 -- what is told of two parts
-abbrev pub joined : Groups → Groups → Groups
+abbrev pub joined : Tally → Tally → Tally
 joined g h = record {
   count = min (g.count + h.count) 0xFFFFFFFF;
   least = min g.least h.least;
@@ -71,15 +71,15 @@ joined g h = record {
 }
 
 -- one group
-abbrev pub one : ℕ → Groups
+abbrev pub one : ℕ → Tally
 one id = record { count = 1; least = id; past = id + 1; reference = 0 }
 
 -- none lies outside of start to end - 1, and there are as many
-abbrev pub fill : (start end : ℕ) → Groups → Bool
+abbrev pub fill : (start end : ℕ) → Tally → Bool
 fill start end g = nat_le start g.least && (nat_le g.past end && (g.count == end - start))
 
 -- The part may stand, none of its groups has an id that was there before or another one has, and the ids are now there too.
-pub record IsSurveyed (Stands : Type 0) (cs : List Capture) (referred : ℕ) (before after : GroupIds) (g : Groups) : Type 0 where
+pub record IsSurveyed (Stands : Type 0) (cs : List Capture) (referred : ℕ) (before after : GroupIds) (g : Tally) : Type 0 where
   pub stands : Stands
   pub ids : (k : ℕ) → times_held after k ≡ times_held before k + times k cs
   pub told : IsTally g cs referred
@@ -92,7 +92,7 @@ pub record IsRefused (Stands : Type 0) (cs : List Capture) (before : GroupIds) :
 abbrev pub StandsAt : Position → Tree → Type 0
 StandsAt p t = (n : ℕ) × MayStand n t p
 
-abbrev pub SurveyedAt : Position → Tree → GroupIds → GroupIds → Groups → Type 0
+abbrev pub SurveyedAt : Position → Tree → GroupIds → GroupIds → Tally → Type 0
 SurveyedAt p t = IsSurveyed (StandsAt p t) (captures t) (reference t)
 
 abbrev pub RefusedAt : Position → Tree → GroupIds → Type 0

@@ -40,7 +40,7 @@ impl GroupIds {
 
 /// What is told of the capture groups of a part of a tree, whose ids differ, and of its references.
 #[derive(Clone, Copy)]
-pub struct Groups {
+pub struct Tally {
     /// How many groups there are, at most `u32::MAX`.
     pub count: u32,
     /// The least id, and 65,536 where there is none.
@@ -51,15 +51,15 @@ pub struct Groups {
     pub reference: u32,
 }
 
-impl Groups {
+impl Tally {
     ghost use Rattle.std.specs.Prelude.{◌≡◌, []};
     ghost use Rattle.regress_tree.specs.Survey.{IsTally, joined, one, fill};
 
     /// No group, and this reference, or 0.
-    pub fn none(reference: u32) -> Groups
+    pub fn none(reference: u32) -> Tally
         ensures { IsTally result [] reference }
     {
-        Groups {
+        Tally {
             count: 0,
             least: u32::from(u16::MAX) + 1,
             past: 0,
@@ -68,10 +68,10 @@ impl Groups {
     }
 
     /// The groups of two parts.
-    pub fn join(self, other: Groups) -> Groups
+    pub fn join(self, other: Tally) -> Tally
         ensures { result ≡ joined self other }
     {
-        Groups {
+        Tally {
             count: self.count.saturating_add(other.count),
             least: self.least.min(other.least),
             past: self.past.max(other.past),
@@ -80,11 +80,11 @@ impl Groups {
     }
 
     /// With one group more.
-    pub fn with(self, id: CaptureGroupID) -> Groups
+    pub fn with(self, id: CaptureGroupID) -> Tally
         ensures { result ≡ joined (one id) self }
     {
         let id = u32::from(id);
-        Groups {
+        Tally {
             count: self.count.saturating_add(1),
             least: self.least.min(id),
             past: self.past.max(id + 1),

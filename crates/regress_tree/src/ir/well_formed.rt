@@ -10,7 +10,7 @@ ghost use Rattle.regress_tree.specs.NodeTests.{is_goal};
 ghost use Rattle.regress_tree.specs.Survey.{IsTally, reference, StandsAt, SurveyedAt, RefusedAt, without_goal};
 
 use super::brackets::accepts_none;
-use super::groups::{GroupIds, Groups};
+use super::groups::{GroupIds, Tally};
 use super::node::{Node, Regex};
 use regress_base::codepointset::{CODE_POINT_MAX, is_canonical};
 use regress_base::sets::are_code_points;
@@ -39,11 +39,11 @@ impl Regex {
 
 /// Goes over a whole tree. It answers None where a part may not stand where it does or an id comes twice,
 /// whatever else there is.
-fn survey_root(node: &Node, ids: &mut GroupIds) -> Option<Groups>
+fn survey_root(node: &Node, ids: &mut GroupIds) -> Option<Tally>
     ensures { MatchOption result (RefusedAt root (tree node.now) ids.old) (SurveyedAt root (tree node.now) ids.old ids.new) }
 {
     match node {
-        Node::Goal => Some(Groups::none(0)),
+        Node::Goal => Some(Tally::none(0)),
         Node::Cat(parts) => survey_parts(without_goal(parts), ids),
         _ => survey(node, ids),
     }
@@ -68,11 +68,11 @@ fn is_goal(node: &Node) -> bool
 /// Goes over a part that stands inside. It goes down the right sides of alternatives in a loop: there may be
 /// as many levels as alternatives.
 #[cycle(survey)]
-fn survey(node: &Node, ids: &mut GroupIds) -> Option<Groups>
+fn survey(node: &Node, ids: &mut GroupIds) -> Option<Tally>
     ensures { MatchOption result (RefusedAt inside (tree node.now) ids.old) (SurveyedAt inside (tree node.now) ids.old ids.new) }
 {
     let mut node = node;
-    let mut groups = Groups::none(0);
+    let mut groups = Tally::none(0);
     while let Node::Alt(left, right) = node {
         groups = groups.join(survey(left, ids)?);
         node = right;
@@ -82,11 +82,11 @@ fn survey(node: &Node, ids: &mut GroupIds) -> Option<Groups>
 
 /// Goes over the parts of a `Cat`.
 #[cycle(survey)]
-fn survey_parts(parts: &[Node], ids: &mut GroupIds) -> Option<Groups>
+fn survey_parts(parts: &[Node], ids: &mut GroupIds) -> Option<Tally>
     ensures { MatchOption result (RefusedAt inside (cat (trees parts.now)) ids.old)
         (SurveyedAt inside (cat (trees parts.now)) ids.old ids.new) }
 {
-    let mut groups = Groups::none(0);
+    let mut groups = Tally::none(0);
     for part in parts {
         groups = groups.join(survey(part, ids)?);
     }
@@ -95,7 +95,7 @@ fn survey_parts(parts: &[Node], ids: &mut GroupIds) -> Option<Groups>
 
 /// Goes over a part that is no `Alt`.
 #[cycle(survey)]
-fn survey_other(node: &Node, ids: &mut GroupIds) -> Option<Groups>
+fn survey_other(node: &Node, ids: &mut GroupIds) -> Option<Tally>
     requires { is_alt (tree node.now) ≡ false }
     ensures { MatchOption result (RefusedAt inside (tree node.now) ids.old) (SurveyedAt inside (tree node.now) ids.old ids.new) }
 {
@@ -122,7 +122,7 @@ fn survey_other(node: &Node, ids: &mut GroupIds) -> Option<Groups>
         }
         Node::Loop1CharBody { loopee, quant } => {
             if is_quantifier(quant) && is_one_character(loopee) {
-                Some(Groups::none(0))
+                Some(Tally::none(0))
             } else {
                 None
             }
@@ -146,7 +146,7 @@ fn survey_other(node: &Node, ids: &mut GroupIds) -> Option<Groups>
 }
 
 /// Goes over a part that holds no node.
-fn survey_leaf(node: &Node) -> Option<Groups>
+fn survey_leaf(node: &Node) -> Option<Tally>
     requires { is_leaf (tree node.now) ≡ true }
     ensures { MatchOption result (StandsAt inside (tree node.now) → ⊥)
         (λ groups. StandsAt inside (tree node.now) × IsTally groups [] (reference (tree node.now))) }
@@ -154,7 +154,7 @@ fn survey_leaf(node: &Node) -> Option<Groups>
     if !leaf_stands(node) {
         return None;
     }
-    Some(Groups::none(match node {
+    Some(Tally::none(match node {
         Node::BackRef { group, .. } => *group,
         _ => 0,
     }))

@@ -1,17 +1,16 @@
 use Rattle.std.proofs.Common.{arith, ◌≡◌, ◌<◌, ◌∙◌, length, ap, sym, None, Some}
 use Rattle.std.specs.Option.{option_map}
 use Rattle.regress_base.specs.Table.{stands_for}
-use Rattle.regress_tree.specs.Reading.{next_character, of_bytes}
+use Rattle.regress_tree.specs.Reading.{next_character, of_bytes, direction_if}
 use Rattle.regress_tree.specs.References.{in_order}
 use Rattle.regress_unicode.specs.TableOf.{table_of}
 use Rattle.regress_match.specs.Leaves.{read_of}
-use Rattle.regress_match.specs.Subject.{direction_of}
 use Rattle.regress_match.proofs.LeafLemmas.{order_none, order_no, order_yes, length-in_order}
 use Rattle.regress_match.proofs.leaves.all_of.Goals as goal
 
 pub returns-in_err-x : goal.returns-in_err-x
 returns-in_err-x c = λ s at.
-    let d = direction_of c.args.rules.backwards in
+    let d = direction_if c.args.rules.backwards in
     let r = of_bytes c.args.text.now in
     let cs = in_order d c.args.characters.now in
     let none : next_character d r c.loop-i.here ≡ None = sym c.next_read.ensures ∙ ap (option_map read_of) c.in_err-x.was in
@@ -20,7 +19,7 @@ returns-in_err-x c = λ s at.
 
 pub returns-then-not-stands_for : goal.returns-then-not-stands_for
 returns-then-not-stands_for c = λ s at.
-    let d = direction_of c.args.rules.backwards in
+    let d = direction_if c.args.rules.backwards in
     let r = of_bytes c.args.text.now in
     let same = stands_for (table_of c.args.rules.tables.now) c.args.icase c.args.rules.flags.unicode in
     let cs = in_order d c.args.characters.now in
@@ -32,7 +31,7 @@ returns-then-not-stands_for c = λ s at.
 
 pub loop-i-preserved : goal.loop-i-preserved
 loop-i-preserved c = λ s at.
-    let d = direction_of c.args.rules.backwards in
+    let d = direction_if c.args.rules.backwards in
     let r = of_bytes c.args.text.now in
     let same = stands_for (table_of c.args.rules.tables.now) c.args.icase c.args.rules.flags.unicode in
     let cs = in_order d c.args.characters.now in

@@ -1,17 +1,16 @@
 use Rattle.std.proofs.Common.{rules, arith, ◌≡◌, ◌-◌, ◌∙◌, ap, sym, refl, get_or, None, Some}
 use Rattle.std.proofs.lemmas.List.{get_or_past}
 use Rattle.regress_base.specs.Table.{stands_for}
-use Rattle.regress_tree.specs.Reading.{of_bytes}
+use Rattle.regress_tree.specs.Reading.{of_bytes, direction_if}
 use Rattle.regress_tree.specs.References.{all_of, in_order}
 use Rattle.regress_unicode.specs.TableOf.{table_of}
 use Rattle.regress_match.specs.Captures.{state}
-use Rattle.regress_match.specs.Subject.{direction_of}
 use Rattle.regress_match.proofs.LeafLemmas.{back_none, back_some, get_or_at, none_of}
 use Rattle.regress_match.proofs.leaves.back_reference.Goals as goal
 
 pub returns-then-id-len : goal.returns-then-id-len
 returns-then-id-len c =
-    let d = direction_of c.args.rules.backwards in
+    let d = direction_if c.args.rules.backwards in
     let r = of_bytes c.args.text.now in
     let same = stands_for (table_of c.args.rules.tables.now) c.args.icase c.args.rules.flags.unicode in
     let spans = c.args.captures.now.spans.items in
@@ -21,7 +20,7 @@ returns-then-id-len c =
 
 pub returns-in_default : goal.returns-in_default
 returns-in_default c =
-    let d = direction_of c.args.rules.backwards in
+    let d = direction_if c.args.rules.backwards in
     let r = of_bytes c.args.text.now in
     let same = stands_for (table_of c.args.rules.tables.now) c.args.icase c.args.rules.flags.unicode in
     let spans = c.args.captures.now.spans.items in
@@ -34,7 +33,7 @@ returns-in_default c =
 
 pub returns : goal.returns
 returns c =
-    let d = direction_of c.args.rules.backwards in
+    let d = direction_if c.args.rules.backwards in
     let r = of_bytes c.args.text.now in
     let same = stands_for (table_of c.args.rules.tables.now) c.args.icase c.args.rules.flags.unicode in
     let spans = c.args.captures.now.spans.items in

@@ -2,13 +2,12 @@ use Rattle.std.proofs.Common.{rules, arith, ◌≡◌, ◌∙◌, ap, sym, refl,
 use Rattle.regress_tree.specs.declared.ir.node.Node.{the_lemmas}
 use Rattle.regress_tree.specs.Assertions.{at_anchor, at_boundary, is_word_character}
 use Rattle.regress_tree.specs.Matching.{steps}
-use Rattle.regress_tree.specs.Reading.{of_bytes}
+use Rattle.regress_tree.specs.Reading.{of_bytes, direction_if}
 use Rattle.regress_tree.specs.Setting.{Setting}
 use Rattle.regress_tree.specs.Tree.{tree, leaf, anchor, word_boundary}
 use Rattle.regress_unicode.specs.TableOf.{table_of}
 use Rattle.regress_match.specs.Captures.{state}
 use Rattle.regress_prefilter.specs.OneCharacter.{takes_one}
-use Rattle.regress_match.specs.Subject.{direction_of}
 use Rattle.regress_prefilter.proofs.laws.OneCharacter.{takes_one-steps}
 use Rattle.regress_match.proofs.LeafLemmas.{holds_is}
 use Rattle.regress_match.proofs.leaves.leaf.Goals as goal
@@ -17,7 +16,7 @@ pub returns-in-Anchor : goal.returns-in-Anchor
 returns-in-Anchor c = λ one.
     let setting : Setting = record { flags = c.args.rules.flags; table = table_of c.args.rules.tables.now } in
     let bytes = c.args.text.now in
-    let d = direction_of c.args.rules.backwards in
+    let d = direction_if c.args.rules.backwards in
     let s = state c.args.captures.now c.args.place in
     let kind = c.in-Anchor.anchor_type in
     let multiline = c.in-Anchor.multiline in
@@ -30,7 +29,7 @@ pub returns-in-WordBoundary : goal.returns-in-WordBoundary
 returns-in-WordBoundary c = λ one.
     let setting : Setting = record { flags = c.args.rules.flags; table = table_of c.args.rules.tables.now } in
     let bytes = c.args.text.now in
-    let d = direction_of c.args.rules.backwards in
+    let d = direction_if c.args.rules.backwards in
     let s = state c.args.captures.now c.args.place in
     let invert = c.in-WordBoundary.invert in
     let icase = c.in-WordBoundary.unicode_icase in
@@ -43,7 +42,7 @@ pub returns-in_default : goal.returns-in_default
 returns-in_default c = λ one.
     let setting : Setting = record { flags = c.args.rules.flags; table = table_of c.args.rules.tables.now } in
     let bytes = c.args.text.now in
-    let d = direction_of c.args.rules.backwards in
+    let d = direction_if c.args.rules.backwards in
     let s = state c.args.captures.now c.args.place in
     let takes : takes_one (tree c.args.node.now) ≡ true = first_of (search (rules, the_lemmas), grind (arith, the_lemmas, one)) in
     takes_one-steps setting bytes d (tree c.args.node.now) s takes ∙ sym (c.one_character.ensures s refl)

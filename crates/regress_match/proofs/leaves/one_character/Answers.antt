@@ -1,16 +1,15 @@
 use Rattle.std.proofs.Common.{◌≡◌, ◌∙◌, ap, sym, None, Some}
 use Rattle.std.specs.Option.{option_map}
-use Rattle.regress_tree.specs.Reading.{next_character, of_bytes}
+use Rattle.regress_tree.specs.Reading.{next_character, of_bytes, direction_if}
 use Rattle.regress_tree.specs.Tree.{tree}
 use Rattle.regress_prefilter.specs.OneCharacter.{test_of}
 use Rattle.regress_match.specs.Leaves.{read_of}
-use Rattle.regress_match.specs.Subject.{direction_of}
 use Rattle.regress_match.proofs.LeafLemmas.{one_none, one_yes, one_no}
 use Rattle.regress_match.proofs.leaves.one_character.Goals as goal
 
 pub returns-in_err-c : goal.returns-in_err-c
 returns-in_err-c c = λ s at.
-    let d = direction_of c.args.rules.backwards in
+    let d = direction_if c.args.rules.backwards in
     let r = of_bytes c.args.text.now in
     let none : next_character d r s.place ≡ None =
     ap (next_character d r) at ∙ sym c.next_read.ensures ∙ ap (option_map read_of) c.in_err-c.was in
@@ -18,7 +17,7 @@ returns-in_err-c c = λ s at.
 
 pub returns-then-accepts : goal.returns-then-accepts
 returns-then-accepts c = λ s at.
-    let d = direction_of c.args.rules.backwards in
+    let d = direction_if c.args.rules.backwards in
     let r = of_bytes c.args.text.now in
     let read = read_of (c.in_ok-c.c, c.in_ok-c.to) in
     let some : next_character d r s.place ≡ Some read =
@@ -27,7 +26,7 @@ returns-then-accepts c = λ s at.
 
 pub returns-else-accepts : goal.returns-else-accepts
 returns-else-accepts c = λ s at.
-    let d = direction_of c.args.rules.backwards in
+    let d = direction_if c.args.rules.backwards in
     let r = of_bytes c.args.text.now in
     let read = read_of (c.in_ok-c.c, c.in_ok-c.to) in
     let some : next_character d r s.place ≡ Some read =

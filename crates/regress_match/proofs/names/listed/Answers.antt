@@ -3,7 +3,7 @@ use Rattle.regress_tree.specs.Gathered.{gathered, own_group}
 use Rattle.regress_tree.specs.Tree.{tree}
 use Rattle.regress_tree.proofs.laws.Gathered.{visited_adds, gathered-groups}
 use Rattle.regress_tree.specs.WellFormed.{Capture}
-use Rattle.regress_match.specs.Listing.{Adds}
+use Rattle.regress_match.specs.Listing.{Lists}
 use Rattle.regress_match.specs.Names.{capture_of}
 use Rattle.regress_match.specs.declared.names.Group.{Group}
 use Rattle.regress_match.proofs.NamesLemmas.{adds_none, adds_both}
@@ -14,7 +14,7 @@ finish gs hs cs same is = ap (map capture_of) same ∙ is
 
 pub returns : goal.returns
 returns c =
-    let adds = visited_adds _ own_group (λ a b xs. (b.0.ghost_name ≡ a.0.ghost_name) × Adds a.0.now b.0.now xs) (record {
+    let adds = visited_adds _ own_group (λ a b xs. (b.0.ghost_name ≡ a.0.ghost_name) × Lists a.0.now b.0.now xs) (record {
       none = λ a. (search rules, adds_none a.0.now);
       joined = λ a b d xs ys first second. (second.0 ∙ first.0, adds_both a.0.now b.0.now d.0.now xs ys first.1 second.1);
       adds = λ a b t u d behind skip call. (search rules, rw (← call.on) (search rules));

@@ -1,11 +1,12 @@
 use Rattle.std.proofs.Common.{rules, arith, ◌≡◌, ◌++◌, ◌∷◌, [], ◌∙◌, List, length, sym, ap}
+use Rattle.regress_tree.specs.Reading.{direction_if}
 use Rattle.regress_tree.specs.Lookaround.{look}
 use Rattle.regress_tree.specs.Matching.{steps}
 use Rattle.regress_tree.specs.Steps.{State}
 use Rattle.regress_tree.specs.Tree.{tree}
 use Rattle.regress_unicode.specs.TableOf.{table_of}
 use Rattle.regress_match.specs.Captures.{state, undone}
-use Rattle.regress_match.specs.Subject.{subject, direction_of}
+use Rattle.regress_match.specs.Subject.{subject}
 use Rattle.regress_match.specs.declared.machine.Machine.{Machine}
 use Rattle.regress_match.proofs.CaptureLemmas.{Later-refl, undone-nil, undone-all}
 use Rattle.regress_match.proofs.RunLemmas.{begins, task_done, ends_at, look_holds, look_fails, looked_first, looked_first_negated, looked_none, looked_none_negated, rewound, rewound_trail, ok_always}
@@ -16,7 +17,7 @@ use Rattle.regress_match.proofs.run.+run.Goals.{look-then-looking, look-else-loo
 pub look-returns-in-At-clause-looks : goal.look-returns-in-At-clause-looks
 look-returns-in-At-clause-looks t c =
     let l = c.args.looking in
-    let body = steps (record { flags = c.args.rules.flags; table = table_of c.args.rules.tables.now }) c.args.text.now (direction_of l.backwards) (tree l.body.now) in
+    let body = steps (record { flags = c.args.rules.flags; table = table_of c.args.rules.tables.now }) c.args.text.now (direction_if l.backwards) (tree l.body.now) in
     let s = state c.args.captures.now l.place in
     let found : (rest : List State) × (body s ≡ state c.run.new.captures c.in-At.field-0 ∷ rest) = rw c.in-At.is at c.in_ok-answer.ensures.answers in
     elim c.if-looking.branch [
@@ -27,7 +28,7 @@ look-returns-in-At-clause-looks t c =
 pub look-returns-clause-looks : goal.look-returns-clause-looks
 look-returns-clause-looks t c =
     let l = c.args.looking in
-    let body = steps (record { flags = c.args.rules.flags; table = table_of c.args.rules.tables.now }) c.args.text.now (direction_of l.backwards) (tree l.body.now) in
+    let body = steps (record { flags = c.args.rules.flags; table = table_of c.args.rules.tables.now }) c.args.text.now (direction_if l.backwards) (tree l.body.now) in
     let s = state c.args.captures.now l.place in
     let before = c.args.captures.now.trail.items in
     let since = c.run.new.captures.trail.items in
@@ -47,7 +48,7 @@ look-returns-clause-looks t c =
 pub look-returns-clause-later : goal.look-returns-clause-later
 look-returns-clause-later t c =
     let l = c.args.looking in
-    let body = steps (record { flags = c.args.rules.flags; table = table_of c.args.rules.tables.now }) c.args.text.now (direction_of l.backwards) (tree l.body.now) in
+    let body = steps (record { flags = c.args.rules.flags; table = table_of c.args.rules.tables.now }) c.args.text.now (direction_if l.backwards) (tree l.body.now) in
     let s = state c.args.captures.now l.place in
     let before = c.args.captures.now.trail.items in
     let since = c.run.new.captures.trail.items in

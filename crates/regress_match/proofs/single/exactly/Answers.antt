@@ -1,15 +1,15 @@
 use Rattle.std.proofs.Common.{arith, ◌≡◌, ◌∙◌, ap, sym, refl, None, Some}
+use Rattle.regress_tree.specs.Reading.{direction_if}
 use Rattle.regress_tree.specs.Steps.{State}
 use Rattle.regress_tree.specs.Tree.{tree}
 use Rattle.regress_match.specs.Leaves.{put}
-use Rattle.regress_match.specs.Subject.{direction_of}
 use Rattle.regress_match.specs.Turns.{one_of}
 use Rattle.regress_match.proofs.TurnLemmas.{exactly_more, exactly_none}
 use Rattle.regress_match.proofs.single.exactly.Goals as goal
 
 pub returns-in_err-here : goal.returns-in_err-here
 returns-in_err-here c = λ s at.
-    let d = direction_of c.args.rules.backwards in
+    let d = direction_if c.args.rules.backwards in
     let t = tree c.args.body.now in
     let h : State = record s { place = c.loop-left.here } in
     let none : put h None ≡ one_of d c.args.text.now t h = ap (put h) (sym c.in_err-here.was) ∙ c.one_character.ensures h refl in
@@ -19,7 +19,7 @@ returns-in_err-here c = λ s at.
 pub loop-left-preserved : goal.loop-left-preserved
 loop-left-preserved c = record {
   same = λ s at.
-      let d = direction_of c.args.rules.backwards in
+      let d = direction_if c.args.rules.backwards in
       let t = tree c.args.body.now in
       let h : State = record s { place = c.loop-left.here } in
       let one : put h (Some c.in_ok-here.here) ≡ one_of d c.args.text.now t h = ap (put h) (sym c.in_ok-here.was) ∙ c.one_character.ensures h refl in

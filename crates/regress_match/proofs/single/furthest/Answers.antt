@@ -1,8 +1,8 @@
 use Rattle.std.proofs.Common.{arith, ◌≡◌, ◌∙◌, ap, sym, refl, None, Some, []}
+use Rattle.regress_tree.specs.Reading.{direction_if}
 use Rattle.regress_tree.specs.Steps.{State}
 use Rattle.regress_tree.specs.Tree.{tree}
 use Rattle.regress_match.specs.Leaves.{put}
-use Rattle.regress_match.specs.Subject.{direction_of}
 use Rattle.regress_match.specs.Turns.{one_of}
 use Rattle.regress_match.proofs.LeafLemmas.{none_of}
 use Rattle.regress_match.proofs.TurnLemmas.{far_begin, far_on, far_none, far_end, far_ahead}
@@ -10,13 +10,13 @@ use Rattle.regress_match.proofs.single.furthest.Goals as goal
 
 pub loop-left-init : goal.loop-left-init
 loop-left-init c = record {
-  same = λ s at. far_begin c.args.text.now (direction_of c.args.rules.backwards) (tree c.args.body.now) c.args.most s c.args.place at;
+  same = λ s at. far_begin c.args.text.now (direction_if c.args.rules.backwards) (tree c.args.body.now) c.args.most s c.args.place at;
   far = omega arith;
 }
 
 pub loop-left-preserved : goal.loop-left-preserved
 loop-left-preserved c =
-    let d = direction_of c.args.rules.backwards in
+    let d = direction_if c.args.rules.backwards in
     let t = tree c.args.body.now in
     let one : (s : State) → put (record s { place = c.loop-left.here }) (Some c.in-Some.to) ≡ one_of d c.args.text.now t (record s { place = c.loop-left.here }) =
     λ s. ap (put (record s { place = c.loop-left.here })) (sym c.in-Some.is) ∙ c.one_character.ensures (record s { place = c.loop-left.here }) refl in
@@ -30,7 +30,7 @@ loop-left-preserved c =
 
 pub returns-in_default : goal.returns-in_default
 returns-in_default c = λ s at.
-    let d = direction_of c.args.rules.backwards in
+    let d = direction_if c.args.rules.backwards in
     let t = tree c.args.body.now in
     let h : State = record s { place = c.loop-left.here } in
     let none : put h None ≡ one_of d c.args.text.now t h =
@@ -39,5 +39,5 @@ returns-in_default c = λ s at.
 
 pub returns-after-loop-left : goal.returns-after-loop-left
 returns-after-loop-left c = λ s at.
-    far_end c.args.text.now (direction_of c.args.rules.backwards) (tree c.args.body.now) c.loop-left.left c.args.place (record s { place = c.loop-left.here }) _
+    far_end c.args.text.now (direction_if c.args.rules.backwards) (tree c.args.body.now) c.loop-left.left c.args.place (record s { place = c.loop-left.here }) _
     (omega (arith, c.loop-left-test.false)) (c.loop-left.invariant.same s at)

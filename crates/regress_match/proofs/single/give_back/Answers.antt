@@ -1,10 +1,10 @@
 use Rattle.std.proofs.Common.{◌≡◌, ◌∙◌, ap, sym, None, Some}
 use Rattle.std.specs.Option.{option_map}
-use Rattle.regress_tree.specs.Reading.{next_character, of_bytes}
+use Rattle.regress_tree.specs.Reading.{next_character, of_bytes, direction_if}
 use Rattle.regress_tree.specs.Tree.{leaf, empty}
 use Rattle.regress_match.specs.Captures.{state}
 use Rattle.regress_match.specs.Leaves.{read_of}
-use Rattle.regress_match.specs.Subject.{subject, direction_of}
+use Rattle.regress_match.specs.Subject.{subject}
 use Rattle.regress_match.specs.Turns.{opposite, giving_back}
 use Rattle.regress_match.proofs.DoesLemmas.{goes_on}
 use Rattle.regress_match.proofs.LeafLemmas.{none_of}
@@ -14,13 +14,13 @@ use Rattle.regress_match.proofs.single.give_back.Goals as goal
 
 pub returns-then-place-stop : goal.returns-then-place-stop
 returns-then-place-stop c =
-    let d = direction_of c.args.rules.backwards in
+    let d = direction_if c.args.rules.backwards in
     goes_on (subject c.args.rules c.args.text.now) (giving_back d c.args.text.now c.args.stop) c.args.machine.now c.args.captures.now c.args.place c.args.next c.args.place
     (gives_last c.args.text.now d (leaf empty) c.args.stop (state c.args.captures.now c.args.place) c.if-place-stop.true)
 
 pub returns-in_default : goal.returns-in_default
 returns-in_default c =
-    let d = direction_of c.args.rules.backwards in
+    let d = direction_if c.args.rules.backwards in
     let r = of_bytes c.args.text.now in
     let none : next_character (opposite d) r c.args.place ≡ None =
     ap (λ e. next_character e r c.args.place) (sym (turned_round c.args.rules.backwards)) ∙ sym c.next_read.ensures
@@ -31,7 +31,7 @@ returns-in_default c =
 pub returns : goal.returns
 returns c =
     let u = subject c.args.rules c.args.text.now in
-    let d = direction_of c.args.rules.backwards in
+    let d = direction_if c.args.rules.backwards in
     let r = of_bytes c.args.text.now in
     let f = giving_back d c.args.text.now c.args.stop in
     let m = c.args.machine.now in

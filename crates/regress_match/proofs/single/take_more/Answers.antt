@@ -1,8 +1,9 @@
 use Rattle.std.proofs.Common.{◌≡◌, ◌∙◌, ap, sym, refl, None, Some}
+use Rattle.regress_tree.specs.Reading.{direction_if}
 use Rattle.regress_tree.specs.Tree.{tree}
 use Rattle.regress_match.specs.Captures.{state}
 use Rattle.regress_match.specs.Leaves.{put}
-use Rattle.regress_match.specs.Subject.{subject, direction_of}
+use Rattle.regress_match.specs.Subject.{subject}
 use Rattle.regress_match.specs.Turns.{one_of, taking_more}
 use Rattle.regress_match.proofs.DoesLemmas.{goes_back}
 use Rattle.regress_match.proofs.LeafLemmas.{none_of}
@@ -12,7 +13,7 @@ use Rattle.regress_match.proofs.single.take_more.Goals as goal
 
 pub returns-in_default : goal.returns-in_default
 returns-in_default c =
-    let d = direction_of c.args.rules.backwards in
+    let d = direction_if c.args.rules.backwards in
     let t = tree c.args.body.now in
     let s = state c.args.captures.now c.args.place in
     let none : put s None ≡ one_of d c.args.text.now t s =
@@ -23,7 +24,7 @@ returns-in_default c =
 pub returns : goal.returns
 returns c =
     let u = subject c.args.rules c.args.text.now in
-    let d = direction_of c.args.rules.backwards in
+    let d = direction_if c.args.rules.backwards in
     let t = tree c.args.body.now in
     let s = state c.args.captures.now c.args.place in
     let f = taking_more d c.args.text.now t in

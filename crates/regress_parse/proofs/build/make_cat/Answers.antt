@@ -1,7 +1,7 @@
 use Rattle.std.proofs.Common.{◌<◌, length, ap, ◌∙◌, arith}
+use Rattle.regress_tree.specs.Reading.{direction_if}
 use Rattle.regress_tree.specs.Tree.{cat}
 use Rattle.regress_tree.proofs.laws.Nodes.{tree-Cat}
-use Rattle.regress_syntax.specs.Views.{direction_if}
 use Rattle.regress_parse.proofs.BuildLemmas.{joined-many}
 use Rattle.regress_parse.proofs.build.make_cat.Goals as goal
 
