@@ -1,3 +1,4 @@
+pub mod laws
 pub mod CaptureLemmas
 pub mod UnsetLemmas
 pub mod MachineLemmas

@@ -1,9 +1,10 @@
 -- A search for one match after the other.
-use Rattle.std.specs.Prelude.{◌≡◌, ℕ, ◌+◌, List, length, max}
+use Rattle.std.specs.Prelude.{◌≡◌, ℕ, ◌+◌, List, [], ◌∷◌, length, max}
 use Rattle.regress_tree.specs.Steps.{State}
 use Rattle.regress_tree.specs.Tree.{tree}
 use Rattle.regress_unicode.specs.TableOf.{table_of}
-use Rattle.regress_match.specs.Matched.{outcomes_at, start_of, state_of}
+use Rattle.regress_match.specs.Matched.{IsLeftmost, outcomes_at, start_of, state_of}
+use Rattle.regress_match.specs.declared.matching.Match.{Match}
 use Rattle.regress_match.specs.declared.matching.Outcome.{Outcome}
 use Rattle.regress_match.specs.declared.matching.Outcome.TheVariants as outcomes
 use Rattle.regress_match.specs.declared.search.Matches.{Matches}
@@ -19,10 +20,13 @@ searched_text m = m.text.now
 abbrev pub searched_outcomes : Matches → (place : ℕ) → List State
 searched_outcomes m = outcomes_at (record { flags = m.regex.now.flags; table = table_of m.tables.now }) m.text.now (tree m.regex.now.node)
 
--- Where the next one is looked for behind what was found: behind the match, and at least one byte behind its start, as
--- behind an empty one. Past the text there is none.
+-- Where the next one is looked for: behind the match, and at least one byte behind its start, as behind an empty one.
+abbrev pub place_behind : Match → ℕ
+place_behind m = max (state_of m).place (start_of m + 1)
+
+-- so it is behind what was found, and past the text there is none
 abbrev pub goes_on_from : List ℕ → ℕ → Outcome → ℕ
-goes_on_from text from (outcomes.Matched m) = max (state_of m).place (start_of m + 1)
+goes_on_from text from (outcomes.Matched m) = place_behind m
 goes_on_from text from outcomes.NoMatch = length text + 1
 goes_on_from text from outcomes.OutOfSteps = from
 
@@ -30,3 +34,8 @@ goes_on_from text from outcomes.OutOfSteps = from
 pub record IsSameSearch (old new : Matches) : Type 0 where
   pub text : searched_text new ≡ searched_text old
   pub outcomes : searched_outcomes new ≡ searched_outcomes old
+
+-- These are found one after the other, each the leftmost that there is, and then the search stands at the place `to`.
+abbrev pub AreFound : (text : List ℕ) → (at : ℕ → List State) → (from to : ℕ) → List Match → Type 0
+AreFound text at from to [] = to ≡ from
+AreFound text at from to (m ∷ ms) = IsLeftmost text at from m × AreFound text at (place_behind m) to ms
