@@ -1,1 +1,5 @@
 pub mod JsonLemmas
+pub mod laws
+mod TellingLemmas
+mod PieceLemmas
+mod KindLemmas

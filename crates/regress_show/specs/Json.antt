@@ -3,7 +3,6 @@ use Rattle.std.specs.Prelude.{ℕ, Bool, true, false, List, [], ◌∷◌, ◌++
 use Rattle.std.specs.List.{join_by}
 use Rattle.std.specs.Fmt.{decimal}
 use Rattle.regress_base.specs.Intervals.{Bounds}
-use Rattle.regress_base.specs.declared.types.AnchorType.{AnchorType}
 use Rattle.regress_base.specs.declared.types.Flags.{Flags}
 use Rattle.regress_base.specs.declared.types.Quantifier.{Quantifier}
 use Rattle.regress_tree.specs.Display.{anchored, truth}

@@ -2,5 +2,7 @@
 #![tactic(auto)]
 
 mod json;
+mod law;
 
 pub use json::Json;
+pub use law::json_tells_the_pattern;
