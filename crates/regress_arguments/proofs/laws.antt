@@ -1,0 +1,2 @@
+-- Laws of this crate's definitions, which the crates above may cite.
+pub mod Output
