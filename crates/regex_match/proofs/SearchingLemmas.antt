@@ -1,11 +1,154 @@
--- A search goes on further to the right.
-use Rattle.std.proofs.Common.{◌≡◌, ◌+◌, ◌-◌, ◌<◌, length, max, ap, arith}
-use Rattle.regress_match.specs.Matched.{IsLeftmost, start_of, state_of}
-use Rattle.regress_match.specs.Searched.{next_from, searched_outcomes, searched_text}
+-- A search goes on further to the right, with a line for each match.
+use Rattle.std.proofs.Common.{◌≡◌, ℕ, ◌+◌, ◌-◌, ◌<◌, Bool, true, false, List, [], ◌∷◌, ◌++◌, Option, Some, None, inl, inr, map, length, max, not-suc-le-zero, refl, sym, ap, subst, arith, ◌∙◌, flat_map}
+use Rattle.std.proofs.lemmas.List.{append-nil, flat_map_more, get_or-map, length-map}
+use Rattle.std.specs.Io.KnownBytes.{Appends, Keeps}
+use Rattle.std.specs.List.Sorted.{IsNonDecreasingBy, IsPermutation}
+use Rattle.std.specs.Prelude.{Result, Ok, Err, IfOk, IfErr, IfSome}
+use Rattle.regress_arguments.proofs.laws.Output.{appends_both, appends_kept}
+use Rattle.regress_arguments.specs.Output.{Took}
+use Rattle.regress_front.specs.Setting.{Setting}
+use Rattle.regress_front.specs.Tree.{Tree}
+use Rattle.regress_front.specs.WellFormed.{Capture, captures}
+use Rattle.regress_match.specs.Matched.{Finds, IsLeftmost, outcomes_at, start_of, state_of}
+use Rattle.regress_match.specs.Names.{capture_of}
+use Rattle.regress_match.specs.Searched.{AreFound, IsSameSearch, place_behind, next_from, searched_outcomes, searched_text}
 use Rattle.regress_match.specs.declared.matching.Match.{Match}
+use Rattle.regress_match.specs.declared.matching.Outcome.TheVariants as outcomes
+use Rattle.regress_match.specs.declared.names.Group.{Group}
 use Rattle.regress_match.specs.declared.search.Matches.{Matches}
+use Rattle.regress_match.proofs.laws.Searched.{AreFound-more}
+use Rattle.regex_match.specs.Lines.{line}
+use Rattle.regex_match.specs.Ending.{Leaves}
+use Rattle.regex_match.specs.Printed.{AreLines, AreLinesOf, WritesAll, WritesFirst, WritesRest, WritesSome, has_some}
+use Rattle.regex_match.specs.declared.failure.Failure.{Failure}
+use Rattle.regex_match.specs.declared.failure.Failure.TheVariants.{Usage, Memory, Output, Syntax, OutOfSteps, Input}
 
 pub further : (old new : Matches) (m : Match) → IsLeftmost (searched_text old) (searched_outcomes old) (next_from old) m →
-    next_from new ≡ max (state_of m).place (start_of m + 1) → searched_text new ≡ searched_text old →
+    next_from new ≡ place_behind m → searched_text new ≡ searched_text old →
     length (searched_text new) + 2 - next_from new < length (searched_text old) + 2 - next_from old
 further old new m found next same = omega (arith, found.from, found.boundary.0, next, ap length same)
+
+-- what is found and written while one search becomes the other
+pub record Progress (old new : Matches) (groups : List Capture) (before after : Option (List ℕ)) (any : Bool) : Type 0 where
+  pub found : List Match
+  pub some : has_some found ≡ any
+  pub same : IsSameSearch old new
+  pub chain : AreFound (searched_text old) (searched_outcomes old) (next_from old) (next_from new) found
+  pub written : Appends before after (flat_map (line groups) found)
+
+appends_nothing : (known : Option (List ℕ)) → Appends known known []
+appends_nothing None = tt
+appends_nothing (Some bytes) = sym (append-nil bytes)
+
+has_some-more : (ms : List Match) (m : Match) → has_some (ms ++ m ∷ []) ≡ true
+has_some-more [] m = refl
+has_some-more (first ∷ ms) m = refl
+
+lines-more : (groups : List Capture) (ms : List Match) (m : Match) →
+    flat_map (line groups) ms ++ line groups m ≡ flat_map (line groups) (ms ++ m ∷ [])
+lines-more groups ms m = flat_map_more (line groups) [] ms m
+
+pub begins : (m : Matches) (groups : List Capture) (before : Option (List ℕ)) → Progress m m groups before before false
+begins m groups before = record {
+  found = [];
+  some = refl;
+  same = record { text = refl; outcomes = refl };
+  chain = refl;
+  written = appends_nothing before;
+}
+
+-- the ids of the listed groups
+sorted-map : (groups : List Group) → IsNonDecreasingBy (λ group. group.id) groups →
+    IsNonDecreasingBy (λ group. group.id) (map capture_of groups)
+sorted-map [] sorted = λ i j d up within. absurd (not-suc-le-zero within)
+sorted-map (first ∷ groups) sorted = λ i j d up within.
+    let all = first ∷ groups in
+    let in_all : j < length all = omega (arith, within, length-map all capture_of) in
+    let one = ap (λ c. c.id) (get_or-map capture_of all i first d (omega (arith, in_all, up))) in
+    let two = ap (λ c. c.id) (get_or-map capture_of all j first d in_all) in
+    omega (arith, one, two, sorted i j first up in_all)
+
+module _ (old now : Matches) (groups : List Capture) (before between : Option (List ℕ)) (any : Bool)
+    (sofar : Progress old now groups before between any) where
+  pub goes_on : (new : Matches) (m : Match) (after : Option (List ℕ)) →
+      IsLeftmost (searched_text now) (searched_outcomes now) (next_from now) m → next_from new ≡ place_behind m → IsSameSearch now new →
+      Appends between after (line groups m) → Progress old new groups before after true
+  goes_on new m after found next same line_written =
+      let text = searched_text old in
+      let at = searched_outcomes old in
+      let here : IsLeftmost text at (next_from now) m =
+      subst (λ t. IsLeftmost t at (next_from now) m) sofar.same.text
+      (subst (λ f. IsLeftmost (searched_text now) f (next_from now) m) sofar.same.outcomes found) in
+      record {
+        found = sofar.found ++ m ∷ [];
+        some = has_some-more sofar.found m;
+        same = record { text = same.text ∙ sofar.same.text; outcomes = same.outcomes ∙ sofar.same.outcomes };
+        chain = subst (λ k. AreFound text at (next_from old) k (sofar.found ++ m ∷ [])) (sym next)
+            (AreFound-more text at (next_from old) (next_from now) sofar.found m sofar.chain here);
+        written = subst (λ bytes. Appends before after bytes) (lines-more groups sofar.found m)
+            (appends_both before between after (flat_map (line groups) sofar.found) (line groups m) sofar.written line_written);
+      }
+
+  lines : (ended : Bool) → (ended ≡ true → Finds (searched_text now) (searched_outcomes now) (next_from now) outcomes.NoMatch) →
+      Took before between (AreLines (searched_text old) (searched_outcomes old) (next_from old) groups ended sofar.found)
+  lines ended none = (
+    flat_map (line groups) sofar.found,
+    record {
+      to = next_from now;
+      chain = sofar.chain;
+      none = λ is.
+          subst (λ t. Finds t (searched_outcomes old) (next_from now) outcomes.NoMatch) sofar.same.text
+          (subst (λ f. Finds (searched_text now) f (next_from now) outcomes.NoMatch) sofar.same.outcomes (none is));
+      lines = refl;
+    },
+    sofar.written,
+  )
+
+  -- none is left
+  pub all : Finds (searched_text now) (searched_outcomes now) (next_from now) outcomes.NoMatch → WritesRest old groups before between any
+  all none = (sofar.found, sofar.some, lines true (λ is. none))
+
+  -- more may be left
+  pub first : WritesSome old groups before between
+  first = (sofar.found, lines false (λ is. let bad : ⊥ = cc in absurd bad))
+
+-- The lines of a search that was made of a tree and a text are those of the tree.
+module _ (setting : Setting) (t : Tree) (m : Matches) (groups : List Group) (input old between new : Option (List ℕ))
+    (is_outcomes : searched_outcomes m ≡ outcomes_at setting (searched_text m) t) (is_from : next_from m ≡ 0)
+    (read : IfSome input (λ known. searched_text m ≡ known)) (listed : IsPermutation (captures t) (map capture_of groups))
+    (sorted : IsNonDecreasingBy (λ group. group.id) groups) (kept : Keeps between new) where
+  lines_of : (ended : Bool) (found : List Match) →
+      Took old between (AreLines (searched_text m) (searched_outcomes m) (next_from m) (map capture_of groups) ended found) →
+      Took old new (AreLinesOf setting t input ended found)
+  lines_of ended found took = (
+    took.0,
+    record {
+      text = searched_text m;
+      read = read;
+      groups = map capture_of groups;
+      listed = listed;
+      sorted = sorted-map groups sorted;
+      lines = subst (λ k. AreLines (searched_text m) (outcomes_at setting (searched_text m) t) k (map capture_of groups) ended found took.0) is_from
+          (subst (λ f. AreLines (searched_text m) f (next_from m) (map capture_of groups) ended found took.0) is_outcomes took.1);
+    },
+    appends_kept old between new took.0 took.2 kept,
+  )
+
+  pub all_of : (r : Result Bool Failure) → IfOk r (WritesRest m (map capture_of groups) old between) → IfOk r (WritesAll setting t input old new)
+  all_of (Ok any) h = (h.0, h.1, lines_of true h.0 h.2)
+  all_of (Err failure) h = tt
+
+  left : (nothing : Type 0) (failure : Failure) → Leaves ⊥ (WritesSome m (map capture_of groups) old between) failure →
+      Leaves nothing (WritesFirst setting t input old new) failure
+  left nothing Usage h = absurd h
+  left nothing Memory (inl h) = absurd h
+  left nothing Memory (inr h) = inr (h.0, lines_of false h.0 h.1)
+  left nothing Output h = tt
+  left nothing (Syntax e place) h = absurd h
+  left nothing OutOfSteps h = (h.0, lines_of false h.0 h.1)
+  left nothing Input h = absurd h
+
+  pub first_of : (nothing : Type 0) (r : Result Bool Failure) → IfErr r (Leaves ⊥ (WritesSome m (map capture_of groups) old between)) →
+      IfErr r (Leaves nothing (WritesFirst setting t input old new))
+  first_of nothing (Ok any) h = tt
+  first_of nothing (Err failure) h = left nothing failure h

@@ -1,5 +1,5 @@
 -- How a run of the program ends.
-use Rattle.std.specs.Prelude.{◌≡◌, ℕ, Bool, true, Option, Some, None, Result, Ok, Err}
+use Rattle.std.specs.Prelude.{◌≡◌, ◌⊎◌, ℕ, Bool, true, Option, Some, None, Result, Ok, Err}
 use Rattle.regress_front.specs.declared.parse.PlacedFault.{PlacedFault}
 use Rattle.regress_front.specs.declared.parse.PlacedFault.TheVariants as fault
 use Rattle.regress_arguments.specs.Request.{Request}
@@ -31,10 +31,21 @@ IsDue accepted none (Syntax e place) = none
 IsDue accepted none OutOfSteps = accepted
 IsDue accepted none Input = accepted
 
--- What a run answers: nothing is asked, or the help is there, or the pattern is accepted, or a failure is due.
-abbrev pub Ends : Option Task → Result Bool Failure → Type 0
-Ends None r = r ≡ Err Usage
-Ends (Some help) (Ok any) = any ≡ true
-Ends (Some help) (Err failure) = failure ≡ Output
-Ends (Some (matches request)) (Ok any) = IsAcceptedPattern request
-Ends (Some (matches request)) (Err failure) = IsDue (IsAcceptedPattern request) (NoneIsAccepted request) failure
+-- What a failure leaves written: nothing, or the lines of the first matches. Where the output fails that isn't said.
+abbrev pub Leaves : (nothing first : Type 0) → Failure → Type 0
+Leaves nothing first Usage = nothing
+Leaves nothing first Memory = nothing ⊎ first
+Leaves nothing first Output = Unit {0}
+Leaves nothing first (Syntax e place) = nothing
+Leaves nothing first OutOfSteps = first
+Leaves nothing first Input = nothing
+
+-- What a run comes to: nothing is asked, or the help is there, or all matches are printed, or a failure is due.
+abbrev pub Ends : (all : Bool → Request → Type 0) → (first : Request → Type 0) → (nothing : Type 0) → Option Task →
+    Result Bool Failure → Type 0
+Ends all first nothing None r = (r ≡ Err Usage) × nothing
+Ends all first nothing (Some help) (Ok any) = any ≡ true
+Ends all first nothing (Some help) (Err failure) = failure ≡ Output
+Ends all first nothing (Some (matches request)) (Ok any) = all any request
+Ends all first nothing (Some (matches request)) (Err failure) =
+    IsDue (IsAcceptedPattern request) (NoneIsAccepted request) failure × Leaves nothing (first request) failure

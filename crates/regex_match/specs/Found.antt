@@ -8,6 +8,7 @@ use Rattle.regress_front.specs.Source.{Source}
 use Rattle.regress_front.specs.Steps.{byte_state}
 use Rattle.regress_front.specs.Syntax.{Pattern}
 use Rattle.regress_front.specs.Tree.{Tree}
+use Rattle.regress_front.specs.TreeOf.{tree_of}
 use Rattle.regress_front.specs.WellFormed.{captures}
 use Rattle.regress_match.specs.Matched.{no_groups, outcomes_at}
 
@@ -18,6 +19,9 @@ FindsWhatMeans setting t p = (text : List ℕ) (k : ℕ) → IsText text → k �
     outcomes_at setting (encode_utf8_all text) t (byte_place text k)
     ≡ map (byte_state text) (meaning setting text forwards p (no_groups (length (captures t)) k))
 
--- so does the tree for the pattern that the source stands for
-abbrev pub FindsWhatIsAccepted : Setting → Source → Tree → Type 0
-FindsWhatIsAccepted setting source t = (p : Pattern) → IsAccepted setting source p → FindsWhatMeans setting t p
+-- A tree that finds what the accepted pattern means, and has its groups.
+pub record IsTreeOf (setting : Setting) (source : Source) (t : Tree) : Type 0 where
+  pub pattern : Pattern
+  pub accepted : IsAccepted setting source pattern
+  pub finds : FindsWhatMeans setting t pattern
+  pub captures : captures t ≡ captures (tree_of setting.table pattern)

@@ -1,6 +1,7 @@
 //! Why a run ends with another status than 0 or 1.
 ghost use Rattle.std.specs.Prelude.{◌≡◌};
 ghost use Rattle.regex_match.specs.Ending.{status_of};
+ghost use Rattle.regex_match.specs.declared.failure.Failure.TheVariants.{Output};
 
 use regress_front::parse::{Error, PlacedFault};
 use std::alloc::AllocError;
@@ -51,7 +52,8 @@ impl From<PlacedFault> for Failure {
 
 /// Writes what a failure has to say to `err`, and answers its status. A failing write changes nothing.
 pub(crate) fn tell<E: Write>(failure: Failure, err: &mut E) -> u8
-    ensures { result ≡ status_of failure }
+    ensures status { result ≡ status_of failure }
+    ensures quiet { failure ≡ Output → err.new ≡ err.old }
 {
     match failure {
         Failure::Usage => {

@@ -3,10 +3,12 @@
 //! status 2 and the usage. Want of memory for the arguments or the buffer is status 3, as elsewhere.
 #![tactic(auto)]
 
-ghost use Rattle.std.specs.Prelude.{◌≡◌, ◌≤◌, ◌↔◌, Some, None, IfSome};
+ghost use Rattle.std.specs.Prelude.{◌≡◌, ◌≤◌, ◌↔◌, ◌⊎◌, true, false, None, IfSome, IfOk, IfErr};
 ghost use Rattle.regex_match.specs.Accepted.{IsAcceptedPattern, NoneIsAccepted};
-ghost use Rattle.regex_match.specs.Asked.{OfPattern, OrHelp, help, task_of};
+ghost use Rattle.regex_match.specs.Asked.{OfPattern, OrHelp, task_of};
 ghost use Rattle.regex_match.specs.Ending.{Ends};
+ghost use Rattle.regex_match.specs.Printed.{PrintsAll, PrintsFirst};
+ghost use Rattle.regex_match.specs.declared.failure.Failure.TheVariants.{Output};
 
 mod asked;
 mod failure;
@@ -79,10 +81,22 @@ pub fn run_match<I: Read + Drop, W: Write, E: Write>(
     ensures known { result ≤ 7 }
     ensures usage { (result ≡ 2) ↔ (task_of args.now ≡ None) }
 
-    // The pattern is one exactly as the status says, under its flags and the whole of Unicode.
-    ensures found { result ≡ 0 → IfSome (task_of args.now) (OrHelp IsAcceptedPattern) }
-    ensures none { result ≡ 1 → IfSome (task_of args.now) (OfPattern IsAcceptedPattern) }
+    // All matches of the pattern, byte for byte, under its flags and the whole of Unicode: some, or none.
+    ensures found { result ≡ 0 → IfSome (task_of args.now)
+        (OrHelp (PrintsAll (I.remaining input) (W.contents out.old) (W.contents out.new) true)) }
+    ensures none { result ≡ 1 → IfSome (task_of args.now)
+        (OfPattern (PrintsAll (I.remaining input) (W.contents out.old) (W.contents out.new) false)) }
+    // The first ones, where the steps were used up; nothing or these, where memory was wanting.
+    ensures steps { result ≡ 6 → IfSome (task_of args.now)
+        (OfPattern (PrintsFirst (I.remaining input) (W.contents out.old) (W.contents out.new))) }
+    ensures wanting { result ≡ 3 → (out.new ≡ out.old) ⊎ IfSome (task_of args.now)
+        (OfPattern (PrintsFirst (I.remaining input) (W.contents out.old) (W.contents out.new))) }
+    ensures untouched { (result ≡ 2) ⊎ ((result ≡ 5) ⊎ (result ≡ 7)) → out.new ≡ out.old }
+    ensures quiet { (result ≡ 0) ⊎ ((result ≡ 1) ⊎ (result ≡ 4)) → err.new ≡ err.old }
+
+    // No such pattern is accepted, or one is.
     ensures refused { result ≡ 5 → IfSome (task_of args.now) (OfPattern NoneIsAccepted) }
+    ensures accepted { (result ≡ 4) ⊎ (result ≡ 7) → IfSome (task_of args.now) (OrHelp IsAcceptedPattern) }
 {
     match answer(alloc, args, input, out) {
         Ok(true) => 0,
@@ -98,7 +112,9 @@ fn answer<I: Read + Drop, W: Write>(
     input: I,
     out: &mut W,
 ) -> Result<bool, Failure>
-    ensures { Ends (task_of args.now) result }
+    ensures { Ends (PrintsAll (I.remaining input) (W.contents out.old) (W.contents out.new))
+        (PrintsFirst (I.remaining input) (W.contents out.old) (W.contents out.new)) (out.new ≡ out.old)
+        (task_of args.now) result }
 {
     match read_asked(args) {
         None => Err(Failure::Usage),
@@ -138,14 +154,10 @@ status:
 
 /// Prints the help.
 fn print_help<W: Write>(out: &mut W) -> Result<bool, Failure>
-    ensures { Ends (Some help) result }
+    ensures help { IfOk result (λ any. any ≡ true) }
+    ensures failed { IfErr result (λ failure. failure ≡ Output) }
 {
-    match out.write_all(HELP.as_bytes()) {
-        Ok(()) => {}
-        Err(_) => return Err(Failure::Output),
-    }
-    match out.flush() {
-        Ok(()) => Ok(true),
-        Err(_) => Err(Failure::Output),
-    }
+    out.write_all(HELP.as_bytes()).map_err(|_| Failure::Output)?;
+    out.flush().map_err(|_| Failure::Output)?;
+    Ok(true)
 }

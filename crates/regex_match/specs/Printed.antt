@@ -1,0 +1,73 @@
+-- What is printed of a text.
+use Rattle.std.specs.Prelude.{◌≡◌, ℕ, Bool, true, false, List, [], ◌∷◌, flat_map, Option, IfSome}
+use Rattle.std.specs.List.Sorted.{IsNonDecreasingBy, IsPermutation}
+use Rattle.regress_arguments.specs.Output.{Took}
+use Rattle.regress_arguments.specs.Request.{Request}
+use Rattle.regress_front.specs.Setting.{Setting}
+use Rattle.regress_front.specs.Steps.{State}
+use Rattle.regress_front.specs.Tree.{Tree}
+use Rattle.regress_front.specs.WellFormed.{Capture, captures}
+use Rattle.regress_match.specs.Matched.{Finds, outcomes_at}
+use Rattle.regress_match.specs.Searched.{AreFound, next_from, searched_outcomes, searched_text}
+use Rattle.regress_match.specs.declared.matching.Match.{Match}
+use Rattle.regress_match.specs.declared.matching.Outcome.TheVariants as outcomes
+use Rattle.regress_match.specs.declared.search.Matches.{Matches}
+use Rattle.regex_match.specs.Accepted.{setting_of_request}
+use Rattle.regex_match.specs.Found.{IsTreeOf}
+use Rattle.regex_match.specs.Lines.{line}
+
+-- The lines of the matches from a place on, in their order: where the search ended, all of them, else the first ones.
+pub record AreLines (text : List ℕ) (at : ℕ → List State) (from : ℕ) (groups : List Capture) (ended : Bool) (found : List Match)
+    (bytes : List ℕ) : Type 0 where
+  pub to : ℕ
+  pub chain : AreFound text at from to found
+  pub none : ended ≡ true → Finds text at to outcomes.NoMatch
+  pub lines : bytes ≡ flat_map (line groups) found
+
+-- the lines of a tree's matches in what was read, each with the groups in the order of their ids
+pub record AreLinesOf (setting : Setting) (t : Tree) (input : Option (List ℕ)) (ended : Bool) (found : List Match)
+    (bytes : List ℕ) : Type 0 where
+  pub text : List ℕ
+  pub read : IfSome input (λ known. text ≡ known)
+  pub groups : List Capture
+  pub listed : IsPermutation (captures t) groups
+  pub sorted : IsNonDecreasingBy (λ group. group.id) groups
+  pub lines : AreLines text (outcomes_at setting text t) 0 groups ended found bytes
+
+-- those of the tree of an accepted pattern
+pub record IsPrinted (request : Request) (input : Option (List ℕ)) (ended : Bool) (found : List Match) (bytes : List ℕ) : Type 0 where
+  pub tree : Tree
+  pub good : IsTreeOf (setting_of_request request) request.0 tree
+  pub lines : AreLinesOf (setting_of_request request) tree input ended found bytes
+
+abbrev pub has_some : List Match → Bool
+has_some [] = false
+has_some (m ∷ ms) = true
+
+-- All matches were printed, and there were some or none.
+abbrev pub PrintsAll : (input old new : Option (List ℕ)) → (any : Bool) → Request → Type 0
+PrintsAll input old new any request =
+    (found : List Match) × (has_some found ≡ any) × Took old new (IsPrinted request input true found)
+
+-- the first ones were
+abbrev pub PrintsFirst : (input old new : Option (List ℕ)) → Request → Type 0
+PrintsFirst input old new request = (found : List Match) × Took old new (IsPrinted request input false found)
+
+-- the lines of what a tree finds were written: of all matches, of which there were some or none
+abbrev pub WritesAll : Setting → Tree → (input old new : Option (List ℕ)) → (any : Bool) → Type 0
+WritesAll setting t input old new any =
+    (found : List Match) × (has_some found ≡ any) × Took old new (AreLinesOf setting t input true found)
+
+-- of the first ones
+abbrev pub WritesFirst : Setting → Tree → (input old new : Option (List ℕ)) → Type 0
+WritesFirst setting t input old new = (found : List Match) × Took old new (AreLinesOf setting t input false found)
+
+-- the lines of what a search has still to find were written: of all of it
+abbrev pub WritesRest : Matches → List Capture → (old new : Option (List ℕ)) → (any : Bool) → Type 0
+WritesRest m groups old new any = (found : List Match) × (has_some found ≡ any)
+    × Took old new (AreLines (searched_text m) (searched_outcomes m) (next_from m) groups true found)
+
+-- of what comes first
+abbrev pub WritesSome : Matches → List Capture → (old new : Option (List ℕ)) → Type 0
+WritesSome m groups old new = (found : List Match)
+    × Took old new (AreLines (searched_text m) (searched_outcomes m) (next_from m) groups false found)
