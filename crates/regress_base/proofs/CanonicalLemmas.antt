@@ -1,5 +1,5 @@
 -- Canonical lists.
-use Rattle.std.proofs.Common.{◌≡◌, ℕ, ◌+◌, ◌<◌, ◌≤◌, true, false, inl, inr, IsTrue, nat_le, List, [], ◌∷◌, ◌++◌, length, drop, get_or, refl, ◌∙◌, sym, suc, zero, le_of_suc-le-suc, not-suc-le-zero, arith, leb-true}
+use Rattle.std.proofs.Common.{◌≡◌, ℕ, ◌+◌, ◌<◌, ◌≤◌, true, false, inl, inr, IsTrue, nat_le, List, [], ◌∷◌, ◌++◌, length, drop, get_or, refl, ◌∙◌, sym, suc, zero, le_refl, le_of_suc-le-suc, not-suc-le-zero, arith, leb-true}
 use Rattle.std.proofs.lemmas.Bool.{and_parts, and_from, or_cases, le-leb, false≢true, false_from_ne_true}
 use Rattle.regress_base.specs.Intervals.{Bounds, IsInterval, code_point_max, is_within, is_member, is_canonical_from, IsCanonical}
 use Rattle.regress_base.proofs.WithinLemmas.{is_within-true}
@@ -35,6 +35,13 @@ canonical_lower low low' [] h can = refl
 canonical_lower low low' (iv ∷ ivs) h can =
     let p = canonical_parts low iv ivs can in
     canonical_cons low' iv ivs (record { above = omega arith; interval = p.interval; rest = p.rest })
+
+-- a list begins with its first interval
+pub from_first : (low : ℕ) (iv : Bounds) (ivs : List Bounds) → IsTrue (is_canonical_from low (iv ∷ ivs))
+    → IsTrue (is_canonical_from iv.first (iv ∷ ivs))
+from_first low iv ivs can =
+    let p = canonical_parts low iv ivs can in
+    canonical_cons iv.first iv ivs (record { above = le_refl iv.first; interval = p.interval; rest = p.rest })
 
 -- where the next interval may begin
 unfoldable pub next_low : ℕ → List Bounds → ℕ

@@ -6,14 +6,7 @@ use Rattle.std.proofs.lemmas.Bool.{cases_lt, or_left, or_from, and_parts, and_fr
 use Rattle.regress_base.specs.Intervals.{Bounds, bounds_eq, is_member, is_canonical_from, IsCanonical, code_point_max}
 use Rattle.regress_base.proofs.WithinLemmas.{pair, le-is_within, gt-is_within}
 use Rattle.regress_base.proofs.MemberLemmas.{is_member-nil, is_member-cons, is_member-one}
-use Rattle.regress_base.proofs.CanonicalLemmas.{canonical_parts, canonical_cons, member_above, no_member_below, no_member_past_end}
-
--- the first interval of a list that begins there
-from_first : (low : ℕ) (iv : Bounds) (ivs : List Bounds) → IsTrue (is_canonical_from low (iv ∷ ivs))
-    → IsTrue (is_canonical_from iv.first (iv ∷ ivs))
-from_first low iv ivs can =
-    let p = canonical_parts low iv ivs can in
-    canonical_cons iv.first iv ivs (record { above = le_refl iv.first; interval = p.interval; rest = p.rest })
+use Rattle.regress_base.proofs.CanonicalLemmas.{canonical_parts, from_first, member_above, no_member_below, no_member_past_end}
 
 first_is_member : (low : ℕ) (iv : Bounds) (ivs : List Bounds) → IsTrue (is_canonical_from low (iv ∷ ivs))
     → is_member (iv ∷ ivs) iv.first ≡ true

@@ -3,7 +3,7 @@ use Rattle.std.specs.Prelude.{◌≡◌, ℕ, zero, suc, ◌+◌, ◌<◌, ◌�
 use Rattle.std.specs.List.{AllWithin}
 use Rattle.std.specs.Ordering.{on, eq_of_both}
 
--- the greatest code point (Unicode Standard, section 3.4, definition D9)
+-- the greatest code point (Unicode Standard, section 3.4, code point)
 abbrev pub code_point_max : ℕ
 code_point_max = 0x10FFFF
 

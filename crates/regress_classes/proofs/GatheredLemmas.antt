@@ -1,14 +1,13 @@
 -- What is gathered: a set, and the intervals behind it in the order in which they are written.
-use Rattle.std.proofs.Common.{◌+◌, ◌<◌, ◌≤◌, ◌⊎◌, max, suc, IsTrue, nat_le, get_or, ap₂, subst, ◌≡◌, ℕ, Bool, true, false, ◌||◌, List, [], ◌∷◌, ◌++◌, IsPermutation, refl, sym, ap, ◌∙◌, arith}
+use Rattle.std.proofs.Common.{◌+◌, ◌<◌, ◌≤◌, max, suc, IsTrue, get_or, ap₂, subst, ◌≡◌, ℕ, Bool, true, false, ◌||◌, List, [], ◌∷◌, ◌++◌, IsPermutation, refl, sym, ap, ◌∙◌, arith}
 use Rattle.std.specs.Prelude.{MatchBool}
 use Rattle.std.specs.List.{list_any}
 use Rattle.std.specs.List.Retain.{DedupsFrom, IsDeduped}
 use Rattle.std.specs.List.Sorted.{IsNonDecreasingBy}
-use Rattle.std.proofs.lemmas.Bool.{and_from, le-leb}
 use Rattle.std.proofs.lemmas.Bool.Decides.{nat_tests}
 use Rattle.std.proofs.lemmas.List.Sorted.{list_any-IsPermutation}
-use Rattle.regress_base.specs.Intervals.{Bounds, IsInterval, code_point_max, is_within, is_member, is_canonical_from, IsCanonical}
-use Rattle.regress_base.proofs.laws.Sets.{or_assoc, is_member-cons, is_member-one, is_member-append}
+use Rattle.regress_base.specs.Intervals.{Bounds, IsInterval, is_within, is_member, is_canonical_from, IsCanonical}
+use Rattle.regress_base.proofs.laws.Sets.{or_assoc, is_within_tells, canonical_cons, is_member-cons, is_member-one, is_member-append}
 use Rattle.regress_classes.specs.ClassViews.{HasMembers}
 
 -- an interval more
@@ -70,12 +69,6 @@ ascends_from iv [] h = tt
 ascends_from iv (next ∷ ivs) h =
     (h 0 1 iv (omega arith) (omega arith), ascends_from next ivs (λ i j d le lt. h (suc i) (suc j) d (omega arith) (omega arith)))
 
--- the test with the facts that it stands for
-is_within_tells : (iv : Bounds) (c : ℕ)
-    → ((is_within iv c ≡ true) × (iv.first ≤ c) × (c ≤ iv.last)) ⊎ ((is_within iv c ≡ false) × ((c < iv.first) ⊎ (iv.last < c)))
-unfolding is_within
-is_within_tells iv c = grind (arith, nat_tests)
-
 -- the interval that goes to the end of the next one too
 abbrev pub reaching : (last next : Bounds) → Bounds
 reaching last next = record { first = last.first; last = max last.last next.last }
@@ -88,13 +81,6 @@ reaching_members last next c order near =
 reaching_interval : (last next : Bounds) → IsInterval last → IsInterval next → IsInterval (reaching last next)
 reaching_interval last next a b = record { ordered = omega (arith, a.ordered); in_range = omega (arith, a.in_range, b.in_range) }
 
-canonical_cons : (low : ℕ) (iv : Bounds) (ivs : List Bounds) → low ≤ iv.first → IsInterval iv → IsTrue (is_canonical_from (iv.last + 2) ivs) →
-    IsTrue (is_canonical_from low (iv ∷ ivs))
-canonical_cons low iv ivs above interval rest =
-    and_from (nat_le low iv.first) _ (le-leb low iv.first above)
-    (and_from (nat_le iv.first iv.last) _ (le-leb iv.first iv.last interval.ordered)
-    (and_from (nat_le iv.last code_point_max) _ (le-leb iv.last code_point_max interval.in_range) rest))
-
 module _ {S : Type 0} (R : S → Bounds → Bounds → Bool → S → Bounds → Bounds → Type 0)
     (next_interval : (s : S) (x k : Bounds) (b : Bool) (t : S) (x' k' : Bounds) → R s x k b t x' k' → IsInterval x)
     (next_stays : (s : S) (x k : Bounds) (b : Bool) (t : S) (x' k' : Bounds) → R s x k b t x' k' → x' ≡ x)
@@ -103,7 +89,8 @@ module _ {S : Type 0} (R : S → Bounds → Bounds → Bool → S → Bounds →
   canonical_behind : (low : ℕ) (s : S) (k : Bounds) (xs ys : List Bounds) → DedupsFrom R s k xs ys → IsInterval k → low ≤ k.first →
       IsTrue (is_canonical_from low ys)
   canonical_behind low s k [] ys is interval above =
-      subst (λ (l : List Bounds). IsTrue (is_canonical_from low l)) (sym is) (canonical_cons low k [] above interval refl)
+      subst (λ (l : List Bounds). IsTrue (is_canonical_from low l)) (sym is)
+      (canonical_cons low k [] (record { above = above; interval = interval; rest = refl }))
   canonical_behind low s k (x ∷ xs) ys (true, t, x', k', r, rest) interval above =
       let joined = (reaches s x k true t x' k' r).1 in
       canonical_behind low t k' xs ys rest
@@ -113,9 +100,12 @@ module _ {S : Type 0} (R : S → Bounds → Bounds → Bool → S → Bounds →
       let apart = reaches s x k false t x' k' r in
       let same = next_stays s x k false t x' k' r in
       subst (λ (l : List Bounds). IsTrue (is_canonical_from low l)) (sym (is ∙ ap (λ (iv : Bounds). iv ∷ zs) apart.1))
-      (canonical_cons low k zs above interval
-      (canonical_behind (k.last + 2) t x' xs zs rest (subst IsInterval (sym same) (next_interval s x k false t x' k' r))
-      (subst (λ (iv : Bounds). k.last + 2 ≤ iv.first) (sym same) (omega (arith, apart.0)))))
+      (canonical_cons low k zs (record {
+        above = above;
+        interval = interval;
+        rest = canonical_behind (k.last + 2) t x' xs zs rest (subst IsInterval (sym same) (next_interval s x k false t x' k' r))
+            (subst (λ (iv : Bounds). k.last + 2 ≤ iv.first) (sym same) (omega (arith, apart.0)));
+      }))
 
   members_behind : (s : S) (k : Bounds) (xs ys : List Bounds) → DedupsFrom R s k xs ys → Ascends k.first xs → (c : ℕ) →
       is_member ys c ≡ (is_within k c || is_member xs c)

@@ -1,13 +1,12 @@
 -- Trees with `^` in front.
-use Rattle.std.proofs.Common.{◌≡◌, ◌==◌, ℕ, Bool, true, false, ◌||◌, List, [], ◌∷◌, ◌++◌, flat_map, map, Option, ap, ap₂, arith, if◌then◌else◌}
+use Rattle.std.proofs.Common.{◌≡◌, ◌==◌, ℕ, Bool, true, false, ◌||◌, List, [], ◌∷◌, ◌++◌, map, Option, ap, ap₂, arith, if◌then◌else◌}
 use Rattle.std.proofs.lemmas.Bool.{false≢true}
 use Rattle.regress_base.specs.declared.types.AnchorType.{AnchorType}
 use Rattle.regress_base.specs.declared.types.AnchorType.TheVariants.{StartOfLine, EndOfLine}
 use Rattle.regress_tree.specs.Assertions.{at_anchor}
-use Rattle.regress_tree.specs.Matching.{steps_in_row}
-use Rattle.regress_tree.specs.Reading.{forwards, of_bytes}
+use Rattle.regress_tree.specs.Reading.{of_bytes}
 use Rattle.regress_tree.specs.Steps.{State, capture, captured, hold_at}
-use Rattle.regress_tree.specs.Tree.{Tree, Trees, more_trees, leaf, anchor, cat, alt, wrapped, capture_group}
+use Rattle.regress_tree.specs.Tree.{Tree, leaf, anchor, alt, wrapped, capture_group}
 use Rattle.regress_prefilter.specs.Candidates.{is_start, IsAnchored}
 
 held-not : (test : ℕ → Bool) (s : State) → test s.place ≡ false → hold_at test s ≡ []
@@ -23,9 +22,6 @@ anchored-leaf StartOfLine false is =
     held-not (at_anchor (of_bytes bytes) StartOfLine false) s (ap (λ b. b || false) (not-zero s.place some))
 anchored-leaf StartOfLine true is = absurd (false≢true is)
 anchored-leaf EndOfLine multiline is = absurd (false≢true is)
-
-pub anchored-row : (t : Tree) (ts : Trees) → IsAnchored t → IsAnchored (cat (more_trees t ts))
-anchored-row t ts is = λ setting bytes s some. ap (flat_map (steps_in_row setting bytes forwards ts)) (is setting bytes s some)
 
 pub anchored-alt : (left right : Tree) → IsAnchored left → IsAnchored right → IsAnchored (alt left right)
 anchored-alt left right is is' = λ setting bytes s some. ap₂ (λ a b. a ++ b) (is setting bytes s some) (is' setting bytes s some)

@@ -1,12 +1,12 @@
 -- What parts begin with, by what they are made of.
-use Rattle.std.proofs.Common.{◌≡◌, ◌⊎◌, inl, inr, ℕ, zero, suc, ◌+◌, ◌-◌, ◌≤◌, ◌<◌, ◌==◌, Bool, true, false, not, ◌&&◌, ◌||◌, List, [], ◌∷◌, ◌++◌, flat_map, length, drop, get_or, slice_index, slice_get, Option, Some, None, All, refl, sym, ap, ap₂, subst, ◌∙◌, arith, append_assoc, if◌then◌else◌, nat_eq}
+use Rattle.std.proofs.Common.{◌≡◌, ◌⊎◌, inl, inr, ℕ, zero, suc, ◌+◌, ◌-◌, ◌≤◌, ◌<◌, ◌==◌, Bool, true, false, not, ◌&&◌, ◌||◌, List, [], ◌∷◌, ◌++◌, flat_map, length, drop, get_or, slice_index, slice_get, Option, Some, None, All, refl, sym, ap, subst, ◌∙◌, arith, append_assoc, if◌then◌else◌, nat_eq}
 use Rattle.std.specs.Prelude.{IsTrue, IfSome, nat_le}
 use Rattle.std.specs.Char.{IsScalar, encode_utf8}
 use Rattle.std.specs.List.{starts_with}
 use Rattle.std.proofs.lemmas.Bool.Decides.{Decides-eqb}
 use Rattle.std.proofs.lemmas.List.{length-drop, drop_more, drop_all, get_or-drop}
 use Rattle.std.proofs.lemmas.List.Elements.{All-nil, All-cons, All-head, All-tail, All-append, All-map, All-filter}
-use Rattle.std.proofs.lemmas.Bool.{eqb-true, leb-true, and_parts, false≢true}
+use Rattle.std.proofs.lemmas.Bool.{eqb-true, leb-true, and_from, and_parts, false≢true}
 use Rattle.std.proofs.lemmas.Slice.Eq.{starts_is}
 use Rattle.std.proofs.lemmas.Str.{length-encode, len_utf8_bounds}
 use Rattle.regress_base.specs.ByteBitmap.{contains}
@@ -49,16 +49,13 @@ pub begins_more : (set set' : ℕ → Bool) (through through' : Bool) (bytes : L
 begins_more set set' through through' bytes f more on begins =
     λ s. all_more _ (λ t. IsBegun set' through' bytes s.place t.place) (λ t. begun_more set set' through through' bytes s.place t.place more on) (f s) (begins s)
 
-both-true : (a b : Bool) → a ≡ true → b ≡ true → (a && b) ≡ true
-both-true a b is is' = ap₂ (λ x y. x && y) is is'
-
 module _ (set : ℕ → Bool) (bytes : List ℕ) where
   -- from one outcome on
   begun_then : (through through' : Bool) (from mid to : ℕ) → IsBegun set through bytes from mid → IsBegun set through' bytes mid to →
       IsBegun set (through && through') bytes from to
   begun_then through through' from mid to (inl at) second = inl at
   begun_then through through' from mid to (inr both) (inl at) = inl (subst (λ k. IsMemberAt set bytes k) both.1 at)
-  begun_then through through' from mid to (inr both) (inr both') = inr (both-true through through' both.0 both'.0, both'.1 ∙ both.1)
+  begun_then through through' from mid to (inr both) (inr both') = inr (and_from through through' both.0 both'.0, both'.1 ∙ both.1)
 
   all_then : (through through' : Bool) (g : Step) (from : ℕ) (states : List State) → All (λ t. IsBegun set through bytes from t.place) states →
       Begins set through' bytes g → All (λ t. IsBegun set (through && through') bytes from t.place) (flat_map g states)
@@ -130,10 +127,6 @@ module _ (set : ℕ → Bool) (bytes : List ℕ) where
   or-left : (a b : Bool) → a ≡ true → (a || b) ≡ true
   or-left a b is = ap (λ x. x || b) is
 
-  and-left : (a b : Bool) → (a && b) ≡ true → a ≡ true
-  and-left true b is = refl
-  and-left false b is = is
-
   begins-some : (through : Bool) (n : ℕ) (f g : Step) → Begins set through bytes f → Begins set true bytes g →
       Begins set (through || (n == 0)) bytes (turns n f then_ g)
   begins-some through zero f g first second =
@@ -141,7 +134,7 @@ module _ (set : ℕ → Bool) (bytes : List ℕ) where
       (begins_then true true (turns 0 f) g begins-stay second)
   begins-some through (suc n) f g first second =
       begins_more set set ((through && true) && true) (through || (suc n == 0)) bytes (turns (suc n) f then_ g) (λ b h. h)
-      (λ h. or-left through (suc n == 0) (and-left through true (and-left (through && true) true h)))
+      (λ h. or-left through (suc n == 0) (and_parts through true (and_parts (through && true) true h).0).0)
       (begins_then (through && true) true (turns (suc n) f) g (begins_then through true f (turns n f) first (begins-turns through n f first)) second)
 
   pub begins-repeat : (through : Bool) (bound : ℕ) (q : Quantifier) (start end : ℕ) (f : Step) → Begins set through bytes f →
@@ -384,10 +377,6 @@ spine-last a b r whole rest or so_far front =
     (or bytes before.0 (steps setting bytes forwards rest) before.1 (front setting bytes))
 
 -- parts in a row
-pub row-start : (front : Front) → front.through ≡ true → IsFront front (cat no_trees)
-row-start front is = λ setting bytes.
-    begins_more (contains front.bytes) (contains front.bytes) true front.through bytes stay (λ x h. h) (λ h. is) (begins-stay (contains front.bytes) bytes)
-
 pub row-next : (a b r : Front) (ts : Trees) (t : Tree) → ((bytes : List ℕ) (f g : Step) → IsFrontOf a bytes f → IsFrontOf b bytes g → IsFrontOf r bytes (f then_ g)) →
     IsFront a (cat ts) → IsFront b t → IsFront r (cat (row_append ts (more_trees t no_trees)))
 row-next a b r ts t then' so_far front =
@@ -395,11 +384,8 @@ row-next a b r ts t then' so_far front =
     let f = steps_in_row setting bytes forwards ts in
     let g = steps setting bytes forwards t in
     begins-same (contains r.bytes) bytes r.through (steps_in_row setting bytes forwards (row_append ts (more_trees t no_trees))) (f then_ g)
-    (λ s. steps-append setting bytes forwards ts (more_trees t no_trees) s ∙ ap (λ h. flat_map h (f s)) (fun_ext (λ u. append-nil-of (g u))))
+    (λ s. steps-append setting bytes forwards ts (more_trees t no_trees) s ∙ ap (λ h. flat_map h (f s)) (fun_ext (λ u. flat_map-stay (g u))))
     (then' bytes f g (so_far setting bytes) (front setting bytes))
-  where
-    append-nil-of : (xs : List State) → flat_map stay xs ≡ xs
-    append-nil-of xs = flat_map-stay xs
 
 pub row-rest : (a : Front) (ts us : Trees) → a.through ≡ false → IsFront a (cat ts) → IsFront a (cat (row_append ts us))
 row-rest a ts us is so_far =

@@ -1,6 +1,5 @@
 -- Rows of nodes that do not pass a test.
-use Rattle.std.proofs.Common.{◌≡◌, ◌≤◌, Bool, not, List, [], ◌∷◌, ◌++◌, length, inl, inr, refl, ap, arith}
-use Rattle.std.proofs.lemmas.List.{length_push}
+use Rattle.std.proofs.Common.{◌≡◌, Bool, not, List, [], ◌∷◌, inl, inr, refl, ap}
 use Rattle.std.specs.List.{filter}
 use Rattle.std.proofs.lemmas.Bool.{cases_Bool}
 use Rattle.regress_tree.specs.declared.ir.node.Node.{Node}
@@ -14,8 +13,3 @@ module _ (test : Tree → Bool) where
     | inl is ↦ rw is (row_without-filter nodes)
     | inr is_not ↦ rw is_not (ap (more_trees (tree x)) (row_without-filter nodes))
   ]
-
--- a list of at most one element that ends in x
-pub only_one : {X : Type 0} (xs : List X) (x : X) → length (xs ++ x ∷ []) ≤ 1 → xs ++ x ∷ [] ≡ x ∷ []
-only_one [] x short = refl
-only_one (y ∷ xs) x short = absurd (omega (arith, short, length_push xs x))

@@ -7,13 +7,13 @@ use Rattle.std.proofs.Math.Seq.{take-nil}
 use Rattle.std.proofs.Math.Bool.{or-false}
 use Rattle.std.specs.List.{list_any}
 use Rattle.std.specs.List.Sorted.{IsNonDecreasingBy}
-use Rattle.regress_base.proofs.laws.Sets.{or_assoc, is_member-nil, is_member-cons, is_member-one, is_member-append, is_member-take_more, canonical_parts, member_above}
+use Rattle.regress_base.proofs.laws.Sets.{gt-is_within, is_member-nil, is_member-cons, is_member-one, is_member-append, canonical_parts, canonical_lower, from_first, member_above, no_member_below}
 use Rattle.regress_base.specs.Intervals.{Bounds, is_within, is_member, is_canonical_from, IsCanonical}
 use Rattle.regress_unicode.specs.declared.shift.Shift.{Shift}
 use Rattle.regress_unicode.specs.FoldRows.{FoldRow, is_in_order}
 use Rattle.regress_unicode.proofs.RowLemmas.{order_apart}
 use Rattle.regress_unicode.specs.Shifts.{lands, lands_by}
-use Rattle.regress_unicode.proofs.ShiftLemmas.{lands-same, lands-none, rows_more, apart_from, above_last, below_first}
+use Rattle.regress_unicode.proofs.ShiftLemmas.{lands-same, lands-none, rows_more, apart_from}
 
 -- ---- one interval more
 
@@ -33,10 +33,6 @@ pushed_one xs ys iv k m c is one same =
 
 -- ---- what is left out
 
-canonical_lower : (low low' : ℕ) (ivs : List Bounds) → low' ≤ low → IsTrue (is_canonical_from low ivs) → IsTrue (is_canonical_from low' ivs)
-canonical_lower low low' [] le can = can
-canonical_lower low low' (iv ∷ ivs) le can = grind (arith, nat_tests)
-
 -- the intervals from a place on
 pub canonical_drop : (low : ℕ) (ivs : List Bounds) (k : ℕ) → IsTrue (is_canonical_from low ivs) → IsCanonical (drop k ivs)
 canonical_drop low ivs zero can = canonical_lower low 0 ivs (omega arith) can
@@ -51,7 +47,7 @@ members_behind [] (suc k) low x below le = refl
 members_behind (iv ∷ ivs) (suc k) low x below le =
     let here = below zero iv (omega arith) (omega arith) in
     members_behind ivs k low x (λ j d lt inside. below (suc j) d (omega arith) (omega arith)) le
-    ∙ sym (is_member-cons iv ivs x ∙ ap (λ b. b || is_member ivs x) (above_last iv x (omega (arith, here))))
+    ∙ sym (is_member-cons iv ivs x ∙ ap (λ b. b || is_member ivs x) (gt-is_within iv x (omega (arith, here))))
 
 -- the slice from a place to the end
 to_end : (ivs : List Bounds) (k : ℕ) → take (length ivs - k) (drop k ivs) ≡ drop k ivs
@@ -64,23 +60,12 @@ pub slice_members : (ivs : List Bounds) (k low x : ℕ) → ((j : ℕ) (d : Boun
     low ≤ x → is_member (take (length ivs - k) (drop k ivs)) x ≡ is_member ivs x
 slice_members ivs k low x below le = rw (to_end ivs k) (members_behind ivs k low x (λ j d lt inside. below j d lt) le)
 
--- no member lies below the first interval
-no_member_before : (low : ℕ) (ivs : List Bounds) (x : ℕ) → IsTrue (is_canonical_from low ivs) → x < low → is_member ivs x ≡ false
-no_member_before low [] x can lt = is_member-nil x
-no_member_before low (iv ∷ ivs) x can lt =
-    let p = canonical_parts low iv ivs can in
-    is_member-cons iv ivs x ∙ rw (below_first iv x (omega (arith, p.above))) (no_member_before (iv.last + 2) ivs x p.rest (omega (arith, p.above, p.interval.ordered)))
-
-from_first : (low : ℕ) (iv : Bounds) (ivs : List Bounds) → IsTrue (is_canonical_from low (iv ∷ ivs)) →
-    IsTrue (is_canonical_from iv.first (iv ∷ ivs))
-from_first low iv ivs can = grind (arith, nat_tests)
-
 -- the intervals before a place have the members below the interval there
 members_before : (low : ℕ) (ivs : List Bounds) (i x : ℕ) (d : Bounds) → IsTrue (is_canonical_from low ivs) → i < length ivs →
     x < (get_or ivs i d).first → is_member (take i ivs) x ≡ is_member ivs x
 members_before low [] i x d can inside lt = absurd (omega arith)
 members_before low (iv ∷ ivs) zero x d can inside lt =
-    is_member-nil x ∙ sym (no_member_before iv.first (iv ∷ ivs) x (from_first low iv ivs can) lt)
+    is_member-nil x ∙ sym (no_member_below iv.first (iv ∷ ivs) x (from_first low iv ivs can) lt)
 members_before low (iv ∷ ivs) (suc i) x d can inside lt =
     let p = canonical_parts low iv ivs can in
     is_member-cons iv (take i ivs) x
@@ -130,16 +115,9 @@ last_greatest low (iv ∷ ivs) (suc k) x d can is member =
     by_first true e h le later = let here = within_last iv x e in omega (arith, here, le)
     by_first false e h le later = later h
 
--- one interval more of those that are added
-pub added_more : (ivs : List Bounds) (i c : ℕ) (iv : Bounds) (old so_far new : Bool) → i < length ivs → iv ≡ get_or ivs i iv →
-    so_far ≡ (old || is_member (take i ivs) c) → new ≡ (so_far || is_within iv c) → new ≡ (old || is_member (take (i + 1) ivs) c)
-added_more ivs i c iv old so_far new lt is is_so_far is_new =
-    let more = is_member-take_more ivs i c iv lt ∙ ap (λ v. is_member (take i ivs) c || is_within v c) (sym is) in
-    is_new ∙ rw (is_so_far, more) (sym (or_assoc old (is_member (take i ivs) c) (is_within iv c)))
-
 pub below_first_none : (ivs : List Bounds) (x : ℕ) (d : Bounds) → IsCanonical ivs → 0 < length ivs → x < (get_or ivs 0 d).first → is_member ivs x ≡ false
 below_first_none [] x d can some lt = absurd (omega arith)
-below_first_none (iv ∷ ivs) x d can some lt = no_member_before iv.first (iv ∷ ivs) x (from_first 0 iv ivs can) lt
+below_first_none (iv ∷ ivs) x d can some lt = no_member_below iv.first (iv ∷ ivs) x (from_first 0 iv ivs can) lt
 
 -- ---- one row more
 

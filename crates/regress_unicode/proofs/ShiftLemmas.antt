@@ -175,11 +175,3 @@ apart_from low (iv ∷ ivs) (suc k) d can h =
     let p = canonical_parts low iv ivs can in
     let rest = apart_from (iv.last + 2) ivs k d p.rest (omega arith) in
     (omega (arith, p.above, p.interval.ordered, rest.0), rest.1)
-
-pub above_last : (iv : Bounds) (x : ℕ) → iv.last < x → is_within iv x ≡ false
-unfolding is_within
-above_last iv x lt = grind (arith, nat_tests)
-
-pub below_first : (iv : Bounds) (x : ℕ) → x < iv.first → is_within iv x ≡ false
-unfolding is_within
-below_first iv x lt = grind (arith, nat_tests)

@@ -16,6 +16,10 @@ pub record AscendingParts (low x : ℕ) (xs : List ℕ) : Type 0 where
 pub ascending_parts : (low x : ℕ) (xs : List ℕ) → IsTrue (is_ascending_from low (x ∷ xs)) → AscendingParts low x xs
 ascending_parts low x xs h = grind (arith, nat_tests)
 
+-- a list begins with its first number
+pub ascending_again : (x : ℕ) (xs : List ℕ) → IsTrue (is_ascending_from (x + 1) xs) → IsTrue (is_ascending_from x (x ∷ xs))
+ascending_again x xs h = grind (arith, nat_tests)
+
 pub ascending_lower : (low low' : ℕ) (xs : List ℕ) → low' ≤ low → IsTrue (is_ascending_from low xs) → IsTrue (is_ascending_from low' xs)
 ascending_lower low low' [] le h = h
 ascending_lower low low' (x ∷ xs) le h = let parts = ascending_parts low x xs h in grind (arith, nat_tests, parts.above, parts.rest)
@@ -68,9 +72,6 @@ ascending_within low low' (x ∷ xs) (y ∷ ys) hx hy within =
           let shorter = ascending_within low (y + 1) (x ∷ xs) ys hx py.rest later in
           omega (arith, shorter))
     ]
-  where
-    ascending_again : (x : ℕ) (xs : List ℕ) → IsTrue (is_ascending_from (x + 1) xs) → IsTrue (is_ascending_from x (x ∷ xs))
-    ascending_again x xs h = grind (arith, nat_tests)
 
 -- what passes a test ascends too
 pub ascending_filter : (low : ℕ) (p : ℕ → Bool) (xs : List ℕ) → IsTrue (is_ascending_from low xs) →

@@ -8,7 +8,7 @@ use Rattle.std.specs.List.{range_with_len}
 use Rattle.regress_base.specs.Intervals.{code_point_max}
 use Rattle.regress_base.specs.Listing.{lists, is_ascending_from, is_ascending, IsListing, listed_below, listed}
 use Rattle.regress_base.specs.Table.{Table, IsLawful, canon, stands_for, class_of}
-use Rattle.regress_base.proofs.laws.Listings.{All-from_lists, few_of_image, ascending_parts, ascending_above, ascending_append, ascending_filter, lists-head, lists-tail, lists-past, lists-filter, lists-run}
+use Rattle.regress_base.proofs.laws.Listings.{All-from_lists, few_of_image, ascending_parts, ascending_again, ascending_above, ascending_append, ascending_filter, lists-head, lists-tail, lists-past, lists-filter, lists-run}
 
 -- tests that pass together are one
 pub same_tests : (a b : Bool) → (a ≡ true → b ≡ true) → (b ≡ true → a ≡ true) → a ≡ b
@@ -35,8 +35,8 @@ ascending_same low low' (x ∷ xs) [] hx hy same = absurd (false≢true (sym (sa
 ascending_same low low' (x ∷ xs) (y ∷ ys) hx hy same =
     let px = ascending_parts low x xs hx in
     let py = ascending_parts low' y ys hy in
-    let low_x = ascending_above y (y ∷ ys) x (from_itself y ys py.rest) (sym (same x) ∙ lists-head x xs) in
-    let low_y = ascending_above x (x ∷ xs) y (from_itself x xs px.rest) (same y ∙ lists-head y ys) in
+    let low_x = ascending_above y (y ∷ ys) x (ascending_again y ys py.rest) (sym (same x) ∙ lists-head x xs) in
+    let low_y = ascending_above x (x ∷ xs) y (ascending_again x xs px.rest) (same y ∙ lists-head y ys) in
     let first : y ≡ x = omega (arith, low_x, low_y) in
     let rest : IsTrue (is_ascending_from (x + 1) ys) = subst (λ (n : ℕ). IsTrue (is_ascending_from (n + 1) ys)) first py.rest in
     let members : (c : ℕ) → lists (x ∷ xs) c ≡ lists (x ∷ ys) c =
@@ -48,9 +48,6 @@ ascending_same low low' (x ∷ xs) (y ∷ ys) hx hy same =
     same_tests _ _
     (same_behind x xs ys px.rest (λ d e. sym (members d) ∙ e) c)
     (same_behind x ys xs rest (λ d e. members d ∙ e) c)))
-  where
-    from_itself : (x : ℕ) (xs : List ℕ) → IsTrue (is_ascending_from (x + 1) xs) → IsTrue (is_ascending_from x (x ∷ xs))
-    from_itself x xs h = grind (arith, nat_tests)
 
 ascending_listed : (n : ℕ) (test : ℕ → Bool) → IsTrue (is_ascending (listed_below n test))
 unfolding listed_below

@@ -1,6 +1,8 @@
 -- Laws of sets of code points, for the crates above. What `pub use` passes on stands with its comment where it is proved.
 pub use Rattle.regress_base.proofs.MemberLemmas.{or_assoc, is_member-nil, is_member-cons, is_member-one, is_member-append, is_member-take_more}
-pub use Rattle.regress_base.proofs.CanonicalLemmas.{canonical_parts, member_above, no_member_past_end}
+pub use Rattle.regress_base.proofs.WithinLemmas.{is_within_tells, is_within-true, le-is_within, lt-is_within, gt-is_within}
+pub use Rattle.regress_base.proofs.CanonicalLemmas.{canonical_parts, canonical_cons, canonical_lower, from_first}
+pub use Rattle.regress_base.proofs.CanonicalLemmas.{member_above, no_member_below, no_member_past_end}
 pub use Rattle.regress_base.proofs.UniqueLemmas.{canonical_unique}
 pub use Rattle.regress_base.proofs.GapsLemmas.{complement_from}
 unfoldable pub use Rattle.regress_base.proofs.GapsLemmas.{gaps_from}
@@ -8,8 +10,7 @@ use Rattle.std.proofs.Common.{◌≡◌, ℕ, zero, suc, ◌+◌, ◌*◌, ◌<�
 use Rattle.std.proofs.lemmas.Bool.{cases_eq, cases_Bool, cond-true, cond-false, or_left, eq-eqb, ne_eqb}
 use Rattle.std.proofs.lemmas.Bool.Decides.{nat_tests}
 use Rattle.regress_base.specs.Intervals.{Bounds, code_point_max, is_within, is_member, is_canonical_from, IsCanonical, put_before, intervals_from, intervals_of}
-use Rattle.regress_base.proofs.WithinLemmas.{pair, is_within_one, is_within_tells}
-use Rattle.regress_base.proofs.CanonicalLemmas.{canonical_cons, canonical_lower, no_member_below}
+use Rattle.regress_base.proofs.WithinLemmas.{pair, is_within_one}
 
 -- ---- one code point more
 

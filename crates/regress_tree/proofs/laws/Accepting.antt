@@ -1,19 +1,10 @@
 -- What brackets of canonical intervals accept: some code point, or none.
 use Rattle.std.proofs.Common.{◌≡◌, ℕ, ◌+◌, ◌<◌, ◌≤◌, ◌==◌, Bool, true, false, not, ◌⊎◌, inl, inr, IsTrue, ◌↔◌, List, [], ◌∷◌, refl, sym, ap, ◌∙◌, eqb-true, arith}
 use Rattle.std.proofs.lemmas.Bool.{cases_Bool, cases_eq, false≢true, eq-eqb, and_from, and_parts, or_left, false_from_ne_true}
-use Rattle.std.proofs.lemmas.Bool.Decides.{nat_tests}
 use Rattle.regress_base.specs.Intervals.{Bounds, code_point_max, is_within, is_member, is_canonical_from, IsCanonical}
 use Rattle.regress_base.specs.Brackets.{is_accepted}
-use Rattle.regress_base.proofs.laws.Sets.{is_member-nil, is_member-cons, canonical_parts, member_above}
+use Rattle.regress_base.proofs.laws.Sets.{is_within-true, le-is_within, is_member-nil, is_member-cons, canonical_parts, member_above}
 use Rattle.regress_tree.specs.NodeTests.{is_none, are_all, accepts_none}
-
-is_within-true : (iv : Bounds) (c : ℕ) → is_within iv c ≡ true → (iv.first ≤ c) × (c ≤ iv.last)
-unfolding is_within
-is_within-true iv c t = (grind (arith, nat_tests), grind (arith, nat_tests))
-
-le-is_within : (iv : Bounds) (c : ℕ) → iv.first ≤ c → c ≤ iv.last → is_within iv c ≡ true
-unfolding is_within
-le-is_within iv c above below = grind (arith, nat_tests)
 
 -- Some code point is a member, or all are none.
 pub member_from : (ivs : List Bounds) → IsCanonical ivs → is_none ivs ≡ false →

@@ -103,7 +103,8 @@ character_at-byte_place text is_text k h =
     character_at_from (encode_utf8_all text) (byte_place text k) (slice_index text k) (encode_utf8_all (drop (k + 1) text)) (is_text k 0 h)
     (drop-byte_place text k ∙ ap encode_utf8_all (drop_more text k 0 h))
 
-no_character : (o : Option ℕ) → ((c : ℕ) → o ≡ Some c → ⊥) → o ≡ None
+-- what is no character is none
+pub no_character : (o : Option ℕ) → ((c : ℕ) → o ≡ Some c → ⊥) → o ≡ None
 no_character None h = refl
 no_character (Some c) h = absurd (h c refl)
 

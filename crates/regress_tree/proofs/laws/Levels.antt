@@ -1,28 +1,19 @@
 -- One level of a node.
-use Rattle.std.proofs.Common.{◌≡◌, ◌∙◌, sym, ap, ℕ, Bool, Option, Vec, Box, Global, rules}
-use Rattle.std.specs.Prelude.{String}
+use Rattle.std.proofs.Common.{◌≡◌, ◌∙◌, sym, ap, ℕ, Bool, Vec, Box, Global, rules}
 use Rattle.std.specs.declared.ops.Range.{Range}
 use Rattle.regress_base.specs.declared.types.Quantifier.{Quantifier}
 use Rattle.regress_tree.specs.declared.ir.node.Node.{Node, out-Node, the_lemmas}
 use Rattle.regress_tree.specs.declared.ir.node.Node.TheOpen.{Node-F}
-use Rattle.regress_tree.specs.declared.ir.node.Node.TheVariants.{Cat, Alt, CaptureGroup, Loop, Loop1CharBody, LookaroundAssertion}
+use Rattle.regress_tree.specs.declared.ir.node.Node.TheVariants.{Cat, Alt, Loop, LookaroundAssertion}
 use Rattle.regress_tree.specs.Tree.{tree, alt}
 use Rattle.regress_tree.proofs.laws.Nodes.{tree-Alt}
 
 pub out-Alt : (left right : Box Node Global) → out-Node (Alt left right) ≡ Node-F.Alt left right
 out-Alt left right = search (rules, the_lemmas)
 
-pub out-CaptureGroup : (id : ℕ) (contents : Box Node Global) (name : Option (String Global)) →
-    out-Node (CaptureGroup id contents name) ≡ Node-F.CaptureGroup id contents name
-out-CaptureGroup id contents name = search (rules, the_lemmas)
-
 pub out-Loop : (loopee : Box Node Global) (quantifier : Quantifier) (groups : Range ℕ) →
     out-Node (Loop groups loopee quantifier) ≡ Node-F.Loop groups loopee quantifier
 out-Loop loopee quantifier groups = search (rules, the_lemmas)
-
-pub out-Loop1CharBody : (loopee : Box Node Global) (quantifier : Quantifier) →
-    out-Node (Loop1CharBody loopee quantifier) ≡ Node-F.Loop1CharBody loopee quantifier
-out-Loop1CharBody loopee quantifier = search (rules, the_lemmas)
 
 pub out-LookaroundAssertion : (negate backwards : Bool) (start end : ℕ) (contents : Box Node Global) →
     out-Node (LookaroundAssertion negate backwards start end contents) ≡ Node-F.LookaroundAssertion negate backwards start end contents
