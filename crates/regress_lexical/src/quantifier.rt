@@ -24,8 +24,8 @@ fn read_most<'a>(least: usize, source: &'a [u32]) -> Read<'a, Times>
     Some(((least, Some(most)), after(rest, '}')?))
 }
 
-/// `*`, `+`, `?` or numbers in braces, of which `c` is the first code point.
-fn read_times<'a>(c: u32, source: &'a [u32]) -> Read<'a, Times>
+/// `*`, `+`, `?` or numbers in braces, of which `c` is the first code point (ECMA-262, QuantifierPrefix).
+fn read_prefix<'a>(c: u32, source: &'a [u32]) -> Read<'a, Times>
     ensures { answered result ≡ times_by c source.now }
 {
     if c == u32::from('*') {
@@ -63,7 +63,7 @@ pub fn read_quantifier<'a>(source: &'a [u32]) -> Read<'a, Quantifier>
     ensures { answered result ≡ quantifier_at source.now }
 {
     let (c, rest) = source.split_first()?;
-    let ((min, max), rest) = read_times(*c, rest)?;
+    let ((min, max), rest) = read_prefix(*c, rest)?;
     let (greedy, rest) = match after(rest, '?') {
         Some(rest) => (false, rest),
         None => (true, rest),

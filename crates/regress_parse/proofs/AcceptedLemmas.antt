@@ -35,10 +35,10 @@ module _ (setting : Setting) (t : Source) (gives : GivesMarks setting.flags.unic
     pub names_found : names p ≡ found_names
     names_found = sym (named_by-pattern p) ∙ ap named_by (gives ctx p sets same h)
 
-    groups_found : (counts p).groups ≡ length found_names
+    pub groups_found : (counts p).groups ≡ length found_names
     groups_found = sym (length-names p) ∙ ap length names_found
 
-    own_is : (groups : ℕ) → (counts p).groups ≡ groups → own_context setting p ≡ scanned groups
+    pub own_is : (groups : ℕ) → (counts p).groups ≡ groups → own_context setting p ≡ scanned groups
     own_is groups e =
         ap₂ (λ (n : ℕ) (ns : List (Option Name)). record { setting = setting; groups = n; names = ns }) e names_found
 

@@ -1,3 +1,4 @@
+pub mod laws
 pub mod AtomLemmas
 pub mod EscapeRows
 pub mod ReaderLemmas

@@ -1,28 +1,34 @@
 -- An item, its quantifier, and the group that an item may be, from what is read of them.
-use Rattle.std.proofs.Common.{◌≡◌, inl, inr, ℕ, ◌+◌, ◌<◌, ◌≤◌, ◌==◌, Bool, true, false, [], ◌∷◌, drop, Option, Some, None, Result, Ok, Err, refl, sym, ap, ap₂, ◌∙◌, subst, arith, eqb-true, List}
+use Rattle.std.proofs.Common.{◌≡◌, inl, inr, ℕ, ◌+◌, ◌<◌, ◌≤◌, ◌==◌, Bool, true, false, not, ◌&&◌, ◌||◌, [], ◌∷◌, drop, Option, Some, None, Result, Ok, Err, refl, sym, ap, ap₂, ◌∙◌, subst, arith, eqb-true, List}
 use Rattle.std.specs.Option.{IfSome, IsSomeAnd}
 use Rattle.std.specs.Result.{IfOk}
 use Rattle.std.proofs.lemmas.Bool.{cond-false}
+use Rattle.std.proofs.lemmas.Bool.Decides.{nat_tests}
 use Rattle.regress_tree.specs.declared.ir.node.Node.{Node}
 use Rattle.regress_tree.specs.Reading.{Direction}
+use Rattle.regress_tree.specs.Tree.{tree}
 use Rattle.regress_lexical.specs.declared.fault.Fault.{Fault}
 use Rattle.regress_lexical.specs.declared.fault.FaultKind.{FaultKind}
 use Rattle.regress_lexical.specs.declared.fault.FaultKind.TheVariants.{TooManyLoops}
 use Rattle.std.proofs.lemmas.Option.{same_Some, cond_some}
 use Rattle.regress_base.specs.Table.{Table}
 use Rattle.regress_base.specs.declared.types.Quantifier.{Quantifier}
-use Rattle.regress_lexical.specs.Source.{Source, Found, ◌>>=◌, found_map, opening, closing, is_at, is_plain}
+use Rattle.regress_lexical.specs.Source.{Source, Found, ◌>>=◌, found_map, opening, closing, is_at, is_one_of, is_plain}
 use Rattle.regress_lexical.specs.Beginnings.{may_begin}
-use Rattle.regress_syntax.specs.Syntax.{Name, Atom, Group, Pattern, Item, literal, atom, group, Counts, added, counts_of_item, levels_of_atom}
-use Rattle.regress_syntax.specs.Rows.{Context, context_inside, Head, single, opens, head_of_item, allows, group_at, head_at, times_at}
+use Rattle.regress_lexical.specs.Escapes.{begins_with_letter}
+use Rattle.regress_syntax.specs.Syntax.{Name, Atom, Group, Pattern, Item, literal, back_reference, by_number, atom, group, Counts, added, counts_of_item, levels_of_atom}
+use Rattle.regress_syntax.specs.Rows.{Context, context_inside, Head, single, opens, head_of_item, allows, begins_number, group_at, head_at, times_at}
 use Rattle.regress_lexical.proofs.laws.Sources.{found_then, from_each, to_each, on_kind_then, on_each_kind}
+use Rattle.regress_syntax.specs.Numbering.{group_number_at}
 use Rattle.regress_syntax.proofs.laws.Plain.{plain_head, no_times}
+use Rattle.regress_syntax.proofs.laws.References.{numbered-some}
 use Rattle.regress_syntax.proofs.laws.Scan.{one_level}
 use Rattle.regress_parse.specs.Reader.{Term, closed, item_behind, quantified, pattern_at, item_at, term_at}
 use Rattle.regress_base.specs.Limits.{max_loops, max_nesting_depth}
 use Rattle.regress_parse.specs.Parsing.{Exceeds, pattern_part, term_part, item_part, atom_at, ReadsAtom, Builds, Yields, text, counted}
 use Rattle.regress_parse.specs.TreeOf.{tree_of_atom}
 use Rattle.regress_parse.specs.declared.parser.Parser.{Parser}
+use Rattle.regress_parse.proofs.EscapeRows.{number_read}
 use Rattle.regress_parse.proofs.CountLemmas.{Fits-inside, Exceeds-around, added-nothing}
 use Rattle.regress_parse.proofs.ParserLemmas.{built}
 use Rattle.regress_parse.proofs.ReaderLemmas.{item_at-is, term_at-is}
@@ -71,6 +77,35 @@ module _ (table : Table) (names : List (Option Name)) (ctx : Context) where
   plain_term c t plain alone =
       term_read (c ∷ t) (single (literal ctx.setting.flags c), t) (atom (literal ctx.setting.flags c), t) true (Some (None, t))
       (plain_head ctx c t plain) refl refl (no_times ctx true t alone)
+
+  -- a reference by number, which no quantifier follows
+  numbered_head : (c : ℕ) (t : Source) (k : ℕ) (rest : Source) → begins_number c ≡ true → group_number_at ctx.groups (c ∷ t) ≡ Some (k, rest) →
+      head_at ctx (92 ∷ c ∷ t) ≡ Some (single (back_reference ctx.setting.flags (by_number k)), rest)
+  unfolding head_at
+  numbered_head c t k rest number found =
+      let d : (c == 100) ≡ false = grind (arith, nat_tests, number) in
+      let d' : (c == 68) ≡ false = grind (arith, nat_tests, number) in
+      let s : (c == 115) ≡ false = grind (arith, nat_tests, number) in
+      let s' : (c == 83) ≡ false = grind (arith, nat_tests, number) in
+      let w : (c == 119) ≡ false = grind (arith, nat_tests, number) in
+      let w' : (c == 87) ≡ false = grind (arith, nat_tests, number) in
+      let b : (c == 98) ≡ false = grind (arith, nat_tests, number) in
+      let b' : (c == 66) ≡ false = grind (arith, nat_tests, number) in
+      let control : (c == 99) ≡ false = grind (arith, nat_tests, number) in
+      let property : is_one_of "pP" c ≡ false = grind (arith, nat_tests, number) in
+      ap (found_map single)
+      (number_read ctx (c ∷ t) c t refl
+      (cond-false (c == 100) _ _ d ∙ cond-false (c == 68) _ _ d' ∙ cond-false (c == 115) _ _ s ∙ cond-false (c == 83) _ _ s'
+      ∙ cond-false (c == 119) _ _ w ∙ cond-false (c == 87) _ _ w')
+      b b' (ap (λ x. x && not ctx.setting.flags.unicode && not (begins_with_letter t)) control)
+      (ap (λ x. x && (ctx.setting.flags.unicode || ctx.setting.flags.unicode_sets)) property) number
+      ∙ numbered-some ctx c t k rest found)
+
+  pub reference_term : (c : ℕ) (t : Source) (k : ℕ) (rest : Source) → begins_number c ≡ true → group_number_at ctx.groups (c ∷ t) ≡ Some (k, rest) →
+      may_begin rest ≡ false → term_at ctx (92 ∷ c ∷ t) ≡ Some ((atom (back_reference ctx.setting.flags (by_number k)), None), rest)
+  reference_term c t k rest number found alone =
+      term_read (92 ∷ c ∷ t) (single (back_reference ctx.setting.flags (by_number k)), rest) (atom (back_reference ctx.setting.flags (by_number k)), rest)
+      true (Some (None, rest)) (numbered_head c t k rest number found) refl refl (no_times ctx true rest alone)
 
   -- no head, no term
   pub no_term : (t : Source) → head_at ctx t ≡ None → term_at ctx t ≡ None
@@ -157,6 +192,21 @@ module _ (table : Table) (names : List (Option Name)) (ctx : Context) where
       (sym (times_read found x.0 _ _ x.1 refl (no_times ctx _ x.0.1 free)))
       (builds_alone d depth before new node x.0.0 x.0.1 x.2)
   alone d depth before new (Err fault) found none h = on_kind_then fault (λ kind. times-fail kind found before depth) h
+
+  -- such a character, as the term at the front
+  pub plain_yields : (d : Direction) (depth : ℕ) (old new : Parser) (node : Node) (c : ℕ) (t : Source) → depth ≤ max_nesting_depth →
+      text old ≡ c ∷ t → is_plain c ≡ true → may_begin t ≡ false → counted new ≡ counted old → text new ≡ t →
+      tree node ≡ tree_of_atom table names (literal ctx.setting.flags c) →
+      Yields (term_part table names) d depth (counted old) new (Ok node) (term_at ctx (text old))
+  plain_yields d depth old new node c t deep front plain free same rest made =
+      subst (λ (f : Found Term). IsSomeAnd f (λ y. Builds d depth (counted old) new node (term_part table names y.0) y.1))
+      (sym (ap (term_at ctx) front ∙ plain_term c t plain free))
+      (record {
+        node = made;
+        fits = record { groups = omega (arith, old.groups_within); loops = omega (arith, old.loops_within); levels = omega (arith, deep) };
+        counts = same ∙ sym (added-nothing (counted old));
+        rest = rest;
+      })
 
   -- an item with no pattern inside, as an item
   pub atom_yields : (d : Direction) (depth left : ℕ) (allowed : Bool) (old new : Parser) (r : Result Node Fault) (t : Source) →

@@ -1,5 +1,5 @@
--- How the parser's values stand to what the grammar reads. No public contract cites this.
-use Rattle.std.specs.Prelude.{◌≡◌, ◌⊎◌, ℕ, ◌+◌, ◌-◌, ◌<◌, ◌≤◌, Bool, ◌||◌, List, [], ◌∷◌, length, Option, Some, None, IfSome, string_bytes, Result, Ok, Err}
+-- How the parser's values stand to what the grammar reads. Of the public contracts only those on atoms cite this.
+use Rattle.std.specs.Prelude.{◌≡◌, ◌⊎◌, ℕ, ◌+◌, ◌-◌, ◌<◌, ◌≤◌, Bool, ◌||◌, List, [], ◌∷◌, ◌++◌, length, Option, Some, None, IfSome, string_bytes, Result, Ok, Err}
 use Rattle.std.specs.Option.{IsSomeAnd}
 use Rattle.regress_tree.specs.declared.ir.node.Node.{Node}
 use Rattle.regress_tree.specs.Reading.{Direction, forwards, direction_if}
@@ -16,13 +16,13 @@ use Rattle.regress_lexical.specs.declared.fault.FaultKind.{FaultKind}
 use Rattle.regress_lexical.specs.declared.fault.FaultKind.TheVariants.{TooManyGroups, TooManyLoops, TooDeep}
 use Rattle.regress_lexical.specs.Fault.{OnRefused, OnKind}
 use Rattle.regress_lexical.specs.Source.{Source, Found, char, is_at}
-use Rattle.regress_syntax.specs.Syntax.{Name, Atom, Pattern, Terms, Item, Counts, nothing_counted, added, counts, counts_of_terms, counts_of_term, counts_of_item, levels, levels_of_atom, levels_of_terms, levels_of_item}
+use Rattle.regress_syntax.specs.Syntax.{Name, Atom, Pattern, Terms, Item, atom, Counts, nothing_counted, added, counts, counts_of_terms, counts_of_term, counts_of_item, levels, levels_of_atom, levels_of_terms, levels_of_item}
 use Rattle.regress_syntax.specs.Rows.{Context, atom_allows, atom_by}
 use Rattle.regress_syntax.specs.Views.{names_in, context_of}
 use Rattle.regress_lexical.specs.Views.{source}
 use Rattle.regress_parse.specs.declared.parser.Parser.{Parser}
 use Rattle.regress_parse.specs.declared.parser.Around.{Around}
-use Rattle.regress_parse.specs.Reader.{Term, pattern_at}
+use Rattle.regress_parse.specs.Reader.{Term, pattern_at, term_at}
 use Rattle.regress_parse.specs.TreeOf.{tree_of_atom, tree_of_pattern, trees_of_terms, tree_of_item, tree_of_times, joined}
 use Rattle.regress_base.specs.Limits.{max_capture_groups, max_loops, max_nesting_depth}
 
@@ -122,6 +122,19 @@ pub record IsNode (ctx : Context) (most : ℕ) (allowed : Bool) (built : Node) (
   pub node : tree built ≡ tree_of_atom ctx.setting.table ctx.names a
   pub levels : levels_of_atom a ≤ most
   pub allows : atom_allows a ≡ allowed
+
+-- A node was put behind others, and this is its tree.
+pub record Pushes (t : Tree) (old new : List Node) : Type 0 where
+  pub node : Node
+  pub items : new ≡ old ++ node ∷ []
+  pub is : tree node ≡ t
+
+-- The term at the front is an item alone in which no class lies, and its node was put behind others.
+pub record TakesAlone (ctx : Context) (t rest : Source) (old new : List Node) : Type 0 where
+  pub item : Atom
+  pub found : term_at ctx t ≡ Some ((atom item, None), rest)
+  pub flat : levels_of_atom item ≡ 0
+  pub pushed : Pushes (tree_of_atom ctx.setting.table ctx.names item) old new
 
 -- What a call answers that reads an atom: its node, or a fault where there is none or too many levels lie in it.
 abbrev pub ReadsAtom : Context → (left : ℕ) → (allowed : Bool) → Source → Result Node Fault → Found Atom → Type 0

@@ -1,5 +1,5 @@
 //! Items that hold no pattern.
-ghost use Rattle.std.specs.Prelude.{◌≡◌, ◌∷◌, true, false, not, ◌&&◌, ◌||◌, ◌==◌, ◌≤◌, ◌<◌, length, drop};
+ghost use Rattle.std.specs.Prelude.{◌≡◌, ◌∷◌, true, false, not, ◌&&◌, ◌||◌, ◌==◌, ◌≤◌, ◌<◌, length, drop, Some, None, IfOk, IfSome, IfNone, MatchBool};
 ghost use Rattle.regress_lexical.specs.Digits.{is_between};
 ghost use Rattle.regress_lexical.specs.Escapes.{begins_with_letter};
 ghost use Rattle.regress_base.specs.Limits.{max_nesting_depth};
@@ -8,12 +8,14 @@ ghost use Rattle.regress_lexical.specs.Reads.{ReadsAs};
 ghost use Rattle.regress_lexical.specs.Source.{IsCodePoint, char, is_one_of};
 ghost use Rattle.regress_lexical.specs.Views.{source};
 ghost use Rattle.regress_syntax.specs.Rows.{atom_by, brace_by, is_lone_backslash, begins_number, has_names, escaped_at, numbered_at, named_at, character_at, brackets_at, property_atom_at};
+ghost use Rattle.regress_syntax.specs.Syntax.{atom, back_reference, by_number};
 ghost use Rattle.regress_syntax.specs.Views.{context_of};
-ghost use Rattle.regress_parse.specs.Parsing.{atom_at, is_anchor, IsNode, ReadsAtom};
+ghost use Rattle.regress_parse.specs.Parsing.{atom_at, is_anchor, IsNode, ReadsAtom, TakesAlone};
+ghost use Rattle.regress_parse.specs.Reader.{term_at};
 
 use crate::build::{
     make_anchor, make_boundary, make_class, make_class_escape, make_class_set, make_dot,
-    make_literal, make_property, make_references, make_strings,
+    make_literal, make_property, make_references, make_strings, push_literal,
 };
 use regress_base::types::MAX_NESTING_DEPTH;
 use regress_classes::class::read_class;
@@ -23,16 +25,17 @@ use regress_classes::property::{Property, is_property_letter, read_property};
 use regress_lexical::cursor::is_plain;
 use regress_lexical::digits::{is_between, is_letter};
 use regress_lexical::escape::{escape_fault, read_escape};
-use regress_lexical::quantifier::read_quantifier;
+use regress_lexical::quantifier::{may_begin, read_quantifier};
 use regress_syntax::fault::{FaultKind, refused};
 use regress_syntax::{
     Cursor, Fault, Scope, has_references_by_name, read_group_number, read_reference,
 };
-use regress_tree::ir::{AnchorType, Node};
+use regress_tree::ir::{AnchorType, Node, NodeList};
+use std::alloc::AllocError;
 
-/// Reads an item that holds no pattern. The fault comes where there is none, and where more levels of classes lie in it
-/// than are left.
-pub(crate) fn read_atom(cursor: &mut Cursor, scope: &Scope, left: u32) -> Result<Node, Fault>
+/// Reads an item that holds no pattern, into its node. The fault comes where there is none, and where more levels of classes
+/// lie in it than are left.
+pub fn read_atom(cursor: &mut Cursor, scope: &Scope, left: u32) -> Result<Node, Fault>
     requires { left ≤ max_nesting_depth }
     ensures value { ReadsAtom (context_of scope.now) left (not (is_anchor (source cursor.old))) (source cursor.new) result
         (atom_at (context_of scope.now) (source cursor.old)) }
@@ -49,8 +52,60 @@ pub(crate) fn read_atom(cursor: &mut Cursor, scope: &Scope, left: u32) -> Result
     }
 }
 
+/// Adds the node of the next term, if that is a character that stands for itself or a reference by number, behind which
+/// no quantifier can begin, as most are: it needs no look at the other rows. Answers whether it did.
+#[inline(always)]
+pub(crate) fn push_simple_term(
+    cursor: &mut Cursor,
+    scope: &Scope,
+    parts: &mut NodeList,
+) -> Result<bool, AllocError>
+    ensures { IfOk result (λ taken. MatchBool taken
+        (TakesAlone (context_of scope.now) (source cursor.old) (source cursor.new) parts.old.items parts.new.items)
+        ((source cursor.new ≡ source cursor.old) × (parts.new.items ≡ parts.old.items))) }
+{
+    if let Some(c) = cursor.next_plain() {
+        push_literal(parts, c, scope)?;
+        return Ok(true);
+    }
+    let Some(group) = next_reference(cursor, scope) else {
+        return Ok(false);
+    };
+    let icase = scope.flags.icase;
+    parts.push(Node::BackRef { group, icase })?;
+    Ok(true)
+}
+
+/// Takes a reference by number, if one comes next behind which no quantifier can begin.
+fn next_reference(cursor: &mut Cursor, scope: &Scope) -> Option<u32>
+    ensures some { IfSome result (λ group. term_at (context_of scope.now) (source cursor.old)
+        ≡ Some ((atom (back_reference scope.now.flags (by_number group)), None), source cursor.new)) }
+    ensures none { IfNone result (source cursor.new ≡ source cursor.old) }
+{
+    let Some((backslash, escaped)) = cursor.rest.split_first() else {
+        return None;
+    };
+    if *backslash != u32::from('\\') {
+        return None;
+    }
+    let Some((digit, _)) = escaped.split_first() else {
+        return None;
+    };
+    if !begins_number(*digit) {
+        return None;
+    }
+    let Some((group, rest)) = read_group_number(escaped, scope.groups.count()) else {
+        return None;
+    };
+    if may_begin(rest) {
+        return None;
+    }
+    cursor.rest = rest;
+    Some(group)
+}
+
 /// Whether `^` or `$` comes next, behind which no quantifier may stand.
-pub(crate) fn begins_anchor(source: &[u32]) -> bool
+pub fn begins_anchor(source: &[u32]) -> bool
     ensures { result ≡ is_anchor source.now }
 {
     match source {

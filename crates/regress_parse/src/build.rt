@@ -15,7 +15,7 @@ ghost use Rattle.regress_syntax.specs.Views.{context_of, names_in, group_of};
 ghost use Rattle.regress_classes.specs.ClassViews.{IsValue, HasMembers, strings_of};
 ghost use Rattle.regress_parse.specs.ClassParts.{strings_part, bracket_part, empty_part};
 ghost use Rattle.regress_parse.specs.TreeOf.{turned, joined, leaf_of_members, leaf_of_literal, references, alternation, tree_of_class, tree_of_atom, tree_of_group, tree_of_times};
-ghost use Rattle.regress_parse.specs.Parsing.{alternatives};
+ghost use Rattle.regress_parse.specs.Parsing.{alternatives, Pushes};
 
 use regress_base::charclasses::CharacterClassType;
 use regress_base::codepointset::CodePointSet;
@@ -103,6 +103,21 @@ pub(crate) fn make_literal(alloc: Global, c: u32, scope: &Scope) -> Result<Node,
     }
     let members = expand_code_point(alloc, c, true, scope.flags.unicode, scope.tables)?;
     Ok(make_members(members))
+}
+
+/// Adds the node of a literal.
+#[inline(always)]
+pub(crate) fn push_literal(parts: &mut NodeList, c: u32, scope: &Scope) -> Result<(), AllocError>
+    requires { IsCodePoint c }
+    ensures { OnOk result (Pushes (leaf (leaf_of_literal (table_of scope.now.tables.now) scope.now.flags c)) parts.old.items parts.new.items) }
+{
+    if !scope.flags.icase {
+        parts.push(Node::Char { c })?;
+        return Ok(());
+    }
+    let alloc = *parts.allocator();
+    parts.push(make_literal(alloc, c, scope)?)?;
+    Ok(())
 }
 
 /// The node of one of these characters.

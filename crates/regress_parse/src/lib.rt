@@ -8,5 +8,6 @@ mod parser;
 mod pattern;
 mod rows;
 
+pub use atom::{begins_anchor, read_atom};
 pub use fault::{Error, ParseFault, PlacedFault};
 pub use pattern::{try_parse, try_parse_with_place};

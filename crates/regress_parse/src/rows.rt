@@ -9,7 +9,7 @@ ghost use Rattle.regress_base.specs.Limits.{max_nesting_depth};
 ghost use Rattle.regress_parse.specs.Reader.{Term, pattern_at, terms_at, term_at, item_behind, with_times};
 ghost use Rattle.regress_parse.specs.Parsing.{text, counted, direction_of, context_in, table_in, names_around, pattern_part, terms_part, term_part, item_part, Builds, Yields, Reaches};
 
-use crate::atom::{begins_anchor, read_atom};
+use crate::atom::{begins_anchor, push_simple_term, read_atom};
 use crate::build::{make_alt, make_cat, make_group, make_literal, make_loop};
 use crate::parser::{Around, Parser};
 use regress_base::types::{CaptureGroupID, MAX_NESTING_DEPTH};
@@ -57,15 +57,28 @@ impl Parser<'_> {
         if self.cursor.ends_alternative() {
             return Ok(Node::Empty);
         }
-        let first = self.consume_term(around);
+        let first = self.consume_first_term(around);
         if self.cursor.ends_alternative() {
             return first;
         }
         self.consume_terms(first?, around)
     }
 
-    /// Reads the terms behind the first one, up to the end of the alternative. Most are characters that stand for
-    /// themselves, which need no look at the other rows.
+    /// Reads the first term. Mostly it is a character that stands for itself, which needs no look at the other rows.
+    #[cycle(parser)]
+    fn consume_first_term(&mut self, around: &Around) -> Result<Node, Fault>
+        requires { around.now.depth ≤ max_nesting_depth }
+        ensures value { Yields (term_part (table_in around.now) (names_around around.now)) (direction_of around.now) around.now.depth (counted self.old) self.new result
+            (term_at (context_in around.now) (text self.old)) }
+        ensures reached { FailsBy result (λ kind. Reaches kind (counted self.old) around.now.depth (text self.old)) }
+    {
+        match self.cursor.next_plain() {
+            Some(c) => Ok(make_literal(self.cursor.alloc, c, &around.scope)?),
+            None => self.consume_term(around),
+        }
+    }
+
+    /// Reads the terms behind the first one, up to the end of the alternative, of which most need no look at the other rows.
     #[cycle(parser)]
     fn consume_terms(&mut self, first: Node, around: &Around) -> Result<Node, Fault>
         requires { around.now.depth ≤ max_nesting_depth }
@@ -79,11 +92,11 @@ impl Parser<'_> {
         let mut parts = Vec::new(self.cursor.alloc);
         parts.push(first)?;
         while !self.cursor.ends_alternative() {
-            if let Some(c) = self.cursor.next_plain() {
-                parts.push(make_literal(self.cursor.alloc, c, &around.scope)?)?;
-            } else {
-                parts.push(self.consume_term(around)?)?;
+            let taken = push_simple_term(&mut self.cursor, &around.scope, &mut parts)?;
+            if taken {
+                continue;
             }
+            parts.push(self.consume_term(around)?)?;
         }
         Ok(make_cat(parts, around.backwards))
     }

@@ -247,12 +247,12 @@ conflict-captures a b e =
 abbrev by_name_and_path : NamedGroup → NamedGroup → Ordering
 by_name_and_path =
     then_cmp (on (λ (g : NamedGroup). g.name.items) (slice_cmp nat_cmp))
-    (then_cmp (on (λ (g : NamedGroup). g.path.levels.items) by_levels) (on (λ (g : NamedGroup). g.left) nat_cmp))
+    (then_cmp (on (λ (g : NamedGroup). g.path.levels.items) by_levels) (then_cmp (on (λ (g : NamedGroup). g.left) nat_cmp) (on (λ (g : NamedGroup). g.number) nat_cmp)))
 
 is_order : IsStrictWeakOrder (λ x y. is_lt (by_name_and_path x y))
 is_order =
     ranks_by (then_total (on_total (λ (g : NamedGroup). g.name.items) nat_list_cmp_total)
-    (then_total (on_total (λ (g : NamedGroup). g.path.levels.items) by_levels_total) (on_total (λ (g : NamedGroup). g.left) nat_cmp_total)))
+    (then_total (on_total (λ (g : NamedGroup). g.path.levels.items) by_levels_total) (then_total (on_total (λ (g : NamedGroup). g.left) nat_cmp_total) (on_total (λ (g : NamedGroup). g.number) nat_cmp_total))))
     (λ (g : NamedGroup). g)
 
 groups_between : (x y z : NamedGroup) → is_lt (by_name_and_path y x) ≡ false → is_lt (by_name_and_path z y) ≡ false →
@@ -262,7 +262,7 @@ groups_between x y z h h' e =
     let alike : bytes_eq z.name.items x.name.items ≡ true = (and_parts _ _ e).0 in
     let same : z.name.items ≡ x.name.items = (bytes_eq-Decides _ _).0 alike in
     let paths : are_together x.path.levels.items z.path.levels.items ≡ true = conflict-captures x z (bytes_eq-sym z.name.items x.name.items alike) ∙ e in
-    let behind = ordering_then (by_levels z.path.levels.items y.path.levels.items) (nat_cmp z.left y.left) in
+    let behind = ordering_then (by_levels z.path.levels.items y.path.levels.items) (ordering_then (nat_cmp z.left y.left) (nat_cmp z.number y.number)) in
     let above : is_lt (ordering_then (slice_cmp nat_cmp x.name.items y.name.items) behind) ≡ false =
     subst (λ (n : List ℕ). is_lt (ordering_then (slice_cmp nat_cmp n y.name.items) behind) ≡ false) same h' in
     let ties = names_tied x.name.items y.name.items _ _ h above in

@@ -1,22 +1,25 @@
--- The names of groups, and their numbers.
-use Rattle.std.proofs.Common.{◌≡◌, ℕ, suc, ◌+◌, ◌<◌, Bool, true, false, cond, List, [], ◌∷◌, ◌++◌, length, get_or, take, Option, Some, None, is_some, option_map, Vec, bytes_eq, refl, sym, ap, ◌∙◌, subst, arith, append-nil, ap₂, length-take, ⊎_elim}
+-- The names of groups, and the numbers of those that have one.
+use Rattle.std.proofs.Common.{◌≡◌, ℕ, suc, ◌+◌, ◌-◌, ◌<◌, ◌≤◌, ◌⊎◌, inl, inr, ⊎_elim, Bool, true, false, cond, not, ◌&&◌, ◌||◌, List, [], ◌∷◌, ◌++◌, map, filter, length, get_or, take, drop, Option, Some, None, is_some, option_map, Vec, All, IsPermutation, IsSortedBy, bytes_eq, refl, sym, ap, ap₂, ◌∙◌, subst, arith, true≢false, length-drop, append-nil}
 use Rattle.std.proofs.lemmas.Bool.{cases_Bool, cond-true, cond-false}
-use Rattle.std.proofs.lemmas.Cmp.{eq_by_cmp_equiv, nat_list_cmp_total, nat_list_eq_equiv}
-use Rattle.std.proofs.lemmas.List.{map-append, length-map, take_more}
+use Rattle.std.proofs.lemmas.Cmp.{nat_list_cmp_total}
+use Rattle.std.proofs.lemmas.List.{map-append, length-map, get_or-map, get_or-take, get_or-drop, length-take, take-append-drop}
+use Rattle.std.proofs.lemmas.List.Elements.{All-nil, All-cons, All-head, All-tail, All-weaker, All-map, All-same, filter-append, filter_agree}
+use Rattle.std.proofs.lemmas.List.Sorted.{All-permutation, searchable_from_sorted, IsNonDecreasingBy-drop}
 use Rattle.std.proofs.lemmas.Map.Text.{is_eq-slice_cmp}
 use Rattle.std.proofs.lemmas.Slice.Eq.{bytes_eq-Decides}
-use Rattle.std.specs.BTreeMap.{BTreeMap, get_by, is_at, UpdatesBy}
 use Rattle.std.specs.Cmp.Lexicographic.{slice_cmp}
-use Rattle.std.specs.List.{list_any}
-use Rattle.std.specs.Map.{KeepsOthers, lookup}
-use Rattle.std.specs.Option.{option_map_or, unwrap_or}
-use Rattle.std.specs.Ordering.{nat_cmp, is_eq, eq_by_cmp}
+use Rattle.std.specs.List.{list_any, prefix_len}
+use Rattle.std.specs.List.Sorted.{IsNonDecreasingBy, IsPartitionedBy, IsPartitionPoint, IsStableBy, ties}
+use Rattle.std.specs.Ordering.{nat_cmp, is_lt, is_eq, ordering_index, ordering_reverse}
 use Rattle.std.specs.declared.cmp.Ordering.{Ordering}
+use Rattle.std.specs.declared.cmp.Ordering.TheVariants.{Less, Equal, Greater}
 use Rattle.std.specs.declared.alloc.Global.{Global}
 use Rattle.regress_syntax.specs.Syntax.{Name, is_named}
 use Rattle.regress_syntax.specs.Meaning.{groups_named}
 use Rattle.regress_syntax.specs.Rows.{has_names}
-use Rattle.regress_syntax.specs.Numbering.{names_of, numbers_in}
+use Rattle.regress_syntax.specs.Numbering.{names_of, numbered, order_of, name_order, AreSortedByName}
+use Rattle.regress_syntax.specs.Scanning.{name_and_number, is_before}
+use Rattle.regress_syntax.specs.declared.scan.scanner.NamedGroup.{NamedGroup}
 
 is_some-map : (name : Option (Vec ℕ Global)) → is_some (option_map (λ name. name.items) name) ≡ is_some name
 is_some-map None = refl
@@ -26,117 +29,258 @@ pub has_names_in : (names : List (Option (Vec ℕ Global))) → list_any is_some
 has_names_in [] = refl
 has_names_in (name ∷ names) = rw (is_some-map name, has_names_in names) refl
 
+-- ---- the groups that have names, in the order of all groups
+
 -- one group more, behind those of a list
-pub groups_named-push : (name : Name) (k : ℕ) (names : List (Option Name)) (other : Option Name) →
-    groups_named name k (names ++ other ∷ []) ≡ groups_named name k names ++ cond (is_named name other) ((k + length names) ∷ []) []
-groups_named-push name k [] other = let same : k ≡ k + 0 = omega arith in ap (λ (i : ℕ). cond (is_named name other) (i ∷ []) []) same
-groups_named-push name k (first ∷ names) other = by_test (groups_named-push name (k + 1) names other) (is_named name first)
+pub numbered-push : (n : ℕ) (names : List (Option Name)) (other : Option Name) →
+    numbered n (names ++ other ∷ []) ≡ numbered n names ++ numbered (n + length names) (other ∷ [])
+numbered-push n [] other = let e : n ≡ n + 0 = omega arith in ap (λ (k : ℕ). numbered k (other ∷ [])) e
+numbered-push n (None ∷ names) other =
+    let e : n + 1 + length names ≡ n + suc (length names) = omega arith in
+    numbered-push (n + 1) names other ∙ ap (λ (k : ℕ). numbered (n + 1) names ++ numbered k (other ∷ [])) e
+numbered-push n (Some name ∷ names) other =
+    let e : n + 1 + length names ≡ n + suc (length names) = omega arith in
+    ap (λ (rest : List (Name × ℕ)). (name, n) ∷ rest)
+    (numbered-push (n + 1) names other ∙ ap (λ (k : ℕ). numbered (n + 1) names ++ numbered k (other ∷ [])) e)
+
+-- those of a name
+numbers_named : (name : Name) (n : ℕ) (names : List (Option Name)) →
+    map (λ (p : Name × ℕ). p.1) (filter (λ (p : Name × ℕ). bytes_eq p.0 name) (numbered n names)) ≡ groups_named name n names
+numbers_named name n [] = refl
+numbers_named name n (None ∷ names) = numbers_named name (n + 1) names
+numbers_named name n (Some other ∷ names) = by (bytes_eq other name) (numbers_named name (n + 1) names)
   where
-    same : k + 1 + length names ≡ k + suc (length names)
-    same = omega arith
+    rest : List (Name × ℕ)
+    rest = filter (λ (p : Name × ℕ). bytes_eq p.0 name) (numbered (n + 1) names)
 
-    by_test : groups_named name (k + 1) (names ++ other ∷ []) ≡
-        groups_named name (k + 1) names ++ cond (is_named name other) ((k + 1 + length names) ∷ []) [] → (b : Bool) →
-        cond b (k ∷ groups_named name (k + 1) (names ++ other ∷ [])) (groups_named name (k + 1) (names ++ other ∷ [])) ≡
-        cond b (k ∷ groups_named name (k + 1) names) (groups_named name (k + 1) names) ++ cond (is_named name other) ((k + suc (length names)) ∷ []) []
-    by_test more true = rw (← same) (ap (λ (ks : List ℕ). k ∷ ks) more)
-    by_test more false = rw (← same) more
+    by : (b : Bool) → map (λ (p : Name × ℕ). p.1) (filter (λ (p : Name × ℕ). bytes_eq p.0 name) (numbered (n + 1) names)) ≡ groups_named name (n + 1) names →
+        map (λ (p : Name × ℕ). p.1) (cond b ((other, n) ∷ filter (λ (p : Name × ℕ). bytes_eq p.0 name) (numbered (n + 1) names)) (filter (λ (p : Name × ℕ). bytes_eq p.0 name) (numbered (n + 1) names)))
+        ≡ cond b (n ∷ groups_named name (n + 1) names) (groups_named name (n + 1) names)
+    by true e = ap (λ (ks : List ℕ). n ∷ ks) e
+    by false e = e
 
--- ---- the map of numbers
+-- it stands where its number says
+abbrev Stands : ℕ → List (Option Name) → Name × ℕ → Type 0
+Stands n names p = (j : ℕ) × (p.1 ≡ n + j) × (get_or names j None ≡ Some p.0)
 
-abbrev pub Numbers : Type 0
-Numbers = BTreeMap (Vec ℕ Global) (Vec ℕ Global)
+stands_behind : (n : ℕ) (first : Option Name) (names : List (Option Name)) (p : Name × ℕ) → Stands (n + 1) names p → Stands n (first ∷ names) p
+stands_behind n first names p h = (suc h.0, omega (arith, h.1), h.2)
 
-abbrev by_items : Vec ℕ Global → Vec ℕ Global → Ordering
-by_items x y = slice_cmp nat_cmp x.items y.items
+all_stand : (n : ℕ) (names : List (Option Name)) → All (Stands n names) (numbered n names)
+all_stand n [] = All-nil (Stands n [])
+all_stand n (None ∷ names) =
+    All-weaker (Stands (n + 1) names) (Stands n (None ∷ names)) (stands_behind n None names) (numbered (n + 1) names) (all_stand (n + 1) names)
+all_stand n (Some name ∷ names) =
+    All-cons (Stands n (Some name ∷ names)) (name, n) (numbered (n + 1) names) (0, omega arith, refl)
+    (All-weaker (Stands (n + 1) names) (Stands n (Some name ∷ names)) (stands_behind n (Some name) names) (numbered (n + 1) names) (all_stand (n + 1) names))
 
--- what a name finds
-abbrev pub found_at : Numbers → Name → Option (Vec ℕ Global)
-found_at numbers name = get_by (λ key. slice_cmp nat_cmp name key.items) numbers
+abbrev IsFound : List (Option Name) → Name × ℕ → Type 0
+IsFound names p = get_or names (p.1 - 1) None ≡ Some p.0
 
-abbrev is_key : Name → Vec ℕ Global → Bool
-is_key name = is_at (λ key. slice_cmp nat_cmp name key.items)
+found_if : (names : List (Option Name)) (p : Name × ℕ) → Stands 1 names p → IsFound names p
+found_if names p h = let e : p.1 - 1 ≡ h.0 = omega (arith, h.1) in ap (λ (k : ℕ). get_or names k None) e ∙ h.2
 
-other_name : (a b key : Name) → bytes_eq a b ≡ false → is_eq (slice_cmp nat_cmp a key) ≡ true → is_eq (slice_cmp nat_cmp b key) ≡ false
-other_name a b key e h =
-    is_eq-slice_cmp b key ∙ nat_list_eq_equiv.symm b key ∙ sym (nat_list_eq_equiv.congr a key b (sym (is_eq-slice_cmp a key) ∙ h)) ∙ e
+name_found : (names : List (Option Name)) → All (IsFound names) (numbered 1 names)
+name_found names = All-weaker (Stands 1 names) (IsFound names) (found_if names) (numbered 1 names) (all_stand 1 names)
 
-others_kept : (a b : Name) (old new : List (Vec ℕ Global × Vec ℕ Global)) → bytes_eq a b ≡ false → KeepsOthers (eq_by_cmp by_items) (is_key a) old new →
-    lookup (is_key b) new ≡ lookup (is_key b) old
-unfolding KeepsOthers
-others_kept a b old new e kept =
-    kept (is_key b) (λ x y. (eq_by_cmp_equiv nat_list_cmp_total).congr b x.items y.items) (λ key h. other_name a b key.items e h)
+-- ---- lists
 
--- what another name finds, or this one, behind a change at this one
-found_changed : (a : Name) (old new : Numbers) (w : Option (Vec ℕ Global)) → UpdatesBy by_items (λ key. slice_cmp nat_cmp a key.items) old new w →
-    (b : Name) → found_at new b ≡ cond (bytes_eq a b) w (found_at old b)
-found_changed a old new w h b =
-    ⊎_elim
-    (λ (e : bytes_eq a b ≡ true).
-    subst (λ (name : Name). found_at new name ≡ w) ((bytes_eq-Decides a b).0 e) h.1 ∙ sym (cond-true (bytes_eq a b) w (found_at old b) e))
-    (λ (e : bytes_eq a b ≡ false). others_kept a b old.entries new.entries e h.3 ∙ sym (cond-false (bytes_eq a b) w (found_at old b) e))
-    (cases_Bool (bytes_eq a b))
-
--- a number more for a name
-pub number_added : (a : Name) (old new : Numbers) (numbers : Vec ℕ Global) (k : ℕ) →
-    UpdatesBy by_items (λ key. slice_cmp nat_cmp a key.items) old new (Some numbers) → numbers.items ≡ numbers_in old a ++ k ∷ [] →
-    (b : Name) → numbers_in new b ≡ cond (bytes_eq a b) (numbers_in old b ++ k ∷ []) (numbers_in old b)
-number_added a old new numbers k put more b = by_test (bytes_eq a b) refl
+filter-map : {X Y : Type 0} (p : Y → Bool) (f : X → Y) (xs : List X) → filter p (map f xs) ≡ map f (filter (λ x. p (f x)) xs)
+filter-map p f [] = refl
+filter-map p f (x ∷ xs) = by (p (f x)) (filter-map p f xs)
   where
-    by_test : (t : Bool) → bytes_eq a b ≡ t → numbers_in new b ≡ cond t (numbers_in old b ++ k ∷ []) (numbers_in old b)
-    by_test true e =
-        let same : a ≡ b = (bytes_eq-Decides a b).0 e in
-        ap (λ (found : Option (Vec ℕ Global)). option_map_or (λ numbers. numbers.items) found [])
-        (found_changed a old new (Some numbers) put b ∙ cond-true (bytes_eq a b) _ _ e)
-        ∙ more ∙ ap (λ (name : Name). numbers_in old name ++ k ∷ []) same
-    by_test false e =
-        ap (λ (found : Option (Vec ℕ Global)). option_map_or (λ numbers. numbers.items) found [])
-        (found_changed a old new (Some numbers) put b ∙ cond-false (bytes_eq a b) _ _ e)
+    by : (b : Bool) → filter p (map f xs) ≡ map f (filter (λ x. p (f x)) xs) →
+        cond b (f x ∷ filter p (map f xs)) (filter p (map f xs)) ≡ map f (cond b (x ∷ filter (λ x. p (f x)) xs) (filter (λ x. p (f x)) xs))
+    by true e = ap (λ ys. f x ∷ ys) e
+    by false e = e
 
-pub items_of_found : (found : Option (Vec ℕ Global)) (none : Vec ℕ Global) → none.items ≡ [] →
-    (unwrap_or found none).items ≡ option_map_or (λ numbers. numbers.items) found []
-items_of_found None none e = e
-items_of_found (Some numbers) none e = refl
+all_of_map : {X Y : Type 0} (P : Y → Type 0) (f : X → Y) (xs : List X) → All P (map f xs) → All (λ x. P (f x)) xs
+all_of_map P f [] h = All-nil (λ x. P (f x))
+all_of_map P f (x ∷ xs) h = All-cons (λ x. P (f x)) x xs (All-head P (f x) (map f xs) h) (all_of_map P f xs (All-tail P (f x) (map f xs) h))
 
--- a change at an equal name
-pub same_change : (a b : Name) (old new : Numbers) (w : Option (Vec ℕ Global)) → a ≡ b →
-    UpdatesBy by_items (λ key. slice_cmp nat_cmp a key.items) old new w → UpdatesBy by_items (λ key. slice_cmp nat_cmp b key.items) old new w
-same_change a b old new w same h = subst (λ (name : Name). UpdatesBy by_items (λ key. slice_cmp nat_cmp name key.items) old new w) same h
+filter_same : {X : Type 0} (p q : X → Bool) (xs : List X) → All (λ x. p x ≡ q x) xs → filter p xs ≡ filter q xs
+filter_same {X = X} p q [] h = refl
+filter_same {X = X} p q (x ∷ xs) h =
+    ap₂ (λ (b : Bool) (ys : List X). cond b (x ∷ ys) ys) (All-head (λ x. p x ≡ q x) x xs h) (filter_same p q xs (All-tail (λ x. p x ≡ q x) x xs h))
 
--- ---- one turn of the loop that numbers the groups
+filter_none : {X : Type 0} (p : X → Bool) (xs : List X) → All (λ x. p x ≡ false) xs → filter p xs ≡ []
+filter_none p [] h = refl
+filter_none p (x ∷ xs) h =
+    cond-false (p x) (x ∷ filter p xs) (filter p xs) (All-head (λ x. p x ≡ false) x xs h) ∙ filter_none p xs (All-tail (λ x. p x ≡ false) x xs h)
 
-one_group_more : (names : List (Option (Vec ℕ Global))) (i : ℕ) (item : Option (Vec ℕ Global)) (name : Name) → i < length names → item ≡ get_or names i item →
-    groups_named name 1 (names_of (take (i + 1) names)) ≡
-    groups_named name 1 (names_of (take i names)) ++ cond (is_named name (option_map (λ name. name.items) item)) ((i + 1) ∷ []) []
-one_group_more names i item name l e =
-    let more : take (i + 1) names ≡ take i names ++ item ∷ [] =
-    take_more names i item l ∙ ap (λ (x : Option (Vec ℕ Global)). take i names ++ x ∷ []) (sym e) in
-    let long : 1 + length (names_of (take i names)) ≡ i + 1 =
-    omega (arith, length-map (take i names) (option_map {T = Vec ℕ Global} {U = List ℕ} (λ name. name.items)), length-take i names) in
-    ap (λ (xs : List (Option (Vec ℕ Global))). groups_named name 1 (names_of xs)) more
-    ∙ ap (groups_named name 1) (map-append (option_map (λ name. name.items)) (take i names) (item ∷ []))
-    ∙ groups_named-push name 1 (names_of (take i names)) (option_map (λ name. name.items) item)
-    ∙ ap (λ (k : ℕ). groups_named name 1 (names_of (take i names)) ++ cond (is_named name (option_map (λ name. name.items) item)) (k ∷ []) []) long
+some_or_none : {X : Type 0} (p : X → Bool) (xs : List X) → ((x : X) × (p x ≡ true)) ⊎ All (λ x. p x ≡ false) xs
+some_or_none p [] = inr (All-nil (λ x. p x ≡ false))
+some_or_none p (x ∷ xs) =
+    ⊎_elim (λ (e : p x ≡ true). inl (x, e))
+    (λ (e : p x ≡ false). ⊎_elim (λ h. inl h) (λ h. inr (All-cons (λ x. p x ≡ false) x xs e h)) (some_or_none p xs))
+    (cases_Bool (p x))
 
-pub numbered_none : (names : List (Option (Vec ℕ Global))) (i : ℕ) (item : Option (Vec ℕ Global)) (name : Name) (ks : List ℕ) →
-    i < length names → item ≡ get_or names i item → item ≡ None → ks ≡ groups_named name 1 (names_of (take i names)) →
-    ks ≡ groups_named name 1 (names_of (take (i + 1) names))
-numbered_none names i item name ks l e none h =
-    h ∙ sym (append-nil _)
-    ∙ ap (λ (x : Option (Vec ℕ Global)). groups_named name 1 (names_of (take i names)) ++ cond (is_named name (option_map (λ name. name.items) x)) ((i + 1) ∷ []) [])
-    (sym none)
-    ∙ sym (one_group_more names i item name l e)
+-- ---- groups in the order of their names
 
-cond_append : (b : Bool) (xs ys : List ℕ) → cond b (xs ++ ys) xs ≡ xs ++ cond b ys []
-cond_append true xs ys = refl
-cond_append false xs ys = sym (append-nil xs)
+neither_less : (r : Ordering) → not (is_lt (ordering_reverse r)) && not (is_lt r) ≡ is_eq r
+neither_less Less = refl
+neither_less Equal = refl
+neither_less Greater = refl
 
-pub numbered_some : (names : List (Option (Vec ℕ Global))) (i : ℕ) (item : Option (Vec ℕ Global)) (found : Vec ℕ Global) (name : Name) (ks : List ℕ) (number : ℕ) →
-    i < length names → item ≡ get_or names i item → item ≡ Some found → number ≡ i + 1 → ks ≡ groups_named name 1 (names_of (take i names)) →
-    cond (bytes_eq found.items name) (ks ++ number ∷ []) ks ≡ groups_named name 1 (names_of (take (i + 1) names))
-numbered_some names i item found name ks number l e some same h =
-    cond_append (bytes_eq found.items name) ks (number ∷ [])
-    ∙ ap₂ (λ (xs : List ℕ) (k : ℕ). xs ++ cond (bytes_eq found.items name) (k ∷ []) []) h same
-    ∙ ap (λ (x : Option (Vec ℕ Global)). groups_named name 1 (names_of (take i names)) ++ cond (is_named name (option_map (λ name. name.items) x)) ((i + 1) ∷ []) [])
-    (sym some)
-    ∙ sym (one_group_more names i item name l e)
+-- what ties with a group has its name
+ties_by_name : (x y : NamedGroup) → ties is_before x y ≡ bytes_eq y.name.items x.name.items
+ties_by_name x y =
+    let a = x.name.items in
+    let b = y.name.items in
+    ap (λ (r : Ordering). not (is_lt r) && not (is_lt (slice_cmp nat_cmp b a))) (nat_list_cmp_total.antisymm a b)
+    ∙ neither_less (slice_cmp nat_cmp b a) ∙ is_eq-slice_cmp b a
+
+module _ (names : List (Option Name)) (text sorted : List NamedGroup) (moved : IsPermutation text sorted)
+    (are : map name_and_number text ≡ numbered 1 names) where
+  -- each group stands where its number says
+  all_found : All (λ (g : NamedGroup). IsFound names (name_and_number g)) sorted
+  all_found =
+      All-permutation (λ (g : NamedGroup). IsFound names (name_and_number g)) text sorted moved
+      (all_of_map (IsFound names) name_and_number text (subst (All (IsFound names)) (sym are) (name_found names)))
+
+  abbrev OrdersSame : Name → NamedGroup → Type 0
+  OrdersSame name g = name_order names name g.number ≡ slice_cmp nat_cmp g.name.items name
+
+  orders_same : (name : Name) → All (OrdersSame name) sorted
+  orders_same name =
+      All-weaker (λ (g : NamedGroup). IsFound names (name_and_number g)) (OrdersSame name)
+      (λ (g : NamedGroup) e. ap (λ (found : Option Name). order_of found name) e) sorted all_found
+
+  in_order : IsSortedBy is_before sorted → (name : Name) →
+      IsNonDecreasingBy (λ k. ordering_index (name_order names name k)) (map (λ (g : NamedGroup). g.number) sorted)
+  in_order up name i j d le lt =
+      rises sorted (orders_same name) (searchable_from_sorted nat_list_cmp_total (λ (g : NamedGroup). g.name.items) sorted name up) i j d le lt
+    where
+      rises : (gs : List NamedGroup) → All (OrdersSame name) gs →
+          IsNonDecreasingBy (λ (g : NamedGroup). ordering_index (slice_cmp nat_cmp g.name.items name)) gs →
+          IsNonDecreasingBy (λ k. ordering_index (name_order names name k)) (map (λ (g : NamedGroup). g.number) gs)
+      rises [] same up i j d le lt = absurd (omega arith)
+      rises (g ∷ gs) same up i j d le lt =
+          let l : j < length (g ∷ gs) = omega (arith, lt, length-map (g ∷ gs) (λ (g : NamedGroup). g.number)) in
+          let k : i < length (g ∷ gs) = omega (arith, l, le) in
+          rw (get_or-map (λ (g : NamedGroup). g.number) (g ∷ gs) i g d k, get_or-map (λ (g : NamedGroup). g.number) (g ∷ gs) j g d l, same i g k, same j g l) (up i j g le l)
+
+  -- those of a name stand as they did
+  name_kept : IsStableBy is_before text sorted → (name : Name) →
+      filter (λ (g : NamedGroup). bytes_eq g.name.items name) sorted ≡ filter (λ (g : NamedGroup). bytes_eq g.name.items name) text
+  name_kept stable name =
+      ⊎_elim
+      (λ (one : (x : NamedGroup) × (bytes_eq x.name.items name ≡ true)).
+      let x = one.0 in
+      let same : x.name.items ≡ name = (bytes_eq-Decides x.name.items name).0 one.1 in
+      let tie = λ (g : NamedGroup). ties_by_name x g ∙ ap (bytes_eq g.name.items) same in
+      sym (filter_agree (ties is_before x) (λ (g : NamedGroup). bytes_eq g.name.items name) tie sorted) ∙ stable x
+      ∙ filter_agree (ties is_before x) (λ (g : NamedGroup). bytes_eq g.name.items name) tie text)
+      (λ (none : All (λ (x : NamedGroup). bytes_eq x.name.items name ≡ false) text).
+      filter_none (λ (g : NamedGroup). bytes_eq g.name.items name) sorted
+      (All-permutation (λ (x : NamedGroup). bytes_eq x.name.items name ≡ false) text sorted moved none)
+      ∙ sym (filter_none (λ (g : NamedGroup). bytes_eq g.name.items name) text none))
+      (some_or_none (λ (g : NamedGroup). bytes_eq g.name.items name) text)
+
+  pub sorted_by_name : IsSortedBy is_before sorted → IsStableBy is_before text sorted →
+      AreSortedByName names (map (λ (g : NamedGroup). g.number) sorted)
+  sorted_by_name up stable = record {
+    order = in_order up;
+    each = λ name.
+        filter-map (λ k. is_eq (name_order names name k)) (λ (g : NamedGroup). g.number) sorted
+        ∙ ap (map (λ (g : NamedGroup). g.number))
+        (filter_same (λ (g : NamedGroup). is_eq (name_order names name g.number)) (λ (g : NamedGroup). bytes_eq g.name.items name) sorted
+        (All-weaker (OrdersSame name) (λ (g : NamedGroup). is_eq (name_order names name g.number) ≡ bytes_eq g.name.items name)
+        (λ (g : NamedGroup) e. ap is_eq e ∙ is_eq-slice_cmp g.name.items name) sorted (orders_same name))
+        ∙ name_kept stable name)
+        ∙ again (filter (λ (g : NamedGroup). bytes_eq g.name.items name) text)
+        ∙ ap (map (λ (p : Name × ℕ). p.1)) (sym (filter-map (λ (p : Name × ℕ). bytes_eq p.0 name) name_and_number text))
+        ∙ ap (λ ps. map (λ (p : Name × ℕ). p.1) (filter (λ (p : Name × ℕ). bytes_eq p.0 name) ps)) are
+        ∙ numbers_named name 1 names;
+  }
+    where
+      again : (gs : List NamedGroup) → map (λ (g : NamedGroup). g.number) gs ≡ map (λ (p : Name × ℕ). p.1) (map name_and_number gs)
+      again [] = refl
+      again (g ∷ gs) = ap (λ ks. g.number ∷ ks) (again gs)
+
+-- ---- one group more
+
+-- the group behind others
+pub number_added : (old new : List NamedGroup) (group : NamedGroup) (name : Vec ℕ Global) (given : Option (Vec ℕ Global)) (names names' : List (Option (Vec ℕ Global))) →
+    given ≡ Some name → group.name.items ≡ name.items → group.number ≡ length names + 1 → new ≡ old ++ group ∷ [] → names' ≡ names ++ given ∷ [] →
+    map name_and_number old ≡ numbered 1 (names_of names) → map name_and_number new ≡ numbered 1 (names_of names')
+number_added old new group name given names names' e same number pushed more h =
+    let known : names_of (given ∷ []) ≡ Some group.name.items ∷ [] = ap (λ (x : Option (Vec ℕ Global)). names_of (x ∷ [])) e ∙ ap (λ (n : Name). Some n ∷ []) (sym same) in
+    let here : 1 + length (names_of names) ≡ group.number = omega (arith, number, length-map names (option_map {T = Vec ℕ Global} {U = List ℕ} (λ name. name.items))) in
+    ap (map name_and_number) pushed
+    ∙ map-append name_and_number old (group ∷ [])
+    ∙ ap₂ (λ (xs : List (Name × ℕ)) (k : ℕ). xs ++ (group.name.items, k) ∷ []) h (sym here)
+    ∙ sym (numbered-push 1 (names_of names) (Some group.name.items))
+    ∙ ap (λ (ns : List (Option Name)). numbered 1 (names_of names ++ ns)) (sym known)
+    ∙ ap (numbered 1) (sym (ap names_of more ∙ map-append (option_map (λ name. name.items)) names (given ∷ [])))
+
+-- one without a name
+pub none_numbered : (old new : List NamedGroup) (given : Option (Vec ℕ Global)) (names names' : List (Option (Vec ℕ Global))) →
+    given ≡ None → new ≡ old → names' ≡ names ++ given ∷ [] →
+    map name_and_number old ≡ numbered 1 (names_of names) → map name_and_number new ≡ numbered 1 (names_of names')
+none_numbered old new given names names' e same more h =
+    ap (map name_and_number) same ∙ h ∙ sym (append-nil _)
+    ∙ sym (numbered-push 1 (names_of names) None)
+    ∙ ap (λ (x : Option (Vec ℕ Global)). numbered 1 (names_of names ++ names_of (x ∷ []))) (sym e)
+    ∙ ap (numbered 1) (sym (ap names_of more ∙ map-append (option_map (λ name. name.items)) names (given ∷ [])))
+
+-- ---- what a search finds
+
+no_higher : (r s : Ordering) → ordering_index r ≤ ordering_index s → is_lt s ≡ true → is_lt r ≡ true
+no_higher Less s h e = refl
+no_higher Equal Less h e = absurd (omega arith)
+no_higher Equal Equal h e = e
+no_higher Equal Greater h e = e
+no_higher Greater Less h e = absurd (omega arith)
+no_higher Greater Equal h e = absurd (omega arith)
+no_higher Greater Greater h e = e
+
+less_or_not : (r : Ordering) → is_lt r ≡ true → is_eq r ≡ false
+less_or_not Less e = refl
+less_or_not Equal e = absurd (true≢false (sym e))
+less_or_not Greater e = refl
+
+above : (r : Ordering) → 2 ≤ ordering_index r → is_eq r ≡ false
+above Less h = refl
+above Equal h = absurd (omega arith)
+above Greater h = refl
+
+module _ (order : ℕ → Ordering) where
+  pub parted : (xs : List ℕ) → IsNonDecreasingBy (λ k. ordering_index (order k)) xs → IsPartitionedBy (λ k. is_lt (order k)) xs
+  parted xs up i j d le lt e = no_higher _ _ (up i j d le lt) e
+
+  -- behind what is lower those that tie come first
+  equal_first : (xs : List ℕ) → IsNonDecreasingBy (λ k. ordering_index (order k)) xs → All (λ k. is_lt (order k) ≡ false) xs →
+      take (prefix_len (λ k. is_eq (order k)) xs) xs ≡ filter (λ k. is_eq (order k)) xs
+  equal_first [] up none = refl
+  equal_first (x ∷ xs) up none =
+      by (order x) (All-head (λ k. is_lt (order k) ≡ false) x xs none) (λ i d lt. up 0 (suc i) d (omega arith) (omega arith))
+      (equal_first xs (λ i j d le lt. up (suc i) (suc j) d (omega arith) (omega arith)) (All-tail (λ k. is_lt (order k) ≡ false) x xs none))
+    where
+      by : (r : Ordering) → is_lt r ≡ false → ((i d : ℕ) → i < length xs → ordering_index r ≤ ordering_index (order (get_or xs i d))) →
+          take (prefix_len (λ k. is_eq (order k)) xs) xs ≡ filter (λ k. is_eq (order k)) xs →
+          take (cond (is_eq r) (1 + prefix_len (λ k. is_eq (order k)) xs) 0) (x ∷ xs) ≡
+          cond (is_eq r) (x ∷ filter (λ k. is_eq (order k)) xs) (filter (λ k. is_eq (order k)) xs)
+      by Less e high more = absurd (true≢false e)
+      by Equal e high more = rw one_more (ap (λ (ks : List ℕ). x ∷ ks) more)
+        where
+          one_more : 1 + prefix_len (λ k. is_eq (order k)) xs ≡ suc (prefix_len (λ k. is_eq (order k)) xs)
+          one_more = omega arith
+      by Greater e high more = sym (filter_none (λ k. is_eq (order k)) xs (λ i d lt. above (order (get_or xs i d)) (high i d lt)))
+
+  -- the first place that is no lower, and what ties from there on
+  pub found_by_order : (xs : List ℕ) (place : ℕ) → IsNonDecreasingBy (λ k. ordering_index (order k)) xs → place ≤ length xs →
+      IsPartitionPoint (λ k. is_lt (order k) ≡ true) (λ k. is_lt (order k) ≡ false) xs place →
+      take (prefix_len (λ k. is_eq (order k)) (drop place xs)) (drop place xs) ≡ filter (λ k. is_eq (order k)) xs
+  found_by_order xs place up within point =
+      let lower = take place xs in
+      let rest = drop place xs in
+      let none : filter (λ k. is_eq (order k)) lower ≡ [] =
+      filter_none (λ k. is_eq (order k)) lower (λ i d lt.
+      let l : i < place = omega (arith, lt, length-take place xs) in
+      ap (λ k. is_eq (order k)) (get_or-take place xs i d l) ∙ less_or_not (order (get_or xs i d)) (point.0 i d (omega arith) l)) in
+      equal_first rest (IsNonDecreasingBy-drop (λ k. ordering_index (order k)) place xs up) (λ i d lt.
+      let l : place + i < length xs = omega (arith, lt, length-drop place xs) in
+      ap (λ k. is_lt (order k)) (get_or-drop place xs i d) ∙ point.1 (place + i) d (omega arith) l)
+      ∙ sym (ap (filter (λ k. is_eq (order k))) (sym (take-append-drop place xs)) ∙ filter-append (λ k. is_eq (order k)) lower rest
+      ∙ ap (λ (ks : List ℕ). ks ++ filter (λ k. is_eq (order k)) rest) none)

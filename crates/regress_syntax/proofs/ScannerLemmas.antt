@@ -4,10 +4,10 @@ use Rattle.std.specs.List.{list_all}
 use Rattle.std.specs.declared.alloc.Global.{Global}
 use Rattle.std.proofs.lemmas.Bool.{and_left, cases_lt}
 use Rattle.std.proofs.lemmas.List.Elements.{filter-append}
-use Rattle.std.proofs.lemmas.List.{map-append}
+use Rattle.std.proofs.lemmas.List.{map-append, length-map}
 use Rattle.regress_base.specs.Limits.{max_nesting_depth}
 use Rattle.regress_base.specs.Table.{Table}
-use Rattle.regress_lexical.specs.declared.fault.FaultKind.TheVariants.{DuplicateName}
+use Rattle.regress_lexical.specs.declared.fault.FaultKind.TheVariants.{DuplicateName, TooManyGroups}
 use Rattle.regress_lexical.specs.Source.{Source}
 use Rattle.regress_syntax.specs.Marks.{Mark, opens, captures, closes, next, nests}
 use Rattle.regress_syntax.specs.SameNames.{same_name}
@@ -74,6 +74,7 @@ none_added old new path given e same = rw (e, same) (sym (append-nil (map captur
 
 -- ---- levels
 
+-- as many levels are open at least as before
 pub deepest_above : (n : ℕ) (ms : List Mark) → n ≤ deepest n ms
 deepest_above n [] = omega arith
 deepest_above n (opens ∷ ms) = omega arith
@@ -155,6 +156,13 @@ refused_behind all scanner behind conflicts =
           (λ (few : deepest 1 all ≤ max_nesting_depth). inl (apart_behind all scanner behind few ∙ conflicts))
           (cases_lt max_nesting_depth (deepest 1 all)),
     )
+
+-- more groups than 32 bits have numbers for
+pub many_behind : (all : List Mark) (scanner : Scanner) → Behind all [] scanner → 2 ^ 32 - 1 < length scanner.names.items → MarksShow all TooManyGroups
+many_behind all scanner behind many =
+    let same : length (named_by all) ≡ length scanner.names.items =
+    ap length (behind.names ∙ append-nil (names_of scanner.names.items)) ∙ length-map scanner.names.items _ in
+    inr (inr (refl, omega (arith, same, many)))
 
 -- ---- from one code point to the next
 

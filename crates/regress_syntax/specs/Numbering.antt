@@ -1,21 +1,38 @@
 -- What the names and numbers of groups stand for, as the code keeps and reads them.
-use Rattle.std.specs.Prelude.{ℕ, List, [], map, Option, Some, None, option_map, if◌then◌else◌, nat_le, Vec}
-use Rattle.std.specs.BTreeMap.{BTreeMap, get_by}
+use Rattle.std.specs.Prelude.{◌≡◌, ℕ, ◌+◌, ◌-◌, List, [], ◌∷◌, map, filter, get_or, Option, Some, None, option_map, if◌then◌else◌, nat_le, Vec}
 use Rattle.std.specs.Cmp.Lexicographic.{slice_cmp}
-use Rattle.std.specs.Option.{option_map_or}
-use Rattle.std.specs.Ordering.{nat_cmp}
+use Rattle.std.specs.List.Sorted.{IsNonDecreasingBy}
+use Rattle.std.specs.Ordering.{nat_cmp, is_eq, ordering_index}
+use Rattle.std.specs.declared.cmp.Ordering.{Ordering}
+use Rattle.std.specs.declared.cmp.Ordering.TheVariants.{Greater}
 use Rattle.std.specs.declared.alloc.Global.{Global}
 use Rattle.regress_lexical.specs.Source.{Source, Found}
 use Rattle.regress_lexical.specs.Digits.{is_decimal, number, front, behind}
 use Rattle.regress_syntax.specs.Syntax.{Name}
+use Rattle.regress_syntax.specs.Meaning.{groups_named}
 
 -- the name of each group
 abbrev pub names_of : List (Option (Vec ℕ Global)) → List (Option Name)
 names_of names = map (option_map (λ name. name.items)) names
 
--- the numbers of the groups of a name
-abbrev pub numbers_in : BTreeMap (Vec ℕ Global) (Vec ℕ Global) → Name → List ℕ
-numbers_in numbers name = option_map_or (λ found. found.items) (get_by (λ key. slice_cmp nat_cmp name key.items) numbers) []
+-- the groups that have names, with their numbers, where the first of all groups has number n
+abbrev pub numbered : ℕ → List (Option Name) → List (Name × ℕ)
+numbered n [] = []
+numbered n (None ∷ names) = numbered (n + 1) names
+numbered n (Some name ∷ names) = (name, n) ∷ numbered (n + 1) names
+
+-- how the name of a group, by its number from 1, stands to another; without a name it stands behind all
+abbrev pub order_of : Option Name → Name → Ordering
+order_of None name = Greater
+order_of (Some other) name = slice_cmp nat_cmp other name
+
+abbrev pub name_order : List (Option Name) → Name → ℕ → Ordering
+name_order names name k = order_of (get_or names (k - 1) None) name
+
+-- The numbers of the groups that have names, in the order of these, so that a binary search finds those of a name.
+pub record AreSortedByName (names : List (Option Name)) (sorted : List ℕ) : Type 0 where
+  pub order : (name : Name) → IsNonDecreasingBy (λ k. ordering_index (name_order names name k)) sorted
+  pub each : (name : Name) → filter (λ k. is_eq (name_order names name k)) sorted ≡ groups_named name 1 names
 
 -- the number of a group, by the whole run of digits, where there are so many
 abbrev pub group_number_at : (groups : ℕ) → Source → Found ℕ

@@ -1,7 +1,10 @@
 -- What the state of the scan stands for.
-use Rattle.std.specs.Prelude.{◌≡◌, ℕ, ◌+◌, ◌-◌, ◌^◌, min, max, ◌≤◌, Bool, List, [], ◌∷◌, ◌++◌, map, length, reverse, Option, Some, None, option_map, is_some, filter, unwrap_or, Result, Ok, Err}
+use Rattle.std.specs.Prelude.{◌≡◌, ℕ, ◌+◌, ◌-◌, ◌^◌, min, max, ◌≤◌, ◌<◌, Bool, List, [], ◌∷◌, ◌++◌, map, length, reverse, Option, Some, None, option_map, is_some, filter, unwrap_or, Result, Ok, Err}
+use Rattle.std.specs.Cmp.Lexicographic.{slice_cmp}
+use Rattle.std.specs.Ordering.{nat_cmp, is_lt}
 use Rattle.regress_base.specs.Limits.{max_nesting_depth}
-use Rattle.regress_syntax.specs.Numbering.{names_of}
+use Rattle.regress_syntax.specs.Numbering.{names_of, numbered}
+use Rattle.regress_syntax.specs.Syntax.{Name}
 use Rattle.regress_syntax.specs.Marks.{Mark, opens, captures, closes, next, nests}
 use Rattle.regress_syntax.specs.Paths.{Level, Path, Place, CaptureAt, groups_by, at_the_start}
 use Rattle.regress_syntax.specs.Scan.{Mode, plain, escape, class, class_escape, named_by, deepest}
@@ -76,6 +79,18 @@ levels_after (nests levels) n = n
 -- a group that has a name
 abbrev pub capture_of : NamedGroup → CaptureAt
 capture_of group = record { path = path_of group.path; name = Some group.name.items }
+
+-- its name and its number
+abbrev pub name_and_number : NamedGroup → Name × ℕ
+name_and_number group = (group.name.items, group.number)
+
+abbrev pub is_before : NamedGroup → NamedGroup → Bool
+is_before group other = is_lt (slice_cmp nat_cmp group.name.items other.name.items)
+
+-- The groups that have names are those of all groups, unless 32 bits have no numbers for them.
+abbrev pub HasNumbers : Scanner → Type 0
+HasNumbers scanner =
+    length scanner.names.items < 2 ^ 32 → map name_and_number scanner.named.items ≡ numbered 1 (names_of scanner.names.items)
 
 abbrev pub bears_name : CaptureAt → Bool
 bears_name group = is_some group.name

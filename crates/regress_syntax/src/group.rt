@@ -97,12 +97,12 @@ fn read_behind_angle(cursor: &mut Cursor, tables: &Tables) -> Result<Group, Faul
                 backwards: true,
             })
         }
-        _ => read_named(cursor, tables),
+        _ => read_named_group(cursor, tables),
     }
 }
 
 /// Reads the name of a capture group.
-fn read_named(cursor: &mut Cursor, tables: &Tables) -> Result<Group, Fault>
+fn read_named_group(cursor: &mut Cursor, tables: &Tables) -> Result<Group, Fault>
     ensures value { Reads (λ kind. opens (group_of kind)) (source cursor.new) result (named_group_at (table_of tables.now) (source cursor.old)) }
     ensures kind { FailsByNoLimit result }
 {

@@ -3,7 +3,6 @@ ghost use Rattle.std.specs.Prelude.{◌≡◌, ◌≤◌, min, length, IfOk};
 ghost use Rattle.regress_base.specs.Limits.{max_capture_groups, max_nesting_depth};
 ghost use Rattle.regress_unicode.specs.TableOf.{table_of};
 ghost use Rattle.regress_lexical.specs.Fault.{FailsBy};
-ghost use Rattle.regress_syntax.specs.Numbering.{names_of};
 ghost use Rattle.regress_syntax.specs.Paths.{NoMarksConflict};
 ghost use Rattle.regress_syntax.specs.Scan.{GivesMarks, plain, marks, named_by, deepest, MarksShow};
 ghost use Rattle.regress_syntax.specs.Scanning.{NotesFirst, IsLocated, FailsAt};
@@ -15,10 +14,9 @@ mod path;
 mod scanner;
 
 use crate::groups::Groups;
-use crate::names::Name;
 use mark::{Mode, read_mark, skip_quiet};
 pub use misplaced::Misplaced;
-use regress_lexical::fault::{Fault, FaultKind, refused};
+use regress_lexical::fault::Fault;
 use regress_unicode::Tables;
 use scanner::Scanner;
 use std::alloc::Global;
@@ -45,23 +43,19 @@ pub fn scan(alloc: Global, pattern: &[u32], sets: bool, tables: &Tables) -> Resu
     ensures located { FailsAt result (IsLocated sets pattern.now) }
     ensures whole { GivesMarks sets (table_of tables.now) pattern.now }
 {
-    let (names, misplaced) = find_names(alloc, pattern, sets, tables)?;
-    // The number of each has 32 bits.
-    if names.len() > u32::MAX as usize {
-        return Err(refused(0, FaultKind::TooManyGroups));
-    }
-    let groups = Groups::new(alloc, names)?;
+    let (groups, misplaced) = find_groups(alloc, pattern, sets, tables)?;
     Ok(Findings { groups, misplaced })
 }
 
-/// The name of each capture group and what is misplaced, with the same faults.
-fn find_names(
+/// The capture groups and what is misplaced, with the same faults.
+fn find_groups(
     alloc: Global,
     pattern: &[u32],
     sets: bool,
     tables: &Tables,
-) -> Result<(Vec<Option<Name>>, Misplaced), Fault>
-    ensures names { IfOk result (λ found. names_of found.0.items ≡ named_by (marks sets (table_of tables.now) plain pattern.now)) }
+) -> Result<(Groups, Misplaced), Fault>
+    ensures names { IfOk result (λ found. names_in found.0 ≡ named_by (marks sets (table_of tables.now) plain pattern.now)) }
+    ensures count { IfOk result (λ found. found.0.count ≡ min (length (names_in found.0)) max_capture_groups) }
     ensures apart { IfOk result (λ _. NoMarksConflict (marks sets (table_of tables.now) plain pattern.now)) }
     ensures levels { IfOk result (λ _. deepest 1 (marks sets (table_of tables.now) plain pattern.now) ≤ max_nesting_depth) }
     ensures misplaced { IfOk result (λ found. NotesFirst sets pattern.now found.1) }
@@ -82,7 +76,7 @@ fn find_names(
         rest = behind;
     }
     match scanner.finish() {
-        Ok(names) => Ok((names, misplaced)),
+        Ok(groups) => Ok((groups, misplaced)),
         Err(fault) => Err(misplaced.locate(fault)),
     }
 }

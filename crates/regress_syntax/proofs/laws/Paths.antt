@@ -21,6 +21,12 @@ is_beside level other = level.opening == other.opening && not (level.alternative
 abbrev pub some_holds_both : Path → Path → Bool
 some_holds_both path other = list_any (λ level. list_any (is_beside level) other) path
 
+-- a path from its outermost level on, around a level of it
+pub turned : (front outer : Path) (level : Level) → reverse (front ++ level ∷ outer) ≡ reverse outer ++ level ∷ reverse front
+turned front outer level =
+    reverse-append front (level ∷ outer) ∙ ap (λ p. p ++ reverse front) (reverse-append (level ∷ []) outer)
+    ∙ append_assoc (reverse outer) (level ∷ []) (reverse front)
+
 -- ---- numbers of parentheses
 
 -- all are below n
@@ -208,18 +214,13 @@ module _ (old : Path) (n : ℕ) where
         let alternative : not (before.alternative == here.alternative) ≡ true = not_from_false _ (lower_differs before.alternative here.alternative less) in
         let beside : is_beside before here ≡ true = and_from _ _ opening alternative in
         subst (λ p. are_alternatives (reverse p) (reverse (more ++ here ∷ outer)) ≡ some_holds_both p (more ++ here ∷ outer)) (sym e)
-        (ap₂ are_alternatives (turned inner before) (turned more here)
+        (ap₂ are_alternatives (turned inner outer before) (turned more outer here)
         ∙ same_front (reverse outer) (before ∷ reverse inner) (here ∷ reverse more)
         ∙ first (reverse inner) (reverse more)
         ∙ sym (list_any-append (λ level. list_any (is_beside level) (more ++ here ∷ outer)) inner (before ∷ outer)
         ∙ or_right _ _ (or_left _ _
         (list_any-append (is_beside before) more (here ∷ outer) ∙ or_right _ _ (or_left _ _ beside)))))
       where
-        turned : (front : Path) (level : Level) → reverse (front ++ level ∷ outer) ≡ reverse outer ++ level ∷ reverse front
-        turned front level =
-            reverse-append front (level ∷ outer) ∙ ap (λ p. p ++ reverse front) (reverse-append (level ∷ []) outer)
-            ∙ append_assoc (reverse outer) (level ∷ []) (reverse front)
-
         first : (path other : Path) → are_alternatives (before ∷ path) (here ∷ other) ≡ true
         first path other =
             and_from _ _ (same_number before.opening here.opening same)

@@ -8,7 +8,7 @@ use Rattle.regress_syntax.specs.Syntax.{Name, Atom, literal, dot, anchor, bounda
 use Rattle.regress_syntax.specs.Marks.{Mark, closes, next, mark_of_group, marks_of_atom, marks_of, marks_of_terms, marks_of_item}
 use Rattle.regress_syntax.specs.SameNames.{same_name, share_name, are_names_apart, are_names_apart_in_terms, are_names_apart_in_item, NoneConflict}
 use Rattle.regress_syntax.specs.Paths.{Level, Path, Place, at_the_start, enter, CaptureAt, groups_by, are_alternatives, conflict, are_apart, are_marks_apart}
-use Rattle.regress_syntax.proofs.laws.Paths.{Below, From, below_more, below_append, from_append, below_reverse, from_reverse, same_front, no_alternatives, lower_differs, same_number, are_apart_anywhere, apart_anywhere, are_apart_by_numbers, apart_by_numbers}
+use Rattle.regress_syntax.proofs.laws.Paths.{Below, From, turned, below_more, below_append, from_append, below_reverse, from_reverse, same_front, no_alternatives, lower_differs, same_number, are_apart_anywhere, apart_anywhere, are_apart_by_numbers, apart_by_numbers}
 
 -- ---- two lists of groups
 
@@ -115,14 +115,9 @@ beside : (n k k' m : ℕ) (outer : Path) (opening alternative : ℕ) (g other : 
     AreAlternatives true g other
 beside n k k' m outer opening alternative g other (inner, e, from, below) (number, later, (inner', e', from', below')) =
     ap₂ (λ a b. are_alternatives (reverse a) (reverse b)) e e'
-    ∙ ap₂ are_alternatives (turned inner _) (turned inner' _)
+    ∙ ap₂ are_alternatives (turned inner outer _) (turned inner' outer _)
     ∙ same_front (reverse outer) (_ ∷ reverse inner) (_ ∷ reverse inner')
     ∙ and_from _ _ (same_number opening opening refl) (or_left _ _ (not_from_false _ (lower_differs alternative number (omega (arith, later)))))
-  where
-    turned : (front : Path) (level : Level) → reverse (front ++ level ∷ outer) ≡ reverse outer ++ level ∷ reverse front
-    turned front level =
-        reverse-append front (level ∷ outer) ∙ ap (λ p. p ++ reverse front) (reverse-append (level ∷ []) outer)
-        ∙ append_assoc (reverse outer) (level ∷ []) (reverse front)
 
 abbrev at : Path → ℕ → Place
 at path n = record { path = path; opened = n }

@@ -9,6 +9,7 @@ use Rattle.regress_syntax.specs.Marks.{Mark, captures, closes, next, nests, mark
 use Rattle.regress_syntax.specs.Scan.{plain, marks, GivesMarks, named_by, deepest}
 use Rattle.regress_syntax.specs.Marks as Marks
 use Rattle.regress_syntax.proofs.ScanRows.{gives_head_at, lead_times_at}
+use Rattle.regress_syntax.proofs.ScannerLemmas.{deepest_above}
 
 -- ---- by the grammar
 
@@ -128,25 +129,16 @@ mutual
       ∙ ap (λ zs. names_of_group kind ++ zs)
       (named_by-append (marks_of p) (closes ∷ []) ∙ append-nil (named_by (marks_of p)) ∙ named_by-pattern p)
 
--- as many levels are open at least as before
-deepest-least : (n : ℕ) (ms : List Mark) → n ≤ deepest n ms
-deepest-least n [] = omega arith
-deepest-least n (Marks.opens ∷ ms) = omega arith
-deepest-least n (captures name ∷ ms) = omega arith
-deepest-least n (closes ∷ ms) = omega arith
-deepest-least n (next ∷ ms) = omega arith
-deepest-least n (nests levels ∷ ms) = omega (arith, deepest-least n ms)
-
 deepest-atom : (n : ℕ) (a : Atom) (ms : List Mark) → deepest n (marks_of_atom a ++ ms) ≡ max (n + levels_of_atom a) (deepest n ms)
-deepest-atom n (literal flags c) ms = omega (arith, deepest-least n ms)
-deepest-atom n (dot flags) ms = omega (arith, deepest-least n ms)
-deepest-atom n (anchor flags kind) ms = omega (arith, deepest-least n ms)
-deepest-atom n (boundary flags inverted) ms = omega (arith, deepest-least n ms)
-deepest-atom n (class_escape flags kind negated) ms = omega (arith, deepest-least n ms)
-deepest-atom n (class flags inverted members) ms = omega (arith, deepest-least n ms)
+deepest-atom n (literal flags c) ms = omega (arith, deepest_above n ms)
+deepest-atom n (dot flags) ms = omega (arith, deepest_above n ms)
+deepest-atom n (anchor flags kind) ms = omega (arith, deepest_above n ms)
+deepest-atom n (boundary flags inverted) ms = omega (arith, deepest_above n ms)
+deepest-atom n (class_escape flags kind negated) ms = omega (arith, deepest_above n ms)
+deepest-atom n (class flags inverted members) ms = omega (arith, deepest_above n ms)
 deepest-atom n (class_set flags negated value) ms = refl
-deepest-atom n (string_property flags written) ms = omega (arith, deepest-least n ms)
-deepest-atom n (back_reference flags to) ms = omega (arith, deepest-least n ms)
+deepest-atom n (string_property flags written) ms = omega (arith, deepest_above n ms)
+deepest-atom n (back_reference flags to) ms = omega (arith, deepest_above n ms)
 
 deepest-group : (n : ℕ) (kind : Group) (ms : List Mark) → deepest n (mark_of_group kind ∷ ms) ≡ max n (deepest (n + 1) ms)
 deepest-group n grouping ms = refl
@@ -172,7 +164,7 @@ mutual
 
   deepest-terms : (n : ℕ) (ts : Terms) (ms : List Mark) → 1 ≤ n →
       deepest n (marks_of_terms ts ++ ms) ≡ max (n + levels_of_terms ts) (deepest n ms)
-  deepest-terms n no_terms ms h = omega (arith, deepest-least n ms)
+  deepest-terms n no_terms ms h = omega (arith, deepest_above n ms)
   deepest-terms n (more_terms x q xs) ms h =
       omega (
         arith,
@@ -192,7 +184,7 @@ mutual
         ap (deepest (n + 1)) (append_assoc (marks_of p) (closes ∷ []) ms),
         deepest-pattern (n + 1) p (closes ∷ ms) (omega arith),
         ap (λ k. deepest k ms) back,
-        deepest-least n ms,
+        deepest_above n ms,
         one_level p,
       )
 

@@ -1,30 +1,31 @@
 //! The names of the groups, and the numbers of those that have one.
-ghost use Rattle.std.specs.Prelude.{◌≡◌, ◌<◌, ◌+◌, ◌^◌, ◌++◌, ◌∷◌, [], List, ℕ, min, length, IfOk, OnOk, if◌then◌else◌, bytes_eq};
+ghost use Rattle.std.specs.Prelude.{◌≡◌, ◌≤◌, true, false, min, length};
+ghost use Rattle.std.specs.List.{prefix_len};
+ghost use Rattle.std.specs.List.Sorted.{IsPartitionPoint};
+ghost use Rattle.std.specs.Ordering.{is_lt, is_eq};
 ghost use Rattle.regress_base.specs.Limits.{max_capture_groups};
 ghost use Rattle.regress_syntax.specs.Meaning.{groups_named};
-ghost use Rattle.regress_syntax.specs.Numbering.{names_of, numbers_in};
+ghost use Rattle.regress_syntax.specs.Numbering.{names_of, name_order, AreSortedByName};
 ghost use Rattle.regress_syntax.specs.Rows.{has_names};
 ghost use Rattle.regress_syntax.specs.Views.{names_in};
 
 use crate::groups::Groups;
 use crate::names::Name;
-use std::alloc::{AllocError, Global};
-use std::collections::BTreeMap;
+use std::cmp::Ordering;
 
 impl Groups {
-    /// The groups with these names.
-    pub(crate) fn new(alloc: Global, names: Vec<Option<Name>>) -> Result<Groups, AllocError>
-        requires { length names.items < 2 ^ 32 }
-        ensures names { IfOk result (λ groups. names_in groups ≡ names_of names.items) }
-        ensures count { IfOk result (λ groups. groups.count ≡ min (length names.items) max_capture_groups) }
+    /// The groups with these names, and the numbers of those that have one.
+    pub(crate) fn new(names: Vec<Option<Name>>, sorted: Vec<u32>) -> Groups
+        requires { AreSortedByName (names_of names.items) sorted.items }
+        ensures names { names_in result ≡ names_of names.items }
+        ensures count { result.count ≡ min (length names.items) max_capture_groups }
     {
-        let numbers = number(alloc, &names)?;
-        Ok(Groups {
+        Groups {
             count: u16::try_from(names.len()).unwrap_or(u16::MAX),
             named: is_any_named(&names),
             names,
-            numbers,
-        })
+            sorted,
+        }
     }
 
     /// Whether some group has a name.
@@ -34,14 +35,12 @@ impl Groups {
         self.named
     }
 
-    /// The groups of that name, by their numbers from 1, ascending.
+    /// The groups of that name, by their numbers from 1, ascending. A binary search finds the first.
     pub(crate) fn numbers_of(&self, name: &[char]) -> &[u32]
         ensures { result.now ≡ groups_named name.now 1 (names_in self.now) }
     {
-        match self.numbers.get(name) {
-            Some(numbers) => numbers,
-            None => &[],
-        }
+        let from = &self.sorted[first_of(&self.names, &self.sorted, name)..];
+        &from[..how_many_of(&self.names, from, name)]
     }
 }
 
@@ -52,33 +51,40 @@ fn is_any_named(names: &[Option<Name>]) -> bool
     names.iter().any(|name| name.is_some())
 }
 
-/// The numbers of the groups of each name.
-fn number(alloc: Global, names: &[Option<Name>]) -> Result<BTreeMap<Name, Vec<u32>>, AllocError>
-    requires { length names.now < 2 ^ 32 }
-    ensures { IfOk result (λ numbers. (name : List ℕ) → numbers_in numbers name ≡ groups_named name 1 (names_of names.now)) }
+/// How the name of a group stands to another. A group without a name stands behind all that have one.
+fn name_order(names: &[Option<Name>], number: u32, name: &[char]) -> Ordering
+    ensures { result ≡ name_order (names_of names.now) name.now number }
 {
-    let mut numbers = BTreeMap::new(alloc);
-    let mut number = 0u32;
-    for name in names {
-        number += 1;
-        if let Some(name) = name {
-            add_number(alloc, &mut numbers, name, number)?;
-        }
+    match names.get(number.saturating_sub(1) as usize) {
+        Some(Some(other)) => other.as_slice().cmp(name),
+        _ => Ordering::Greater,
     }
-    Ok(numbers)
 }
 
-/// Adds a number to those of a name.
-fn add_number(
-    alloc: Global,
-    numbers: &mut BTreeMap<Name, Vec<u32>>,
-    name: &Name,
-    number: u32,
-) -> Result<(), AllocError>
-    ensures { OnOk result ((other : List ℕ) → numbers_in numbers.new other ≡
-        (if bytes_eq name.now.items other then numbers_in numbers.old other ++ number ∷ [] else numbers_in numbers.old other)) }
+/// The place of the first number whose group's name is no lower.
+fn first_of(names: &[Option<Name>], sorted: &[u32], name: &[char]) -> usize
+    requires { AreSortedByName (names_of names.now) sorted.now }
+    ensures within { result ≤ length sorted.now }
+    ensures place { IsPartitionPoint (λ k. is_lt (name_order (names_of names.now) name.now k) ≡ true)
+        (λ k. is_lt (name_order (names_of names.now) name.now k) ≡ false) sorted.now result }
 {
-    let found = numbers.entry(name.clone()?)?.or_insert(Vec::new(alloc));
-    found.push(number)?;
-    Ok(())
+    sorted.partition_point(|number| is_lower(names, *number, name))
+}
+
+/// Whether the name of a group is lower than another.
+fn is_lower(names: &[Option<Name>], number: u32, name: &[char]) -> bool
+    ensures { result ≡ is_lt (name_order (names_of names.now) name.now number) }
+{
+    name_order(names, number, name).is_lt()
+}
+
+/// How many groups at the front have the name.
+fn how_many_of(names: &[Option<Name>], numbers: &[u32], name: &[char]) -> usize
+    ensures value { result ≡ prefix_len (λ k. is_eq (name_order (names_of names.now) name.now k)) numbers.now }
+    ensures within { result ≤ length numbers.now }
+{
+    numbers
+        .iter()
+        .take_while(|number| name_order(names, **number, name).is_eq())
+        .count()
 }

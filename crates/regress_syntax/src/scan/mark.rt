@@ -70,13 +70,12 @@ impl Mode {
 fn is_quiet(c: u32) -> bool
     ensures { result ≡ is_quiet c }
 {
-    let is_loud = c == u32::from('\\')
-        || c == u32::from('[')
-        || c == u32::from(']')
-        || c == u32::from('(')
-        || c == u32::from(')')
-        || c == u32::from('|');
-    !is_loud
+    // In two parts, of which each is tested by few comparisons.
+    if c < u32::from('@') {
+        c != u32::from('(') && c != u32::from(')')
+    } else {
+        c != u32::from('[') && c != u32::from('\\') && c != u32::from(']') && c != u32::from('|')
+    }
 }
 
 /// What stands behind the code point that is escaped, if there is one.

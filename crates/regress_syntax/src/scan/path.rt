@@ -5,6 +5,9 @@ ghost use Rattle.regress_syntax.specs.Scanning.{path_of, highest};
 
 use std::alloc::{AllocError, Global};
 
+/// Most patterns go no deeper: for so many levels memory is asked once.
+const USUAL_DEPTH: usize = 8;
+
 /// A disjunction that holds a place: the whole pattern, or what stands in parentheses.
 #[derive(Clone, Copy, PartialEq, Eq, PartialOrd, Ord)]
 pub(super) struct Level {
@@ -30,9 +33,9 @@ impl Path {
             opening: 0,
             alternative: 0,
         };
-        Ok(Path {
-            levels: vec![in alloc; whole]?,
-        })
+        let mut levels = Vec::with_capacity(alloc, USUAL_DEPTH)?;
+        levels.push(whole)?;
+        Ok(Path { levels })
     }
 
     /// Goes behind the parenthesis of that number, which opens.

@@ -1,16 +1,19 @@
 //! The state of a scan.
 ghost use Rattle.std.specs.Prelude.{◌≡◌, ◌<◌, ◌≤◌, ◌+◌, ◌-◌, ◌^◌, min, max, List, ◌∷◌, [], ◌++◌, filter, length, map, not, option_map, IfOk, OnOk};
 ghost use Rattle.std.specs.List.{IsAllAdjacentAnswer};
-ghost use Rattle.regress_base.specs.Limits.{max_nesting_depth};
+ghost use Rattle.std.specs.List.Sorted.{IsPermutation, IsSortedBy, IsStableBy};
+ghost use Rattle.regress_base.specs.Limits.{max_capture_groups, max_nesting_depth};
 ghost use Rattle.regress_lexical.specs.Fault.{FailsBy};
 ghost use Rattle.regress_syntax.specs.Numbering.{names_of};
+ghost use Rattle.regress_syntax.specs.Views.{names_in};
 ghost use Rattle.regress_syntax.specs.Marks.{Mark as Written};
 ghost use Rattle.regress_syntax.specs.Paths.{CaptureAt, NoMarksConflict, conflict, enter};
 ghost use Rattle.regress_syntax.specs.Scan.{named_by, deepest, MarksShow};
-ghost use Rattle.regress_syntax.specs.Scanning.{mark_of, capture_of, bears_name, path_of, place_of, highest_at, levels_after, Behind};
+ghost use Rattle.regress_syntax.specs.Scanning.{mark_of, capture_of, bears_name, path_of, place_of, highest_at, levels_after, is_before, Behind, HasNumbers};
 
 use super::mark::Mark;
 use super::path::Path;
+use crate::groups::Groups;
 use crate::names::Name;
 use regress_base::types::MAX_NESTING_DEPTH;
 use regress_lexical::fault::{Fault, FaultKind, refused};
@@ -40,6 +43,8 @@ struct NamedGroup {
     path: Path,
     /// How many code points are left from the name on.
     left: usize,
+    /// Its number, from 1; `u32::MAX` where that is more.
+    number: u32,
 }
 
 impl Scanner {
@@ -48,6 +53,7 @@ impl Scanner {
     pub(super) fn new(alloc: Global) -> Result<Scanner, AllocError>
         ensures found { (all : List Written) → IfOk result (Behind all all) }
         ensures numbers { IfOk result (λ scanner. highest_at (place_of scanner) ≡ 0) }
+        ensures numbered { IfOk result HasNumbers }
         ensures levels { IfOk result (λ scanner. length (path_of scanner.path) ≡ 1) }
     {
         Ok(Scanner {
@@ -65,6 +71,7 @@ impl Scanner {
         requires { highest_at (place_of self.old) + 1 < 2 ^ 64 }
         ensures found { (all rest : List Written) → Behind all (mark_of mark ∷ rest) self.old → OnOk result (Behind all rest self.new) }
         ensures numbers { OnOk result (highest_at (place_of self.new) ≤ highest_at (place_of self.old) + 1) }
+        ensures numbered { HasNumbers self.old → OnOk result (HasNumbers self.new) }
         ensures levels { 1 ≤ length (path_of self.old.path) →
             OnOk result (length (path_of self.new.path) ≡ levels_after (mark_of mark) (length (path_of self.old.path))) }
     {
@@ -117,27 +124,35 @@ impl Scanner {
         ensures named { length (path_of self.old.path) ≤ max_nesting_depth →
             OnOk result (map capture_of self.new.named.items ≡ map capture_of self.old.named.items
             ++ filter bears_name (record { path = path_of self.old.path; name = option_map (λ name. name.items) name } ∷ [])) }
+        ensures numbered { HasNumbers self.old → OnOk result (HasNumbers self.new) }
     {
         if let Some(name) = &name {
             self.named.push(NamedGroup {
                 name: name.clone()?,
                 path: self.path.outermost(self.alloc, MAX_NESTING_DEPTH as usize)?,
                 left,
+                number: number_behind(&self.names),
             })?;
         }
         self.names.push(name)?;
         Ok(())
     }
 
-    /// The names of all capture groups, at the end of the pattern. The fault comes where two groups conflict, else where
-    /// there were too many levels.
-    pub(super) fn finish(self) -> Result<Vec<Option<Name>>, Fault>
-        ensures names { (all : List Written) → Behind all [] self → IfOk result (λ names. names_of names.items ≡ named_by all) }
+    /// The capture groups, at the end of the pattern. The fault comes where two groups conflict, else where there were
+    /// too many levels, else where there are more groups than 32 bits number.
+    pub(super) fn finish(self) -> Result<Groups, Fault>
+        requires { HasNumbers self }
+        ensures names { (all : List Written) → Behind all [] self → IfOk result (λ groups. names_in groups ≡ named_by all) }
+        ensures count { IfOk result (λ groups. groups.count ≡ min (length (names_in groups)) max_capture_groups) }
         ensures apart { (all : List Written) → Behind all [] self → IfOk result (λ _. NoMarksConflict all) }
         ensures levels { (all : List Written) → Behind all [] self → IfOk result (λ _. deepest 1 all ≤ max_nesting_depth) }
         ensures refused { (all : List Written) → Behind all [] self → FailsBy result (MarksShow all) }
     {
         let mut named = self.named;
+        // Those of one name keep their order, by which they are numbered.
+        sort_by_name(&mut named)?;
+        let sorted = numbers(self.alloc, &named)?;
+        // That is the order of their paths too where none conflict, so little is left to sort.
         named.sort()?;
         // Paths that differ past the limit alone count as one: the pattern is refused in any case.
         if !are_neighbours_apart(&named) {
@@ -146,8 +161,34 @@ impl Scanner {
         if self.deepest > MAX_NESTING_DEPTH as usize {
             return Err(refused(0, FaultKind::TooDeep));
         }
-        Ok(self.names)
+        if self.names.len() > u32::MAX as usize {
+            return Err(refused(0, FaultKind::TooManyGroups));
+        }
+        Ok(Groups::new(self.names, sorted))
     }
+}
+
+/// The number of the group behind these, from 1; `u32::MAX` where that is more.
+fn number_behind(names: &[Option<Name>]) -> u32
+    ensures { length names.now + 1 < 2 ^ 32 → result ≡ length names.now + 1 }
+{
+    u32::try_from(names.len() + 1).unwrap_or(u32::MAX)
+}
+
+/// Sorts the groups by their names. Those of one name keep their order.
+fn sort_by_name(groups: &mut Vec<NamedGroup>) -> Result<(), AllocError>
+    ensures permutation { IsPermutation groups.old.items groups.new.items }
+    ensures sorted { OnOk result (IsSortedBy is_before groups.new.items) }
+    ensures stable { IsStableBy is_before groups.old.items groups.new.items }
+{
+    groups.sort_by(|group, other| group.name.cmp(&other.name))
+}
+
+/// The numbers of the groups, in their order.
+fn numbers(alloc: Global, groups: &[NamedGroup]) -> Result<Vec<u32>, AllocError>
+    ensures { IfOk result (λ numbers. numbers.items ≡ map (λ group. group.number) groups.now) }
+{
+    groups.iter().map(|group| group.number).collect(alloc)
 }
 
 impl NamedGroup {

@@ -9,7 +9,7 @@ use Rattle.regress_syntax.specs.Views.{group_of}
 use Rattle.regress_base.specs.Limits.{max_nesting_depth}
 use Rattle.regress_lexical.specs.Views.{source}
 use Rattle.regress_lexical.proofs.laws.Sources.{at_front, on_kind_then, on_each_kind}
-use Rattle.regress_lexical.specs.Fault.{OnKind}
+use Rattle.regress_lexical.specs.Fault.{OnKind, FailsBy}
 use Rattle.regress_lexical.proofs.laws.Faults.{fails_then, by_levels_then}
 use Rattle.regress_syntax.proofs.laws.Rows.{head_at-shortens}
 use Rattle.regress_syntax.proofs.laws.Lengths.{opened_by-one}
@@ -21,7 +21,7 @@ use Rattle.regress_parse.proofs.CountLemmas.{added-nothing}
 use Rattle.regress_parse.proofs.ReaderLemmas.{terms_at-shortens, term_at-shortens, term_at-is}
 use Rattle.regress_parse.proofs.SoFarLemmas.{TermsSoFar, terms-first, terms-step, terms-end, terms-fail, no_terms-yield, one_term-yields, first_term-fails}
 use Rattle.regress_parse.proofs.AlternativesLemmas.{alternatives-start, alternatives-step, lone-yields, first-fail, alternatives-fail}
-use Rattle.regress_parse.proofs.TermLemmas.{front_is, times-fail, too_deep, plain_term, no_term, opening_head, opening_item, opened_same, atom_item, atom_yields, atom_allowed}
+use Rattle.regress_parse.proofs.TermLemmas.{front_is, times-fail, too_deep, plain_term, plain_yields, no_term, opening_head, opening_item, opened_same, atom_item, atom_yields, atom_allowed}
 use Rattle.regress_parse.proofs.ParserLemmas.{built, built_here, of_built}
 use Rattle.regress_parse.proofs.parser.Parser.+parser.Goals as goal
 
@@ -41,9 +41,9 @@ consume_alternative-returns-then-ends_alternative-2-clause-value t c =
     let around = c.args.around.now in
     let old = c.args.self.now in
     one_term-yields (table_in around) (names_around around) (direction_of around) (context_in around) around.depth old
-    c.consume_term-first.new.self c.consume_term-first.result
+    c.consume_first_term-first.new.self c.consume_first_term-first.result
     (sym c.ends_alternative.ensures ∙ c.if-ends_alternative.false)
-    (sym c.ends_alternative-2.ensures ∙ c.if-ends_alternative-2.true) c.requires c.consume_term-first.ensures.value
+    (sym c.ends_alternative-2.ensures ∙ c.if-ends_alternative-2.true) c.requires c.consume_first_term-first.ensures.value
 
 pub consume_alternative-returns-in_err-first-clause-value : goal.consume_alternative-returns-in_err-first-clause-value
 consume_alternative-returns-in_err-first-clause-value t c =
@@ -59,7 +59,7 @@ pub consume_alternative-consume_terms-requires : goal.consume_alternative-consum
 consume_alternative-consume_terms-requires t c =
     let around = c.args.around.now in
     let old = c.args.self.now in
-    let found = built (term_part (table_in around) (names_around around)) (direction_of around) around.depth (counted old) c.consume_term-first.new.self
+    let found = built (term_part (table_in around) (names_around around)) (direction_of around) around.depth (counted old) c.consume_first_term-first.new.self
     (term_at (context_in around) (text old)) c.in_ok-first.field-0 c.in_ok-first.ensures.value in
     omega (arith, c.requires, term_at-shortens (context_in around) (text old) found.0 found.1, ap length found.2.rest)
 
@@ -68,12 +68,33 @@ consume_alternative-returns-clause-value t c =
     let around = c.args.around.now in
     let old = c.args.self.now in
     let ctx = context_in around in
-    let found = built (term_part (table_in around) (names_around around)) (direction_of around) around.depth (counted old) c.consume_term-first.new.self
+    let found = built (term_part (table_in around) (names_around around)) (direction_of around) around.depth (counted old) c.consume_first_term-first.new.self
     (term_at ctx (text old)) c.in_ok-first.field-0 c.in_ok-first.ensures.value in
     let b = found.2 in
     c.consume_terms.ensures.value (text old) (counted old) found.0.0 (sym c.ends_alternative.ensures ∙ c.if-ends_alternative.false)
     (found.1 ∙ ap (λ (u : Source). Some (found.0.0, u)) (sym b.rest))
     (record { node = b.node; fits = b.fits; counts = b.counts; rest = refl })
+
+pub consume_first_term-returns-in_ok-make_literal-in-Some-clause-value : goal.consume_first_term-returns-in_ok-make_literal-in-Some-clause-value
+consume_first_term-returns-in_ok-make_literal-in-Some-clause-value t c =
+    let around = c.args.around.now in
+    plain_yields (table_in around) (names_around around) (context_in around) (direction_of around) around.depth c.args.self.now _
+    c.in_ok-make_literal-in-Some.field-0 c.in-Some.c (source c.next_plain.new.self) c.requires c.in-Some.ensures.some c.in-Some.ensures.plain
+    c.in-Some.ensures.alone refl refl c.in_ok-make_literal-in-Some.ensures
+
+pub consume_first_term-returns-in-None-clause-value : goal.consume_first_term-returns-in-None-clause-value
+consume_first_term-returns-in-None-clause-value t c =
+    let around = c.args.around.now in
+    let here : source c.next_plain.new.self ≡ text c.args.self.now = c.in-None.ensures.none in
+    subst (λ (u : Source). Yields (term_part (table_in around) (names_around around)) (direction_of around) around.depth (counted c.args.self.now)
+    c.consume_term.new.self c.consume_term.result (term_at (context_in around) u)) here c.consume_term.ensures.value
+
+pub consume_first_term-returns-in-None-clause-reached : goal.consume_first_term-returns-in-None-clause-reached
+consume_first_term-returns-in-None-clause-reached t c =
+    let around = c.args.around.now in
+    let here : source c.next_plain.new.self ≡ text c.args.self.now = c.in-None.ensures.none in
+    subst (λ (u : Source). FailsBy c.consume_term.result (λ kind. Reaches kind (counted c.args.self.now) around.depth u)) here
+    c.consume_term.ensures.reached
 
 pub consume_terms-loop-self-init : goal.consume_terms-loop-self-init
 consume_terms-loop-self-init t c =
@@ -87,25 +108,23 @@ consume_terms-loop-self-init t c =
       spends_same (counted old) (text old),
     )
 
-pub consume_terms-loop-self-preserved-in_ok-push-2 : goal.consume_terms-loop-self-preserved-in_ok-push-2
-consume_terms-loop-self-preserved-in_ok-push-2 t c =
+pub consume_terms-loop-self-preserved-then-taken : goal.consume_terms-loop-self-preserved-then-taken
+consume_terms-loop-self-preserved-then-taken t c =
     let l = c.loop-self in
     let around = c.args.around.now in
     let ctx = context_in around in
-    let letter = c.in-Some.c in
-    let rest = source c.next_plain.new.self in
     let goes_on : ends_alternative (text l.self) ≡ false = sym c.ends_alternative.ensures ∙ c.loop-self-test.true in
-    let found : term_at ctx (text l.self) ≡ Some ((atom (literal ctx.setting.flags letter), None), rest) =
-    ap (term_at ctx) c.in-Some.ensures.some
-    ∙ plain_term (table_in around) (names_around around) ctx letter rest c.in-Some.ensures.plain c.in-Some.ensures.alone in
-    rw c.in_ok-push-2.ensures.items (
-      (λ t before x begins first b.
-          terms-step _ _ _ _ _ _ _ (text l.self) (counted l.self) l.parts.items c.in_ok-make_literal.field-0
-          (atom (literal ctx.setting.flags letter), None) rest (counted l.self) (l.invariant.0 t before x begins first b) goes_on found c.in_ok-make_literal.ensures
+    let x = rw c.if-taken.true at c.in_ok-taken.ensures in
+    let rest = source c.push_simple_term.new.cursor in
+    let shorter = term_at-shortens ctx (text l.self) ((atom x.item, None), rest) x.found in
+    rw x.pushed.items (
+      (λ t before y begins first b.
+          terms-step _ _ _ _ _ _ _ (text l.self) (counted l.self) l.parts.items x.pushed.node
+          (atom x.item, None) rest (counted l.self) (l.invariant.0 t before y begins first b) goes_on x.found x.pushed.is
           (sym (added-nothing (counted l.self)))
-          (record { groups = omega (arith, l.self.groups_within); loops = omega (arith, l.self.loops_within); levels = omega (arith, c.requires) })),
-      omega (arith, l.invariant.1, ap length c.in-Some.ensures.some),
-      spends_then l.invariant.2 (spends_read (counted l.self) (text l.self) rest (omega (arith, ap length c.in-Some.ensures.some))),
+          (record { groups = omega (arith, l.self.groups_within); loops = omega (arith, l.self.loops_within); levels = omega (arith, c.requires, x.flat) })),
+      omega (arith, l.invariant.1, shorter),
+      spends_then l.invariant.2 (spends_read (counted l.self) (text l.self) rest (omega (arith, shorter))),
     )
 
 pub consume_terms-returns-in_err-consume_term-clause-value : goal.consume_terms-returns-in_err-consume_term-clause-value
@@ -114,34 +133,42 @@ consume_terms-returns-in_err-consume_term-clause-value t c =
     let p = err_from_is_err_and from.result from.ensures.1 in
     let l = c.loop-self in
     let around = c.args.around.now in
-    let here : source c.next_plain.new.self ≡ text l.self = c.in_default.ensures.none in
+    let here : source c.push_simple_term.new.cursor ≡ text l.self = (rw c.if-taken.false at c.in_ok-taken.ensures).0 in
     let goes_on = ap ends_alternative here ∙ sym c.ends_alternative.ensures ∙ c.loop-self-test.true in
     λ t before x begins first b.
     let h = subst (λ (u : Source). TermsSoFar (table_in around) (names_around around) (direction_of around) (context_in around) around.depth
     t before u (counted l.self) l.parts.items) (sym here) (l.invariant.0 t before x begins first b) in
     rw (p.1, p.2) (on_kind_then c.in_err-consume_term.field-0.0
-    (λ kind. terms-fail _ _ _ _ _ _ _ kind (source c.next_plain.new.self) (counted l.self) l.parts.items h goes_on)
+    (λ kind. terms-fail _ _ _ _ _ _ _ kind (source c.push_simple_term.new.cursor) (counted l.self) l.parts.items h goes_on)
     c.in_err-consume_term.ensures.value)
 
 pub consume_terms-loop-self-smaller : goal.consume_terms-loop-self-smaller
 consume_terms-loop-self-smaller t c =
     let around = c.args.around.now in
-    let here = source c.next_plain.new.self in
+    let here = source c.push_simple_term.new.cursor in
+    let same : here ≡ text c.loop-self.self = (rw c.if-taken.false at c.in_ok-taken.ensures).0 in
     let found = built (term_part (table_in around) (names_around around)) (direction_of around) around.depth (counted c.loop-self.self) c.consume_term.new.self
     (term_at (context_in around) here) c.in_ok-consume_term.field-0 c.in_ok-consume_term.ensures.value in
-    omega (arith, term_at-shortens (context_in around) here found.0 found.1, ap length found.2.rest, ap length c.in_default.ensures.none)
+    omega (arith, term_at-shortens (context_in around) here found.0 found.1, ap length found.2.rest, ap length same)
+
+pub consume_terms-loop-self-smaller-then-taken : goal.consume_terms-loop-self-smaller-then-taken
+consume_terms-loop-self-smaller-then-taken t c =
+    let around = c.args.around.now in
+    let x = rw c.if-taken.true at c.in_ok-taken.ensures in
+    omega (arith, term_at-shortens (context_in around) (text c.loop-self.self) ((atom x.item, None), source c.push_simple_term.new.cursor) x.found)
 
 pub consume_terms-loop-self-preserved : goal.consume_terms-loop-self-preserved
 consume_terms-loop-self-preserved t c =
     let l = c.loop-self in
     let around = c.args.around.now in
-    let there = source c.next_plain.new.self in
-    let here : there ≡ text l.self = c.in_default.ensures.none in
+    let there = source c.push_simple_term.new.cursor in
+    let kept = rw c.if-taken.false at c.in_ok-taken.ensures in
+    let here : there ≡ text l.self = kept.0 in
     let goes_on = ap ends_alternative here ∙ sym c.ends_alternative.ensures ∙ c.loop-self-test.true in
     let found = built (term_part (table_in around) (names_around around)) (direction_of around) around.depth (counted l.self) c.consume_term.new.self
     (term_at (context_in around) there) c.in_ok-consume_term.field-0 c.in_ok-consume_term.ensures.value in
     let b = found.2 in
-    rw (b.rest, c.in_ok-push-3.ensures.items) (
+    rw (b.rest, c.in_ok-push-2.ensures.items, kept.1) (
       (λ t before x begins first bs.
           let h = subst (λ (u : Source). TermsSoFar (table_in around) (names_around around) (direction_of around) (context_in around) around.depth
           t before u (counted l.self) l.parts.items) (sym here) (l.invariant.0 t before x begins first bs) in
@@ -362,7 +389,7 @@ pub consume_alternative-returns-clause-reached : goal.consume_alternative-return
 consume_alternative-returns-clause-reached t c =
     let around = c.args.around.now in
     let old = c.args.self.now in
-    let new = c.consume_term-first.new.self in
+    let new = c.consume_first_term-first.new.self in
     let found = built_here (term_part (table_in around) (names_around around)) (direction_of around) around.depth (counted old) new
     (term_at (context_in around) (text old)) c.in_ok-first.field-0 c.in_ok-first.ensures.value in
     fails_then c.consume_terms.result
@@ -377,10 +404,10 @@ consume_terms-returns-in_err-consume_term-clause-reached t c =
     let p = err_from_is_err_and from.result from.ensures.1 in
     let l = c.loop-self in
     let around = c.args.around.now in
-    let here : source c.next_plain.new.self ≡ text l.self = c.in_default.ensures.none in
+    let here : source c.push_simple_term.new.cursor ≡ text l.self = (rw c.if-taken.false at c.in_ok-taken.ensures).0 in
     rw (p.1, p.2) (on_kind_then c.in_err-consume_term.field-0.0
     (reaches_before around.depth around.depth
-    (spends_then l.invariant.2 (spends_read (counted l.self) (text l.self) (source c.next_plain.new.self) (omega (arith, ap length here))))
+    (spends_then l.invariant.2 (spends_read (counted l.self) (text l.self) (source c.push_simple_term.new.cursor) (omega (arith, ap length here))))
     (omega (arith, l.invariant.1, ap length here)))
     c.in_err-consume_term.ensures.reached)
 

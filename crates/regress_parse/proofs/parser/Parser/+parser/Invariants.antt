@@ -9,13 +9,16 @@ use Rattle.regress_parse.proofs.parser.Parser.+parser.Given as goal
 
 -- What an item begins with takes a code point. Between two of them the calls go from an item to a term.
 abbrev pub decreases-consume_group : goal.decreases-consume_group
-decreases-consume_group l = 8 * length (text l.self.now) + 5
+decreases-consume_group l = 8 * length (text l.self.now) + 6
 
 abbrev pub decreases-consume_disjunction : goal.decreases-consume_disjunction
-decreases-consume_disjunction l = 8 * length (text l.self.now) + 4
+decreases-consume_disjunction l = 8 * length (text l.self.now) + 5
 
 abbrev pub decreases-consume_alternative : goal.decreases-consume_alternative
-decreases-consume_alternative l = 8 * length (text l.self.now) + 3
+decreases-consume_alternative l = 8 * length (text l.self.now) + 4
+
+abbrev pub decreases-consume_first_term : goal.decreases-consume_first_term
+decreases-consume_first_term l = 8 * length (text l.self.now) + 3
 
 abbrev pub decreases-consume_term : goal.decreases-consume_term
 decreases-consume_term l = 8 * length (text l.self.now) + 2

@@ -1,10 +1,23 @@
-use Rattle.std.proofs.Common.{ℕ, [], Option, Vec, ap, ◌∙◌}
-use Rattle.std.specs.Option.{option_map_or}
-use Rattle.std.specs.declared.alloc.Global.{Global}
+use Rattle.std.proofs.Common.{◌≡◌, ◌-◌, ◌≤◌, ℕ, length, take, drop, ap, ◌∙◌, arith, length-drop, take_all}
+use Rattle.std.specs.List.{prefix_len}
+use Rattle.std.specs.Ordering.{is_eq}
+use Rattle.regress_syntax.specs.Numbering.{names_of, name_order}
+use Rattle.regress_syntax.proofs.NumberingLemmas.{found_by_order}
 use Rattle.regress_syntax.proofs.groups.Groups.numbers_of.Goals as goal
 
-pub returns-in-Some : goal.returns-in-Some
-returns-in-Some c = c.deref.ensures.value ∙ ap (λ (found : Option (Vec ℕ Global)). option_map_or (λ numbers. numbers.items) found []) c.in-Some.ensures.value ∙ c.args.self.now.numbered c.args.name.now
-
-pub returns-in-None : goal.returns-in-None
-returns-in-None c = ap (λ (found : Option (Vec ℕ Global)). option_map_or (λ numbers. numbers.items) found []) c.in-None.ensures.value ∙ c.args.self.now.numbered c.args.name.now
+pub returns : goal.returns
+returns c =
+    let groups = c.args.self.now in
+    let name = c.args.name.now in
+    let order = name_order (names_of groups.names.items) name in
+    let xs = groups.sorted.items in
+    let place = c.first_of.result in
+    let here : c.deref.result.now ≡ xs = c.deref.ensures.value in
+    let whole : take (length xs - place) (drop place xs) ≡ drop place xs = take_all (length xs - place) (drop place xs) (omega (arith, length-drop place xs)) in
+    let many : c.how_many_of.result ≡ prefix_len (λ k. is_eq (order k)) (drop place xs) =
+    rw (c.deref-4.ensures.value, here, whole) at c.how_many_of.ensures.value in
+    let within : place ≤ length xs = rw c.deref-3.ensures.value at c.first_of.ensures.within in
+    let point = rw (c.deref-2.ensures.value, c.deref-3.ensures.value) at c.first_of.ensures.place in
+    rw here
+    (ap (take c.how_many_of.result) whole ∙ ap (λ (n : ℕ). take n (drop place xs)) many
+    ∙ found_by_order order xs place (groups.by_name.order name) within point ∙ groups.by_name.each name)

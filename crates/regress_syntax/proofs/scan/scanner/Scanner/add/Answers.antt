@@ -1,6 +1,9 @@
-use Rattle.std.proofs.Common.{◌≡◌, ap, ◌∙◌}
+use Rattle.std.proofs.Common.{◌≡◌, ◌<◌, ◌+◌, ◌^◌, ◌++◌, [], ◌∷◌, length, ap, ◌∙◌, arith}
+use Rattle.std.proofs.lemmas.List.{length-append}
 use Rattle.std.proofs.lemmas.List.Elements.{same_from_all_zip}
+use Rattle.regress_syntax.proofs.NumberingLemmas.{number_added, none_numbered}
 use Rattle.regress_syntax.proofs.ScannerLemmas.{named_added, none_added}
+use Rattle.regress_syntax.specs.declared.scan.scanner.Scanner.{Scanner}
 use Rattle.regress_syntax.proofs.scan.scanner.Scanner.add.Goals as goal
 use Rattle.regress_syntax.proofs.scan.scanner.Scanner.add.Goals.{in-Some+in_ok-clone+in_ok-outermost+in_ok-push, in_default}
 
@@ -12,3 +15,24 @@ returns-clause-named c = λ short. elim c.match-name.branch [
       (ap (λ scanner. scanner.named.items) w.self-is ∙ w.in_ok-push.ensures.items)
   | in_default w ↦ none_added c.args.self.now.named.items _ _ c.args.name w.in_default.is (ap (λ scanner. scanner.named.items) w.self-is)
 ]
+
+pub returns-clause-numbered : goal.returns-clause-numbered
+returns-clause-numbered c = λ before many.
+    let old = c.args.self.now in
+    let pushed = c.in_ok-push-2.ensures.items in
+    let long = length-append c.match-name.self.names.items (c.args.name ∷ []) in
+    elim c.match-name.branch [
+      | in-Some+in_ok-clone+in_ok-outermost+in_ok-push w ↦
+          let names : w.in_ok-clone.field-0.items ≡ w.in-Some.name.items = same_from_all_zip _ _ _ w.in_ok-clone.ensures.cases.0 (λ x y h. h) in
+          let kept = ap (λ (scanner : Scanner). scanner.names.items) w.self-is in
+          let few : length old.names.items + 1 < 2 ^ 32 = omega (arith, many, ap length pushed, long, ap length kept) in
+          let told = rw w.deref.ensures.value at w.number_behind.ensures in
+          number_added old.named.items _ _ w.in-Some.name c.args.name old.names.items _ w.in-Some.is names (told few)
+          (ap (λ (scanner : Scanner). scanner.named.items) w.self-is ∙ w.in_ok-push.ensures.items)
+          (pushed ∙ ap (λ ns. ns ++ c.args.name ∷ []) kept) (before (omega (arith, few)))
+      | in_default w ↦
+          let kept = ap (λ (scanner : Scanner). scanner.names.items) w.self-is in
+          let few : length old.names.items + 1 < 2 ^ 32 = omega (arith, many, ap length pushed, long, ap length kept) in
+          none_numbered old.named.items _ c.args.name old.names.items _ w.in_default.is
+          (ap (λ (scanner : Scanner). scanner.named.items) w.self-is) (pushed ∙ ap (λ ns. ns ++ c.args.name ∷ []) kept) (before (omega (arith, few)))
+    ]

@@ -2,7 +2,7 @@ use Rattle.std.proofs.Common.{option_map, sym, ap, ◌∙◌}
 use Rattle.regress_unicode.specs.TableOf.{table_of}
 use Rattle.regress_lexical.proofs.laws.Behind.{behind_all}
 use Rattle.regress_syntax.proofs.laws.NameEnds.{group_name_at-ends}
-use Rattle.regress_syntax.proofs.group.read_named.Goals as goal
+use Rattle.regress_syntax.proofs.group.read_named_group.Goals as goal
 
 pub invariant_of-cursor : goal.invariant_of-cursor
 invariant_of-cursor c = record {

@@ -11,14 +11,15 @@ use Rattle.regress_syntax.specs.Scanning.{mode_of, mark_of, place_of, path_of, h
 use Rattle.regress_syntax.proofs.MisplacedLemmas.{noted_behind, all_noted, levels_at_mark, levels_at_none}
 use Rattle.regress_syntax.proofs.laws.Misplaced.{located-kind, located-is}
 use Rattle.regress_syntax.proofs.ScannerLemmas.{depth-mode_behind, at_mark, at_no_mark, all_passed}
-use Rattle.regress_syntax.proofs.scan.find_names.Goals as goal
-use Rattle.regress_syntax.proofs.scan.find_names.Goals.{in-Some-2+in_ok-pass, in_default-2}
+use Rattle.regress_syntax.proofs.scan.find_groups.Goals as goal
+use Rattle.regress_syntax.proofs.scan.find_groups.Goals.{in-Some-2+in_ok-pass, in_default-2}
 
 pub loop-c-init : goal.loop-c-init
 loop-c-init c = record {
   found = c.in_ok-scanner.ensures.found _;
   flaws = λ flaw. rw (c.none-misplaced.ensures flaw, c.in_ok-scanner.ensures.levels) refl;
   depth = omega arith;
+  numbered = c.in_ok-scanner.ensures.numbered;
   numbers = omega (arith, c.in_ok-scanner.ensures.numbers);
 }
 
@@ -59,6 +60,10 @@ loop-c-preserved c =
           (noted flaw c.loop-c.misplaced) (noted flaw c.note.new.self) c.in-Some.ensures.cases.0 refl levels
           (rw c.levels.ensures at (c.note.ensures flaw))
           (c.loop-c.invariant.flaws flaw ∙ ap (option_or (noted flaw c.loop-c.misplaced)) (c.skip_quiet.ensures.flaws flaw c.args.sets c.loop-c.mode _));
+      numbered = elim c.match-branch-3.branch [
+        | in-Some-2+in_ok-pass w ↦ rw w.scanner-is (w.in_ok-pass.ensures.numbered c.loop-c.invariant.numbered)
+        | in_default-2 w ↦ rw w.scanner-is c.loop-c.invariant.numbered
+      ];
       numbers = omega (arith, number, c.loop-c.invariant.numbers, ap length c.in-Some.ensures.cases.0);
       depth = omega (arith, depth-mode_behind c.args.sets (mode_of c.loop-c.mode) c.in-Some.c.now, ap length c.in-Some.ensures.cases.0);
     })
