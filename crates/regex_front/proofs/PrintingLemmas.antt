@@ -1,17 +1,11 @@
 -- What the parts of a run come to.
-use Rattle.std.proofs.Common.{◌≡◌, ℕ, List, ◌++◌, Option, Some, None, ap, ap₂, ◌∙◌, append_assoc}
-use Rattle.std.specs.Io.KnownBytes.{Appends}
+use Rattle.std.proofs.Common.{ℕ, List, ◌++◌, Option, ap₂}
 use Rattle.std.specs.Prelude.{Result, Ok, Err, OnOk}
 use Rattle.regex_front.specs.declared.failure.Failure.{Failure}
+use Rattle.regress_arguments.specs.Output.{Took}
 use Rattle.regress_arguments.specs.Request.{Request}
-use Rattle.regex_front.specs.Printed.{IsParsedText, IsOptimizedText, IsOutput, Took}
-
--- two writes
-pub appends_both : (a b c : Option (List ℕ)) (xs ys : List ℕ) → Appends a b xs → Appends b c ys → Appends a c (xs ++ ys)
-appends_both None b c xs ys one two = tt
-appends_both (Some a) None c xs ys one two = absurd one
-appends_both (Some a) (Some b) None xs ys one two = two
-appends_both (Some a) (Some b) (Some c) xs ys one two = two ∙ ap (λ t. t ++ ys) one ∙ append_assoc a xs ys
+use Rattle.regress_arguments.proofs.laws.Output.{appends_both}
+use Rattle.regex_front.specs.Printed.{IsParsedText, IsOptimizedText, IsOutput}
 
 -- both parts are the whole
 whole_output : (request : Request) (old between new : Option (List ℕ)) → Took old between (IsParsedText request) →

@@ -1,6 +1,5 @@
 -- What is printed of a pattern: the one place that cites the library's words.
-use Rattle.std.specs.Prelude.{◌≡◌, ℕ, List, ◌++◌, Option, codes}
-use Rattle.std.specs.Io.KnownBytes.{Appends}
+use Rattle.std.specs.Prelude.{◌≡◌, ℕ, List, ◌++◌, codes}
 use Rattle.regress_front.specs.Setting.{Setting}
 use Rattle.regress_front.specs.SmallTable.{small_table}
 use Rattle.regress_front.specs.Tree.{Tree}
@@ -51,7 +50,3 @@ pub record IsOutput (request : Request) (bytes : List ℕ) : Type 0 where
   pub optimized : Tree
   pub good : IsOptimized request pattern optimized
   pub text : bytes ≡ (printed (tree_of small_table pattern) ++ codes "--\n") ++ printed optimized
-
--- A writer has taken bytes of which this holds. Where it tells what it holds, it holds these more.
-abbrev pub Took : Option (List ℕ) → Option (List ℕ) → (List ℕ → Type 0) → Type 0
-Took old new P = (bytes : List ℕ) × P bytes × Appends old new bytes

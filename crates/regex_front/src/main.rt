@@ -5,7 +5,8 @@
 
 ghost use Rattle.std.specs.Prelude.{◌≡◌, ◌≢◌, ◌≤◌, ◌↔◌, ◌⊎◌, None, IfSome, IfErr, OnOk};
 ghost use Rattle.regex_front.specs.declared.failure.Failure.TheVariants.{Memory, Output};
-ghost use Rattle.regex_front.specs.Printed.{IsAcceptedPattern, NoneIsAccepted, IsParsedText, IsOutput, Took};
+ghost use Rattle.regex_front.specs.Printed.{IsAcceptedPattern, NoneIsAccepted, IsParsedText, IsOutput};
+ghost use Rattle.regress_arguments.specs.Output.{Took};
 ghost use Rattle.regress_arguments.specs.Request.{request_of};
 ghost use Rattle.regex_front.specs.Ending.{Ends};
 

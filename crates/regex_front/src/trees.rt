@@ -6,7 +6,8 @@ ghost use Rattle.regress_front.specs.SmallTable.{small_table};
 ghost use Rattle.regress_front.specs.Tree.{tree};
 ghost use Rattle.regress_front.specs.Display.{printed};
 ghost use Rattle.regex_front.specs.declared.failure.Failure.TheVariants.{Memory, Output};
-ghost use Rattle.regex_front.specs.Printed.{IsAcceptedPattern, IsParsedText, IsOptimizedText, IsOutput, Took};
+ghost use Rattle.regex_front.specs.Printed.{IsAcceptedPattern, IsParsedText, IsOptimizedText, IsOutput};
+ghost use Rattle.regress_arguments.specs.Output.{Took};
 ghost use Rattle.regex_front.specs.Ending.{Ends, IsDue};
 
 use crate::failure::Failure;

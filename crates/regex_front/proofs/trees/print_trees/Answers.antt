@@ -1,7 +1,8 @@
 -- Both parts are printed of the characters of the pattern.
 use Rattle.std.proofs.Common.{◌≡◌, subst, ◌∙◌, chars}
 use Rattle.std.specs.Prelude.{OnOk}
-use Rattle.regex_front.specs.Printed.{IsParsedText, IsOptimizedText, Took}
+use Rattle.regress_arguments.specs.Output.{Took}
+use Rattle.regex_front.specs.Printed.{IsParsedText, IsOptimizedText}
 use Rattle.regex_front.proofs.PrintingLemmas.{then_whole}
 use Rattle.regex_front.proofs.trees.print_trees.Goals as goal
 
