@@ -1,0 +1,53 @@
+-- The bound, and how near it is.
+use Rattle.std.proofs.Common.{ℕ, ◌+◌, ◌*◌, ◌≤◌, Bool, true, false, cond, ◌&&◌, [], ◌∷◌, length, refl, arith}
+use Rattle.regress_base.specs.declared.types.Flags.{Flags}
+use Rattle.regress_tree.specs.Reading.{forwards}
+use Rattle.regress_tree.specs.Visits.{nodes}
+use Rattle.regress_tree.specs.Setting.{Setting}
+use Rattle.regress_lexical.specs.Source.{Source, bar, is_at}
+use Rattle.regress_syntax.specs.Syntax.{Name, Pattern, names}
+use Rattle.regress_syntax.specs.Meaning.{groups_named}
+use Rattle.regress_parse.specs.TreeOf.{tree_of}
+use Rattle.regress_parse.specs.Accepted.{own_context, IsDerived}
+use Rattle.regress_bound.specs.Bound.{total, places, opens_name, is_reference, nodes_at, node_bound, HasAtMost}
+use Rattle.regress_bound.proofs.NameLemmas.{groups_named-few, names-pattern}
+use Rattle.regress_bound.proofs.NodeLemmas.{pattern-nodes}
+
+tree-nodes : (setting : Setting) (t : Source) (p : Pattern) → IsDerived setting t p →
+    nodes (tree_of setting.table p) ≤ node_bound setting.flags.unicode_sets t
+tree-nodes setting t p derived =
+    let ctx = own_context setting p in
+    let most = places opens_name t in
+    let all = names-pattern ctx p t [] derived in
+    let few : (name : Name) → length (groups_named name 1 (names p)) ≤ most = λ name. omega (arith, groups_named-few name 1 (names p), all) in
+    omega (
+      arith,
+      pattern-nodes setting.table most (setting.flags.unicode_sets, names p) few ctx forwards 0 p t [] refl derived,
+    )
+
+pub bounded : (flags : Flags) (t : Source) → HasAtMost flags t (node_bound flags.unicode_sets t)
+bounded flags t table p derived = tree-nodes (record { flags = flags; table = table }) t p derived
+
+-- ---- how near it is
+
+place_near : (a b d : Bool) (m k : ℕ) (n : ℕ) (x : ℕ) → x ≤ 5 * n + 2 * (m * k) →
+    cond a 2 (cond b 5 (cond d (2 * m + 1) 1)) + x ≤ 5 * (1 + n) + 2 * (m * (cond d 1 0 + k))
+place_near true b true m k n x h = omega arith
+place_near true b false m k n x h = omega arith
+place_near false true true m k n x h = omega arith
+place_near false true false m k n x h = omega arith
+place_near false false true m k n x h = omega arith
+place_near false false false m k n x h = omega arith
+
+total-near : (sets : Bool) (m : ℕ) (t : Source) → total (nodes_at sets m) t ≤ 5 * length t + 2 * (m * places is_reference t)
+total-near sets m [] = omega arith
+total-near sets m (c ∷ t) =
+    omega (
+      arith,
+      place_near (is_at bar (c ∷ t)) (is_at 91 (c ∷ t) && sets) (is_reference (c ∷ t)) m (places is_reference t) (length t)
+          (total (nodes_at sets m) t) (total-near sets m t),
+    )
+
+pub bound-near : (sets : Bool) (t : Source) →
+    node_bound sets t ≤ 3 + 5 * length t + 2 * (places opens_name t * places is_reference t)
+bound-near sets t = omega (arith, total-near sets (places opens_name t) t)

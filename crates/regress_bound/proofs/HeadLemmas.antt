@@ -1,0 +1,202 @@
+-- What an item begins with: a group has a name only where one is opened, and an atom has no more nodes than its first code
+-- point counts.
+use Rattle.std.proofs.Common.{◌≡◌, ℕ, ◌+◌, ◌*◌, ◌≤◌, nat_le, Bool, true, false, cond, ◌&&◌, ◌||◌, ◌==◌, List, [], ◌∷◌, length, drop, Option, Some, None, is_some, refl, sym, subst, arith, eqb-true}
+use Rattle.std.proofs.lemmas.Bool.{and_parts}
+use Rattle.regress_base.specs.Table.{Table}
+use Rattle.regress_base.specs.Intervals.{Bounds}
+use Rattle.regress_base.specs.declared.charclasses.CharacterClassType.{CharacterClassType}
+use Rattle.regress_tree.specs.Tree.{Leaf}
+use Rattle.regress_tree.specs.Visits.{nodes}
+use Rattle.regress_lexical.specs.Source.{Source, Found, found_map, opening, first_row, is_at}
+use Rattle.regress_lexical.specs.Digits.{is_decimal, number, front}
+use Rattle.regress_lexical.specs.Escapes.{escape_at}
+use Rattle.regress_lexical.specs.Quantifiers.{quantifier_at}
+use Rattle.regress_lexical.specs.Modifiers.{modifiers_at}
+use Rattle.regress_lexical.proofs.laws.InRange.{Finds, finds_none, finds_some, finds_cond, finds_then, finds_map}
+use Rattle.regress_lexical.proofs.laws.Sources.{EachRow, no_more, ◌also◌, first_row-has}
+use Rattle.regress_classes.specs.Properties.{Property, of_points, of_strings, property_at}
+use Rattle.regress_classes.specs.ClassRows.{complement, class_letter, class_at}
+use Rattle.regress_classes.specs.ClassSets.{class_set_at}
+use Rattle.regress_syntax.specs.Syntax.{Name, Atom, class, class_set, class_escape, grouping, modified, capture, look}
+use Rattle.regress_syntax.specs.Names.{group_name_at}
+use Rattle.regress_syntax.specs.Meaning.{groups_named}
+use Rattle.regress_syntax.specs.Rows.{Context, Head, single, opens, angle_at, behind_mark_at, group_at, has_names, has_name, character_at, property_atom, property_atom_at, numbered_at, named_at, escape_rows, escaped_by, escaped_at, brackets_at, atom_rows, atom_by, head_by}
+use Rattle.regress_parse.specs.TreeOf.{references, alternation, strings_or_points, tree_of_atom}
+use Rattle.regress_bound.specs.Bound.{opens_name, nodes_at}
+use Rattle.regress_bound.proofs.SourceLemmas.{nodes_at-some}
+
+-- whatever was found
+pub any_found : {A : Type 0} (found : Found A) → Finds (λ _. Unit {0}) found
+any_found found = record { each = λ x e. tt }
+
+-- ---- what opens a group
+
+-- Of an atom Q holds, and a group has a name only where one is opened.
+abbrev pub Fits : (Atom → Type 0) → (opened : Bool) → Head → Type 0
+Fits Q opened (single a) = Q a
+Fits Q opened (opens grouping) = Unit {0}
+Fits Q opened (opens (modified change)) = Unit {0}
+Fits Q opened (opens (capture None)) = Unit {0}
+Fits Q opened (opens (capture (Some name))) = opened ≡ true
+Fits Q opened (opens (look negate direction)) = Unit {0}
+
+module _ (table : Table) (Q : Atom → Type 0) where
+  angle-fits : (c b : ℕ) (t : Source) → (c == opening) ≡ true → (b == 63) ≡ true → is_at 60 t ≡ true →
+      Finds (Fits Q (opens_name (c ∷ b ∷ t))) (angle_at table t)
+  angle-fits c b t paren question angle =
+      finds_cond _ (is_at 61 (drop 1 t)) _ _ (λ _. finds_some _ _ tt)
+      (λ no_equals. finds_cond _ (is_at 33 (drop 1 t)) _ _ (λ _. finds_some _ _ tt)
+      (λ no_mark. finds_map (λ _. Unit {0}) _ _ (group_name_at table t) (λ x _. rw (paren, question, angle, no_equals, no_mark) refl)
+      (any_found (group_name_at table t))))
+
+  behind_mark-fits : (c b : ℕ) (t : Source) → (c == opening) ≡ true → (b == 63) ≡ true →
+      Finds (Fits Q (opens_name (c ∷ b ∷ t))) (behind_mark_at table t)
+  behind_mark-fits c b t paren question =
+      finds_cond _ (is_at 58 t) _ _ (λ _. finds_some _ _ tt)
+      (λ _. finds_cond _ (is_at 61 t) _ _ (λ _. finds_some _ _ tt)
+      (λ _. finds_cond _ (is_at 33 t) _ _ (λ _. finds_some _ _ tt)
+      (λ _. finds_cond _ (is_at 60 t) _ _ (angle-fits c b t paren question)
+      (λ _. finds_map (λ _. Unit {0}) _ _ (modifiers_at t) (λ x _. tt) (any_found (modifiers_at t))))))
+
+  group_at-fits : (c : ℕ) (t : Source) → (c == opening) ≡ true → Finds (Fits Q (opens_name (c ∷ t))) (group_at table t)
+  group_at-fits c [] paren = finds_some _ _ tt
+  group_at-fits c (b ∷ t) paren = finds_cond _ (b == 63) _ _ (behind_mark-fits c b t paren) (λ _. finds_some _ _ tt)
+
+pub head_by-fits : (ctx : Context) (Q : Atom → Type 0) (c : ℕ) (t : Source) → Finds Q (atom_by ctx c t) →
+    Finds (Fits Q (opens_name (c ∷ t))) (head_by ctx c t)
+head_by-fits ctx Q c t each =
+    finds_cond _ (c == opening) _ _ (group_at-fits ctx.setting.table Q c t) (λ _. finds_map Q _ single (atom_by ctx c t) (λ a h. h) each)
+
+-- ---- the nodes of atoms
+
+references-nodes : (icase : Bool) (ks : List ℕ) → nodes (alternation (references icase ks)) ≤ 2 * length ks + 1
+references-nodes icase [] = omega arith
+references-nodes icase (k ∷ []) = omega arith
+references-nodes icase (k ∷ next ∷ ks) = omega (arith, references-nodes icase (next ∷ ks))
+
+class-nodes : (has_strings has_points has_empty : Bool) (strings points : Leaf) →
+    nodes (strings_or_points has_strings has_points has_empty strings points) ≤ 5
+class-nodes false false false strings points = omega arith
+class-nodes false false true strings points = omega arith
+class-nodes false true false strings points = omega arith
+class-nodes false true true strings points = omega arith
+class-nodes true false false strings points = omega arith
+class-nodes true false true strings points = omega arith
+class-nodes true true false strings points = omega arith
+class-nodes true true true strings points = omega arith
+
+module _ (table : Table) (ctx : Context) (most : ℕ) (few : (name : Name) → length (groups_named name 1 ctx.names) ≤ most) where
+  -- it has so many nodes at most
+  abbrev pub AtMost : ℕ → Atom → Type 0
+  AtMost n a = nodes (tree_of_atom table ctx.names a) ≤ n
+
+  weaker : (n : ℕ) (found : Found Atom) → 1 ≤ n → Finds (AtMost 1) found → Finds (AtMost n) found
+  weaker n found some h = record { each = λ x e. omega (arith, some, h.each x e) }
+
+  alone : (a : Atom) (t : Source) → AtMost 1 a → Finds (AtMost 1) (Some (a, t))
+  alone a t h = finds_some (AtMost 1) (a, t) h
+
+  character_at-one : (c : ℕ) (t : Source) → Finds (AtMost 1) (character_at ctx c t)
+  character_at-one c t =
+      finds_map (λ _. Unit {0}) (AtMost 1) _ (escape_at ctx.setting.flags.unicode (c ∷ t)) (λ x _. omega arith) (any_found _)
+
+  property_atom-one : (negated : Bool) (x : Property × Source) → Finds (AtMost 1) (property_atom ctx negated x)
+  property_atom-one negated (of_points members, t) = alone _ t (by (negated && ctx.setting.flags.icase) false negated (complement members) members)
+    where
+      by : (b : Bool) (i j : Bool) (ms ns : List Bounds) →
+          AtMost 1 (cond b (class ctx.setting.flags i ms) (class ctx.setting.flags j ns))
+      by true i j ms ns = omega arith
+      by false i j ms ns = omega arith
+  property_atom-one negated (of_strings written, t) =
+      finds_cond (AtMost 1) negated _ _ (λ _. finds_none (AtMost 1)) (λ _. alone _ t (omega arith))
+
+  property_atom_at-one : (negated : Bool) (t : Source) → Finds (AtMost 1) (property_atom_at ctx negated t)
+  property_atom_at-one negated t =
+      finds_then (λ _. Unit {0}) (AtMost 1) (property_at ctx.setting.flags.unicode_sets ctx.setting.table t) (property_atom ctx negated)
+      (any_found _) (λ x _. property_atom-one negated x)
+
+  numbered_at-one : (c : ℕ) (t : Source) → Finds (AtMost 1) (numbered_at ctx c t)
+  numbered_at-one c t =
+      finds_cond (AtMost 1) (nat_le (number 10 (front is_decimal (c ∷ t))) ctx.groups) _ _ (λ _. alone _ _ (omega arith))
+      (λ _. finds_cond (AtMost 1) ctx.setting.flags.unicode _ _ (λ _. finds_none (AtMost 1)) (λ _. character_at-one c t))
+
+  named_at-nodes : (t : Source) → Finds (AtMost (2 * most + 1)) (named_at ctx t)
+  named_at-nodes t =
+      finds_then (λ _. Unit {0}) (AtMost (2 * most + 1)) (group_name_at ctx.setting.table t) _ (any_found _)
+      (λ x _. finds_cond (AtMost (2 * most + 1)) (has_name x.0 ctx.names) _ _
+      (λ _. finds_some (AtMost (2 * most + 1)) _
+      (omega (arith, references-nodes ctx.setting.flags.icase (groups_named x.0 1 ctx.names), few x.0)))
+      (λ _. finds_none (AtMost (2 * most + 1))))
+
+  -- what an escape that begins with c counts
+  abbrev escaped : ℕ → ℕ
+  escaped c = cond (c == 107) (2 * most + 1) 1
+
+  escaped-some : (c : ℕ) → 1 ≤ escaped c
+  escaped-some c = elim (c == 107) as (λ b. 1 ≤ cond b (2 * most + 1) 1) [ true ↦ omega arith | false ↦ omega arith ]
+
+  escape-one : (c : ℕ) (found : Found Atom) → Finds (AtMost 1) found → Finds (AtMost (escaped c)) found
+  escape-one c found h = weaker (escaped c) found (escaped-some c) h
+
+  escape_rows-nodes : (c : ℕ) (t : Source) → EachRow (λ found. Finds (AtMost (escaped c)) found) (escape_rows ctx c t)
+  escape_rows-nodes c t =
+      (λ _. escape-one c _ (alone _ t (omega arith)))
+      also (λ _. escape-one c _ (alone _ t (omega arith)))
+      also (λ _. escape-one c _ (alone _ (99 ∷ t) (omega arith)))
+      also (λ _. escape-one c _ (property_atom_at-one (c == 80) t))
+      also (λ _. escape-one c _ (numbered_at-one c t))
+      also (λ e. subst (λ b. Finds (AtMost (cond b (2 * most + 1) 1)) (named_at ctx t))
+      (sym (and_parts (c == 107) (ctx.setting.flags.unicode || has_names ctx.names) e).0) (named_at-nodes t))
+      also (λ _. escape-one c _ (character_at-one c t))
+      also no_more
+
+  escaped_by-nodes : (c : ℕ) (t : Source) → Finds (AtMost (escaped c)) (escaped_by ctx c t)
+  escaped_by-nodes c t = by (class_letter c)
+    where
+      by : (letter : Option (CharacterClassType × Bool)) →
+          Finds (AtMost (escaped c)) (elim letter as (λ _. Found Atom) [
+            | Some named ↦ Some (class_escape ctx.setting.flags named.0 named.1, t)
+            | None ↦ first_row (escape_rows ctx c t)
+          ])
+      by (Some named) = escape-one c _ (alone _ t (omega arith))
+      by None =
+          first_row-has (λ found. Finds (AtMost (escaped c)) found) (escape_rows ctx c t) (finds_none (AtMost (escaped c)))
+          (escape_rows-nodes c t)
+
+  -- what c counts, and t behind it
+  abbrev here : ℕ → Source → ℕ
+  here c t = nodes_at ctx.setting.flags.unicode_sets most (c ∷ t)
+
+  here-one : (c : ℕ) (t : Source) (found : Found Atom) → Finds (AtMost 1) found → Finds (AtMost (here c t)) found
+  here-one c t found h = weaker (here c t) found (nodes_at-some ctx.setting.flags.unicode_sets most (c ∷ t)) h
+
+  escaped_at-nodes : (t : Source) → Finds (AtMost (here 92 t)) (escaped_at ctx t)
+  escaped_at-nodes [] = finds_none (AtMost (here 92 []))
+  escaped_at-nodes (c ∷ t) = escaped_by-nodes c t
+
+  brackets_at-nodes : (t : Source) → Finds (AtMost (here 91 t)) (brackets_at ctx t)
+  brackets_at-nodes t = by ctx.setting.flags.unicode_sets
+    where
+      by : (sets : Bool) → Finds (AtMost (cond sets 5 1))
+          (cond sets (found_map (λ (negated, value). class_set ctx.setting.flags negated value)
+          (class_set_at ctx.setting.table ctx.setting.flags.unicode t))
+          (found_map (λ (inverted, members). class ctx.setting.flags inverted members)
+          (class_at ctx.setting.table ctx.setting.flags.unicode t)))
+      by true = finds_map (λ _. Unit {0}) (AtMost 5) _ _ (λ x _. class-nodes _ _ _ _ _) (any_found _)
+      by false = finds_map (λ _. Unit {0}) (AtMost 1) _ _ (λ x _. omega arith) (any_found _)
+
+  atom_rows-nodes : (c : ℕ) (t : Source) → EachRow (λ found. Finds (AtMost (here c t)) found) (atom_rows ctx c t)
+  atom_rows-nodes c t =
+      (λ _. here-one c t _ (alone _ t (omega arith)))
+      also (λ _. here-one c t _ (alone _ t (omega arith)))
+      also (λ _. here-one c t _ (alone _ t (omega arith)))
+      also (λ e. subst (λ d. Finds (AtMost (here d t)) (escaped_at ctx t)) (sym (eqb-true c 92 e)) (escaped_at-nodes t))
+      also (λ e. subst (λ d. Finds (AtMost (here d t)) (brackets_at ctx t)) (sym (eqb-true c 91 e)) (brackets_at-nodes t))
+      also (λ _. here-one c t _ (finds_cond (AtMost 1) (ctx.setting.flags.unicode || is_some (quantifier_at (c ∷ t))) _ _
+      (λ _. finds_none (AtMost 1)) (λ _. alone _ t (omega arith))))
+      also (λ _. here-one c t _ (alone _ t (omega arith)))
+      also no_more
+
+  pub atom_by-nodes : (c : ℕ) (t : Source) → Finds (AtMost (here c t)) (atom_by ctx c t)
+  atom_by-nodes c t =
+      first_row-has (λ found. Finds (AtMost (here c t)) found) (atom_rows ctx c t) (finds_none (AtMost (here c t))) (atom_rows-nodes c t)

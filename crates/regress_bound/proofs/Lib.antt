@@ -1,0 +1,5 @@
+mod SourceLemmas
+mod NameLemmas
+mod HeadLemmas
+mod NodeLemmas
+mod BoundLemmas

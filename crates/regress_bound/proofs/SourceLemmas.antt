@@ -1,0 +1,42 @@
+-- What the places of a source count, and what is left of it behind some.
+use Rattle.std.proofs.Common.{◌≡◌, ℕ, zero, suc, ◌+◌, ◌*◌, ◌<◌, ◌≤◌, Bool, true, false, cond, ◌&&◌, [], ◌∷◌, length, drop, ap, arith}
+use Rattle.regress_lexical.specs.Source.{Source, bar, is_at}
+use Rattle.regress_lexical.proofs.laws.Behind.{IsBehind}
+use Rattle.regress_bound.specs.Bound.{total, is_reference, nodes_at}
+
+module _ (count : Source → ℕ) where
+  total-drop : (n : ℕ) (t : Source) → total count (drop n t) ≤ total count t
+  total-drop zero t = omega arith
+  total-drop (suc n) [] = omega arith
+  total-drop (suc n) (c ∷ t) = omega (arith, total-drop n t)
+
+  -- what is left counts no more than all
+  pub total-behind : (t rest : Source) → IsBehind t rest → total count rest ≤ total count t
+  total-behind t rest h = omega (arith, ap (total count) h.same, total-drop h.count t)
+
+-- what takes a code point leaves something of what stands behind it
+pub behind_first : (c : ℕ) (t rest : Source) → IsBehind (c ∷ t) rest → length rest < length (c ∷ t) → IsBehind t rest
+behind_first c t rest h shorter = by h.count h.same
+  where
+    by : (n : ℕ) → rest ≡ drop n (c ∷ t) → IsBehind t rest
+    by zero same = absurd (omega (arith, ap length same))
+    by (suc n) same = record { count = n; same = same }
+
+-- ---- nodes
+
+some_counted : (a b d : Bool) (m : ℕ) → 1 ≤ cond a 2 (cond b 5 (cond d (2 * m + 1) 1))
+some_counted true b d m = omega arith
+some_counted false true d m = omega arith
+some_counted false false true m = omega arith
+some_counted false false false m = omega arith
+
+-- each code point counts one node at least
+pub nodes_at-some : (sets : Bool) (m : ℕ) (t : Source) → 1 ≤ nodes_at sets m t
+nodes_at-some sets m t = some_counted (is_at bar t) (is_at 91 t && sets) (is_reference t) m
+
+-- so what is read from the front of a source, of which something is read, leaves less
+pub nodes-shorter : (sets : Bool) (m : ℕ) (t rest : Source) → IsBehind t rest → length rest < length t →
+    1 + total (nodes_at sets m) rest ≤ total (nodes_at sets m) t
+nodes-shorter sets m [] rest h shorter = absurd (omega arith)
+nodes-shorter sets m (c ∷ t) rest h shorter =
+    omega (arith, nodes_at-some sets m (c ∷ t), total-behind (nodes_at sets m) t rest (behind_first c t rest h shorter))

@@ -1,0 +1,16 @@
+use Rattle.std.proofs.Common.{◌≡◌, ℕ, ◌+◌, ◌<◌, ◌≤◌, [], ◌∷◌, length, min, arith}
+use Rattle.regress_lexical.specs.Source.{Source}
+use Rattle.regress_bound.specs.Bound.{total, nodes_at}
+use Rattle.regress_bound.proofs.bound.sum_nodes.Goals as goal
+
+-- nothing is left
+all_summed : (count : Source → ℕ) (rest : Source) (nodes whole most : ℕ) → length rest < 1 → nodes ≤ most →
+    min (nodes + total count rest) most ≡ min whole most → nodes ≡ min whole most
+all_summed count [] nodes whole most none fits sum = omega arith
+all_summed count (c ∷ t) nodes whole most none fits sum = absurd (omega arith)
+
+pub returns : goal.returns
+returns c =
+    all_summed (nodes_at c.args.sets c.args.named) c.loop-rest.rest.now c.loop-rest.nodes
+    (3 + total (nodes_at c.args.sets c.args.named) c.args.pattern.now) 18446744073709551615 (omega arith) c.loop-rest.invariant.fits
+    c.loop-rest.invariant.sum

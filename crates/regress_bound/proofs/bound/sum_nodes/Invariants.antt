@@ -1,0 +1,14 @@
+-- The sum so far and what the rest counts are all, as far as a number goes.
+use Rattle.std.proofs.Common.{◌≡◌, ◌+◌, ◌-◌, ◌^◌, ◌≤◌, min, length}
+use Rattle.regress_bound.specs.Bound.{total, nodes_at}
+use Rattle.regress_bound.proofs.bound.sum_nodes.Given as goal
+
+abbrev pub invariant-loop-rest : goal.invariant-loop-rest
+invariant-loop-rest l = record {
+  sum :
+      min (l.nodes + total (nodes_at l.sets l.named) l.rest) (2 ^ 64 - 1) ≡ min (3 + total (nodes_at l.sets l.named) l.pattern) (2 ^ 64 - 1);
+  fits : l.nodes ≤ 2 ^ 64 - 1;
+}
+
+abbrev pub decreases-loop-rest : goal.decreases-loop-rest
+decreases-loop-rest l = length l.rest

@@ -1,0 +1,13 @@
+-- What was found and what stands in the rest are all.
+use Rattle.std.proofs.Common.{◌≡◌, ◌+◌, ◌≤◌, length}
+use Rattle.regress_bound.specs.Bound.{places, opens_name}
+use Rattle.regress_bound.proofs.places.named_groups.Given as goal
+
+abbrev pub invariant-loop-rest : goal.invariant-loop-rest
+invariant-loop-rest l = record {
+  sum : l.found + places opens_name l.rest ≡ places opens_name l.pattern;
+  few : l.found + length l.rest ≤ length l.pattern;
+}
+
+abbrev pub decreases-loop-rest : goal.decreases-loop-rest
+decreases-loop-rest l = length l.rest
