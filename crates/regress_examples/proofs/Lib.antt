@@ -12,5 +12,6 @@ mod PatternExamples
 mod ReferenceMeanings
 mod SameNameExamples
 mod SetMeanings
+mod SpanExamples
 mod TableExamples
 mod TreeExamples

@@ -1,0 +1,72 @@
+-- Where the nodes of worked patterns stand, by computation. The spans are counted by hand on the patterns' code points.
+use Rattle.std.proofs.Common.{◌≡◌, ℕ, false, true, List, [], ◌∷◌, Some, None, refl, codes}
+use Rattle.regress_tree.specs.Reading.{forwards, backwards}
+use Rattle.regress_lexical.specs.Quantifiers.{quantifier_at}
+use Rattle.regress_syntax.specs.Syntax.{Pattern, Terms, one, either, no_terms, more_terms, group, grouping, capture, look}
+use Rattle.regress_syntax.specs.Rows.{head_at, times_at}
+use Rattle.regress_parse.specs.Accepted.{IsDerived}
+use Rattle.regress_spans.specs.declared.span.Span.{Span}
+use Rattle.regress_spans.specs.Spans.{spans_of}
+use Rattle.regress_examples.proofs.Meanings.{plain}
+use Rattle.regress_examples.proofs.PatternExamples.{letter, word, two, quantifier}
+
+abbrev to : ℕ → ℕ → Span
+to start end = record { start = start; end = end }
+
+-- `a(b|)`
+abbrev grouped : Pattern
+grouped = one (two (letter 97) (group (capture None) (either (word (letter 98)) (one no_terms))))
+
+grouped-derived : IsDerived plain (codes "a(b|)") grouped
+unfolding head_at times_at quantifier_at
+grouped-derived = (
+  (
+    codes "(b|)",
+    codes "(b|)",
+    refl,
+    refl,
+    (
+      [],
+      [],
+      (codes "b|)", refl, (codes ")", (codes "|)", codes "|)", refl, refl, (refl, refl)), ((refl, refl), refl))),
+      refl,
+      (refl, refl),
+    ),
+  ),
+  refl,
+)
+
+-- the letters, the empty alternative, the `Alt`, the group, the `Cat`, the final `Goal` and the root
+grouped-spans : spans_of plain (codes "a(b|)") grouped grouped-derived
+    ≡ to 0 1 ∷ to 2 3 ∷ to 4 4 ∷ to 2 4 ∷ to 1 5 ∷ to 0 5 ∷ to 5 5 ∷ to 0 5 ∷ []
+unfolding grouped-derived
+grouped-spans = refl
+
+-- `(?<=ab)(?:c+)`
+abbrev looking_behind : Pattern
+looking_behind = one (two (group (look false backwards) (one (two (letter 97) (letter 98))))
+    (group grouping (one (more_terms (letter 99) (Some (quantifier 1 None)) no_terms))))
+
+looking_behind-derived : IsDerived plain (codes "(?<=ab)(?:c+)") looking_behind
+unfolding head_at times_at quantifier_at
+looking_behind-derived = (
+  (
+    codes "(?:c+)",
+    codes "(?:c+)",
+    (
+      codes "ab)(?:c+)",
+      refl,
+      ((codes "b)(?:c+)", codes "b)(?:c+)", refl, refl, (codes ")(?:c+)", codes ")(?:c+)", refl, refl, (refl, refl))), refl),
+    ),
+    refl,
+    ([], [], (codes "c+)", refl, ((codes "+)", codes ")", refl, refl, (refl, refl)), refl)), refl, (refl, refl)),
+  ),
+  refl,
+)
+
+-- In the lookbehind the letters stand turned, and then come their `Cat` and the lookbehind itself. The loop has its `+`, and
+-- the group around it no node.
+looking_behind-spans : spans_of plain (codes "(?<=ab)(?:c+)") looking_behind looking_behind-derived
+    ≡ to 5 6 ∷ to 4 5 ∷ to 4 6 ∷ to 0 7 ∷ to 10 11 ∷ to 10 12 ∷ to 0 13 ∷ to 13 13 ∷ to 0 13 ∷ []
+unfolding looking_behind-derived
+looking_behind-spans = refl

@@ -1,0 +1,40 @@
+-- Lists of spans that are added the last one first.
+use Rattle.std.proofs.Common.{◌≡◌, ℕ, ◌-◌, ◌==◌, Bool, true, false, not, cond, List, [], ◌∷◌, ◌++◌, length, Option, Some, None, is_some, Vec, refl, sym, ap, ◌∙◌}
+use Rattle.std.specs.declared.alloc.Global.{Global}
+use Rattle.std.proofs.lemmas.List.{append_assoc, append-nil}
+use Rattle.regress_base.specs.declared.types.Quantifier.{Quantifier}
+use Rattle.regress_lexical.specs.Source.{Source}
+use Rattle.regress_spans.specs.declared.span.Span.{Span}
+use Rattle.regress_spans.specs.Spans.{span_of_times, span_of_row}
+use Rattle.regress_spans.specs.Reading.{turned, alternations}
+
+pub alternations-push : (whole : ℕ) (lefts : List ℕ) (left : ℕ) (rest : Source) →
+    alternations whole (lefts ++ left ∷ []) rest
+    ≡ record { start = whole - left; end = whole - length rest } ∷ [] ++ alternations whole lefts rest
+alternations-push whole [] left rest = refl
+alternations-push whole (l ∷ lefts) left rest =
+    ap (λ (ss : List Span). ss ++ record { start = whole - l; end = whole - length rest } ∷ []) (alternations-push whole lefts left rest)
+
+pub turned-push : (parts : List (Vec Span Global)) (part : Vec Span Global) → turned (parts ++ part ∷ []) ≡ part.items ++ turned parts
+turned-push [] part = sym (append-nil part.items)
+turned-push (p ∷ parts) part =
+    ap (λ (ss : List Span). ss ++ p.items) (turned-push parts part) ∙ append_assoc part.items (turned parts) p.items
+
+-- an alternative, the alternatives behind it and the span of all of them
+pub alternative_joined : (now first others : List Span) (all : Span) (around : List Span) →
+    now ++ (first ++ others ++ all ∷ [] ++ around) ≡ (now ++ first) ++ (others ++ (all ∷ [] ++ around))
+alternative_joined now first others all around =
+    ap (λ (ss : List Span). now ++ ss) (append_assoc (first ++ others) (all ∷ []) around ∙ append_assoc first others (all ∷ [] ++ around))
+    ∙ sym (append_assoc now first (others ++ (all ∷ [] ++ around)))
+
+-- one more for an alternative of none or several terms, for an item with a quantifier
+pub row_if : (n : ℕ) (s : Span) → cond (not (n == 1)) (s ∷ []) [] ≡ span_of_row n s
+row_if n s = by (n == 1)
+  where
+    by : (b : Bool) → cond (not b) (s ∷ []) [] ≡ cond b [] (s ∷ [])
+    by true = refl
+    by false = refl
+
+pub times_if : (q : Option Quantifier) (s : Span) → cond (is_some q) (s ∷ []) [] ≡ span_of_times q s
+times_if None s = refl
+times_if (Some q) s = refl

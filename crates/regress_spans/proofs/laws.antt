@@ -1,0 +1,3 @@
+-- Laws of this crate's definitions, which the crates above may cite.
+pub mod Each
+pub mod Nesting

@@ -1,0 +1,12 @@
+use Rattle.std.proofs.Common.{◌≡◌, ◌++◌, vec_len}
+use Rattle.regress_lexical.specs.Views.{source}
+use Rattle.regress_spans.specs.Reading.{alternations}
+use Rattle.regress_spans.proofs.list.push_alternations.Given as goal
+
+abbrev pub invariant-loop-left : goal.invariant-loop-left
+invariant-loop-left l =
+    l.spans.items ++ alternations l.around.whole l.starts.items (source l.cursor)
+    ≡ l.fn.spans.items ++ alternations l.around.whole l.fn.starts.items (source l.cursor)
+
+abbrev pub decreases-loop-left : goal.decreases-loop-left
+decreases-loop-left l = vec_len l.starts

@@ -1,0 +1,14 @@
+use Rattle.std.proofs.Common.{◌≡◌, ◌++◌, replicate}
+use Rattle.regress_tree.specs.declared.ir.node.Node.{size-Node}
+use Rattle.regress_tree.specs.Tree.{tree}
+use Rattle.regress_tree.specs.Visits.{nodes}
+use Rattle.regress_spans.specs.Reading.{IsFlat}
+use Rattle.regress_spans.proofs.list.push_nodes.Given as goal
+
+-- those of the nodes further down are still to come
+abbrev pub invariant-loop-last : goal.invariant-loop-last
+invariant-loop-last l = IsFlat (tree l.item) → IsFlat (tree l.last)
+    × (l.spans.items ++ replicate (nodes (tree l.last)) l.span ≡ l.fn.spans.items ++ replicate (nodes (tree l.item)) l.span)
+
+abbrev pub decreases-loop-last : goal.decreases-loop-last
+decreases-loop-last l = size-Node l.last

@@ -1,0 +1,83 @@
+-- What the calls of the second reading answer. No public contract cites this.
+use Rattle.std.specs.Prelude.{◌≡◌, ℕ, ◌-◌, ◌≤◌, Bool, List, [], ◌∷◌, ◌++◌, length, Option, Some, Result, Ok, Err, Vec}
+use Rattle.std.specs.declared.alloc.Global.{Global}
+use Rattle.regress_base.specs.Limits.{max_nesting_depth}
+use Rattle.regress_base.specs.declared.types.Quantifier.{Quantifier}
+use Rattle.regress_tree.specs.Reading.{Direction, direction_if}
+use Rattle.regress_tree.specs.Tree.{Tree, leaf, alt}
+use Rattle.regress_lexical.specs.declared.fault.Fault.{Fault}
+use Rattle.regress_lexical.specs.Fault.{OnRefused}
+use Rattle.regress_lexical.specs.Source.{Source}
+use Rattle.regress_syntax.specs.Syntax.{Pattern, Terms, Item, levels, levels_of_terms, levels_of_item}
+use Rattle.regress_syntax.specs.Rows.{Context, head_of_item, allows, times_at}
+use Rattle.regress_syntax.specs.Grammar.{IsPattern, AreTerms, IsItem}
+use Rattle.regress_syntax.specs.Views.{context_of}
+use Rattle.regress_spans.specs.declared.around.Around.{Around}
+use Rattle.regress_spans.specs.declared.span.Span.{Span}
+use Rattle.regress_spans.specs.Spans.{span_of_times, span_of_row, how_many, between, spans_of_pattern, spans_of_terms, spans_of_item}
+
+-- what the rows look at there
+abbrev pub context_in : Around → Context
+context_in around = context_of around.scope
+
+-- the direction in which a part is matched that lies inside there
+abbrev pub direction_of : Around → Direction
+direction_of around = direction_if around.backwards
+
+-- one node, or alternatives that hold no further node
+abbrev pub IsFlat : Tree → Type 0
+IsFlat (leaf l) = Unit {0}
+IsFlat (alt (leaf l) right) = IsFlat right
+IsFlat other = ⊥
+
+-- the spans of parts, those of the last part first
+abbrev pub turned : List (Vec Span Global) → List Span
+turned [] = []
+turned (part ∷ parts) = turned parts ++ part.items
+
+-- a span for each of these, which say how many code points are left where it begins, up to `rest`: the last one first
+abbrev pub alternations : (whole : ℕ) → List ℕ → (rest : Source) → List Span
+alternations whole [] rest = []
+alternations whole (left ∷ lefts) rest =
+    alternations whole lefts rest ++ record { start = whole - left; end = whole - length rest } ∷ []
+
+-- The call has done this, or memory was wanting: it refuses nothing.
+abbrev pub Does : {X : Type 0} → Result X Fault → (X → Type 0) → Type 0
+Does (Ok x) P = P x
+Does (Err fault) P = OnRefused fault ⊥
+
+-- it has read up to there, and added these spans
+pub record Adds (before : List Span) (new : Source) (now : List Span) (behind : Source) (part : List Span) : Type 0 where
+  pub rest : new ≡ behind
+  pub spans : now ≡ before ++ part
+
+-- What a call does at whose front a pattern within the limit of levels is derived, and so on.
+module _ (whole : ℕ) (ctx : Context) where
+  abbrev pub ReadsPattern : Direction → Source → List Span → Source → List Span → Result (Unit {0}) Fault → Type 0
+  ReadsPattern d t before new now result =
+      (p : Pattern) (rest : Source) (h : IsPattern ctx p t rest) → levels p ≤ max_nesting_depth →
+      Does result (λ _. Adds before new now rest (spans_of_pattern whole ctx d p t rest h))
+
+  abbrev pub ReadsAlternative : Direction → Source → List Span → Source → List Span → Result (Unit {0}) Fault → Type 0
+  ReadsAlternative d t before new now result =
+      (ts : Terms) (rest : Source) (h : AreTerms ctx ts t rest) → levels_of_terms ts ≤ max_nesting_depth →
+      Does result (λ _. Adds before new now rest (spans_of_terms whole ctx d ts t rest h ++ span_of_row (how_many ts) (between whole t rest)))
+
+  -- and it answers how many there are
+  abbrev pub ReadsTerms : Direction → Source → List Span → Source → List Span → Result ℕ Fault → Type 0
+  ReadsTerms d t before new now result =
+      (ts : Terms) (rest : Source) (h : AreTerms ctx ts t rest) → levels_of_terms ts ≤ max_nesting_depth →
+      Does result (λ count. (count ≡ how_many ts) × Adds before new now rest (spans_of_terms whole ctx d ts t rest h))
+
+  abbrev pub ReadsTerm : Direction → Source → List Span → Source → List Span → Result (Unit {0}) Fault → Type 0
+  ReadsTerm d t before new now result =
+      (x : Item) (q : Option Quantifier) (mid rest : Source) (h : IsItem ctx x t mid) →
+      times_at ctx (allows ctx.setting.flags.unicode (head_of_item x)) mid ≡ Some (q, rest) → levels_of_item x ≤ max_nesting_depth →
+      Does result (λ _. Adds before new now rest (spans_of_item whole ctx d x t mid h ++ span_of_times q (between whole t rest)))
+
+  -- and it answers whether a quantifier may stand behind it
+  abbrev pub ReadsItem : Direction → Source → List Span → Source → List Span → Result Bool Fault → Type 0
+  ReadsItem d t before new now result =
+      (x : Item) (rest : Source) (h : IsItem ctx x t rest) → levels_of_item x ≤ max_nesting_depth →
+      Does result (λ allowed. (allowed ≡ allows ctx.setting.flags.unicode (head_of_item x))
+      × Adds before new now rest (spans_of_item whole ctx d x t rest h))

@@ -1,0 +1,84 @@
+-- Where the nodes of a pattern's tree stand in its source: a span for each, in the order in which a walk in postorder comes to
+-- them, along the grammar by which the source stands for the pattern.
+use Rattle.std.specs.Prelude.{ℕ, ◌+◌, ◌-◌, ◌≤◌, Bool, true, false, List, [], ◌∷◌, ◌++◌, length, replicate, Option, Some, None, if◌then◌else◌, ◌==◌}
+use Rattle.regress_base.specs.declared.types.Quantifier.{Quantifier}
+use Rattle.regress_tree.specs.Reading.{Direction, forwards, backwards}
+use Rattle.regress_tree.specs.Setting.{Setting}
+use Rattle.regress_tree.specs.Visits.{nodes}
+use Rattle.regress_lexical.specs.Source.{Source, closing, bar}
+use Rattle.regress_syntax.specs.Syntax.{Group, grouping, modified, capture, look, Pattern, Terms, Item, one, either, no_terms, more_terms, atom, group}
+use Rattle.regress_syntax.specs.Meaning.{direction_of_group}
+use Rattle.regress_syntax.specs.Rows.{Context, context_inside}
+use Rattle.regress_syntax.specs.Grammar.{IsPattern, AreTerms, IsItem}
+use Rattle.regress_parse.specs.Accepted.{own_context, IsDerived}
+use Rattle.regress_parse.specs.TreeOf.{tree_of_atom}
+use Rattle.regress_spans.specs.declared.span.Span.{Span}
+
+-- it stands inside the other, and does not end before it begins
+pub record IsWithin (outer s : Span) : Type 0 where
+  pub start : outer.start ≤ s.start
+  pub ordered : s.start ≤ s.end
+  pub end : s.end ≤ outer.end
+
+-- a loop around an item, if a quantifier stands behind it
+abbrev pub span_of_times : Option Quantifier → Span → List Span
+span_of_times None s = []
+span_of_times (Some q) s = s ∷ []
+
+-- whether a group is a node of its own
+abbrev pub has_node : Group → Bool
+has_node grouping = false
+has_node (modified change) = false
+has_node (capture name) = true
+has_node (look negate direction) = true
+
+abbrev pub span_of_group : Group → Span → List Span
+span_of_group kind s = if has_node kind then s ∷ [] else []
+
+abbrev pub how_many : Terms → ℕ
+how_many no_terms = 0
+how_many (more_terms x q xs) = 1 + how_many xs
+
+-- one term alone is a node already; of none there is an `Empty`, of several the `Cat` around them
+abbrev pub span_of_row : ℕ → Span → List Span
+span_of_row terms s = if terms == 1 then [] else s ∷ []
+
+-- The first one's and then the others', or the other way round where matching runs backwards: so stand the nodes.
+abbrev pub in_order : Direction → List Span → List Span → List Span
+in_order forwards first others = first ++ others
+in_order backwards first others = others ++ first
+
+-- the whole source has so many code points
+module _ (whole : ℕ) where
+  -- from where this is left to where only `rest` is
+  abbrev pub between : Source → Source → Span
+  between t rest = record { start = whole - length t; end = whole - length rest }
+
+  -- what stands between `t` and `rest`, as the grammar derives it there
+  abbrev mutual
+    pub spans_of_pattern : (ctx : Context) → Direction → (p : Pattern) (t rest : Source) → IsPattern ctx p t rest → List Span
+    spans_of_pattern ctx d (one ts) t rest (terms, last) =
+        spans_of_terms ctx d ts t rest terms ++ span_of_row (how_many ts) (between t rest)
+    spans_of_pattern ctx d (either ts p) t rest (mid, terms, others) =
+        spans_of_terms ctx d ts t (bar ∷ mid) terms ++ span_of_row (how_many ts) (between t (bar ∷ mid))
+        ++ spans_of_pattern ctx d p mid rest others
+        ++ between t rest ∷ []
+
+    -- an item, and with its quantifier
+    pub spans_of_terms : (ctx : Context) → Direction → (ts : Terms) (t rest : Source) → AreTerms ctx ts t rest → List Span
+    spans_of_terms ctx d no_terms t rest ends = []
+    spans_of_terms ctx d (more_terms x q xs) t rest (mid, behind, item, times, others) =
+        in_order d (spans_of_item ctx d x t mid item ++ span_of_times q (between t behind)) (spans_of_terms ctx d xs behind rest others)
+
+    -- each node of an item that holds no pattern has all of it
+    pub spans_of_item : (ctx : Context) → Direction → (x : Item) (t rest : Source) → IsItem ctx x t rest → List Span
+    spans_of_item ctx d (atom a) t rest head = replicate (nodes (tree_of_atom ctx.setting.table ctx.names a)) (between t rest)
+    spans_of_item ctx d (group kind p) t rest (mid, head, body) =
+        spans_of_pattern (context_inside kind ctx) (direction_of_group kind d) p mid (closing ∷ rest) body
+        ++ span_of_group kind (between t rest)
+
+-- of the tree of a whole pattern: behind those of the pattern the final `Goal`, at the end, and the root, which has all
+abbrev pub spans_of : (setting : Setting) (source : Source) (p : Pattern) → IsDerived setting source p → List Span
+spans_of setting source p derived =
+    spans_of_pattern (length source) (own_context setting p) forwards p source [] derived
+    ++ between (length source) [] [] ∷ between (length source) source [] ∷ []

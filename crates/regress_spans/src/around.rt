@@ -1,0 +1,56 @@
+//! What lies around a part of the pattern.
+
+use crate::span::Span;
+use regress_lexical::cursor::Cursor;
+use regress_syntax::{Group, Scope};
+
+/// What lies around a part of the pattern.
+#[derive(Clone, Copy)]
+pub(crate) struct Around<'a> {
+    pub(crate) scope: Scope<'a>,
+    /// Whether the part is matched backwards: parts in a row stand turned in the tree.
+    pub(crate) backwards: bool,
+    /// How many code points the whole pattern has.
+    pub(crate) whole: usize,
+}
+
+impl<'a> Around<'a> {
+    ghost use Rattle.std.specs.Prelude.{◌≡◌, ◌-◌, length};
+    ghost use Rattle.regress_lexical.specs.Views.{source};
+    ghost use Rattle.regress_syntax.specs.Meaning.{direction_of_group};
+    ghost use Rattle.regress_syntax.specs.Rows.{context_inside};
+    ghost use Rattle.regress_syntax.specs.Views.{group_of};
+    ghost use Rattle.regress_spans.specs.Reading.{context_in, direction_of};
+
+    /// What lies around the parts inside a group.
+    pub(crate) fn inside(&self, kind: &Group) -> Around<'a>
+        ensures context { context_in result ≡ context_inside (group_of kind.now) (context_in self.now) }
+        ensures direction { direction_of result ≡ direction_of_group (group_of kind.now) (direction_of self.now) }
+        ensures whole { result.whole ≡ self.now.whole }
+    {
+        match kind {
+            Group::Grouping | Group::Capture(_) => *self,
+            Group::Modified(change) => Around {
+                scope: Scope {
+                    flags: change.apply(self.scope.flags),
+                    ..self.scope
+                },
+                ..*self
+            },
+            Group::Look { backwards, .. } => Around {
+                backwards: *backwards,
+                ..*self
+            },
+        }
+    }
+
+    /// The span from where `left` code points were left up to the cursor.
+    pub(crate) fn span(&self, left: usize, cursor: &Cursor) -> Span
+        ensures { result ≡ record { start = self.now.whole - left; end = self.now.whole - length (source cursor.now) } }
+    {
+        Span {
+            start: self.whole.saturating_sub(left),
+            end: self.whole.saturating_sub(cursor.rest.len()),
+        }
+    }
+}
