@@ -1,50 +1,12 @@
 -- Loops around a node, and whether some are in one another.
-use Rattle.std.proofs.Common.{◌≡◌, ℕ, ◌<◌, ◌≤◌, Bool, true, false, ◌&&◌, ◌||◌, List, [], ◌∷◌, ◌++◌, ◌+◌, Option, Some, None, subst, refl, sym, ap, ap₂, ◌∙◌, arith}
-use Rattle.std.specs.Bool.{then_some}
+use Rattle.std.proofs.Common.{◌≡◌, ℕ, ◌≤◌, Bool, true, false, ◌&&◌, ◌||◌, List, [], ◌∷◌, ◌++◌, ◌+◌, Option, subst, refl, sym, ap, ap₂, ◌∙◌, arith}
 use Rattle.std.specs.List.{list_any}
 use Rattle.std.proofs.Math.Bool.{or-false, or_assoc}
-use Rattle.std.proofs.lemmas.Bool.{false≢true}
 use Rattle.std.proofs.lemmas.List.Folds.{list_any-append}
 use Rattle.regress_front.specs.Shapes.{some_node, some_node_in_row, some_node_inside}
 use Rattle.regress_front.specs.Tree.{Tree, Trees, leaf, cat, alt, wrapped, no_trees, more_trees}
 use Rattle.regress_tree.specs.Inherited.{inherited, inherited_in_row}
 use Rattle.regress_calls.specs.Nested.{is_unbounded, is_unbounded_loop, has_nested, is_around, Watches}
-
--- ---- one call
-
-around_further : (old : Option ℕ) (depth d : ℕ) → depth < d → is_around depth old ≡ true → is_around d old ≡ true
-around_further None depth d further is = absurd (false≢true is)
-around_further (Some at) depth d further is = grind arith
-
-outermost_inside : (unbounded : Bool) (depth d : ℕ) → depth < d → is_around d (then_some unbounded depth) ≡ unbounded
-outermost_inside true depth d further = grind arith
-outermost_inside false depth d further = refl
-
-outermost_outside : (unbounded : Bool) (old : Option ℕ) (depth d : ℕ) → d ≤ depth → is_around depth old ≡ false →
-    is_around d (then_some unbounded depth) ≡ is_around d old
-outermost_outside true None depth d out none = grind arith
-outermost_outside true (Some at) depth d out none = grind arith
-outermost_outside false None depth d out none = refl
-outermost_outside false (Some at) depth d out none = grind arith
-
--- one is around already,
-pub watches_around : (depth : ℕ) (unbounded : Bool) (old : Option ℕ) (before after : Bool) → is_around depth old ≡ true →
-    after ≡ (before || unbounded) → Watches depth unbounded old old before after
-watches_around depth unbounded old before after is met = record {
-  met = met ∙ ap (λ b. before || (b && unbounded)) (sym is);
-  inside = λ d further. around_further old depth d further is ∙ ap (λ b. b || unbounded) (sym is);
-  outside = λ d out. refl;
-}
-
--- or none
-pub watches_outermost : (depth : ℕ) (unbounded : Bool) (old new : Option ℕ) (before after : Bool) → is_around depth old ≡ false →
-    new ≡ then_some unbounded depth → after ≡ before → Watches depth unbounded old new before after
-watches_outermost depth unbounded old new before after is outermost met = record {
-  met = met ∙ sym (or-false before) ∙ ap (λ b. before || (b && unbounded)) (sym is);
-  inside = λ d further.
-      ap (is_around d) outermost ∙ outermost_inside unbounded depth d further ∙ ap (λ b. b || unbounded) (sym is);
-  outside = λ d out. ap (is_around d) outermost ∙ outermost_outside unbounded old depth d out is;
-}
 
 -- ---- all calls
 

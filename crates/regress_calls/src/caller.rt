@@ -1,16 +1,17 @@
 //! A caller of the library. docs/CALLING.md has this text.
-ghost use Rattle.std.specs.Prelude.{◌≡◌, ◌≤◌, All, IfOk, chars};
+ghost use Rattle.std.specs.Prelude.{IfOk, chars};
 ghost use Rattle.regress_front.specs.SmallTable.{small_table};
 ghost use Rattle.regress_front.specs.Fault.{RefusedOnlyIf};
 ghost use Rattle.regress_front.specs.Syntax.{Pattern};
 ghost use Rattle.regress_front.specs.Accepted.{IsAccepted, NoneIsAccepted};
 ghost use Rattle.regress_front.specs.SettingOf.{setting_of};
 
-use regress_front::codepointset::{CODE_POINT_MAX, CodePointSet, Interval};
+use regress_front::codepointset::{CodePointSet, Interval};
 use regress_front::optimizer::parse_and_optimize;
 use regress_front::parse::ParseFault;
 use regress_front::types::Flags;
 use regress_front::unicode::{FoldRange, Tables, TablesError};
+use regress_front::util::code_points;
 use std::alloc::{AllocError, AllocFailed, Global};
 
 /// The optimized tree of a pattern, as it prints.
@@ -89,16 +90,4 @@ impl<T: Drop> From<AllocFailed<T>> for LinterError {
     fn from(_: AllocFailed<T>) -> LinterError {
         LinterError::Memory
     }
-}
-
-/// The characters of a text, none above U+10FFFF.
-pub fn code_points(alloc: Global, text: &str) -> Result<Vec<u32>, AllocError>
-    ensures characters { IfOk result (λ points. points.items ≡ chars text.now) }
-    ensures in_range { IfOk result (λ points. All (λ c. c ≤ CODE_POINT_MAX) points.items) }
-{
-    let mut points = Vec::new(alloc);
-    for c in text.chars() {
-        points.push(u32::from(c))?;
-    }
-    Ok(points)
 }

@@ -1,8 +1,8 @@
 //! Shows where a pattern's fault is. docs/CALLING.md has this text.
-use crate::caller::code_points;
 use regress_front::parse::{PlacedFault, try_parse_with_place};
 use regress_front::types::Flags;
 use regress_front::unicode::Tables;
+use regress_front::util::code_points;
 use std::alloc::{AllocError, Global};
 
 /// The pattern, a caret under the place of its fault, and what is wrong there; None where there is no fault. The place

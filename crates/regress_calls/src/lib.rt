@@ -2,7 +2,9 @@
 //! `regress_calls_tests`.
 #![tactic(auto)]
 
+pub mod bounded;
 pub mod caller;
 pub mod caret;
 pub mod length;
 pub mod linter;
+pub mod underline;

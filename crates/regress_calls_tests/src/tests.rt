@@ -10,11 +10,11 @@ mod linting;
 mod passes;
 mod walks;
 
-use regress_calls::caller::code_points;
 use regress_front::ir::Regex;
 use regress_front::parse::{ParseFault, try_parse};
 use regress_front::types::Flags;
 use regress_front::unicode::Tables;
+use regress_front::util::code_points;
 use std::alloc::Global;
 
 /// The tree of a pattern, as it is parsed over the small table, with the flag u or with none.

@@ -2,6 +2,7 @@
 
 use regress_calls::caller::optimized_text;
 use regress_calls::caret::pointed_at;
+use regress_calls::underline::underlined_loop;
 use regress_front::codepointset::canonical_form_is_unique;
 use regress_front::types::{Flags, limits_are_as_defined};
 use regress_front::unicode::Tables;
@@ -40,5 +41,17 @@ fn a_caret_stands_under_the_place_of_a_fault(rt: HostRuntime) -> Result<(), Fail
         None => assert!(rt; false, "it is accepted"),
     }
     assert!(rt; pointed_at(alloc, "ab", Flags::default(), &tables)?.is_none());
+    Ok(())
+}
+
+#[test]
+fn a_loop_without_a_bound_is_underlined(rt: HostRuntime) -> Result<(), Fail> {
+    let alloc = rt.alloc();
+    let tables = Tables::small(alloc)?;
+    match underlined_loop(alloc, "x(?:ab)*y", Flags::default(), &tables)? {
+        Some(shown) => assert_eq!(rt; shown.as_str(), "x(?:ab)*y\n ~~~~~~~"),
+        None => assert!(rt; false, "there is a loop"),
+    }
+    assert!(rt; underlined_loop(alloc, "a{2}", Flags::default(), &tables)?.is_none());
     Ok(())
 }

@@ -1,0 +1,28 @@
+//! Parses a pattern only where its tree is small. docs/CALLING.md has this text.
+ghost use Rattle.std.specs.Prelude.{◌<◌, All, IfOk, IfSome};
+ghost use Rattle.regress_front.specs.Source.{IsCodePoint};
+ghost use Rattle.regress_front.specs.Tree.{tree};
+ghost use Rattle.regress_front.specs.Visits.{nodes};
+
+use regress_front::ir::Regex;
+use regress_front::parse::{ParseFault, node_bound, try_parse};
+use regress_front::types::Flags;
+use regress_front::unicode::Tables;
+use std::alloc::Global;
+
+/// The tree of a pattern, of fewer nodes than `limit`; None where it may have more. Such a pattern is not parsed.
+pub fn parse_bounded(
+    alloc: Global,
+    pattern: &[u32],
+    flags: Flags,
+    tables: &Tables,
+    limit: usize,
+) -> Result<Option<Regex>, ParseFault>
+    requires { All IsCodePoint pattern.now }
+    ensures small { IfOk result (λ found. IfSome found (λ regex. nodes (tree regex.node) < limit)) }
+{
+    if node_bound(pattern, flags) >= limit {
+        return Ok(None);
+    }
+    Ok(Some(try_parse(alloc, pattern, flags, tables)?))
+}
