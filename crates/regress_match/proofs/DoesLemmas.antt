@@ -2,9 +2,9 @@
 use Rattle.std.proofs.Common.{◌≡◌, ℕ, ◌+◌, ◌≤◌, List, [], ◌∷◌, ◌++◌, flat_map, length, refl, sym, ap, ap₂, subst, ◌∙◌, append_assoc, append-nil, arith, Result, Ok, Err, IfOk}
 use Rattle.std.proofs.lemmas.List.{length-append, drop_all}
 use Rattle.std.proofs.lemmas.List.Concat.{flat_map-append}
-use mathlib.Core.Path.{fun_ext}
+use Rattle.std.specs.Borrow.{Bor}
 use Rattle.regress_tree.specs.Reading.{direction_if}
-use Rattle.regress_tree.specs.Steps.{State, Step, ◌then_◌}
+use Rattle.regress_tree.specs.Steps.{State, Step}
 use Rattle.regress_tree.proofs.laws.Outcomes.{flat_map-then}
 use Rattle.regress_match.specs.Captures.{undone, state, Later}
 use Rattle.regress_match.specs.Machine.{what_step, todo, pending, waiting, saved, IsMachine, onward, Pushed, Chosen, Does, Continues}
@@ -14,6 +14,7 @@ use Rattle.regress_match.specs.declared.machine.Looking.{Looking}
 use Rattle.regress_tree.specs.Lookaround.{look}
 use Rattle.regress_tree.specs.Matching.{steps}
 use Rattle.regress_tree.specs.Tree.{tree}
+use Rattle.regress_tree.specs.declared.ir.node.Node.{Node}
 use Rattle.std.proofs.Common.{Option}
 use Rattle.regress_match.specs.declared.captures.Captures.{Captures}
 use Rattle.regress_match.specs.declared.machine.Choice.{Choice}
@@ -39,21 +40,6 @@ pushed_task u m m' t task tasks choices is le =
           ∙ pending-append u ts (t ∷ []) 0 0 m.choices.items c (length c.trail.items) machine.known;
       machine = λ c machine. push_task m m' c t machine le tasks choices;
     }
-
-pub then-assoc : (f g h : Step) → ((f then_ g) then_ h) ≡ (f then_ (g then_ h))
-then-assoc f g h = fun_ext (λ s. sym (flat_map-then g h (f s)))
-
--- one task before another
-pub pushed_both : (u : Subject) (m m' m'' : Machine) (f g : Step) (next behind task : ℕ) → Pushed u m m' g next behind → Pushed u m' m'' f behind task →
-    Pushed u m m'' (f then_ g) next task
-pushed_both u m m' m'' f g next behind task second first = record {
-  fits = first.fits;
-  grown = omega (arith, first.grown, second.grown);
-  does = first.does ∙ ap (λ h. f then_ h) second.does ∙ sym (then-assoc f g (todo u m.tasks.items next));
-  others = λ i within. first.others i (omega (arith, within, second.grown)) ∙ second.others i within;
-  waits = λ c machine. first.waits c (second.machine c machine) ∙ second.waits c machine;
-  machine = λ c machine. first.machine c (second.machine c machine);
-}
 
 pub chosen : (u : Subject) (m m' : Machine) (c : Captures) (d : Choice) → m'.tasks.items ≡ m.tasks.items →
     m'.choices.items ≡ m.choices.items ++ d ∷ [] → d.known ≡ length m.tasks.items → d.noted ≡ length c.trail.items →
@@ -155,31 +141,55 @@ does_stay_or u f g m m' m'' c place next task to pushes chose same = record {
   later = Later-refl c;
 }
 
--- One of two tasks that were pushed, and else the other.
-pub does_either : (u : Subject) (f g h : Step) (m m1 m2 m3 : Machine) (c : Captures) (place next other task : ℕ) →
+-- A node comes next, and the task behind it was pushed.
+pub goes_visit : (u : Subject) (f g : Step) (node : Bor Node) (m m' : Machine) (c c' : Captures) (place next task to : ℕ) →
+    (next ≤ length m.tasks.items → Pushed u m m' g next task) → Later c c' →
+    f (state c place) ≡ flat_map g (steps u.setting u.bytes u.direction (tree node.now) (state c' to)) →
+    Does u f m c place next m' c' (nexts.Visit to node task)
+goes_visit u f g node m m' c c' place next task to pushes later same = record {
+  continues = λ le machine.
+      let pushed = pushes le in
+      let states = steps u.setting u.bytes u.direction (tree node.now) (state c' to) in (
+        machine_later m' c c' (pushed.machine c machine) later,
+        pushed.fits,
+        ap (λ xs. onward u m c next xs) same
+            ∙ ap₂ ◌++◌
+            (sym (flat_map-then g (todo u m.tasks.items next) states) ∙ ap (λ (h : Step). flat_map h states) (sym pushed.does))
+            (sym (waiting_later u m' c c' (pushed.machine c machine) later ∙ pushed.waits c machine)),
+      );
+  later = later;
+}
+
+-- A node comes next, and nothing was pushed.
+pub goes_into : (u : Subject) (f : Step) (node : Bor Node) (m : Machine) (c : Captures) (place next to : ℕ) →
+    f (state c place) ≡ steps u.setting u.bytes u.direction (tree node.now) (state c to) →
+    Does u f m c place next m c (nexts.Visit to node next)
+goes_into u f node m c place next to same = record {
+  continues = λ le machine. (machine, le, ap (λ xs. onward u m c next xs) same);
+  later = Later-refl c;
+}
+
+-- A node comes next, and else a task that was pushed.
+pub does_first : (u : Subject) (g h : Step) (node : Bor Node) (m m1 m2 : Machine) (c : Captures) (place next other : ℕ) →
     (next ≤ length m.tasks.items → Pushed u m m1 g next other) → (other ≤ length m1.tasks.items → Chosen u m1 m2 c place other) →
-    (next ≤ length m2.tasks.items → Pushed u m2 m3 f next task) →
-    h (state c place) ≡ f (state c place) ++ g (state c place) → Does u h m c place next m3 c (nexts.Go place task)
-does_either u f g h m m1 m2 m3 c place next other task pushes chose pushes' same = record {
+    h (state c place) ≡ steps u.setting u.bytes u.direction (tree node.now) (state c place) ++ g (state c place) →
+    Does u h m c place next m2 c (nexts.Visit place node next)
+does_first u g h node m m1 m2 c place next other pushes chose same = record {
   continues = λ le machine.
       let pushed = pushes le in
       let choice = chose pushed.fits in
-      let pushed' = pushes' (omega (arith, le, pushed.grown, ap length choice.same)) in
       let T = todo u m.tasks.items next in
       let s = state c place in
-      let machine1 = pushed.machine c machine in
-      let machine2 = choice.machine machine1 in
+      let states = steps u.setting u.bytes u.direction (tree node.now) s in
       let same-todo : todo u m2.tasks.items next ≡ T = ap (λ ts. todo u ts next) choice.same ∙ pushed.others next le in
-      let first : flat_map T (f s) ≡ todo u m3.tasks.items task s =
-      ap (λ k. flat_map k (f s)) (sym same-todo) ∙ ap (λ k. k s) (sym pushed'.does) in
-      let second : flat_map T (g s) ++ waiting u m c ≡ waiting u m3 c =
-      ap₂ ◌++◌ (ap (λ k. k s) (sym pushed.does)) (sym (pushed.waits c machine)) ∙ sym choice.waits ∙ sym (pushed'.waits c machine2) in (
-        pushed'.machine c machine2,
-        pushed'.fits,
-        ap (λ states. onward u m c next states) same
-            ∙ ap (λ xs. xs ++ waiting u m c) (flat_map-append T (f s) (g s))
-            ∙ append_assoc (flat_map T (f s)) (flat_map T (g s)) (waiting u m c)
-            ∙ ap₂ ◌++◌ first second,
+      let second : flat_map T (g s) ++ waiting u m c ≡ waiting u m2 c =
+      ap₂ ◌++◌ (ap (λ (k : Step). k s) (sym pushed.does)) (sym (pushed.waits c machine)) ∙ sym choice.waits in (
+        choice.machine (pushed.machine c machine),
+        omega (arith, le, pushed.grown, ap length choice.same),
+        ap (λ xs. onward u m c next xs) same
+            ∙ ap (λ xs. xs ++ waiting u m c) (flat_map-append T states (g s))
+            ∙ append_assoc (flat_map T states) (flat_map T (g s)) (waiting u m c)
+            ∙ ap₂ ◌++◌ (ap (λ (k : Step). flat_map k states) (sym same-todo)) second,
       );
   later = Later-refl c;
 }

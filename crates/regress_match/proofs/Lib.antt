@@ -5,11 +5,11 @@ pub mod MachineLemmas
 pub mod DoesLemmas
 pub mod LoopLemmas
 pub mod ReadingLemmas
+pub mod PeekLemmas
 pub mod RunLemmas
 pub mod FirstLemmas
 pub mod BetweenLemmas
 pub mod TurnLemmas
 pub mod LeafLemmas
 pub mod SingleLemmas
-pub mod CandidateLemmas
 pub mod NamesLemmas

@@ -1,6 +1,7 @@
 -- Turns of loops, groups and rows, as tasks do them.
 use Rattle.std.proofs.Common.{◌≡◌, ℕ, zero, suc, ◌+◌, ◌-◌, ◌≤◌, Bool, true, false, not, ◌==◌, List, [], ◌∷◌, ◌++◌, filter, flat_map, map, refl, sym, ap, ◌∙◌, arith, if◌then◌else◌, not-suc-le-zero}
 use Rattle.std.proofs.Common.{length}
+use Rattle.std.proofs.lemmas.Bool.{eq-eqb, ne_eqb}
 use Rattle.regress_base.specs.declared.types.Quantifier.{Quantifier}
 use Rattle.regress_tree.specs.Matching.{steps}
 use Rattle.regress_tree.specs.Tree.{Tree, tree}
@@ -66,14 +67,8 @@ loop_is u r q start end body s is-body is-start is-end is-greedy is-more =
     ∙ ap (λ j. all body start j r.greedy r.more) is-end ∙ ap (λ g. all body start end g r.more) is-greedy
     ∙ ap (λ m. all body start end q.greedy m) is-more)
 
-equal_test : (j k : ℕ) → j ≡ k → (j == k) ≡ true
-equal_test j k is = grind arith
-
-unequal_test : (j k : ℕ) → (j ≡ k → ⊥) → (j == k) ≡ false
-unequal_test j k not' = grind arith
-
 pub moved_not : (u : Subject) (r : Repeat) (entry : ℕ) (s : State) → s.place ≡ entry → what_step u (whats.Moved r entry) s ≡ []
-moved_not u r entry s is = ap (λ (b : Bool). if b then [] else more_of u r s) (equal_test s.place entry is)
+moved_not u r entry s is = ap (λ (b : Bool). if b then [] else more_of u r s) (eq-eqb s.place entry is)
 
 pub moved_on : (u : Subject) (r : Repeat) (entry : ℕ) (s : State) → (s.place ≡ entry → ⊥) → what_step u (whats.Moved r entry) s ≡ more_of u r s
-moved_on u r entry s is = ap (λ (b : Bool). if b then [] else more_of u r s) (unequal_test s.place entry is)
+moved_on u r entry s is = ap (λ (b : Bool). if b then [] else more_of u r s) (ne_eqb s.place entry is)

@@ -1,21 +1,17 @@
 -- Where characters begin and end.
-use Rattle.std.proofs.Common.{◌≡◌, ℕ, zero, suc, ◌+◌, ◌-◌, ◌≤◌, ◌<◌, ◌==◌, Bool, true, false, List, [], ◌∷◌, ◌++◌, length, take, drop, get_or, Option, Some, None, refl, sym, ap, subst, ◌∙◌, arith, append_assoc, if◌then◌else◌, cond, nat_le}
+use Rattle.std.proofs.Common.{◌≡◌, ℕ, zero, suc, ◌+◌, ◌-◌, ◌≤◌, ◌<◌, ◌==◌, Bool, true, false, List, [], ◌∷◌, ◌++◌, length, take, drop, get_or, Option, Some, None, refl, sym, ap, subst, ◌∙◌, arith, append_assoc, if◌then◌else◌, cond, nat_le, lit≤}
 use Rattle.std.specs.Char.{IsScalar, len_utf8, encode_utf8}
 use Rattle.std.specs.Option.{option_or, option_and_then}
 use Rattle.std.specs.Str.{IsUtf8, IsCharBoundary}
-use Rattle.std.proofs.lemmas.List.{length-append, length-take-le, take-append-drop, length-drop}
+use Rattle.std.proofs.lemmas.List.{length-append, length-take-le, take-append-drop, length-drop, drop_more, take_more}
 use Rattle.std.proofs.lemmas.Bool.{ltb-true, leb-true, eqb-true}
 use Rattle.std.proofs.Common.{◌/◌, ltb}
 use Rattle.std.proofs.Math.Seq.{drop-append_seam}
-use Rattle.std.proofs.lemmas.Str.{IsUtf8-drop, IsCharBoundary-past_char, length-encode, len_utf8_bounds}
+use Rattle.std.proofs.lemmas.Str.{IsUtf8-drop, IsCharBoundary-past_char, encode_ascii, length-encode, len_utf8_ascii, len_utf8_bounds}
 use lib.Utf8.{encode}
 use Rattle.regress_tree.specs.Reading.{Read, character_at, read_after, read_before, read_before_by}
-use Rattle.regress_tree.proofs.laws.Characters.{character_at_parts}
+use Rattle.regress_tree.proofs.laws.Characters.{character_at_from, character_at_parts, no_character}
 use Rattle.regress_tree.proofs.laws.Readings.{read_before-behind}
-
-no_character : (o : Option ℕ) → ((c : ℕ) → o ≡ Some c → ⊥) → o ≡ None
-no_character None h = refl
-no_character (Some c) h = absurd (h c refl)
 
 pub len_positive : (c : ℕ) → IsScalar c → 1 ≤ len_utf8 c
 len_positive c is = (len_utf8_bounds c).0
@@ -127,3 +123,30 @@ before_some bytes k c xs is le split =
     ap (drop (length xs)) whole ∙ drop-append_seam xs (encode_utf8 c ++ drop k bytes) in
     ap (read_before bytes) (sym len) ∙ read_before-behind bytes (length xs) c (drop k bytes) is here
     ∙ ap (λ i. Some (record { character = c; place = i })) (omega (arith, len))
+
+ascii_scalar : (b : ℕ) → b < 128 → IsScalar b
+ascii_scalar b lt = grind arith
+
+-- a byte that is an ASCII character
+pub ascii_after : (bytes : List ℕ) (k b : ℕ) → b < 128 → k < length bytes → get_or bytes k 0 ≡ b →
+    read_after bytes k ≡ Some (record { character = b; place = k + 1 })
+ascii_after bytes k b lt within is =
+    let here : drop k bytes ≡ encode_utf8 b ++ drop (k + 1) bytes =
+    drop_more bytes k 0 within ∙ ap (λ x. x ∷ drop (k + 1) bytes) is ∙ ap (λ xs. xs ++ drop (k + 1) bytes) (sym (encode_ascii b lt)) in
+    read_after_some bytes k b (character_at_from bytes k b (drop (k + 1) bytes) (ascii_scalar b lt) here)
+    ∙ ap (λ n. Some (record { character = b; place = k + n })) (len_utf8_ascii b lt)
+
+pub ascii_before : (bytes : List ℕ) (k b : ℕ) → b < 128 → k < length bytes → get_or bytes k 0 ≡ b →
+    read_before bytes (k + 1) ≡ Some (record { character = b; place = k })
+ascii_before bytes k b lt within is =
+    let split : take (k + 1) bytes ≡ take k bytes ++ encode_utf8 b =
+    take_more bytes k 0 within ∙ ap (λ x. take k bytes ++ x ∷ []) is ∙ ap (λ xs. take k bytes ++ xs) (sym (encode_ascii b lt)) in
+    before_some bytes (k + 1) b (take k bytes) (ascii_scalar b lt) (omega (arith, within)) split
+    ∙ ap (λ i. Some (record { character = b; place = i })) (omega (arith, len_utf8_ascii b lt))
+
+pub before_start : (bytes : List ℕ) → read_before bytes 0 ≡ None
+unfolding read_before
+before_start bytes =
+    let none : (n : ℕ) → 1 ≤ n → read_before_by bytes n 0 ≡ None =
+    λ n some. by_none (nat_le n 0) (character_at bytes (0 - n)) n 0 (λ c within e len. omega (arith, some, leb-true n 0 within)) in
+    all_none _ _ _ _ (none 1 (lit≤ tt)) (none 2 (lit≤ tt)) (none 3 (lit≤ tt)) (none 4 (lit≤ tt))

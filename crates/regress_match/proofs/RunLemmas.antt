@@ -1,18 +1,23 @@
 -- Steps of a run, lookarounds in it, and its ends.
-use Rattle.std.proofs.Common.{◌≡◌, ℕ, ◌+◌, ◌-◌, ◌≤◌, true, false, List, [], ◌∷◌, ◌++◌, flat_map, filter, not, length, take, drop, refl, sym, ap, ap₂, subst, ◌∙◌, append-nil, arith, slice_index_or, Option}
+use Rattle.std.proofs.Common.{◌≡◌, ℕ, zero, suc, ◌+◌, ◌-◌, ◌≤◌, Bool, true, false, List, [], ◌∷◌, ◌++◌, flat_map, filter, not, length, take, drop, refl, sym, ap, ap₂, subst, ◌∙◌, append-nil, arith, slice_index_or, Option, if◌then◌else◌}
 use Rattle.std.proofs.Math.Seq.{drop-append_seam}
-use Rattle.std.proofs.Common.{Result, Ok, Err, IfOk}
 use Rattle.regress_tree.specs.Reading.{direction_if}
 use Rattle.regress_match.specs.declared.captures.Undo.{Undo}
 use Rattle.regress_tree.specs.Lookaround.{look, looked}
 use Rattle.regress_tree.specs.Matching.{steps}
 use Rattle.regress_tree.specs.Steps.{State, Step, CaptureSpan, distinct, same_state}
 use Rattle.regress_tree.specs.Tree.{tree}
+use Rattle.regress_tree.specs.declared.ir.node.Node.{Node}
+use Rattle.std.specs.Borrow.{Bor}
 use Rattle.regress_tree.proofs.laws.Outcomes.{flat_map-stay}
 use Rattle.regress_match.specs.Captures.{undone, state, Later}
-use Rattle.regress_match.specs.Machine.{what_step, todo, waiting, linked_from, known_from, IsMachine, left_at, onward, Pushed, Does, Continues, Settles}
+use Rattle.regress_match.specs.Machine.{what_step, todo, waiting, linked_from, known_from, Fits, IsMachine, left_ahead, onward, Does, Continues, Settles, Looks}
 use Rattle.regress_match.specs.Subject.{Subject}
 use Rattle.regress_match.specs.declared.captures.Captures.{Captures}
+use Rattle.regress_match.specs.declared.machine.Ahead.{Ahead}
+use Rattle.regress_match.specs.declared.machine.Ahead.TheVariants as aheads
+use Rattle.regress_match.specs.declared.machine.Looked.{Looked}
+use Rattle.regress_match.specs.declared.machine.Looked.TheVariants as lookeds
 use Rattle.regress_match.specs.declared.machine.Looking.{Looking}
 use Rattle.regress_match.specs.declared.machine.Machine.{Machine}
 use Rattle.regress_match.specs.declared.machine.Next.{Next}
@@ -30,39 +35,54 @@ empty_machine m c tasks choices = record {
 }
 
 -- a run begins
-pub begins : (u : Subject) (m m' : Machine) (c : Captures) (f : Step) (start task : ℕ) → m.tasks.items ≡ [] → m.choices.items ≡ [] →
-    Pushed u m m' f 0 task → IsMachine m' c × (task ≤ length m'.tasks.items) × (f (state c start) ≡ left_at u m' c start task)
-begins u m m' c f start task tasks choices pushed =
-    let is = empty_machine m c tasks choices in (
-      pushed.machine c is,
-      pushed.fits,
+pub begins : (u : Subject) (m : Machine) (c : Captures) (node : Bor Node) (start : ℕ) → m.tasks.items ≡ [] → m.choices.items ≡ [] →
+    IsMachine m c × Fits (aheads.Node node 0) (length m.tasks.items)
+    × (steps u.setting u.bytes u.direction (tree node.now) (state c start) ≡ left_ahead u m c start (aheads.Node node 0))
+begins u m c node start tasks choices =
+    let states = steps u.setting u.bytes u.direction (tree node.now) (state c start) in (
+      empty_machine m c tasks choices,
+      omega arith,
       sym (ap₂ ◌++◌
-          (ap (λ h. h (state c start)) pushed.does
-          ∙ ap (λ h. flat_map h (f (state c start))) (todo-none u m.tasks.items)
-          ∙ flat_map-stay (f (state c start)))
-          (pushed.waits c is ∙ pending-nil u m c choices)
-          ∙ append-nil (f (state c start))),
+          (ap (λ (h : Step). flat_map h states) (todo-none u m.tasks.items) ∙ flat_map-stay states)
+          (pending-nil u m c choices)
+          ∙ append-nil states),
     )
 
+pub positive : (n : ℕ) → (n ≡ 0 → ⊥) → 1 ≤ n
+positive zero some = absurd (some refl)
+positive (suc n) some = omega arith
+
 -- it does a task
-pub task_done : (u : Subject) (m m' : Machine) (c c' : Captures) (place task : ℕ) (t : Task) (r : Next) (outcomes : List State) →
+pub task_done : (u : Subject) (m m' : Machine) (c c' : Captures) (place task : ℕ) (t : Task) (r : Next) (ahead : Ahead) →
     IsMachine m c → 1 ≤ task → task ≤ length m.tasks.items → t ≡ slice_index_or m.tasks.items (task - 1) t →
-    outcomes ≡ left_at u m c place task → Does u (what_step u t.what) m c place t.next m' c' r → Continues u outcomes m' c' r
-task_done u m m' c c' place task t r outcomes is some within at left does =
+    ahead ≡ aheads.Task task → Does u (what_step u t.what) m c place t.next m' c' r → Continues u (left_ahead u m c place ahead) m' c' r
+task_done u m m' c c' place task t r ahead is some within at what does =
     let found = todo-at u m.tasks.items (task - 1) t is.linked (omega (arith, some, within)) at in
     let number : task ≡ task - 1 + 1 = omega (arith, some) in
-    let same : outcomes ≡ onward u m c t.next (what_step u t.what (state c place)) =
-    left ∙ ap (λ i. todo u m.tasks.items i (state c place) ++ waiting u m c) number
-    ∙ ap (λ h. h (state c place) ++ waiting u m c) found.1 in
+    let same : left_ahead u m c place ahead ≡ onward u m c t.next (what_step u t.what (state c place)) =
+    ap (left_ahead u m c place) what ∙ ap (λ i. todo u m.tasks.items i (state c place) ++ waiting u m c) number
+    ∙ ap (λ (h : Step). h (state c place) ++ waiting u m c) found.1 in
     subst (λ states. Continues u states m' c' r) (sym same) (does.continues found.0 is)
 
+-- or a node
+pub node_done : (u : Subject) (m m' : Machine) (c c' : Captures) (place next : ℕ) (node : Bor Node) (r : Next) (ahead : Ahead) →
+    IsMachine m c → next ≤ length m.tasks.items → ahead ≡ aheads.Node node next →
+    Does u (steps u.setting u.bytes u.direction (tree node.now)) m c place next m' c' r → Continues u (left_ahead u m c place ahead) m' c' r
+node_done u m m' c c' place next node r ahead is within what does =
+    subst (λ a. Continues u (left_ahead u m c place a) m' c' r) (sym what) (does.continues within is)
+
+-- so it goes on
+pub goes_on_with : (u : Subject) (m : Machine) (c : Captures) (r : Next) (outcomes states : List State) → outcomes ≡ states →
+    Continues u states m c r → Continues u outcomes m c r
+goes_on_with u m c r outcomes states same goes = subst (λ xs. Continues u xs m c r) (sym same) goes
+
 -- it comes to its end
-pub ends_at : (u : Subject) (m : Machine) (c : Captures) (place task : ℕ) (outcomes : List State) → task ≡ 0 →
-    outcomes ≡ left_at u m c place task → (rest : List State) × (outcomes ≡ state c place ∷ rest)
-ends_at u m c place task outcomes none left = (
+pub ends_at : (u : Subject) (m : Machine) (c : Captures) (place : ℕ) (ahead : Ahead) (outcomes : List State) → ahead ≡ aheads.Task 0 →
+    outcomes ≡ left_ahead u m c place ahead → (rest : List State) × (outcomes ≡ state c place ∷ rest)
+ends_at u m c place ahead outcomes none left = (
   waiting u m c,
-  left ∙ ap (λ i. todo u m.tasks.items i (state c place) ++ waiting u m c) none
-      ∙ ap (λ h. h (state c place) ++ waiting u m c) (todo-none u m.tasks.items),
+  left ∙ ap (left_ahead u m c place) none
+      ∙ ap (λ (h : Step). h (state c place) ++ waiting u m c) (todo-none u m.tasks.items),
 )
 
 abbrev looking_steps : Subject → Looking → Step
@@ -71,7 +91,7 @@ looking_steps u l = steps u.setting u.bytes (direction_if l.backwards) (tree l.b
 -- a lookaround holds
 pub look_holds : (u : Subject) (outcomes : List State) (m : Machine) (c c' : Captures) (l : Looking) → Continues u outcomes m c (nexts.Look l) →
     Later c c' → look l.negate (looking_steps u l) (state c l.place) ≡ state c' l.place ∷ [] →
-    Settles u outcomes m c' (settleds.On l.place l.next)
+    Settles u outcomes m c' (settleds.On l.place (aheads.Task l.next))
 look_holds u outcomes m c c' l goes later holds = (
   machine_later m c c' goes.0 later,
   goes.1,
@@ -88,30 +108,38 @@ look_fails u outcomes m c c' l goes later fails = (
 )
 
 -- what a lookaround comes to, by the first outcome of its body
-pub looked_first : (f : Step) (s t : State) (rest : List State) → f s ≡ t ∷ rest → look false f s ≡ record t { place = s.place } ∷ []
+looked_first : (f : Step) (s t : State) (rest : List State) → f s ≡ t ∷ rest → look false f s ≡ record t { place = s.place } ∷ []
 unfolding look
 looked_first f s t rest is = ap (looked false s) is
 
-pub looked_first_negated : (f : Step) (s t : State) (rest : List State) → f s ≡ t ∷ rest → look true f s ≡ []
+looked_first_negated : (f : Step) (s t : State) (rest : List State) → f s ≡ t ∷ rest → look true f s ≡ []
 unfolding look
 looked_first_negated f s t rest is = ap (looked true s) is
 
-pub looked_none : (f : Step) (s : State) → f s ≡ [] → look false f s ≡ []
+looked_none : (f : Step) (s : State) → f s ≡ [] → look false f s ≡ []
 unfolding look
 looked_none f s is = ap (looked false s) is
 
-pub looked_none_negated : (f : Step) (s : State) → f s ≡ [] → look true f s ≡ s ∷ []
+looked_none_negated : (f : Step) (s : State) → f s ≡ [] → look true f s ≡ s ∷ []
 unfolding look
 looked_none_negated f s is = ap (looked true s) is
 
--- The changes inside a lookaround, behind those before.
-pub joined_later : (c inside c' : Captures) → undone inside.trail.items inside.spans.items ≡ c.spans.items →
-    c'.trail.items ≡ c.trail.items ++ inside.trail.items → c'.spans.items ≡ inside.spans.items → Later c c'
-joined_later c inside c' undo trail spans = record {
-  noted = inside.trail.items;
-  trail = trail;
-  undo = ap (undone inside.trail.items) spans ∙ undo;
-}
+-- what looking comes to, where the body has no outcome, and where it has one
+pub looks_none : (negate : Bool) (f : Step) (c c' : Captures) (place : ℕ) (r : Looked) → f (state c place) ≡ [] → c'.spans.items ≡ c.spans.items →
+    r ≡ (if negate then lookeds.Holds else lookeds.Fails) → Looks (look negate f (state c place)) c' place r
+looks_none true f c c' place r none spans is =
+    subst (Looks (look true f (state c place)) c' place) (sym is)
+    (looked_none_negated f (state c place) none ∙ ap (λ xs. record { place = place; captures = xs } ∷ []) (sym spans))
+looks_none false f c c' place r none spans is =
+    subst (Looks (look false f (state c place)) c' place) (sym is) (looked_none f (state c place) none)
+
+pub looks_first : (negate : Bool) (f : Step) (c c' : Captures) (place k : ℕ) (r : Looked) (rest : List State) →
+    f (state c place) ≡ state c' k ∷ rest → r ≡ (if not negate then lookeds.Holds else lookeds.Fails) →
+    Looks (look negate f (state c place)) c' place r
+looks_first true f c c' place k r rest some is =
+    subst (Looks (look true f (state c place)) c' place) (sym is) (looked_first_negated f (state c place) (state c' k) rest some)
+looks_first false f c c' place k r rest some is =
+    subst (Looks (look false f (state c place)) c' place) (sym is) (looked_first f (state c place) (state c' k) rest some)
 
 -- What is first of all outcomes is first of the distinct ones.
 pub distinct_first : (states rest : List State) (s : State) → states ≡ s ∷ rest →
@@ -134,7 +162,3 @@ rewound_trail before since all noted split len =
     taken : (xs ys : List Undo) → take (length xs) (xs ++ ys) ≡ xs
     taken [] ys = refl
     taken (x ∷ xs) ys = ap (λ zs. x ∷ zs) (taken xs ys)
-
-pub ok_always : {T E P : Type 0} (r : Result T E) → P → IfOk r (λ _. P)
-ok_always (Ok x) p = p
-ok_always (Err e) p = tt

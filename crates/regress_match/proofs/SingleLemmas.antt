@@ -1,20 +1,21 @@
 -- Tasks of loops over one character.
-use Rattle.std.proofs.Common.{◌≡◌, ◌⊎◌, inl, inr, ℕ, ◌+◌, ◌-◌, ◌≤◌, ◌<◌, Bool, true, false, not, [], ◌∷◌, ◌++◌, flat_map, length, Option, Some, None, refl, sym, ap, ap₂, ◌∙◌, arith, append_assoc, append-nil, slice_index_or}
+use Rattle.std.proofs.Common.{◌≡◌, ◌⊎◌, inl, inr, ℕ, ◌+◌, ◌-◌, ◌≤◌, ◌<◌, Bool, true, false, not, [], ◌∷◌, ◌++◌, flat_map, length, Option, Some, None, refl, sym, ap, ap₂, subst, ◌∙◌, arith, append_assoc, append-nil, slice_index_or}
 use mathlib.Core.Path.{fun_ext}
-use Rattle.regress_tree.specs.Reading.{direction_if}
+use Rattle.regress_tree.specs.Reading.{Read, direction_if, next_character, of_bytes}
 use Rattle.regress_tree.specs.Matching.{steps}
 use Rattle.regress_tree.specs.Repetition.{turns, up_to}
 use Rattle.regress_tree.specs.Steps.{State, Step}
-use Rattle.regress_tree.specs.Tree.{tree}
+use Rattle.regress_tree.specs.Tree.{tree, leaf, empty}
 use Rattle.regress_tree.proofs.laws.Groups.{turn-none}
 use Rattle.regress_match.specs.Captures.{state}
 use Rattle.regress_prefilter.specs.OneCharacter.{takes_one}
 use Rattle.regress_match.specs.Leaves.{put}
-use Rattle.regress_match.specs.Machine.{what_step, turn_of, todo, waiting, IsMachine, onward, Pushed, Chosen, Does}
+use Rattle.regress_match.specs.Machine.{what_step, turn_of, todo, waiting, Continues, IsMachine, onward, Pushed, Chosen, Does}
 use Rattle.regress_match.specs.Subject.{Subject}
 use Rattle.regress_match.specs.Turns.{opposite, one_of, giving_back}
 use Rattle.regress_match.specs.declared.captures.Captures.{Captures}
 use Rattle.regress_match.specs.declared.machine.Machine.{Machine}
+use Rattle.regress_match.specs.declared.machine.Next.{Next}
 use Rattle.regress_match.specs.declared.machine.Next.TheVariants as nexts
 use Rattle.regress_match.specs.declared.machine.Repeat.{Repeat}
 use Rattle.regress_match.specs.declared.machine.Task.{Task}
@@ -22,7 +23,7 @@ use Rattle.regress_match.specs.declared.machine.What.TheVariants as whats
 use Rattle.regress_match.proofs.CaptureLemmas.{Later-refl}
 use Rattle.regress_prefilter.proofs.laws.OneCharacter.{takes_one-steps}
 use Rattle.regress_match.proofs.MachineLemmas.{todo-at}
-use Rattle.regress_match.proofs.TurnLemmas.{lazy_begin}
+use Rattle.regress_match.proofs.TurnLemmas.{gives_more, lazy_begin}
 
 turn-single : (u : Subject) (r : Repeat) → takes_one (tree r.body.now) ≡ true → r.end ≤ r.start →
     turn_of u r ≡ one_of u.direction u.bytes (tree r.body.now)
@@ -76,21 +77,6 @@ pub turned_round : (b : Bool) → direction_if (not b) ≡ opposite (direction_i
 turned_round true = refl
 turned_round false = refl
 
--- A task was pushed, to be done from another place.
-pub goes_pushed_to : (u : Subject) (f g : Step) (m m' : Machine) (c : Captures) (place next task to : ℕ) →
-    (next ≤ length m.tasks.items → Pushed u m m' g next task) → f (state c place) ≡ g (state c to) →
-    Does u f m c place next m' c (nexts.Go to task)
-goes_pushed_to u f g m m' c place next task to pushes same = record {
-  continues = λ le machine.
-      let pushed = pushes le in (
-        pushed.machine c machine,
-        pushed.fits,
-        ap (λ states. onward u m c next states) same
-            ∙ ap₂ ◌++◌ (ap (λ h. h (state c to)) (sym pushed.does)) (sym (pushed.waits c machine)),
-      );
-  later = Later-refl c;
-}
-
 -- On from one place, and else a task from another place.
 pub does_or_at : (u : Subject) (f g : Step) (m m' m'' : Machine) (c : Captures) (place next task to at : ℕ) →
     (next ≤ length m.tasks.items → Pushed u m m' f next task) → (task ≤ length m'.tasks.items → Chosen u m' m'' c at task) →
@@ -125,3 +111,22 @@ stands u m c task t is some within at =
       waits = λ c' machine. refl;
       machine = λ c' machine. machine;
     }
+
+-- From one place as from another, with what comes after.
+pub does_from : (u : Subject) (f g : Step) (m : Machine) (c : Captures) (place at next : ℕ) (m' : Machine) (c' : Captures) (r : Next) →
+    (next ≤ length m.tasks.items → IsMachine m c → onward u m c next (f (state c place)) ≡ onward u m c next (g (state c at))) →
+    Does u g m c at next m' c' r → Does u f m c place next m' c' r
+does_from u f g m c place at next m' c' r same does = record {
+  continues = λ le machine. subst (λ states. Continues u states m' c' r) (sym (same le machine)) (does.continues le machine);
+  later = does.later;
+}
+
+-- A place is left out at which what comes after matches nothing.
+pub skips_back : (u : Subject) (m : Machine) (c : Captures) (next stop here : ℕ) (read : Read) → todo u m.tasks.items next (state c here) ≡ [] →
+    (here ≡ stop → ⊥) → next_character (opposite u.direction) (of_bytes u.bytes) here ≡ Some read →
+    onward u m c next (giving_back u.direction u.bytes stop (state c here)) ≡ onward u m c next (giving_back u.direction u.bytes stop (state c read.place))
+skips_back u m c next stop here read fails on some =
+    let T = todo u m.tasks.items next in
+    let rest = giving_back u.direction u.bytes stop (state c read.place) in
+    ap (onward u m c next) (gives_more u.bytes u.direction (leaf empty) stop (state c here) read on some)
+    ∙ ap (λ xs. (xs ++ flat_map T rest) ++ waiting u m c) fails

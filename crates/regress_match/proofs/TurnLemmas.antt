@@ -2,6 +2,7 @@
 use Rattle.std.proofs.Common.{◌≡◌, ℕ, zero, suc, ◌+◌, ◌-◌, ◌≤◌, ◌<◌, ◌==◌, Bool, true, false, not, List, [], ◌∷◌, ◌++◌, filter, flat_map, length, drop, Option, Some, None, refl, sym, ap, subst, ◌∙◌, arith, append_assoc, append-nil, if◌then◌else◌, not-suc-le-zero}
 use Rattle.std.specs.Char.{len_utf8, encode_utf8}
 use Rattle.std.specs.Option.{option_map}
+use Rattle.std.proofs.lemmas.Bool.{eq-eqb, ne_eqb}
 use Rattle.std.proofs.lemmas.List.{length-append, length-drop}
 use Rattle.std.proofs.lemmas.Str.{length-encode, len_utf8_bounds}
 use Rattle.regress_tree.specs.Reading.{Direction, forwards, backwards, Read, next_character, character_at, read_after, read_before, of_bytes}
@@ -47,7 +48,7 @@ module _ (bytes : List ℕ) where
       let parts = before_parts bytes k read e in
       after_of bytes read.place read.character parts.stands_there ∙ ap (λ i. Some (record { character = read.character; place = i })) parts.ends_there
 
-  less_ahead : (d : Direction) (k : ℕ) (read : Read) → next_character d (of_bytes bytes) k ≡ Some read →
+  pub less_ahead : (d : Direction) (k : ℕ) (read : Read) → next_character d (of_bytes bytes) k ≡ Some read →
       (ahead d bytes read.place < ahead d bytes k) × (ahead d bytes k ≤ length bytes)
   less_ahead forwards k read e =
       let parts = after_parts bytes k read e in
@@ -59,13 +60,10 @@ module _ (bytes : List ℕ) where
       (omega (arith, parts.ends_there, fits.0, fits.1), omega (arith, parts.ends_there, fits.0, fits.1))
 
   differs : (d : Direction) (j k : ℕ) → ahead d bytes j < ahead d bytes k → (j == k) ≡ false
-  differs d j k less = unequal j k (λ e. irreflexive (ahead d bytes k) (subst (λ i. ahead d bytes i < ahead d bytes k) e less))
+  differs d j k less = ne_eqb j k (λ e. irreflexive (ahead d bytes k) (subst (λ i. ahead d bytes i < ahead d bytes k) e less))
     where
       irreflexive : (n : ℕ) → n < n → ⊥
       irreflexive n lt = omega (arith, lt)
-
-      unequal : (j k : ℕ) → (j ≡ k → ⊥) → (j == k) ≡ false
-      unequal j k not' = grind arith
 
   -- ---- along the places
 
@@ -172,10 +170,7 @@ module _ (bytes : List ℕ) where
     giving-stop : (stop : ℕ) (h : State) → h.place ≡ stop → behind stop h ≡ []
     giving-stop stop h at =
         ap (drop 1) (along-next (opposite d) stop h)
-        ∙ ap (λ (b : Bool). if b then [] else read_on (giving_back d bytes stop) h (next_character (opposite d) (of_bytes bytes) h.place)) (equal h.place stop at)
-      where
-        equal : (j k : ℕ) → j ≡ k → (j == k) ≡ true
-        equal j k is = grind arith
+        ∙ ap (λ (b : Bool). if b then [] else read_on (giving_back d bytes stop) h (next_character (opposite d) (of_bytes bytes) h.place)) (eq-eqb h.place stop at)
 
     giving-on : (stop c : ℕ) (h : State) (to : ℕ) → next_character d (of_bytes bytes) h.place ≡ Some (record { character = c; place = to }) →
         ahead d bytes h.place ≤ ahead d bytes stop → behind stop (record h { place = to }) ≡ giving_back d bytes stop h
@@ -233,11 +228,8 @@ module _ (bytes : List ℕ) where
         behind stop h ≡ read_on (giving_back d bytes stop) h o
     behind-at stop h o on next =
         ap (drop 1) (along-next (opposite d) stop h)
-        ∙ ap (λ (b : Bool). if b then [] else read_on (giving_back d bytes stop) h (next_character (opposite d) (of_bytes bytes) h.place)) (unequal h.place stop on)
+        ∙ ap (λ (b : Bool). if b then [] else read_on (giving_back d bytes stop) h (next_character (opposite d) (of_bytes bytes) h.place)) (ne_eqb h.place stop on)
         ∙ ap (read_on (giving_back d bytes stop) h) next
-      where
-        unequal : (j k : ℕ) → (j ≡ k → ⊥) → (j == k) ≡ false
-        unequal j k not' = grind arith
 
     pub gives_only : (stop : ℕ) (h : State) → (h.place ≡ stop → ⊥) → next_character (opposite d) (of_bytes bytes) h.place ≡ None →
         giving_back d bytes stop h ≡ h ∷ []

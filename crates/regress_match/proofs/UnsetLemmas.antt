@@ -4,14 +4,6 @@ use Rattle.std.proofs.lemmas.Bool.{cases_lt}
 use Rattle.regress_tree.specs.Repetition.{unset_from}
 use Rattle.regress_tree.specs.Steps.{CaptureSpan}
 
--- whether the group lies in the range
-is_in : ℕ → ℕ → ℕ → Bool
-is_in start end k = nat_le start k && nat_lt k end
-
-pub length-unset : (k start end : ℕ) (spans : List (Option CaptureSpan)) → length (unset_from k start end spans) ≡ length spans
-length-unset k start end [] = refl
-length-unset k start end (x ∷ xs) = ap suc (length-unset (k + 1) start end xs)
-
 outside : (start end k : ℕ) → end ≤ start → (nat_le start k && nat_lt k end) ≡ false
 outside start end k le = grind arith
 
@@ -23,9 +15,6 @@ before_tests start group k lt = grind arith
 
 behind_test : (start group k : ℕ) → group < k → (nat_le start k && nat_lt k group) ≡ (nat_le start k && nat_lt k (group + 1))
 behind_test start group k lt = grind arith
-
-at_test : (start group : ℕ) → start ≤ group → (nat_le start group && nat_lt group (group + 1)) ≡ true
-at_test start group le = grind arith
 
 pub unset-none : (k start end : ℕ) (spans : List (Option CaptureSpan)) → end ≤ start → unset_from k start end spans ≡ spans
 unset-none k start end [] le = refl

@@ -2,7 +2,7 @@
 use Rattle.std.specs.Prelude.{ℕ, Bool, true, false, List, [], ◌∷◌, Option, Some, None}
 use Rattle.regress_tree.specs.Reading.{Read}
 use Rattle.regress_tree.specs.Steps.{State}
-use Rattle.regress_tree.specs.Tree.{Leaf, string_set, Tree, leaf}
+use Rattle.regress_tree.specs.Tree.{Leaf, back_ref, string_set, Tree, leaf}
 
 -- the state moved there, or no outcome
 abbrev pub put : State → Option ℕ → List State
@@ -20,3 +20,13 @@ has_one_outcome_leaf l = true
 abbrev pub has_one_outcome : Tree → Bool
 has_one_outcome (leaf l) = has_one_outcome_leaf l
 has_one_outcome t = false
+
+-- it is a leaf that looks at no group, and no set of strings
+abbrev pub is_simple_leaf : Leaf → Bool
+is_simple_leaf (string_set strings icase) = false
+is_simple_leaf (back_ref group icase) = false
+is_simple_leaf l = true
+
+abbrev pub is_simple : Tree → Bool
+is_simple (leaf l) = is_simple_leaf l
+is_simple t = false

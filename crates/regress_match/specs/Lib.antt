@@ -3,8 +3,10 @@ pub mod Captures
 pub mod Leaves
 pub mod Turns
 pub mod Machine
+pub mod Peek
 pub mod Matched
 pub mod Fresh
+pub mod Prepared
 pub mod Searched
 pub mod Names
 pub mod Listing

@@ -9,10 +9,13 @@ use Rattle.regress_tree.specs.Repetition.{turn, turns, moving, up_to}
 use Rattle.regress_tree.specs.Steps.{State, Step, stay, ◌then_◌, captured}
 use Rattle.regress_tree.specs.Strings.{any_string}
 use Rattle.regress_tree.specs.Tree.{tree, trees}
+use Rattle.regress_tree.specs.declared.ir.node.Node.{Node}
 use Rattle.regress_match.specs.Captures.{undone, state, Later}
 use Rattle.regress_match.specs.Subject.{Subject}
 use Rattle.regress_match.specs.Turns.{giving_back, taking_more}
 use Rattle.regress_match.specs.declared.captures.Captures.{Captures}
+use Rattle.regress_match.specs.declared.machine.Ahead.{Ahead}
+use Rattle.regress_match.specs.declared.machine.Ahead.TheVariants as aheads
 use Rattle.regress_match.specs.declared.machine.Answer.{Answer}
 use Rattle.regress_match.specs.declared.machine.Answer.TheVariants as answers
 use Rattle.regress_match.specs.declared.machine.Choice.{Choice}
@@ -43,6 +46,11 @@ pub record IsMachine (m : Machine) (c : Captures) : Type 0 where
   pub linked : linked_from 0 m.tasks.items
   pub known : known_from 0 0 m.choices.items (length m.tasks.items) (length c.trail.items)
 
+-- The task is one of n, or none.
+abbrev pub Fits : Ahead → ℕ → Type 0
+Fits (aheads.Task i) n = i ≤ n
+Fits (aheads.Node node next) n = next ≤ n
+
 -- the state in which a choice was made
 abbrev pub saved : Captures → Choice → State
 saved c choice = record { place = choice.place; captures = undone (drop choice.noted c.trail.items) c.spans.items }
@@ -56,9 +64,13 @@ module _ (u : Subject) where
   abbrev pub more_of : Repeat → Step
   more_of r = up_to r.greedy r.more (turn_of r)
 
+  -- nodes one after the other
+  abbrev pub row_of : List Node → Step
+  row_of parts = steps_in_row u.setting u.bytes u.direction (trees parts)
+
   abbrev pub what_step : What → Step
   what_step (whats.Match node) = steps u.setting u.bytes u.direction (tree node.now)
-  what_step (whats.Row parts) = steps_in_row u.setting u.bytes u.direction (trees parts.now)
+  what_step (whats.Row parts) = row_of parts.now
   what_step (whats.Strings strings icase) =
       any_string u.direction (of_bytes u.bytes) (stands_for u.setting.table icase u.setting.flags.unicode) (map boxed_slice_items strings.now)
   what_step (whats.Close id from) = λ s. captured id from s ∷ []
@@ -99,10 +111,22 @@ module _ (u : Subject) where
   abbrev pub left_at : Machine → Captures → ℕ → ℕ → List State
   left_at m c place task = todo m.tasks.items task (state c place) ++ waiting m c
 
+  -- what comes next, and then the tasks after it
+  abbrev pub todo_ahead : List Task → Ahead → Step
+  todo_ahead ts (aheads.Task i) = todo ts i
+  todo_ahead ts (aheads.Node node next) = steps u.setting u.bytes u.direction (tree node.now) then_ todo ts next
+
+  -- the same, and then the choices
+  abbrev pub left_ahead : Machine → Captures → ℕ → Ahead → List State
+  left_ahead m c place ahead = todo_ahead m.tasks.items ahead (state c place) ++ waiting m c
+
   -- the machine goes on with these outcomes
   abbrev pub Continues : List State → Machine → Captures → Next → Type 0
   Continues outcomes m c (nexts.Go place task) =
       IsMachine m c × (task ≤ length m.tasks.items) × (outcomes ≡ left_at m c place task)
+  Continues outcomes m c (nexts.Visit place node next) =
+      IsMachine m c × (next ≤ length m.tasks.items)
+      × (outcomes ≡ onward m c next (steps u.setting u.bytes u.direction (tree node.now) (state c place)))
   Continues outcomes m c nexts.Back = IsMachine m c × (outcomes ≡ waiting m c)
   Continues outcomes m c (nexts.Look l) =
       IsMachine m c × (l.next ≤ length m.tasks.items)
@@ -111,8 +135,8 @@ module _ (u : Subject) where
 
   -- so does it once lookarounds are matched
   abbrev pub Settles : List State → Machine → Captures → Settled → Type 0
-  Settles outcomes m c (settleds.On place task) =
-      IsMachine m c × (task ≤ length m.tasks.items) × (outcomes ≡ left_at m c place task)
+  Settles outcomes m c (settleds.On place ahead) =
+      IsMachine m c × Fits ahead (length m.tasks.items) × (outcomes ≡ left_ahead m c place ahead)
   Settles outcomes m c settleds.Off = IsMachine m c × (outcomes ≡ waiting m c)
   Settles outcomes m c settleds.Spent = Unit {0}
 

@@ -7,6 +7,7 @@ use Rattle.regress_match.specs.Matched.{IsLeftmost, outcomes_at, start_of, state
 use Rattle.regress_match.specs.declared.matching.Match.{Match}
 use Rattle.regress_match.specs.declared.matching.Outcome.{Outcome}
 use Rattle.regress_match.specs.declared.matching.Outcome.TheVariants as outcomes
+use Rattle.regress_match.specs.declared.prepared.Prepared.{Prepared}
 use Rattle.regress_match.specs.declared.search.Matches.{Matches}
 
 -- the place from which the next match is looked for
@@ -16,9 +17,14 @@ next_from m = m.from
 abbrev pub searched_text : Matches → List ℕ
 searched_text m = m.text.now
 
--- the outcomes of its tree from each place
+-- the outcomes of a pattern on a text, from each place
+abbrev pub outcomes_of : Prepared → (text : List ℕ) → (place : ℕ) → List State
+outcomes_of p text =
+    outcomes_at (record { flags = p.regex.now.flags; table = table_of p.tables.now }) text (tree p.regex.now.node)
+
+-- those that it searches for
 abbrev pub searched_outcomes : Matches → (place : ℕ) → List State
-searched_outcomes m = outcomes_at (record { flags = m.regex.now.flags; table = table_of m.tables.now }) m.text.now (tree m.regex.now.node)
+searched_outcomes m = outcomes_of m.prepared m.text.now
 
 -- Where the next one is looked for: behind the match, and at least one byte behind its start, as behind an empty one.
 abbrev pub place_behind : Match → ℕ

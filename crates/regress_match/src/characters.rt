@@ -54,6 +54,9 @@ fn folds_to_word(tables: &Tables, c: u32) -> bool
     if c > 0x10_FFFF {
         return false;
     }
+    if is_word(c) {
+        return true;
+    }
     let image = fold(c, tables);
     for m in 0x30..0x7B {
         if is_word(m) && fold(m, tables) == image {

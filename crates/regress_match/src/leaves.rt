@@ -12,7 +12,8 @@ ghost use Rattle.regress_tree.specs.Tree.{tree};
 ghost use Rattle.regress_unicode.specs.TableOf.{table_of};
 ghost use Rattle.regress_match.specs.Captures.{state};
 ghost use Rattle.regress_prefilter.specs.OneCharacter.{sole_character, takes_one, test_of};
-ghost use Rattle.regress_match.specs.Leaves.{put, read_of, has_one_outcome};
+ghost use Rattle.regress_match.specs.Leaves.{put, read_of, has_one_outcome, is_simple};
+ghost use Rattle.regress_match.specs.Peek.{GoesTo};
 ghost use Rattle.regress_match.specs.Subject.{subject};
 ghost use Rattle.regress_match.specs.Turns.{one_of};
 
@@ -25,6 +26,7 @@ use regress_unicode::Tables;
 use std::alloc::{AllocError, Global};
 
 /// Where a leaf that has one outcome at most goes from a place.
+#[inline(always)]
 pub fn leaf(
     alloc: Global,
     text: &str,
@@ -38,25 +40,69 @@ pub fn leaf(
         steps u.setting u.bytes u.direction (tree node.now) (state captures.now place) ≡ put (state captures.now place) to)) }
 {
     match node {
-        Node::Empty | Node::Goal => Ok(Some(place)),
-        Node::ByteSequence(bytes) => {
-            Ok(these_bytes(text.as_bytes(), rules.backwards, bytes, place))
-        }
-        Node::Anchor {
-            anchor_type,
-            multiline,
-        } => Ok(if_holds(at_anchor(text, *anchor_type, *multiline, place), place)),
-        Node::WordBoundary {
-            invert,
-            unicode_icase,
-        } => Ok(if_holds(
-            at_boundary(text, rules.tables, *invert, *unicode_icase, place),
-            place,
-        )),
         Node::BackRef { group, icase } => {
             back_reference(alloc, text, rules, *group, *icase, place, captures)
         }
-        _ => Ok(one_character(text, rules, node, place)),
+        _ => Ok(simple_leaf(text, rules, node, place)),
+    }
+}
+
+/// Where a leaf goes that looks at no group and is no set of strings.
+pub fn simple_leaf(text: &str, rules: Rules<'_>, node: &Node, place: usize) -> Option<usize>
+    ensures { is_simple (tree node.now) ≡ true → GoesTo (subject rules.entry text.now) place (tree node.now) result }
+{
+    match node {
+        Node::Empty | Node::Goal => Some(place),
+        Node::ByteSequence(bytes) => these_bytes(text.as_bytes(), rules.backwards, bytes, place),
+        Node::Anchor {
+            anchor_type,
+            multiline,
+        } => if_holds(at_anchor(text, *anchor_type, *multiline, place), place),
+        Node::WordBoundary {
+            invert,
+            unicode_icase,
+        } => if_holds(
+            at_boundary(text, rules.tables, *invert, *unicode_icase, place),
+            place,
+        ),
+        _ => one_character(text, rules, node, place),
+    }
+}
+
+/// Whether it is a leaf that looks at no group, and no set of strings.
+pub fn is_simple(node: &Node) -> bool
+    ensures { result ≡ is_simple (tree node.now) }
+{
+    match node {
+        Node::Empty
+        | Node::Goal
+        | Node::Char { .. }
+        | Node::ByteSequence(_)
+        | Node::ByteSet(_)
+        | Node::CharSet(_)
+        | Node::MatchAny
+        | Node::MatchAnyExceptLineTerminator
+        | Node::Anchor { .. }
+        | Node::WordBoundary { .. }
+        | Node::Bracket(_) => true,
+        Node::BackRef { .. }
+        | Node::StringSet { .. }
+        | Node::Cat(_)
+        | Node::Alt(..)
+        | Node::CaptureGroup { .. }
+        | Node::Loop { .. }
+        | Node::Loop1CharBody { .. }
+        | Node::LookaroundAssertion { .. } => false,
+    }
+}
+
+/// Whether it is a leaf that has one outcome at most.
+pub fn is_leaf(node: &Node) -> bool
+    ensures { result ≡ has_one_outcome (tree node.now) }
+{
+    match node {
+        Node::BackRef { .. } => true,
+        _ => is_simple(node),
     }
 }
 

@@ -7,6 +7,8 @@ mod leaves;
 mod machine;
 pub mod matching;
 pub mod names;
+mod peek;
+mod prepared;
 mod reading;
 mod rules;
 mod run;

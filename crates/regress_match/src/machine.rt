@@ -1,13 +1,12 @@
 //! The machine: tasks, and choices to which it goes back.
-ghost use Rattle.std.specs.Prelude.{◌≡◌, ◌≤◌, ◌∷◌, ◌++◌, ℕ, List, IfOk, length, flat_map};
-ghost use Rattle.regress_tree.specs.Steps.{◌then_◌};
-ghost use Rattle.regress_match.specs.Captures.{state, undone};
+ghost use Rattle.std.specs.Prelude.{◌≡◌, ◌≤◌, [], IfOk, length};
+ghost use Rattle.regress_match.specs.Captures.{undone};
 ghost use Rattle.regress_match.specs.Machine.{IsMachine, Resumed, Pushed, Chosen, waiting, what_step};
 ghost use Rattle.regress_match.specs.Subject.{Subject};
 
 use crate::captures::Captures;
 use regress_tree::ir::Node;
-use std::alloc::AllocError;
+use std::alloc::{AllocError, Global};
 use std::boxed::BoxedSlice;
 
 /// A loop, and how many turns may still follow the least number.
@@ -77,18 +76,27 @@ pub struct Looking<'a> {
     pub next: usize,
 }
 
-/// What a step comes to: on from a place with a task, back to the last choice, or a lookaround first.
+/// What comes next at a place: a task of the list, where 0 is the end, or a node and then a task.
+#[derive(Clone, Copy)]
+pub enum Ahead<'a> {
+    Task(usize),
+    Node(&'a Node, usize),
+}
+
+/// What a step comes to: on from a place with a task, or with a node and then a task; back to the last choice; or a
+/// lookaround first.
 #[derive(Clone, Copy)]
 pub enum Next<'a> {
     Go(usize, usize),
+    Visit(usize, &'a Node, usize),
     Back,
     Look(Looking<'a>),
 }
 
 /// The same once lookarounds are matched, or the steps were used up.
 #[derive(Clone, Copy)]
-pub enum Settled {
-    On(usize, usize),
+pub enum Settled<'a> {
+    On(usize, Ahead<'a>),
     Off,
     Spent,
 }
@@ -109,6 +117,23 @@ pub struct Machine<'a> {
 }
 
 impl<'a> Machine<'a> {
+    /// One with nothing to do.
+    fn new(alloc: Global) -> Machine<'a> {
+        Machine {
+            tasks: Vec::new(alloc),
+            choices: Vec::new(alloc),
+        }
+    }
+
+    /// Leaves nothing to do, and keeps the memory.
+    pub fn clear(&mut self)
+        ensures tasks { self.new.tasks.items ≡ [] }
+        ensures choices { self.new.choices.items ≡ [] }
+    {
+        self.tasks.clear();
+        self.choices.clear();
+    }
+
     /// Goes back to the last choice.
     pub fn resume(&mut self, captures: &mut Captures) -> Option<(usize, usize)>
         requires { IsMachine self.old captures.old }
@@ -130,20 +155,6 @@ impl<'a> Machine<'a> {
         Ok(self.tasks.len())
     }
 
-    /// Adds two tasks, one before the other.
-    pub fn push_both(
-        &mut self,
-        first: What<'a>,
-        second: What<'a>,
-        next: usize,
-    ) -> Result<usize, AllocError>
-        ensures { IfOk result (λ task. (u : Subject) → next ≤ length self.old.tasks.items →
-            Pushed u self.old self.new (what_step u first.entry then_ what_step u second.entry) next task) }
-    {
-        let behind = self.push(second, next)?;
-        self.push(first, behind)
-    }
-
     /// Adds a choice: that task, from that place.
     pub fn choose(
         &mut self,
@@ -162,4 +173,33 @@ impl<'a> Machine<'a> {
         })?;
         Ok(())
     }
+}
+
+/// The memory of runs, kept from one to the next: a machine, and those of lookarounds that aren't being matched.
+#[derive(Drop)]
+pub struct Scratch<'a> {
+    pub machine: Machine<'a>,
+    pub idle: Vec<Machine<'a>>,
+}
+
+impl<'a> Scratch<'a> {
+    pub fn new(alloc: Global) -> Scratch<'a> {
+        Scratch {
+            machine: Machine::new(alloc),
+            idle: Vec::new(alloc),
+        }
+    }
+}
+
+/// A machine for a lookaround.
+pub fn take_idle<'a>(alloc: Global, idle: &mut Vec<Machine<'a>>) -> Machine<'a> {
+    match idle.pop() {
+        Some(machine) => machine,
+        None => Machine::new(alloc),
+    }
+}
+
+/// Keeps a machine for the next lookaround, if there is room.
+pub fn keep_idle<'a>(machine: Machine<'a>, idle: &mut Vec<Machine<'a>>) {
+    let _ = idle.push(machine);
 }

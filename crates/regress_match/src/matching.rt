@@ -2,7 +2,7 @@
 ghost use Rattle.std.specs.Prelude.{◌≡◌, ◌+◌, ◌<◌, ◌≤◌, ◌^◌, ℕ, List, None, IfOk, length, min, replicate, slice_index_or};
 ghost use Rattle.regress_tree.specs.Gathered.{own_group};
 ghost use Rattle.regress_tree.specs.Steps.{State};
-ghost use Rattle.regress_tree.specs.Tree.{tree};
+ghost use Rattle.regress_tree.specs.Tree.{Tree, tree};
 ghost use Rattle.regress_tree.specs.WellFormed.{captures};
 ghost use Rattle.regress_unicode.specs.TableOf.{table_of};
 ghost use Rattle.regress_match.specs.Machine.{Answers};
@@ -10,7 +10,7 @@ ghost use Rattle.regress_match.specs.Matched.{IsFirst, StartsAt, outcomes_at, st
 ghost use Rattle.regress_match.specs.Fresh.{IsFresh, IfNowhere};
 
 use crate::captures::Captures;
-use crate::machine::Answer;
+use crate::machine::{Answer, Scratch};
 use crate::rules::Rules;
 use crate::run::run;
 use regress_tree::ir::{Node, Regex, Walk, walk};
@@ -79,7 +79,7 @@ pub enum Outcome {
     OutOfSteps,
 }
 
-/// Matches a pattern from the byte place on, with no group set, in at most so many steps: one for each task, and one for
+/// Matches a pattern from the byte place on, with no group set, in at most so many steps: one for each node or task, and one for
 /// each byte that it goes over. The error is want of memory.
 pub fn match_at(
     alloc: Global,
@@ -93,9 +93,19 @@ pub fn match_at(
     ensures first { IfOk result (IsFirst (outcomes_at (record { flags = regex.now.flags; table = table_of tables.now }) text.now
         (tree regex.now.node) place)) }
 {
-    let mut captures = nothing_captured(alloc, &regex.node)?;
+    let mut captures = nothing_captured(alloc, group_count(&regex.node))?;
+    let mut scratch = Scratch::new(alloc);
     let mut left = steps;
-    match first_at(alloc, regex, tables, text, place, &mut captures, &mut left)? {
+    match first_at(
+        alloc,
+        regex,
+        tables,
+        text,
+        place,
+        &mut scratch,
+        &mut captures,
+        &mut left,
+    )? {
         Answer::At(end) => Ok(Outcome::Matched(Match::new(place, end, captures.spans))),
         Answer::Nowhere => Ok(Outcome::NoMatch),
         Answer::OutOfSteps => Ok(Outcome::OutOfSteps),
@@ -103,12 +113,13 @@ pub fn match_at(
 }
 
 /// The first outcome from a place with no group set. Where there is none, no group is set then.
-pub(crate) fn first_at(
+pub(crate) fn first_at<'a>(
     alloc: Global,
-    regex: &Regex,
+    regex: &'a Regex,
     tables: &Tables,
     text: &str,
     place: usize,
+    scratch: &mut Scratch<'a>,
     captures: &mut Captures,
     left: &mut u64,
 ) -> Result<Answer, AllocError>
@@ -123,19 +134,29 @@ pub(crate) fn first_at(
         tables,
         backwards: false,
     };
-    let answer = run(alloc, text, rules, &regex.node, place, captures, left)?;
+    let answer = run(
+        alloc,
+        text,
+        rules,
+        &regex.node,
+        place,
+        &mut scratch.machine,
+        &mut scratch.idle,
+        captures,
+        left,
+    )?;
     if let Answer::Nowhere = answer {
         captures.rewind(0);
     }
     Ok(answer)
 }
 
-/// No group of a tree has matched.
-pub(crate) fn nothing_captured(alloc: Global, node: &Node) -> Result<Captures, AllocError>
-    ensures { IfOk result (IsFresh (tree node.now)) }
+/// No group of a tree has matched, which has so many, as far as they can be counted.
+pub(crate) fn nothing_captured(alloc: Global, groups: usize) -> Result<Captures, AllocError>
+    ensures { IfOk result (λ fresh. (t : Tree) → groups ≡ min (length (captures t)) usize.MAX → IsFresh t fresh) }
 {
     Ok(Captures {
-        spans: no_spans(alloc, group_count(node))?,
+        spans: no_spans(alloc, groups)?,
         trail: Vec::new(alloc),
     })
 }
@@ -171,7 +192,7 @@ impl Counter {
 }
 
 /// How many capture groups a tree has, as far as they can be counted.
-fn group_count(node: &Node) -> usize
+pub(crate) fn group_count(node: &Node) -> usize
     ensures { result ≡ min (length (captures (tree node.now))) usize.MAX }
 {
     let mut counter = Counter { groups: 0 };

@@ -1,30 +1,38 @@
 //! Runs of the machine, within steps.
-ghost use Rattle.std.specs.Prelude.{◌≡◌, ◌≤◌, [], IfOk, List};
+ghost use Rattle.std.specs.Prelude.{◌≡◌, ◌≤◌, [], true, false, IfOk, List, length, if◌then◌else◌};
 ghost use Rattle.regress_tree.specs.Reading.{direction_if};
 ghost use Rattle.regress_tree.specs.Lookaround.{look};
 ghost use Rattle.regress_tree.specs.Matching.{steps};
 ghost use Rattle.regress_tree.specs.Steps.{State};
 ghost use Rattle.regress_tree.specs.Tree.{tree};
 ghost use Rattle.regress_match.specs.Captures.{state, undone, Later};
-ghost use Rattle.regress_match.specs.Machine.{Answers, Continues, Looks, Settles};
+ghost use Rattle.regress_match.specs.Machine.{Answers, Continues, Fits, IsMachine, Looks, Settles, left_ahead};
+ghost use Rattle.regress_match.specs.declared.machine.Ahead.TheVariants.{Task};
+ghost use Rattle.regress_match.specs.declared.machine.Looked.TheVariants.{Holds, Fails};
 ghost use Rattle.regress_match.specs.Subject.{subject};
 
 use crate::captures::Captures;
-use crate::machine::{Answer, Looked, Looking, Machine, Next, Settled, What};
+use crate::machine::{
+    Ahead, Answer, Looked, Looking, Machine, Next, Settled, keep_idle, take_idle,
+};
+use crate::peek::fails_at_once;
 use crate::rules::Rules;
-use crate::visits::step;
+use crate::visits::{step, visit};
 use regress_tree::ir::Node;
 use std::alloc::{AllocError, Global};
 use std::mem;
 
-/// Where the first outcome of a node from a place ends. The changes of captures are noted, and none was noted before.
+/// Where the first outcome of a node from a place ends. The changes of captures are noted, and none was noted before. What
+/// the machine had to do is forgotten.
 #[cycle(run)]
-pub fn run(
+pub fn run<'a>(
     alloc: Global,
     text: &str,
     rules: Rules<'_>,
-    node: &Node,
+    node: &'a Node,
     start: usize,
+    machine: &mut Machine<'a>,
+    idle: &mut Vec<Machine<'a>>,
     captures: &mut Captures,
     budget: &mut u64,
 ) -> Result<Answer, AllocError>
@@ -34,41 +42,28 @@ pub fn run(
     ensures budget { IfOk result (λ _. budget.new ≤ budget.old) }
     ensures undo { IfOk result (λ _. undone captures.new.trail.items captures.new.spans.items ≡ captures.old.spans.items) }
 {
-    let mut machine = Machine {
-        tasks: Vec::new(alloc),
-        choices: Vec::new(alloc),
-    };
+    machine.clear();
     let mut place = start;
-    let mut task = machine.push(What::Match(node), 0)?;
+    let mut ahead = Ahead::Node(node, 0);
     while *budget > 0 {
-        if task == 0 {
+        if is_end(ahead) {
             return Ok(Answer::At(place));
         }
         *budget -= 1;
-        let here = machine.tasks[task - 1];
-        let next = step(
-            alloc,
-            text,
-            rules,
-            here,
-            task,
-            place,
-            &mut machine,
-            captures,
-        )?;
-        match settle(alloc, text, rules, next, captures, budget)? {
+        let next = advance(alloc, text, rules, ahead, place, machine, captures)?;
+        match settle(alloc, text, rules, next, idle, captures, budget)? {
             Settled::On(to, with) => {
                 // one task may go over many characters
                 *budget = budget.saturating_sub(to.abs_diff(place) as u64);
                 place = to;
-                task = with;
+                ahead = with;
             }
             Settled::Off => {
-                let Some((to, with)) = machine.resume(captures) else {
+                let Some((to, task)) = machine.resume(captures) else {
                     return Ok(Answer::Nowhere);
                 };
                 place = to;
-                task = with;
+                ahead = Ahead::Task(task);
             }
             Settled::Spent => return Ok(Answer::OutOfSteps),
         }
@@ -76,26 +71,63 @@ pub fn run(
     Ok(Answer::OutOfSteps)
 }
 
-/// Matches a lookaround, if that is what comes next.
-#[cycle(run)]
-fn settle(
+/// Whether nothing is left to be done.
+fn is_end(ahead: Ahead<'_>) -> bool
+    ensures end { result ≡ true → ahead.entry ≡ Task 0 }
+    ensures more { result ≡ false → ahead.entry ≡ Task 0 → ⊥ }
+{
+    matches!(ahead, Ahead::Task(0))
+}
+
+/// Does what comes next.
+#[inline(always)]
+fn advance<'a>(
     alloc: Global,
     text: &str,
     rules: Rules<'_>,
-    next: Next<'_>,
+    ahead: Ahead<'a>,
+    place: usize,
+    machine: &mut Machine<'a>,
+    captures: &mut Captures,
+) -> Result<Next<'a>, AllocError>
+    requires machine { IsMachine machine.old captures.old }
+    requires fits { Fits ahead (length machine.old.tasks.items) }
+    requires more { ahead ≡ Task 0 → ⊥ }
+    ensures continues { IfOk result (let u = subject rules.entry text.now in
+        Continues u (left_ahead u machine.old captures.old place ahead.entry) machine.new captures.new) }
+    ensures later { IfOk result (λ _. Later captures.old captures.new) }
+{
+    match ahead {
+        Ahead::Node(node, next) => visit(alloc, text, rules, node, place, next, machine, captures),
+        Ahead::Task(task) => {
+            let here = machine.tasks[task - 1];
+            step(alloc, text, rules, here, task, place, machine, captures)
+        }
+    }
+}
+
+/// Matches a lookaround, if that is what comes next.
+#[cycle(run)]
+fn settle<'a>(
+    alloc: Global,
+    text: &str,
+    rules: Rules<'_>,
+    next: Next<'a>,
+    idle: &mut Vec<Machine<'a>>,
     captures: &mut Captures,
     budget: &mut u64,
-) -> Result<Settled, AllocError>
+) -> Result<Settled<'a>, AllocError>
     ensures settles { IfOk result (λ settled. (outcomes : List State) (m : Machine) → (let u = subject rules.entry text.now in
         Continues u outcomes m captures.old next.entry → Settles u outcomes m captures.new settled)) }
     ensures budget { IfOk result (λ _. budget.new ≤ budget.old) }
     ensures later { IfOk result (λ _. Later captures.old captures.new) }
 {
     match next {
-        Next::Go(place, task) => Ok(Settled::On(place, task)),
+        Next::Go(place, task) => Ok(Settled::On(place, Ahead::Task(task))),
+        Next::Visit(place, node, task) => Ok(Settled::On(place, Ahead::Node(node, task))),
         Next::Back => Ok(Settled::Off),
-        Next::Look(looking) => match look(alloc, text, rules, looking, captures, budget)? {
-            Looked::Holds => Ok(Settled::On(looking.place, looking.next)),
+        Next::Look(looking) => match look(alloc, text, rules, looking, idle, captures, budget)? {
+            Looked::Holds => Ok(Settled::On(looking.place, Ahead::Task(looking.next))),
             Looked::Fails => Ok(Settled::Off),
             Looked::Spent => Ok(Settled::Spent),
         },
@@ -104,11 +136,12 @@ fn settle(
 
 /// Matches a lookaround. What is captured inside is noted behind the changes before.
 #[cycle(run)]
-fn look(
+fn look<'a>(
     alloc: Global,
     text: &str,
     rules: Rules<'_>,
-    looking: Looking<'_>,
+    looking: Looking<'a>,
+    idle: &mut Vec<Machine<'a>>,
     captures: &mut Captures,
     budget: &mut u64,
 ) -> Result<Looked, AllocError>
@@ -117,38 +150,44 @@ fn look(
     ensures budget { IfOk result (λ _. budget.new ≤ budget.old) }
     ensures later { IfOk result (λ _. Later captures.old captures.new) }
 {
-    let noted = captures.trail.len();
-    let before = mem::replace(&mut captures.trail, Vec::new(alloc));
     let inside = Rules {
         flags: rules.flags,
         tables: rules.tables,
         backwards: looking.backwards,
     };
+    if fails_at_once(text, inside, looking.body, looking.place) {
+        return Ok(holds_if(looking.negate));
+    }
+    let noted = captures.trail.len();
+    let before = mem::replace(&mut captures.trail, Vec::new(alloc));
+    let mut machine = take_idle(alloc, idle);
     let answer = run(
         alloc,
         text,
         inside,
         looking.body,
         looking.place,
+        &mut machine,
+        idle,
         captures,
         budget,
     )?;
+    keep_idle(machine, idle);
     let mut since = mem::replace(&mut captures.trail, before);
     captures.trail.append(&mut since)?;
     match answer {
         Answer::OutOfSteps => Ok(Looked::Spent),
-        Answer::At(_) => Ok(if looking.negate {
-            Looked::Fails
-        } else {
-            Looked::Holds
-        }),
+        Answer::At(_) => Ok(holds_if(!looking.negate)),
         Answer::Nowhere => {
             captures.rewind(noted);
-            Ok(if looking.negate {
-                Looked::Holds
-            } else {
-                Looked::Fails
-            })
+            Ok(holds_if(looking.negate))
         }
     }
+}
+
+/// What looking comes to, by whether it holds.
+fn holds_if(holds: bool) -> Looked
+    ensures { result ≡ (if holds then Holds else Fails) }
+{
+    if holds { Looked::Holds } else { Looked::Fails }
 }

@@ -1,13 +1,16 @@
 //! Searching a text from left to right.
-ghost use Rattle.std.specs.Prelude.{◌≡◌, ◌≤◌, IfOk, OnErr, length};
+ghost use Rattle.std.specs.Prelude.{◌≡◌, ◌≤◌, [], true, IfOk, OnErr, length};
 ghost use Rattle.regress_tree.specs.Tree.{tree};
 ghost use Rattle.regress_unicode.specs.TableOf.{table_of};
 ghost use Rattle.regress_match.specs.Matched.{Finds, outcomes_at};
-ghost use Rattle.regress_match.specs.Searched.{IsSameSearch, goes_on_from, next_from, searched_outcomes, searched_text};
+ghost use Rattle.regress_match.specs.Searched.{IsSameSearch, goes_on_from, next_from, outcomes_of, searched_outcomes, searched_text};
 
-use crate::machine::Answer;
+use crate::machine::{Answer, Scratch};
 use crate::matching::{Match, Outcome, first_at, nothing_captured};
-use regress_prefilter::candidates::{candidates_of, next_place};
+use crate::peek::fails_at_once;
+use crate::prepared::Prepared;
+use crate::rules::Rules;
+use regress_prefilter::candidates::next_place;
 use regress_tree::ir::Regex;
 use regress_unicode::Tables;
 use std::alloc::{AllocError, Global};
@@ -25,32 +28,43 @@ pub fn find(
     ensures { IfOk result (Finds text.now (outcomes_at (record { flags = regex.now.flags; table = table_of tables.now }) text.now
         (tree regex.now.node)) from) }
 {
+    let prepared = Prepared::new(regex, tables);
+    let mut scratch = Scratch::new(alloc);
     let mut left = steps;
-    find_within(alloc, regex, tables, text, from, &mut left)
+    find_within(alloc, &prepared, text, from, &mut scratch, &mut left)
 }
 
 /// Finds it in at most the steps that are left, and takes off those that it took.
-pub(crate) fn find_within(
+pub(crate) fn find_within<'a>(
     alloc: Global,
-    regex: &Regex,
-    tables: &Tables,
+    prepared: &Prepared<'a>,
     text: &str,
     from: usize,
+    scratch: &mut Scratch<'a>,
     left: &mut u64,
 ) -> Result<Outcome, AllocError>
-    ensures finds { IfOk result (Finds text.now (outcomes_at (record { flags = regex.now.flags; table = table_of tables.now }) text.now
-        (tree regex.now.node)) from) }
+    ensures finds { IfOk result (Finds text.now (outcomes_of prepared.now text.now) from) }
     ensures left { IfOk result (λ _. left.new ≤ left.old) }
 {
-    let mut captures = nothing_captured(alloc, &regex.node)?;
-    let candidates = candidates_of(&regex.node);
+    let regex = prepared.regex;
+    let tables = prepared.tables;
+    let mut captures = nothing_captured(alloc, prepared.groups)?;
     let mut from = from;
     while from <= text.len() {
-        let Some(place) = next_place(&candidates, text, from) else {
+        let Some(place) = next_place(&prepared.candidates, text, from) else {
             return Ok(Outcome::NoMatch);
         };
-        if text.is_char_boundary(place) {
-            match first_at(alloc, regex, tables, text, place, &mut captures, left)? {
+        if text.is_char_boundary(place) && !fails_from(regex, tables, text, place) {
+            match first_at(
+                alloc,
+                regex,
+                tables,
+                text,
+                place,
+                scratch,
+                &mut captures,
+                left,
+            )? {
                 Answer::At(end) => {
                     return Ok(Outcome::Matched(Match::new(place, end, captures.spans)));
                 }
@@ -66,11 +80,12 @@ pub(crate) fn find_within(
 /// The matches of a text, from left to right, of which none begins before the end of the one before it.
 #[derive(Drop)]
 pub struct Matches<'a> {
-    regex: &'a Regex,
-    tables: &'a Tables,
+    prepared: Prepared<'a>,
     text: &'a str,
     from: usize,
     left: u64,
+    /// None before the first match is looked for.
+    scratch: Option<Scratch<'a>>,
 }
 
 impl<'a> Matches<'a> {
@@ -88,11 +103,11 @@ impl<'a> Matches<'a> {
             (tree regex.now.node) }
     {
         Matches {
-            regex,
-            tables,
+            prepared: Prepared::new(regex, tables),
             text,
             from,
             left: steps,
+            scratch: None,
         }
     }
 
@@ -105,14 +120,19 @@ impl<'a> Matches<'a> {
         ensures stays { OnErr result (next_from self.new ≡ next_from self.old) }
         ensures same { IsSameSearch self.old self.new }
     {
+        let mut scratch = match self.scratch.take() {
+            Some(scratch) => scratch,
+            None => Scratch::new(alloc),
+        };
         let found = find_within(
             alloc,
-            self.regex,
-            self.tables,
+            &self.prepared,
             self.text,
             self.from,
+            &mut scratch,
             &mut self.left,
         )?;
+        self.scratch = Some(scratch);
         self.from = match &found {
             Outcome::Matched(found) => found.end().max(found.start() + 1),
             Outcome::NoMatch => self.text.len() + 1,
@@ -120,4 +140,17 @@ impl<'a> Matches<'a> {
         };
         Ok(found)
     }
+}
+
+/// Whether what stands in front of a pattern tells that it matches nothing from a place.
+fn fails_from(regex: &Regex, tables: &Tables, text: &str, place: usize) -> bool
+    ensures { result ≡ true → outcomes_at (record { flags = regex.now.flags; table = table_of tables.now }) text.now
+        (tree regex.now.node) place ≡ [] }
+{
+    let rules = Rules {
+        flags: regex.flags,
+        tables,
+        backwards: false,
+    };
+    fails_at_once(text, rules, &regex.node, place)
 }

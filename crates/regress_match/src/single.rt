@@ -2,17 +2,19 @@
 ghost use Rattle.std.specs.Prelude.{◌≡◌, ◌<◌, ◌≤◌, ◌∷◌, ◌⊎◌, [], ℕ, IfOk, true, length};
 ghost use Rattle.regress_tree.specs.Reading.{direction_if};
 ghost use Rattle.regress_tree.specs.Repetition.{turns, up_to};
-ghost use Rattle.regress_tree.specs.Steps.{State};
+ghost use Rattle.regress_tree.specs.Steps.{State, Step};
+ghost use Rattle.regress_match.specs.Captures.{state};
 ghost use Rattle.regress_tree.specs.Tree.{tree};
 ghost use Rattle.regress_prefilter.specs.OneCharacter.{takes_one};
 ghost use Rattle.regress_match.specs.Leaves.{put};
-ghost use Rattle.regress_match.specs.Machine.{Does, Pushed, what_step};
+ghost use Rattle.regress_match.specs.Machine.{Does, IsMachine, Pushed, onward, what_step};
 ghost use Rattle.regress_match.specs.Subject.{subject};
 ghost use Rattle.regress_match.specs.Turns.{giving_back, one_of};
 
 use crate::captures::Captures;
 use crate::leaves::{one_character, takes_one};
 use crate::machine::{Machine, Next, Repeat, What};
+use crate::peek::task_fails;
 use crate::reading::next_read;
 use crate::rules::Rules;
 use regress_tree::ir::Node;
@@ -51,13 +53,64 @@ pub fn single<'a>(
     };
     if repeat.greedy {
         let end = furthest(text, rules, repeat.body, repeat.more, start);
-        let task = machine.push(What::GiveBack(start), next)?;
-        Ok(Next::Go(end, task))
+        give_some_back(text, rules, start, end, next, machine, captures)
     } else {
         let task = machine.push(What::TakeMore(repeat.body), next)?;
         machine.choose(start, task, captures)?;
         Ok(Next::Go(start, next))
     }
+}
+
+/// Stops at the end, or else goes back from there, down to the place at which the turns began that can be given back.
+fn give_some_back<'a>(
+    text: &str,
+    rules: Rules<'_>,
+    start: usize,
+    end: usize,
+    next: usize,
+    machine: &mut Machine<'a>,
+    captures: &Captures,
+) -> Result<Next<'a>, AllocError>
+    ensures { IfOk result (λ to. (place : ℕ) (f : Step) → (let u = subject rules.entry text.now in
+        f (state captures.now place) ≡ what_step u (What.GiveBack start) (state captures.now end) →
+        Does u f machine.old captures.now place next machine.new captures.now to)) }
+{
+    let here = last_stop(text, rules, start, end, next, machine);
+    if here == start {
+        return Ok(Next::Go(here, next));
+    }
+    let Some((_, before)) = next_read(text, !rules.backwards, here) else {
+        return Ok(Next::Go(here, next));
+    };
+    let task = machine.push(What::GiveBack(start), next)?;
+    machine.choose(before, task, captures)?;
+    Ok(Next::Go(here, next))
+}
+
+/// The first place from the end back to `stop` at which the next task isn't told to match nothing, or `stop`.
+fn last_stop(
+    text: &str,
+    rules: Rules<'_>,
+    stop: usize,
+    end: usize,
+    next: usize,
+    machine: &Machine<'_>,
+) -> usize
+    ensures { (c : Captures) → IsMachine machine.now c → (let u = subject rules.entry text.now in
+        onward u machine.now c next (what_step u (What.GiveBack stop) (state c end))
+        ≡ onward u machine.now c next (what_step u (What.GiveBack stop) (state c result))) }
+{
+    let mut here = end;
+    while here != stop {
+        if !task_fails(text, rules, machine, next, here) {
+            break;
+        }
+        let Some((_, before)) = next_read(text, !rules.backwards, here) else {
+            break;
+        };
+        here = before;
+    }
+    here
 }
 
 /// Where so many turns come to.
@@ -108,14 +161,15 @@ pub fn give_back<'a>(
     ensures { IfOk result (let u = subject rules.entry text.now in
         Does u (what_step u (What.GiveBack stop)) machine.old captures.now place next machine.new captures.now) }
 {
-    if place == stop {
-        return Ok(Next::Go(place, next));
+    let here = last_stop(text, rules, stop, place, next, machine);
+    if here == stop {
+        return Ok(Next::Go(here, next));
     }
-    let Some((_, to)) = next_read(text, !rules.backwards, place) else {
-        return Ok(Next::Go(place, next));
+    let Some((_, to)) = next_read(text, !rules.backwards, here) else {
+        return Ok(Next::Go(here, next));
     };
     machine.choose(to, number, captures)?;
-    Ok(Next::Go(place, next))
+    Ok(Next::Go(here, next))
 }
 
 /// Takes one character and stops, or else takes another, which is the same task from there.

@@ -1,19 +1,20 @@
 //! What each kind of task does.
-ghost use Rattle.std.specs.Prelude.{◌≡◌, ◌≤◌, ◌∷◌, ◌++◌, ℕ, List, IfOk, length, flat_map};
+ghost use Rattle.std.specs.Prelude.{◌≡◌, ◌≤◌, [], ℕ, IfOk, MatchOption, length};
 ghost use Rattle.regress_base.specs.Table.{stands_for};
-ghost use Rattle.regress_tree.specs.Matching.{steps, steps_in_row};
+ghost use Rattle.regress_tree.specs.Matching.{steps};
 ghost use Rattle.regress_tree.specs.Reading.{of_bytes};
 ghost use Rattle.regress_tree.specs.Repetition.{more_turns};
-ghost use Rattle.regress_tree.specs.Steps.{stay, capture, ◌then_◌, ◌or_◌};
-ghost use Rattle.regress_tree.specs.Tree.{tree, trees};
+ghost use Rattle.regress_tree.specs.Steps.{capture, ◌or_◌};
+ghost use Rattle.regress_tree.specs.Tree.{tree};
 ghost use Rattle.regress_match.specs.Captures.{state};
 ghost use Rattle.regress_match.specs.Leaves.{put};
-ghost use Rattle.regress_match.specs.Machine.{Continues, Does, IsMachine, Pushed, onward, what_step, turn_of, more_of};
+ghost use Rattle.regress_match.specs.Machine.{Continues, Does, IsMachine, Pushed, onward, row_of, what_step, more_of};
 ghost use Rattle.regress_match.specs.Subject.{Subject, subject};
 
 use crate::captures::Captures;
-use crate::leaves::{all_of, leaf};
+use crate::leaves::{all_of, is_leaf, leaf};
 use crate::machine::{Looking, Machine, Next, Repeat, Task, What};
+use crate::peek::fails_at_once;
 use crate::rules::Rules;
 use crate::single::{give_back, is_single, single, take_more};
 use regress_tree::ir::{Node, Quantifier};
@@ -40,7 +41,9 @@ pub fn step<'a>(
         What::Match(node) => visit(
             alloc, text, rules, node, place, task.next, machine, captures,
         ),
-        What::Row(parts) => row(parts, place, task.next, machine),
+        What::Row(parts) => row(
+            alloc, text, rules, parts, place, task.next, machine, captures,
+        ),
         What::Strings(alternatives, icase) => strings(
             text,
             rules,
@@ -55,13 +58,15 @@ pub fn step<'a>(
             captures.close(id, from, place)?;
             Ok(Next::Go(place, task.next))
         }
-        What::Turns(repeat, left) => turns(repeat, left, place, task.next, machine, captures),
+        What::Turns(repeat, left) => turns(
+            text, rules, repeat, left, place, task.next, machine, captures,
+        ),
         What::Turn(repeat) => turn(repeat, place, task.next, machine, captures),
         What::Moved(repeat, entry) => {
             if place == entry {
                 Ok(Next::Back)
             } else {
-                more(repeat, place, task.next, machine, captures)
+                more(text, rules, repeat, place, task.next, machine, captures)
             }
         }
         What::GiveBack(stop) => give_back(
@@ -74,7 +79,8 @@ pub fn step<'a>(
 }
 
 /// Matches a node.
-fn visit<'a>(
+#[inline(always)]
+pub fn visit<'a>(
     alloc: Global,
     text: &str,
     rules: Rules<'_>,
@@ -88,8 +94,8 @@ fn visit<'a>(
         Does u (steps u.setting u.bytes u.direction (tree node.now)) machine.old captures.old place next machine.new captures.new) }
 {
     match node {
-        Node::Cat(parts) => row(parts, place, next, machine),
-        Node::Alt(left, right) => alt(left, right, place, next, machine, captures),
+        Node::Cat(parts) => row(alloc, text, rules, parts, place, next, machine, captures),
+        Node::Alt(left, right) => alt(text, rules, left, right, place, next, machine, captures),
         Node::CaptureGroup { id, contents, .. } => group(*id, contents, place, next, machine),
         Node::Loop {
             enclosed_groups,
@@ -176,7 +182,7 @@ fn repetition<'a>(
     if is_single(text, repeat) {
         single(text, rules, repeat, least, place, next, machine, captures)
     } else {
-        turns(repeat, least, place, next, machine, captures)
+        turns(text, rules, repeat, least, place, next, machine, captures)
     }
 }
 
@@ -190,25 +196,87 @@ fn more_turns(bound: usize, quant: &Quantifier) -> usize
     }
 }
 
-/// Matches nodes one after the other.
+/// How many leaves are matched in one step.
+const MOST_LEAVES: usize = 8;
+
+/// Matches nodes one after the other: the leaves in front at once, and then the next node.
 fn row<'a>(
+    alloc: Global,
+    text: &str,
+    rules: Rules<'_>,
+    parts: &'a [Node],
+    place: usize,
+    next: usize,
+    machine: &mut Machine<'a>,
+    captures: &Captures,
+) -> Result<Next<'a>, AllocError>
+    ensures { IfOk result (let u = subject rules.entry text.now in
+        Does u (row_of u parts.now) machine.old captures.now place next machine.new captures.now) }
+{
+    let found = leaves_in_front(alloc, text, rules, parts, place, captures)?;
+    match found {
+        None => Ok(Next::Back),
+        Some((here, rest)) => enter(rest, here, next, machine),
+    }
+}
+
+/// Goes on with the first node of a row, and then with the others.
+fn enter<'a>(
     parts: &'a [Node],
     place: usize,
     next: usize,
     machine: &mut Machine<'a>,
 ) -> Result<Next<'a>, AllocError>
     ensures { IfOk result (λ to. (u : Subject) (c : Captures) →
-        Does u (steps_in_row u.setting u.bytes u.direction (trees parts.now)) machine.old c place next machine.new c to) }
+        Does u (row_of u parts.now) machine.old c place next machine.new c to) }
 {
     let Some((first, rest)) = parts.split_first() else {
         return Ok(Next::Go(place, next));
     };
-    let task = machine.push_both(What::Match(first), What::Row(rest), next)?;
-    Ok(Next::Go(place, task))
+    if rest.is_empty() {
+        return Ok(Next::Visit(place, first, next));
+    }
+    let task = machine.push(What::Row(rest), next)?;
+    Ok(Next::Visit(place, first, task))
+}
+
+/// Where the leaves in front of a row go, and what is left of the row behind them. None where one of them matches nothing.
+fn leaves_in_front<'a>(
+    alloc: Global,
+    text: &str,
+    rules: Rules<'_>,
+    parts: &'a [Node],
+    place: usize,
+    captures: &Captures,
+) -> Result<Option<(usize, &'a [Node])>, AllocError>
+    ensures { IfOk result (λ found. let row = row_of (subject rules.entry text.now) in
+        MatchOption found (row parts.now (state captures.now place) ≡ [])
+        (λ at. row parts.now (state captures.now place) ≡ row at.1.now (state captures.now at.0))) }
+{
+    let mut here = place;
+    let mut rest = parts;
+    let mut left = MOST_LEAVES;
+    while left > 0 {
+        let Some((first, behind)) = rest.split_first() else {
+            break;
+        };
+        if !is_leaf(first) {
+            break;
+        }
+        let Some(to) = leaf(alloc, text, rules, first, here, captures)? else {
+            return Ok(None);
+        };
+        here = to;
+        rest = behind;
+        left -= 1;
+    }
+    Ok(Some((here, rest)))
 }
 
 /// Matches the left side, or else the right one.
 fn alt<'a>(
+    text: &str,
+    rules: Rules<'_>,
     left: &'a Node,
     right: &'a Node,
     place: usize,
@@ -216,14 +284,19 @@ fn alt<'a>(
     machine: &mut Machine<'a>,
     captures: &Captures,
 ) -> Result<Next<'a>, AllocError>
-    ensures { IfOk result (λ to. (u : Subject) →
+    ensures { IfOk result (let u = subject rules.entry text.now in
         Does u (steps u.setting u.bytes u.direction (tree left.now) or_ steps u.setting u.bytes u.direction (tree right.now))
-        machine.old captures.now place next machine.new captures.now to) }
+        machine.old captures.now place next machine.new captures.now) }
 {
+    if fails_at_once(text, rules, left, place) {
+        return Ok(Next::Visit(place, right, next));
+    }
+    if fails_at_once(text, rules, right, place) {
+        return Ok(Next::Visit(place, left, next));
+    }
     let other = machine.push(What::Match(right), next)?;
     machine.choose(place, other, captures)?;
-    let task = machine.push(What::Match(left), next)?;
-    Ok(Next::Go(place, task))
+    Ok(Next::Visit(place, left, next))
 }
 
 /// Matches what a group holds, and then notes its span.
@@ -237,8 +310,8 @@ fn group<'a>(
     ensures { IfOk result (λ to. (u : Subject) (c : Captures) →
         Does u (capture id (steps u.setting u.bytes u.direction (tree contents.now))) machine.old c place next machine.new c to) }
 {
-    let task = machine.push_both(What::Match(contents), What::Close(id, place), next)?;
-    Ok(Next::Go(place, task))
+    let task = machine.push(What::Close(id, place), next)?;
+    Ok(Next::Visit(place, contents, task))
 }
 
 /// Matches the first string, or else one of the others.
@@ -268,6 +341,8 @@ fn strings<'a>(
 
 /// Takes so many turns of a loop, and then those that may follow.
 fn turns<'a>(
+    text: &str,
+    rules: Rules<'_>,
     repeat: Repeat<'a>,
     left: usize,
     place: usize,
@@ -275,30 +350,34 @@ fn turns<'a>(
     machine: &mut Machine<'a>,
     captures: &mut Captures,
 ) -> Result<Next<'a>, AllocError>
-    ensures { IfOk result (λ to. (u : Subject) →
-        Does u (what_step u (What.Turns repeat.entry left)) machine.old captures.old place next machine.new captures.new to) }
+    ensures { IfOk result (let u = subject rules.entry text.now in
+        Does u (what_step u (What.Turns repeat.entry left)) machine.old captures.old place next machine.new captures.new) }
 {
     if left == 0 {
-        return more(repeat, place, next, machine, captures);
+        return more(text, rules, repeat, place, next, machine, captures);
     }
-    let behind = What::Turns(repeat, left - 1);
-    let task = machine.push_both(What::Match(repeat.body), behind, next)?;
+    let task = machine.push(What::Turns(repeat, left - 1), next)?;
     captures.unset(repeat.start, repeat.end)?;
-    Ok(Next::Go(place, task))
+    Ok(Next::Visit(place, repeat.body, task))
 }
 
 /// Takes as many turns of a loop as may follow.
 fn more<'a>(
+    text: &str,
+    rules: Rules<'_>,
     repeat: Repeat<'a>,
     place: usize,
     next: usize,
     machine: &mut Machine<'a>,
     captures: &mut Captures,
 ) -> Result<Next<'a>, AllocError>
-    ensures { IfOk result (λ to. (u : Subject) →
-        Does u (more_of u repeat.entry) machine.old captures.old place next machine.new captures.new to) }
+    ensures { IfOk result (let u = subject rules.entry text.now in
+        Does u (more_of u repeat.entry) machine.old captures.old place next machine.new captures.new) }
 {
     if repeat.more == 0 {
+        return Ok(Next::Go(place, next));
+    }
+    if fails_at_once(text, rules, repeat.body, place) {
         return Ok(Next::Go(place, next));
     }
     let fewer = Repeat {
@@ -326,8 +405,7 @@ fn turn<'a>(
     ensures { IfOk result (λ to. (u : Subject) →
         Does u (what_step u (What.Turn repeat.entry)) machine.old captures.old place next machine.new captures.new to) }
 {
-    let moved = What::Moved(repeat, place);
-    let task = machine.push_both(What::Match(repeat.body), moved, next)?;
+    let task = machine.push(What::Moved(repeat, place), next)?;
     captures.unset(repeat.start, repeat.end)?;
-    Ok(Next::Go(place, task))
+    Ok(Next::Visit(place, repeat.body, task))
 }

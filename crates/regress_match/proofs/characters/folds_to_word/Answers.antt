@@ -1,4 +1,4 @@
-use Rattle.std.proofs.Common.{rules, arith, ◌≡◌, ◌≤◌, ◌<◌, ℕ, Bool, true, false, refl, sym}
+use Rattle.std.proofs.Common.{rules, arith, ◌≡◌, ◌≤◌, ◌<◌, ℕ, Bool, true, false, refl, sym, ◌∙◌}
 use Rattle.std.proofs.lemmas.Bool.Decides.{nat_tests}
 use Rattle.regress_base.specs.Classes.{word_characters}
 use Rattle.regress_base.specs.Intervals.{is_member, is_within}
@@ -20,6 +20,11 @@ returns-then-c-gt1114111 c =
     false_is (is_in_closure (table_of c.args.tables.now) word_characters c.args.c) (λ e.
     let small = (closure_gives (table_of c.args.tables.now) word_characters c.args.c e).0 in
     omega (arith, small, c.if-c-gt1114111.true))
+
+pub returns-then-is_word : goal.returns-then-is_word
+returns-then-is_word c =
+    let member : is_member word_characters c.args.c ≡ true = sym c.is_word.ensures ∙ c.if-is_word.true in
+    sym (closure_from (table_of c.args.tables.now) word_characters c.args.c c.args.c (omega (arith, c.if-c-gt1114111.false)) member refl)
 
 pub returns-then-fold-image : goal.returns-then-fold-image
 returns-then-fold-image c =

@@ -1,27 +1,11 @@
-use Rattle.std.proofs.Common.{rules, ◌≡◌, ◌+◌, ◌++◌, ◌∙◌, length, drop, sym, ap₂, Some}
-use Rattle.std.proofs.lemmas.Bool.{false≢true}
-use Rattle.std.specs.Char.{IsScalar, encode_utf8}
-use Rattle.regress_tree.proofs.laws.Characters.{character_at_from}
-use Rattle.regress_match.proofs.ReadingLemmas.{after_none, read_after_none, read_after_some, end_none}
+use Rattle.std.proofs.Common.{◌≡◌, ◌+◌, ◌∙◌, ap, sym, Some}
+use Rattle.regress_tree.specs.Reading.{Read, read_after}
+use Rattle.regress_match.proofs.ReadingLemmas.{ascii_after}
 use Rattle.regress_match.proofs.reading.read_after.Goals as goal
 
-pub returns-in_err-behind : goal.returns-in_err-behind
-returns-in_err-behind c =
-    let text = c.args.text.now in
-    rw c.from_residual.ensures (sym (read_after_none text c.args.place (after_none text c.args.place (λ on. false≢true (c.in_err-behind.ensures.variant.1 on)))))
-
-pub returns-in_err-c : goal.returns-in_err-c
-returns-in_err-c c =
-    let text = c.args.text.now in
-    let none : length (drop c.args.place text) ≡ 0 = search rules in
-    rw c.from_residual-in_err-c.ensures (sym (read_after_none text c.args.place (end_none text c.args.place none)))
-
-pub returns : goal.returns
-returns c =
-    let text = c.args.text.now in
-    let x = c.in_ok-c.c in
-    let rest = c.next.new.self.rest.now in
-    let here : drop c.args.place text ≡ encode_utf8 x ++ rest = search rules in
-    let scalar : IsScalar x = search rules in
-    ap₂ (λ y n. Some (record { character = y; place = c.args.place + n })) c.from.ensures c.len_utf8.ensures.value
-    ∙ sym (read_after_some text c.args.place x (character_at_from text c.args.place x rest scalar here))
+pub returns-in-Some : goal.returns-in-Some
+returns-in-Some c =
+    let found = c.in-Some.ensures in
+    let here : Read = record { character = c.in-Some.b; place = c.args.place + 1 } in
+    ap (λ x. Some (record here { character = x })) c.from.ensures
+    ∙ sym (ascii_after c.args.text.now c.args.place c.in-Some.b found.0 found.1 found.2)

@@ -1,18 +1,25 @@
-use Rattle.std.proofs.Common.{rules, arith, ◌≡◌, ◌++◌, ◌∷◌, [], ◌∙◌, List, length, sym, ap}
+use Rattle.std.proofs.Common.{rules, arith, ◌≡◌, ◌++◌, ◌∷◌, [], ◌∙◌, List, length, not, refl, sym, ap}
 use Rattle.regress_tree.specs.Reading.{direction_if}
-use Rattle.regress_tree.specs.Lookaround.{look}
 use Rattle.regress_tree.specs.Matching.{steps}
 use Rattle.regress_tree.specs.Steps.{State}
 use Rattle.regress_tree.specs.Tree.{tree}
 use Rattle.regress_unicode.specs.TableOf.{table_of}
 use Rattle.regress_match.specs.Captures.{state, undone}
+use Rattle.regress_match.specs.Machine.{left_ahead}
 use Rattle.regress_match.specs.Subject.{subject}
-use Rattle.regress_match.specs.declared.machine.Machine.{Machine}
 use Rattle.regress_match.proofs.CaptureLemmas.{Later-refl, undone-nil, undone-all}
-use Rattle.regress_match.proofs.RunLemmas.{begins, task_done, ends_at, look_holds, look_fails, looked_first, looked_first_negated, looked_none, looked_none_negated, rewound, rewound_trail, ok_always}
-use Rattle.regress_match.proofs.SingleLemmas.{stands}
+use Rattle.regress_match.proofs.RunLemmas.{begins, goes_on_with, ends_at, look_holds, look_fails, looks_first, looks_none, rewound, rewound_trail, ok_always}
 use Rattle.regress_match.proofs.run.+run.Goals as goal
-use Rattle.regress_match.proofs.run.+run.Goals.{look-then-looking, look-else-looking, look-then-looking-2, look-else-looking-2}
+
+pub look-returns-then-fails_at_once-clause-looks : goal.look-returns-then-fails_at_once-clause-looks
+look-returns-then-fails_at_once-clause-looks t c =
+    let l = c.args.looking in
+    let body = steps (record { flags = c.args.rules.flags; table = table_of c.args.rules.tables.now }) c.args.text.now (direction_if l.backwards) (tree l.body.now) in
+    looks_none l.negate body c.args.captures.now c.args.captures.now l.place c.holds_if.result
+    (c.fails_at_once.ensures c.if-fails_at_once.true (state c.args.captures.now l.place) refl) refl c.holds_if.ensures
+
+pub look-returns-then-fails_at_once-clause-later : goal.look-returns-then-fails_at_once-clause-later
+look-returns-then-fails_at_once-clause-later t c = Later-refl c.args.captures.now
 
 pub look-returns-in-At-clause-looks : goal.look-returns-in-At-clause-looks
 look-returns-in-At-clause-looks t c =
@@ -20,10 +27,7 @@ look-returns-in-At-clause-looks t c =
     let body = steps (record { flags = c.args.rules.flags; table = table_of c.args.rules.tables.now }) c.args.text.now (direction_if l.backwards) (tree l.body.now) in
     let s = state c.args.captures.now l.place in
     let found : (rest : List State) × (body s ≡ state c.run.new.captures c.in-At.field-0 ∷ rest) = rw c.in-At.is at c.in_ok-answer.ensures.answers in
-    elim c.if-looking.branch [
-      | look-then-looking w ↦ rw w.result-is (ap (λ b. look b body s) w.if-looking.true ∙ looked_first_negated body s _ found.0 found.1)
-      | look-else-looking w ↦ rw w.result-is (ap (λ b. look b body s) w.if-looking.false ∙ looked_first body s _ found.0 found.1)
-    ]
+    looks_first l.negate body c.args.captures.now c.run.new.captures l.place c.in-At.field-0 c.holds_if-in-At.result found.0 found.1 c.holds_if-in-At.ensures
 
 pub look-returns-clause-looks : goal.look-returns-clause-looks
 look-returns-clause-looks t c =
@@ -38,18 +42,10 @@ look-returns-clause-looks t c =
     rewound before since c.append.new.self.items c.len-noted.result c.args.captures.now.spans.items c.run.new.captures.spans.items
     c.rewind.new.self.spans.items split len c.in_ok-answer.ensures.undo c.rewind.ensures.spans in
     let none : body s ≡ [] = rw c.in-Nowhere.is at c.in_ok-answer.ensures.answers in
-    elim c.if-looking-2.branch [
-      | look-then-looking-2 w ↦ rw w.result-is
-          (ap (λ b. look b body s) w.if-looking-2.true ∙ looked_none_negated body s none
-          ∙ ap (λ xs. record { place = l.place; captures = xs } ∷ []) (sym spans))
-      | look-else-looking-2 w ↦ rw w.result-is (ap (λ b. look b body s) w.if-looking-2.false ∙ looked_none body s none)
-    ]
+    looks_none l.negate body c.args.captures.now c.rewind.new.self l.place c.holds_if-in-Nowhere.result none spans c.holds_if-in-Nowhere.ensures
 
 pub look-returns-clause-later : goal.look-returns-clause-later
 look-returns-clause-later t c =
-    let l = c.args.looking in
-    let body = steps (record { flags = c.args.rules.flags; table = table_of c.args.rules.tables.now }) c.args.text.now (direction_if l.backwards) (tree l.body.now) in
-    let s = state c.args.captures.now l.place in
     let before = c.args.captures.now.trail.items in
     let since = c.run.new.captures.trail.items in
     let split : c.append.new.self.items ≡ before ++ since = search rules in
@@ -57,47 +53,44 @@ look-returns-clause-later t c =
     let spans : c.rewind.new.self.spans.items ≡ c.args.captures.now.spans.items =
     rewound before since c.append.new.self.items c.len-noted.result c.args.captures.now.spans.items c.run.new.captures.spans.items
     c.rewind.new.self.spans.items split len c.in_ok-answer.ensures.undo c.rewind.ensures.spans in
-    ok_always c.if-looking-2.result (record {
+    record {
       noted = [];
       trail = c.rewind.ensures.trail ∙ rewound_trail before since c.append.new.self.items c.len-noted.result split len;
       undo = undone-nil c.rewind.new.self.spans.items ∙ spans;
-    })
+    }
 
 pub run-loop-budget-init : goal.run-loop-budget-init
 run-loop-budget-init t c =
     let u = subject c.args.rules c.args.text.now in
-    let m : Machine = record { tasks = c.new.result; choices = c.new-2.result } in
-    let first = begins u m c.push.new.self c.args.captures.now (steps u.setting u.bytes u.direction (tree c.args.node.now)) c.args.start c.in_ok-task.task
-    c.new.ensures.items c.new-2.ensures.items (c.in_ok-task.ensures u (omega arith)) in
+    let first = begins u c.clear.new.self c.args.captures.now c.args.node c.args.start c.clear.ensures.tasks c.clear.ensures.choices in
     let clear : c.args.captures.now.trail.items ≡ [] = search rules in
     record {
       budget = omega arith;
       machine = first.0;
-      task = first.1;
+      fits = first.1;
       left = first.2;
       undo = ap (λ us. undone us c.args.captures.now.spans.items) clear ∙ undone-nil c.args.captures.now.spans.items;
     }
 
-pub run-returns-then-task-eq0-clause-answers : goal.run-returns-then-task-eq0-clause-answers
-run-returns-then-task-eq0-clause-answers t c =
-    ends_at (subject c.args.rules c.args.text.now) c.loop-budget.machine c.loop-budget.captures c.loop-budget.place c.loop-budget.task _ c.if-task-eq0.true
-    c.loop-budget.invariant.left
+pub run-returns-then-is_end-clause-answers : goal.run-returns-then-is_end-clause-answers
+run-returns-then-is_end-clause-answers t c =
+    ends_at (subject c.args.rules c.args.text.now) c.loop-budget.machine c.loop-budget.captures c.loop-budget.place c.loop-budget.ahead _
+    (c.is_end.ensures.end c.if-is_end.true) c.loop-budget.invariant.left
 
 pub run-loop-budget-preserved-in-On : goal.run-loop-budget-preserved-in-On
 run-loop-budget-preserved-in-On t c =
     let u = subject c.args.rules c.args.text.now in
     let outcomes = steps u.setting u.bytes u.direction (tree c.args.node.now) (state c.args.captures.now c.args.start) in
     let so_far = c.loop-budget.invariant in
-    let done = task_done u c.loop-budget.machine c.step.new.machine c.loop-budget.captures c.step.new.captures c.loop-budget.place c.loop-budget.task
-    c.index-here.result.now c.in_ok-next.next outcomes so_far.machine (omega (arith, c.if-task-eq0.false)) so_far.task c.index-here.ensures so_far.left
-    c.in_ok-next.ensures in
-    let undo = undone-all c.step.new.captures c.settle.new.captures c.in_ok-to.ensures.later
-    ∙ undone-all c.loop-budget.captures c.step.new.captures c.in_ok-next.ensures.later ∙ so_far.undo in
-    let settled = rw c.in-On.is at (c.in_ok-to.ensures.settles outcomes c.step.new.machine done) in
+    let done = goes_on_with u c.advance.new.machine c.advance.new.captures c.in_ok-next.next outcomes
+    (left_ahead u c.loop-budget.machine c.loop-budget.captures c.loop-budget.place c.loop-budget.ahead) so_far.left c.in_ok-next.ensures.continues in
+    let undo = undone-all c.advance.new.captures c.settle.new.captures c.in_ok-to.ensures.later
+    ∙ undone-all c.loop-budget.captures c.advance.new.captures c.in_ok-next.ensures.later ∙ so_far.undo in
+    let settled = rw c.in-On.is at (c.in_ok-to.ensures.settles outcomes c.advance.new.machine done) in
     record {
       budget = omega (arith, c.in_ok-to.ensures.budget, so_far.budget);
       machine = settled.0;
-      task = settled.1;
+      fits = settled.1;
       left = settled.2;
       undo = undo;
     }
@@ -107,12 +100,9 @@ run-resume-requires t c =
     let u = subject c.args.rules c.args.text.now in
     let outcomes = steps u.setting u.bytes u.direction (tree c.args.node.now) (state c.args.captures.now c.args.start) in
     let so_far = c.loop-budget.invariant in
-    let done = task_done u c.loop-budget.machine c.step.new.machine c.loop-budget.captures c.step.new.captures c.loop-budget.place c.loop-budget.task
-    c.index-here.result.now c.in_ok-next.next outcomes so_far.machine (omega (arith, c.if-task-eq0.false)) so_far.task c.index-here.ensures so_far.left
-    c.in_ok-next.ensures in
-    let undo = undone-all c.step.new.captures c.settle.new.captures c.in_ok-to.ensures.later
-    ∙ undone-all c.loop-budget.captures c.step.new.captures c.in_ok-next.ensures.later ∙ so_far.undo in
-    let settled = rw c.in-Off.is at (c.in_ok-to.ensures.settles outcomes c.step.new.machine done) in
+    let done = goes_on_with u c.advance.new.machine c.advance.new.captures c.in_ok-next.next outcomes
+    (left_ahead u c.loop-budget.machine c.loop-budget.captures c.loop-budget.place c.loop-budget.ahead) so_far.left c.in_ok-next.ensures.continues in
+    let settled = rw c.in-Off.is at (c.in_ok-to.ensures.settles outcomes c.advance.new.machine done) in
     settled.0
 
 pub run-returns-in_default-clause-answers : goal.run-returns-in_default-clause-answers
@@ -120,24 +110,16 @@ run-returns-in_default-clause-answers t c =
     let u = subject c.args.rules c.args.text.now in
     let outcomes = steps u.setting u.bytes u.direction (tree c.args.node.now) (state c.args.captures.now c.args.start) in
     let so_far = c.loop-budget.invariant in
-    let done = task_done u c.loop-budget.machine c.step.new.machine c.loop-budget.captures c.step.new.captures c.loop-budget.place c.loop-budget.task
-    c.index-here.result.now c.in_ok-next.next outcomes so_far.machine (omega (arith, c.if-task-eq0.false)) so_far.task c.index-here.ensures so_far.left
-    c.in_ok-next.ensures in
-    let undo = undone-all c.step.new.captures c.settle.new.captures c.in_ok-to.ensures.later
-    ∙ undone-all c.loop-budget.captures c.step.new.captures c.in_ok-next.ensures.later ∙ so_far.undo in
-    let settled = rw c.in-Off.is at (c.in_ok-to.ensures.settles outcomes c.step.new.machine done) in
+    let done = goes_on_with u c.advance.new.machine c.advance.new.captures c.in_ok-next.next outcomes
+    (left_ahead u c.loop-budget.machine c.loop-budget.captures c.loop-budget.place c.loop-budget.ahead) so_far.left c.in_ok-next.ensures.continues in
+    let settled = rw c.in-Off.is at (c.in_ok-to.ensures.settles outcomes c.advance.new.machine done) in
     settled.1 ∙ c.in_default.ensures.resumed u
 
 pub run-returns-in_default-clause-undo : goal.run-returns-in_default-clause-undo
 run-returns-in_default-clause-undo t c =
-    let u = subject c.args.rules c.args.text.now in
-    let outcomes = steps u.setting u.bytes u.direction (tree c.args.node.now) (state c.args.captures.now c.args.start) in
     let so_far = c.loop-budget.invariant in
-    let done = task_done u c.loop-budget.machine c.step.new.machine c.loop-budget.captures c.step.new.captures c.loop-budget.place c.loop-budget.task
-    c.index-here.result.now c.in_ok-next.next outcomes so_far.machine (omega (arith, c.if-task-eq0.false)) so_far.task c.index-here.ensures so_far.left
-    c.in_ok-next.ensures in
-    let undo = undone-all c.step.new.captures c.settle.new.captures c.in_ok-to.ensures.later
-    ∙ undone-all c.loop-budget.captures c.step.new.captures c.in_ok-next.ensures.later ∙ so_far.undo in
+    let undo = undone-all c.advance.new.captures c.settle.new.captures c.in_ok-to.ensures.later
+    ∙ undone-all c.loop-budget.captures c.advance.new.captures c.in_ok-next.ensures.later ∙ so_far.undo in
     c.resume.ensures.undo ∙ undo
 
 pub run-loop-budget-preserved : goal.run-loop-budget-preserved
@@ -145,28 +127,30 @@ run-loop-budget-preserved t c =
     let u = subject c.args.rules c.args.text.now in
     let outcomes = steps u.setting u.bytes u.direction (tree c.args.node.now) (state c.args.captures.now c.args.start) in
     let so_far = c.loop-budget.invariant in
-    let done = task_done u c.loop-budget.machine c.step.new.machine c.loop-budget.captures c.step.new.captures c.loop-budget.place c.loop-budget.task
-    c.index-here.result.now c.in_ok-next.next outcomes so_far.machine (omega (arith, c.if-task-eq0.false)) so_far.task c.index-here.ensures so_far.left
-    c.in_ok-next.ensures in
-    let undo = undone-all c.step.new.captures c.settle.new.captures c.in_ok-to.ensures.later
-    ∙ undone-all c.loop-budget.captures c.step.new.captures c.in_ok-next.ensures.later ∙ so_far.undo in
-    let settled = rw c.in-Off.is at (c.in_ok-to.ensures.settles outcomes c.step.new.machine done) in
+    let done = goes_on_with u c.advance.new.machine c.advance.new.captures c.in_ok-next.next outcomes
+    (left_ahead u c.loop-budget.machine c.loop-budget.captures c.loop-budget.place c.loop-budget.ahead) so_far.left c.in_ok-next.ensures.continues in
+    let undo = undone-all c.advance.new.captures c.settle.new.captures c.in_ok-to.ensures.later
+    ∙ undone-all c.loop-budget.captures c.advance.new.captures c.in_ok-next.ensures.later ∙ so_far.undo in
+    let settled = rw c.in-Off.is at (c.in_ok-to.ensures.settles outcomes c.advance.new.machine done) in
     let resumed = c.in-Some.ensures.resumed u in
     record {
       budget = omega (arith, c.in_ok-to.ensures.budget, so_far.budget);
       machine = resumed.0;
-      task = resumed.1;
+      fits = resumed.1;
       left = settled.1 ∙ resumed.2;
       undo = c.resume.ensures.undo ∙ undo;
     }
 
 pub run-returns-in-Spent-clause-undo : goal.run-returns-in-Spent-clause-undo
 run-returns-in-Spent-clause-undo t c =
-    undone-all c.step.new.captures c.settle.new.captures c.in_ok-to.ensures.later
-    ∙ undone-all c.loop-budget.captures c.step.new.captures c.in_ok-next.ensures.later ∙ c.loop-budget.invariant.undo
+    undone-all c.advance.new.captures c.settle.new.captures c.in_ok-to.ensures.later
+    ∙ undone-all c.loop-budget.captures c.advance.new.captures c.in_ok-next.ensures.later ∙ c.loop-budget.invariant.undo
 
 pub settle-returns-in-Go-clause-later : goal.settle-returns-in-Go-clause-later
 settle-returns-in-Go-clause-later t c = Later-refl c.args.captures.now
+
+pub settle-returns-in-Visit-clause-later : goal.settle-returns-in-Visit-clause-later
+settle-returns-in-Visit-clause-later t c = Later-refl c.args.captures.now
 
 pub settle-returns-in-Back-clause-later : goal.settle-returns-in-Back-clause-later
 settle-returns-in-Back-clause-later t c = Later-refl c.args.captures.now
@@ -180,9 +164,3 @@ pub settle-returns-in-Fails-clause-settles : goal.settle-returns-in-Fails-clause
 settle-returns-in-Fails-clause-settles t c = λ outcomes m goes.
     look_fails (subject c.args.rules c.args.text.now) outcomes m c.args.captures.now c.look.new.captures c.in-Look.looking (rw c.in-Look.is at goes)
     c.in_ok-look-in-Look.ensures.later (rw c.in-Fails.is at c.in_ok-look-in-Look.ensures.looks)
-
-pub run-step-requires : goal.run-step-requires
-run-step-requires t c =
-    let so_far = c.loop-budget.invariant in
-    stands (subject c.args.rules c.args.text.now) c.loop-budget.machine c.loop-budget.captures c.loop-budget.task c.index-here.result.now
-    so_far.machine (omega (arith, c.if-task-eq0.false)) so_far.task c.index-here.ensures

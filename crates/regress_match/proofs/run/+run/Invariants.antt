@@ -3,7 +3,7 @@ use Rattle.std.proofs.Common.{◌≡◌, ◌≤◌, ◌+◌, ◌*◌, length}
 use Rattle.regress_tree.specs.Matching.{steps}
 use Rattle.regress_tree.specs.Tree.{tree}
 use Rattle.regress_match.specs.Captures.{state, undone}
-use Rattle.regress_match.specs.Machine.{IsMachine, left_at}
+use Rattle.regress_match.specs.Machine.{Fits, IsMachine, left_ahead}
 use Rattle.regress_match.specs.Subject.{subject}
 use Rattle.regress_match.proofs.run.+run.Given as goal
 
@@ -22,8 +22,8 @@ invariant-run-loop-budget l =
     record {
       budget : l.budget ≤ l.fn.budget;
       machine : IsMachine l.machine l.captures;
-      task : l.task ≤ length l.machine.tasks.items;
-      left : steps u.setting u.bytes u.direction (tree l.node) (state l.fn.captures l.start) ≡ left_at u l.machine l.captures l.place l.task;
+      fits : Fits l.ahead (length l.machine.tasks.items);
+      left : steps u.setting u.bytes u.direction (tree l.node) (state l.fn.captures l.start) ≡ left_ahead u l.machine l.captures l.place l.ahead;
       undo : undone l.captures.trail.items l.captures.spans.items ≡ l.fn.captures.spans.items;
     }
 

@@ -1,16 +1,16 @@
 -- No boundary before the place has an outcome.
 use Rattle.std.proofs.Common.{length, ◌+◌, ◌-◌, ◌≤◌}
 use Rattle.regress_tree.specs.Tree.{tree}
-use Rattle.regress_unicode.specs.TableOf.{table_of}
 use Rattle.regress_match.specs.Fresh.{IsFresh}
-use Rattle.regress_match.specs.Matched.{NoneBefore, outcomes_at}
+use Rattle.regress_match.specs.Matched.{NoneBefore}
+use Rattle.regress_match.specs.Searched.{outcomes_of}
 use Rattle.regress_match.proofs.search.find_within.Given as goal
 
 abbrev pub invariant-loop-from : goal.invariant-loop-from
 invariant-loop-from l = record {
   fresh : IsFresh (tree l.regex.node) l.captures;
   from : l.fn.from ≤ l.from;
-  none : NoneBefore l.text (outcomes_at (record { flags = l.regex.flags; table = table_of l.tables }) l.text (tree l.regex.node)) l.fn.from l.from;
+  none : NoneBefore l.text (outcomes_of l.prepared l.text) l.fn.from l.from;
   left : l.left ≤ l.fn.left;
 }
 

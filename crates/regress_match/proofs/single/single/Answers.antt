@@ -4,9 +4,9 @@ use Rattle.regress_match.specs.Captures.{state}
 use Rattle.regress_match.specs.Machine.{what_step}
 use Rattle.regress_match.specs.Subject.{subject}
 use Rattle.regress_match.specs.declared.machine.What.TheVariants as whats
-use Rattle.regress_match.proofs.DoesLemmas.{goes_back}
+use Rattle.regress_match.proofs.DoesLemmas.{goes_back, ok_map}
 use Rattle.regress_match.proofs.LeafLemmas.{none_of}
-use Rattle.regress_match.proofs.SingleLemmas.{loop_short, loop_greedy, loop_lazy, goes_pushed_to, does_or_at}
+use Rattle.regress_match.proofs.SingleLemmas.{loop_short, loop_greedy, loop_lazy, does_or_at}
 use Rattle.regress_match.proofs.single.single.Goals as goal
 
 pub returns-in_default : goal.returns-in_default
@@ -18,23 +18,25 @@ returns-in_default c =
     (loop_short u r c.args.least s c.exactly.result c.requires.body c.requires.groups (c.exactly.ensures s refl)
     (none_of c.exactly.result c.in_default.not-Some))
 
-pub returns-in_ok-task : goal.returns-in_ok-task
-returns-in_ok-task c =
+pub returns-then-repeat : goal.returns-then-repeat
+returns-then-repeat c =
     let u = subject c.args.rules c.args.text.now in
     let r = c.args.repeat in
     let s = state c.args.captures.now c.args.place in
     let h : State = record s { place = c.in-Some.start } in
-    goes_pushed_to u (what_step u (whats.Turns r c.args.least)) (what_step u (whats.GiveBack c.in-Some.start)) c.args.machine.now c.push.new.self
-    c.args.captures.now c.args.place c.args.next c.in_ok-task.task c.furthest-end.result (c.in_ok-task.ensures u)
+    ok_map c.give_some_back.result
+    (λ to does.
+    does c.args.place (what_step u (whats.Turns r c.args.least))
     (loop_greedy u r c.args.least s c.exactly.result c.in-Some.start c.furthest-end.result c.requires.body c.requires.groups (c.exactly.ensures s refl)
-    c.in-Some.is c.if-repeat.true (c.furthest-end.ensures h refl))
+    c.in-Some.is c.if-repeat.true (c.furthest-end.ensures h refl)))
+    c.give_some_back.ensures
 
 pub returns-in_ok-choose : goal.returns-in_ok-choose
 returns-in_ok-choose c =
     let u = subject c.args.rules c.args.text.now in
     let r = c.args.repeat in
     let s = state c.args.captures.now c.args.place in
-    does_or_at u (what_step u (whats.TakeMore r.body)) (what_step u (whats.Turns r c.args.least)) c.args.machine.now c.push-else-repeat.new.self c.choose.new.self
-    c.args.captures.now c.args.place c.args.next c.in_ok-task-2.task c.in-Some.start c.in-Some.start (c.in_ok-task-2.ensures u) (c.in_ok-choose.ensures u)
+    does_or_at u (what_step u (whats.TakeMore r.body)) (what_step u (whats.Turns r c.args.least)) c.args.machine.now c.push.new.self c.choose.new.self
+    c.args.captures.now c.args.place c.args.next c.in_ok-task.task c.in-Some.start c.in-Some.start (c.in_ok-task.ensures u) (c.in_ok-choose.ensures u)
     (loop_lazy u r c.args.least s c.exactly.result c.in-Some.start c.requires.body c.requires.groups (c.exactly.ensures s refl) c.in-Some.is c.if-repeat.false
     c.requires.bound)

@@ -1,25 +1,36 @@
 use Rattle.std.proofs.Common.{arith, ◌-◌, ap}
 use Rattle.regress_match.specs.Machine.{more_of, turn_of}
 use Rattle.regress_match.specs.Captures.{state}
+use Rattle.regress_match.specs.Subject.{subject}
 use Rattle.regress_tree.specs.Repetition.{up_to, moving}
 use Rattle.regress_tree.specs.Steps.{◌then_◌}
 use Rattle.regress_match.proofs.DoesLemmas.{goes_on, does_or_stay, does_stay_or, ok_map}
 use Rattle.regress_match.proofs.LoopLemmas.{more_greedy, more_lazy}
+use Rattle.regress_match.proofs.PeekLemmas.{no_more}
 use Rattle.regress_match.proofs.visits.more.Goals as goal
 
 pub returns-then-repeat-eq0 : goal.returns-then-repeat-eq0
-returns-then-repeat-eq0 c = λ u.
+returns-then-repeat-eq0 c =
+    let u = subject c.args.rules c.args.text.now in
     let r = c.args.repeat in
     goes_on u (more_of u r) c.args.machine.now c.args.captures.now c.args.place c.args.next c.args.place
     (ap (λ n. up_to r.greedy n (turn_of u r) (state c.args.captures.now c.args.place)) c.if-repeat-eq0.true)
 
+pub returns-then-fails_at_once : goal.returns-then-fails_at_once
+returns-then-fails_at_once c =
+    let u = subject c.args.rules c.args.text.now in
+    let r = c.args.repeat in
+    goes_on u (more_of u r) c.args.machine.now c.args.captures.now c.args.place c.args.next c.args.place
+    (no_more u r (state c.args.captures.now c.args.place) (c.fails_at_once.ensures c.if-fails_at_once.true))
+
 pub returns-in_ok-choose : goal.returns-in_ok-choose
 returns-in_ok-choose c =
+    let u = subject c.args.rules c.args.text.now in
     let r = c.args.repeat in
     let m = c.args.machine.now in
     let captures = c.args.captures.now in
     ok_map c.turn.result
-    (λ to does u.
+    (λ to does.
     let T = turn_of u r in
     does_or_stay u (moving T then_ up_to r.greedy (r.more - 1) T) (more_of u r) m c.choose.new.self captures c.args.place c.args.next
     c.turn.new.machine c.turn.new.captures to (c.in_ok-choose.ensures u)
@@ -27,7 +38,8 @@ returns-in_ok-choose c =
     c.turn.ensures
 
 pub returns-in_ok-choose-2 : goal.returns-in_ok-choose-2
-returns-in_ok-choose-2 c = λ u.
+returns-in_ok-choose-2 c =
+    let u = subject c.args.rules c.args.text.now in
     let r = c.args.repeat in
     let T = turn_of u r in
     let captures = c.args.captures.now in

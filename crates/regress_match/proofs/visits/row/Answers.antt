@@ -1,20 +1,25 @@
-use Rattle.std.proofs.Common.{rules, ◌≡◌, ◌∷◌, [], ap}
-use Rattle.regress_tree.specs.Matching.{steps_in_row}
-use Rattle.regress_tree.specs.Tree.{trees}
+use Rattle.std.proofs.Common.{◌≡◌, [], ap}
 use Rattle.regress_match.specs.Captures.{state}
-use Rattle.regress_match.proofs.CaptureLemmas.{Later-refl}
-use Rattle.regress_match.proofs.DoesLemmas.{goes_on, goes_pushed, nothing_in}
+use Rattle.regress_match.specs.Machine.{onward, row_of}
+use Rattle.regress_match.specs.Subject.{subject}
+use Rattle.regress_match.proofs.DoesLemmas.{goes_back, ok_map}
+use Rattle.regress_match.proofs.SingleLemmas.{does_from}
 use Rattle.regress_match.proofs.visits.row.Goals as goal
 
-pub returns-in_default : goal.returns-in_default
-returns-in_default c = λ u captures.
-    let none : c.args.parts.now ≡ [] = nothing_in c.args.parts.now c.in_default.ensures.cases in
-    goes_on u _ c.args.machine.now captures c.args.place c.args.next c.args.place
-    (ap (λ parts. steps_in_row u.setting u.bytes u.direction (trees parts) (state captures c.args.place)) none)
+pub returns-in-None : goal.returns-in-None
+returns-in-None c =
+    let u = subject c.args.rules c.args.text.now in
+    goes_back u (row_of u c.args.parts.now) c.args.machine.now c.args.captures.now c.args.place c.args.next (rw c.in-None.is at c.in_ok-found.ensures)
 
-pub returns : goal.returns
-returns c = λ u captures.
-    let split : c.args.parts.now ≡ c.in-Some.first.now ∷ c.in-Some.rest.now = search rules in
-    goes_pushed u _ _ c.args.machine.now c.push_both.new.self captures captures c.args.place c.args.next c.in_ok-task.task
-    (c.in_ok-task.ensures u) (Later-refl captures)
-    (ap (λ parts. steps_in_row u.setting u.bytes u.direction (trees parts) (state captures c.args.place)) split)
+pub returns-in-Some : goal.returns-in-Some
+returns-in-Some c =
+    let u = subject c.args.rules c.args.text.now in
+    let m = c.args.machine.now in
+    let captures = c.args.captures.now in
+    let same : row_of u c.args.parts.now (state captures c.args.place) ≡ row_of u c.in-Some.rest.now (state captures c.in-Some.here) =
+    rw c.in-Some.is at c.in_ok-found.ensures in
+    ok_map c.enter.result
+    (λ to does.
+    does_from u (row_of u c.args.parts.now) (row_of u c.in-Some.rest.now) m captures c.args.place c.in-Some.here c.args.next c.enter.new.machine captures to
+    (λ le machine. ap (onward u m captures c.args.next) same) (does u captures))
+    c.enter.ensures

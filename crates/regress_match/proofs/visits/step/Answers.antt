@@ -27,7 +27,7 @@ returns-in-Turns c =
     let s = state captures place in
     ok_map c.turns.result
     (λ to does.
-    does_same u _ _ m captures place next c.turns.new.machine c.turns.new.captures to (ap (λ w. what_step u w s) c.in-Turns.is) (does u))
+    does_same u _ _ m captures place next c.turns.new.machine c.turns.new.captures to (ap (λ w. what_step u w s) c.in-Turns.is) does)
     c.turns.ensures
 
 pub returns-in-Turn : goal.returns-in-Turn
@@ -65,7 +65,7 @@ returns-else-place-entry c =
     ok_map c.more.result
     (λ to does.
     does_same u _ _ m captures place next c.more.new.machine c.more.new.captures to
-    (ap (λ w. what_step u w s) c.in-Moved.is ∙ moved_on u c.in-Moved.repeat c.in-Moved.entry s c.if-place-entry.false) (does u))
+    (ap (λ w. what_step u w s) c.in-Moved.is ∙ moved_on u c.in-Moved.repeat c.in-Moved.entry s c.if-place-entry.false) does)
     c.more.ensures
 
 pub returns-in-Row : goal.returns-in-Row
@@ -78,5 +78,5 @@ returns-in-Row c =
     let s = state captures place in
     ok_map c.row.result
     (λ to does.
-    does_same u _ _ m captures place next c.row.new.machine captures to (ap (λ w. what_step u w s) c.in-Row.is) (does u captures))
+    does_same u _ _ m captures place next c.row.new.machine captures to (ap (λ w. what_step u w s) c.in-Row.is) does)
     c.row.ensures

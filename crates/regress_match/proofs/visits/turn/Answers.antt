@@ -2,7 +2,7 @@ use Rattle.std.proofs.Common.{◌∙◌, ap, sym, flat_map, if◌then◌else◌,
 use Rattle.regress_match.specs.Machine.{more_of}
 use Rattle.regress_tree.specs.Matching.{steps}
 use Rattle.regress_tree.specs.Tree.{tree}
-use Rattle.regress_match.proofs.DoesLemmas.{goes_pushed}
+use Rattle.regress_match.proofs.DoesLemmas.{goes_visit}
 use Rattle.regress_match.proofs.LoopLemmas.{moved-later}
 use Rattle.regress_match.proofs.visits.turn.Goals as goal
 
@@ -11,6 +11,6 @@ returns c = λ u.
     let r = c.args.repeat in
     let place = c.args.place in
     let body = steps u.setting u.bytes u.direction (tree r.body.now) in
-    goes_pushed u _ _ c.args.machine.now c.push_both.new.self c.args.captures.now c.unset.new.self place c.args.next c.in_ok-task.task
-    (c.in_ok-task.ensures u) c.in_ok-unset.ensures.later
+    goes_visit u _ (λ t. if t.place == place then [] else more_of u r t) r.body c.args.machine.now c.push.new.self c.args.captures.now c.unset.new.self place
+    c.args.next c.in_ok-task.task place (c.in_ok-task.ensures u) c.in_ok-unset.ensures.later
     (moved-later (more_of u r) place _ ∙ ap (λ s. flat_map (λ t. if t.place == place then [] else more_of u r t) (body s)) (sym (c.in_ok-unset.ensures.state place)))

@@ -20,7 +20,7 @@ returns-in-Cat c =
     (λ to does.
     does_same u _ _ c.args.machine.now c.args.captures.now c.args.place c.args.next c.row.new.machine c.args.captures.now to
     (ap (λ t. steps u.setting u.bytes u.direction t (state c.args.captures.now c.args.place)) (ap tree c.in-Cat.is ∙ tree-Cat c.in-Cat.parts))
-    (rw c.deref.ensures.value at (does u c.args.captures.now)))
+    (rw c.deref.ensures.value at does))
     c.row.ensures
 
 pub returns-in-Alt : goal.returns-in-Alt
@@ -35,7 +35,7 @@ returns-in-Alt c =
     (ap (λ t. steps u.setting u.bytes u.direction t s)
     (ap tree c.in-Alt.is ∙ tree-Alt c.in-Alt.left c.in-Alt.right
     ∙ ap₂ (λ x y. alt (tree x) (tree y)) (sym c.deref-in-Alt.ensures) (sym c.deref-in-Alt-2.ensures)))
-    (does u))
+    does)
     c.alt.ensures
 
 pub returns-in-CaptureGroup : goal.returns-in-CaptureGroup

@@ -1,0 +1,89 @@
+-- What fails at a place because the part in front does.
+use Rattle.std.specs.Prelude.{IfSome}
+use Rattle.std.proofs.Common.{◌≡◌, ◌∙◌, ℕ, ◌+◌, ◌-◌, ◌≤◌, ◌==◌, Bool, true, false, not, [], ◌∷◌, ◌++◌, suc, zero, filter, flat_map, map, Option, Some, None, List, refl, ap, ap₂, append-nil, arith, length, slice_index_or}
+use Rattle.regress_base.specs.declared.types.Quantifier.{Quantifier}
+use Rattle.regress_tree.specs.Lookaround.{look, looked}
+use Rattle.regress_tree.specs.Matching.{steps, steps_in_row}
+use Rattle.regress_tree.specs.Reading.{direction_if}
+use Rattle.regress_tree.specs.Repetition.{turn, turns, up_to, more_turns, repeat, unset}
+use Rattle.regress_tree.specs.Steps.{State, Step, capture, captured}
+use Rattle.regress_tree.specs.Tree.{Tree, Trees, tree, cat, more_trees, alt, wrapped, capture_group, lookaround, loop, loop_one}
+use Rattle.regress_match.specs.Machine.{IsMachine, todo, turn_of, more_of, what_step}
+use Rattle.regress_match.specs.Peek.{FailsAt, GoesTo}
+use Rattle.regress_match.specs.Subject.{Subject}
+use Rattle.regress_match.specs.declared.captures.Captures.{Captures}
+use Rattle.regress_match.specs.declared.machine.Machine.{Machine}
+use Rattle.regress_match.specs.declared.machine.Repeat.{Repeat}
+use Rattle.regress_match.specs.declared.machine.Task.{Task}
+use Rattle.regress_match.specs.declared.machine.What.TheVariants as whats
+use Rattle.regress_match.proofs.LoopLemmas.{turns-less}
+use Rattle.regress_match.proofs.MachineLemmas.{todo-at}
+
+module _ (u : Subject) (place : ℕ) where
+  pub fails_cat : (t : Tree) (ts : Trees) → FailsAt u place t → FailsAt u place (cat (more_trees t ts))
+  fails_cat t ts fails = λ s at. ap (flat_map (steps_in_row u.setting u.bytes u.direction ts)) (fails s at)
+
+  pub fails_group : (t : Tree) (id : ℕ) (name : Option (List ℕ)) → FailsAt u place t → FailsAt u place (wrapped (capture_group id name) t)
+  unfolding capture
+  fails_group t id name fails = λ s at. ap (map (captured id s.place)) (fails s at)
+
+  repeat_fails : (t : Tree) (bound start end : ℕ) (q : Quantifier) (s : State) → 1 ≤ q.min → FailsAt u place t → s.place ≡ place →
+      repeat bound q start end (steps u.setting u.bytes u.direction t) s ≡ []
+  unfolding repeat
+  repeat_fails t bound start end q s some fails at =
+      let T = turn start end (steps u.setting u.bytes u.direction t) in
+      ap (flat_map (up_to q.greedy (more_turns bound q) T))
+      (ap (λ (h : Step). h s) (turns-less q.min T some) ∙ ap (flat_map (turns (q.min - 1) T)) (fails (unset start end s) at))
+
+  pub fails_loop : (t : Tree) (q : Quantifier) (start end : ℕ) → 1 ≤ q.min → FailsAt u place t → FailsAt u place (wrapped (loop q start end) t)
+  fails_loop t q start end some fails = λ s at. repeat_fails t _ start end q s some fails at
+
+  pub fails_loop_one : (t : Tree) (q : Quantifier) → 1 ≤ q.min → FailsAt u place t → FailsAt u place (wrapped (loop_one q) t)
+  fails_loop_one t q some fails = λ s at. repeat_fails t _ 0 0 q s some fails at
+
+-- a lookaround whose body fails, or negated holds
+pub fails_look : (u : Subject) (place : ℕ) (t : Tree) (looks_back : Bool) (start end : ℕ) →
+    FailsAt (record u { direction = direction_if looks_back }) place t → FailsAt u place (wrapped (lookaround false looks_back start end) t)
+unfolding look
+fails_look u place t looks_back start end fails = λ s at. ap (looked false s) (fails s at)
+
+pub fails_look_negated : (u : Subject) (place : ℕ) (t : Tree) (looks_back : Bool) (start end to : ℕ) →
+    GoesTo (record u { direction = direction_if looks_back }) place t (Some to) → FailsAt u place (wrapped (lookaround true looks_back start end) t)
+unfolding look
+fails_look_negated u place t looks_back start end to goes = λ s at. ap (looked true s) (goes s at)
+
+-- two alternatives that fail
+pub fails_alt : (u : Subject) (place : ℕ) (t v : Tree) → FailsAt u place t → FailsAt u place v → FailsAt u place (alt t v)
+fails_alt u place t v fails fails' = λ s at. ap₂ ◌++◌ (fails s at) (fails' s at)
+
+-- no turn more of what fails
+pub more_fails : (greedy : Bool) (n : ℕ) (f : Step) (s : State) → f s ≡ [] → up_to greedy n f s ≡ s ∷ []
+more_fails greedy zero f s none = refl
+more_fails true (suc n) f s none = ap (λ xs. flat_map (up_to true n f) (filter (λ t. not (t.place == s.place)) xs) ++ s ∷ []) none
+more_fails false (suc n) f s none = ap (λ xs. s ∷ flat_map (up_to false n f) (filter (λ t. not (t.place == s.place)) xs)) none
+
+pub no_more : (u : Subject) (r : Repeat) (s : State) → FailsAt u s.place (tree r.body.now) → more_of u r s ≡ s ∷ []
+no_more u r s fails = more_fails r.greedy r.more (turn_of u r) s (fails (unset r.start r.end s) refl)
+
+-- a task of the list that matches nothing
+module _ (u : Subject) (m : Machine) (c : Captures) (task : ℕ) (t : Task) (s : State) (is : IsMachine m c) (some : 1 ≤ task)
+    (within : task ≤ length m.tasks.items) (at : t ≡ slice_index_or m.tasks.items (task - 1) t) where
+  by_what : todo u m.tasks.items task s ≡ flat_map (todo u m.tasks.items t.next) (what_step u t.what s)
+  by_what =
+      let found = todo-at u m.tasks.items (task - 1) t is.linked (omega (arith, some, within)) at in
+      let number : task ≡ task - 1 + 1 = omega (arith, some) in
+      ap (λ i. todo u m.tasks.items i s) number ∙ ap (λ (h : Step). h s) found.1
+
+  pub task_none : what_step u t.what s ≡ [] → todo u m.tasks.items task s ≡ []
+  task_none none = by_what ∙ ap (flat_map (todo u m.tasks.items t.next)) none
+
+  -- behind a group
+  pub close_none : (id from : ℕ) → t.what ≡ whats.Close id from →
+      todo u m.tasks.items t.next (captured id from s) ≡ [] → todo u m.tasks.items task s ≡ []
+  close_none id from what none =
+      by_what ∙ ap (λ w. flat_map (todo u m.tasks.items t.next) (what_step u w s)) what
+      ∙ append-nil (todo u m.tasks.items t.next (captured id from s)) ∙ none
+
+pub some_map : {T : Type 0} {P Q : T → Type 0} (o : Option T) → ((x : T) → P x → Q x) → IfSome o P → IfSome o Q
+some_map None f h = tt
+some_map (Some x) f h = f x h

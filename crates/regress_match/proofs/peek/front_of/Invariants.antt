@@ -1,0 +1,14 @@
+-- Where what is in front fails, the node does.
+use Rattle.regress_match.specs.Peek.{FailsAt}
+use Rattle.regress_match.specs.Subject.{Subject}
+use Rattle.regress_tree.specs.Tree.{tree}
+use Rattle.std.proofs.Common.{ℕ}
+use Rattle.regress_match.proofs.peek.front_of.Given as goal
+
+abbrev pub invariant-loop-left : goal.invariant-loop-left
+invariant-loop-left l = record {
+  same : (u : Subject) (place : ℕ) → FailsAt u place (tree l.front) → FailsAt u place (tree l.node);
+}
+
+abbrev pub decreases-loop-left : goal.decreases-loop-left
+decreases-loop-left l = l.left

@@ -1,0 +1,153 @@
+//! What can be told of a node by the leaf in front of it.
+ghost use Rattle.std.specs.Prelude.{◌≡◌, [], ℕ, true, IfSome, Some};
+ghost use Rattle.regress_tree.specs.Tree.{tree, trees, cat};
+ghost use Rattle.regress_tree.specs.Steps.{State};
+ghost use Rattle.regress_match.specs.Machine.{IsMachine, todo};
+ghost use Rattle.regress_match.specs.Peek.{FailsAt, GoesTo};
+ghost use Rattle.regress_match.specs.Subject.{Subject, subject};
+ghost use Rattle.regress_match.specs.declared.captures.Captures.{Captures};
+
+use crate::leaves::{is_simple, simple_leaf};
+use crate::machine::{Machine, What};
+use crate::rules::Rules;
+use regress_tree::ir::Node;
+
+/// How many nodes it goes down to the leaf in front. A bound, since each node on the way may ask.
+const LEVELS: usize = 6;
+
+/// Whether what stands in front of a node tells that the node matches nothing from a place: a leaf, a lookaround at one, or
+/// a choice between two. It may match nothing though this is not told.
+pub fn fails_at_once(text: &str, rules: Rules<'_>, node: &Node, place: usize) -> bool
+    ensures { result ≡ true → FailsAt (subject rules.entry text.now) place (tree node.now) }
+{
+    let front = front_of(node);
+    match front {
+        Node::Alt(left, right) => {
+            leaf_fails(text, rules, front_of(left), place)
+                && leaf_fails(text, rules, front_of(right), place)
+        }
+        Node::LookaroundAssertion {
+            negate,
+            backwards,
+            contents,
+            ..
+        } => {
+            let inside = Rules {
+                flags: rules.flags,
+                tables: rules.tables,
+                backwards: *backwards,
+            };
+            if *negate {
+                leaf_holds(text, inside, contents, place)
+            } else {
+                leaf_fails(text, inside, front_of(contents), place)
+            }
+        }
+        _ => leaf_fails(text, rules, front, place),
+    }
+}
+
+/// What stands in front of a node, so that the node matches nothing where that does. It goes some levels down.
+#[inline(always)]
+fn front_of(node: &Node) -> &Node
+    ensures { (u : Subject) (place : ℕ) → FailsAt u place (tree result.now) → FailsAt u place (tree node.now) }
+{
+    let mut front = node;
+    let mut left = LEVELS;
+    while left > 0 {
+        let Some(part) = front_part(front) else {
+            break;
+        };
+        front = part;
+        left -= 1;
+    }
+    front
+}
+
+/// The part in front of a node, without which it matches nothing.
+fn front_part(node: &Node) -> Option<&Node>
+    ensures { IfSome result (λ part. (u : Subject) (place : ℕ) → FailsAt u place (tree part.now) → FailsAt u place (tree node.now)) }
+{
+    match node {
+        Node::Cat(parts) => first_part(parts),
+        Node::CaptureGroup { contents, .. } => Some(contents),
+        Node::Loop { loopee, quant, .. } => { if quant.min > 0 { Some(loopee) } else { None } }
+        Node::Loop1CharBody { loopee, quant } => { if quant.min > 0 { Some(loopee) } else { None } }
+        _ => None,
+    }
+}
+
+/// The first of the parts of a row.
+fn first_part(parts: &[Node]) -> Option<&Node>
+    ensures { IfSome result (λ part. (u : Subject) (place : ℕ) → FailsAt u place (tree part.now) → FailsAt u place (cat (trees parts.now))) }
+{
+    let (first, _) = parts.split_first()?;
+    Some(first)
+}
+
+/// Whether it is a leaf that looks at no group, and matches nothing there.
+#[inline(always)]
+fn leaf_fails(text: &str, rules: Rules<'_>, node: &Node, place: usize) -> bool
+    ensures { result ≡ true → FailsAt (subject rules.entry text.now) place (tree node.now) }
+{
+    is_simple(node) && simple_leaf(text, rules, node, place).is_none()
+}
+
+/// Whether it is a leaf that looks at no group, and matches there.
+fn leaf_holds(text: &str, rules: Rules<'_>, node: &Node, place: usize) -> bool
+    ensures { result ≡ true → (to : ℕ) × GoesTo (subject rules.entry text.now) place (tree node.now) (Some to) }
+{
+    if !is_simple(node) {
+        return false;
+    }
+    match simple_leaf(text, rules, node, place) {
+        Some(_) => true,
+        None => false,
+    }
+}
+
+/// Whether a task is told to match nothing from a place, by the leaf in front of it or, behind a group, of the next task.
+pub fn task_fails(
+    text: &str,
+    rules: Rules<'_>,
+    machine: &Machine<'_>,
+    task: usize,
+    place: usize,
+) -> bool
+    ensures { result ≡ true → (c : Captures) → IsMachine machine.now c → (s : State) → s.place ≡ place →
+        todo (subject rules.entry text.now) machine.now.tasks.items task s ≡ [] }
+{
+    if task == 0 || task > machine.tasks.len() {
+        return false;
+    }
+    let here = machine.tasks[task - 1];
+    match here.what {
+        What::Close(..) => own_part_fails(text, rules, machine, here.next, place),
+        _ => own_part_fails(text, rules, machine, task, place),
+    }
+}
+
+/// Whether it is told by the leaf in front of the task itself.
+fn own_part_fails(
+    text: &str,
+    rules: Rules<'_>,
+    machine: &Machine<'_>,
+    task: usize,
+    place: usize,
+) -> bool
+    ensures { result ≡ true → (c : Captures) → IsMachine machine.now c → (s : State) → s.place ≡ place →
+        todo (subject rules.entry text.now) machine.now.tasks.items task s ≡ [] }
+{
+    if task == 0 || task > machine.tasks.len() {
+        return false;
+    }
+    let here = machine.tasks[task - 1];
+    match here.what {
+        What::Match(node) => fails_at_once(text, rules, node, place),
+        What::Row(parts) => match first_part(parts) {
+            Some(first) => fails_at_once(text, rules, first, place),
+            None => false,
+        },
+        _ => false,
+    }
+}

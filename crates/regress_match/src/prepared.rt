@@ -1,0 +1,37 @@
+//! What is known of a tree before a search.
+ghost use Rattle.std.specs.Prelude.{◌≡◌, length, min};
+ghost use Rattle.regress_tree.specs.Tree.{tree};
+ghost use Rattle.regress_tree.specs.WellFormed.{captures};
+ghost use Rattle.regress_prefilter.specs.Candidates.{AreCandidates};
+ghost use Rattle.regress_match.specs.Prepared.{AreCandidates-prop};
+
+use crate::matching::group_count;
+use regress_prefilter::candidates::{Candidates, candidates_of};
+use regress_tree::ir::Regex;
+use regress_unicode::Tables;
+
+/// A pattern, and what is known of it.
+#[derive(Clone, Copy)]
+pub(crate) struct Prepared<'a> {
+    pub(crate) regex: &'a Regex,
+    pub(crate) tables: &'a Tables,
+    pub(crate) candidates: Candidates,
+    /// How many groups there are, as far as they can be counted.
+    pub(crate) groups: usize,
+    ghost starts: { AreCandidates candidates (tree regex.now.node) } by { AreCandidates-prop candidates (tree regex.now.node) },
+    ghost counted: { groups ≡ min (length (captures (tree regex.now.node))) 18446744073709551615 },
+}
+
+impl<'a> Prepared<'a> {
+    pub(crate) fn new(regex: &'a Regex, tables: &'a Tables) -> Prepared<'a>
+        ensures regex { result.regex.now ≡ regex.now }
+        ensures tables { result.tables.now ≡ tables.now }
+    {
+        Prepared {
+            regex,
+            tables,
+            candidates: candidates_of(&regex.node),
+            groups: group_count(&regex.node),
+        }
+    }
+}
