@@ -142,7 +142,7 @@ static void refuse(const char *pattern, uint32_t flags, uint32_t optimize) {
         uint32_t status = parsed(pattern, flags, optimize, ROOM);
         if (status == REGRESS_FRONT_MEMORY) {
             wanting++;
-            CHECK(words[0] == MARK);
+            CHECK(words[0] == MARK && needed == 0 && place == 0);
         } else {
             CHECK(status == ample && needed == ample_needed && place == ample_place);
             CHECK(memcmp(words, expected, sizeof expected) == 0);

@@ -1,5 +1,5 @@
 -- What a call asks for.
-use Rattle.std.specs.Prelude.{ℕ, ◌≤◌, ◌<◌, Bool, not, ◌==◌, bit_and, All, List, if◌then◌else◌}
+use Rattle.std.specs.Prelude.{ℕ, ◌≤◌, ◌<◌, Bool, not, ◌==◌, bit_and, All, List, IsUtf8, if◌then◌else◌}
 use Rattle.regress_base.specs.Intervals.{code_point_max}
 use Rattle.regress_base.specs.Table.{Table}
 use Rattle.regress_base.specs.declared.types.Flags.{Flags}
@@ -27,6 +27,14 @@ table_by bits = if has bits 32 then small_table else unicode_table
 abbrev pub setting_by : ℕ → Setting
 setting_by bits = record { flags = flags_of bits; table = table_by bits }
 
--- code points, no bit that has no meaning, and a number for a choice of two
+-- no bit that has no meaning, and a number for a choice of two
+abbrev pub AreOptions : ℕ → ℕ → Type 0
+AreOptions bits choice = (bits < 64) × (choice < 2)
+
+-- code points, and such options
 abbrev pub IsRequest : List ℕ → ℕ → ℕ → Type 0
-IsRequest pattern bits choice = All (λ c. c ≤ code_point_max) pattern × (bits < 64) × (choice < 2)
+IsRequest pattern bits choice = All (λ c. c ≤ code_point_max) pattern × AreOptions bits choice
+
+-- the same of a pattern in UTF-8, whose characters are code points
+abbrev pub IsTextRequest : List ℕ → ℕ → ℕ → Type 0
+IsTextRequest pattern bits choice = IsUtf8 pattern × AreOptions bits choice

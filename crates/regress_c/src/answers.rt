@@ -1,8 +1,8 @@
 //! What the calls answer, over code points.
-ghost use Rattle.std.specs.Prelude.{◌≡◌, ◌≢◌, ◌≤◌, ◌↔◌, ◌==◌, length};
-ghost use Rattle.regress_front.specs.Accepted.{NoneIsAccepted};
+ghost use Rattle.std.specs.Prelude.{◌==◌};
 ghost use Rattle.regress_c.specs.Request.{setting_by, IsRequest};
-ghost use Rattle.regress_c.specs.Answer.{AreWords, IsText, Gives, WantsRoom};
+ghost use Rattle.regress_c.specs.WordsAnswer.{AnswersWords};
+ghost use Rattle.regress_c.specs.FaultAnswer.{AnswersFault};
 
 use super::request::is_request;
 use super::room::hand_out;
@@ -30,13 +30,8 @@ pub(crate) fn answer_words(
     needed: &mut usize,
     place: &mut usize,
 ) -> u32
-    ensures words { result ≡ 0 → Gives (AreWords (setting_by bits) pattern.now (choice == 1)) needed.new words.old words.new }
-    ensures fault { result ≡ 1 → NoneIsAccepted (setting_by bits) pattern.now }
-    ensures place { place.new ≤ length pattern.now }
-    ensures room { result ≡ 3 → WantsRoom (AreWords (setting_by bits) pattern.now (choice == 1)) needed.new words.old }
-    ensures bad { result ≡ 4 ↔ (IsRequest pattern.now bits choice → ⊥) }
-    ensures status { result ≤ 4 }
-    ensures left { result ≢ 0 → words.new ≡ words.old }
+    ensures answer { AnswersWords (IsRequest pattern.now bits choice) (setting_by bits) pattern.now (choice == 1)
+        words.old result needed.new place.new words.new }
 {
     *needed = 0;
     *place = 0;
@@ -64,12 +59,7 @@ pub(crate) fn answer_fault(
     text: &mut [u8],
     needed: &mut usize,
 ) -> u32
-    ensures text { result ≡ 1 → Gives (IsText (setting_by bits) pattern.now) needed.new text.old text.new }
-    ensures fault { result ≡ 1 → NoneIsAccepted (setting_by bits) pattern.now }
-    ensures room { result ≡ 3 → WantsRoom (IsText (setting_by bits) pattern.now) needed.new text.old }
-    ensures bad { result ≡ 4 ↔ (IsRequest pattern.now bits 0 → ⊥) }
-    ensures status { result ≤ 4 }
-    ensures left { result ≢ 1 → text.new ≡ text.old }
+    ensures answer { AnswersFault (IsRequest pattern.now bits 0) (setting_by bits) pattern.now text.old result needed.new text.new }
 {
     *needed = 0;
     if !is_request(pattern, bits, 0) {

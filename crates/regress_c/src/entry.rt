@@ -1,11 +1,11 @@
 //! The calls from C.
-ghost use Rattle.std.specs.Prelude.{◌≡◌, ◌≢◌, ◌≤◌, ◌↔◌, ◌==◌, length, chars, IsUtf8};
-ghost use Rattle.regress_front.specs.Accepted.{NoneIsAccepted};
-ghost use Rattle.regress_c.specs.Request.{setting_by, IsRequest};
-ghost use Rattle.regress_c.specs.Answer.{AreWords, IsText, Gives, WantsRoom};
+ghost use Rattle.std.specs.Prelude.{◌==◌, chars};
+ghost use Rattle.regress_c.specs.Request.{setting_by, IsRequest, IsTextRequest};
+ghost use Rattle.regress_c.specs.WordsAnswer.{AnswersWords};
+ghost use Rattle.regress_c.specs.FaultAnswer.{AnswersFault};
 
 use super::answers::{BAD_INPUT, MEMORY, answer_fault, answer_words};
-use regress_front::util::code_points;
+use super::request::read_points;
 use std::alloc::Global;
 
 /// Writes the words of the tree of a pattern of code points and tells how many they are, or where the pattern has a fault.
@@ -19,13 +19,8 @@ pub extern "C" fn regress_front_parse_code_points(
     needed: &mut usize,
     place: &mut usize,
 ) -> u32
-    ensures words { result ≡ 0 → Gives (AreWords (setting_by flags) pattern.now (optimize == 1)) needed.new words.old words.new }
-    ensures fault { result ≡ 1 → NoneIsAccepted (setting_by flags) pattern.now }
-    ensures place { place.new ≤ length pattern.now }
-    ensures room { result ≡ 3 → WantsRoom (AreWords (setting_by flags) pattern.now (optimize == 1)) needed.new words.old }
-    ensures bad { result ≡ 4 ↔ (IsRequest pattern.now flags optimize → ⊥) }
-    ensures status { result ≤ 4 }
-    ensures left { result ≢ 0 → words.new ≡ words.old }
+    ensures answer { AnswersWords (IsRequest pattern.now flags optimize) (setting_by flags) pattern.now (optimize == 1)
+        words.old result needed.new place.new words.new }
 {
     answer_words(alloc, pattern, flags, optimize, words, needed, place)
 }
@@ -41,22 +36,16 @@ pub extern "C" fn regress_front_parse_text(
     needed: &mut usize,
     place: &mut usize,
 ) -> u32
-    ensures words { result ≡ 0 → Gives (AreWords (setting_by flags) (chars pattern.now) (optimize == 1)) needed.new words.old words.new }
-    ensures fault { result ≡ 1 → NoneIsAccepted (setting_by flags) (chars pattern.now) }
-    ensures room { result ≡ 3 → WantsRoom (AreWords (setting_by flags) (chars pattern.now) (optimize == 1)) needed.new words.old }
-    ensures bad { result ≡ 4 → IsUtf8 pattern.now → IsRequest (chars pattern.now) flags optimize → ⊥ }
-    ensures status { result ≤ 4 }
-    ensures left { result ≢ 0 → words.new ≡ words.old }
+    ensures answer { AnswersWords (IsTextRequest pattern.now flags optimize) (setting_by flags) (chars pattern.now) (optimize == 1)
+        words.old result needed.new place.new words.new }
 {
     *needed = 0;
     *place = 0;
-    let Ok(text) = str::from_utf8(pattern) else {
-        return BAD_INPUT;
-    };
-    let Ok(points) = code_points(alloc, text) else {
-        return MEMORY;
-    };
-    answer_words(alloc, &points, flags, optimize, words, needed, place)
+    match read_points(alloc, pattern, flags, optimize) {
+        Ok(Some(points)) => answer_words(alloc, &points, flags, optimize, words, needed, place),
+        Ok(None) => BAD_INPUT,
+        Err(_) => MEMORY,
+    }
 }
 
 /// Writes the text of the fault of a pattern of code points and tells how many bytes it takes, or that there is none.
@@ -68,12 +57,7 @@ pub extern "C" fn regress_front_tell_fault(
     text: &mut [u8],
     needed: &mut usize,
 ) -> u32
-    ensures text { result ≡ 1 → Gives (IsText (setting_by flags) pattern.now) needed.new text.old text.new }
-    ensures fault { result ≡ 1 → NoneIsAccepted (setting_by flags) pattern.now }
-    ensures room { result ≡ 3 → WantsRoom (IsText (setting_by flags) pattern.now) needed.new text.old }
-    ensures bad { result ≡ 4 ↔ (IsRequest pattern.now flags 0 → ⊥) }
-    ensures status { result ≤ 4 }
-    ensures left { result ≢ 1 → text.new ≡ text.old }
+    ensures answer { AnswersFault (IsRequest pattern.now flags 0) (setting_by flags) pattern.now text.old result needed.new text.new }
 {
     answer_fault(alloc, pattern, flags, text, needed)
 }
@@ -87,19 +71,13 @@ pub extern "C" fn regress_front_tell_fault_of_text(
     text: &mut [u8],
     needed: &mut usize,
 ) -> u32
-    ensures text { result ≡ 1 → Gives (IsText (setting_by flags) (chars pattern.now)) needed.new text.old text.new }
-    ensures fault { result ≡ 1 → NoneIsAccepted (setting_by flags) (chars pattern.now) }
-    ensures room { result ≡ 3 → WantsRoom (IsText (setting_by flags) (chars pattern.now)) needed.new text.old }
-    ensures bad { result ≡ 4 → IsUtf8 pattern.now → IsRequest (chars pattern.now) flags 0 → ⊥ }
-    ensures status { result ≤ 4 }
-    ensures left { result ≢ 1 → text.new ≡ text.old }
+    ensures answer { AnswersFault (IsTextRequest pattern.now flags 0) (setting_by flags) (chars pattern.now)
+        text.old result needed.new text.new }
 {
     *needed = 0;
-    let Ok(read) = str::from_utf8(pattern) else {
-        return BAD_INPUT;
-    };
-    let Ok(points) = code_points(alloc, read) else {
-        return MEMORY;
-    };
-    answer_fault(alloc, &points, flags, text, needed)
+    match read_points(alloc, pattern, flags, 0) {
+        Ok(Some(points)) => answer_fault(alloc, &points, flags, text, needed),
+        Ok(None) => BAD_INPUT,
+        Err(_) => MEMORY,
+    }
 }

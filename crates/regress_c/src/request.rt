@@ -1,11 +1,13 @@
 //! What a call asks for.
-ghost use Rattle.std.specs.Prelude.{◌≡◌, ◌↔◌, IsTrue, IfOk};
+ghost use Rattle.std.specs.Prelude.{◌≡◌, ◌≤◌, ◌↔◌, All, chars, IsTrue, IfOk, OnErr, MatchOption};
+ghost use Rattle.regress_front.specs.Intervals.{code_point_max};
 ghost use Rattle.regress_front.specs.TableOf.{table_of};
-ghost use Rattle.regress_c.specs.Request.{flags_of, table_by, IsRequest};
+ghost use Rattle.regress_c.specs.Request.{flags_of, table_by, AreOptions, IsRequest, IsTextRequest};
 
 use regress_front::codepointset::CODE_POINT_MAX;
 use regress_front::types::Flags;
 use regress_front::unicode::Tables;
+use regress_front::util::code_points;
 use regress_ucd::unicode_tables;
 use std::alloc::{AllocError, Global};
 
@@ -27,7 +29,34 @@ const ALL_BITS: u32 = 63;
 pub(crate) fn is_request(pattern: &[u32], bits: u32, choice: u32) -> bool
     ensures { IsTrue result ↔ IsRequest pattern.now bits choice }
 {
-    pattern.iter().all(|c| *c <= CODE_POINT_MAX) && bits <= ALL_BITS && choice < 2
+    pattern.iter().all(|c| *c <= CODE_POINT_MAX) && are_options(bits, choice)
+}
+
+/// Whether these are flags that there are, and 0 or 1.
+fn are_options(bits: u32, choice: u32) -> bool
+    ensures { IsTrue result ↔ AreOptions bits choice }
+{
+    bits <= ALL_BITS && choice < 2
+}
+
+/// The code points of a pattern in UTF-8, or nothing where that or the options are none.
+pub(crate) fn read_points(
+    alloc: Global,
+    pattern: &[u8],
+    bits: u32,
+    choice: u32,
+) -> Result<Option<Vec<u32>>, AllocError>
+    ensures points { IfOk result (λ found. MatchOption found (IsTextRequest pattern.now bits choice → ⊥) (λ points.
+        IsTextRequest pattern.now bits choice × (points.items ≡ chars pattern.now) × All (λ c. c ≤ code_point_max) points.items)) }
+    ensures wanting { OnErr result (IsTextRequest pattern.now bits choice) }
+{
+    if !are_options(bits, choice) {
+        return Ok(None);
+    }
+    match str::from_utf8(pattern) {
+        Ok(text) => Ok(Some(code_points(alloc, text)?)),
+        Err(_) => Ok(None),
+    }
 }
 
 /// The flags of a pattern among the bits.

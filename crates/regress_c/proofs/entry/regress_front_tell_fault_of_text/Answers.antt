@@ -1,11 +1,23 @@
-use Rattle.std.proofs.Common.{rules, arith, ◌≡◌, subst, chars}
-use Rattle.std.proofs.lemmas.Grind.{common_steps}
-use Rattle.regress_c.specs.Request.{setting_by}
-use Rattle.regress_c.specs.Answer.{IsText, Gives}
+use Rattle.std.proofs.Common.{◌≡◌, ◌≤◌, subst, ◌∙◌, chars}
+use Rattle.std.specs.List.{All}
+use Rattle.regress_base.specs.Intervals.{code_point_max}
+use Rattle.regress_c.specs.Request.{setting_by, IsRequest}
+use Rattle.regress_c.specs.FaultAnswer.{AnswersFault, wanting, bad}
+use Rattle.regress_c.proofs.AnswerLemmas.{fault-asked}
 use Rattle.regress_c.proofs.entry.regress_front_tell_fault_of_text.Goals as goal
 
 -- the characters of the bytes were asked about
-pub returns-clause-text : goal.returns-clause-text
-returns-clause-text c =
-    let same : c.deref.result.now ≡ chars c.args.pattern.now = first_of (search rules, first_of (grind (arith, common_steps), cc)) in
-    subst (λ source. c.answer_fault.result ≡ 1 → Gives (IsText (setting_by c.args.flags) source) c.answer_fault.new.needed c.args.text.now c.answer_fault.new.text) same c.answer_fault.ensures.text
+pub returns-in-Ok-Some : goal.returns-in-Ok-Some
+returns-in-Ok-Some c =
+    let read = rw c.in-Ok-Some.field-0-is at c.in-Ok-Some.ensures.points in
+    let same : c.deref.result.now ≡ chars c.args.pattern.now = c.deref.ensures.value ∙ read.1 in
+    let answer = subst (λ source. AnswersFault (IsRequest source c.args.flags 0) (setting_by c.args.flags) source c.args.text.now c.answer_fault.result
+    c.answer_fault.new.needed c.answer_fault.new.text) same c.answer_fault.ensures.answer in
+    let points : All (λ c. c ≤ code_point_max) (chars c.args.pattern.now) = subst (All (λ c. c ≤ code_point_max)) read.1 read.2 in
+    record { answer = fault-asked (λ asked. read.0) (λ asked. (points, asked.1)) answer }
+
+pub returns-in-Ok-None : goal.returns-in-Ok-None
+returns-in-Ok-None c = record { answer = bad (rw c.in-Ok-None.field-0-is at c.in-Ok-None.ensures.points) }
+
+pub returns-in-Err : goal.returns-in-Err
+returns-in-Err c = record { answer = wanting c.in-Err.ensures.wanting }

@@ -1,0 +1,63 @@
+-- What a call answers, by what it found.
+use Rattle.std.proofs.Common.{◌≡◌, ◌++◌, ◌<◌, ℕ, List, Bool, false, drop, length, refl, sym, ap, ◌∙◌, subst}
+use Rattle.regress_tree.specs.Setting.{Setting}
+use Rattle.regress_lexical.specs.Source.{Source}
+use Rattle.regress_lexical.specs.declared.fault.FaultKind.{FaultKind}
+use Rattle.regress_parse.specs.Accepted.{NoneIsAccepted, IsTrueOf}
+use Rattle.regress_parse.specs.Fault.{text_of}
+use Rattle.regress_c.specs.Answer.{AreWords}
+use Rattle.regress_c.specs.WordsAnswer.{AnswersWords, written, refused}
+use Rattle.regress_c.specs.WordsAnswer as words
+use Rattle.regress_c.specs.FaultAnswer.{AnswersFault, faultless, told}
+use Rattle.regress_c.specs.FaultAnswer as faults
+
+module _ {Asked : Type 0} {setting : Setting} {source : Source} where
+  -- the items that are handed out are those that were made
+  pub words-written : {optimized : Bool} {old new : List ℕ} {needed : ℕ} (items handed : List ℕ) → Asked →
+      AreWords setting source optimized items → needed ≡ length items → handed ≡ items → new ≡ handed ++ drop (length handed) old →
+      AnswersWords Asked setting source optimized old 0 needed 0 new
+  words-written {old = old} items handed asked are count same put =
+      written asked (items, are, count, put ∙ ap (λ xs. xs ++ drop (length xs) old) same)
+
+  pub words-little : {optimized : Bool} {old new : List ℕ} {needed : ℕ} (items handed : List ℕ) → Asked →
+      AreWords setting source optimized items → needed ≡ length items → handed ≡ items → new ≡ old → length old < length handed →
+      AnswersWords Asked setting source optimized old 3 needed 0 new
+  words-little {optimized = optimized} {old = old} {needed = needed} items handed asked are count same left less =
+      subst (λ room. AnswersWords Asked setting source optimized old 3 needed 0 room) (sym left)
+      (words.little asked (items, are, count, subst (λ xs. length old < length xs) same less))
+
+  -- a tree has no fault
+  pub no-fault : {old : List ℕ} (items : List ℕ) → Asked → AreWords setting source false items → AnswersFault Asked setting source old 0 0 old
+  no-fault items asked are = faultless are.1.pattern asked are.1.accepted
+
+  pub fault-told : {old new : List ℕ} (kind : FaultKind) (text handed : List ℕ) → Asked → NoneIsAccepted setting source →
+      text ≡ text_of kind → IsTrueOf setting source kind → handed ≡ text → new ≡ handed ++ drop (length handed) old →
+      AnswersFault Asked setting source old 1 (length handed) new
+  fault-told kind text handed asked none says is same put = told asked none (handed, (kind, same ∙ says, is), refl, put)
+
+  pub fault-little : {old new : List ℕ} (kind : FaultKind) (text handed : List ℕ) → Asked → NoneIsAccepted setting source →
+      text ≡ text_of kind → IsTrueOf setting source kind → handed ≡ text → new ≡ old → length old < length handed →
+      AnswersFault Asked setting source old 3 (length handed) new
+  fault-little {old = old} kind text handed asked none says is same left less =
+      subst (λ room. AnswersFault Asked setting source old 3 (length handed) room) (sym left)
+      (faults.little asked none (handed, (kind, same ∙ says, is), refl, less))
+
+-- ---- of a text
+
+module _ {A B : Type 0} (to : A → B) (from : B → A) {setting : Setting} {source : Source} where
+  -- asked by the characters, or by the bytes
+  pub words-asked : {optimized : Bool} {old new : List ℕ} {status needed place : ℕ} →
+      AnswersWords A setting source optimized old status needed place new → AnswersWords B setting source optimized old status needed place new
+  words-asked (written asked gives) = written (to asked) gives
+  words-asked (refused asked none within) = refused (to asked) none within
+  words-asked (words.wanting asked) = words.wanting (to asked)
+  words-asked (words.little asked wants) = words.little (to asked) wants
+  words-asked (words.bad none) = words.bad (λ asked. none (from asked))
+
+  pub fault-asked : {old new : List ℕ} {status needed : ℕ} →
+      AnswersFault A setting source old status needed new → AnswersFault B setting source old status needed new
+  fault-asked (faultless p asked accepted) = faultless p (to asked) accepted
+  fault-asked (told asked none gives) = told (to asked) none gives
+  fault-asked (faults.wanting asked) = faults.wanting (to asked)
+  fault-asked (faults.little asked none wants) = faults.little (to asked) none wants
+  fault-asked (faults.bad none) = faults.bad (λ asked. none (from asked))
