@@ -1,6 +1,5 @@
 -- What is shown of a pattern.
-use Rattle.std.specs.Prelude.{◌≡◌, ℕ, Bool, List, ◌++◌, Option, codes, if◌then◌else◌}
-use Rattle.std.specs.Io.KnownBytes.{Appends}
+use Rattle.std.specs.Prelude.{◌≡◌, ℕ, Bool, List, [], ◌++◌, Option, codes, if◌then◌else◌}
 use Rattle.regress_base.specs.Table.{Table}
 use Rattle.regress_base.specs.declared.types.Flags.{Flags}
 use Rattle.regress_unicode.specs.SmallTable.{small_table}
@@ -15,9 +14,10 @@ use Rattle.regress_tree.specs.Tree.{Tree}
 use Rattle.regress_syntax.specs.Syntax.{Pattern}
 use Rattle.regress_parse.specs.Accepted as parse
 use Rattle.regress_parse.specs.TreeOf.{tree_of}
+use Rattle.regress_markup.specs.Markup.{IsDocument}
 use Rattle.regress_show.specs.Json.{json_of}
 use Rattle.regex_tree.specs.declared.request.Format.{Format}
-use Rattle.regex_tree.specs.declared.request.Format.TheVariants.{Text, Json}
+use Rattle.regex_tree.specs.declared.request.Format.TheVariants.{Text, Json, Svg}
 use Rattle.regex_tree.specs.declared.request.Stage.{Stage}
 use Rattle.regex_tree.specs.declared.request.Stage.TheVariants.{Parsed, Optimized, Both}
 
@@ -45,10 +45,15 @@ IsAcceptedPattern asked = (p : Pattern) × IsAccepted asked p
 abbrev pub NoneIsAcceptedOf : Asked → Type 0
 NoneIsAcceptedOf asked = parse.NoneIsAccepted (setting_asked asked) asked.text
 
--- one tree
-abbrev pub shown : Format → Flags → Tree → List ℕ
-shown Text flags t = printed t
-shown Json flags t = json_of flags t ++ codes "\n"
+-- What shows one tree: its text, its JSON, or some picture, which is well formed.
+abbrev pub IsShownAs : Format → Flags → Tree → List ℕ → Type 0
+IsShownAs Text flags t bytes = bytes ≡ printed t
+IsShownAs Json flags t bytes = bytes ≡ json_of flags t ++ codes "\n"
+IsShownAs Svg flags t bytes = (picture : List ℕ) × IsDocument picture × (bytes ≡ picture ++ codes "\n")
+
+-- one tree, and these bytes behind it
+abbrev pub IsShownWith : Format → Flags → Tree → List ℕ → List ℕ → Type 0
+IsShownWith format flags t behind bytes = (shown : List ℕ) × IsShownAs format flags t shown × (bytes ≡ shown ++ behind)
 
 -- a tree in normal form that means what the other one does, and captures the same
 pub record IsOptimized (t optimized : Tree) : Type 0 where
@@ -56,18 +61,18 @@ pub record IsOptimized (t optimized : Tree) : Type 0 where
   pub meaning : MeansTheSame forwards t optimized
   pub captures : captures optimized ≡ captures t
 
+-- an optimized tree of this one
+abbrev pub IsOptimizedShown : Format → Flags → Tree → List ℕ → Type 0
+IsOptimizedShown format flags t bytes = (optimized : Tree) × IsOptimized t optimized × IsShownWith format flags optimized [] bytes
+
 -- what is shown of a parsed tree
 abbrev pub IsShown : Stage → Format → Flags → Tree → List ℕ → Type 0
-IsShown Parsed format flags t bytes = bytes ≡ shown format flags t
-IsShown Optimized format flags t bytes = (optimized : Tree) × IsOptimized t optimized × (bytes ≡ shown format flags optimized)
+IsShown Parsed format flags t bytes = IsShownWith format flags t [] bytes
+IsShown Optimized format flags t bytes = IsOptimizedShown format flags t bytes
 IsShown Both format flags t bytes =
-    (optimized : Tree) × IsOptimized t optimized × (bytes ≡ (shown format flags t ++ codes "--\n") ++ shown format flags optimized)
+    (first second : List ℕ) × IsShownWith format flags t (codes "--\n") first × IsOptimizedShown format flags t second × (bytes ≡ first ++ second)
 
 -- what is shown of a pattern that is accepted
 abbrev pub IsOutput : Stage → Format → Asked → List ℕ → Type 0
 IsOutput stage format asked bytes = (p : Pattern) × IsAccepted asked p
     × IsShown stage format asked.flags (tree_of (table_asked asked.small) p) bytes
-
--- A writer has taken bytes of which this holds. Where it tells what it holds, it holds these more.
-abbrev pub Took : Option (List ℕ) → Option (List ℕ) → (List ℕ → Type 0) → Type 0
-Took old new P = (bytes : List ℕ) × P bytes × Appends old new bytes

@@ -4,7 +4,7 @@ use Rattle.std.specs.declared.alloc.Global.{Global}
 use Rattle.regress_arguments.specs.Request.{Request, request_of}
 use Rattle.regex_tree.specs.declared.request.Asked.{Asked}
 use Rattle.regex_tree.specs.declared.request.Asked.TheVariants.{Tree, Usage}
-use Rattle.regex_tree.specs.declared.request.Format.TheVariants.{Text, Json}
+use Rattle.regex_tree.specs.declared.request.Format.TheVariants.{Text, Json, Svg}
 use Rattle.regex_tree.specs.declared.request.Stage.TheVariants.{Parsed, Optimized}
 use Rattle.regex_tree.specs.declared.request.Options.{Options}
 
@@ -14,6 +14,7 @@ with_option options word =
     if bytes_eq word (codes "--help") || bytes_eq word (codes "-h") then Some (record options { help = true })
     else if bytes_eq word (codes "--text") then Some (record options { format = Text })
     else if bytes_eq word (codes "--json") then Some (record options { format = Json })
+    else if bytes_eq word (codes "--svg") then Some (record options { format = Svg })
     else if bytes_eq word (codes "--parsed") then Some (record options { stage = Some Parsed })
     else if bytes_eq word (codes "--optimized") then Some (record options { stage = Some Optimized })
     else if bytes_eq word (codes "--small") then Some (record options { small = true })

@@ -9,11 +9,12 @@ use std::io::Write;
 
 /// What `--help` writes, and a run whose arguments are none that are taken.
 pub(crate) const USAGE: &str = "\
-usage: regex-tree [--text|--json] [--parsed|--optimized] [--small] [--] PATTERN [FLAGS]
+usage: regex-tree [--text|--json|--svg] [--parsed|--optimized] [--small] [--] PATTERN [FLAGS]
 
 Shows the tree of a pattern. Without options: the parsed tree, --, the optimized one.
   --text       a line for each node
   --json       one JSON object, of the parsed tree unless the other one is asked for
+  --svg        a railroad diagram as an SVG picture, of the same tree
   --parsed     the parsed tree alone
   --optimized  the optimized tree alone
   --small      with the small table: ASCII, and a few more characters

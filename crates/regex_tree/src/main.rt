@@ -1,4 +1,4 @@
-//! `regex-tree [--json|--text] [--parsed|--optimized] [--small] [--] PATTERN [FLAGS]` shows the tree of a pattern.
+//! `regex-tree [--text|--json|--svg] [--parsed|--optimized] [--small] [--] PATTERN [FLAGS]` shows the tree of a pattern.
 //! It ends with the status that `run_tree` answers. An argument that isn't UTF-8 is none that is taken: status 2 and the
 //! usage. Want of memory for the arguments or the buffer is status 3, as elsewhere.
 #![tactic(auto)]
@@ -102,7 +102,7 @@ fn tell_fault<W: Write, E: Write>(
     ensures { (result ≡ 1) ⊎ (result ≡ 4) }
 {
     match request.format {
-        Format::Text => {
+        Format::Text | Format::Svg => {
             let _ = write_fault(error, request.pattern, place, err);
             1
         }

@@ -27,6 +27,8 @@ pub(crate) enum Format {
     /// A line for each node.
     Text,
     Json,
+    /// A picture.
+    Svg,
 }
 
 /// Which tree is shown.
@@ -55,12 +57,12 @@ const NO_OPTIONS: Options = Options {
 };
 
 impl Options {
-    /// The tree that is asked for. JSON is of one tree.
+    /// The tree that is asked for. JSON and a picture are of one tree.
     fn stage(&self) -> Stage {
         match (self.stage, self.format) {
             (Some(stage), _) => stage,
             (None, Format::Text) => Stage::Both,
-            (None, Format::Json) => Stage::Parsed,
+            (None, Format::Json | Format::Svg) => Stage::Parsed,
         }
     }
 }
@@ -119,6 +121,10 @@ fn with_option(options: Options, word: &str) -> Option<Options>
         }),
         "--json" => Some(Options {
             format: Format::Json,
+            ..options
+        }),
+        "--svg" => Some(Options {
+            format: Format::Svg,
             ..options
         }),
         "--parsed" => Some(Options {

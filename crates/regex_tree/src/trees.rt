@@ -1,16 +1,20 @@
 //! The trees that are shown of a pattern.
 ghost use Rattle.std.specs.Prelude.{◌≡◌, ◌⊎◌, ◌++◌, IfOk, IfErr, OnOk, chars, codes};
 ghost use Rattle.std.specs.Io.KnownBytes.{Appends};
+ghost use Rattle.regress_arguments.specs.Output.{Took};
 ghost use Rattle.regress_unicode.specs.TableOf.{table_of};
+ghost use Rattle.regress_tree.specs.Display.{printed};
 ghost use Rattle.regress_tree.specs.Tree.{tree};
 ghost use Rattle.regress_tree.specs.WellFormed.{IsWellFormed};
+ghost use Rattle.regress_show.specs.Json.{json_of};
 ghost use Rattle.regex_tree.specs.declared.failure.Failure.TheVariants.{Memory, Output};
 ghost use Rattle.regex_tree.specs.Ending.{IsDue};
-ghost use Rattle.regex_tree.specs.Shown.{IsAcceptedPattern, IsOutput, IsShown, Took, asked, shown, table_asked};
+ghost use Rattle.regex_tree.specs.Shown.{IsOptimizedShown, IsOutput, IsShown, IsShownWith, asked, table_asked};
 
 use crate::failure::Failure;
 use crate::request::{Format, Request, Stage};
 use regress_base::util::code_points;
+use regress_diagram::svg;
 use regress_opt::optimize;
 use regress_parse::try_parse_with_place;
 use regress_show::Json;
@@ -49,7 +53,7 @@ fn tables(alloc: Global, small: bool) -> Result<Tables, AllocError>
 /// Shows what was parsed. The parsed tree is written and flushed before the optimized one is made.
 fn show_parsed<W: Write>(
     alloc: Global,
-    mut regex: Regex,
+    regex: Regex,
     stage: Stage,
     format: Format,
     out: &mut W,
@@ -59,39 +63,55 @@ fn show_parsed<W: Write>(
     ensures failed { IfErr result (λ failure. (failure ≡ Memory) ⊎ (failure ≡ Output)) }
 {
     match stage {
-        Stage::Parsed => write_tree(&regex, format, "", out),
-        Stage::Optimized => {
-            optimize(alloc, &mut regex)?;
-            write_tree(&regex, format, "", out)
-        }
+        Stage::Parsed => write_tree(alloc, &regex, format, "", out),
+        Stage::Optimized => show_optimized(alloc, regex, format, out),
         Stage::Both => {
-            write_tree(&regex, format, "--\n", out)?;
-            optimize(alloc, &mut regex)?;
-            write_tree(&regex, format, "", out)
+            write_tree(alloc, &regex, format, "--\n", out)?;
+            show_optimized(alloc, regex, format, out)
         }
     }
 }
 
-/// Writes a tree and what comes behind it, and flushes: what is written then stays written.
+/// Makes the optimized tree, and shows that.
+fn show_optimized<W: Write>(
+    alloc: Global,
+    mut regex: Regex,
+    format: Format,
+    out: &mut W,
+) -> Result<(), Failure>
+    requires { IsWellFormed (tree regex.node) }
+    ensures shown { OnOk result (Took (W.contents out.old) (W.contents out.new) (IsOptimizedShown format regex.flags (tree regex.node))) }
+    ensures failed { IfErr result (λ failure. (failure ≡ Memory) ⊎ (failure ≡ Output)) }
+{
+    optimize(alloc, &mut regex)?;
+    write_tree(alloc, &regex, format, "", out)
+}
+
+/// Writes a tree and what comes behind it, and flushes: what is written then stays written. A picture is made whole before
+/// any of it is written.
 fn write_tree<W: Write>(
+    alloc: Global,
     regex: &Regex,
     format: Format,
     behind: &str,
     out: &mut W,
 ) -> Result<(), Failure>
-    ensures written { OnOk result (Appends (W.contents out.old) (W.contents out.new)
-        (shown format regex.now.flags (tree regex.now.node) ++ behind.now)) }
-    ensures failed { IfErr result (λ failure. failure ≡ Output) }
+    ensures written { OnOk result (Took (W.contents out.old) (W.contents out.new)
+        (IsShownWith format regex.now.flags (tree regex.now.node) behind.now)) }
+    ensures failed { IfErr result (λ failure. (failure ≡ Memory) ⊎ (failure ≡ Output)) }
 {
     match format {
         Format::Text => write_text(regex, behind, out).map_err(|_| Failure::Output),
         Format::Json => write_json(regex, behind, out).map_err(|_| Failure::Output),
+        Format::Svg => {
+            let picture = svg(alloc, regex)?;
+            write_picture(&picture, behind, out).map_err(|_| Failure::Output)
+        }
     }
 }
 
 fn write_text<W: Write>(regex: &Regex, behind: &str, out: &mut W) -> io::Result<()>
-    ensures { OnOk result (Appends (W.contents out.old) (W.contents out.new)
-        (shown (Format.Text) regex.now.flags (tree regex.now.node) ++ behind.now)) }
+    ensures { OnOk result (Appends (W.contents out.old) (W.contents out.new) (printed (tree regex.now.node) ++ behind.now)) }
 {
     write!(out, "{regex}{behind}")?;
     out.flush()
@@ -99,9 +119,16 @@ fn write_text<W: Write>(regex: &Regex, behind: &str, out: &mut W) -> io::Result<
 
 fn write_json<W: Write>(regex: &Regex, behind: &str, out: &mut W) -> io::Result<()>
     ensures { OnOk result (Appends (W.contents out.old) (W.contents out.new)
-        (shown (Format.Json) regex.now.flags (tree regex.now.node) ++ behind.now)) }
+        ((json_of regex.now.flags (tree regex.now.node) ++ codes "\n") ++ behind.now)) }
 {
     let json = Json(regex);
     write!(out, "{json}\n{behind}")?;
+    out.flush()
+}
+
+fn write_picture<W: Write>(picture: &str, behind: &str, out: &mut W) -> io::Result<()>
+    ensures { OnOk result (Appends (W.contents out.old) (W.contents out.new) ((picture.now ++ codes "\n") ++ behind.now)) }
+{
+    write!(out, "{picture}\n{behind}")?;
     out.flush()
 }

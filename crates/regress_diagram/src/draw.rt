@@ -1,0 +1,110 @@
+//! From what is drawn to a sheet.
+ghost use Rattle.std.specs.Prelude.{◌≡◌, OnOk};
+
+use crate::boxes::track_step;
+use crate::diagram::{Diagram, NO_ROOM, Place, Room, clear};
+use crate::parts::{draw_box, draw_end, draw_frame, draw_sides, draw_turns, middle};
+use crate::row::row_step;
+use crate::style::{GAP, RADIUS};
+use crate::ways::{Drawn, draw_branch, draw_fork, draw_line, draw_way_back, draw_way_up};
+use regress_markup::Sheet;
+
+/// Draws a part whose line comes in at a place.
+#[cycle(draw)]
+pub(crate) fn draw(diagram: &Diagram, at: Place, sheet: &mut Sheet) -> Drawn
+    ensures { OnOk result (sheet.new.depth ≡ sheet.old.depth) }
+{
+    match diagram {
+        Diagram::Line => Ok(()),
+        Diagram::End => draw_end(at, sheet),
+        Diagram::Boxed { kind, label, room } => draw_box(*kind, label, *room, at, sheet),
+        Diagram::Row { parts, .. } => draw_row(parts, at, sheet),
+        Diagram::Rows { rows, room } => draw_rows(rows, *room, at, sheet),
+        Diagram::Tracks { tracks, room } => draw_tracks(tracks, *room, at, sheet),
+        Diagram::Loop { turns, body, room } => {
+            draw_turns(turns, body.room(), *room, at, sheet)?;
+            draw_sides(body.room(), *room, at, sheet)?;
+            draw(body, middle(body.room().width, *room, at), sheet)
+        }
+        Diagram::Frame {
+            kind,
+            label,
+            body,
+            room,
+        } => {
+            sheet.open_group("framed")?;
+            draw_frame(*kind, label, *room, at, sheet)?;
+            draw_sides(body.room(), *room, at, sheet)?;
+            draw(body, middle(body.room().width, *room, at), sheet)?;
+            sheet.close_group()
+        }
+    }
+}
+
+/// Draws parts with lines between.
+#[cycle(draw)]
+fn draw_row(parts: &[Diagram], at: Place, sheet: &mut Sheet) -> Drawn
+    ensures { OnOk result (sheet.new.depth ≡ sheet.old.depth) }
+{
+    let mut place = at;
+    for (index, part) in parts.iter().enumerate() {
+        if index > 0 {
+            draw_line(place, place.right(GAP), sheet)?;
+            place = place.right(GAP);
+        }
+        draw(part, place, sheet)?;
+        place = place.right(part.room().width);
+    }
+    Ok(())
+}
+
+/// Draws rows, and the ways from one to the next.
+#[cycle(draw)]
+fn draw_rows(rows: &[Diagram], room: Room, at: Place, sheet: &mut Sheet) -> Drawn
+    ensures { OnOk result (sheet.new.depth ≡ sheet.old.depth) }
+{
+    let mut place = at.right(2 * RADIUS);
+    draw_line(at, place, sheet)?;
+    let mut last = NO_ROOM;
+    let mut goes_on = true;
+    for (index, row) in rows.iter().enumerate() {
+        if index > 0 {
+            let end = place.right(last.width);
+            let start = place.down(row_step(last, row.room()));
+            draw_way_back(end, clear(last.below), start, sheet)?;
+            place = start;
+        }
+        draw(row, place, sheet)?;
+        goes_on = !row.ends_the_line();
+        last = row.room();
+    }
+    if goes_on {
+        draw_way_up(place.right(last.width), at.right(room.width), sheet)?;
+    }
+    Ok(())
+}
+
+/// Draws tracks, the first one on the line.
+#[cycle(draw)]
+fn draw_tracks(tracks: &[Diagram], room: Room, at: Place, sheet: &mut Sheet) -> Drawn
+    ensures { OnOk result (sheet.new.depth ≡ sheet.old.depth) }
+{
+    draw_fork(room, at, sheet)?;
+    let mut upper = at.down(RADIUS);
+    let mut place = at.right(2 * RADIUS);
+    let mut last = NO_ROOM;
+    for (index, track) in tracks.iter().enumerate() {
+        let next = track.room();
+        if index == 0 {
+            draw_line(at, place, sheet)?;
+            draw_line(place.right(next.width), at.right(room.width), sheet)?;
+        } else {
+            place = place.down(track_step(last, next));
+            draw_branch(upper, room, place, place.right(next.width), sheet)?;
+            upper = Place { x: at.x, ..place }.up(RADIUS);
+        }
+        draw(track, place, sheet)?;
+        last = next;
+    }
+    Ok(())
+}

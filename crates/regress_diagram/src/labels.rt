@@ -1,0 +1,100 @@
+//! What is written in boxes, on frames and below loops.
+
+use crate::symbols::columns;
+use regress_base::types::{AnchorType, Quantifier};
+use std::alloc::{AllocError, Global};
+
+/// What is written in a box: words in front, what the pattern has, and words behind.
+#[derive(Drop)]
+pub(crate) struct Label {
+    pub(crate) front: &'static str,
+    pub(crate) text: String,
+    pub(crate) behind: &'static str,
+}
+
+impl Label {
+    /// Words alone.
+    pub(crate) fn words(alloc: Global, words: &'static str) -> Label {
+        Label {
+            front: words,
+            text: String::new(alloc),
+            behind: "",
+        }
+    }
+
+    /// The column at which the text begins.
+    pub(crate) fn text_column(&self) -> u32 {
+        column_behind(self.front)
+    }
+
+    /// The column at which the words behind begin.
+    pub(crate) fn behind_column(&self) -> u32 {
+        self.text_column().saturating_add(column_behind(&self.text))
+    }
+
+    /// How many columns it takes.
+    pub(crate) fn columns(&self) -> u32 {
+        self.behind_column()
+            .saturating_add(column_behind(self.behind))
+            .saturating_sub(1)
+    }
+}
+
+/// The column behind a text and a space, or the first one where there is no text.
+fn column_behind(text: &str) -> u32 {
+    if text.is_empty() {
+        0
+    } else {
+        columns(text).saturating_add(1)
+    }
+}
+
+pub(crate) fn anchor_words(end: AnchorType, multiline: bool) -> &'static str {
+    match (end, multiline) {
+        (AnchorType::StartOfLine, false) => "start of text",
+        (AnchorType::StartOfLine, true) => "start of line",
+        (AnchorType::EndOfLine, false) => "end of text",
+        (AnchorType::EndOfLine, true) => "end of line",
+    }
+}
+
+pub(crate) fn lookaround_words(negate: bool, backwards: bool) -> &'static str {
+    match (negate, backwards) {
+        (false, false) => "followed by",
+        (true, false) => "not followed by",
+        (false, true) => "preceded by",
+        (true, true) => "not preceded by",
+    }
+}
+
+/// A group, counted from 1, with its name between quotation marks.
+pub(crate) fn group_text(
+    alloc: Global,
+    front: &str,
+    group: u32,
+    name: Option<&String>,
+) -> Result<String, AllocError> {
+    match name {
+        Some(name) => Ok(format!(in alloc; "{front}{group} {name}")?),
+        None => Ok(format!(in alloc; "{front}{group}")?),
+    }
+}
+
+/// How many turns a loop takes, and whether it takes few first. It is empty where the lines tell that.
+pub(crate) fn turns_text(alloc: Global, quant: &Quantifier) -> Result<String, AllocError> {
+    let mut text = times(alloc, quant.min, quant.max)?;
+    if !quant.greedy && quant.max != Some(quant.min) {
+        text.push_str(if text.is_empty() { "lazy" } else { ", lazy" })?;
+    }
+    Ok(text)
+}
+
+fn times(alloc: Global, min: usize, max: Option<usize>) -> Result<String, AllocError> {
+    match (min, max) {
+        (0, Some(1)) => Ok(String::new(alloc)),
+        (1, Some(1)) => String::from_str(alloc, "once"),
+        (min, None) => Ok(format!(in alloc; "{min} or more")?),
+        (min, Some(max)) if min == max => Ok(format!(in alloc; "{min} times")?),
+        (min, Some(max)) => Ok(format!(in alloc; "{min} to {max} times")?),
+    }
+}

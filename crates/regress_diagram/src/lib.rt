@@ -1,0 +1,19 @@
+//! Railroad diagrams of patterns, as SVG.
+#![tactic(auto)]
+
+mod boxes;
+mod diagram;
+mod draw;
+mod labels;
+mod layout;
+mod listing;
+mod names;
+mod parts;
+mod picture;
+mod row;
+mod sets;
+mod style;
+mod symbols;
+mod ways;
+
+pub use picture::svg;

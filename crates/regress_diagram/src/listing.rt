@@ -1,0 +1,59 @@
+//! Lists in boxes, which are cut where they are long.
+
+use crate::symbols::columns;
+use std::alloc::{AllocError, Global};
+
+/// How many columns a list has, but for what is said of the rest.
+const LIST_COLUMNS: u32 = 44;
+
+/// A list with spaces between its items. Behind an item that has no room none is written.
+#[derive(Drop)]
+pub(crate) struct Listing {
+    text: String,
+    columns: u32,
+    /// How many items are written.
+    written: usize,
+    /// How many have no room.
+    left_out: usize,
+}
+
+impl Listing {
+    pub(crate) fn new(alloc: Global) -> Listing {
+        Listing {
+            text: String::new(alloc),
+            columns: 0,
+            written: 0,
+            left_out: 0,
+        }
+    }
+
+    /// Adds an item. The first one has room always.
+    pub(crate) fn push(&mut self, item: &str) -> Result<(), AllocError> {
+        let wider = self.columns.saturating_add(columns(item)).saturating_add(1);
+        if self.left_out > 0 || (self.written > 0 && wider > LIST_COLUMNS) {
+            self.left_out = self.left_out.saturating_add(1);
+            return Ok(());
+        }
+        if self.written > 0 {
+            self.text.push(' ')?;
+        }
+        self.columns = wider;
+        self.written = self.written.saturating_add(1);
+        self.text.push_str(item)
+    }
+
+    /// Whether it has one item.
+    pub(crate) fn is_single(&self) -> bool {
+        self.written == 1 && self.left_out == 0
+    }
+
+    /// The text, which says how many items are left out.
+    pub(crate) fn finish(self, alloc: Global) -> Result<String, AllocError> {
+        let left_out = self.left_out;
+        let mut text = self.text;
+        if left_out > 0 {
+            text.push_str(&format!(in alloc; " … {left_out} more")?)?;
+        }
+        Ok(text)
+    }
+}

@@ -1,0 +1,158 @@
+//! What is drawn of one part, without those in it.
+ghost use Rattle.std.specs.Prelude.{◌≡◌, OnOk};
+
+use crate::diagram::{BoxKind, FrameKind, Place, Room, Turns, clear};
+use crate::labels::Label;
+use crate::style::{END, HALF, NOTE, PADDING, text_width};
+use crate::symbols::columns;
+use crate::ways::{Drawn, draw_line, draw_way_over, draw_way_under};
+use regress_markup::{Element, Sheet};
+
+fn draw_text(class: &str, text: &str, at: Place, sheet: &mut Sheet) -> Drawn
+    ensures { OnOk result (sheet.new.depth ≡ sheet.old.depth) }
+{
+    if text.is_empty() {
+        return Ok(());
+    }
+    let (x, y) = (at.x, at.y);
+    sheet.draw(Element::Text {
+        class,
+        x,
+        y,
+        text,
+        note: "",
+    })
+}
+
+fn draw_rectangle(class: &str, radius: u32, room: Room, at: Place, sheet: &mut Sheet) -> Drawn
+    ensures { OnOk result (sheet.new.depth ≡ sheet.old.depth) }
+{
+    sheet.draw(Element::Rectangle {
+        class,
+        x: at.x,
+        y: at.up(room.above).y,
+        width: room.width,
+        height: room.height(),
+        radius,
+    })
+}
+
+/// Draws a mark of a line.
+pub(crate) fn draw_circle(class: &str, radius: u32, middle: Place, sheet: &mut Sheet) -> Drawn
+    ensures { OnOk result (sheet.new.depth ≡ sheet.old.depth) }
+{
+    let (x, y) = (middle.x, middle.y);
+    sheet.draw(Element::Circle {
+        class,
+        x,
+        y,
+        radius,
+    })
+}
+
+/// Draws the end of the line, a ring with a dot in it.
+pub(crate) fn draw_end(at: Place, sheet: &mut Sheet) -> Drawn
+    ensures { OnOk result (sheet.new.depth ≡ sheet.old.depth) }
+{
+    draw_circle("ring", END, at.right(END), sheet)?;
+    draw_circle("mark", END - 3, at.right(END), sheet)
+}
+
+/// Draws a box with its label.
+pub(crate) fn draw_box(
+    kind: BoxKind,
+    label: &Label,
+    room: Room,
+    at: Place,
+    sheet: &mut Sheet,
+) -> Drawn
+    ensures { OnOk result (sheet.new.depth ≡ sheet.old.depth) }
+{
+    let (class, radius) = match kind {
+        BoxKind::Literal => ("literal", 4),
+        BoxKind::Set => ("set", 4),
+        BoxKind::Position => ("position", HALF),
+        BoxKind::Reference => ("reference", 4),
+        BoxKind::Never => ("never", 4),
+    };
+    sheet.open_group(class)?;
+    draw_rectangle("box", radius, room, at, sheet)?;
+    draw_label(label, at.right(PADDING).down(5), sheet)?;
+    sheet.close_group()
+}
+
+fn draw_label(label: &Label, at: Place, sheet: &mut Sheet) -> Drawn
+    ensures { OnOk result (sheet.new.depth ≡ sheet.old.depth) }
+{
+    let text = at.right(text_width(label.text_column()));
+    let behind = at.right(text_width(label.behind_column()));
+    draw_text("word", label.front, at, sheet)?;
+    draw_text("text", &label.text, text, sheet)?;
+    draw_text("word", label.behind, behind, sheet)
+}
+
+/// Draws a frame and its label, as the first of a group, which it names.
+pub(crate) fn draw_frame(
+    kind: FrameKind,
+    label: &str,
+    room: Room,
+    at: Place,
+    sheet: &mut Sheet,
+) -> Drawn
+    ensures { OnOk result (sheet.new.depth ≡ sheet.old.depth) }
+{
+    let (class, title) = match kind {
+        FrameKind::Group => ("frame", "What is matched here is captured."),
+        FrameKind::Around => (
+            "frame around",
+            "This has to be matched there, and isn't taken.",
+        ),
+        FrameKind::Without => ("frame without", "This must not be matched there."),
+    };
+    sheet.draw(Element::Title(title))?;
+    draw_rectangle(class, 6, room, at, sheet)?;
+    let place = at.up(room.above).right(PADDING).down(NOTE - 2);
+    draw_text("small", label, place, sheet)
+}
+
+/// Draws the line at both sides of what stands in the middle of a room.
+pub(crate) fn draw_sides(body: Room, room: Room, at: Place, sheet: &mut Sheet) -> Drawn
+    ensures { OnOk result (sheet.new.depth ≡ sheet.old.depth) }
+{
+    let start = middle(body.width, room, at);
+    draw_line(at, start, sheet)?;
+    draw_line(start.right(body.width), at.right(room.width), sheet)
+}
+
+/// Where what is so wide begins in the middle of a room.
+pub(crate) fn middle(width: u32, room: Room, at: Place) -> Place {
+    at.right(room.width.saturating_sub(width) / 2)
+}
+
+/// Draws the lines of a loop above and below its body, and what is written there.
+pub(crate) fn draw_turns(
+    turns: &Turns,
+    body: Room,
+    room: Room,
+    at: Place,
+    sheet: &mut Sheet,
+) -> Drawn
+    ensures { OnOk result (sheet.new.depth ≡ sheet.old.depth) }
+{
+    if turns.none {
+        draw_way_over(clear(body.above), at, at.right(room.width), sheet)?;
+    }
+    let mut below = body.below;
+    if turns.again {
+        below = clear(body.below);
+        let start = middle(body.width, room, at);
+        draw_way_under(below, start, start.right(body.width), sheet)?;
+    }
+    let note = middle(text_width(columns(&turns.label)), room, at);
+    draw_text(
+        "small",
+        &turns.label,
+        note.down(below).down(NOTE - 2),
+        sheet,
+    )
+}

@@ -1,0 +1,11 @@
+//! Pictures as SVG whose markup is well formed: they hold elements of a fixed list, and each text is escaped.
+#![tactic(auto)]
+
+mod element;
+mod escape;
+mod law;
+mod sheet;
+
+pub use element::{Element, Step};
+pub use law::texts_hold_no_markup;
+pub use sheet::Sheet;
