@@ -1,7 +1,7 @@
 //! What a line comes to.
 
 use crate::generated::parts_of_large;
-use crate::parsing::find_fault;
+use crate::parsing::{find_fault, tell_bound, tell_spans};
 use crate::tear::parse_all_torn;
 use crate::trees::{make_on_tree, tell_trees, whole};
 use regress_base::types::Flags;
@@ -86,6 +86,8 @@ fn make_under_flags(call: &mut Call, name: &str, tables: &Tables) {
         "ascend" | "descend" | "named" => parts_of_large(call, name, flags, tables),
         "whole" => whole(call, flags, tables),
         "place" => find_fault(call, flags, tables),
+        "spans" => tell_spans(call, flags, tables),
+        "bound" => tell_bound(call, flags),
         _ => make_on_tree(call, name, flags, tables),
     }
 }

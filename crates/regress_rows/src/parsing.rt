@@ -4,8 +4,10 @@ ghost use Rattle.regress_tree.specs.Tree.{tree};
 ghost use Rattle.regress_tree.specs.WellFormed.{IsWellFormed};
 
 use regress_base::types::Flags;
+use regress_bound::node_bound;
 use regress_notation::{Call, Fault, Promise};
 use regress_parse::{Error, ParseFault, PlacedFault, try_parse, try_parse_with_place};
+use regress_spans::{Span, try_parse_with_spans};
 use regress_tree::ir::Regex;
 use regress_unicode::Tables;
 
@@ -55,4 +57,29 @@ pub(crate) fn find_fault(call: &mut Call, flags: Flags, tables: &Tables) {
         }
         Err(PlacedFault::Memory(_)) => call.fail(Fault::Memory),
     }
+}
+
+/// Where each node of a pattern's tree stands; where it has none, its fault is told.
+pub(crate) fn tell_spans(call: &mut Call, flags: Flags, tables: &Tables) {
+    let points = call.pattern();
+    match try_parse_with_spans(call.alloc(), &points, flags, tables) {
+        Ok(found) => {
+            for span in &found.spans {
+                tell_span(call, *span);
+            }
+        }
+        Err(fault) => tell_fault(call, ParseFault::from(fault)),
+    }
+}
+
+fn tell_span(call: &mut Call, span: Span) {
+    call.tell(&span.start);
+    call.say("-");
+    call.add(&span.end);
+}
+
+/// How many nodes the tree of a pattern has at most.
+pub(crate) fn tell_bound(call: &mut Call, flags: Flags) {
+    let points = call.pattern();
+    call.tell(&node_bound(&points, flags));
 }
