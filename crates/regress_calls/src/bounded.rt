@@ -1,4 +1,4 @@
-//! Parses a pattern only where its tree is small. docs/CALLING.md has this text.
+//! Parses a pattern only where its tree is small. docs/CALLING.md shows parts of it.
 ghost use Rattle.std.specs.Prelude.{◌<◌, All, IfOk, IfSome};
 ghost use Rattle.regress_front.specs.Source.{IsCodePoint};
 ghost use Rattle.regress_front.specs.Tree.{tree};

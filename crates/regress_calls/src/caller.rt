@@ -1,4 +1,4 @@
-//! A caller of the library. docs/CALLING.md has this text.
+//! A caller of the library. docs/CALLING.md shows parts of it.
 ghost use Rattle.std.specs.Prelude.{IfOk, chars};
 ghost use Rattle.regress_front.specs.SmallTable.{small_table};
 ghost use Rattle.regress_front.specs.Fault.{RefusedOnlyIf};

@@ -1,4 +1,4 @@
-//! Shows where a pattern's fault is. docs/CALLING.md has this text.
+//! Shows where a pattern's fault is. docs/CALLING.md shows parts of it.
 use regress_front::parse::{PlacedFault, try_parse_with_place};
 use regress_front::types::Flags;
 use regress_front::unicode::Tables;

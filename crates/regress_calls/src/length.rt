@@ -1,4 +1,4 @@
-//! A recursion of a caller's own over a tree. docs/CALLING.md has this text.
+//! A recursion of a caller's own over a tree. docs/CALLING.md shows parts of it.
 ghost use Rattle.std.specs.Prelude.{◌≡◌};
 ghost use Rattle.regress_front.specs.Tree.{tree, trees, cat};
 ghost use Rattle.regress_tree.specs.Onward.{TakesAtLeast};

@@ -1,4 +1,4 @@
-//! A linter, which is what a user of the tree writes first. docs/CALLING.md has this text.
+//! A linter, which is what a user of the tree writes first. docs/CALLING.md shows parts of it.
 ghost use Rattle.std.specs.Prelude.{◌≡◌, ◌≤◌, ◌++◌, [], ◌∷◌, IfOk, OnOk, option_map, string_bytes};
 ghost use Rattle.regress_front.specs.Tree.{tree};
 ghost use Rattle.regress_front.specs.WellFormed.{captures};

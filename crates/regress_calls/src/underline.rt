@@ -1,4 +1,4 @@
-//! A linter that underlines what it warns of. docs/CALLING.md has this text.
+//! A linter that underlines what it warns of. docs/CALLING.md shows parts of it.
 use regress_front::ir::{Node, Walk, walk};
 use regress_front::parse::{PlacedFault, try_parse_with_spans};
 use regress_front::types::Flags;
