@@ -3,8 +3,8 @@ use Rattle.regress_tree.specs.Tree.{tree}
 use Rattle.regex_tree.proofs.ShownLemmas.{shows_both}
 use Rattle.regex_tree.proofs.trees.show_parsed.Goals as goal
 
-pub returns-clause-shown : goal.returns-clause-shown
-returns-clause-shown g c =
+pub returns-in_ok-write_tree-in-Both-clause-shown : goal.returns-in_ok-write_tree-in-Both-clause-shown
+returns-in_ok-write_tree-in-Both-clause-shown g c =
     let contents = g.W.Write.contents in
     rw c.in-Both.is
     (shows_both c.args.format c.args.regex.flags (tree c.args.regex.node) c.show_optimized-in-Both.result (contents c.args.out.now)
