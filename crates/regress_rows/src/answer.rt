@@ -1,6 +1,7 @@
 //! What a line comes to.
 
 use crate::generated::parts_of_large;
+use crate::matching::match_difference;
 use crate::parsing::{find_fault, tell_bound, tell_spans};
 use crate::tear::parse_all_torn;
 use crate::trees::{make_on_tree, tell_trees, whole};
@@ -12,7 +13,8 @@ use regress_unicode::{Tables, TablesError};
 use std::alloc::{AllocError, Global};
 use std::hash::{DefaultHasher, Hash, Hasher};
 
-/// What a line comes to over a table, if it should come to something else. A line that begins with flags is a row.
+/// What a line comes to over a table, if it should come to something else. A line that begins with flags is a row, and
+/// one that begins with `match` is for the matcher.
 pub(crate) fn difference_over(
     alloc: Global,
     line: &str,
@@ -23,6 +25,7 @@ pub(crate) fn difference_over(
     };
     match read_flags(first) {
         Some(flags) => row_difference(alloc, flags, row, tables),
+        None if first == "match" => match_difference(alloc, row, tables),
         None => call_difference(alloc, line, tables),
     }
 }

@@ -1,9 +1,9 @@
-//! Lines of data, read from standard input, that say what a pattern or a call comes to, compared with the library's
-//! answers over the small table, or over that of all of Unicode. So that a line costs no proof, a program reads them.
-//! The head of the file `stdin` tells the forms of lines.
+//! Lines of data, read from standard input, that say what a pattern or a call comes to, or what a pattern finds in a
+//! text, compared with the answers of the library and of the matcher over the small table, or over that of all of
+//! Unicode. So that a line costs no proof, a program reads them. The head of the file `stdin` tells the forms of lines.
 //!
 //! Where memory is wanting, in any of them, the program looks whether the call has kept what it promises then;
-//! `tools/refuse_growth` refuses each growth of each call in turn.
+//! `tools/refuse_growth` refuses each growth of each call in turn, and of some searches.
 //!
 //! A line that comes to something else is told with its number, and so is a promise that is broken, and behind the last
 //! line stands how many hold. The status is 0 if all lines hold, 1 if one doesn't, 2 at a line of no form, 3 if memory
@@ -13,7 +13,10 @@
 
 mod answer;
 mod generated;
+mod matching;
+mod outcome;
 mod parsing;
+mod places;
 mod tables;
 mod tear;
 mod trees;

@@ -1,0 +1,57 @@
+//! What a line for the matcher comes to.
+
+use crate::outcome::{answer_question, read_question};
+use crate::parsing::read_tree;
+use crate::trees::optimize_watched;
+use regress_notation::{Call, Fault};
+use regress_unicode::Tables;
+use std::alloc::Global;
+
+/// What a line comes to by the tree as it is parsed or by the optimized one, if it should come to something else.
+pub(crate) fn match_difference(
+    alloc: Global,
+    line: &str,
+    tables: &Tables,
+) -> Result<Option<String>, Fault> {
+    let Some((fields, expected)) = line.rsplit_once('\t') else {
+        return Err(Fault::Line);
+    };
+    let mut call = Call::new(alloc, expected);
+    let expected = read_text(&mut call);
+    call.finish()?;
+    let found = answer(alloc, fields, tables, false).difference(&expected)?;
+    if found.is_some() {
+        return Ok(found);
+    }
+    match answer(alloc, fields, tables, true).difference(&expected)? {
+        Some(found) => Ok(Some(format!(in alloc; "{found} by the optimized tree")?)),
+        None => Ok(None),
+    }
+}
+
+/// What the parsed tree of a line's pattern answers, or the optimized one, or the pattern's fault.
+fn answer<'a>(alloc: Global, fields: &'a str, tables: &Tables, is_optimized: bool) -> Call<'a> {
+    let mut call = Call::new(alloc, fields);
+    let question = read_question(&mut call);
+    let flags = call.flags();
+    let read = read_tree(&mut call, flags, tables);
+    let text = read_text(&mut call);
+    if let Some(regex) = read {
+        let mut regex = regex;
+        if is_optimized {
+            optimize_watched(&mut call, &mut regex);
+        }
+        answer_question(&mut call, question, &regex, tables, &text);
+    }
+    call
+}
+
+/// A text as a line writes it.
+fn read_text(call: &mut Call) -> String {
+    let mut text = String::new(call.alloc());
+    for point in &call.pattern() {
+        let character = call.read(char::from_u32(*point), ' ');
+        call.done(text.push(character));
+    }
+    text
+}
