@@ -1,6 +1,6 @@
 //! Parts with the room that they take.
 
-use crate::diagram::{BoxKind, Diagram, FrameKind, NO_ROOM, Room, Turns, clear};
+use crate::diagram::{BoxKind, Diagram, FrameKind, NO_ROOM, Room, Shape, Turns, clear};
 use crate::labels::Label;
 use crate::style::{GAP, HALF, NOTE, PADDING, RADIUS, text_width};
 use crate::symbols::columns;
@@ -13,7 +13,7 @@ pub(crate) fn boxed(kind: BoxKind, label: Label) -> Diagram {
         above: HALF,
         below: HALF,
     };
-    Diagram::Boxed { kind, label, room }
+    Diagram::new(Shape::Boxed { kind, label }, room)
 }
 
 /// A box of characters that are matched as they stand, or in either case.
@@ -48,7 +48,7 @@ pub(crate) fn tracks(tracks: Vec<Diagram>) -> Diagram {
     let mut room = NO_ROOM;
     let mut last = NO_ROOM;
     for (index, track) in tracks.iter().enumerate() {
-        let next = track.room();
+        let next = track.room;
         if index == 0 {
             room.above = next.above;
         } else {
@@ -59,12 +59,12 @@ pub(crate) fn tracks(tracks: Vec<Diagram>) -> Diagram {
     }
     room.width = room.width.saturating_add(4 * RADIUS);
     room.below = room.below.saturating_add(last.below);
-    Diagram::Tracks { tracks, room }
+    Diagram::new(Shape::Tracks(tracks), room)
 }
 
 /// A loop, with a turn at each side.
 pub(crate) fn turning(alloc: Global, turns: Turns, body: Diagram) -> Result<Diagram, AllocError> {
-    let mut room = body.room();
+    let mut room = body.room;
     let label = text_width(columns(&turns.label));
     if turns.none {
         room.above = clear(room.above);
@@ -77,7 +77,7 @@ pub(crate) fn turning(alloc: Global, turns: Turns, body: Diagram) -> Result<Diag
     }
     room.width = room.width.max(label).saturating_add(4 * RADIUS);
     let body = Box::new(alloc, body)?;
-    Ok(Diagram::Loop { turns, body, room })
+    Ok(Diagram::new(Shape::Loop { turns, body }, room))
 }
 
 /// A frame, with its label at the top.
@@ -87,7 +87,7 @@ pub(crate) fn framed(
     label: String,
     body: Diagram,
 ) -> Result<Diagram, AllocError> {
-    let inner = body.room();
+    let inner = body.room;
     let width = inner.width.max(text_width(columns(&label)));
     let room = Room {
         width: width.saturating_add(2 * PADDING),
@@ -95,10 +95,5 @@ pub(crate) fn framed(
         below: inner.below.saturating_add(GAP),
     };
     let body = Box::new(alloc, body)?;
-    Ok(Diagram::Frame {
-        kind,
-        label,
-        body,
-        room,
-    })
+    Ok(Diagram::new(Shape::Frame { kind, label, body }, room))
 }

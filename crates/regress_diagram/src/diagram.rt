@@ -98,7 +98,17 @@ pub(crate) struct Turns {
 
 /// A part of the picture.
 #[derive(Drop)]
-pub(crate) enum Diagram {
+#[cycle(diagram)]
+pub(crate) struct Diagram {
+    pub(crate) shape: Shape,
+    /// The part of the pattern as it was written, if that is known.
+    pub(crate) title: Option<String>,
+    pub(crate) room: Room,
+}
+
+#[derive(Drop)]
+#[cycle(diagram)]
+pub(crate) enum Shape {
     /// The line alone.
     Line,
     /// The end of the line.
@@ -106,58 +116,52 @@ pub(crate) enum Diagram {
     Boxed {
         kind: BoxKind,
         label: Label,
-        room: Room,
     },
     /// Parts one after the other.
-    Row {
-        parts: Vec<Diagram>,
-        room: Room,
-    },
+    Row(Vec<Diagram>),
     /// A row that goes on in further ones below.
-    Rows {
-        rows: Vec<Diagram>,
-        room: Room,
-    },
+    Rows(Vec<Diagram>),
     /// Parts of which one is taken.
-    Tracks {
-        tracks: Vec<Diagram>,
-        room: Room,
-    },
+    Tracks(Vec<Diagram>),
     Loop {
         turns: Turns,
         body: Box<Diagram>,
-        room: Room,
     },
     Frame {
         kind: FrameKind,
         label: String,
         body: Box<Diagram>,
-        room: Room,
     },
 }
 
 impl Diagram {
-    pub(crate) fn room(&self) -> Room {
-        match self {
-            Diagram::Line => NO_ROOM,
-            Diagram::End => Room {
-                width: 2 * END,
-                above: END,
-                below: END,
-            },
-            Diagram::Boxed { room, .. }
-            | Diagram::Row { room, .. }
-            | Diagram::Rows { room, .. }
-            | Diagram::Tracks { room, .. }
-            | Diagram::Loop { room, .. }
-            | Diagram::Frame { room, .. } => *room,
+    pub(crate) fn new(shape: Shape, room: Room) -> Diagram {
+        Diagram {
+            shape,
+            title: None,
+            room,
         }
+    }
+
+    pub(crate) fn line() -> Diagram {
+        Diagram::new(Shape::Line, NO_ROOM)
+    }
+
+    pub(crate) fn end() -> Diagram {
+        let room = Room {
+            width: 2 * END,
+            above: END,
+            below: END,
+        };
+        Diagram::new(Shape::End, room)
     }
 
     /// Whether it is a row behind which nothing comes.
     pub(crate) fn ends_the_line(&self) -> bool {
-        match self {
-            Diagram::Row { parts, .. } => matches!(parts.last(), Some(Diagram::End)),
+        match &self.shape {
+            Shape::Row(parts) => parts
+                .last()
+                .is_some_and(|last| matches!(last.shape, Shape::End)),
             _ => false,
         }
     }

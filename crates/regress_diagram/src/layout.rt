@@ -4,60 +4,96 @@ use crate::boxes::{boxed, framed, set_box, tracks, turning};
 use crate::diagram::{BoxKind, Diagram, FrameKind, Turns};
 use crate::labels::{Label, anchor_words, group_text, lookaround_words, turns_text};
 use crate::names::{gather, name_of};
-use crate::row::Row;
+use crate::row::{Piece, Row};
 use crate::sets::{
     Character, only_character, set_label, set_of_bytes, set_of_characters, strings_label, written,
 };
 use regress_base::codepointset::CodePointSet;
 use regress_base::types::Quantifier;
+use regress_spans::Span;
 use regress_tree::ir::Node;
 use std::alloc::{AllocError, Global};
+use std::{mem, slice};
 
-/// What is the same for a part of a tree.
-#[derive(Clone, Copy)]
+/// What is known where a node is laid out.
+#[derive(Drop)]
 struct Setting<'a> {
     alloc: Global,
     names: &'a [Option<String>],
+    pattern: &'a [u32],
+    /// The spans of the nodes to come, in postorder.
+    spans: slice::Iter<'a, Span>,
     /// Whether it stands in a lookbehind, where the parts of a `Cat` stand turned.
     turned: bool,
 }
 
 /// What is drawn of a tree.
-pub(crate) fn layout(alloc: Global, node: &Node) -> Result<Diagram, AllocError> {
+pub(crate) fn layout(
+    alloc: Global,
+    node: &Node,
+    pattern: &[u32],
+    spans: &[Span],
+) -> Result<Diagram, AllocError> {
     let mut names = Vec::new(alloc);
     gather(alloc, node, &mut names)?;
-    let setting = Setting {
+    let mut setting = Setting {
         alloc,
         names: &names,
+        pattern,
+        spans: spans.iter(),
         turned: false,
     };
-    lay_out(node, setting)
+    lay_out(node, &mut setting)
 }
 
 /// What is drawn of a node.
 #[cycle(lay_out)]
-fn lay_out(node: &Node, setting: Setting<'_>) -> Result<Diagram, AllocError> {
-    let mut row = Row::new(setting.alloc);
-    add(node, setting, &mut row)?;
+fn lay_out(node: &Node, setting: &mut Setting<'_>) -> Result<Diagram, AllocError> {
+    let mut pieces = Vec::new(setting.alloc);
+    add(node, setting, &mut pieces)?;
+    if setting.turned {
+        pieces.reverse();
+    }
+    let mut row = Row::new(setting.alloc, setting.pattern);
+    for (piece, span) in pieces {
+        row.push(piece, span)?;
+    }
     row.finish()
 }
 
-/// Adds what is drawn of a node to a row.
+/// Pieces with their spans, in the order of the tree.
+type Pieces = Vec<(Piece, Option<Span>)>;
+
+/// Adds what is drawn of a node.
 #[cycle(lay_out)]
-fn add(node: &Node, setting: Setting<'_>, row: &mut Row) -> Result<(), AllocError> {
+fn add(node: &Node, setting: &mut Setting<'_>, pieces: &mut Pieces) -> Result<(), AllocError> {
+    if let Node::Cat(parts) = node {
+        for part in parts {
+            add(part, setting, pieces)?;
+        }
+    }
+    let piece = piece(node, setting)?;
+    let span = setting.spans.next().copied();
+    if let Some(piece) = piece {
+        pieces.push((piece, span))?;
+    }
+    Ok(())
+}
+
+/// What is drawn of a node, but for a `Cat`.
+#[cycle(lay_out)]
+fn piece(node: &Node, setting: &mut Setting<'_>) -> Result<Option<Piece>, AllocError> {
     let alloc = setting.alloc;
-    match node {
-        Node::Cat(parts) => add_all(parts, setting, row),
-        Node::Alt(..) => row.push(lay_out_tracks(node, setting)?),
+    let part = match node {
+        Node::Alt(..) => lay_out_tracks(node, setting)?,
         Node::CaptureGroup { id, contents, .. } => {
             let group = u32::from(*id) + 1;
             let label = group_text(alloc, "group ", group, name_of(group, setting.names))?;
-            let body = lay_out(contents, setting)?;
-            row.push(framed(alloc, FrameKind::Group, label, body)?)
+            framed(alloc, FrameKind::Group, label, lay_out(contents, setting)?)?
         }
         Node::Loop { loopee, quant, .. } | Node::Loop1CharBody { loopee, quant } => {
             let body = lay_out(loopee, setting)?;
-            row.push(turning(alloc, turns(alloc, quant)?, body)?)
+            turning(alloc, turns(alloc, quant)?, body)?
         }
         Node::LookaroundAssertion {
             negate,
@@ -65,36 +101,21 @@ fn add(node: &Node, setting: Setting<'_>, row: &mut Row) -> Result<(), AllocErro
             contents,
             ..
         } => {
-            let inner = Setting {
-                turned: *backwards,
-                ..setting
-            };
-            let body = lay_out(contents, inner)?;
-            row.push(lookaround(alloc, *negate, *backwards, body)?)
+            let turned = mem::replace(&mut setting.turned, *backwards);
+            let body = lay_out(contents, setting)?;
+            setting.turned = turned;
+            lookaround(alloc, *negate, *backwards, body)?
         }
-        _ => add_leaf(node, setting, row),
-    }
-}
-
-/// Adds what is drawn of the parts of a `Cat`, in the order of the text.
-#[cycle(lay_out)]
-fn add_all(parts: &[Node], setting: Setting<'_>, row: &mut Row) -> Result<(), AllocError> {
-    for index in 0..parts.len() {
-        let place = if setting.turned {
-            parts.len() - 1 - index
-        } else {
-            index
-        };
-        add(&parts[place], setting, row)?;
-    }
-    Ok(())
+        _ => return leaf(node, setting),
+    };
+    Ok(Some(Piece::Part(part)))
 }
 
 /// What is drawn of alternatives. Right sides take no stack: there may be as many levels as alternatives.
 #[cycle(lay_out)]
-fn lay_out_tracks(node: &Node, setting: Setting<'_>) -> Result<Diagram, AllocError> {
+fn lay_out_tracks(node: &Node, setting: &mut Setting<'_>) -> Result<Diagram, AllocError> {
     let Node::Alt(left, right) = node else {
-        return Ok(Diagram::Line);
+        return Ok(Diagram::line());
     };
     let mut all = Vec::new(setting.alloc);
     all.push(lay_out(left, setting)?)?;
@@ -104,6 +125,10 @@ fn lay_out_tracks(node: &Node, setting: Setting<'_>) -> Result<Diagram, AllocErr
         rest = right;
     }
     all.push(lay_out(rest, setting)?)?;
+    // The spans of the inner `Alt`s come before that of the outermost one.
+    for _inner in 2..all.len() {
+        setting.spans.next();
+    }
     Ok(tracks(all))
 }
 
@@ -133,48 +158,50 @@ fn lookaround(
     framed(alloc, kind, label, body)
 }
 
-/// Adds what is drawn of a node that holds no other.
-fn add_leaf(node: &Node, setting: Setting<'_>, row: &mut Row) -> Result<(), AllocError> {
+/// What is drawn of a node that holds no other.
+fn leaf(node: &Node, setting: &Setting<'_>) -> Result<Option<Piece>, AllocError> {
     let alloc = setting.alloc;
-    match node {
-        Node::Char { c } => row.push_character(plain(*c)),
-        Node::ByteSequence(bytes) => add_bytes(alloc, bytes, row),
-        Node::ByteSet(bytes) => add_set(alloc, false, set_of_bytes(alloc, bytes)?, row),
-        Node::CharSet(all) => add_set(alloc, false, set_of_characters(alloc, all)?, row),
+    Ok(Some(match node {
+        Node::Char { c } => Piece::Character(Character::plain(*c)),
+        Node::ByteSequence(bytes) => Piece::Text(String::from_utf8_lossy(alloc, bytes)?),
+        Node::ByteSet(bytes) => set(alloc, false, set_of_bytes(alloc, bytes)?)?,
+        Node::CharSet(all) => set(alloc, false, set_of_characters(alloc, all)?)?,
         Node::Bracket(contents) => {
-            let (negated, set) = written(alloc, contents)?;
-            add_set(alloc, negated, set, row)
+            let (negated, all) = written(alloc, contents)?;
+            set(alloc, negated, all)?
         }
         Node::StringSet {
             alternatives,
             icase,
-        } => row.push(set_box(alloc, strings_label(alloc, alternatives, *icase)?)),
-        Node::BackRef { group, icase } => row.push(reference(*group, *icase, setting)?),
-        Node::Goal => row.push(Diagram::End),
-        Node::MatchAny => row.push(boxed(BoxKind::Set, Label::words(alloc, "any character"))),
-        Node::MatchAnyExceptLineTerminator => {
-            row.push(boxed(BoxKind::Set, Label::words(alloc, "any but a line end")))
-        }
+        } => Piece::Part(set_box(alloc, strings_label(alloc, alternatives, *icase)?)),
+        Node::BackRef { group, icase } => Piece::Part(reference(*group, *icase, setting)?),
+        Node::Goal => Piece::Part(Diagram::end()),
+        Node::MatchAny => words(alloc, BoxKind::Set, "any character"),
+        Node::MatchAnyExceptLineTerminator => words(alloc, BoxKind::Set, "any but a line end"),
         Node::Anchor {
             anchor_type,
             multiline,
-        } => {
-            let words = anchor_words(*anchor_type, *multiline);
-            row.push(boxed(BoxKind::Position, Label::words(alloc, words)))
+        } => words(
+            alloc,
+            BoxKind::Position,
+            anchor_words(*anchor_type, *multiline),
+        ),
+        Node::WordBoundary { invert: false, .. } => {
+            words(alloc, BoxKind::Position, "word boundary")
         }
-        Node::WordBoundary { invert, .. } => {
-            let words = if *invert {
-                "no word boundary"
-            } else {
-                "word boundary"
-            };
-            row.push(boxed(BoxKind::Position, Label::words(alloc, words)))
+        Node::WordBoundary { invert: true, .. } => {
+            words(alloc, BoxKind::Position, "no word boundary")
         }
-        _ => Ok(()),
-    }
+        _ => return Ok(None),
+    }))
 }
 
-fn reference(group: u32, icase: bool, setting: Setting<'_>) -> Result<Diagram, AllocError> {
+/// A box with words alone.
+fn words(alloc: Global, kind: BoxKind, words: &'static str) -> Piece {
+    Piece::Part(boxed(kind, Label::words(alloc, words)))
+}
+
+fn reference(group: u32, icase: bool, setting: &Setting<'_>) -> Result<Diagram, AllocError> {
     let label = Label {
         front: "what group",
         text: group_text(setting.alloc, "", group, name_of(group, setting.names))?,
@@ -187,30 +214,10 @@ fn reference(group: u32, icase: bool, setting: Setting<'_>) -> Result<Diagram, A
     Ok(boxed(BoxKind::Reference, label))
 }
 
-/// A character as it is.
-fn plain(c: u32) -> Character {
-    let either_case = false;
-    Character { c, either_case }
-}
-
-/// Adds the characters of UTF-8.
-fn add_bytes(alloc: Global, bytes: &[u8], row: &mut Row) -> Result<(), AllocError> {
-    let text = String::from_utf8_lossy(alloc, bytes)?;
-    for c in text.chars() {
-        row.push_character(plain(u32::from(c)))?;
-    }
-    Ok(())
-}
-
-/// Adds what is drawn of the characters of a set, or of those that it lacks. A set of one is that character.
-fn add_set(
-    alloc: Global,
-    negated: bool,
-    set: CodePointSet,
-    row: &mut Row,
-) -> Result<(), AllocError> {
+/// What is drawn of the characters of a set, or of those that it lacks. A set of one is that character.
+fn set(alloc: Global, negated: bool, set: CodePointSet) -> Result<Piece, AllocError> {
     if !negated && let Some(character) = only_character(set.intervals()) {
-        return row.push_character(character);
+        return Ok(Piece::Character(character));
     }
-    row.push(set_box(alloc, set_label(alloc, negated, set)?))
+    Ok(Piece::Part(set_box(alloc, set_label(alloc, negated, set)?)))
 }

@@ -12,8 +12,9 @@ mod parts;
 mod picture;
 mod row;
 mod sets;
+mod source;
 mod style;
 mod symbols;
 mod ways;
 
-pub use picture::svg;
+pub use picture::{svg, svg_with_titles};

@@ -58,10 +58,21 @@ pub(crate) fn draw_end(at: Place, sheet: &mut Sheet) -> Drawn
     draw_circle("mark", END - 3, at.right(END), sheet)
 }
 
+/// Names the group that is open, as the first that is drawn in it.
+fn draw_title(title: Option<&String>, sheet: &mut Sheet) -> Drawn
+    ensures { OnOk result (sheet.new.depth ≡ sheet.old.depth) }
+{
+    match title {
+        Some(title) => sheet.draw(Element::Title(title)),
+        None => Ok(()),
+    }
+}
+
 /// Draws a box with its label.
 pub(crate) fn draw_box(
     kind: BoxKind,
     label: &Label,
+    title: Option<&String>,
     room: Room,
     at: Place,
     sheet: &mut Sheet,
@@ -76,6 +87,7 @@ pub(crate) fn draw_box(
         BoxKind::Never => ("never", 4),
     };
     sheet.open_group(class)?;
+    draw_title(title, sheet)?;
     draw_rectangle("box", radius, room, at, sheet)?;
     draw_label(label, at.right(PADDING).down(5), sheet)?;
     sheet.close_group()
@@ -91,17 +103,18 @@ fn draw_label(label: &Label, at: Place, sheet: &mut Sheet) -> Drawn
     draw_text("word", label.behind, behind, sheet)
 }
 
-/// Draws a frame and its label, as the first of a group, which it names.
+/// Draws a frame and its label, as the first of a group, which it names: by what was written, or else by what it means.
 pub(crate) fn draw_frame(
     kind: FrameKind,
     label: &str,
+    title: Option<&String>,
     room: Room,
     at: Place,
     sheet: &mut Sheet,
 ) -> Drawn
     ensures { OnOk result (sheet.new.depth ≡ sheet.old.depth) }
 {
-    let (class, title) = match kind {
+    let (class, meaning) = match kind {
         FrameKind::Group => ("frame", "What is matched here is captured."),
         FrameKind::Around => (
             "frame around",
@@ -109,6 +122,7 @@ pub(crate) fn draw_frame(
         ),
         FrameKind::Without => ("frame without", "This must not be matched there."),
     };
+    let title = title.map_or(meaning, |title| title.as_str());
     sheet.draw(Element::Title(title))?;
     draw_rectangle(class, 6, room, at, sheet)?;
     let place = at.up(room.above).right(PADDING).down(NOTE - 2);

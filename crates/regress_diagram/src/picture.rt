@@ -9,6 +9,7 @@ use crate::parts::draw_circle;
 use crate::style::{MARGIN, STYLE};
 use crate::ways::{Drawn, draw_line};
 use regress_markup::{Element, Sheet};
+use regress_spans::Span;
 use regress_tree::ir::Regex;
 use std::alloc::{AllocError, Global};
 
@@ -23,8 +24,22 @@ use std::alloc::{AllocError, Global};
 pub fn svg(alloc: Global, regex: &Regex) -> Result<String, AllocError>
     ensures { IfOk result (λ text. IsDocument (string_bytes text)) }
 {
-    let diagram = layout(alloc, &regex.node)?;
-    let room = diagram.room();
+    svg_with_titles(alloc, regex, &[], &[])
+}
+
+/// The same of a parsed tree, with titles: who points at a box, a frame or a loop sees that part of the pattern as it was
+/// written, up to 60 code points. `pattern` is what was parsed, and `spans` are those of `try_parse_with_spans`. What has no
+/// span, or one that doesn't lie in the pattern, has no such title.
+pub fn svg_with_titles(
+    alloc: Global,
+    regex: &Regex,
+    pattern: &[u32],
+    spans: &[Span],
+) -> Result<String, AllocError>
+    ensures { IfOk result (λ text. IsDocument (string_bytes text)) }
+{
+    let diagram = layout(alloc, &regex.node, pattern, spans)?;
+    let room = diagram.room;
     let margins = 2 * MARGIN;
     let width = room.width.saturating_add(margins);
     let height = room

@@ -1,53 +1,85 @@
 //! Parts one after the other, as they are put together.
 
 use crate::boxes::literal;
-use crate::diagram::{Diagram, NO_ROOM, Room, clear};
+use crate::diagram::{Diagram, NO_ROOM, Room, Shape, clear};
 use crate::sets::Character;
+use crate::source::{excerpt, joined};
 use crate::style::{GAP, RADIUS, ROW_WIDTH};
 use crate::symbols::{columns_of, is_seen, push_symbol};
+use regress_spans::Span;
 use std::alloc::{AllocError, Global};
 use std::mem;
 
 /// How many columns a box of characters has. What is longer goes on in the next box.
 const LITERAL_COLUMNS: u32 = 40;
 
+/// What a row is put together of.
+#[derive(Drop)]
+pub(crate) enum Piece {
+    Character(Character),
+    Text(String),
+    Part(Diagram),
+}
+
 /// A row that is put together. Characters side by side become one box.
 #[derive(Drop)]
-pub(crate) struct Row {
+pub(crate) struct Row<'a> {
     alloc: Global,
+    pattern: &'a [u32],
     parts: Vec<Diagram>,
     /// The characters that wait for their box.
     text: String,
+    /// Where they stand in the pattern.
+    span: Option<Span>,
     columns: u32,
     either_case: bool,
 }
 
-impl Row {
-    pub(crate) fn new(alloc: Global) -> Row {
+impl<'a> Row<'a> {
+    pub(crate) fn new(alloc: Global, pattern: &'a [u32]) -> Row<'a> {
         Row {
             alloc,
+            pattern,
             parts: Vec::new(alloc),
             text: String::new(alloc),
+            span: None,
             columns: 0,
             either_case: false,
         }
     }
 
-    /// Adds a part.
-    pub(crate) fn push(&mut self, part: Diagram) -> Result<(), AllocError> {
-        self.box_text()?;
+    /// Adds a piece, which stands there in the pattern.
+    pub(crate) fn push(&mut self, piece: Piece, span: Option<Span>) -> Result<(), AllocError> {
+        match piece {
+            Piece::Character(character) => self.push_character(character, span)?,
+            Piece::Text(text) => {
+                for c in text.chars() {
+                    self.push_character(Character::plain(u32::from(c)), span)?;
+                }
+            }
+            Piece::Part(part) => {
+                self.box_text()?;
+                self.push_part(part, span)?;
+            }
+        }
+        Ok(())
+    }
+
+    fn push_part(&mut self, mut part: Diagram, span: Option<Span>) -> Result<(), AllocError> {
+        part.title = excerpt(self.alloc, self.pattern, span)?;
         Ok(self.parts.push(part)?)
     }
 
     /// Adds a character. One that can't be seen has a box of its own.
-    pub(crate) fn push_character(&mut self, character: Character) -> Result<(), AllocError> {
-        let Character { c, either_case } = character;
+    fn push_character(&mut self, next: Character, span: Option<Span>) -> Result<(), AllocError> {
+        let Character { c, either_case } = next;
         let alone = c != 0x20 && !is_seen(c);
         if alone || self.columns >= LITERAL_COLUMNS || self.either_case != either_case {
             self.box_text()?;
         }
         self.either_case = either_case;
         self.columns = self.columns.saturating_add(columns_of(c));
+        self.span = joined(self.span, span);
         push_symbol(c, self.alloc, &mut self.text)?;
         if alone { self.box_text() } else { Ok(()) }
     }
@@ -60,7 +92,8 @@ impl Row {
         let empty = String::new(self.alloc);
         let text = mem::replace(&mut self.text, empty);
         self.columns = 0;
-        Ok(self.parts.push(literal(text, self.either_case))?)
+        let span = self.span.take();
+        self.push_part(literal(text, self.either_case), span)
     }
 
     /// What is drawn: a line where there is no part, and several rows where it is long.
@@ -69,11 +102,11 @@ impl Row {
         let alloc = self.alloc;
         let mut parts = self.parts;
         if parts.len() < 2 {
-            return Ok(parts.pop().unwrap_or(Diagram::Line));
+            return Ok(parts.pop().unwrap_or(Diagram::line()));
         }
         let mut rows = cut(alloc, parts)?;
         if rows.len() < 2 {
-            return Ok(rows.pop().unwrap_or(Diagram::Line));
+            return Ok(rows.pop().unwrap_or(Diagram::line()));
         }
         Ok(below_each_other(rows))
     }
@@ -85,19 +118,19 @@ fn cut(alloc: Global, all: Vec<Diagram>) -> Result<Vec<Diagram>, AllocError> {
     let mut parts = Vec::new(alloc);
     let mut room = NO_ROOM;
     for part in all {
-        let wider = beside(room, part.room());
+        let wider = beside(room, part.room);
         if parts.is_empty() {
-            room = part.room();
-        } else if wider.width <= ROW_WIDTH || matches!(part, Diagram::End) {
+            room = part.room;
+        } else if wider.width <= ROW_WIDTH || matches!(part.shape, Shape::End) {
             room = wider;
         } else {
             let parts = mem::replace(&mut parts, Vec::new(alloc));
-            rows.push(Diagram::Row { parts, room })?;
-            room = part.room();
+            rows.push(Diagram::new(Shape::Row(parts), room))?;
+            room = part.room;
         }
         parts.push(part)?;
     }
-    rows.push(Diagram::Row { parts, room })?;
+    rows.push(Diagram::new(Shape::Row(parts), room))?;
     Ok(rows)
 }
 
@@ -120,7 +153,7 @@ fn below_each_other(rows: Vec<Diagram>) -> Diagram {
     let mut room = NO_ROOM;
     let mut last = NO_ROOM;
     for (index, row) in rows.iter().enumerate() {
-        let next = row.room();
+        let next = row.room;
         if index == 0 {
             room.above = next.above;
         } else {
@@ -131,5 +164,5 @@ fn below_each_other(rows: Vec<Diagram>) -> Diagram {
     }
     room.width = room.width.saturating_add(6 * RADIUS);
     room.below = room.below.saturating_add(last.below);
-    Diagram::Rows { rows, room }
+    Diagram::new(Shape::Rows(rows), room)
 }

@@ -50,13 +50,18 @@ pub(crate) struct Character {
     pub(crate) either_case: bool,
 }
 
+impl Character {
+    /// A character as it is.
+    pub(crate) fn plain(c: u32) -> Character {
+        let either_case = false;
+        Character { c, either_case }
+    }
+}
+
 /// The only character of a set, or the letter of ASCII that it has in either case.
 pub(crate) fn only_character(intervals: &[Interval]) -> Option<Character> {
     match intervals {
-        [only] if only.first() == only.last() => Some(Character {
-            c: only.first(),
-            either_case: false,
-        }),
+        [only] if only.first() == only.last() => Some(Character::plain(only.first())),
         [upper, lower] => letter(*upper, *lower),
         // With the flag u, the long s and the sign of Kelvin are cases too.
         [upper, lower, other]
