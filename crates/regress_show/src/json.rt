@@ -112,11 +112,7 @@ fn write_node<W: Write>(node: &Node, marks: &mut Marks<'_>, f: &mut Formatter<W>
 
 /// Writes the alternatives of a right side. They take no stack: there may be as many levels as alternatives.
 #[cycle(write_node)]
-fn write_further<W: Write>(
-    right: &Node,
-    marks: &mut Marks<'_>,
-    f: &mut Formatter<W>,
-) -> fmt::Result
+fn write_further<W: Write>(right: &Node, marks: &mut Marks<'_>, f: &mut Formatter<W>) -> fmt::Result
     ensures written { (all : List Span) (at : ℕ) → marks.old.left.now ≡ drop at all →
         WritesOnOk W.write_str_gives f.old result (text.further_json (text.span_mark all) at (tree right.now)) f.new }
     ensures passed { OnOk result (marks.new.left.now ≡ drop (nodes (tree right.now)) marks.old.left.now) }
@@ -135,11 +131,7 @@ fn write_further<W: Write>(
 
 /// Writes the parts of a row.
 #[cycle(write_node)]
-fn write_row<W: Write>(
-    parts: &[Node],
-    marks: &mut Marks<'_>,
-    f: &mut Formatter<W>,
-) -> fmt::Result
+fn write_row<W: Write>(parts: &[Node], marks: &mut Marks<'_>, f: &mut Formatter<W>) -> fmt::Result
     ensures written { (all : List Span) (at : ℕ) → marks.old.left.now ≡ drop at all →
         WritesOnOk W.write_str_gives f.old result (text.row_json (text.span_mark all) at true (trees parts.now)) f.new }
     ensures passed { OnOk result (marks.new.left.now ≡ drop (nodes_in_row (trees parts.now)) marks.old.left.now) }
