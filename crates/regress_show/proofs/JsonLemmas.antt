@@ -1,5 +1,5 @@
 -- What is written behind what was written.
-use Rattle.std.proofs.Common.{◌≡◌, ◌∙◌, ℕ, zero, suc, ◌+◌, ◌<◌, Bool, true, false, List, [], ◌∷◌, ◌++◌, length, get_or, take, drop, flat_map, refl, sym, ap, append_assoc, codes, Vec, Box, Global, Option, rules, arith}
+use Rattle.std.proofs.Common.{◌≡◌, ◌∙◌, ℕ, zero, suc, ◌+◌, ◌<◌, true, false, List, [], ◌∷◌, ◌++◌, length, get_or, take, drop, flat_map, refl, sym, ap, append_assoc, codes, Vec, Box, Global, rules, arith}
 use Rattle.std.specs.List.{slice_get}
 use Rattle.std.specs.Fmt.{HasWritten, IsPlainFormatter}
 use Rattle.std.specs.declared.fmt.Formatter.{Formatter}
@@ -9,7 +9,7 @@ use Rattle.regress_spans.specs.declared.span.Span.{Span}
 use Rattle.regress_tree.specs.Copies.{is_leaf}
 use Rattle.regress_tree.specs.Held.{is_wrapper, IsAround}
 use Rattle.regress_tree.specs.Spine.{is_alt}
-use Rattle.regress_tree.specs.Tree.{Leaf, Tree, Trees, leaf, cat, alt, wrapped, tree}
+use Rattle.regress_tree.specs.Tree.{Tree, leaf, cat, alt, wrapped, tree}
 use Rattle.regress_tree.specs.Visits.{nodes, nodes_in_row}
 use Rattle.regress_tree.specs.declared.ir.node.Node.{Node, the_lemmas}
 use Rattle.regress_tree.specs.declared.ir.node.Node.TheVariants.{Cat, Alt}

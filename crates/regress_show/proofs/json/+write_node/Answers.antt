@@ -1,5 +1,5 @@
 -- What was written before, the node, and what is still to come.
-use Rattle.std.proofs.Common.{◌≡◌, ◌+◌, ◌∷◌, ◌∙◌, ℕ, List, refl, sym, ap, arith, rules, drop}
+use Rattle.std.proofs.Common.{◌≡◌, ◌+◌, ◌∷◌, ◌∙◌, refl, sym, ap, arith, rules, drop}
 use Rattle.std.specs.Prelude.{Result, Ok, Err, OnOk}
 use Rattle.std.specs.Fmt.{HasWritten}
 use Rattle.std.specs.declared.fmt.Error.{Error}
@@ -9,7 +9,6 @@ use Rattle.std.proofs.Output.{has_written_append, has_written_of_eq}
 use Rattle.regress_tree.specs.Tree.{tree, trees}
 use Rattle.regress_tree.specs.Visits.{nodes, nodes_in_row}
 use Rattle.regress_tree.proofs.laws.Nodes.{tree-Cat, tree-Alt}
-use Rattle.regress_spans.specs.declared.span.Span.{Span}
 use Rattle.regress_show.specs.Json.{span_mark, row_json}
 use Rattle.regress_show.specs.Passed.{alternations}
 use Rattle.regress_show.proofs.JsonLemmas.{leaf_of, unended, unended-leaf, unended-around, unended-ended, within, within-leaf, within-around, nodes-within, shown, shown-last, nodes-shown, further_last, passed-more, mark-first}
