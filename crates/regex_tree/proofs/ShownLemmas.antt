@@ -51,18 +51,25 @@ module _ (stage : Stage) (format : Format) (flags : Flags) (small : Bool) (old n
       × IsShown stage format flags (tree_of table p) (spans_of (setting table) text p accepted.derived) bytes)
 
   -- the spans and the tree that the call answers
-  pub record IsParsed (table : Table) (text : List ℕ) (t : Tree) (spans : List Span) : Type 0 where
+  pub record IsParsed (table : Table) (text : List ℕ) (t : Tree) (ss : List Span) : Type 0 where
     pub pattern : Pattern
     pub accepted : parse.IsAccepted (setting table) text pattern
     pub tree : t ≡ tree_of table pattern
-    pub spans : spans ≡ spans_of (setting table) text pattern accepted.derived
+    pub spans : ss ≡ spans_of (setting table) text pattern accepted.derived
 
   pub shows_output : (table : Table) (text source : List ℕ) (t : Tree) (spans : List Span) (r : Result (Unit {0}) Failure) →
       table ≡ table_asked small → text ≡ source → IsParsed table text t spans → OnOk r (Took old new (IsShown stage format flags t spans)) →
       OnOk r (Took old new (IsOutput stage format (asked source flags small)))
   shows_output table text source t spans (Ok done) same_table same_text parsed (bytes, shown, appends) =
-      subst (λ (x : List ℕ). TookOf (table_asked small) x) same_text (subst (λ (x : Table). TookOf x text) same_table
-      (bytes, (parsed.pattern, parsed.accepted, subst (λ (u : Tree). IsShown stage format flags u
-      (spans_of (setting table) text parsed.pattern parsed.accepted.derived) bytes) parsed.tree
-      (subst (λ (ss : List Span). IsShown stage format flags t ss bytes) parsed.spans shown)), appends))
+      subst (λ (x : List ℕ). TookOf (table_asked small) x) same_text (subst (λ (x : Table). TookOf x text) same_table (
+        bytes,
+        (
+          parsed.pattern,
+          parsed.accepted,
+          subst (λ (u : Tree). IsShown stage format flags u
+              (spans_of (setting table) text parsed.pattern parsed.accepted.derived) bytes) parsed.tree
+              (subst (λ (ss : List Span). IsShown stage format flags t ss bytes) parsed.spans shown),
+        ),
+        appends,
+      ))
   shows_output table text source t spans (Err failure) same_table same_text parsed took = tt

@@ -139,12 +139,7 @@ fn write_text<W: Write>(regex: &Regex, behind: &str, out: &mut W) -> io::Result<
     out.flush()
 }
 
-fn write_json<W: Write>(
-    regex: &Regex,
-    spans: &[Span],
-    behind: &str,
-    out: &mut W,
-) -> io::Result<()>
+fn write_json<W: Write>(regex: &Regex, spans: &[Span], behind: &str, out: &mut W) -> io::Result<()>
     ensures { OnOk result (Appends (W.contents out.old) (W.contents out.new)
         ((spanned_json_of regex.now.flags (tree regex.now.node) spans.now ++ codes "\n") ++ behind.now)) }
 {
