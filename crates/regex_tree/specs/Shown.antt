@@ -15,7 +15,9 @@ use Rattle.regress_syntax.specs.Syntax.{Pattern}
 use Rattle.regress_parse.specs.Accepted as parse
 use Rattle.regress_parse.specs.TreeOf.{tree_of}
 use Rattle.regress_markup.specs.Markup.{IsDocument}
-use Rattle.regress_show.specs.Json.{json_of}
+use Rattle.regress_show.specs.Json.{spanned_json_of}
+use Rattle.regress_spans.specs.Spans.{spans_of}
+use Rattle.regress_spans.specs.declared.span.Span.{Span}
 use Rattle.regex_tree.specs.declared.request.Format.{Format}
 use Rattle.regex_tree.specs.declared.request.Format.TheVariants.{Text, Json, Svg}
 use Rattle.regex_tree.specs.declared.request.Stage.{Stage}
@@ -45,15 +47,15 @@ IsAcceptedPattern asked = (p : Pattern) × IsAccepted asked p
 abbrev pub NoneIsAcceptedOf : Asked → Type 0
 NoneIsAcceptedOf asked = parse.NoneIsAccepted (setting_asked asked) asked.text
 
--- What shows one tree: its text, its JSON, or some picture, which is well formed.
-abbrev pub IsShownAs : Format → Flags → Tree → List ℕ → Type 0
-IsShownAs Text flags t bytes = bytes ≡ printed t
-IsShownAs Json flags t bytes = bytes ≡ json_of flags t ++ codes "\n"
-IsShownAs Svg flags t bytes = (picture : List ℕ) × IsDocument picture × (bytes ≡ picture ++ codes "\n")
+-- What shows one tree: its text, its JSON with the spans of its nodes, or some picture, which is well formed.
+abbrev pub IsShownAs : Format → Flags → Tree → List Span → List ℕ → Type 0
+IsShownAs Text flags t spans bytes = bytes ≡ printed t
+IsShownAs Json flags t spans bytes = bytes ≡ spanned_json_of flags t spans ++ codes "\n"
+IsShownAs Svg flags t spans bytes = (picture : List ℕ) × IsDocument picture × (bytes ≡ picture ++ codes "\n")
 
 -- one tree, and these bytes behind it
-abbrev pub IsShownWith : Format → Flags → Tree → List ℕ → List ℕ → Type 0
-IsShownWith format flags t behind bytes = (shown : List ℕ) × IsShownAs format flags t shown × (bytes ≡ shown ++ behind)
+abbrev pub IsShownWith : Format → Flags → Tree → List Span → (behind bytes : List ℕ) → Type 0
+IsShownWith format flags t spans behind bytes = (shown : List ℕ) × IsShownAs format flags t spans shown × (bytes ≡ shown ++ behind)
 
 -- a tree in normal form that means what the other one does, and captures the same
 pub record IsOptimized (t optimized : Tree) : Type 0 where
@@ -61,18 +63,18 @@ pub record IsOptimized (t optimized : Tree) : Type 0 where
   pub meaning : MeansTheSame forwards t optimized
   pub captures : captures optimized ≡ captures t
 
--- an optimized tree of this one
+-- an optimized tree of this one, whose nodes have no spans
 abbrev pub IsOptimizedShown : Format → Flags → Tree → List ℕ → Type 0
-IsOptimizedShown format flags t bytes = (optimized : Tree) × IsOptimized t optimized × IsShownWith format flags optimized [] bytes
+IsOptimizedShown format flags t bytes = (optimized : Tree) × IsOptimized t optimized × IsShownWith format flags optimized [] [] bytes
 
--- what is shown of a parsed tree
-abbrev pub IsShown : Stage → Format → Flags → Tree → List ℕ → Type 0
-IsShown Parsed format flags t bytes = IsShownWith format flags t [] bytes
-IsShown Optimized format flags t bytes = IsOptimizedShown format flags t bytes
-IsShown Both format flags t bytes =
-    (first second : List ℕ) × IsShownWith format flags t (codes "--\n") first × IsOptimizedShown format flags t second × (bytes ≡ first ++ second)
+-- what is shown of a parsed tree whose nodes have these spans
+abbrev pub IsShown : Stage → Format → Flags → Tree → List Span → List ℕ → Type 0
+IsShown Parsed format flags t spans bytes = IsShownWith format flags t spans [] bytes
+IsShown Optimized format flags t spans bytes = IsOptimizedShown format flags t bytes
+IsShown Both format flags t spans bytes = (first second : List ℕ) × IsShownWith format flags t spans (codes "--\n") first
+    × IsOptimizedShown format flags t second × (bytes ≡ first ++ second)
 
 -- what is shown of a pattern that is accepted
 abbrev pub IsOutput : Stage → Format → Asked → List ℕ → Type 0
-IsOutput stage format asked bytes = (p : Pattern) × IsAccepted asked p
-    × IsShown stage format asked.flags (tree_of (table_asked asked.small) p) bytes
+IsOutput stage format asked bytes = (p : Pattern) × (accepted : IsAccepted asked p)
+    × IsShown stage format asked.flags (tree_of (table_asked asked.small) p) (spans_of (setting_asked asked) asked.text p accepted.derived) bytes

@@ -6,7 +6,7 @@ ghost use Rattle.regress_unicode.specs.TableOf.{table_of};
 ghost use Rattle.regress_tree.specs.Display.{printed};
 ghost use Rattle.regress_tree.specs.Tree.{tree};
 ghost use Rattle.regress_tree.specs.WellFormed.{IsWellFormed};
-ghost use Rattle.regress_show.specs.Json.{json_of};
+ghost use Rattle.regress_show.specs.Json.{spanned_json_of};
 ghost use Rattle.regex_tree.specs.declared.failure.Failure.TheVariants.{Memory, Output};
 ghost use Rattle.regex_tree.specs.Ending.{IsDue};
 ghost use Rattle.regex_tree.specs.Shown.{IsOptimizedShown, IsOutput, IsShown, IsShownWith, asked, table_asked};
@@ -16,13 +16,20 @@ use crate::request::{Format, Request, Stage};
 use regress_base::util::code_points;
 use regress_diagram::svg;
 use regress_opt::optimize;
-use regress_parse::try_parse_with_place;
-use regress_show::Json;
+use regress_show::SpannedJson;
+use regress_spans::{Span, SpannedRegex, try_parse_with_spans};
 use regress_tree::ir::Regex;
 use regress_ucd::unicode_tables;
 use regress_unicode::Tables;
 use std::alloc::{AllocError, Global};
 use std::io::{self, Write};
+
+/// A pattern as it was written, and where the nodes of a tree stand in it: no spans where that isn't told.
+#[derive(Clone, Copy)]
+struct Written<'a> {
+    pattern: &'a [u32],
+    spans: &'a [Span],
+}
 
 /// Shows what the request asks for.
 pub(crate) fn show<W: Write>(
@@ -36,8 +43,8 @@ pub(crate) fn show<W: Write>(
 {
     let points = code_points(alloc, request.pattern)?;
     let tables = tables(alloc, request.small)?;
-    let regex = try_parse_with_place(alloc, &points, request.flags, &tables)?;
-    show_parsed(alloc, regex, request.stage, request.format, out)
+    let parsed = try_parse_with_spans(alloc, &points, request.flags, &tables)?;
+    show_parsed(alloc, parsed, &points, request.stage, request.format, out)
 }
 
 fn tables(alloc: Global, small: bool) -> Result<Tables, AllocError>
@@ -50,32 +57,40 @@ fn tables(alloc: Global, small: bool) -> Result<Tables, AllocError>
     }
 }
 
-/// Shows what was parsed. The parsed tree is written and flushed before the optimized one is made.
+/// Shows what was parsed of a pattern. The parsed tree is written and flushed before the optimized one is made.
 fn show_parsed<W: Write>(
     alloc: Global,
-    regex: Regex,
+    parsed: SpannedRegex,
+    pattern: &[u32],
     stage: Stage,
     format: Format,
     out: &mut W,
 ) -> Result<(), Failure>
-    requires { IsWellFormed (tree regex.node) }
-    ensures shown { OnOk result (Took (W.contents out.old) (W.contents out.new) (IsShown stage format regex.flags (tree regex.node))) }
+    requires { IsWellFormed (tree parsed.regex.node) }
+    ensures shown { OnOk result (Took (W.contents out.old) (W.contents out.new)
+        (IsShown stage format parsed.regex.flags (tree parsed.regex.node) parsed.spans.items)) }
     ensures failed { IfErr result (λ failure. (failure ≡ Memory) ⊎ (failure ≡ Output)) }
 {
+    let SpannedRegex { regex, spans } = parsed;
+    let written = Written {
+        pattern,
+        spans: &spans,
+    };
     match stage {
-        Stage::Parsed => write_tree(alloc, &regex, format, "", out),
-        Stage::Optimized => show_optimized(alloc, regex, format, out),
+        Stage::Parsed => write_tree(alloc, &regex, &written, format, "", out),
+        Stage::Optimized => show_optimized(alloc, regex, pattern, format, out),
         Stage::Both => {
-            write_tree(alloc, &regex, format, "--\n", out)?;
-            show_optimized(alloc, regex, format, out)
+            write_tree(alloc, &regex, &written, format, "--\n", out)?;
+            show_optimized(alloc, regex, pattern, format, out)
         }
     }
 }
 
-/// Makes the optimized tree, and shows that.
+/// Makes the optimized tree, and shows that. It isn't told where its nodes stand in the pattern.
 fn show_optimized<W: Write>(
     alloc: Global,
     mut regex: Regex,
+    pattern: &[u32],
     format: Format,
     out: &mut W,
 ) -> Result<(), Failure>
@@ -84,7 +99,11 @@ fn show_optimized<W: Write>(
     ensures failed { IfErr result (λ failure. (failure ≡ Memory) ⊎ (failure ≡ Output)) }
 {
     optimize(alloc, &mut regex)?;
-    write_tree(alloc, &regex, format, "", out)
+    let written = Written {
+        pattern,
+        spans: &[],
+    };
+    write_tree(alloc, &regex, &written, format, "", out)
 }
 
 /// Writes a tree and what comes behind it, and flushes: what is written then stays written. A picture is made whole before
@@ -92,17 +111,20 @@ fn show_optimized<W: Write>(
 fn write_tree<W: Write>(
     alloc: Global,
     regex: &Regex,
+    written: &Written<'_>,
     format: Format,
     behind: &str,
     out: &mut W,
 ) -> Result<(), Failure>
     ensures written { OnOk result (Took (W.contents out.old) (W.contents out.new)
-        (IsShownWith format regex.now.flags (tree regex.now.node) behind.now)) }
+        (IsShownWith format regex.now.flags (tree regex.now.node) written.now.spans.now behind.now)) }
     ensures failed { IfErr result (λ failure. (failure ≡ Memory) ⊎ (failure ≡ Output)) }
 {
     match format {
         Format::Text => write_text(regex, behind, out).map_err(|_| Failure::Output),
-        Format::Json => write_json(regex, behind, out).map_err(|_| Failure::Output),
+        Format::Json => {
+            write_json(regex, written.spans, behind, out).map_err(|_| Failure::Output)
+        }
         Format::Svg => {
             let picture = svg(alloc, regex)?;
             write_picture(&picture, behind, out).map_err(|_| Failure::Output)
@@ -117,11 +139,11 @@ fn write_text<W: Write>(regex: &Regex, behind: &str, out: &mut W) -> io::Result<
     out.flush()
 }
 
-fn write_json<W: Write>(regex: &Regex, behind: &str, out: &mut W) -> io::Result<()>
+fn write_json<W: Write>(regex: &Regex, spans: &[Span], behind: &str, out: &mut W) -> io::Result<()>
     ensures { OnOk result (Appends (W.contents out.old) (W.contents out.new)
-        ((json_of regex.now.flags (tree regex.now.node) ++ codes "\n") ++ behind.now)) }
+        ((spanned_json_of regex.now.flags (tree regex.now.node) spans.now ++ codes "\n") ++ behind.now)) }
 {
-    let json = Json(regex);
+    let json = SpannedJson { regex, spans };
     write!(out, "{json}\n{behind}")?;
     out.flush()
 }

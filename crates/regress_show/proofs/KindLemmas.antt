@@ -5,7 +5,7 @@ use Rattle.std.proofs.lemmas.List.{append_cancel_left}
 use Rattle.regress_tree.specs.Tree.{Leaf, empty, goal, char, byte_sequence, byte_set, char_set, match_any, match_any_except_line_terminator, anchor, word_boundary, bracket, back_ref, string_set, Wrapper, capture_group, loop, loop_one, lookaround}
 use Rattle.regress_show.specs.Json.{is_word, numbers, interval, leaf_json, front}
 use Rattle.regress_show.specs.Numbers.{AllFit, IntervalFits, LeafFits, WrapperFits}
-use Rattle.regress_show.proofs.TellingLemmas.{Tells, gives, if_ended, start, more, more_items, items-tell, words-tell, number-tells}
+use Rattle.regress_show.proofs.TellingLemmas.{Tells, gives, if_ended, then, start, more, more_items, items-tell, words-tell, number-tells}
 use Rattle.regress_show.proofs.PieceLemmas.{truth-tells, anchored-tells, numbers-tell, pair-tells, interval-tells, quantifier-tells, name-tells}
 
 pub record HasKind (text kind : List ℕ) : Type 0 where
@@ -73,9 +73,16 @@ leaf-kind (bracket invert intervals) = begun (codes "Bracket") _ refl
 leaf-kind (back_ref group icase) = begun (codes "BackRef") _ refl
 leaf-kind (string_set strings icase) = begun (codes "StringSet") _ refl
 
-pub leaf-tells : (l m : Leaf) → LeafFits l → LeafFits m → Tells (leaf_json l) (leaf_json m) (l ≡ m)
-leaf-tells empty empty h k = gives (λ u. refl) (start (leaf_json empty))
-leaf-tells goal goal h k = gives (λ u. refl) (start (leaf_json goal))
+-- the whole object
+abbrev pub ended : Leaf → List ℕ
+ended l = leaf_json l ++ codes "}"
+
+pub ended-kind : (l : Leaf) → HasKind (ended l) (leaf_kind l)
+ended-kind l = begun_more (leaf-kind l) (codes "}")
+
+pub leaf-tells : (l m : Leaf) → LeafFits l → LeafFits m → Tells (ended l) (ended m) (l ≡ m)
+leaf-tells empty empty h k = gives (λ u. refl) (start (ended empty))
+leaf-tells goal goal h k = gives (λ u. refl) (start (ended goal))
 leaf-tells (char c) (char d) h k = gives (λ e. ap char e.1)
     (more (start (codes "{\"kind\":\"Char\",\"c\":")) (number-tells c d h k) (codes "}") refl)
 leaf-tells (byte_sequence xs) (byte_sequence ys) h k = gives (λ e. ap byte_sequence e.1)
@@ -84,9 +91,9 @@ leaf-tells (byte_set xs) (byte_set ys) h k = gives (λ e. ap byte_set e.1)
     (more (start (codes "{\"kind\":\"ByteSet\",\"bytes\":")) (if_ended (numbers-tell xs ys h k)) (codes "}") refl)
 leaf-tells (char_set xs) (char_set ys) h k = gives (λ e. ap char_set e.1)
     (more (start (codes "{\"kind\":\"CharSet\",\"characters\":")) (if_ended (numbers-tell xs ys h k)) (codes "}") refl)
-leaf-tells match_any match_any h k = gives (λ u. refl) (start (leaf_json match_any))
+leaf-tells match_any match_any h k = gives (λ u. refl) (start (ended match_any))
 leaf-tells match_any_except_line_terminator match_any_except_line_terminator h k =
-    gives (λ u. refl) (start (leaf_json match_any_except_line_terminator))
+    gives (λ u. refl) (start (ended match_any_except_line_terminator))
 leaf-tells (anchor x m) (anchor y n) h k = gives (λ e. λ i. anchor (e.0.1 i) (e.1 i))
     (more (more (start (codes "{\"kind\":\"Anchor\",\"anchor_type\":\""))
     (anchored-tells x y) (codes "\",\"multiline\":") refl)
@@ -96,9 +103,9 @@ leaf-tells (word_boundary x m) (word_boundary y n) h k = gives (λ e. λ i. word
     (truth-tells x y) (codes ",\"unicode_icase\":") refl)
     (truth-tells m n) (codes "}") refl)
 leaf-tells (bracket x xs) (bracket y ys) h k = gives (λ e. λ i. bracket (e.0.1 i) (e.1 i))
-    (more_items (more (start (codes "{\"kind\":\"Bracket\",\"invert\":"))
+    (then (more_items (more (start (codes "{\"kind\":\"Bracket\",\"invert\":"))
     (truth-tells x y) (codes ",\"cps\":[") refl)
-    (items-tell interval IntervalFits (λ iv jv p q. if_ended (interval-tells iv jv p q)) (λ iv p a. refl) xs ys h k) (codes "}"))
+    (items-tell interval IntervalFits (λ iv jv p q. if_ended (interval-tells iv jv p q)) (λ iv p a. refl) xs ys h k) []) (codes "}"))
 leaf-tells (back_ref x m) (back_ref y n) h k = gives (λ e. λ i. back_ref (e.0.1 i) (e.1 i))
     (more (more (start (codes "{\"kind\":\"BackRef\",\"group\":"))
     (number-tells x y h k) (codes ",\"icase\":") refl)
@@ -107,7 +114,7 @@ leaf-tells (string_set xs m) (string_set ys n) h k = gives (λ e. λ i. string_s
     (more (more_items (start (codes "{\"kind\":\"StringSet\",\"alternatives\":["))
     (items-tell numbers AllFit (λ s t p q. if_ended (numbers-tell s t p q)) (λ s p a. refl) xs ys h k) (codes ",\"icase\":"))
     (truth-tells m n) (codes "}") refl)
-leaf-tells l m h k = kinds-apart code (leaf-kind l) (leaf-kind m) refl
+leaf-tells l m h k = kinds-apart code (ended-kind l) (ended-kind m) refl
 
 abbrev pub wrapper_kind : Wrapper → List ℕ
 wrapper_kind (capture_group id name) = codes "CaptureGroup"

@@ -48,6 +48,14 @@ module _ {p q : List ℕ} {E : Type 0} where
         (found.0, append_cancel_left (codes "]") a b found.1);
   }
 
+  -- the same text behind both
+  pub then : Tells p q E → (s : List ℕ) → Tells (p ++ s) (q ++ s) E
+  then t s = record {
+    told = λ a b e.
+        let found = t.told (s ++ a) (s ++ b) (sym (append_assoc p s a) ∙ e ∙ append_assoc q s b) in
+        (found.0, append_cancel_left s a b found.1);
+  }
+
   -- the same text before both
   pub after : (s : List ℕ) → TellsIfClosed p q E → TellsIfClosed (s ++ p) (s ++ q) E
   after s t = record {

@@ -1,12 +1,14 @@
 -- A tree as JSON (RFC 8259): an object for each node, whose `kind` and members are named as in `Node`.
-use Rattle.std.specs.Prelude.{ℕ, Bool, true, false, List, [], ◌∷◌, ◌++◌, codes, Option, Some, None, if◌then◌else◌, nat_le, ◌==◌, ◌||◌, ◌&&◌}
-use Rattle.std.specs.List.{join_by}
+use Rattle.std.specs.Prelude.{ℕ, ◌+◌, Bool, true, false, List, [], ◌∷◌, ◌++◌, codes, Option, Some, None, if◌then◌else◌, nat_le, ◌==◌, ◌||◌, ◌&&◌}
+use Rattle.std.specs.List.{join_by, slice_get}
 use Rattle.std.specs.Fmt.{decimal}
 use Rattle.regress_base.specs.Intervals.{Bounds}
 use Rattle.regress_base.specs.declared.types.Flags.{Flags}
 use Rattle.regress_base.specs.declared.types.Quantifier.{Quantifier}
 use Rattle.regress_tree.specs.Display.{anchored, truth}
 use Rattle.regress_tree.specs.Tree.{Leaf, empty, goal, char, byte_sequence, byte_set, char_set, match_any, match_any_except_line_terminator, anchor, word_boundary, bracket, back_ref, string_set, Wrapper, capture_group, loop, loop_one, lookaround, Tree, Trees, leaf, cat, alt, wrapped, no_trees, more_trees}
+use Rattle.regress_tree.specs.Visits.{nodes, nodes_in_row}
+use Rattle.regress_spans.specs.declared.span.Span.{Span}
 
 -- `[97,98]`
 abbrev pub numbers : List ℕ → List ℕ
@@ -43,28 +45,28 @@ name None = codes "null"
 name (Some bytes) = if is_word bytes then codes "\"" ++ bytes ++ codes "\"" else numbers bytes
 
 abbrev pub node_of_bytes : List ℕ → List ℕ → List ℕ
-node_of_bytes kind bytes = codes "{\"kind\":\"" ++ kind ++ codes "\",\"bytes\":" ++ numbers bytes ++ codes "}"
+node_of_bytes kind bytes = codes "{\"kind\":\"" ++ kind ++ codes "\",\"bytes\":" ++ numbers bytes
 
--- a node that holds no node
+-- the members of a node that holds no node
 abbrev pub leaf_json : Leaf → List ℕ
-leaf_json empty = codes "{\"kind\":\"Empty\"}"
-leaf_json goal = codes "{\"kind\":\"Goal\"}"
-leaf_json (char c) = codes "{\"kind\":\"Char\",\"c\":" ++ decimal c ++ codes "}"
+leaf_json empty = codes "{\"kind\":\"Empty\""
+leaf_json goal = codes "{\"kind\":\"Goal\""
+leaf_json (char c) = codes "{\"kind\":\"Char\",\"c\":" ++ decimal c
 leaf_json (byte_sequence bytes) = node_of_bytes (codes "ByteSequence") bytes
 leaf_json (byte_set bytes) = node_of_bytes (codes "ByteSet") bytes
-leaf_json (char_set characters) = codes "{\"kind\":\"CharSet\",\"characters\":" ++ numbers characters ++ codes "}"
-leaf_json match_any = codes "{\"kind\":\"MatchAny\"}"
-leaf_json match_any_except_line_terminator = codes "{\"kind\":\"MatchAnyExceptLineTerminator\"}"
-leaf_json (anchor kind multiline) = codes "{\"kind\":\"Anchor\",\"anchor_type\":\"" ++ anchored kind ++ codes "\",\"multiline\":" ++ truth multiline ++ codes "}"
+leaf_json (char_set characters) = codes "{\"kind\":\"CharSet\",\"characters\":" ++ numbers characters
+leaf_json match_any = codes "{\"kind\":\"MatchAny\""
+leaf_json match_any_except_line_terminator = codes "{\"kind\":\"MatchAnyExceptLineTerminator\""
+leaf_json (anchor kind multiline) = codes "{\"kind\":\"Anchor\",\"anchor_type\":\"" ++ anchored kind ++ codes "\",\"multiline\":" ++ truth multiline
 leaf_json (word_boundary invert unicode_icase) =
-    codes "{\"kind\":\"WordBoundary\",\"invert\":" ++ truth invert ++ codes ",\"unicode_icase\":" ++ truth unicode_icase ++ codes "}"
+    codes "{\"kind\":\"WordBoundary\",\"invert\":" ++ truth invert ++ codes ",\"unicode_icase\":" ++ truth unicode_icase
 leaf_json (bracket invert intervals) =
-    codes "{\"kind\":\"Bracket\",\"invert\":" ++ truth invert ++ codes ",\"cps\":[" ++ join_by interval (codes ",") intervals ++ codes "]}"
-leaf_json (back_ref group icase) = codes "{\"kind\":\"BackRef\",\"group\":" ++ decimal group ++ codes ",\"icase\":" ++ truth icase ++ codes "}"
+    codes "{\"kind\":\"Bracket\",\"invert\":" ++ truth invert ++ codes ",\"cps\":[" ++ join_by interval (codes ",") intervals ++ codes "]"
+leaf_json (back_ref group icase) = codes "{\"kind\":\"BackRef\",\"group\":" ++ decimal group ++ codes ",\"icase\":" ++ truth icase
 leaf_json (string_set strings icase) =
-    codes "{\"kind\":\"StringSet\",\"alternatives\":[" ++ join_by numbers (codes ",") strings ++ codes "],\"icase\":" ++ truth icase ++ codes "}"
+    codes "{\"kind\":\"StringSet\",\"alternatives\":[" ++ join_by numbers (codes ",") strings ++ codes "],\"icase\":" ++ truth icase
 
--- what stands in front of the node inside; behind it stands `}`
+-- what stands in front of the node inside
 abbrev pub front : Wrapper → List ℕ
 front (capture_group id n) = codes "{\"kind\":\"CaptureGroup\",\"id\":" ++ decimal id ++ codes ",\"name\":" ++ name n ++ codes ",\"contents\":"
 front (loop q start end) =
@@ -74,7 +76,7 @@ front (lookaround negate backwards start end) = codes "{\"kind\":\"LookaroundAss
     ++ codes ",\"backwards\":" ++ truth backwards ++ codes ",\"start_group\":" ++ decimal start
     ++ codes ",\"end_group\":" ++ decimal end ++ codes ",\"contents\":"
 
--- What stands in front of the nodes inside: the whole object, where there are none.
+-- What stands in front of the nodes inside: all members, where there are none.
 abbrev pub opening : Tree → List ℕ
 opening (leaf l) = leaf_json l
 opening (cat parts) = codes "{\"kind\":\"Cat\",\"parts\":["
@@ -85,30 +87,52 @@ opening (wrapped w body) = front w
 abbrev pub comma : Bool → List ℕ
 comma first = if first then [] else codes ","
 
-abbrev mutual
-  -- An `Alt` whose right side is another one is one object with the alternatives of both.
-  pub node_json : Tree → List ℕ
-  node_json (leaf l) = opening (leaf l)
-  node_json (cat parts) = opening (cat parts) ++ row_json true parts ++ codes "]}"
-  node_json (alt left right) = opening (alt left right) ++ (node_json left ++ further_json right) ++ codes "]}"
-  node_json (wrapped w body) = opening (wrapped w body) ++ node_json body ++ codes "}"
+-- Objects whose nodes are numbered in postorder: what the mark of its number says stands at the end of each.
+module _ (mark : ℕ → List ℕ) where
+  abbrev pub ending : ℕ → List ℕ
+  ending number = mark number ++ codes "}"
 
-  -- the alternatives behind the first one
-  pub further_json : Tree → List ℕ
-  further_json (leaf l) = codes "," ++ opening (leaf l)
-  further_json (cat parts) = codes "," ++ opening (cat parts) ++ row_json true parts ++ codes "]}"
-  further_json (alt left right) = codes "," ++ (node_json left ++ further_json right)
-  further_json (wrapped w body) = codes "," ++ opening (wrapped w body) ++ node_json body ++ codes "}"
+  -- `at` is the number of the first node
+  abbrev mutual
+    -- An `Alt` whose right side is another one is one object with the alternatives of both, and the number of the right one is
+    -- passed over.
+    pub node_json : (at : ℕ) → Tree → List ℕ
+    node_json at (leaf l) = opening (leaf l) ++ ending at
+    node_json at (cat parts) = opening (cat parts) ++ row_json at true parts ++ (codes "]" ++ ending (at + nodes_in_row parts))
+    node_json at (alt left right) =
+        opening (alt left right) ++ (node_json at left ++ further_json (at + nodes left) right)
+        ++ (codes "]" ++ ending (at + (nodes left + nodes right)))
+    node_json at (wrapped w body) = opening (wrapped w body) ++ node_json at body ++ ending (at + nodes body)
 
-  -- parts with commas between, where the row begins with the first part or goes on
-  pub row_json : Bool → Trees → List ℕ
-  row_json first no_trees = []
-  row_json first (more_trees t ts) = comma first ++ (node_json t ++ row_json false ts)
+    -- the alternatives behind the first one
+    pub further_json : (at : ℕ) → Tree → List ℕ
+    further_json at (leaf l) = codes "," ++ (opening (leaf l) ++ ending at)
+    further_json at (cat parts) = codes "," ++ (opening (cat parts) ++ row_json at true parts ++ (codes "]" ++ ending (at + nodes_in_row parts)))
+    further_json at (alt left right) = codes "," ++ (node_json at left ++ further_json (at + nodes left) right)
+    further_json at (wrapped w body) = codes "," ++ (opening (wrapped w body) ++ node_json at body ++ ending (at + nodes body))
+
+    -- parts with commas between, where the row begins with the first part or goes on
+    pub row_json : (at : ℕ) → Bool → Trees → List ℕ
+    row_json at first no_trees = []
+    row_json at first (more_trees t ts) = comma first ++ (node_json at t ++ row_json (at + nodes t) false ts)
 
 abbrev pub flags_json : Flags → List ℕ
 flags_json f = codes "{\"icase\":" ++ truth f.icase ++ codes ",\"multiline\":" ++ truth f.multiline ++ codes ",\"dot_all\":" ++ truth f.dot_all
     ++ codes ",\"unicode\":" ++ truth f.unicode ++ codes ",\"unicode_sets\":" ++ truth f.unicode_sets ++ codes "}"
 
--- a pattern: its flags and its tree
+-- where a node stands in its pattern, if that is told
+abbrev pub span_or_none : Option Span → List ℕ
+span_or_none None = []
+span_or_none (Some s) = codes ",\"span\":[" ++ decimal s.start ++ codes "," ++ decimal s.end ++ codes "]"
+
+-- the span with that number
+abbrev pub span_mark : List Span → ℕ → List ℕ
+span_mark spans number = span_or_none (slice_get spans number)
+
+-- a pattern: its flags, and its tree with the spans of its nodes in postorder
+abbrev pub spanned_json_of : Flags → Tree → List Span → List ℕ
+spanned_json_of f t spans = codes "{\"flags\":" ++ flags_json f ++ codes ",\"node\":" ++ node_json (span_mark spans) 0 t ++ codes "}"
+
+-- without spans
 abbrev pub json_of : Flags → Tree → List ℕ
-json_of f t = codes "{\"flags\":" ++ flags_json f ++ codes ",\"node\":" ++ node_json t ++ codes "}"
+json_of f t = spanned_json_of f t []

@@ -1,17 +1,20 @@
 //! The tree as JSON: an object for each node, with everything that the node has.
-ghost use Rattle.std.specs.Prelude.{◌≡◌, ◌<◌, ◌++◌, true, false, codes, flat_map, option_map, string_bytes, map, IfSome, MatchOption};
+ghost use Rattle.std.specs.Prelude.{◌≡◌, ◌++◌, ℕ, List, OnOk, true, codes, drop, flat_map, option_map, string_bytes, map};
 ghost use Rattle.std.specs.Box.{boxed_slice_items};
 ghost use Rattle.std.specs.List.{join_by};
 ghost use Rattle.std.specs.Fmt.{WritesOnOk, decimal};
-ghost use Rattle.regress_tree.specs.Tree.{tree, trees, capture_group, loop, loop_one, lookaround, anchor, word_boundary, alt, bracket, char_set, back_ref, string_set};
-ghost use Rattle.regress_tree.specs.Spine.{is_alt};
-ghost use Rattle.regress_tree.specs.declared.ir.node.Node.{size-Node};
+ghost use Rattle.regress_tree.specs.Tree.{tree, trees, capture_group, loop, loop_one, lookaround, anchor, word_boundary, bracket, char_set, back_ref, string_set};
+ghost use Rattle.regress_tree.specs.Visits.{nodes, nodes_in_row};
+ghost use Rattle.regress_spans.specs.declared.span.Span.{Span};
 ghost use Rattle.regress_show.specs.Json as text;
 
+use crate::marks::Marks;
+use crate::sides::sides;
 use regress_base::codepointset::Interval;
 use regress_base::types::{
     AnchorType, BracketContents, CaptureGroupID, CaptureGroupName, Flags, Quantifier,
 };
+use regress_spans::Span;
 use regress_tree::ir::held::body;
 use regress_tree::ir::{Node, Regex};
 use std::boxed::BoxedSlice;
@@ -33,12 +36,40 @@ impl fmt::Display for Json<'_> {
     ghost output = { λ json. Some (json_of json.0.now.flags (tree json.0.now.node)) };
 
     fn fmt<W: Write>(&self, f: &mut Formatter<W>) -> fmt::Result {
-        f.write_str("{\"flags\":")?;
-        write_flags(self.0.flags, f)?;
-        f.write_str(",\"node\":")?;
-        write_node(&self.0.node, f)?;
-        f.write_str("}")
+        write_pattern(self.0, &[], f)
     }
+}
+
+/// `Json` with the last member `"span":[first,end]` in the object of each node that has a span. An `Alt` that is the right
+/// side of another one has no object, so that its span isn't shown: it begins where the first alternative in it does.
+#[derive(Clone, Copy)]
+pub struct SpannedJson<'a> {
+    pub regex: &'a Regex,
+    /// A span for each node, in the order in which a walk in postorder comes to them, as `try_parse_with_spans` answers
+    /// them. Where there are fewer, the further nodes have none.
+    pub spans: &'a [Span],
+}
+
+impl fmt::Display for SpannedJson<'_> {
+    ghost use Rattle.std.specs.Prelude.{Some};
+    ghost use Rattle.regress_tree.specs.Tree.{tree};
+    ghost use Rattle.regress_show.specs.Json.{spanned_json_of};
+
+    ghost output = { λ json. Some (spanned_json_of json.regex.now.flags (tree json.regex.now.node) json.spans.now) };
+
+    fn fmt<W: Write>(&self, f: &mut Formatter<W>) -> fmt::Result {
+        write_pattern(self.regex, self.spans, f)
+    }
+}
+
+fn write_pattern<W: Write>(regex: &Regex, spans: &[Span], f: &mut Formatter<W>) -> fmt::Result
+    ensures { WritesOnOk W.write_str_gives f.old result (text.spanned_json_of regex.now.flags (tree regex.now.node) spans.now) f.new }
+{
+    f.write_str("{\"flags\":")?;
+    write_flags(regex.flags, f)?;
+    f.write_str(",\"node\":")?;
+    write_node(&regex.node, &mut Marks { left: spans }, f)?;
+    f.write_str("}")
 }
 
 fn write_flags<W: Write>(flags: Flags, f: &mut Formatter<W>) -> fmt::Result
@@ -52,47 +83,63 @@ fn write_flags<W: Write>(flags: Flags, f: &mut Formatter<W>) -> fmt::Result
     )
 }
 
+/// Writes a node, with the marks of all nodes in it.
 #[cycle(write_node)]
-fn write_node<W: Write>(node: &Node, f: &mut Formatter<W>) -> fmt::Result
-    ensures { WritesOnOk W.write_str_gives f.old result (text.node_json (tree node.now)) f.new }
+fn write_node<W: Write>(node: &Node, marks: &mut Marks<'_>, f: &mut Formatter<W>) -> fmt::Result
+    ensures written { (all : List Span) (at : ℕ) → marks.old.left.now ≡ drop at all →
+        WritesOnOk W.write_str_gives f.old result (text.node_json (text.span_mark all) at (tree node.now)) f.new }
+    ensures passed { OnOk result (marks.new.left.now ≡ drop (nodes (tree node.now)) marks.old.left.now) }
 {
     write_opening(node, f)?;
     match node {
         Node::Cat(parts) => {
-            write_row(parts, f)?;
-            f.write_str("]}")
+            write_row(parts, marks, f)?;
+            f.write_str("]")?;
         }
-        // The right sides of alternatives take no stack: there may be as many levels as alternatives.
         Node::Alt(left, right) => {
-            write_node(left, f)?;
-            let mut rest: &Node = right;
-            while let Some((left, right)) = sides(rest) {
-                f.write_str(",")?;
-                write_node(left, f)?;
-                rest = right;
-            }
-            f.write_str(",")?;
-            write_node(rest, f)?;
-            f.write_str("]}")
+            write_node(left, marks, f)?;
+            write_further(right, marks, f)?;
+            f.write_str("]")?;
         }
         _ => {
-            let Some(body) = body(node) else {
-                return Ok(());
-            };
-            write_node(body, f)?;
-            f.write_str("}")
+            if let Some(body) = body(node) {
+                write_node(body, marks, f)?;
+            }
         }
     }
+    marks.write_ending(f)
 }
 
+/// Writes the alternatives of a right side. They take no stack: there may be as many levels as alternatives.
 #[cycle(write_node)]
-fn write_row<W: Write>(parts: &[Node], f: &mut Formatter<W>) -> fmt::Result
-    ensures { WritesOnOk W.write_str_gives f.old result (text.row_json true (trees parts.now)) f.new }
+fn write_further<W: Write>(right: &Node, marks: &mut Marks<'_>, f: &mut Formatter<W>) -> fmt::Result
+    ensures written { (all : List Span) (at : ℕ) → marks.old.left.now ≡ drop at all →
+        WritesOnOk W.write_str_gives f.old result (text.further_json (text.span_mark all) at (tree right.now)) f.new }
+    ensures passed { OnOk result (marks.new.left.now ≡ drop (nodes (tree right.now)) marks.old.left.now) }
+{
+    let mut last = right;
+    while let Some((left, right)) = sides(last) {
+        f.write_str(",")?;
+        write_node(left, marks, f)?;
+        last = right;
+    }
+    f.write_str(",")?;
+    write_node(last, marks, f)?;
+    marks.pass_alternations(right);
+    Ok(())
+}
+
+/// Writes the parts of a row.
+#[cycle(write_node)]
+fn write_row<W: Write>(parts: &[Node], marks: &mut Marks<'_>, f: &mut Formatter<W>) -> fmt::Result
+    ensures written { (all : List Span) (at : ℕ) → marks.old.left.now ≡ drop at all →
+        WritesOnOk W.write_str_gives f.old result (text.row_json (text.span_mark all) at true (trees parts.now)) f.new }
+    ensures passed { OnOk result (marks.new.left.now ≡ drop (nodes_in_row (trees parts.now)) marks.old.left.now) }
 {
     let mut first = true;
     for part in parts {
         write_comma(first, f)?;
-        write_node(part, f)?;
+        write_node(part, marks, f)?;
         first = false;
     }
     Ok(())
@@ -105,34 +152,22 @@ fn write_comma<W: Write>(first: bool, f: &mut Formatter<W>) -> fmt::Result
     if first { Ok(()) } else { f.write_str(",") }
 }
 
-/// Both sides of an `Alt`.
-fn sides(node: &Node) -> Option<(&Node, &Node)>
-    ensures sides { MatchOption result (is_alt (tree node.now) ≡ false)
-        (λ sides. tree node.now ≡ alt (tree sides.0.now) (tree sides.1.now)) }
-    ensures smaller { IfSome result (λ sides. (size-Node sides.0.now < size-Node node.now) × (size-Node sides.1.now < size-Node node.now)) }
-{
-    match node {
-        Node::Alt(left, right) => Some((left, right)),
-        _ => None,
-    }
-}
-
-/// Writes what stands in front of the nodes inside: the whole object, where there are none.
+/// Writes what stands in front of the nodes inside: all members, where there are none.
 fn write_opening<W: Write>(node: &Node, f: &mut Formatter<W>) -> fmt::Result
     ensures { WritesOnOk W.write_str_gives f.old result (text.opening (tree node.now)) f.new }
 {
     match node {
-        Node::Empty => f.write_str("{\"kind\":\"Empty\"}"),
-        Node::Goal => f.write_str("{\"kind\":\"Goal\"}"),
-        Node::Char { c } => write!(f, "{{\"kind\":\"Char\",\"c\":{c}}}"),
+        Node::Empty => f.write_str("{\"kind\":\"Empty\""),
+        Node::Goal => f.write_str("{\"kind\":\"Goal\""),
+        Node::Char { c } => write!(f, "{{\"kind\":\"Char\",\"c\":{c}"),
         Node::ByteSequence(bytes) => write_bytes("ByteSequence", bytes, f),
         Node::ByteSet(bytes) => write_bytes("ByteSet", bytes, f),
         Node::CharSet(characters) => write_char_set(characters, f),
         Node::Cat(_) => f.write_str("{\"kind\":\"Cat\",\"parts\":["),
         Node::Alt(..) => f.write_str("{\"kind\":\"Alt\",\"alternatives\":["),
-        Node::MatchAny => f.write_str("{\"kind\":\"MatchAny\"}"),
+        Node::MatchAny => f.write_str("{\"kind\":\"MatchAny\""),
         Node::MatchAnyExceptLineTerminator => {
-            f.write_str("{\"kind\":\"MatchAnyExceptLineTerminator\"}")
+            f.write_str("{\"kind\":\"MatchAnyExceptLineTerminator\"")
         }
         Node::CaptureGroup { id, name, .. } => write_group(*id, name, f),
         Node::Anchor {
@@ -174,7 +209,7 @@ fn write_word_boundary<W: Write>(
 {
     write!(
         f,
-        "{{\"kind\":\"WordBoundary\",\"invert\":{invert},\"unicode_icase\":{unicode_icase}}}"
+        "{{\"kind\":\"WordBoundary\",\"invert\":{invert},\"unicode_icase\":{unicode_icase}"
     )
 }
 
@@ -183,7 +218,7 @@ fn write_reference<W: Write>(group: u32, icase: bool, f: &mut Formatter<W>) -> f
 {
     write!(
         f,
-        "{{\"kind\":\"BackRef\",\"group\":{group},\"icase\":{icase}}}"
+        "{{\"kind\":\"BackRef\",\"group\":{group},\"icase\":{icase}"
     )
 }
 
@@ -196,7 +231,7 @@ fn write_anchor<W: Write>(kind: AnchorType, multiline: bool, f: &mut Formatter<W
     };
     write!(
         f,
-        "{{\"kind\":\"Anchor\",\"anchor_type\":\"{end}\",\"multiline\":{multiline}}}"
+        "{{\"kind\":\"Anchor\",\"anchor_type\":\"{end}\",\"multiline\":{multiline}"
     )
 }
 
@@ -302,7 +337,7 @@ fn write_bracket<W: Write>(contents: &BracketContents, f: &mut Formatter<W>) -> 
     let invert = contents.invert;
     write!(f, "{{\"kind\":\"Bracket\",\"invert\":{invert},\"cps\":[")?;
     write_intervals(contents.cps.intervals(), f)?;
-    f.write_str("]}")
+    f.write_str("]")
 }
 
 fn write_intervals<W: Write>(intervals: &[Interval], f: &mut Formatter<W>) -> fmt::Result
@@ -339,7 +374,7 @@ fn write_string_set<W: Write>(
 {
     f.write_str("{\"kind\":\"StringSet\",\"alternatives\":[")?;
     write_strings(strings, f)?;
-    write!(f, "],\"icase\":{icase}}}")
+    write!(f, "],\"icase\":{icase}")
 }
 
 fn write_strings<W: Write>(strings: &[BoxedSlice<u32>], f: &mut Formatter<W>) -> fmt::Result
@@ -367,8 +402,7 @@ fn write_char_set<W: Write>(characters: &[u32], f: &mut Formatter<W>) -> fmt::Re
     ensures { WritesOnOk W.write_str_gives f.old result (text.leaf_json (char_set characters.now)) f.new }
 {
     f.write_str("{\"kind\":\"CharSet\",\"characters\":")?;
-    write_characters(characters, f)?;
-    f.write_str("}")
+    write_characters(characters, f)
 }
 
 fn write_characters<W: Write>(characters: &[u32], f: &mut Formatter<W>) -> fmt::Result
@@ -388,8 +422,7 @@ fn write_bytes<W: Write>(kind: &str, bytes: &[u8], f: &mut Formatter<W>) -> fmt:
     ensures { WritesOnOk W.write_str_gives f.old result (text.node_of_bytes kind.now bytes.now) f.new }
 {
     write!(f, "{{\"kind\":\"{kind}\",\"bytes\":")?;
-    write_byte_list(bytes, f)?;
-    f.write_str("}")
+    write_byte_list(bytes, f)
 }
 
 fn write_byte_list<W: Write>(bytes: &[u8], f: &mut Formatter<W>) -> fmt::Result

@@ -3,6 +3,8 @@
 
 mod json;
 mod law;
+mod marks;
+mod sides;
 
-pub use json::Json;
+pub use json::{Json, SpannedJson};
 pub use law::json_tells_the_pattern;

@@ -1,12 +1,23 @@
 -- The JSON of a pattern tells its flags and its tree, so no two patterns have the same.
-use Rattle.std.proofs.Common.{◌≡◌, ◌∙◌, ℕ, ◌==◌, ◌||◌, Bool, true, false, if◌then◌else◌, List, [], ◌++◌, refl, ap, codes}
+use Rattle.std.proofs.Common.{◌≡◌, ◌∙◌, ℕ, ◌+◌, ◌==◌, ◌||◌, Bool, true, false, if◌then◌else◌, List, [], ◌++◌, refl, ap, codes}
 use Rattle.regress_base.specs.declared.types.Flags.{Flags}
 use Rattle.regress_tree.specs.Tree.{Leaf, empty, goal, char, byte_sequence, byte_set, char_set, match_any, match_any_except_line_terminator, anchor, word_boundary, bracket, back_ref, string_set, Wrapper, capture_group, loop, loop_one, lookaround, Tree, Trees, leaf, cat, alt, wrapped, no_trees, more_trees}
-use Rattle.regress_show.specs.Json.{node_json, further_json, row_json, json_of}
+use Rattle.regress_tree.specs.Visits.{nodes}
+use Rattle.regress_show.specs.Json.{node_json, further_json, row_json, span_mark, json_of}
 use Rattle.regress_show.specs.Numbers.{NumbersFit, RowFits}
 use Rattle.regress_show.proofs.TellingLemmas.{Tells, TellsIfClosed, gives, gives_if_closed, if_ended, if_closed, after, start, more, more_items, item, goes_on, none, none_some, some_none, right_longer, left_longer}
 use Rattle.regress_show.proofs.PieceLemmas.{flags-tell}
-use Rattle.regress_show.proofs.KindLemmas.{HasKind, begun, begun_more, code, kinds-apart, leaf_kind, leaf-kind, leaf-tells, wrapper_kind, wrapper-kind, wrapper-tells}
+use Rattle.regress_show.proofs.KindLemmas.{HasKind, begun, begun_more, code, kinds-apart, leaf_kind, ended-kind, leaf-tells, wrapper_kind, wrapper-kind, wrapper-tells}
+
+-- texts without marks
+abbrev node : ℕ → Tree → List ℕ
+node n t = node_json (span_mark []) n t
+
+abbrev further : ℕ → Tree → List ℕ
+further n t = further_json (span_mark []) n t
+
+abbrev row : ℕ → Bool → Trees → List ℕ
+row n first ts = row_json (span_mark []) n first ts
 
 abbrev tree_kind : Tree → List ℕ
 tree_kind (leaf l) = leaf_kind l
@@ -14,11 +25,11 @@ tree_kind (cat parts) = codes "Cat"
 tree_kind (alt left right) = codes "Alt"
 tree_kind (wrapped w body) = wrapper_kind w
 
-tree-kind : (t : Tree) → HasKind (node_json t) (tree_kind t)
-tree-kind (leaf l) = leaf-kind l
-tree-kind (cat parts) = begun (codes "Cat") _ refl
-tree-kind (alt left right) = begun (codes "Alt") _ refl
-tree-kind (wrapped w body) = begun_more (begun_more (wrapper-kind w) (node_json body)) (codes "}")
+tree-kind : (n : ℕ) (t : Tree) → HasKind (node n t) (tree_kind t)
+tree-kind n (leaf l) = ended-kind l
+tree-kind n (cat parts) = begun (codes "Cat") _ refl
+tree-kind n (alt left right) = begun (codes "Alt") _ refl
+tree-kind n (wrapped w body) = begun_more (begun_more (wrapper-kind w) (node n body)) (codes "}")
 
 abbrev constructor_of : Tree → ℕ
 constructor_of (leaf l) = 0
@@ -64,69 +75,79 @@ constructor-tree (wrapped (loop q start end) body) = refl
 constructor-tree (wrapped (loop_one q) body) = refl
 constructor-tree (wrapped (lookaround negate backwards start end) body) = refl
 
-constructors-apart : (t u : Tree) {E : Type 0} → (constructor_of t == constructor_of u) ≡ false → Tells (node_json t) (node_json u) E
-constructors-apart t u differ = kinds-apart constructor_of_kind (tree-kind t) (tree-kind u)
+constructors-apart : (m n : ℕ) (t u : Tree) {E : Type 0} → (constructor_of t == constructor_of u) ≡ false → Tells (node m t) (node n u) E
+constructors-apart m n t u differ = kinds-apart constructor_of_kind (tree-kind m t) (tree-kind n u)
     ((λ i. constructor-tree t i == constructor-tree u i) ∙ differ)
 
-node-goes_on : (t : Tree) (a b : List ℕ) → goes_on ((node_json t ++ a) ++ b) ≡ true
-node-goes_on t a b = ap goes_on (begun_more (begun_more (tree-kind t) a) b).begins
+node-goes_on : (n : ℕ) (t : Tree) (a b : List ℕ) → goes_on ((node n t ++ a) ++ b) ≡ true
+node-goes_on n t a b = ap goes_on (begun_more (begun_more (tree-kind n t) a) b).begins
 
-further-goes_on : (t : Tree) (a : List ℕ) → goes_on (further_json t ++ a) ≡ true
-further-goes_on (leaf l) a = refl
-further-goes_on (cat parts) a = refl
-further-goes_on (alt left right) a = refl
-further-goes_on (wrapped w body) a = refl
+further-goes_on : (n : ℕ) (t : Tree) (a : List ℕ) → goes_on (further n t ++ a) ≡ true
+further-goes_on n (leaf l) a = refl
+further-goes_on n (cat parts) a = refl
+further-goes_on n (alt left right) a = refl
+further-goes_on n (wrapped w body) a = refl
 
--- what is proved of a tree by induction, of its text as a node, as alternatives behind another one, and of a row
+-- What is proved of a tree by induction, of its text as a node, as alternatives behind another one, and of a row, whatever the
+-- numbers of the first nodes.
 abbrev Told : Tree → Type 0
-Told t = (u : Tree) → NumbersFit t → NumbersFit u → Tells (node_json t) (node_json u) (t ≡ u)
+Told t = (u : Tree) (m n : ℕ) → NumbersFit t → NumbersFit u → Tells (node m t) (node n u) (t ≡ u)
 
 abbrev FurtherTold : Tree → Type 0
-FurtherTold t = (u : Tree) → NumbersFit t → NumbersFit u → TellsIfClosed (further_json t) (further_json u) (t ≡ u)
+FurtherTold t = (u : Tree) (m n : ℕ) → NumbersFit t → NumbersFit u → TellsIfClosed (further m t) (further n u) (t ≡ u)
 
 abbrev RowTold : Trees → Type 0
-RowTold ts = (first : Bool) (us : Trees) → RowFits ts → RowFits us → TellsIfClosed (row_json first ts) (row_json first us) (ts ≡ us)
+RowTold ts = (first : Bool) (us : Trees) (m n : ℕ) → RowFits ts → RowFits us → TellsIfClosed (row m first ts) (row n first us) (ts ≡ us)
 
 leaf-told : (l : Leaf) → Told (leaf l)
-leaf-told l (leaf m) h k = gives (λ e. ap leaf e) (leaf-tells l m h k)
-leaf-told l u h k = constructors-apart (leaf l) u refl
+leaf-told l (leaf v) m n h k = gives (λ e. ap leaf e) (leaf-tells l v h k)
+leaf-told l u m n h k = constructors-apart m n (leaf l) u refl
 
 cat-told : (ts : Trees) → RowTold ts → Told (cat ts)
-cat-told ts row (cat us) h k =
-    gives (λ e. ap cat e.1) (more_items (start (codes "{\"kind\":\"Cat\",\"parts\":[")) (row true us h k) (codes "}"))
-cat-told ts row u h k = constructors-apart (cat ts) u refl
+cat-told ts parts (cat us) m n h k =
+    gives (λ e. ap cat e.1) (more_items (start (codes "{\"kind\":\"Cat\",\"parts\":[")) (parts true us m n h k) (codes "}"))
+cat-told ts parts u m n h k = constructors-apart m n (cat ts) u refl
 
 wrapped-told : (w : Wrapper) (t : Tree) → Told t → Told (wrapped w t)
-wrapped-told w t inside (wrapped v u) h k = gives (λ e. λ i. wrapped (e.0 i) (e.1 i))
-    (more (wrapper-tells w v h.0 k.0) (if_ended (inside u h.1 k.1)) (codes "}") refl)
-wrapped-told w t inside u h k = constructors-apart (wrapped w t) u refl
+wrapped-told w t inside (wrapped v u) m n h k = gives (λ e. λ i. wrapped (e.0 i) (e.1 i))
+    (more (wrapper-tells w v h.0 k.0) (if_ended (inside u m n h.1 k.1)) (codes "}") refl)
+wrapped-told w t inside u m n h k = constructors-apart m n (wrapped w t) u refl
 
-sides-told : (l r m s : Tree) → Told l → FurtherTold r → NumbersFit (alt l r) → NumbersFit (alt m s) →
-    TellsIfClosed (node_json l ++ further_json r) (node_json m ++ further_json s) (alt l r ≡ alt m s)
-sides-told l r m s left right h k = gives_if_closed (λ e. λ i. alt (e.0 i) (e.1 i)) (item (left m h.0 k.0) (right s h.1 k.1))
+sides-told : (l r l' r' : Tree) → Told l → FurtherTold r → (m n : ℕ) → NumbersFit (alt l r) → NumbersFit (alt l' r') →
+    TellsIfClosed (node m l ++ further (m + nodes l) r) (node n l' ++ further (n + nodes l') r') (alt l r ≡ alt l' r')
+sides-told l r l' r' left right m n h k = gives_if_closed (λ e. λ i. alt (e.0 i) (e.1 i))
+    (item (left l' m n h.0 k.0) (right r' (m + nodes l) (n + nodes l') h.1 k.1))
 
 alt-told : (l r : Tree) → Told l → FurtherTold r → Told (alt l r)
-alt-told l r left right (alt m s) h k =
-    gives (λ e. e.1) (more_items (start (codes "{\"kind\":\"Alt\",\"alternatives\":[")) (sides-told l r m s left right h k) (codes "}"))
-alt-told l r left right u h k = constructors-apart (alt l r) u refl
+alt-told l r left right (alt l' r') m n h k = gives (λ e. e.1)
+    (more_items (start (codes "{\"kind\":\"Alt\",\"alternatives\":[")) (sides-told l r l' r' left right m n h k) (codes "}"))
+alt-told l r left right u m n h k = constructors-apart m n (alt l r) u refl
+
+-- alternatives, and one alone
+longer-told : (l r u : Tree) → Told l → (m n : ℕ) → NumbersFit (alt l r) → NumbersFit u →
+    TellsIfClosed (further m (alt l r)) (codes "," ++ node n u) (alt l r ≡ u)
+longer-told l r u left m n h k =
+    after (codes ",") (left_longer (left u m n h.0 k) (further (m + nodes l) r) (further-goes_on (m + nodes l) r))
 
 further_alt-told : (l r : Tree) → Told l → FurtherTold r → FurtherTold (alt l r)
-further_alt-told l r left right (alt m s) h k = after (codes ",") (sides-told l r m s left right h k)
-further_alt-told l r left right (leaf m) h k = after (codes ",") (left_longer (left (leaf m) h.0 k) (further_json r) (further-goes_on r))
-further_alt-told l r left right (cat us) h k = after (codes ",") (left_longer (left (cat us) h.0 k) (further_json r) (further-goes_on r))
-further_alt-told l r left right (wrapped v u) h k = after (codes ",") (left_longer (left (wrapped v u) h.0 k) (further_json r) (further-goes_on r))
+further_alt-told l r left right (alt l' r') m n h k = after (codes ",") (sides-told l r l' r' left right m n h k)
+further_alt-told l r left right (leaf v) m n h k = longer-told l r (leaf v) left m n h k
+further_alt-told l r left right (cat us) m n h k = longer-told l r (cat us) left m n h k
+further_alt-told l r left right (wrapped v u) m n h k = longer-told l r (wrapped v u) left m n h k
 
 -- the last alternative
-last-told : (t : Tree) → Told t → (u : Tree) → NumbersFit t → NumbersFit u → TellsIfClosed (codes "," ++ node_json t) (further_json u) (t ≡ u)
-last-told t own (alt m s) h k = after (codes ",") (right_longer (own m h k.0) (further_json s) (further-goes_on s))
-last-told t own (leaf m) h k = after (codes ",") (if_closed (own (leaf m) h k))
-last-told t own (cat us) h k = after (codes ",") (if_closed (own (cat us) h k))
-last-told t own (wrapped v u) h k = after (codes ",") (if_closed (own (wrapped v u) h k))
+last-told : (t : Tree) → Told t → (u : Tree) (m n : ℕ) → NumbersFit t → NumbersFit u →
+    TellsIfClosed (codes "," ++ node m t) (further n u) (t ≡ u)
+last-told t own (alt l r) m n h k =
+    after (codes ",") (right_longer (own l m n h k.0) (further (n + nodes l) r) (further-goes_on (n + nodes l) r))
+last-told t own (leaf v) m n h k = after (codes ",") (if_closed (own (leaf v) m n h k))
+last-told t own (cat us) m n h k = after (codes ",") (if_closed (own (cat us) m n h k))
+last-told t own (wrapped v u) m n h k = after (codes ",") (if_closed (own (wrapped v u) m n h k))
 
-parts-told : (t u : Tree) (ts us : Trees) → Told t → RowTold ts → RowFits (more_trees t ts) → RowFits (more_trees u us) →
-    TellsIfClosed (node_json t ++ row_json false ts) (node_json u ++ row_json false us) (more_trees t ts ≡ more_trees u us)
-parts-told t u ts us own row h k =
-    gives_if_closed (λ e. λ i. more_trees (e.0 i) (e.1 i)) (item (own u h.0 k.0) (row false us h.1 k.1))
+parts-told : (t u : Tree) (ts us : Trees) → Told t → RowTold ts → (m n : ℕ) → RowFits (more_trees t ts) → RowFits (more_trees u us) →
+    TellsIfClosed (node m t ++ row (m + nodes t) false ts) (node n u ++ row (n + nodes u) false us) (more_trees t ts ≡ more_trees u us)
+parts-told t u ts us own others m n h k = gives_if_closed (λ e. λ i. more_trees (e.0 i) (e.1 i))
+    (item (own u m n h.0 k.0) (others false us (m + nodes t) (n + nodes u) h.1 k.1))
 
 mutual
   tree-told : (t : Tree) → Told t × FurtherTold t
@@ -139,20 +160,20 @@ mutual
   tree-told (wrapped w t) = let own = wrapped-told w t (tree-told t).0 in (own, last-told (wrapped w t) own)
 
   row-told : (ts : Trees) → RowTold ts
-  row-told no_trees first no_trees h k = gives_if_closed (λ u. refl) none
-  row-told no_trees true (more_trees u us) h k = none_some (node-goes_on u (row_json false us))
-  row-told no_trees false (more_trees u us) h k = none_some (λ c. refl)
-  row-told (more_trees t ts) true no_trees h k = some_none (node-goes_on t (row_json false ts))
-  row-told (more_trees t ts) false no_trees h k = some_none (λ c. refl)
-  row-told (more_trees t ts) true (more_trees u us) h k = parts-told t u ts us (tree-told t).0 (row-told ts) h k
-  row-told (more_trees t ts) false (more_trees u us) h k =
-      after (codes ",") (parts-told t u ts us (tree-told t).0 (row-told ts) h k)
+  row-told no_trees first no_trees m n h k = gives_if_closed (λ u. refl) none
+  row-told no_trees true (more_trees u us) m n h k = none_some (node-goes_on n u (row (n + nodes u) false us))
+  row-told no_trees false (more_trees u us) m n h k = none_some (λ c. refl)
+  row-told (more_trees t ts) true no_trees m n h k = some_none (node-goes_on m t (row (m + nodes t) false ts))
+  row-told (more_trees t ts) false no_trees m n h k = some_none (λ c. refl)
+  row-told (more_trees t ts) true (more_trees u us) m n h k = parts-told t u ts us (tree-told t).0 (row-told ts) m n h k
+  row-told (more_trees t ts) false (more_trees u us) m n h k =
+      after (codes ",") (parts-told t u ts us (tree-told t).0 (row-told ts) m n h k)
 
 pattern-told : (f g : Flags) (t u : Tree) → NumbersFit t → NumbersFit u → Tells (json_of f t) (json_of g u) ((f ≡ g) × (t ≡ u))
 pattern-told f g t u h k = gives (λ e. (e.0.1, e.1))
     (more (more (start (codes "{\"flags\":"))
     (if_ended (flags-tell f g)) (codes ",\"node\":") refl)
-    (if_ended ((tree-told t).0 u h k)) (codes "}") refl)
+    (if_ended ((tree-told t).0 u 0 0 h k)) (codes "}") refl)
 
 -- whatever stands behind
 pub json-tells_in_front : (f g : Flags) (t u : Tree) → NumbersFit t → NumbersFit u → (a b : List ℕ) →

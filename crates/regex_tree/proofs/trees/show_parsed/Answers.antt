@@ -6,7 +6,9 @@ use Rattle.regex_tree.proofs.trees.show_parsed.Goals as goal
 pub returns-in_ok-write_tree-in-Both-clause-shown : goal.returns-in_ok-write_tree-in-Both-clause-shown
 returns-in_ok-write_tree-in-Both-clause-shown g c =
     let contents = g.W.Write.contents in
+    let parsed = c.args.parsed in
+    let first = rw c.deref.ensures.value at c.in_ok-write_tree-in-Both.ensures.written in
     rw c.in-Both.is
-    (shows_both c.args.format c.args.regex.flags (tree c.args.regex.node) c.show_optimized-in-Both.result (contents c.args.out.now)
-    (contents c.write_tree-in-Both.new.out) (contents c.show_optimized-in-Both.new.out) c.in_ok-write_tree-in-Both.ensures.written
+    (shows_both c.args.format parsed.regex.flags (tree parsed.regex.node) parsed.spans.items c.show_optimized-in-Both.result
+    (contents c.args.out.now) (contents c.write_tree-in-Both.new.out) (contents c.show_optimized-in-Both.new.out) first
     c.show_optimized-in-Both.ensures.shown)

@@ -1,56 +1,181 @@
 -- What was written before, the node, and what is still to come.
-use Rattle.std.proofs.Common.{◌+◌, ◌∷◌, ◌∙◌, refl, sym, ap, arith, drop}
-use Rattle.std.proofs.lemmas.List.{drop_more}
+use Rattle.std.proofs.Common.{◌≡◌, ◌+◌, ◌∷◌, ◌∙◌, refl, sym, ap, arith, rules, drop}
+use Rattle.std.specs.Prelude.{Result, Ok, Err, OnOk}
+use Rattle.std.specs.Fmt.{HasWritten}
+use Rattle.std.specs.declared.fmt.Error.{Error}
+use Rattle.std.proofs.Math.Nat.{add-zero}
+use Rattle.std.proofs.lemmas.List.{drop_more, drop-drop, at_drop_all}
 use Rattle.std.proofs.Output.{has_written_append, has_written_of_eq}
-use Rattle.regress_tree.specs.Tree.{tree}
+use Rattle.regress_tree.specs.Tree.{tree, trees}
+use Rattle.regress_tree.specs.Visits.{nodes, nodes_in_row}
 use Rattle.regress_tree.proofs.laws.Nodes.{tree-Cat, tree-Alt}
-use Rattle.regress_show.proofs.JsonLemmas.{further_last}
+use Rattle.regress_show.specs.Json.{span_mark, row_json}
+use Rattle.regress_show.specs.Passed.{alternations}
+use Rattle.regress_show.proofs.JsonLemmas.{leaf_of, unended, unended-leaf, unended-around, unended-ended, within, within-leaf, within-around, nodes-within, shown, shown-last, nodes-shown, further_last, passed-more, mark-first}
 use Rattle.regress_show.proofs.json.+write_node.Goals as goal
+use Rattle.regress_show.proofs.json.+write_node.Goals.{write_node-in-Cat+in_ok-write_row-in-Cat+in_ok-write_str-in-Cat, write_node-in-Alt+in_ok-write_node-in-Alt+in_ok-write_further-in-Alt+in_ok-write_str-in-Alt, write_node-in_default+in-Some+in_ok-write_node-in_default, write_node-in_default+in_default-body}
 
-pub write_node-returns-in_ok-write_row-in-Cat : goal.write_node-returns-in_ok-write_row-in-Cat
-write_node-returns-in_ok-write_row-in-Cat g t c plain ok =
-    let one = rw (c.in-Cat.is, tree-Cat) at (c.in_ok-write_opening.ensures plain refl) in
-    let two = rw c.deref.ensures.value at (c.in_ok-write_row-in-Cat.ensures one.plain refl) in
-    let three = c.write_str.ensures.writes two.plain ok in
-    rw (c.in-Cat.is, tree-Cat) (has_written_append _ _ _ _ _ _ one (has_written_append _ _ _ _ _ _ two three))
+always : {X : Type 0} (r : Result (Unit {0}) Error) → X → OnOk r X
+always (Ok u) x = x
+always (Err e) x = tt
 
-pub write_node-returns-in_ok-write_node-in-Alt-3 : goal.write_node-returns-in_ok-write_node-in-Alt-3
-write_node-returns-in_ok-write_node-in-Alt-3 g t c plain ok =
-    let one = rw (c.in-Alt.is, tree-Alt) at (c.in_ok-write_opening.ensures plain refl) in
-    let two = rw c.deref-in-Alt.ensures at (c.in_ok-write_node-in-Alt.ensures one.plain refl) in
-    let so_far = c.loop-left.invariant.completes two.plain in
-    let three = c.in_ok-write_str-in-Alt-2.ensures.writes so_far.0 refl in
-    let four = c.in_ok-write_node-in-Alt-3.ensures three.plain refl in
-    let end = has_written_of_eq _ _ _ _ _ (further_last (tree c.loop-left.rest.now) c.in_default-sides.ensures.sides)
-    (has_written_append _ _ _ _ _ _ three four) in
-    let further = rw c.deref-rest.ensures at (so_far.1 _ end) in
-    let five = c.write_str-in-Alt-2.ensures.writes four.plain ok in
-    rw (c.in-Alt.is, tree-Alt)
-    (has_written_append _ _ _ _ _ _ one (has_written_append _ _ _ _ _ _ (has_written_append _ _ _ _ _ _ two further) five))
+pub write_further-loop-left-init : goal.write_further-loop-left-init
+write_further-loop-left-init g t c = record {
+  smaller = omega arith;
+  passed = refl;
+  completes = λ all at is plain. record { now = at; plain = plain; spans = is; completes = λ last rest. rest };
+}
 
-pub write_node-loop-left-preserved : goal.write_node-loop-left-preserved
-write_node-loop-left-preserved g t c = record {
-  smaller = omega (arith, c.in-Some.ensures.smaller.1, c.loop-left.invariant.smaller);
-  completes = λ plain.
-      let so_far = c.loop-left.invariant.completes plain in
-      let comma = c.in_ok-write_str-in-Alt.ensures.writes so_far.0 refl in
-      let own = c.in_ok-write_node-in-Alt-2.ensures comma.plain refl in (
-        own.plain,
-        λ last rest.
-            so_far.1 last
-            (rw c.in-Some.ensures.sides (has_written_append _ _ _ _ _ _ comma (has_written_append _ _ _ _ _ _ own rest))),
-      );
+pub write_further-loop-left-preserved : goal.write_further-loop-left-preserved
+write_further-loop-left-preserved g t c =
+    let l = c.loop-left in
+    let left = tree c.in-Some.left.now in
+    let right = tree c.in-Some.right.now in
+    let own = c.in_ok-write_node.ensures in
+    record {
+      smaller = omega (arith, c.in-Some.ensures.smaller.1, l.invariant.smaller);
+      passed = ap (drop (shown right)) own.passed ∙ drop-drop (shown right) (nodes left) l.marks.left.now
+          ∙ (rw c.in-Some.ensures.sides at l.invariant.passed);
+      completes = λ all at is plain.
+          let so_far = l.invariant.completes all at is plain in
+          let comma = c.in_ok-write_str.ensures.writes so_far.plain refl in
+          let node = own.written all so_far.now so_far.spans comma.plain refl in
+          record {
+            now = so_far.now + nodes left;
+            plain = node.plain;
+            spans = passed-more all _ _ so_far.now (nodes left) so_far.spans own.passed;
+            completes = λ last rest. so_far.completes last
+                (rw c.in-Some.ensures.sides (has_written_append _ _ _ _ _ _ comma (has_written_append _ _ _ _ _ _ node rest)));
+          };
+    }
+
+pub write_further-returns-clause-written : goal.write_further-returns-clause-written
+write_further-returns-clause-written g t c all at is plain ok =
+    let last = tree c.loop-left.last.now in
+    let so_far = c.loop-left.invariant.completes all at is plain in
+    let comma = c.in_ok-write_str-2.ensures.writes so_far.plain refl in
+    let own = c.in_ok-write_node-2.ensures.written all so_far.now so_far.spans comma.plain refl in
+    so_far.completes _ (has_written_of_eq _ _ _ _ _ (further_last (span_mark all) so_far.now last c.in_default.ensures.sides)
+    (has_written_append _ _ _ _ _ _ comma own))
+
+pub write_further-returns-clause-passed : goal.write_further-returns-clause-passed
+write_further-returns-clause-passed g t c =
+    let last = tree c.loop-left.last.now in
+    let right = tree c.args.right.now in
+    let old = c.args.marks.now.left.now in
+    c.pass_alternations.ensures
+    ∙ ap (drop (alternations right)) (c.in_ok-write_node-2.ensures.passed
+    ∙ ap (λ n. drop n c.loop-left.marks.left.now) (shown-last last c.in_default.ensures.sides) ∙ c.loop-left.invariant.passed)
+    ∙ drop-drop (alternations right) (shown right) old ∙ ap (λ n. drop n old) (sym (nodes-shown right))
+
+pub write_node-returns-clause-written : goal.write_node-returns-clause-written
+write_node-returns-clause-written g t c all at is plain ok =
+    let took = g.W.Write.write_str_gives in
+    let node = tree c.args.node.now in
+    let mark = span_mark all in
+    let front = c.in_ok-write_opening.ensures plain refl in
+    let so_far : HasWritten took c.args.f.now (unended mark at node) c.match-node.f × (c.match-node.marks.left.now ≡ drop (at + within node) all) =
+    elim c.match-node.branch [
+      | write_node-in-Cat+in_ok-write_row-in-Cat+in_ok-write_str-in-Cat w ↦
+          let one = rw (w.in-Cat.is, tree-Cat) at front in
+          let row = rw w.deref.ensures.value at (w.in_ok-write_row-in-Cat.ensures.written all at is one.plain refl) in
+          let passed = rw w.deref.ensures.value at w.in_ok-write_row-in-Cat.ensures.passed in
+          let end = w.in_ok-write_str-in-Cat.ensures.writes row.plain refl in (
+            rw (w.f-is, w.in-Cat.is, tree-Cat) (has_written_append _ _ _ _ _ _ one (has_written_append _ _ _ _ _ _ row end)),
+            rw (w.marks-is, w.in-Cat.is, tree-Cat) (passed-more all _ _ at _ is passed),
+          )
+      | write_node-in-Alt+in_ok-write_node-in-Alt+in_ok-write_further-in-Alt+in_ok-write_str-in-Alt w ↦
+          let one = rw (w.in-Alt.is, tree-Alt) at front in
+          let left = rw w.deref-in-Alt.ensures at (w.in_ok-write_node-in-Alt.ensures.written all at is one.plain refl) in
+          let left-passed = rw w.deref-in-Alt.ensures at w.in_ok-write_node-in-Alt.ensures.passed in
+          let between = passed-more all _ _ at _ is left-passed in
+          let right = rw w.deref-in-Alt-2.ensures at (w.in_ok-write_further-in-Alt.ensures.written all _ between left.plain refl) in
+          let right-passed = rw w.deref-in-Alt-2.ensures at w.in_ok-write_further-in-Alt.ensures.passed in
+          let end = w.in_ok-write_str-in-Alt.ensures.writes right.plain refl in (
+            rw (w.f-is, w.in-Alt.is, tree-Alt)
+                (has_written_append _ _ _ _ _ _ one
+                (has_written_append _ _ _ _ _ _ (has_written_append _ _ _ _ _ _ left right) end)),
+            rw (w.marks-is, w.in-Alt.is, tree-Alt)
+                (passed-more all _ _ at _ is (passed-more _ _ _ _ _ left-passed right-passed)),
+          )
+      | write_node-in_default+in-Some+in_ok-write_node-in_default w ↦
+          let body = tree w.in-Some.body.now in
+          let around = w.in-Some.ensures.body in
+          let inside = w.in_ok-write_node-in_default.ensures.written all at is front.plain refl in (
+            rw w.f-is (has_written_of_eq _ _ _ _ _ (unended-around mark at node body around) (has_written_append _ _ _ _ _ _ front inside)),
+            rw (w.marks-is, within-around node body around) (passed-more all _ _ at _ is w.in_ok-write_node-in_default.ensures.passed),
+          )
+      | write_node-in_default+in_default-body w ↦
+          let alone = leaf_of c.args.node.now w.in_default.not-Cat w.in_default.not-Alt w.in_default-body.ensures.body in (
+            rw w.f-is (has_written_of_eq _ _ _ _ _ (unended-leaf mark at node alone) front),
+            rw (w.marks-is, within-leaf node alone, add-zero) is,
+          )
+    ] in
+    has_written_of_eq _ _ _ _ _ (unended-ended mark at node) (has_written_append _ _ _ _ _ _ so_far.0
+    (has_written_of_eq _ _ _ _ _ (mark-first all _ _ so_far.1) (c.write_ending.ensures.written so_far.0.plain ok)))
+
+pub write_node-returns-clause-passed : goal.write_node-returns-clause-passed
+write_node-returns-clause-passed g t c =
+    let node = tree c.args.node.now in
+    let old = c.args.marks.now.left.now in
+    let so_far : c.match-node.marks.left.now ≡ drop (within node) old =
+    elim c.match-node.branch [
+      | write_node-in-Cat+in_ok-write_row-in-Cat+in_ok-write_str-in-Cat w ↦
+          rw (w.marks-is, w.in-Cat.is, tree-Cat) (rw w.deref.ensures.value at w.in_ok-write_row-in-Cat.ensures.passed)
+      | write_node-in-Alt+in_ok-write_node-in-Alt+in_ok-write_further-in-Alt+in_ok-write_str-in-Alt w ↦
+          rw (w.marks-is, w.in-Alt.is, tree-Alt) (passed-more _ _ _ _ _
+          (rw w.deref-in-Alt.ensures at w.in_ok-write_node-in-Alt.ensures.passed)
+          (rw w.deref-in-Alt-2.ensures at w.in_ok-write_further-in-Alt.ensures.passed))
+      | write_node-in_default+in-Some+in_ok-write_node-in_default w ↦
+          rw (w.marks-is, within-around node (tree w.in-Some.body.now) w.in-Some.ensures.body) w.in_ok-write_node-in_default.ensures.passed
+      | write_node-in_default+in_default-body w ↦
+          let alone = leaf_of c.args.node.now w.in_default.not-Cat w.in_default.not-Alt w.in_default-body.ensures.body in
+          rw (w.marks-is, within-leaf node alone) refl
+    ] in
+    always c.write_ending.result
+    (passed-more old _ _ (within node) 1 so_far c.write_ending.ensures.passed ∙ ap (λ n. drop n old) (sym (nodes-within node)))
+
+pub write_row-loop-part-init : goal.write_row-loop-part-init
+write_row-loop-part-init g t c = record {
+  passed = refl;
+  completes = λ all at is plain. record { now = at; plain = plain; spans = is; completes = λ last rest. rest };
 }
 
 pub write_row-loop-part-preserved : goal.write_row-loop-part-preserved
-write_row-loop-part-preserved g t c plain =
+write_row-loop-part-preserved g t c =
     let l = c.loop-part in
     let parts = c.args.parts.now in
     let behind = drop (l.part-index + 1) parts in
+    let part = tree c.part-item.result in
     let cut = drop_more parts l.part-index c.part-item.result c.loop-part-test.true ∙ ap (λ n. n ∷ behind) (sym c.part-item.is) in
-    let so_far = l.invariant plain in
-    let comma = c.in_ok-write_comma.ensures so_far.0 refl in
-    let own = c.in_ok-write_node.ensures comma.plain refl in (
-      own.plain,
-      λ last rest. so_far.1 last (rw cut (has_written_append _ _ _ _ _ _ comma (has_written_append _ _ _ _ _ _ own rest))),
-    )
+    let own = c.in_ok-write_node.ensures in
+    record {
+      passed = ap (drop (nodes_in_row (trees behind))) own.passed
+          ∙ drop-drop (nodes_in_row (trees behind)) (nodes part) l.marks.left.now
+          ∙ (rw cut at l.invariant.passed);
+      completes = λ all at is plain.
+          let so_far = l.invariant.completes all at is plain in
+          let comma = c.in_ok-write_comma.ensures so_far.plain refl in
+          let node = own.written all so_far.now so_far.spans comma.plain refl in
+          record {
+            now = so_far.now + nodes part;
+            plain = node.plain;
+            spans = passed-more all _ _ so_far.now (nodes part) so_far.spans own.passed;
+            completes = λ last rest. so_far.completes last
+                (rw cut (has_written_append _ _ _ _ _ _ comma (has_written_append _ _ _ _ _ _ node rest)));
+          };
+    }
+
+pub write_row-returns-clause-written : goal.write_row-returns-clause-written
+write_row-returns-clause-written g t c all at is plain ok =
+    let l = c.loop-part in
+    let parts = c.args.parts.now in
+    let so_far = l.invariant.completes all at is plain in
+    let none = at_drop_all (λ ps. row_json (span_mark all) so_far.now l.first (trees ps)) parts l.part-index c.loop-part-test.false in
+    so_far.completes l.f (has_written_of_eq _ _ _ _ _ (sym none) (search (rules, so_far.plain)))
+
+pub write_row-returns-clause-passed : goal.write_row-returns-clause-passed
+write_row-returns-clause-passed g t c =
+    let l = c.loop-part in
+    let parts = c.args.parts.now in
+    sym (at_drop_all (λ ps. drop (nodes_in_row (trees ps)) l.marks.left.now) parts l.part-index c.loop-part-test.false) ∙ l.invariant.passed

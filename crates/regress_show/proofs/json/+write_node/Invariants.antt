@@ -1,26 +1,35 @@
--- What is still to come completes the whole.
-use Rattle.std.proofs.Common.{◌<◌, true, drop}
-use Rattle.std.specs.Fmt.{HasWritten, IsPlainFormatter}
+-- What is still to come completes the whole, and passes the spans that are still to be passed.
+use Rattle.std.proofs.Common.{◌≡◌, ◌≤◌, ℕ, List, true, drop}
+use Rattle.std.specs.Fmt.{IsPlainFormatter}
+use Rattle.regress_spans.specs.declared.span.Span.{Span}
 use Rattle.regress_tree.specs.declared.ir.node.Node.{size-Node}
 use Rattle.regress_tree.specs.Tree.{tree, trees}
-use Rattle.regress_show.specs.Json.{further_json, row_json}
+use Rattle.regress_tree.specs.Visits.{nodes_in_row}
+use Rattle.regress_show.specs.Json.{further_json, row_json, span_mark}
+use Rattle.regress_show.proofs.JsonLemmas.{Completes, shown}
 use Rattle.regress_show.proofs.json.+write_node.Given as goal
 
-abbrev pub invariant-write_node-loop-left : goal.invariant-write_node-loop-left
-invariant-write_node-loop-left g l =
+abbrev pub invariant-write_further-loop-left : goal.invariant-write_further-loop-left
+invariant-write_further-loop-left g l =
     let took = g.W.Write.write_str_gives in
     record {
-      smaller : size-Node l.rest < size-Node l.node;
-      completes : IsPlainFormatter l.initial.f → IsPlainFormatter l.f × ((last : _) →
-          HasWritten took l.f (further_json (tree l.rest)) last → HasWritten took l.initial.f (further_json (tree l.initial.rest)) last);
+      smaller : size-Node l.last ≤ size-Node l.right;
+      passed : drop (shown (tree l.last)) l.marks.left.now ≡ drop (shown (tree l.right)) l.fn.marks.left.now;
+      completes : (all : List Span) (at : ℕ) → l.fn.marks.left.now ≡ drop at all → IsPlainFormatter l.fn.f →
+          Completes took l.fn.f l.f all l.marks.left.now (λ n. further_json (span_mark all) n (tree l.right))
+          (λ n. further_json (span_mark all) n (tree l.last)) at;
     }
 
-abbrev pub decreases-write_node-loop-left : goal.decreases-write_node-loop-left
-decreases-write_node-loop-left g l = size-Node l.rest
+abbrev pub decreases-write_further-loop-left : goal.decreases-write_further-loop-left
+decreases-write_further-loop-left g l = size-Node l.last
 
 abbrev pub invariant-write_row-loop-part : goal.invariant-write_row-loop-part
 invariant-write_row-loop-part g l =
     let took = g.W.Write.write_str_gives in
-    let rest = row_json l.first (trees (drop l.part-index l.parts)) in
-    IsPlainFormatter l.initial.f → IsPlainFormatter l.f × ((last : _) →
-    HasWritten took l.f rest last → HasWritten took l.initial.f (row_json true (trees l.parts)) last)
+    let rest = trees (drop l.part-index l.parts) in
+    record {
+      passed : drop (nodes_in_row rest) l.marks.left.now ≡ drop (nodes_in_row (trees l.parts)) l.fn.marks.left.now;
+      completes : (all : List Span) (at : ℕ) → l.fn.marks.left.now ≡ drop at all → IsPlainFormatter l.fn.f →
+          Completes took l.fn.f l.f all l.marks.left.now (λ n. row_json (span_mark all) n true (trees l.parts))
+          (λ n. row_json (span_mark all) n l.first rest) at;
+    }

@@ -5,6 +5,5 @@ use Rattle.regress_show.proofs.json.write_char_set.Goals as goal
 pub returns : goal.returns
 returns g c plain ok =
     let one = c.in_ok-write_str.ensures.writes plain refl in
-    let two = c.in_ok-write_characters.ensures one.plain refl in
-    let three = c.write_str-2.ensures.writes two.plain ok in
-    has_written_append _ _ _ _ _ _ (has_written_append _ _ _ _ _ _ one two) three
+    let two = c.write_characters.ensures one.plain ok in
+    has_written_append _ _ _ _ _ _ one two
