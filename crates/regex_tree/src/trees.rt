@@ -14,7 +14,7 @@ ghost use Rattle.regex_tree.specs.Shown.{IsOptimizedShown, IsOutput, IsShown, Is
 use crate::failure::Failure;
 use crate::request::{Format, Request, Stage};
 use regress_base::util::code_points;
-use regress_diagram::svg;
+use regress_diagram::svg_with_titles;
 use regress_opt::optimize;
 use regress_show::SpannedJson;
 use regress_spans::{Span, SpannedRegex, try_parse_with_spans};
@@ -126,7 +126,7 @@ fn write_tree<W: Write>(
             write_json(regex, written.spans, behind, out).map_err(|_| Failure::Output)
         }
         Format::Svg => {
-            let picture = svg(alloc, regex)?;
+            let picture = svg_with_titles(alloc, regex, written.pattern, written.spans)?;
             write_picture(&picture, behind, out).map_err(|_| Failure::Output)
         }
     }
