@@ -1,5 +1,5 @@
 -- Which arguments are taken.
-use Rattle.std.specs.Prelude.{ℕ, Bool, true, false, ◌||◌, List, [], ◌∷◌, Option, Some, None, option_map, option_and_then, if◌then◌else◌, ◌==◌, bytes_eq, slice_index, chars, codes, String, string_bytes}
+use Rattle.std.specs.Prelude.{ℕ, true, false, ◌||◌, List, [], ◌∷◌, Option, Some, None, option_map, option_and_then, if◌then◌else◌, ◌==◌, bytes_eq, slice_index, chars, codes, String, string_bytes}
 use Rattle.std.specs.declared.alloc.Global.{Global}
 use Rattle.regress_arguments.specs.Request.{Request, request_of}
 use Rattle.regex_tree.specs.declared.request.Asked.{Asked}

@@ -110,7 +110,8 @@ fn write_node<W: Write>(node: &Node, marks: &mut Marks<'_>, f: &mut Formatter<W>
     marks.write_ending(f)
 }
 
-/// Writes the alternatives of a right side. They take no stack: there may be as many levels as alternatives.
+/// Writes the alternatives of a right side, and passes the `Alt`s that it is. They take no stack: there may be as many
+/// levels as alternatives.
 #[cycle(write_node)]
 fn write_further<W: Write>(right: &Node, marks: &mut Marks<'_>, f: &mut Formatter<W>) -> fmt::Result
     ensures written { (all : List Span) (at : ℕ) → marks.old.left.now ≡ drop at all →

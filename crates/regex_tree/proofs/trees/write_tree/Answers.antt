@@ -1,4 +1,4 @@
-use Rattle.std.proofs.Common.{◌++◌, refl, sym, subst, codes, string_bytes}
+use Rattle.std.proofs.Common.{◌++◌, refl, sym, subst, codes}
 use Rattle.regress_tree.specs.Tree.{tree}
 use Rattle.regress_show.specs.Json.{spanned_json_of}
 use Rattle.regress_markup.specs.Markup.{IsDocument}
@@ -12,8 +12,8 @@ returns-in-Json-clause-written g c =
     let regex = c.args.regex.now in
     let spans = c.args.written.now.spans.now in
     rw c.in-Json.is
-    (shows_one Json regex.flags (tree regex.node) spans (spanned_json_of regex.flags (tree regex.node) spans ++ codes "\n") c.args.behind.now c.write_json.result
-    c.map_err-in-Json.result (contents c.args.out.now) (contents c.write_json.new.out) c.map_err-in-Json.ensures.variant refl
+    (shows_one Json regex.flags (tree regex.node) spans (spanned_json_of regex.flags (tree regex.node) spans ++ codes "\n") c.args.behind.now
+    c.write_json.result c.map_err-in-Json.result (contents c.args.out.now) (contents c.write_json.new.out) c.map_err-in-Json.ensures.variant refl
     c.write_json.ensures)
 
 pub returns-in_ok-picture-in-Svg-clause-written : goal.returns-in_ok-picture-in-Svg-clause-written
