@@ -1,6 +1,6 @@
 -- The fields of a line, one after the other.
 use Rattle.std.proofs.Common.{◌≡◌, ◌∙◌, ℕ, ◌+◌, ◌<◌, List, ◌++◌, length, get_or, take, map, flat_map, ap, sym}
-use Rattle.std.proofs.lemmas.List.{flat_map_more, take_all, take_more}
+use Rattle.std.proofs.lemmas.List.{flat_map_more, take_more}
 use Rattle.std.proofs.lemmas.List.Folds.{flat_map-map}
 use Rattle.regress_match.specs.Names.{capture_of}
 use Rattle.regress_match.specs.declared.matching.Match.{Match}

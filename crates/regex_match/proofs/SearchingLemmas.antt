@@ -1,5 +1,5 @@
 -- A search goes on further to the right, with a line for each match.
-use Rattle.std.proofs.Common.{◌≡◌, ℕ, ◌+◌, ◌-◌, ◌<◌, Bool, true, false, List, [], ◌∷◌, ◌++◌, Option, Some, None, inl, inr, map, length, max, not-suc-le-zero, refl, sym, ap, subst, arith, ◌∙◌, flat_map}
+use Rattle.std.proofs.Common.{◌≡◌, ℕ, ◌+◌, ◌-◌, ◌<◌, Bool, true, false, List, [], ◌∷◌, ◌++◌, Option, Some, None, inl, inr, map, length, not-suc-le-zero, refl, sym, ap, subst, arith, ◌∙◌, flat_map}
 use Rattle.std.proofs.lemmas.List.{append-nil, flat_map_more, get_or-map, length-map}
 use Rattle.std.specs.Io.KnownBytes.{Appends, Keeps}
 use Rattle.std.specs.List.Sorted.{IsNonDecreasingBy, IsPermutation}
@@ -9,7 +9,7 @@ use Rattle.regress_arguments.specs.Output.{Took}
 use Rattle.regress_front.specs.Setting.{Setting}
 use Rattle.regress_front.specs.Tree.{Tree}
 use Rattle.regress_front.specs.WellFormed.{Capture, captures}
-use Rattle.regress_match.specs.Matched.{Finds, IsLeftmost, outcomes_at, start_of, state_of}
+use Rattle.regress_match.specs.Matched.{Finds, IsLeftmost, outcomes_at}
 use Rattle.regress_match.specs.Names.{capture_of}
 use Rattle.regress_match.specs.Searched.{AreFound, IsSameSearch, place_behind, next_from, searched_outcomes, searched_text}
 use Rattle.regress_match.specs.declared.matching.Match.{Match}

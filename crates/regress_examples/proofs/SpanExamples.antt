@@ -1,8 +1,8 @@
 -- Where the nodes of worked patterns stand, by computation. The spans are counted by hand on the patterns' code points.
-use Rattle.std.proofs.Common.{◌≡◌, ℕ, false, true, List, [], ◌∷◌, Some, None, refl, codes}
-use Rattle.regress_tree.specs.Reading.{forwards, backwards}
+use Rattle.std.proofs.Common.{◌≡◌, ℕ, false, [], ◌∷◌, Some, None, refl, codes}
+use Rattle.regress_tree.specs.Reading.{backwards}
 use Rattle.regress_lexical.specs.Quantifiers.{quantifier_at}
-use Rattle.regress_syntax.specs.Syntax.{Pattern, Terms, one, either, no_terms, more_terms, group, grouping, capture, look}
+use Rattle.regress_syntax.specs.Syntax.{Pattern, one, either, no_terms, more_terms, group, grouping, capture, look}
 use Rattle.regress_syntax.specs.Rows.{head_at, times_at}
 use Rattle.regress_parse.specs.Accepted.{IsDerived}
 use Rattle.regress_spans.specs.declared.span.Span.{Span}

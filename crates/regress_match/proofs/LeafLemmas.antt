@@ -1,19 +1,11 @@
 -- What leaves match, as the code finds it.
-use Rattle.std.proofs.Common.{◌≡◌, ℕ, zero, suc, ◌+◌, ◌-◌, ◌≤◌, ◌<◌, Bool, true, false, ◌&&◌, List, [], ◌∷◌, ◌++◌, flat_map, length, drop, get_or, Option, Some, None, refl, sym, ap, ap₂, subst, ◌==◌, ◌∙◌, arith, append-nil, if◌then◌else◌, nat_eq, nat_le}
+use Rattle.std.proofs.Common.{◌≡◌, ℕ, zero, suc, ◌+◌, ◌-◌, ◌≤◌, ◌<◌, Bool, true, false, ◌&&◌, List, [], ◌∷◌, ◌++◌, flat_map, length, drop, get_or, Option, Some, None, refl, sym, ap, ap₂, ◌∙◌, arith, append-nil, if◌then◌else◌, nat_eq, nat_le}
 use Rattle.std.specs.List.{starts_with}
-use Rattle.std.specs.Char.{IsScalar, encode_utf8}
-use Rattle.std.proofs.lemmas.Bool.{eqb-true}
-use Rattle.std.proofs.lemmas.List.{drop_more, length-append, length-reverse, nil_from_length}
-use Rattle.std.proofs.lemmas.Str.{length-encode}
-use Rattle.regress_tree.specs.Matching.{steps}
-use Rattle.regress_tree.specs.Reading.{Direction, forwards, backwards, Reading, Read, next_character, of_bytes, read_after}
+use Rattle.std.proofs.lemmas.List.{drop_more, length-reverse}
+use Rattle.regress_tree.specs.Reading.{Direction, forwards, backwards, Reading, Read, next_character}
 use Rattle.regress_tree.specs.References.{all_of, in_order, characters_from, back_reference, once_more}
-use Rattle.regress_tree.specs.Setting.{Setting}
 use Rattle.regress_tree.specs.Strings.{any_string}
 use Rattle.regress_tree.specs.Steps.{State, one_character, moved, these_bytes, hold_at}
-use Rattle.regress_tree.specs.Tree.{empty, goal, char, byte_sequence, byte_set, char_set, match_any, match_any_except_line_terminator, anchor, word_boundary, bracket, back_ref, string_set, Tree, leaf, cat, alt, wrapped}
-use Rattle.regress_tree.proofs.laws.ByteSequences.{these_bytes-one, these_bytes_before-one}
-use Rattle.regress_tree.proofs.laws.Characters.{character_at_parts}
 
 module _ (d : Direction) (r : Reading) where
   -- one character

@@ -12,7 +12,7 @@ use Rattle.regress_tree.specs.WellFormed.{Position, inside, root, last_of, MaySt
 use Rattle.regress_tree.proofs.laws.Goal.{goal-last, inside-no_end, no_end-inside}
 use Rattle.regress_rewrite.specs.Splice.{parts_of}
 use Rattle.regress_normalize.specs.declared.facts.PartFacts.{PartFacts}
-use Rattle.regress_normalize.specs.Normalized.{HasGoal, Normalized}
+use Rattle.regress_normalize.specs.Normalized.{Normalized}
 
 -- a goal among the parts is the last one
 last_part : (n : ℕ) (p : Position) (t : Tree) → MayStand n t p → some_in_row is_goal (parts_of t) ≡ ends_in_goal t

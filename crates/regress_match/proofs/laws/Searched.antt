@@ -1,5 +1,5 @@
 -- One match more.
-use Rattle.std.proofs.Common.{◌≡◌, ℕ, List, [], ◌∷◌, ◌++◌, refl, subst}
+use Rattle.std.proofs.Common.{ℕ, List, [], ◌∷◌, ◌++◌, refl, subst}
 use Rattle.regress_tree.specs.Steps.{State}
 use Rattle.regress_match.specs.Matched.{IsLeftmost}
 use Rattle.regress_match.specs.Searched.{AreFound, place_behind}

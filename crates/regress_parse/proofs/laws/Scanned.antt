@@ -1,5 +1,5 @@
 -- What a scan in front finds of a source that is accepted.
-use Rattle.std.proofs.Common.{◌≡◌, ℕ, ◌<◌, min, List, length, Option, inl, refl, sym, ◌∙◌, arith}
+use Rattle.std.proofs.Common.{◌≡◌, ℕ, min, List, length, Option, inl, refl, sym, ◌∙◌, arith}
 use Rattle.regress_base.specs.Limits.{max_capture_groups}
 use Rattle.regress_tree.specs.Setting.{Setting}
 use Rattle.regress_lexical.specs.declared.fault.FaultKind.{FaultKind}

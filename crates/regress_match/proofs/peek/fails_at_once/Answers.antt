@@ -1,6 +1,6 @@
 use Rattle.std.proofs.Common.{◌∙◌, ap, sym, subst, Bool, Some}
 use Rattle.regress_tree.specs.Reading.{direction_if}
-use Rattle.regress_tree.specs.Tree.{tree, alt, wrapped, lookaround}
+use Rattle.regress_tree.specs.Tree.{tree, wrapped, lookaround}
 use Rattle.regress_tree.specs.declared.ir.node.Node.{Node}
 use Rattle.regress_tree.proofs.laws.Nodes.{tree-Alt, tree-LookaroundAssertion}
 use Rattle.regress_match.specs.Peek.{FailsAt, GoesTo}

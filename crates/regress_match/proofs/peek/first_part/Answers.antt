@@ -1,4 +1,4 @@
-use Rattle.std.proofs.Common.{rules, ◌≡◌, ◌∷◌, ap, sym, subst}
+use Rattle.std.proofs.Common.{rules, ◌≡◌, ◌∷◌, sym, subst}
 use Rattle.regress_tree.specs.Tree.{tree, trees, cat}
 use Rattle.regress_match.specs.Peek.{FailsAt}
 use Rattle.regress_match.proofs.PeekLemmas.{fails_cat}

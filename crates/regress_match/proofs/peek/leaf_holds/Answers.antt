@@ -1,4 +1,4 @@
-use Rattle.std.proofs.Common.{rules, ◌≡◌, ◌∙◌, ap, sym, true}
+use Rattle.std.proofs.Common.{◌≡◌, ◌∙◌, ap, sym, true}
 use Rattle.regress_tree.specs.Tree.{tree}
 use Rattle.regress_match.specs.Leaves.{is_simple, put}
 use Rattle.regress_match.proofs.peek.leaf_holds.Goals as goal

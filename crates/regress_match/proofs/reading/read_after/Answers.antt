@@ -1,5 +1,5 @@
-use Rattle.std.proofs.Common.{◌≡◌, ◌+◌, ◌∙◌, ap, sym, Some}
-use Rattle.regress_tree.specs.Reading.{Read, read_after}
+use Rattle.std.proofs.Common.{◌+◌, ◌∙◌, ap, sym, Some}
+use Rattle.regress_tree.specs.Reading.{Read}
 use Rattle.regress_match.proofs.ReadingLemmas.{ascii_after}
 use Rattle.regress_match.proofs.reading.read_after.Goals as goal
 

@@ -4,7 +4,6 @@ use Rattle.regress_tree.specs.Reading.{next_character, of_bytes, direction_if}
 use Rattle.regress_tree.specs.Tree.{leaf, empty}
 use Rattle.regress_match.specs.Captures.{state}
 use Rattle.regress_match.specs.Leaves.{read_of}
-use Rattle.regress_match.specs.Machine.{onward}
 use Rattle.regress_match.specs.Subject.{subject}
 use Rattle.regress_match.specs.Turns.{opposite, giving_back}
 use Rattle.regress_match.proofs.DoesLemmas.{goes_on}

@@ -1,4 +1,4 @@
-use Rattle.std.proofs.Common.{◌≡◌, [], ap}
+use Rattle.std.proofs.Common.{◌≡◌, ap}
 use Rattle.regress_match.specs.Captures.{state}
 use Rattle.regress_match.specs.Machine.{onward, row_of}
 use Rattle.regress_match.specs.Subject.{subject}

@@ -1,6 +1,6 @@
-use Rattle.std.proofs.Common.{◌≡◌, Some, None, refl, sym, ap, ◌∙◌}
+use Rattle.std.proofs.Common.{◌≡◌, refl, sym, ap, ◌∙◌}
 use Rattle.regress_lexical.specs.Views.{source}
-use Rattle.regress_syntax.specs.Syntax.{atom, literal, back_reference, by_number}
+use Rattle.regress_syntax.specs.Syntax.{literal, back_reference, by_number}
 use Rattle.regress_syntax.specs.Views.{context_of, names_in}
 use Rattle.regress_unicode.specs.TableOf.{table_of}
 use Rattle.regress_tree.specs.declared.ir.node.Node.TheVariants.{BackRef}

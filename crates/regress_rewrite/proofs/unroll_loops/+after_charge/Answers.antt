@@ -1,7 +1,7 @@
-use Rattle.std.proofs.Common.{◌≡◌, ◌+◌, ◌∷◌, drop, sym, ap, ◌∙◌, arith}
+use Rattle.std.proofs.Common.{◌+◌, ◌∷◌, drop, sym, ap, ◌∙◌, arith}
 use Rattle.std.proofs.lemmas.List.{drop_more}
 use Rattle.regress_tree.specs.Tree.{tree, trees}
-use Rattle.regress_rewrite.specs.Unroll.{after_charge, after_charge_row}
+use Rattle.regress_rewrite.specs.Unroll.{after_charge_row}
 use Rattle.regress_tree.proofs.laws.Nodes.{tree-Cat, tree-Alt}
 use Rattle.regress_rewrite.proofs.ChargeLemmas.{after_charge-more, charged-cat, charged-alt, refused-alt, charged-none}
 use Rattle.regress_rewrite.proofs.unroll_loops.+after_charge.Goals as goal

@@ -1,4 +1,4 @@
-use Rattle.std.proofs.Common.{◌≡◌, ap, ◌∙◌, ◌++◌, ◌∷◌, [], get_or, nat_le, List, ℕ, Option, Some, None, if◌then◌else◌, sym, true, false}
+use Rattle.std.proofs.Common.{◌≡◌, ap, ◌∙◌, ◌++◌, ◌∷◌, [], get_or, nat_le, Some, None, if◌then◌else◌, sym, true, false}
 use Rattle.std.proofs.lemmas.List.{take_more, take_all, drop_all}
 use Rattle.std.proofs.lemmas.Bool.{le-leb, lt-leb}
 use Rattle.regress_tree.proofs.LoopLemmas.{all_next, not_all}

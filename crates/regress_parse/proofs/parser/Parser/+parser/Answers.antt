@@ -3,7 +3,7 @@ use Rattle.std.proofs.Common.{◌≡◌, ◌+◌, ◌-◌, ◌<◌, Bool, false,
 use Rattle.std.proofs.lemmas.Result.{err_from_is_err_and}
 use Rattle.regress_lexical.specs.declared.fault.FaultKind.TheVariants.{TooDeep}
 use Rattle.regress_lexical.specs.Source.{Source, Found, found_map, opening, is_at, ends_alternative, bar as the_bar}
-use Rattle.regress_syntax.specs.Syntax.{Group, Counts, literal, atom}
+use Rattle.regress_syntax.specs.Syntax.{Group, Counts, atom}
 use Rattle.regress_syntax.specs.Rows.{Context, opens, allows, group_at, head_at}
 use Rattle.regress_syntax.specs.Views.{group_of}
 use Rattle.regress_base.specs.Limits.{max_nesting_depth}
@@ -21,7 +21,7 @@ use Rattle.regress_parse.proofs.CountLemmas.{added-nothing}
 use Rattle.regress_parse.proofs.ReaderLemmas.{terms_at-shortens, term_at-shortens, term_at-is}
 use Rattle.regress_parse.proofs.SoFarLemmas.{TermsSoFar, terms-first, terms-step, terms-end, terms-fail, no_terms-yield, one_term-yields, first_term-fails}
 use Rattle.regress_parse.proofs.AlternativesLemmas.{alternatives-start, alternatives-step, lone-yields, first-fail, alternatives-fail}
-use Rattle.regress_parse.proofs.TermLemmas.{front_is, times-fail, too_deep, plain_term, plain_yields, no_term, opening_head, opening_item, opened_same, atom_item, atom_yields, atom_allowed}
+use Rattle.regress_parse.proofs.TermLemmas.{front_is, times-fail, too_deep, plain_yields, no_term, opening_head, opening_item, opened_same, atom_item, atom_yields, atom_allowed}
 use Rattle.regress_parse.proofs.ParserLemmas.{built, built_here, of_built}
 use Rattle.regress_parse.proofs.parser.Parser.+parser.Goals as goal
 

@@ -1,5 +1,5 @@
 -- One more copy.
-use Rattle.std.proofs.Common.{ap, refl}
+use Rattle.std.proofs.Common.{ap}
 use Rattle.regress_tree.specs.Tree.{tree, row}
 use Rattle.regress_tree.proofs.LoopLemmas.{copied_next, copied_all}
 use Rattle.regress_tree.proofs.ir.copies.+copy.Goals as goal

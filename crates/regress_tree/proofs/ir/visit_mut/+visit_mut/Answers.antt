@@ -7,7 +7,7 @@ use Rattle.regress_tree.specs.Tree.{alt, tree, no_trees}
 use Rattle.regress_tree.specs.Visits.{CallsMut, nodes, Visited, before_children, without_children, after_children, in_cat, in_alt, in_wrapped, no_more, one_more}
 use Rattle.regress_tree.specs.Climbs.{further}
 use Rattle.regress_tree.proofs.laws.Nodes.{tree-Cat, tree-Alt}
-use Rattle.regress_tree.proofs.laws.Levels.{out-Cat, out-Alt, alt_of}
+use Rattle.regress_tree.proofs.laws.Levels.{out-Cat, out-Alt}
 use Rattle.regress_tree.proofs.NodeLemmas.{leaf_of}
 use Rattle.regress_tree.proofs.laws.Visits.{at_leaf, further_next, nodes_down, levels_down, before_down, after_down, call_adds, next_is, nodes_next, unvisited_next, visited_next}
 use Rattle.regress_tree.proofs.laws.There.{called_there, visited_there, inside_there, row_visited_there}
