@@ -20,6 +20,12 @@ pub record IsWithin (outer s : Span) : Type 0 where
   pub ordered : s.start ≤ s.end
   pub end : s.end ≤ outer.end
 
+-- of two parts: the one stands inside the other, or they share no code point
+pub data IsInsideOrApart (s outer : Span) : Type 0 where
+  lies_inside : IsWithin outer s → IsInsideOrApart s outer
+  ends_before : s.end ≤ outer.start → IsInsideOrApart s outer
+  begins_behind : outer.end ≤ s.start → IsInsideOrApart s outer
+
 -- a loop around an item, if a quantifier stands behind it
 abbrev pub span_of_times : Option Quantifier → Span → List Span
 span_of_times None s = []

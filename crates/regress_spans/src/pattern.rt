@@ -1,5 +1,5 @@
 //! The parser with spans.
-ghost use Rattle.std.specs.Prelude.{◌≡◌, length, All, IfOk};
+ghost use Rattle.std.specs.Prelude.{◌≡◌, length, All, AllPairs, IfOk};
 ghost use Rattle.regress_unicode.specs.TableOf.{table_of};
 ghost use Rattle.regress_tree.specs.Tree.{tree};
 ghost use Rattle.regress_tree.specs.Visits.{nodes};
@@ -12,7 +12,7 @@ ghost use Rattle.regress_parse.specs.Accepted.{IsAccepted, NoneIsAccepted, IsTru
 ghost use Rattle.regress_parse.specs.Fault.{RefusedOnlyIf, Tells, unplaced, IsPlacedWithin};
 ghost use Rattle.regress_parse.specs.Settled.{IsSettled, TellsAt};
 ghost use Rattle.regress_parse.specs.TreeOf.{tree_of};
-ghost use Rattle.regress_spans.specs.Spans.{IsWithin, spans_of};
+ghost use Rattle.regress_spans.specs.Spans.{IsWithin, IsInsideOrApart, spans_of};
 ghost use Rattle.regress_spans.specs.Reading.{ReadsPattern};
 
 use crate::around::Around;
@@ -61,6 +61,8 @@ pub fn try_parse_with_spans(
     ensures each { IfOk result (λ r. length r.spans.items ≡ nodes (tree r.regex.node)) }
 
     ensures within { IfOk result (λ r. All (IsWithin (record { start = 0; end = length pattern.now })) r.spans.items) }
+    // Spans nest as parts do, and neighbours share no code point.
+    ensures nested { IfOk result (λ r. AllPairs IsInsideOrApart r.spans.items) }
 
     // What `try_parse_with_place` says.
     ensures refused { RefusedOnlyIf (unplaced result) (NoneIsAccepted (setting_of flags tables.now) pattern.now) }

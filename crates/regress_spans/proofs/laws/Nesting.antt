@@ -44,10 +44,10 @@ mutual
 
 module _ (whole : ℕ) where
   -- all of these stand between the two places
-  abbrev AllBetween : Source → Source → List Span → Type 0
+  abbrev pub AllBetween : Source → Source → List Span → Type 0
   AllBetween t rest ss = All (IsWithin (between whole t rest)) ss
 
-  itself : (t rest : Source) → length rest ≤ length t → IsWithin (between whole t rest) (between whole t rest)
+  pub itself : (t rest : Source) → length rest ≤ length t → IsWithin (between whole t rest) (between whole t rest)
   itself t rest shorter = record { start = omega arith; ordered = omega (arith, shorter); end = omega arith }
 
   alone : (t rest : Source) (s : Span) → IsWithin (between whole t rest) s → AllBetween t rest (s ∷ [])
@@ -57,7 +57,7 @@ module _ (whole : ℕ) where
   both t rest xs ys = All-append (IsWithin (between whole t rest)) xs ys
 
   -- what stands between two places stands between others around them
-  wider : (t mid behind rest : Source) (ss : List Span) → length mid ≤ length t → length rest ≤ length behind →
+  pub wider : (t mid behind rest : Source) (ss : List Span) → length mid ≤ length t → length rest ≤ length behind →
       AllBetween mid behind ss → AllBetween t rest ss
   wider t mid behind rest ss front back =
       All-weaker (IsWithin (between whole mid behind)) (IsWithin (between whole t rest))
@@ -84,24 +84,48 @@ module _ (whole : ℕ) where
   group-within (capture name) t rest shorter = alone t rest (between whole t rest) (itself t rest shorter)
   group-within (look negate direction) t rest shorter = alone t rest (between whole t rest) (itself t rest shorter)
 
+  -- ---- a part, from what is so of the parts inside
+
+  row-around : (ctx : Context) (ts : Terms) (t rest : Source) → AreTerms ctx ts t rest → (ss : List Span) → AllBetween t rest ss →
+      AllBetween t rest (ss ++ span_of_row (how_many ts) (between whole t rest))
+  row-around ctx ts t rest h ss inner =
+      both t rest ss (span_of_row (how_many ts) (between whole t rest)) inner (row-within (how_many ts) t rest (terms-shorten ctx ts t rest h))
+
+  alternatives-beside : (ctx : Context) (ts : Terms) (p : Pattern) (t rest : Source) (h : IsPattern ctx (either ts p) t rest) (first others : List Span) →
+      AllBetween t (bar ∷ h.0) first → AllBetween h.0 rest others → AllBetween t rest (first ++ others)
+  alternatives-beside ctx ts p t rest h first others front all =
+      both t rest first others
+      (wider t t (bar ∷ h.0) rest first (omega arith) (omega (arith, pattern-shortens ctx p h.0 rest h.2)) front)
+      (wider t h.0 rest rest others (omega (arith, terms-shorten ctx ts t (bar ∷ h.0) h.1)) (omega arith) all)
+
+  times-around : (ctx : Context) (x : Item) (q : Option Quantifier) (xs : Terms) (t rest : Source) (h : AreTerms ctx (more_terms x q xs) t rest)
+      (item : List Span) → AllBetween t h.0 item → AllBetween t h.1 (item ++ span_of_times q (between whole t h.1))
+  times-around ctx x q xs t rest h item inner =
+      let to_mid = item-shortens ctx x t h.0 h.2 in
+      let to_behind = times_at-shortens ctx (allows ctx.setting.flags.unicode (head_of_item x)) h.0 (q, h.1) h.3 in
+      both t h.1 item (span_of_times q (between whole t h.1)) (wider t t h.0 h.1 item (omega arith) to_behind inner)
+      (times-within q t h.1 (omega (arith, to_mid, to_behind)))
+
+  group-around : (ctx : Context) (kind : Group) (p : Pattern) (t rest : Source) (h : IsItem ctx (group kind p) t rest) (ss : List Span) →
+      AllBetween h.0 (closing ∷ rest) ss → AllBetween t rest ss
+  group-around ctx kind p t rest h ss =
+      wider t h.0 (closing ∷ rest) rest ss (omega (arith, head_at-shortens ctx t (opens kind, h.0) h.1)) (omega arith)
+
+  -- ---- along the grammar
+
   mutual
     pub pattern-within : (ctx : Context) (d : Direction) (p : Pattern) (t rest : Source) (h : IsPattern ctx p t rest) →
         AllBetween t rest (spans_of_pattern whole ctx d p t rest h)
-    pattern-within ctx d (one ts) t rest h =
-        both t rest (spans_of_terms whole ctx d ts t rest h.0) _ (terms-within ctx d ts t rest h.0)
-        (row-within (how_many ts) t rest (terms-shorten ctx ts t rest h.0))
+    pattern-within ctx d (one ts) t rest h = row-around ctx ts t rest h.0 (spans_of_terms whole ctx d ts t rest h.0) (terms-within ctx d ts t rest h.0)
     pattern-within ctx d (either ts p) t rest h =
         let first = spans_of_terms whole ctx d ts t (bar ∷ h.0) h.1 in
         let row = span_of_row (how_many ts) (between whole t (bar ∷ h.0)) in
         let others = spans_of_pattern whole ctx d p h.0 rest h.2 in
-        let front = terms-shorten ctx ts t (bar ∷ h.0) h.1 in
-        let back = pattern-shortens ctx p h.0 rest h.2 in
         both t rest (first ++ row ++ others) (between whole t rest ∷ [])
-        (both t rest (first ++ row) others
-        (wider t t (bar ∷ h.0) rest (first ++ row) (omega arith) (omega (arith, back))
-        (both t (bar ∷ h.0) first row (terms-within ctx d ts t (bar ∷ h.0) h.1) (row-within (how_many ts) t (bar ∷ h.0) front)))
-        (wider t h.0 rest rest others (omega (arith, front)) (omega arith) (pattern-within ctx d p h.0 rest h.2)))
-        (alone t rest (between whole t rest) (itself t rest (omega (arith, front, back))))
+        (alternatives-beside ctx ts p t rest h (first ++ row) others
+        (row-around ctx ts t (bar ∷ h.0) h.1 first (terms-within ctx d ts t (bar ∷ h.0) h.1)) (pattern-within ctx d p h.0 rest h.2))
+        (alone t rest (between whole t rest)
+        (itself t rest (omega (arith, terms-shorten ctx ts t (bar ∷ h.0) h.1, pattern-shortens ctx p h.0 rest h.2))))
 
     pub terms-within : (ctx : Context) (d : Direction) (ts : Terms) (t rest : Source) (h : AreTerms ctx ts t rest) →
         AllBetween t rest (spans_of_terms whole ctx d ts t rest h)
@@ -112,12 +136,9 @@ module _ (whole : ℕ) where
         let others = spans_of_terms whole ctx d xs h.1 rest h.4 in
         let to_mid = item-shortens ctx x t h.0 h.2 in
         let to_behind = times_at-shortens ctx (allows ctx.setting.flags.unicode (head_of_item x)) h.0 (q, h.1) h.3 in
-        let to_rest = terms-shorten ctx xs h.1 rest h.4 in
         ordered t rest d (item ++ times) others
-        (wider t t h.1 rest (item ++ times) (omega arith) to_rest
-        (both t h.1 item times
-        (wider t t h.0 h.1 item (omega arith) to_behind (item-within ctx d x t h.0 h.2))
-        (times-within q t h.1 (omega (arith, to_mid, to_behind)))))
+        (wider t t h.1 rest (item ++ times) (omega arith) (terms-shorten ctx xs h.1 rest h.4)
+        (times-around ctx x q xs t rest h item (item-within ctx d x t h.0 h.2)))
         (wider t h.1 rest rest others (omega (arith, to_mid, to_behind)) (omega arith) (terms-within ctx d xs h.1 rest h.4))
 
     pub item-within : (ctx : Context) (d : Direction) (x : Item) (t rest : Source) (h : IsItem ctx x t rest) →
@@ -126,11 +147,40 @@ module _ (whole : ℕ) where
         All-replicate (IsWithin (between whole t rest)) _ (between whole t rest) (itself t rest (item-shortens ctx (atom a) t rest h))
     item-within ctx d (group kind p) t rest h =
         let inner = spans_of_pattern whole (context_inside kind ctx) (direction_of_group kind d) p h.0 (closing ∷ rest) h.2 in
-        let front = head_at-shortens ctx t (opens kind, h.0) h.1 in
         both t rest inner (span_of_group kind (between whole t rest))
-        (wider t h.0 (closing ∷ rest) rest inner (omega (arith, front)) (omega arith)
+        (group-around ctx kind p t rest h inner
         (pattern-within (context_inside kind ctx) (direction_of_group kind d) p h.0 (closing ∷ rest) h.2))
         (group-within kind t rest (item-shortens ctx (group kind p) t rest h))
+
+  pub alternative-within : (ctx : Context) (d : Direction) (ts : Terms) (t rest : Source) (h : AreTerms ctx ts t rest) →
+      AllBetween t rest (spans_of_terms whole ctx d ts t rest h ++ span_of_row (how_many ts) (between whole t rest))
+  alternative-within ctx d ts t rest h =
+      row-around ctx ts t rest h (spans_of_terms whole ctx d ts t rest h) (terms-within ctx d ts t rest h)
+
+  -- what stands inside the `Alt`
+  pub alternatives-within : (ctx : Context) (d : Direction) (ts : Terms) (p : Pattern) (t rest : Source) (h : IsPattern ctx (either ts p) t rest) →
+      AllBetween t rest
+      (spans_of_terms whole ctx d ts t (bar ∷ h.0) h.1 ++ span_of_row (how_many ts) (between whole t (bar ∷ h.0))
+      ++ spans_of_pattern whole ctx d p h.0 rest h.2)
+  alternatives-within ctx d ts p t rest h =
+      alternatives-beside ctx ts p t rest h
+      (spans_of_terms whole ctx d ts t (bar ∷ h.0) h.1 ++ span_of_row (how_many ts) (between whole t (bar ∷ h.0)))
+      (spans_of_pattern whole ctx d p h.0 rest h.2)
+      (alternative-within ctx d ts t (bar ∷ h.0) h.1) (pattern-within ctx d p h.0 rest h.2)
+
+  -- an item with its quantifier
+  pub term-within : (ctx : Context) (d : Direction) (x : Item) (q : Option Quantifier) (xs : Terms) (t rest : Source)
+      (h : AreTerms ctx (more_terms x q xs) t rest) →
+      AllBetween t h.1 (spans_of_item whole ctx d x t h.0 h.2 ++ span_of_times q (between whole t h.1))
+  term-within ctx d x q xs t rest h =
+      times-around ctx x q xs t rest h (spans_of_item whole ctx d x t h.0 h.2) (item-within ctx d x t h.0 h.2)
+
+  -- what stands in a group
+  pub inner-within : (ctx : Context) (d : Direction) (kind : Group) (p : Pattern) (t rest : Source) (h : IsItem ctx (group kind p) t rest) →
+      AllBetween t rest
+      (spans_of_pattern whole (context_inside kind ctx) (direction_of_group kind d) p h.0 (closing ∷ rest) h.2)
+  inner-within ctx d kind p t rest h =
+      group-around ctx kind p t rest h _ (pattern-within (context_inside kind ctx) (direction_of_group kind d) p h.0 (closing ∷ rest) h.2)
 
 -- of a whole pattern
 pub all_within : (setting : Setting) (source : Source) (p : Pattern) (derived : IsDerived setting source p) →
