@@ -211,17 +211,21 @@ pub no_levels : (table : Table) (unicode : Bool) (n : ℕ) (t : Source) → n �
 unfolding class_set_by
 no_levels table unicode n t e = ap (λ n. class_set_by table unicode n t) e
 
+-- Whatever reads the contents: unfolded, they are too long for an equation to be put into them.
+behind_caret : (contents : Bool → Source → Found Value) (t mid : Source) (negated : Bool) (found : Found Value) → negated ≡ is_at 94 t →
+    mid ≡ cond negated (drop 1 t) t → contents negated mid ≡ found →
+    contents (is_at 94 t) (cond (is_at 94 t) (drop 1 t) t) >>= unless_of_strings (is_at 94 t) ≡ found >>= unless_of_strings negated
+behind_caret contents t mid negated found caret moved e =
+    subst (λ b. contents b (cond b (drop 1 t) t) >>= unless_of_strings b ≡ found >>= unless_of_strings negated) caret
+    (ap (λ (x : Found Value). x >>= unless_of_strings negated) (ap (contents negated) (sym moved) ∙ e))
+
 pub class_read : (table : Table) (unicode : Bool) (n m : ℕ) (t mid : Source) (negated : Bool) (found : Found Value) → n ≡ suc m →
     negated ≡ is_at 94 t → mid ≡ cond negated (drop 1 t) t → contents_at table unicode (class_set_by table unicode m) negated mid ≡ found →
     class_set_by table unicode n t ≡ found >>= unless_of_strings negated
 unfolding class_set_by
 class_read table unicode n m t mid negated found one_more caret moved e =
     ap (λ n. class_set_by table unicode n t) one_more
-    ∙ subst
-    (λ b. contents_at table unicode (class_set_by table unicode m) b (cond b (drop 1 t) t) >>= unless_of_strings b ≡ found >>= unless_of_strings negated)
-    caret
-    (ap (λ (x : Found Value). x >>= unless_of_strings negated)
-    (ap (contents_at table unicode (class_set_by table unicode m) negated) (sym moved) ∙ e))
+    ∙ behind_caret (contents_at table unicode (class_set_by table unicode m)) t mid negated found caret moved e
 
 -- ---- what was read so far
 
