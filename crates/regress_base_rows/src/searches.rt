@@ -79,17 +79,13 @@ fn places(call: &mut Call) {
     let members = call.bytes();
     let member = call.read(members.last().copied(), 0);
     for length in 0..=67 {
-        let nowhere = search(kind, &members, &[0; 67][..length]);
-        call.check(nowhere == Some(None), Promise::FoundFirst);
-        for place in 0..length {
-            let once = search(kind, &members, &text_with(member, place, place)[..length]);
-            let twice = search(
-                kind,
-                &members,
-                &text_with(member, place, place + 3)[..length],
-            );
-            let first = Some(Some(place));
-            call.check(once == first && twice == first, Promise::FoundFirst);
+        for place in 0..=length {
+            for other in [place, place + 3] {
+                let text = text_with(member, place, other);
+                let found = search(kind, &members, &text[..length]);
+                let first = if place < length { Some(place) } else { None };
+                call.check(found == Some(first), Promise::FoundFirst);
+            }
         }
     }
     call.say("at each place");

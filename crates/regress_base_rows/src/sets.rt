@@ -7,8 +7,7 @@ use std::alloc::AllocError;
 /// Makes the call of this name, and answers whether there is one.
 pub(crate) fn answer(call: &mut Call, name: &str) -> bool {
     match name {
-        "add" => add(call),
-        "add_one" => add_one(call),
+        "add" | "add_one" => add(call, name == "add"),
         "add_set" | "intersect" | "remove" => combine(call, name),
         "inverted" => invert(call),
         "members" => members(call),
@@ -18,23 +17,16 @@ pub(crate) fn answer(call: &mut Call, name: &str) -> bool {
     true
 }
 
-/// The set behind `add` of each interval.
-fn add(call: &mut Call) {
+/// The set behind `add` of each interval, or behind `add_one` of the first of each.
+fn add(call: &mut Call, all: bool) {
     let mut set = call.set();
     for interval in &call.intervals() {
         let before = copy_of(call, &set);
-        let added = set.add(*interval);
-        keep(call, added, &set, &before);
-    }
-    call.tell_intervals(set.intervals());
-}
-
-/// The set behind `add_one` of the first of each interval.
-fn add_one(call: &mut Call) {
-    let mut set = call.set();
-    for interval in &call.intervals() {
-        let before = copy_of(call, &set);
-        let added = set.add_one(interval.first());
+        let added = if all {
+            set.add(*interval)
+        } else {
+            set.add_one(interval.first())
+        };
         keep(call, added, &set, &before);
     }
     call.tell_intervals(set.intervals());

@@ -19,26 +19,12 @@ pub(crate) fn answer(call: &mut Call, name: &str) -> bool {
 /// A table of rows for folds and for upper cases, of sets for the first and the further characters of names with a `;`
 /// between them, and of lists of sets and of strings.
 fn make(call: &mut Call) {
-    let alloc = call.alloc();
-    let folds = read_rows(call);
-    let uppers = read_rows(call);
+    let folds = call.field();
+    let uppers = call.field();
     let names = call.field();
-    let (starts, further) = names.split_once(';').unwrap_or((names, ""));
-    let (starts, further) = (call.set_in(starts), call.set_in(further));
     let sets = call.field();
-    let made = Tables::new(
-        alloc,
-        folds,
-        uppers,
-        starts,
-        further,
-        sets_in(call, sets),
-        sets_in(call, sets),
-        sets_in(call, sets),
-        sets_in(call, sets),
-        read_strings(call),
-    );
-    match made {
+    let strings = call.field();
+    match tables_in(call, folds, uppers, names, sets, strings) {
         Ok(_) => call.say("accepted"),
         Err(TablesError::Memory(_)) => call.fail(Fault::Memory),
         Err(refusal) => call.tell(&refusal),
@@ -47,38 +33,38 @@ fn make(call: &mut Call) {
 
 /// The table of these rows for folds, and for upper cases too, and of lists of these sets.
 pub(crate) fn table_of(call: &mut Call, rows: &str, sets: &str) -> Option<Tables> {
-    let alloc = call.alloc();
-    let made = Tables::new(
-        alloc,
-        rows_in(call, rows),
-        rows_in(call, rows),
-        CodePointSet::new(alloc),
-        CodePointSet::new(alloc),
-        sets_in(call, sets),
-        Vec::new(alloc),
-        Vec::new(alloc),
-        Vec::new(alloc),
-        Vec::new(alloc),
-    );
-    match made {
-        Ok(tables) => Some(tables),
-        Err(TablesError::Memory(_)) => {
-            call.fail(Fault::Memory);
-            None
-        }
-        Err(_) => {
-            call.fail(Fault::Line);
-            None
-        }
+    match tables_in(call, rows, rows, "", sets, "") {
+        Ok(tables) => return Some(tables),
+        Err(TablesError::Memory(_)) => call.fail(Fault::Memory),
+        Err(_) => call.fail(Fault::Line),
     }
+    None
+}
+
+fn tables_in(
+    call: &mut Call,
+    folds: &str,
+    uppers: &str,
+    names: &str,
+    sets: &str,
+    strings: &str,
+) -> Result<Tables, TablesError> {
+    let (starts, further) = names.split_once(';').unwrap_or((names, ""));
+    Tables::new(
+        call.alloc(),
+        rows_in(call, folds),
+        rows_in(call, uppers),
+        call.set_in(starts),
+        call.set_in(further),
+        sets_in(call, sets),
+        sets_in(call, sets),
+        sets_in(call, sets),
+        sets_in(call, sets),
+        lists_in(call, strings),
+    )
 }
 
 /// Rows, with spaces between them.
-fn read_rows(call: &mut Call) -> Vec<FoldRange> {
-    let field = call.field();
-    rows_in(call, field)
-}
-
 fn rows_in(call: &mut Call, text: &str) -> Vec<FoldRange> {
     let mut rows = Vec::new(call.alloc());
     for part in text.split_whitespace() {
@@ -157,9 +143,9 @@ fn own(call: &mut Call, name: &str) -> String {
 }
 
 /// Lists of strings with names, as `Keys=0x23 0x20E3,0x2A 0x20E3;None=`, where a `,` stands between strings.
-fn read_strings(call: &mut Call) -> Vec<(String, Vec<Vec<u32>>)> {
+fn lists_in(call: &mut Call, text: &str) -> Vec<(String, Vec<Vec<u32>>)> {
     let mut lists = Vec::new(call.alloc());
-    for part in call.field().split_terminator(';') {
+    for part in text.split_terminator(';') {
         let (name, written) = named_part(call, part);
         let name = own(call, name);
         let strings = strings_in(call, written);

@@ -12,10 +12,8 @@ use regress_unicode::{
 pub(crate) fn answer(call: &mut Call, name: &str, tables: &Tables) -> bool {
     match name {
         "close" => close(call, tables),
-        "fold" => folds(call, tables),
-        "uppercase" => upper_cases(call, tables),
-        "unfold" => unfold(call, tables),
-        "unfold_upper" => unfold_upper(call, tables),
+        "fold" | "uppercase" => images(call, tables, name == "fold"),
+        "unfold" | "unfold_upper" => unfold(call, tables, name == "unfold"),
         "expand" => expand(call, tables),
         "starts" => members(call, tables.id_start()),
         "continues" => members(call, tables.id_continue()),
@@ -32,33 +30,28 @@ fn close(call: &mut Call, tables: &Tables) {
     call.tell_intervals(closed.intervals());
 }
 
-/// The folds of code points.
-fn folds(call: &mut Call, tables: &Tables) {
+/// The folds of code points, or their upper cases.
+fn images(call: &mut Call, tables: &Tables, by_fold: bool) {
     for point in &call.points() {
-        call.tell(&fold(*point, tables));
+        let image = if by_fold {
+            fold(*point, tables)
+        } else {
+            uppercase(*point, tables)
+        };
+        call.tell(&image);
     }
 }
 
-/// The upper cases of code points.
-fn upper_cases(call: &mut Call, tables: &Tables) {
-    for point in &call.points() {
-        call.tell(&uppercase(*point, tables));
-    }
-}
-
-/// The code points with the fold of one.
-fn unfold(call: &mut Call, tables: &Tables) {
+/// The code points with the fold of one, or with its upper case.
+fn unfold(call: &mut Call, tables: &Tables, by_fold: bool) {
     let alloc = call.alloc();
     let point = call.point();
-    let points = call.made(unfold_char(alloc, point, tables), Vec::new(alloc));
-    call.tell_each(&points);
-}
-
-/// The code points with the upper case of one.
-fn unfold_upper(call: &mut Call, tables: &Tables) {
-    let alloc = call.alloc();
-    let point = call.point();
-    let points = call.made(unfold_uppercase_char(alloc, point, tables), Vec::new(alloc));
+    let points = if by_fold {
+        unfold_char(alloc, point, tables)
+    } else {
+        unfold_uppercase_char(alloc, point, tables)
+    };
+    let points = call.made(points, Vec::new(alloc));
     call.tell_each(&points);
 }
 

@@ -62,15 +62,14 @@ fn decode(call: &mut Call) {
 
 fn decoded(bytes: &[u8]) -> Option<u32> {
     match *bytes {
-        [b0, b1] if (0xC0..0xE0).contains(&b0) && is_utf8_continuation(b1) => Some(utf8_w2(b0, b1)),
-        [b0, b1, b2]
-            if (0xE0..0xF0).contains(&b0) && is_utf8_continuation(b1) && is_utf8_continuation(b2) =>
-            { Some(utf8_w3(b0, b1, b2)) }
-        [b0, b1, b2, b3]
-            if (0xF0..0xF8).contains(&b0)
-                && is_utf8_continuation(b1)
-                && is_utf8_continuation(b2)
-                && is_utf8_continuation(b3) => { Some(utf8_w4(b0, b1, b2, b3)) }
+        [b0 @ 0xC0..=0xDF, b1 @ 0x80..=0xBF] => Some(utf8_w2(b0, b1)),
+        [b0 @ 0xE0..=0xEF, b1 @ 0x80..=0xBF, b2 @ 0x80..=0xBF] => Some(utf8_w3(b0, b1, b2)),
+        [
+            b0 @ 0xF0..=0xF7,
+            b1 @ 0x80..=0xBF,
+            b2 @ 0x80..=0xBF,
+            b3 @ 0x80..=0xBF,
+        ] => { Some(utf8_w4(b0, b1, b2, b3)) }
         _ => None,
     }
 }
