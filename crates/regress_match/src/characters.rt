@@ -13,9 +13,13 @@ use regress_unicode::{Tables, fold, uppercase};
 pub fn stands_for(rules: Rules<'_>, icase: bool, c: u32, x: u32) -> bool
     ensures { result ≡ stands_for (table_of rules.entry.tables.now) icase rules.entry.flags.unicode c x }
 {
+    if x == c {
+        return true;
+    }
     if !icase {
-        x == c
-    } else if rules.flags.unicode {
+        return false;
+    }
+    if rules.flags.unicode {
         fold(x, rules.tables) == fold(c, rules.tables)
     } else {
         uppercase(x, rules.tables) == uppercase(c, rules.tables)
