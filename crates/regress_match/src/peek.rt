@@ -15,17 +15,34 @@ use regress_tree::ir::Node;
 /// How many nodes it goes down to the leaf in front. A bound, since each node on the way may ask.
 const LEVELS: usize = 6;
 
+/// How many alternatives of a choice are asked. A bound too.
+const ALTERNATIVES: usize = 16;
+
 /// Whether what stands in front of a node tells that the node matches nothing from a place: a leaf, a lookaround at one, or
-/// a choice between two. It may match nothing though this is not told.
+/// a choice among those. It may match nothing though this is not told.
 pub fn fails_at_once(text: &str, rules: Rules<'_>, node: &Node, place: usize) -> bool
     ensures { result ≡ true → FailsAt (subject rules.entry text.now) place (tree node.now) }
 {
-    let front = front_of(node);
-    match front {
-        Node::Alt(left, right) => {
-            leaf_fails(text, rules, front_of(left), place)
-                && leaf_fails(text, rules, front_of(right), place)
+    let mut front = front_of(node);
+    let mut left = ALTERNATIVES;
+    while left > 0 {
+        let Node::Alt(first, others) = front else {
+            return front_fails(text, rules, front, place);
+        };
+        if !front_fails(text, rules, front_of(first), place) {
+            return false;
         }
+        front = front_of(others);
+        left -= 1;
+    }
+    false
+}
+
+/// Whether it is a leaf or a lookaround at one, and told to match nothing from a place.
+fn front_fails(text: &str, rules: Rules<'_>, node: &Node, place: usize) -> bool
+    ensures { result ≡ true → FailsAt (subject rules.entry text.now) place (tree node.now) }
+{
+    match node {
         Node::LookaroundAssertion {
             negate,
             backwards,
@@ -43,7 +60,7 @@ pub fn fails_at_once(text: &str, rules: Rules<'_>, node: &Node, place: usize) ->
                 leaf_fails(text, inside, front_of(contents), place)
             }
         }
-        _ => leaf_fails(text, rules, front, place),
+        _ => leaf_fails(text, rules, node, place),
     }
 }
 

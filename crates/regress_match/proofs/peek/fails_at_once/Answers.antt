@@ -1,54 +1,29 @@
-use Rattle.std.proofs.Common.{◌∙◌, ap, sym, subst, Bool, Some}
-use Rattle.regress_tree.specs.Reading.{direction_if}
-use Rattle.regress_tree.specs.Tree.{tree, wrapped, lookaround}
+use Rattle.std.proofs.Common.{◌∙◌, ap, sym, subst}
+use Rattle.regress_tree.specs.Tree.{tree}
 use Rattle.regress_tree.specs.declared.ir.node.Node.{Node}
-use Rattle.regress_tree.proofs.laws.Nodes.{tree-Alt, tree-LookaroundAssertion}
-use Rattle.regress_match.specs.Peek.{FailsAt, GoesTo}
-use Rattle.regress_match.specs.Subject.{Subject, subject}
-use Rattle.regress_match.proofs.PeekLemmas.{fails_alt, fails_look, fails_look_negated}
+use Rattle.regress_tree.proofs.laws.Nodes.{tree-Alt}
+use Rattle.regress_match.specs.Peek.{FailsAt}
+use Rattle.regress_match.specs.Subject.{subject}
+use Rattle.regress_match.proofs.PeekLemmas.{fails_alt}
 use Rattle.regress_match.proofs.peek.fails_at_once.Goals as goal
 
-pub returns-then-leaf_fails : goal.returns-then-leaf_fails
-returns-then-leaf_fails c = λ fails.
-    let u = subject c.args.rules c.args.text.now in
-    let place = c.args.place in
-    let g = c.in-Alt in
-    let first : FailsAt u place (tree g.left.value) =
-    subst (λ (n : Node). FailsAt u place (tree n)) c.deref.ensures (c.front_of.ensures u place (c.leaf_fails.ensures c.if-leaf_fails.true)) in
-    let second : FailsAt u place (tree g.right.value) =
-    subst (λ (n : Node). FailsAt u place (tree n)) c.deref-then-leaf_fails.ensures
-    (c.front_of-then-leaf_fails.ensures u place (c.leaf_fails-then-leaf_fails.ensures fails)) in
-    c.front_of-front.ensures u place
-    (subst (FailsAt u place) (sym (ap tree g.is ∙ tree-Alt g.left g.right)) (fails_alt u place (tree g.left.value) (tree g.right.value) first second))
+pub loop-left-init : goal.loop-left-init
+loop-left-init c = record { same = c.front_of-front.ensures (subject c.args.rules c.args.text.now) c.args.place }
 
-pub returns-then-negate : goal.returns-then-negate
-returns-then-negate c = λ holds.
-    let u = subject c.args.rules c.args.text.now in
-    let place = c.args.place in
-    let g = c.in-LookaroundAssertion in
-    let inside : Subject = record u { direction = direction_if g.backwards } in
-    let found = c.leaf_holds.ensures holds in
-    let body : GoesTo inside place (tree g.contents.value) (Some found.0) =
-    subst (λ (n : Node). GoesTo inside place (tree n) (Some found.0)) c.deref-then-negate.ensures found.1 in
-    c.front_of-front.ensures u place
-    (subst (FailsAt u place) (sym (ap tree g.is ∙ tree-LookaroundAssertion g.negate g.backwards g.start_group g.end_group g.contents))
-    (subst (λ (b : Bool). FailsAt u place (wrapped (lookaround b g.backwards g.start_group g.end_group) (tree g.contents.value))) (sym c.if-negate.true)
-    (fails_look_negated u place (tree g.contents.value) g.backwards g.start_group g.end_group found.0 body)))
-
-pub returns-else-negate : goal.returns-else-negate
-returns-else-negate c = λ fails.
-    let u = subject c.args.rules c.args.text.now in
-    let place = c.args.place in
-    let g = c.in-LookaroundAssertion in
-    let inside : Subject = record u { direction = direction_if g.backwards } in
-    let body : FailsAt inside place (tree g.contents.value) =
-    subst (λ (n : Node). FailsAt inside place (tree n)) c.deref-else-negate.ensures
-    (c.front_of-else-negate.ensures inside place (c.leaf_fails-else-negate.ensures fails)) in
-    c.front_of-front.ensures u place
-    (subst (FailsAt u place) (sym (ap tree g.is ∙ tree-LookaroundAssertion g.negate g.backwards g.start_group g.end_group g.contents))
-    (subst (λ (b : Bool). FailsAt u place (wrapped (lookaround b g.backwards g.start_group g.end_group) (tree g.contents.value))) (sym c.if-negate.false)
-    (fails_look u place (tree g.contents.value) g.backwards g.start_group g.end_group body)))
+pub loop-left-preserved : goal.loop-left-preserved
+loop-left-preserved c = record {
+  same = λ fails.
+      let u = subject c.args.rules c.args.text.now in
+      let place = c.args.place in
+      let g = c.in-Alt in
+      let one : FailsAt u place (tree g.first.value) =
+      subst (λ (n : Node). FailsAt u place (tree n)) c.deref.ensures
+      (c.front_of.ensures u place (c.front_fails-in-loop-left.ensures c.if-not-front_fails.false)) in
+      let others : FailsAt u place (tree g.others.value) =
+      subst (λ (n : Node). FailsAt u place (tree n)) c.deref-in-loop-left.ensures (c.front_of-front-in-loop-left.ensures u place fails) in
+      c.loop-left.invariant.same
+      (subst (FailsAt u place) (sym (ap tree g.is ∙ tree-Alt g.first g.others)) (fails_alt u place (tree g.first.value) (tree g.others.value) one others));
+}
 
 pub returns-in_default : goal.returns-in_default
-returns-in_default c = λ fails.
-    c.front_of-front.ensures (subject c.args.rules c.args.text.now) c.args.place (c.leaf_fails-in_default.ensures fails)
+returns-in_default c = λ fails. c.loop-left.invariant.same (c.front_fails.ensures fails)
