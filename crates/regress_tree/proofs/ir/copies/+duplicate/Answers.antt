@@ -56,3 +56,57 @@ duplicate_nodes-returns-in_err-copy-clause-copy t c = IfOk-from_err _ _ c.from_r
 
 pub duplicate_nodes-returns-in_err-copy-clause-some : goal.duplicate_nodes-returns-in_err-copy-clause-some
 duplicate_nodes-returns-in_err-copy-clause-some t c = IfOk-from_err _ _ c.from_residual-in_err-copy.ensures.0
+
+pub duplicate_nodes-returns-in_err-copies-clause-copy : goal.duplicate_nodes-returns-in_err-copies-clause-copy
+duplicate_nodes-returns-in_err-copies-clause-copy t c = IfOk-from_err _ _ c.from_residual.ensures.0
+
+pub duplicate_nodes-returns-in_err-copies-clause-some : goal.duplicate_nodes-returns-in_err-copies-clause-some
+duplicate_nodes-returns-in_err-copies-clause-some t c = IfOk-from_err _ _ c.from_residual.ensures.0
+
+pub duplicate_box-returns-in_err-copy-clause-copy : goal.duplicate_box-returns-in_err-copy-clause-copy
+duplicate_box-returns-in_err-copy-clause-copy t c = IfOk-from_err _ _ c.from_residual.ensures.0
+
+pub duplicate_box-returns-in_err-copy-clause-some : goal.duplicate_box-returns-in_err-copy-clause-some
+duplicate_box-returns-in_err-copy-clause-some t c = IfOk-from_err _ _ c.from_residual.ensures.0
+
+pub duplicate_box-returns-in_err-new-in-Some-clause-copy : goal.duplicate_box-returns-in_err-new-in-Some-clause-copy
+duplicate_box-returns-in_err-new-in-Some-clause-copy t c = IfOk-from_err _ _ c.from_residual-in_err-new-in-Some.ensures.0
+
+pub duplicate_box-returns-in_err-new-in-Some-clause-some : goal.duplicate_box-returns-in_err-new-in-Some-clause-some
+duplicate_box-returns-in_err-new-in-Some-clause-some t c = IfOk-from_err _ _ c.from_residual-in_err-new-in-Some.ensures.0
+
+pub duplicate_node-returns-in_err-duplicate_nodes-in-Cat-clause-copy : goal.duplicate_node-returns-in_err-duplicate_nodes-in-Cat-clause-copy
+duplicate_node-returns-in_err-duplicate_nodes-in-Cat-clause-copy t c = IfOk-from_err _ _ c.from_residual.ensures.0
+
+pub duplicate_node-returns-in_err-duplicate_nodes-in-Cat-clause-some : goal.duplicate_node-returns-in_err-duplicate_nodes-in-Cat-clause-some
+duplicate_node-returns-in_err-duplicate_nodes-in-Cat-clause-some t c = IfOk-from_err _ _ c.from_residual.ensures.0
+
+pub duplicate_node-returns-in_err-left-in-Alt-clause-copy : goal.duplicate_node-returns-in_err-left-in-Alt-clause-copy
+duplicate_node-returns-in_err-left-in-Alt-clause-copy t c = IfOk-from_err _ _ c.from_residual-in_err-left-in-Alt.ensures.0
+
+pub duplicate_node-returns-in_err-left-in-Alt-clause-some : goal.duplicate_node-returns-in_err-left-in-Alt-clause-some
+duplicate_node-returns-in_err-left-in-Alt-clause-some t c = IfOk-from_err _ _ c.from_residual-in_err-left-in-Alt.ensures.0
+
+pub duplicate_node-returns-in_err-right-in-Alt-clause-copy : goal.duplicate_node-returns-in_err-right-in-Alt-clause-copy
+duplicate_node-returns-in_err-right-in-Alt-clause-copy t c = IfOk-from_err _ _ c.from_residual-in_err-right-in-Alt.ensures.0
+
+pub duplicate_node-returns-in_err-right-in-Alt-clause-some : goal.duplicate_node-returns-in_err-right-in-Alt-clause-some
+duplicate_node-returns-in_err-right-in-Alt-clause-some t c = IfOk-from_err _ _ c.from_residual-in_err-right-in-Alt.ensures.0
+
+pub duplicate_node-returns-in_err-duplicate_box-in-Loop-clause-copy : goal.duplicate_node-returns-in_err-duplicate_box-in-Loop-clause-copy
+duplicate_node-returns-in_err-duplicate_box-in-Loop-clause-copy t c = IfOk-from_err _ _ c.from_residual-in_err-duplicate_box-in-Loop.ensures.0
+
+pub duplicate_node-returns-in_err-duplicate_box-in-Loop-clause-some : goal.duplicate_node-returns-in_err-duplicate_box-in-Loop-clause-some
+duplicate_node-returns-in_err-duplicate_box-in-Loop-clause-some t c = IfOk-from_err _ _ c.from_residual-in_err-duplicate_box-in-Loop.ensures.0
+
+pub duplicate_node-returns-in_err-duplicate_box-in-Loop1CharBody-clause-copy : goal.duplicate_node-returns-in_err-duplicate_box-in-Loop1CharBody-clause-copy
+duplicate_node-returns-in_err-duplicate_box-in-Loop1CharBody-clause-copy t c = IfOk-from_err _ _ c.from_residual-in_err-duplicate_box-in-Loop1CharBody.ensures.0
+
+pub duplicate_node-returns-in_err-duplicate_box-in-Loop1CharBody-clause-some : goal.duplicate_node-returns-in_err-duplicate_box-in-Loop1CharBody-clause-some
+duplicate_node-returns-in_err-duplicate_box-in-Loop1CharBody-clause-some t c = IfOk-from_err _ _ c.from_residual-in_err-duplicate_box-in-Loop1CharBody.ensures.0
+
+pub duplicate_node-returns-in_err-duplicate_box-in-LookaroundAssertion-clause-copy : goal.duplicate_node-returns-in_err-duplicate_box-in-LookaroundAssertion-clause-copy
+duplicate_node-returns-in_err-duplicate_box-in-LookaroundAssertion-clause-copy t c = IfOk-from_err _ _ c.from_residual-in_err-duplicate_box-in-LookaroundAssertion.ensures.0
+
+pub duplicate_node-returns-in_err-duplicate_box-in-LookaroundAssertion-clause-some : goal.duplicate_node-returns-in_err-duplicate_box-in-LookaroundAssertion-clause-some
+duplicate_node-returns-in_err-duplicate_box-in-LookaroundAssertion-clause-some t c = IfOk-from_err _ _ c.from_residual-in_err-duplicate_box-in-LookaroundAssertion.ensures.0
