@@ -1,9 +1,13 @@
 -- What is written behind what was written.
-use Rattle.std.proofs.Common.{◌≡◌, ◌∙◌, ℕ, zero, suc, ◌+◌, ◌<◌, true, false, List, [], ◌∷◌, ◌++◌, length, get_or, take, drop, flat_map, refl, sym, ap, append_assoc, codes, Vec, Box, Global, rules, arith}
-use Rattle.std.specs.List.{slice_get}
-use Rattle.std.specs.Fmt.{HasWritten, IsPlainFormatter}
+use Rattle.std.proofs.Common.{◌≡◌, ◌∙◌, ℕ, zero, suc, ◌+◌, ◌<◌, true, false, List, [], ◌∷◌, ◌++◌, length, get_or, take, drop, map, flat_map, refl, sym, ap, add-one, append_assoc, append-nil, codes, Vec, Box, Global, rules, arith}
+use denote.Text.{Utf8}
+use denote.Shadow.{shadow}
+use lib.Utf8.{encode}
+use Rattle.std.specs.List.{slice_get, join_by}
+use Rattle.std.specs.Fmt.{decimal, HasWritten, IsPlainFormatter}
 use Rattle.std.specs.declared.fmt.Formatter.{Formatter}
 use Rattle.std.proofs.Math.Nat.{add-zero}
+use Rattle.std.proofs.lemmas.List.Folds.{flat_map-map}
 use Rattle.std.proofs.lemmas.List.{drop-drop, flat_map_more, take_more}
 use Rattle.regress_spans.specs.declared.span.Span.{Span}
 use Rattle.regress_tree.specs.Copies.{is_leaf}
@@ -13,7 +17,7 @@ use Rattle.regress_tree.specs.Tree.{Tree, leaf, cat, alt, wrapped, tree}
 use Rattle.regress_tree.specs.Visits.{nodes, nodes_in_row}
 use Rattle.regress_tree.specs.declared.ir.node.Node.{Node, the_lemmas}
 use Rattle.regress_tree.specs.declared.ir.node.Node.TheVariants.{Cat, Alt}
-use Rattle.regress_show.specs.Json.{opening, ending, node_json, further_json, row_json, span_or_none, span_mark}
+use Rattle.regress_show.specs.Json.{pair, opening, ending, node_json, further_json, row_json, span_or_none, span_mark}
 use Rattle.regress_show.specs.Passed.{alternations}
 
 -- what is neither a `Cat` nor an `Alt` and holds no node is a leaf
@@ -26,7 +30,7 @@ module _ (mark : ℕ → List ℕ) (at : ℕ) where
   abbrev pub unended : Tree → List ℕ
   unended (leaf l) = opening (leaf l)
   unended (cat parts) = opening (cat parts) ++ (row_json mark at true parts ++ codes "]")
-  unended (alt left right) = opening (alt left right) ++ ((node_json mark at left ++ further_json mark (at + nodes left) right) ++ codes "]")
+  unended (alt left right) = opening (alt left right) ++ (node_json mark at left ++ (further_json mark (at + nodes left) right ++ codes "]"))
   unended (wrapped w body) = opening (wrapped w body) ++ node_json mark at body
 
   pub unended-leaf : (t : Tree) → is_leaf t ≡ true → opening t ≡ unended t
@@ -114,8 +118,33 @@ pub record Completes {W : Type 0} (took : W → List ℕ → W → Type 0) (from
   pub spans : left ≡ drop now all
   pub completes : (last : Formatter W) → HasWritten took to (rest now) last → HasWritten took from (whole at) last
 
--- one more behind those so far
-pub one_more : {X : Type 0} (f : X → List ℕ) (front : List ℕ) (xs : List X) (i : ℕ) (d : X) → i < length xs →
-    (front ++ flat_map f (take i xs)) ++ f (get_or xs i d) ≡ front ++ flat_map f (take (i + 1) xs)
-one_more f front xs i d within =
-    flat_map_more f front (take i xs) (get_or xs i d) ∙ ap (λ ys. front ++ flat_map f ys) (sym (take_more xs i d within))
+-- what stands before the item with that index
+abbrev pub separator : ℕ → List ℕ
+separator zero = []
+separator (suc i) = codes ","
+
+pub to-left : (a b c d : List ℕ) → a ++ ((b ++ c) ++ d) ≡ ((a ++ b) ++ c) ++ d
+to-left a b c d = simp append_assoc
+
+pub pair-behind : (s : List ℕ) (a b : ℕ) → s ++ (codes "[" ++ (decimal a ++ (codes "," ++ (decimal b ++ codes "]")))) ≡ s ++ pair a b
+pair-behind s a b = ap (λ t. s ++ t) (simp append_assoc)
+
+pub comma-is_text : shadow (Utf8 (codes ","))
+unfolding encode
+comma-is_text = (codes ",", (refl, refl))
+
+-- one more item behind those so far
+pub join-more : {X : Type 0} (f : X → List ℕ) (xs : List X) (i : ℕ) (x : X) (comma : List ℕ) → i < length xs → comma ≡ separator i →
+    x ≡ get_or xs i x → join_by f (codes ",") (take i xs) ++ (comma ++ f x) ≡ join_by f (codes ",") (take (i + 1) xs)
+join-more f [] i x comma inside is here = absurd (omega arith)
+join-more f (y ∷ xs) zero x comma inside is here = rw (is, here) (sym (append-nil (f y)))
+join-more f (y ∷ xs) (suc i) x comma inside is here =
+    let behind : i < length xs = omega arith in
+    rw (add-one, is) (flat_map_more (λ z. codes "," ++ f z) (f y) (take i xs) x
+    ∙ ap (λ zs. f y ++ flat_map (λ z. codes "," ++ f z) zs)
+    (ap (λ z. take i xs ++ (z ∷ [])) here ∙ sym (ap (λ n. take n xs) (sym (add-one i)) ∙ take_more xs i x behind)))
+
+pub join-map : {X Y : Type 0} (f : Y → List ℕ) (g : X → Y) (xs : List X) →
+    join_by (λ x. f (g x)) (codes ",") xs ≡ join_by f (codes ",") (map g xs)
+join-map f g [] = refl
+join-map f g (x ∷ xs) = ap (λ behind. f (g x) ++ behind) (sym (flat_map-map (λ y. codes "," ++ f y) g xs))

@@ -1,5 +1,5 @@
 //! The tree as JSON: an object for each node, with everything that the node has.
-ghost use Rattle.std.specs.Prelude.{◌≡◌, ◌++◌, ℕ, List, OnOk, true, codes, drop, flat_map, option_map, string_bytes, map};
+ghost use Rattle.std.specs.Prelude.{◌≡◌, ◌++◌, ℕ, List, OnOk, Some, true, codes, drop, flat_map, option_map, string_bytes, map};
 ghost use Rattle.std.specs.Box.{boxed_slice_items};
 ghost use Rattle.std.specs.List.{join_by};
 ghost use Rattle.std.specs.Fmt.{WritesOnOk, decimal};
@@ -65,21 +65,25 @@ impl fmt::Display for SpannedJson<'_> {
 fn write_pattern<W: Write>(regex: &Regex, spans: &[Span], f: &mut Formatter<W>) -> fmt::Result
     ensures { WritesOnOk W.write_str_gives f.old result (text.spanned_json_of regex.now.flags (tree regex.now.node) spans.now) f.new }
 {
-    f.write_str("{\"flags\":")?;
     write_flags(regex.flags, f)?;
-    f.write_str(",\"node\":")?;
     write_node(&regex.node, &mut Marks { left: spans }, f)?;
     f.write_str("}")
 }
 
+/// Writes what stands in front of the tree.
 fn write_flags<W: Write>(flags: Flags, f: &mut Formatter<W>) -> fmt::Result
-    ensures { WritesOnOk W.write_str_gives f.old result (text.flags_json flags) f.new }
+    ensures { WritesOnOk W.write_str_gives f.old result (codes "{\"flags\":" ++ text.flags_json flags ++ codes ",\"node\":") f.new }
 {
-    let (icase, multiline, dot_all) = (flags.icase, flags.multiline, flags.dot_all);
-    let (unicode, unicode_sets) = (flags.unicode, flags.unicode_sets);
+    let Flags {
+        icase,
+        multiline,
+        dot_all,
+        unicode,
+        unicode_sets,
+    } = flags;
     write!(
         f,
-        "{{\"icase\":{icase},\"multiline\":{multiline},\"dot_all\":{dot_all},\"unicode\":{unicode},\"unicode_sets\":{unicode_sets}}}"
+        "{{\"flags\":{{\"icase\":{icase},\"multiline\":{multiline},\"dot_all\":{dot_all},\"unicode\":{unicode},\"unicode_sets\":{unicode_sets}}},\"node\":"
     )
 }
 
@@ -94,12 +98,10 @@ fn write_node<W: Write>(node: &Node, marks: &mut Marks<'_>, f: &mut Formatter<W>
     match node {
         Node::Cat(parts) => {
             write_row(parts, marks, f)?;
-            f.write_str("]")?;
         }
         Node::Alt(left, right) => {
             write_node(left, marks, f)?;
             write_further(right, marks, f)?;
-            f.write_str("]")?;
         }
         _ => {
             if let Some(body) = body(node) {
@@ -110,12 +112,12 @@ fn write_node<W: Write>(node: &Node, marks: &mut Marks<'_>, f: &mut Formatter<W>
     marks.write_ending(f)
 }
 
-/// Writes the alternatives of a right side, and passes the `Alt`s that it is. They take no stack: there may be as many
-/// levels as alternatives.
+/// Writes the alternatives of a right side, up to the end of the list, and passes the `Alt`s that it is. They take no stack:
+/// there may be as many levels as alternatives.
 #[cycle(write_node)]
 fn write_further<W: Write>(right: &Node, marks: &mut Marks<'_>, f: &mut Formatter<W>) -> fmt::Result
     ensures written { (all : List Span) (at : ℕ) → marks.old.left.now ≡ drop at all →
-        WritesOnOk W.write_str_gives f.old result (text.further_json (text.span_mark all) at (tree right.now)) f.new }
+        WritesOnOk W.write_str_gives f.old result (text.further_json (text.span_mark all) at (tree right.now) ++ codes "]") f.new }
     ensures passed { OnOk result (marks.new.left.now ≡ drop (nodes (tree right.now)) marks.old.left.now) }
 {
     let mut last = right;
@@ -127,14 +129,14 @@ fn write_further<W: Write>(right: &Node, marks: &mut Marks<'_>, f: &mut Formatte
     f.write_str(",")?;
     write_node(last, marks, f)?;
     marks.pass_alternations(right);
-    Ok(())
+    f.write_str("]")
 }
 
-/// Writes the parts of a row.
+/// Writes the parts of a row, up to the end of the list.
 #[cycle(write_node)]
 fn write_row<W: Write>(parts: &[Node], marks: &mut Marks<'_>, f: &mut Formatter<W>) -> fmt::Result
     ensures written { (all : List Span) (at : ℕ) → marks.old.left.now ≡ drop at all →
-        WritesOnOk W.write_str_gives f.old result (text.row_json (text.span_mark all) at true (trees parts.now)) f.new }
+        WritesOnOk W.write_str_gives f.old result (text.row_json (text.span_mark all) at true (trees parts.now) ++ codes "]") f.new }
     ensures passed { OnOk result (marks.new.left.now ≡ drop (nodes_in_row (trees parts.now)) marks.old.left.now) }
 {
     let mut first = true;
@@ -143,7 +145,7 @@ fn write_row<W: Write>(parts: &[Node], marks: &mut Marks<'_>, f: &mut Formatter<
         write_node(part, marks, f)?;
         first = false;
     }
-    Ok(())
+    f.write_str("]")
 }
 
 /// Writes what stands before a part.
@@ -254,7 +256,7 @@ fn write_name<W: Write>(name: &Option<CaptureGroupName>, f: &mut Formatter<W>) -
     match name {
         None => f.write_str("null"),
         Some(name) if is_word(name.as_bytes()) => write!(f, "\"{name}\""),
-        Some(name) => write_byte_list(name.as_bytes(), f),
+        Some(name) => write_list(name.as_bytes(), f),
     }
 }
 
@@ -284,19 +286,15 @@ fn write_loop<W: Write>(
 ) -> fmt::Result
     ensures { WritesOnOk W.write_str_gives f.old result (text.front (loop quant.now start end)) f.new }
 {
-    f.write_str("{\"kind\":\"Loop\",\"enclosed_groups\":")?;
-    write_pair(u32::from(start), u32::from(end), f)?;
-    f.write_str(",\"quant\":")?;
-    write_quantifier(quant, f)?;
-    f.write_str(",\"loopee\":")
+    write!(f, "{{\"kind\":\"Loop\",\"enclosed_groups\":[{start},{end}]")?;
+    write_repeat(quant, f)
 }
 
 fn write_loop_one<W: Write>(quant: &Quantifier, f: &mut Formatter<W>) -> fmt::Result
     ensures { WritesOnOk W.write_str_gives f.old result (text.front (loop_one quant.now)) f.new }
 {
-    f.write_str("{\"kind\":\"Loop1CharBody\",\"quant\":")?;
-    write_quantifier(quant, f)?;
-    f.write_str(",\"loopee\":")
+    f.write_str("{\"kind\":\"Loop1CharBody\"")?;
+    write_repeat(quant, f)
 }
 
 fn write_lookaround<W: Write>(
@@ -314,21 +312,20 @@ fn write_lookaround<W: Write>(
     )
 }
 
-fn write_quantifier<W: Write>(quant: &Quantifier, f: &mut Formatter<W>) -> fmt::Result
-    ensures { WritesOnOk W.write_str_gives f.old result (text.quantifier quant.now) f.new }
+/// Writes how often a body is matched, up to that body.
+fn write_repeat<W: Write>(quant: &Quantifier, f: &mut Formatter<W>) -> fmt::Result
+    ensures { WritesOnOk W.write_str_gives f.old result (codes ",\"quant\":" ++ text.quantifier quant.now ++ codes ",\"loopee\":") f.new }
 {
-    let (min, greedy) = (quant.min, quant.greedy);
-    write!(f, "{{\"min\":{min},\"max\":")?;
-    write_maximum(quant.max, f)?;
-    write!(f, ",\"greedy\":{greedy}}}")
-}
-
-fn write_maximum<W: Write>(max: Option<usize>, f: &mut Formatter<W>) -> fmt::Result
-    ensures { WritesOnOk W.write_str_gives f.old result (text.number_or_null max) f.new }
-{
+    let Quantifier { min, max, greedy } = *quant;
     match max {
-        Some(max) => write!(f, "{max}"),
-        None => f.write_str("null"),
+        Some(max) => write!(
+            f,
+            ",\"quant\":{{\"min\":{min},\"max\":{max},\"greedy\":{greedy}}},\"loopee\":"
+        ),
+        None => write!(
+            f,
+            ",\"quant\":{{\"min\":{min},\"max\":null,\"greedy\":{greedy}}},\"loopee\":"
+        ),
     }
 }
 
@@ -344,26 +341,13 @@ fn write_bracket<W: Write>(contents: &BracketContents, f: &mut Formatter<W>) -> 
 fn write_intervals<W: Write>(intervals: &[Interval], f: &mut Formatter<W>) -> fmt::Result
     ensures { WritesOnOk W.write_str_gives f.old result (join_by text.interval (codes ",") intervals.now) f.new }
 {
-    if let [first, rest @ ..] = intervals {
-        write_interval(*first, f)?;
-        for interval in rest {
-            f.write_str(",")?;
-            write_interval(*interval, f)?;
-        }
+    let mut comma = "";
+    for interval in intervals {
+        let (first, last) = (interval.first(), interval.last());
+        write!(f, "{comma}[{first},{last}]")?;
+        comma = ",";
     }
     Ok(())
-}
-
-fn write_interval<W: Write>(interval: Interval, f: &mut Formatter<W>) -> fmt::Result
-    ensures { WritesOnOk W.write_str_gives f.old result (text.interval interval) f.new }
-{
-    write_pair(interval.first(), interval.last(), f)
-}
-
-fn write_pair<W: Write>(first: u32, last: u32, f: &mut Formatter<W>) -> fmt::Result
-    ensures { WritesOnOk W.write_str_gives f.old result (text.pair first last) f.new }
-{
-    write!(f, "[{first},{last}]")
 }
 
 fn write_string_set<W: Write>(
@@ -381,20 +365,11 @@ fn write_string_set<W: Write>(
 fn write_strings<W: Write>(strings: &[BoxedSlice<u32>], f: &mut Formatter<W>) -> fmt::Result
     ensures { WritesOnOk W.write_str_gives f.old result (join_by text.numbers (codes ",") (map boxed_slice_items strings.now)) f.new }
 {
-    if let [first, rest @ ..] = strings {
-        write_characters(first, f)?;
-        write_more_strings(rest, f)?;
-    }
-    Ok(())
-}
-
-fn write_more_strings<W: Write>(strings: &[BoxedSlice<u32>], f: &mut Formatter<W>) -> fmt::Result
-    ensures { WritesOnOk W.write_str_gives f.old result
-        (flat_map (λ s. codes "," ++ text.numbers s) (map boxed_slice_items strings.now)) f.new }
-{
+    let mut comma = "";
     for string in strings {
-        f.write_str(",")?;
-        write_characters(string, f)?;
+        f.write_str(comma)?;
+        write_list(string, f)?;
+        comma = ",";
     }
     Ok(())
 }
@@ -403,38 +378,26 @@ fn write_char_set<W: Write>(characters: &[u32], f: &mut Formatter<W>) -> fmt::Re
     ensures { WritesOnOk W.write_str_gives f.old result (text.leaf_json (char_set characters.now)) f.new }
 {
     f.write_str("{\"kind\":\"CharSet\",\"characters\":")?;
-    write_characters(characters, f)
-}
-
-fn write_characters<W: Write>(characters: &[u32], f: &mut Formatter<W>) -> fmt::Result
-    ensures { WritesOnOk W.write_str_gives f.old result (text.numbers characters.now) f.new }
-{
-    f.write_str("[")?;
-    if let [first, rest @ ..] = characters {
-        write!(f, "{first}")?;
-        for c in rest {
-            write!(f, ",{c}")?;
-        }
-    }
-    f.write_str("]")
+    write_list(characters, f)
 }
 
 fn write_bytes<W: Write>(kind: &str, bytes: &[u8], f: &mut Formatter<W>) -> fmt::Result
     ensures { WritesOnOk W.write_str_gives f.old result (text.node_of_bytes kind.now bytes.now) f.new }
 {
     write!(f, "{{\"kind\":\"{kind}\",\"bytes\":")?;
-    write_byte_list(bytes, f)
+    write_list(bytes, f)
 }
 
-fn write_byte_list<W: Write>(bytes: &[u8], f: &mut Formatter<W>) -> fmt::Result
-    ensures { WritesOnOk W.write_str_gives f.old result (text.numbers bytes.now) f.new }
+/// Writes values in brackets, with commas between.
+fn write_list<T: fmt::Display, W: Write>(values: &[T], f: &mut Formatter<W>) -> fmt::Result
+    ensures { (shown : T → List ℕ) → ((x : T) → T.output x ≡ Some (shown x)) →
+        WritesOnOk W.write_str_gives f.old result (codes "[" ++ join_by shown (codes ",") values.now ++ codes "]") f.new }
 {
     f.write_str("[")?;
-    if let [first, rest @ ..] = bytes {
-        write!(f, "{first}")?;
-        for byte in rest {
-            write!(f, ",{byte}")?;
-        }
+    let mut comma = "";
+    for value in values {
+        write!(f, "{comma}{value}")?;
+        comma = ",";
     }
     f.write_str("]")
 }

@@ -13,7 +13,7 @@ use Rattle.regress_show.specs.Json.{span_mark, row_json}
 use Rattle.regress_show.specs.Passed.{alternations}
 use Rattle.regress_show.proofs.JsonLemmas.{leaf_of, unended, unended-leaf, unended-around, unended-ended, within, within-leaf, within-around, nodes-within, shown, shown-last, nodes-shown, further_last, passed-more, mark-first}
 use Rattle.regress_show.proofs.json.+write_node.Goals as goal
-use Rattle.regress_show.proofs.json.+write_node.Goals.{write_node-in-Cat+in_ok-write_row-in-Cat+in_ok-write_str-in-Cat, write_node-in-Alt+in_ok-write_node-in-Alt+in_ok-write_further-in-Alt+in_ok-write_str-in-Alt, write_node-in_default+in-Some+in_ok-write_node-in_default, write_node-in_default+in_default-body}
+use Rattle.regress_show.proofs.json.+write_node.Goals.{write_node-in-Cat+in_ok-write_row-in-Cat, write_node-in-Alt+in_ok-write_node-in-Alt+in_ok-write_further-in-Alt, write_node-in_default+in-Some+in_ok-write_node-in_default, write_node-in_default+in_default-body}
 
 always : {X : Type 0} (r : Result (Unit {0}) Error) → X → OnOk r X
 always (Ok u) x = x
@@ -55,18 +55,19 @@ write_further-returns-clause-written g t c all at is plain ok =
     let so_far = c.loop-left.invariant.completes all at is plain in
     let comma = c.in_ok-write_str-2.ensures.writes so_far.plain refl in
     let own = c.in_ok-write_node-2.ensures.written all so_far.now so_far.spans comma.plain refl in
-    so_far.completes _ (has_written_of_eq _ _ _ _ _ (further_last (span_mark all) so_far.now last c.in_default.ensures.sides)
-    (has_written_append _ _ _ _ _ _ comma own))
+    let alternatives = so_far.completes _ (has_written_of_eq _ _ _ _ _ (further_last (span_mark all) so_far.now last c.in_default.ensures.sides)
+    (has_written_append _ _ _ _ _ _ comma own)) in
+    has_written_append _ _ _ _ _ _ alternatives (c.write_str-3.ensures.writes alternatives.plain ok)
 
 pub write_further-returns-clause-passed : goal.write_further-returns-clause-passed
 write_further-returns-clause-passed g t c =
     let last = tree c.loop-left.last.now in
     let right = tree c.args.right.now in
     let old = c.args.marks.now.left.now in
-    c.pass_alternations.ensures
+    always c.write_str-3.result (c.pass_alternations.ensures
     ∙ ap (drop (alternations right)) (c.in_ok-write_node-2.ensures.passed
     ∙ ap (λ n. drop n c.loop-left.marks.left.now) (shown-last last c.in_default.ensures.sides) ∙ c.loop-left.invariant.passed)
-    ∙ drop-drop (alternations right) (shown right) old ∙ ap (λ n. drop n old) (sym (nodes-shown right))
+    ∙ drop-drop (alternations right) (shown right) old ∙ ap (λ n. drop n old) (sym (nodes-shown right)))
 
 pub write_node-returns-clause-written : goal.write_node-returns-clause-written
 write_node-returns-clause-written g t c all at is plain ok =
@@ -76,25 +77,21 @@ write_node-returns-clause-written g t c all at is plain ok =
     let front = c.in_ok-write_opening.ensures plain refl in
     let so_far : HasWritten took c.args.f.now (unended mark at node) c.match-node.f × (c.match-node.marks.left.now ≡ drop (at + within node) all) =
     elim c.match-node.branch [
-      | write_node-in-Cat+in_ok-write_row-in-Cat+in_ok-write_str-in-Cat w ↦
+      | write_node-in-Cat+in_ok-write_row-in-Cat w ↦
           let one = rw (w.in-Cat.is, tree-Cat) at front in
           let row = rw w.deref.ensures.value at (w.in_ok-write_row-in-Cat.ensures.written all at is one.plain refl) in
-          let passed = rw w.deref.ensures.value at w.in_ok-write_row-in-Cat.ensures.passed in
-          let end = w.in_ok-write_str-in-Cat.ensures.writes row.plain refl in (
-            rw (w.f-is, w.in-Cat.is, tree-Cat) (has_written_append _ _ _ _ _ _ one (has_written_append _ _ _ _ _ _ row end)),
+          let passed = rw w.deref.ensures.value at w.in_ok-write_row-in-Cat.ensures.passed in (
+            rw (w.f-is, w.in-Cat.is, tree-Cat) (has_written_append _ _ _ _ _ _ one row),
             rw (w.marks-is, w.in-Cat.is, tree-Cat) (passed-more all _ _ at _ is passed),
           )
-      | write_node-in-Alt+in_ok-write_node-in-Alt+in_ok-write_further-in-Alt+in_ok-write_str-in-Alt w ↦
+      | write_node-in-Alt+in_ok-write_node-in-Alt+in_ok-write_further-in-Alt w ↦
           let one = rw (w.in-Alt.is, tree-Alt) at front in
           let left = rw w.deref-in-Alt.ensures at (w.in_ok-write_node-in-Alt.ensures.written all at is one.plain refl) in
           let left-passed = rw w.deref-in-Alt.ensures at w.in_ok-write_node-in-Alt.ensures.passed in
           let between = passed-more all _ _ at _ is left-passed in
           let right = rw w.deref-in-Alt-2.ensures at (w.in_ok-write_further-in-Alt.ensures.written all _ between left.plain refl) in
-          let right-passed = rw w.deref-in-Alt-2.ensures at w.in_ok-write_further-in-Alt.ensures.passed in
-          let end = w.in_ok-write_str-in-Alt.ensures.writes right.plain refl in (
-            rw (w.f-is, w.in-Alt.is, tree-Alt)
-                (has_written_append _ _ _ _ _ _ one
-                (has_written_append _ _ _ _ _ _ (has_written_append _ _ _ _ _ _ left right) end)),
+          let right-passed = rw w.deref-in-Alt-2.ensures at w.in_ok-write_further-in-Alt.ensures.passed in (
+            rw (w.f-is, w.in-Alt.is, tree-Alt) (has_written_append _ _ _ _ _ _ one (has_written_append _ _ _ _ _ _ left right)),
             rw (w.marks-is, w.in-Alt.is, tree-Alt)
                 (passed-more all _ _ at _ is (passed-more _ _ _ _ _ left-passed right-passed)),
           )
@@ -120,9 +117,9 @@ write_node-returns-clause-passed g t c =
     let old = c.args.marks.now.left.now in
     let so_far : c.match-node.marks.left.now ≡ drop (within node) old =
     elim c.match-node.branch [
-      | write_node-in-Cat+in_ok-write_row-in-Cat+in_ok-write_str-in-Cat w ↦
+      | write_node-in-Cat+in_ok-write_row-in-Cat w ↦
           rw (w.marks-is, w.in-Cat.is, tree-Cat) (rw w.deref.ensures.value at w.in_ok-write_row-in-Cat.ensures.passed)
-      | write_node-in-Alt+in_ok-write_node-in-Alt+in_ok-write_further-in-Alt+in_ok-write_str-in-Alt w ↦
+      | write_node-in-Alt+in_ok-write_node-in-Alt+in_ok-write_further-in-Alt w ↦
           rw (w.marks-is, w.in-Alt.is, tree-Alt) (passed-more _ _ _ _ _
           (rw w.deref-in-Alt.ensures at w.in_ok-write_node-in-Alt.ensures.passed)
           (rw w.deref-in-Alt-2.ensures at w.in_ok-write_further-in-Alt.ensures.passed))
@@ -172,10 +169,12 @@ write_row-returns-clause-written g t c all at is plain ok =
     let parts = c.args.parts.now in
     let so_far = l.invariant.completes all at is plain in
     let none = at_drop_all (λ ps. row_json (span_mark all) so_far.now l.first (trees ps)) parts l.part-index c.loop-part-test.false in
-    so_far.completes l.f (has_written_of_eq _ _ _ _ _ (sym none) (search (rules, so_far.plain)))
+    let row = so_far.completes l.f (has_written_of_eq _ _ _ _ _ (sym none) (search (rules, so_far.plain))) in
+    has_written_append _ _ _ _ _ _ row (c.write_str.ensures.writes row.plain ok)
 
 pub write_row-returns-clause-passed : goal.write_row-returns-clause-passed
 write_row-returns-clause-passed g t c =
     let l = c.loop-part in
     let parts = c.args.parts.now in
-    sym (at_drop_all (λ ps. drop (nodes_in_row (trees ps)) l.marks.left.now) parts l.part-index c.loop-part-test.false) ∙ l.invariant.passed
+    always c.write_str.result
+    (sym (at_drop_all (λ ps. drop (nodes_in_row (trees ps)) l.marks.left.now) parts l.part-index c.loop-part-test.false) ∙ l.invariant.passed)

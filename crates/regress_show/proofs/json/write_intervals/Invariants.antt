@@ -1,11 +1,17 @@
-use Rattle.std.proofs.Common.{◌∷◌, get_or, take, codes}
+use Rattle.std.proofs.Common.{◌≡◌, take, codes}
 use Rattle.std.specs.List.{join_by}
 use Rattle.std.specs.Fmt.{HasWritten, IsPlainFormatter}
 use Rattle.regress_show.specs.Json.{interval}
+use Rattle.regress_show.proofs.JsonLemmas.{separator}
 use Rattle.regress_show.proofs.json.write_intervals.Given as goal
+use denote.Text.{Utf8}
+use denote.Shadow.{shadow}
 
 -- the intervals so far
 abbrev pub invariant-loop-interval : goal.invariant-loop-interval
-invariant-loop-interval g l =
-    let so_far = get_or l.intervals 0 (record { first = 0; last = 0 }) ∷ take l.interval-index l.rest in
-    IsPlainFormatter l.fn.f → HasWritten g.W.Write.write_str_gives l.fn.f (join_by interval (codes ",") so_far) l.f
+invariant-loop-interval g l = record {
+  text : shadow (Utf8 l.comma);
+  comma : l.comma ≡ separator l.interval-index;
+  written : IsPlainFormatter l.fn.f →
+      HasWritten g.W.Write.write_str_gives l.fn.f (join_by interval (codes ",") (take l.interval-index l.intervals)) l.f;
+}
