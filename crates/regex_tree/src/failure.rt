@@ -38,7 +38,7 @@ It ends with one of these:
 
 /// Why a run ends with another status than 0. No `io::Error` is converted by `?`: it says that the output
 /// can't be written only where it comes from a write.
-#[derive(Debug, Drop)]
+#[derive(Drop)]
 pub(crate) enum Failure {
     /// The pattern has a fault, at that code point: status 1.
     Syntax { error: Error, place: usize },

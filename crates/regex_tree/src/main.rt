@@ -3,17 +3,19 @@
 //! usage. Want of memory for the arguments or the buffer is status 3, as elsewhere.
 #![tactic(auto)]
 
-ghost use Rattle.std.specs.Prelude.{◌≡◌, ◌≢◌, ◌≤◌, ◌↔◌, ◌⊎◌, IfErr, None};
+ghost use Rattle.std.specs.Prelude.{◌≡◌, ◌≢◌, ◌≤◌, ◌↔◌, ◌⊎◌, None};
 ghost use Rattle.regex_tree.specs.Taken.{taken_of};
 ghost use Rattle.regex_tree.specs.declared.failure.Failure.TheVariants.{Output};
 
 mod failure;
 mod fault;
+mod output;
 mod request;
 mod trees;
 
 use failure::{Failure, USAGE, tell};
 use fault::{write_fault, write_json_fault};
+use output::write_out;
 use regress_arguments::{ArgumentsError, arguments};
 use regress_parse::Error;
 use request::{Asked, Format, Request, read_request};
@@ -67,7 +69,7 @@ pub fn run_tree<W: Write, E: Write>(alloc: Global, args: &[String], out: &mut W,
 {
     match read_request(args) {
         Some(Asked::Tree(request)) => run_request(alloc, &request, out, err),
-        Some(Asked::Usage) => match write_usage(out) {
+        Some(Asked::Usage) => match write_out(&USAGE, "", "", out) {
             Ok(()) => 0,
             Err(failure) => tell(failure, err),
         },
@@ -111,12 +113,4 @@ fn tell_fault<W: Write, E: Write>(
             Err(_) => tell(Failure::Output, err),
         },
     }
-}
-
-fn write_usage<W: Write>(out: &mut W) -> Result<(), Failure>
-    ensures { IfErr result (λ failure. failure ≡ Output) }
-{
-    out.write_all(USAGE.as_bytes())
-        .map_err(|_| Failure::Output)?;
-    out.flush().map_err(|_| Failure::Output)
 }

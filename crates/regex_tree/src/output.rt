@@ -1,0 +1,23 @@
+//! What the program writes.
+ghost use Rattle.std.specs.Prelude.{◌≡◌, ◌++◌, IfErr, IfSome, OnOk};
+ghost use Rattle.std.specs.Io.KnownBytes.{Appends};
+ghost use Rattle.regex_tree.specs.declared.failure.Failure.TheVariants.{Output};
+
+use crate::failure::Failure;
+use std::fmt::Display;
+use std::io::Write;
+
+/// Writes what is shown, what ends it and what comes behind it, and flushes: what is written then stays written.
+pub(crate) fn write_out<D: Display, W: Write>(
+    shown: &D,
+    end: &str,
+    behind: &str,
+    out: &mut W,
+) -> Result<(), Failure>
+    ensures written { OnOk result (IfSome (D.output shown.now)
+        (λ text. Appends (W.contents out.old) (W.contents out.new) ((text ++ end.now) ++ behind.now))) }
+    ensures failed { IfErr result (λ failure. failure ≡ Output) }
+{
+    write!(out, "{shown}{end}{behind}").map_err(|_| Failure::Output)?;
+    out.flush().map_err(|_| Failure::Output)
+}
