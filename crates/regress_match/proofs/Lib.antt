@@ -1,6 +1,7 @@
 pub mod laws
 pub mod CaptureLemmas
 pub mod UnsetLemmas
+pub mod WordLemmas
 pub mod MachineLemmas
 pub mod DoesLemmas
 pub mod LoopLemmas

@@ -1,3 +1,4 @@
+pub mod Known
 pub mod Subject
 pub mod Captures
 pub mod Leaves

@@ -20,7 +20,7 @@ searched_text m = m.text.now
 -- the outcomes of a pattern on a text, from each place
 abbrev pub outcomes_of : Prepared → (text : List ℕ) → (place : ℕ) → List State
 outcomes_of p text =
-    outcomes_at (record { flags = p.regex.now.flags; table = table_of p.tables.now }) text (tree p.regex.now.node)
+    outcomes_at (record { flags = p.regex.now.flags; table = table_of p.known.tables.now }) text (tree p.regex.now.node)
 
 -- those that it searches for
 abbrev pub searched_outcomes : Matches → (place : ℕ) → List State

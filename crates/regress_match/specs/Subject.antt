@@ -14,7 +14,7 @@ pub record Subject : Type 0 where
 -- the text under these rules
 abbrev pub subject : Rules → List ℕ → Subject
 subject rules bytes = record {
-  setting = record { flags = rules.flags; table = table_of rules.tables.now };
+  setting = record { flags = rules.flags; table = table_of rules.known.tables.now };
   bytes = bytes;
   direction = direction_if rules.backwards;
 }

@@ -6,12 +6,13 @@ ghost use Rattle.regress_base.specs.Table.{stands_for};
 ghost use Rattle.regress_tree.specs.Assertions.{is_line_terminator, is_word_character};
 ghost use Rattle.regress_unicode.specs.TableOf.{table_of};
 
+use crate::known::Known;
 use crate::rules::Rules;
-use regress_unicode::{Tables, fold, uppercase};
+use regress_unicode::{fold, uppercase};
 
 /// Whether a character `c` of a reference or a string stands for `x`: with `icase` all that has its image does.
 pub fn stands_for(rules: Rules<'_>, icase: bool, c: u32, x: u32) -> bool
-    ensures { result ≡ stands_for (table_of rules.entry.tables.now) icase rules.entry.flags.unicode c x }
+    ensures { result ≡ stands_for (table_of rules.entry.known.tables.now) icase rules.entry.flags.unicode c x }
 {
     if x == c {
         return true;
@@ -20,9 +21,9 @@ pub fn stands_for(rules: Rules<'_>, icase: bool, c: u32, x: u32) -> bool
         return false;
     }
     if rules.flags.unicode {
-        fold(x, rules.tables) == fold(c, rules.tables)
+        fold(x, rules.known.tables) == fold(c, rules.known.tables)
     } else {
-        uppercase(x, rules.tables) == uppercase(c, rules.tables)
+        uppercase(x, rules.known.tables) == uppercase(c, rules.known.tables)
     }
 }
 
@@ -35,25 +36,26 @@ pub fn is_line_terminator(c: u32) -> bool
 }
 
 /// Whether it is in the word set, or with `unicode_icase` in its closure.
-pub fn is_word_character(tables: &Tables, unicode_icase: bool, c: u32) -> bool
-    ensures { result ≡ is_word_character (table_of tables.now) unicode_icase c }
+pub fn is_word_character(known: Known<'_>, unicode_icase: bool, c: u32) -> bool
+    ensures { result ≡ is_word_character (table_of known.entry.tables.now) unicode_icase c }
 {
     if unicode_icase {
-        folds_to_word(tables, c)
+        folds_to_word(known, c)
     } else {
         is_word(c)
     }
 }
 
 #[tactic(auto, unfolding(regress_base::specs::Intervals::is_member, regress_base::specs::Intervals::is_within))]
-fn is_word(c: u32) -> bool
+pub fn is_word(c: u32) -> bool
     ensures { result ≡ is_member word_characters c }
 {
     matches!(c, 0x30..=0x39 | 0x41..=0x5A | 0x5F | 0x61..=0x7A)
 }
 
-fn folds_to_word(tables: &Tables, c: u32) -> bool
-    ensures { result ≡ is_word_character (table_of tables.now) true c }
+/// Whether it folds as a character of the word set does.
+fn folds_to_word(known: Known<'_>, c: u32) -> bool
+    ensures { result ≡ is_word_character (table_of known.entry.tables.now) true c }
 {
     if c > 0x10_FFFF {
         return false;
@@ -61,9 +63,12 @@ fn folds_to_word(tables: &Tables, c: u32) -> bool
     if is_word(c) {
         return true;
     }
-    let image = fold(c, tables);
+    let image = fold(c, known.tables);
+    if known.words_stay {
+        return is_word(image);
+    }
     for m in 0x30..0x7B {
-        if is_word(m) && fold(m, tables) == image {
+        if is_word(m) && fold(m, known.tables) == image {
             return true;
         }
     }

@@ -19,10 +19,10 @@ ghost use Rattle.regress_match.specs.Turns.{one_of};
 
 use crate::captures::Captures;
 use crate::characters::{is_line_terminator, is_word_character, stands_for};
+use crate::known::Known;
 use crate::reading::{next_read, read_after, read_before};
 use crate::rules::Rules;
 use regress_tree::ir::{AnchorType, Node};
-use regress_unicode::Tables;
 use std::alloc::{AllocError, Global};
 
 /// Where a leaf that has one outcome at most goes from a place.
@@ -62,7 +62,7 @@ pub fn simple_leaf(text: &str, rules: Rules<'_>, node: &Node, place: usize) -> O
             invert,
             unicode_icase,
         } => if_holds(
-            at_boundary(text, rules.tables, *invert, *unicode_icase, place),
+            at_boundary(text, rules.known, *invert, *unicode_icase, place),
             place,
         ),
         _ => one_character(text, rules, node, place),
@@ -263,20 +263,26 @@ fn ends_line(neighbour: Option<(u32, usize)>) -> bool
 }
 
 /// Whether there is a word character on exactly one side of the place, or with `invert` on both or on none.
-fn at_boundary(text: &str, tables: &Tables, invert: bool, unicode_icase: bool, place: usize) -> bool
-    ensures { result ≡ at_boundary (of_bytes text.now) (is_word_character (table_of tables.now) unicode_icase) invert place }
+fn at_boundary(
+    text: &str,
+    known: Known<'_>,
+    invert: bool,
+    unicode_icase: bool,
+    place: usize,
+) -> bool
+    ensures { result ≡ at_boundary (of_bytes text.now) (is_word_character (table_of known.entry.tables.now) unicode_icase) invert place }
 {
-    let before = is_word(tables, unicode_icase, read_before(text, place));
-    let behind = is_word(tables, unicode_icase, read_after(text, place));
+    let before = is_word(known, unicode_icase, read_before(text, place));
+    let behind = is_word(known, unicode_icase, read_after(text, place));
     (before != behind) != invert
 }
 
 /// Whether there is a neighbour that is a word character.
-fn is_word(tables: &Tables, unicode_icase: bool, neighbour: Option<(u32, usize)>) -> bool
-    ensures { result ≡ passes (is_word_character (table_of tables.now) unicode_icase) (option_map read_of neighbour) }
+fn is_word(known: Known<'_>, unicode_icase: bool, neighbour: Option<(u32, usize)>) -> bool
+    ensures { result ≡ passes (is_word_character (table_of known.entry.tables.now) unicode_icase) (option_map read_of neighbour) }
 {
     match neighbour {
-        Some((c, _)) => is_word_character(tables, unicode_icase, c),
+        Some((c, _)) => is_word_character(known, unicode_icase, c),
         None => false,
     }
 }

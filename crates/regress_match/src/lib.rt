@@ -3,6 +3,7 @@
 
 mod captures;
 mod characters;
+mod known;
 mod leaves;
 mod machine;
 pub mod matching;

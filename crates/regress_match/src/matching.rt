@@ -10,6 +10,7 @@ ghost use Rattle.regress_match.specs.Matched.{IsFirst, StartsAt, outcomes_at, st
 ghost use Rattle.regress_match.specs.Fresh.{IsFresh, IfNowhere};
 
 use crate::captures::Captures;
+use crate::known::Known;
 use crate::machine::{Answer, Scratch};
 use crate::rules::Rules;
 use crate::run::run;
@@ -99,7 +100,7 @@ pub fn match_at(
     match first_at(
         alloc,
         regex,
-        tables,
+        Known::new(tables),
         text,
         place,
         &mut scratch,
@@ -116,7 +117,7 @@ pub fn match_at(
 pub(crate) fn first_at<'a>(
     alloc: Global,
     regex: &'a Regex,
-    tables: &Tables,
+    known: Known<'_>,
     text: &str,
     place: usize,
     scratch: &mut Scratch<'a>,
@@ -124,14 +125,14 @@ pub(crate) fn first_at<'a>(
     left: &mut u64,
 ) -> Result<Answer, AllocError>
     requires { IsFresh (tree regex.now.node) captures.old }
-    ensures answers { IfOk result (Answers (outcomes_at (record { flags = regex.now.flags; table = table_of tables.now }) text.now
+    ensures answers { IfOk result (Answers (outcomes_at (record { flags = regex.now.flags; table = table_of known.entry.tables.now }) text.now
         (tree regex.now.node) place) captures.new) }
     ensures fresh { IfOk result (IfNowhere (IsFresh (tree regex.now.node) captures.new)) }
     ensures left { IfOk result (λ _. left.new ≤ left.old) }
 {
     let rules = Rules {
         flags: regex.flags,
-        tables,
+        known,
         backwards: false,
     };
     let answer = run(

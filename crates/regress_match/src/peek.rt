@@ -51,7 +51,7 @@ fn front_fails(text: &str, rules: Rules<'_>, node: &Node, place: usize) -> bool
         } => {
             let inside = Rules {
                 flags: rules.flags,
-                tables: rules.tables,
+                known: rules.known,
                 backwards: *backwards,
             };
             if *negate {

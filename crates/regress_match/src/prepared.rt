@@ -5,6 +5,7 @@ ghost use Rattle.regress_tree.specs.WellFormed.{captures};
 ghost use Rattle.regress_prefilter.specs.Candidates.{AreCandidates};
 ghost use Rattle.regress_match.specs.Prepared.{AreCandidates-prop};
 
+use crate::known::Known;
 use crate::matching::group_count;
 use regress_prefilter::candidates::{Candidates, candidates_of};
 use regress_tree::ir::Regex;
@@ -14,7 +15,7 @@ use regress_unicode::Tables;
 #[derive(Clone, Copy)]
 pub(crate) struct Prepared<'a> {
     pub(crate) regex: &'a Regex,
-    pub(crate) tables: &'a Tables,
+    pub(crate) known: Known<'a>,
     pub(crate) candidates: Candidates,
     /// How many groups there are, as far as they can be counted.
     pub(crate) groups: usize,
@@ -25,11 +26,11 @@ pub(crate) struct Prepared<'a> {
 impl<'a> Prepared<'a> {
     pub(crate) fn new(regex: &'a Regex, tables: &'a Tables) -> Prepared<'a>
         ensures regex { result.regex.now ≡ regex.now }
-        ensures tables { result.tables.now ≡ tables.now }
+        ensures tables { result.known.tables.now ≡ tables.now }
     {
         Prepared {
             regex,
-            tables,
+            known: Known::new(tables),
             candidates: candidates_of(&regex.node),
             groups: group_count(&regex.node),
         }

@@ -152,7 +152,7 @@ fn look<'a>(
 {
     let inside = Rules {
         flags: rules.flags,
-        tables: rules.tables,
+        known: rules.known,
         backwards: looking.backwards,
     };
     if fails_at_once(text, inside, looking.body, looking.place) {

@@ -5,6 +5,7 @@ ghost use Rattle.regress_unicode.specs.TableOf.{table_of};
 ghost use Rattle.regress_match.specs.Matched.{Finds, outcomes_at};
 ghost use Rattle.regress_match.specs.Searched.{IsSameSearch, goes_on_from, next_from, outcomes_of, searched_outcomes, searched_text};
 
+use crate::known::Known;
 use crate::machine::{Answer, Scratch};
 use crate::matching::{Match, Outcome, first_at, nothing_captured};
 use crate::peek::fails_at_once;
@@ -47,18 +48,18 @@ pub(crate) fn find_within<'a>(
     ensures left { IfOk result (λ _. left.new ≤ left.old) }
 {
     let regex = prepared.regex;
-    let tables = prepared.tables;
+    let known = prepared.known;
     let mut captures = nothing_captured(alloc, prepared.groups)?;
     let mut from = from;
     while from <= text.len() {
         let Some(place) = next_place(&prepared.candidates, text, from) else {
             return Ok(Outcome::NoMatch);
         };
-        if text.is_char_boundary(place) && !fails_from(regex, tables, text, place) {
+        if text.is_char_boundary(place) && !fails_from(regex, known, text, place) {
             match first_at(
                 alloc,
                 regex,
-                tables,
+                known,
                 text,
                 place,
                 scratch,
@@ -143,13 +144,13 @@ impl<'a> Matches<'a> {
 }
 
 /// Whether what stands in front of a pattern tells that it matches nothing from a place.
-fn fails_from(regex: &Regex, tables: &Tables, text: &str, place: usize) -> bool
-    ensures { result ≡ true → outcomes_at (record { flags = regex.now.flags; table = table_of tables.now }) text.now
+fn fails_from(regex: &Regex, known: Known<'_>, text: &str, place: usize) -> bool
+    ensures { result ≡ true → outcomes_at (record { flags = regex.now.flags; table = table_of known.entry.tables.now }) text.now
         (tree regex.now.node) place ≡ [] }
 {
     let rules = Rules {
         flags: regex.flags,
-        tables,
+        known,
         backwards: false,
     };
     fails_at_once(text, rules, &regex.node, place)

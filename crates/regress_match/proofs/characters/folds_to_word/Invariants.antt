@@ -7,4 +7,4 @@ use Rattle.regress_match.proofs.characters.folds_to_word.Given as goal
 
 abbrev pub invariant-loop-m : goal.invariant-loop-m
 invariant-loop-m l =
-    (k : ℕ) → 0x30 ≤ k → k < l.m → is_member word_characters k ≡ true → (table_of l.tables).fold k ≡ (table_of l.tables).fold l.c → ⊥
+    (k : ℕ) → 0x30 ≤ k → k < l.m → is_member word_characters k ≡ true → (table_of l.known.tables.now).fold k ≡ (table_of l.known.tables.now).fold l.c → ⊥

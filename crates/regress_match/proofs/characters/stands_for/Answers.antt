@@ -11,4 +11,4 @@ stands_for_itself t false unicode c x same = grind (arith, nat_tests)
 
 pub returns-then-x-c : goal.returns-then-x-c
 returns-then-x-c c =
-    stands_for_itself (table_of c.args.rules.tables.now) c.args.icase c.args.rules.flags.unicode c.args.c c.args.x c.if-x-c.true
+    stands_for_itself (table_of c.args.rules.known.tables.now) c.args.icase c.args.rules.flags.unicode c.args.c c.args.x c.if-x-c.true

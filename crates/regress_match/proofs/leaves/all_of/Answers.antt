@@ -21,7 +21,7 @@ pub returns-then-not-stands_for : goal.returns-then-not-stands_for
 returns-then-not-stands_for c = λ s at.
     let d = direction_if c.args.rules.backwards in
     let r = of_bytes c.args.text.now in
-    let same = stands_for (table_of c.args.rules.tables.now) c.args.icase c.args.rules.flags.unicode in
+    let same = stands_for (table_of c.args.rules.known.tables.now) c.args.icase c.args.rules.flags.unicode in
     let cs = in_order d c.args.characters.now in
     let read = read_of (c.in_ok-x.x, c.in_ok-x.to) in
     let some : next_character d r c.loop-i.here ≡ Some read = sym c.next_read.ensures ∙ ap (option_map read_of) c.in_ok-x.was in
@@ -33,7 +33,7 @@ pub loop-i-preserved : goal.loop-i-preserved
 loop-i-preserved c = λ s at.
     let d = direction_if c.args.rules.backwards in
     let r = of_bytes c.args.text.now in
-    let same = stands_for (table_of c.args.rules.tables.now) c.args.icase c.args.rules.flags.unicode in
+    let same = stands_for (table_of c.args.rules.known.tables.now) c.args.icase c.args.rules.flags.unicode in
     let cs = in_order d c.args.characters.now in
     let read = read_of (c.in_ok-x.x, c.in_ok-x.to) in
     let some : next_character d r c.loop-i.here ≡ Some read = sym c.next_read.ensures ∙ ap (option_map read_of) c.in_ok-x.was in

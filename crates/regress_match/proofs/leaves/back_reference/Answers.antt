@@ -12,7 +12,7 @@ pub returns-then-id-len : goal.returns-then-id-len
 returns-then-id-len c =
     let d = direction_if c.args.rules.backwards in
     let r = of_bytes c.args.text.now in
-    let same = stands_for (table_of c.args.rules.tables.now) c.args.icase c.args.rules.flags.unicode in
+    let same = stands_for (table_of c.args.rules.known.tables.now) c.args.icase c.args.rules.flags.unicode in
     let spans = c.args.captures.now.spans.items in
     let s = state c.args.captures.now c.args.place in
     let id = c.args.group - 1 in
@@ -22,7 +22,7 @@ pub returns-in_default : goal.returns-in_default
 returns-in_default c =
     let d = direction_if c.args.rules.backwards in
     let r = of_bytes c.args.text.now in
-    let same = stands_for (table_of c.args.rules.tables.now) c.args.icase c.args.rules.flags.unicode in
+    let same = stands_for (table_of c.args.rules.known.tables.now) c.args.icase c.args.rules.flags.unicode in
     let spans = c.args.captures.now.spans.items in
     let s = state c.args.captures.now c.args.place in
     let id = c.args.group - 1 in
@@ -35,7 +35,7 @@ pub returns : goal.returns
 returns c =
     let d = direction_if c.args.rules.backwards in
     let r = of_bytes c.args.text.now in
-    let same = stands_for (table_of c.args.rules.tables.now) c.args.icase c.args.rules.flags.unicode in
+    let same = stands_for (table_of c.args.rules.known.tables.now) c.args.icase c.args.rules.flags.unicode in
     let spans = c.args.captures.now.spans.items in
     let s = state c.args.captures.now c.args.place in
     let id = c.args.group - 1 in

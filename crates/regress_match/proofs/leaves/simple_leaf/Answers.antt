@@ -13,7 +13,7 @@ use Rattle.regress_match.proofs.leaves.simple_leaf.Goals as goal
 
 pub returns-in-Anchor : goal.returns-in-Anchor
 returns-in-Anchor c = λ simple s at.
-    let setting : Setting = record { flags = c.args.rules.flags; table = table_of c.args.rules.tables.now } in
+    let setting : Setting = record { flags = c.args.rules.flags; table = table_of c.args.rules.known.tables.now } in
     let bytes = c.args.text.now in
     let d = direction_if c.args.rules.backwards in
     let kind = c.in-Anchor.anchor_type in
@@ -26,7 +26,7 @@ returns-in-Anchor c = λ simple s at.
 
 pub returns-in-WordBoundary : goal.returns-in-WordBoundary
 returns-in-WordBoundary c = λ simple s at.
-    let setting : Setting = record { flags = c.args.rules.flags; table = table_of c.args.rules.tables.now } in
+    let setting : Setting = record { flags = c.args.rules.flags; table = table_of c.args.rules.known.tables.now } in
     let bytes = c.args.text.now in
     let d = direction_if c.args.rules.backwards in
     let invert = c.in-WordBoundary.invert in
@@ -39,7 +39,7 @@ returns-in-WordBoundary c = λ simple s at.
 
 pub returns-in_default : goal.returns-in_default
 returns-in_default c = λ simple s at.
-    let setting : Setting = record { flags = c.args.rules.flags; table = table_of c.args.rules.tables.now } in
+    let setting : Setting = record { flags = c.args.rules.flags; table = table_of c.args.rules.known.tables.now } in
     let bytes = c.args.text.now in
     let d = direction_if c.args.rules.backwards in
     let takes : takes_one (tree c.args.node.now) ≡ true = first_of (search (rules, the_lemmas), grind (arith, the_lemmas, simple)) in
