@@ -1,11 +1,18 @@
 -- What leaves match, as the code finds it.
-use Rattle.std.proofs.Common.{◌≡◌, ℕ, zero, suc, ◌+◌, ◌-◌, ◌≤◌, ◌<◌, Bool, true, false, ◌&&◌, List, [], ◌∷◌, ◌++◌, flat_map, length, drop, get_or, Option, Some, None, refl, sym, ap, ap₂, ◌∙◌, arith, append-nil, if◌then◌else◌, nat_eq, nat_le}
+use Rattle.std.proofs.Common.{◌≡◌, ℕ, zero, suc, ◌+◌, ◌-◌, ◌≤◌, ◌<◌, Bool, true, false, ◌&&◌, List, [], ◌∷◌, ◌++◌, flat_map, length, drop, get_or, Option, Some, None, refl, sym, ap, ap₂, ◌∙◌, arith, append-nil, map, if◌then◌else◌, nat_eq, nat_le}
+use Rattle.std.specs.Box.{boxed_slice_items}
+use Rattle.std.specs.Global.{Global}
 use Rattle.std.specs.List.{starts_with}
+use Rattle.std.specs.Option.{is_some}
+use Rattle.std.specs.declared.boxed.BoxedSlice.{BoxedSlice}
 use Rattle.std.proofs.lemmas.List.{drop_more, length-reverse}
-use Rattle.regress_tree.specs.Reading.{Direction, forwards, backwards, Reading, Read, next_character}
+use Rattle.regress_base.specs.Table.{stands_for}
+use Rattle.regress_tree.specs.Reading.{Direction, forwards, backwards, Reading, Read, next_character, of_bytes}
 use Rattle.regress_tree.specs.References.{all_of, in_order, characters_from, back_reference, once_more}
 use Rattle.regress_tree.specs.Strings.{any_string}
 use Rattle.regress_tree.specs.Steps.{State, one_character, moved, these_bytes, hold_at}
+use Rattle.regress_match.specs.Leaves.{any_of, put}
+use Rattle.regress_match.specs.Subject.{Subject}
 
 module _ (d : Direction) (r : Reading) where
   -- one character
@@ -127,6 +134,10 @@ pub none_of : {A : Type 0} (o : Option A) → ((x : A) → o ≡ Some x → ⊥)
 none_of None h = refl
 none_of (Some x) h = absurd (h x refl)
 
+pub not_some : {A : Type 0} (o : Option A) → is_some o ≡ false → o ≡ None
+not_some None h = refl
+not_some (Some x) h = let bad : ⊥ = cc in absurd bad
+
 pub holds_is : (test : ℕ → Bool) (s : State) (b : Bool) → test s.place ≡ b → hold_at test s ≡ (if b then s ∷ [] else [])
 unfolding hold_at
 holds_is test s b is = ap (λ (x : Bool). if x then s ∷ [] else []) is
@@ -139,3 +150,24 @@ pub any-cons : (d : Direction) (r : Reading) (same : ℕ → ℕ → Bool) (stri
     any_string d r same (string ∷ strings) s ≡ all_of d r same (in_order d string) s ++ any_string d r same strings s
 unfolding any_string
 any-cons d r same string strings s = refl
+
+-- strings, by what is found of the first
+pub any_first : (u : Subject) (icase : Bool) (all rest : List (BoxedSlice ℕ Global)) (first : BoxedSlice ℕ Global) (to : Option ℕ) (s : State) →
+    all ≡ first ∷ rest →
+    put s to ≡ all_of u.direction (of_bytes u.bytes) (stands_for u.setting.table icase u.setting.flags.unicode)
+    (in_order u.direction (boxed_slice_items first)) s →
+    any_of u icase all s ≡ put s to ++ any_of u icase rest s
+any_first u icase all rest first to s split found =
+    let same = stands_for u.setting.table icase u.setting.flags.unicode in
+    ap (λ (strings : List (BoxedSlice ℕ Global)). any_of u icase strings s) split
+    ∙ any-cons u.direction (of_bytes u.bytes) same (boxed_slice_items first) (map boxed_slice_items rest) s
+    ∙ ap (λ xs. xs ++ any_of u icase rest s) (sym found)
+
+-- the same, where strings before the first and behind it were left out that match nothing
+pub any_opened : (u : Subject) (icase : Bool) (all left rest others : List (BoxedSlice ℕ Global)) (first : BoxedSlice ℕ Global) (to found : Option ℕ)
+    (s : State) → any_of u icase left s ≡ any_of u icase all s → left ≡ first ∷ rest →
+    put s to ≡ all_of u.direction (of_bytes u.bytes) (stands_for u.setting.table icase u.setting.flags.unicode)
+    (in_order u.direction (boxed_slice_items first)) s →
+    any_of u icase others s ≡ any_of u icase rest s → to ≡ found → any_of u icase all s ≡ put s found ++ any_of u icase others s
+any_opened u icase all left rest others first to found s opened split stands behind is =
+    sym opened ∙ any_first u icase left rest first to s split stands ∙ ap₂ (λ (k : Option ℕ) xs. put s k ++ xs) is (sym behind)

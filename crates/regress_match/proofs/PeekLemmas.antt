@@ -56,6 +56,11 @@ fails_look_negated u place t looks_back start end to goes = λ s at. ap (looked 
 pub fails_alt : (u : Subject) (place : ℕ) (t v : Tree) → FailsAt u place t → FailsAt u place v → FailsAt u place (alt t v)
 fails_alt u place t v fails fails' = λ s at. ap₂ ◌++◌ (fails s at) (fails' s at)
 
+-- the second, where the first fails
+pub fails_first : (u : Subject) (place : ℕ) (t v : Tree) (s : State) → FailsAt u place t → s.place ≡ place →
+    steps u.setting u.bytes u.direction (alt t v) s ≡ steps u.setting u.bytes u.direction v s
+fails_first u place t v s fails at = ap (λ xs. xs ++ steps u.setting u.bytes u.direction v s) (fails s at)
+
 -- no turn more of what fails
 pub more_fails : (greedy : Bool) (n : ℕ) (f : Step) (s : State) → f s ≡ [] → up_to greedy n f s ≡ s ∷ []
 more_fails greedy zero f s none = refl

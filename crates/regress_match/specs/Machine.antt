@@ -1,16 +1,14 @@
 -- What the machine has still to do.
-use Rattle.std.specs.Prelude.{◌≡◌, ℕ, zero, suc, ◌+◌, ◌≤◌, ◌==◌, List, [], ◌∷◌, ◌++◌, flat_map, length, drop, map, Option, Some, None, if◌then◌else◌}
-use Rattle.std.specs.Box.{boxed_slice_items}
-use Rattle.regress_base.specs.Table.{stands_for}
+use Rattle.std.specs.Prelude.{◌≡◌, ℕ, zero, suc, ◌+◌, ◌≤◌, ◌==◌, List, [], ◌∷◌, ◌++◌, flat_map, length, drop, Option, Some, None, if◌then◌else◌}
 use Rattle.regress_tree.specs.Lookaround.{look}
 use Rattle.regress_tree.specs.Matching.{steps, steps_in_row}
-use Rattle.regress_tree.specs.Reading.{of_bytes, direction_if}
+use Rattle.regress_tree.specs.Reading.{direction_if}
 use Rattle.regress_tree.specs.Repetition.{turn, turns, moving, up_to}
 use Rattle.regress_tree.specs.Steps.{State, Step, stay, ◌then_◌, captured}
-use Rattle.regress_tree.specs.Strings.{any_string}
 use Rattle.regress_tree.specs.Tree.{tree, trees}
 use Rattle.regress_tree.specs.declared.ir.node.Node.{Node}
 use Rattle.regress_match.specs.Captures.{undone, state, Later}
+use Rattle.regress_match.specs.Leaves.{any_of}
 use Rattle.regress_match.specs.Subject.{Subject}
 use Rattle.regress_match.specs.Turns.{giving_back, taking_more}
 use Rattle.regress_match.specs.declared.captures.Captures.{Captures}
@@ -71,8 +69,7 @@ module _ (u : Subject) where
   abbrev pub what_step : What → Step
   what_step (whats.Match node) = steps u.setting u.bytes u.direction (tree node.now)
   what_step (whats.Row parts) = row_of parts.now
-  what_step (whats.Strings strings icase) =
-      any_string u.direction (of_bytes u.bytes) (stands_for u.setting.table icase u.setting.flags.unicode) (map boxed_slice_items strings.now)
+  what_step (whats.Strings strings icase) = any_of u icase strings.now
   what_step (whats.Close id from) = λ s. captured id from s ∷ []
   what_step (whats.Turns r left) = turns left (turn_of r) then_ more_of r
   what_step (whats.Turn r) = moving (turn_of r) then_ more_of r

@@ -1,21 +1,24 @@
 //! What can be told of a node by the leaf in front of it.
 ghost use Rattle.std.specs.Prelude.{◌≡◌, [], ℕ, true, IfSome, Some};
+ghost use Rattle.regress_tree.specs.Matching.{steps};
 ghost use Rattle.regress_tree.specs.Tree.{tree, trees, cat};
 ghost use Rattle.regress_tree.specs.Steps.{State};
+ghost use Rattle.regress_match.specs.Leaves.{any_of};
 ghost use Rattle.regress_match.specs.Machine.{IsMachine, todo};
 ghost use Rattle.regress_match.specs.Peek.{FailsAt, GoesTo};
 ghost use Rattle.regress_match.specs.Subject.{Subject, subject};
 ghost use Rattle.regress_match.specs.declared.captures.Captures.{Captures};
 
-use crate::leaves::{is_simple, simple_leaf};
+use crate::leaves::{all_of, is_simple, simple_leaf};
 use crate::machine::{Machine, What};
 use crate::rules::Rules;
 use regress_tree::ir::Node;
+use std::boxed::BoxedSlice;
 
 /// How many nodes it goes down to the leaf in front. A bound, since each node on the way may ask.
 const LEVELS: usize = 6;
 
-/// How many alternatives of a choice are asked. A bound too.
+/// How many alternatives of a choice are asked, and how many strings of a set. A bound too.
 const ALTERNATIVES: usize = 16;
 
 /// Whether what stands in front of a node tells that the node matches nothing from a place: a leaf, a lookaround at one, or
@@ -38,7 +41,28 @@ pub fn fails_at_once(text: &str, rules: Rules<'_>, node: &Node, place: usize) ->
     false
 }
 
-/// Whether it is a leaf or a lookaround at one, and told to match nothing from a place.
+/// What is left of alternatives behind those in front that are told to match nothing from a place: of these it leaves out
+/// some at most.
+pub fn behind_failing<'a>(text: &str, rules: Rules<'_>, node: &'a Node, place: usize) -> &'a Node
+    ensures { (s : State) → s.place ≡ place → (let u = subject rules.entry text.now in
+        steps u.setting u.bytes u.direction (tree result.now) s ≡ steps u.setting u.bytes u.direction (tree node.now) s) }
+{
+    let mut rest = node;
+    let mut left = ALTERNATIVES;
+    while left > 0 {
+        let Node::Alt(first, others) = rest else {
+            break;
+        };
+        if !fails_at_once(text, rules, first, place) {
+            break;
+        }
+        rest = others;
+        left -= 1;
+    }
+    rest
+}
+
+/// Whether it is a leaf, a lookaround at one or a set of few strings, and told to match nothing from a place.
 fn front_fails(text: &str, rules: Rules<'_>, node: &Node, place: usize) -> bool
     ensures { result ≡ true → FailsAt (subject rules.entry text.now) place (tree node.now) }
 {
@@ -60,8 +84,37 @@ fn front_fails(text: &str, rules: Rules<'_>, node: &Node, place: usize) -> bool
                 leaf_fails(text, inside, front_of(contents), place)
             }
         }
+        Node::StringSet {
+            alternatives,
+            icase,
+        } => behind_missing(text, rules, alternatives, *icase, place).is_empty(),
         _ => leaf_fails(text, rules, node, place),
     }
+}
+
+/// What is left of strings behind those in front that don't stand there: of these it leaves out some at most.
+pub fn behind_missing<'a>(
+    text: &str,
+    rules: Rules<'_>,
+    strings: &'a [BoxedSlice<u32>],
+    icase: bool,
+    place: usize,
+) -> &'a [BoxedSlice<u32>]
+    ensures { (s : State) → s.place ≡ place → (let any = any_of (subject rules.entry text.now) icase in any result.now s ≡ any strings.now s) }
+{
+    let mut rest = strings;
+    let mut left = ALTERNATIVES;
+    while left > 0 {
+        let Some((first, behind)) = rest.split_first() else {
+            break;
+        };
+        if all_of(text, rules, icase, first, place).is_some() {
+            break;
+        }
+        rest = behind;
+        left -= 1;
+    }
+    rest
 }
 
 /// What stands in front of a node, so that the node matches nothing where that does. It goes some levels down.

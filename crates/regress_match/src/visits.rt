@@ -14,7 +14,7 @@ ghost use Rattle.regress_match.specs.Subject.{Subject, subject};
 use crate::captures::Captures;
 use crate::leaves::{all_of, is_leaf, leaf};
 use crate::machine::{Looking, Machine, Next, Repeat, Task, What};
-use crate::peek::fails_at_once;
+use crate::peek::{behind_failing, behind_missing, fails_at_once};
 use crate::rules::Rules;
 use crate::single::{give_back, is_single, single, take_more};
 use regress_tree::ir::{Node, Quantifier};
@@ -95,7 +95,7 @@ pub fn visit<'a>(
 {
     match node {
         Node::Cat(parts) => row(alloc, text, rules, parts, place, next, machine, captures),
-        Node::Alt(left, right) => alt(text, rules, left, right, place, next, machine, captures),
+        Node::Alt(..) => alt(text, rules, node, place, next, machine, captures),
         Node::CaptureGroup { id, contents, .. } => group(*id, contents, place, next, machine),
         Node::Loop {
             enclosed_groups,
@@ -273,24 +273,23 @@ fn leaves_in_front<'a>(
     Ok(Some((here, rest)))
 }
 
-/// Matches the left side, or else the right one.
+/// Matches the first of these alternatives that isn't told to match nothing, or else those behind it.
 fn alt<'a>(
     text: &str,
     rules: Rules<'_>,
-    left: &'a Node,
-    right: &'a Node,
+    node: &'a Node,
     place: usize,
     next: usize,
     machine: &mut Machine<'a>,
     captures: &Captures,
 ) -> Result<Next<'a>, AllocError>
     ensures { IfOk result (let u = subject rules.entry text.now in
-        Does u (steps u.setting u.bytes u.direction (tree left.now) or_ steps u.setting u.bytes u.direction (tree right.now))
-        machine.old captures.now place next machine.new captures.now) }
+        Does u (steps u.setting u.bytes u.direction (tree node.now)) machine.old captures.now place next machine.new captures.now) }
 {
-    if fails_at_once(text, rules, left, place) {
-        return Ok(Next::Visit(place, right, next));
-    }
+    let open = behind_failing(text, rules, node, place);
+    let Node::Alt(left, right) = open else {
+        return Ok(Next::Visit(place, open, next));
+    };
     if fails_at_once(text, rules, right, place) {
         return Ok(Next::Visit(place, left, next));
     }
@@ -314,7 +313,7 @@ fn group<'a>(
     Ok(Next::Visit(place, contents, task))
 }
 
-/// Matches the first string, or else one of the others.
+/// Matches the first string that stands there, or else one of the others.
 fn strings<'a>(
     text: &str,
     rules: Rules<'_>,
@@ -328,13 +327,19 @@ fn strings<'a>(
     ensures { IfOk result (let u = subject rules.entry text.now in
         Does u (what_step u (What.Strings alternatives.entry icase)) machine.old captures.now place next machine.new captures.now) }
 {
-    let Some((first, rest)) = alternatives.split_first() else {
+    let open = behind_missing(text, rules, alternatives, icase, place);
+    let Some((first, rest)) = open.split_first() else {
         return Ok(Next::Back);
     };
-    let other = machine.push(What::Strings(rest, icase), next)?;
+    let others = behind_missing(text, rules, rest, icase, place);
     let Some(to) = all_of(text, rules, icase, first, place) else {
+        let other = machine.push(What::Strings(others, icase), next)?;
         return Ok(Next::Go(place, other));
     };
+    if others.is_empty() {
+        return Ok(Next::Go(to, next));
+    }
+    let other = machine.push(What::Strings(others, icase), next)?;
     machine.choose(place, other, captures)?;
     Ok(Next::Go(to, next))
 }

@@ -1,10 +1,17 @@
-use Rattle.std.proofs.Common.{◌∙◌, ap, sym, subst, Bool, Some}
-use Rattle.regress_tree.specs.Reading.{direction_if}
-use Rattle.regress_tree.specs.Tree.{tree, wrapped, lookaround}
-use Rattle.regress_tree.specs.declared.ir.node.Node.{Node}
+use Rattle.std.proofs.Common.{rules, ◌≡◌, [], ◌∙◌, ap, sym, subst, map, Bool, Global, List, Some, ℕ}
+use Rattle.std.specs.Box.{boxed_slice_items}
+use Rattle.std.specs.declared.boxed.BoxedSlice.{BoxedSlice}
+use Rattle.regress_tree.specs.Matching.{steps}
+use Rattle.regress_base.specs.Table.{stands_for}
+use Rattle.regress_tree.specs.Reading.{direction_if, of_bytes}
+use Rattle.regress_tree.specs.Tree.{tree, leaf, string_set, wrapped, lookaround}
+use Rattle.regress_tree.specs.declared.ir.node.Node.{Node, the_lemmas}
 use Rattle.regress_tree.proofs.laws.Nodes.{tree-LookaroundAssertion}
+use Rattle.regress_match.specs.Leaves.{any_of}
 use Rattle.regress_match.specs.Peek.{FailsAt, GoesTo}
 use Rattle.regress_match.specs.Subject.{Subject, subject}
+use Rattle.regress_match.proofs.DoesLemmas.{nothing_in}
+use Rattle.regress_match.proofs.LeafLemmas.{any-nil}
 use Rattle.regress_match.proofs.PeekLemmas.{fails_look, fails_look_negated}
 use Rattle.regress_match.proofs.peek.front_fails.Goals as goal
 
@@ -33,3 +40,14 @@ returns-else-negate c = λ fails.
     subst (FailsAt u place) (sym (ap tree g.is ∙ tree-LookaroundAssertion g.negate g.backwards g.start_group g.end_group g.contents))
     (subst (λ (b : Bool). FailsAt u place (wrapped (lookaround b g.backwards g.start_group g.end_group) (tree g.contents.value))) (sym c.if-negate.false)
     (fails_look u place (tree g.contents.value) g.backwards g.start_group g.end_group body))
+
+pub returns-in-StringSet : goal.returns-in-StringSet
+returns-in-StringSet c = λ fails s at.
+    let u = subject c.args.rules c.args.text.now in
+    let g = c.in-StringSet in
+    let is : tree c.args.node.now ≡ leaf (string_set (map boxed_slice_items g.alternatives.items) g.icase) = search (rules, the_lemmas) in
+    let any = λ (strings : List (BoxedSlice ℕ Global)). any_of u g.icase strings s in
+    let none : c.behind_missing.result.now ≡ [] = nothing_in c.behind_missing.result.now (search rules) in
+    ap (λ t. steps u.setting u.bytes u.direction t s) is
+    ∙ ap any (sym c.deref-in-StringSet.ensures.value) ∙ sym (c.behind_missing.ensures s at)
+    ∙ ap any none ∙ any-nil u.direction (of_bytes u.bytes) (stands_for u.setting.table g.icase u.setting.flags.unicode) s

@@ -1,28 +1,41 @@
-use Rattle.std.proofs.Common.{◌++◌, ◌∙◌, ap, append-nil, refl}
+use Rattle.std.proofs.Common.{◌≡◌, ◌++◌, ◌∙◌, [], ap, ap₂, sym, refl, append-nil}
 use Rattle.regress_tree.specs.Matching.{steps}
-use Rattle.regress_tree.specs.Tree.{tree}
+use Rattle.regress_tree.specs.Tree.{Tree, tree}
+use Rattle.regress_tree.specs.declared.ir.node.Node.{Node}
+use Rattle.regress_tree.proofs.laws.Nodes.{tree-Alt}
 use Rattle.regress_match.specs.Captures.{state}
 use Rattle.regress_match.specs.Subject.{subject}
 use Rattle.regress_match.proofs.DoesLemmas.{does_first, goes_into}
 use Rattle.regress_match.proofs.visits.alt.Goals as goal
 
+pub returns-in_default : goal.returns-in_default
+returns-in_default c =
+    let u = subject c.args.rules c.args.text.now in
+    goes_into u (steps u.setting u.bytes u.direction (tree c.args.node.now)) c.behind_failing-open.result c.args.machine.now c.args.captures.now
+    c.args.place c.args.next c.args.place (sym (c.behind_failing-open.ensures (state c.args.captures.now c.args.place) refl))
+
 pub returns-then-fails_at_once : goal.returns-then-fails_at_once
 returns-then-fails_at_once c =
     let u = subject c.args.rules c.args.text.now in
     let s = state c.args.captures.now c.args.place in
-    goes_into u _ c.args.right c.args.machine.now c.args.captures.now c.args.place c.args.next c.args.place
-    (ap (λ xs. xs ++ steps u.setting u.bytes u.direction (tree c.args.right.now) s) (c.fails_at_once.ensures c.if-fails_at_once.true s refl))
-
-pub returns-then-fails_at_once-2 : goal.returns-then-fails_at_once-2
-returns-then-fails_at_once-2 c =
-    let u = subject c.args.rules c.args.text.now in
-    let s = state c.args.captures.now c.args.place in
-    let first = steps u.setting u.bytes u.direction (tree c.args.left.now) s in
-    goes_into u _ c.args.left c.args.machine.now c.args.captures.now c.args.place c.args.next c.args.place
-    (ap (λ xs. first ++ xs) (c.fails_at_once-2.ensures c.if-fails_at_once-2.true s refl) ∙ append-nil first)
+    let S = λ (t : Tree). steps u.setting u.bytes u.direction t s in
+    let g = c.in-Alt in
+    let none : S (tree g.right.value) ≡ [] =
+    ap (λ (n : Node). S (tree n)) (sym c.deref.ensures) ∙ c.fails_at_once.ensures c.if-fails_at_once.true s refl in
+    goes_into u (steps u.setting u.bytes u.direction (tree c.args.node.now)) c.deref-then-fails_at_once.result c.args.machine.now c.args.captures.now
+    c.args.place c.args.next c.args.place
+    (sym (c.behind_failing-open.ensures s refl) ∙ ap S (ap tree g.is ∙ tree-Alt g.left g.right)
+    ∙ ap (λ xs. S (tree g.left.value) ++ xs) none ∙ append-nil (S (tree g.left.value))
+    ∙ ap (λ (n : Node). S (tree n)) (sym c.deref-then-fails_at_once.ensures))
 
 pub returns : goal.returns
 returns c =
     let u = subject c.args.rules c.args.text.now in
-    does_first u (steps u.setting u.bytes u.direction (tree c.args.right.now)) _ c.args.left c.args.machine.now c.push.new.self c.choose.new.self
-    c.args.captures.now c.args.place c.args.next c.in_ok-other.other (c.in_ok-other.ensures u) (c.in_ok-choose.ensures u) refl
+    let s = state c.args.captures.now c.args.place in
+    let S = λ (t : Tree). steps u.setting u.bytes u.direction t s in
+    let g = c.in-Alt in
+    does_first u (steps u.setting u.bytes u.direction (tree c.deref-2.result.now)) (steps u.setting u.bytes u.direction (tree c.args.node.now))
+    c.deref-3.result c.args.machine.now c.push.new.self c.choose.new.self c.args.captures.now c.args.place c.args.next c.in_ok-other.other
+    (c.in_ok-other.ensures u) (c.in_ok-choose.ensures u)
+    (sym (c.behind_failing-open.ensures s refl) ∙ ap S (ap tree g.is ∙ tree-Alt g.left g.right)
+    ∙ ap₂ (λ (n m : Node). S (tree n) ++ S (tree m)) (sym c.deref-3.ensures) (sym c.deref-2.ensures))

@@ -1,9 +1,9 @@
-use Rattle.std.proofs.Common.{rules, arith, ◌≡◌, ◌∙◌, ap, ap₂, sym, refl, true}
+use Rattle.std.proofs.Common.{rules, arith, ◌≡◌, ◌∙◌, ap, sym, refl, true}
 use Rattle.std.specs.Prelude.{option_map, string_bytes}
 use Rattle.regress_tree.specs.declared.ir.node.Node.{the_lemmas}
 use Rattle.regress_tree.specs.Matching.{steps}
-use Rattle.regress_tree.specs.Tree.{tree, alt, wrapped, capture_group, lookaround}
-use Rattle.regress_tree.proofs.laws.Nodes.{tree-Cat, tree-Alt, tree-CaptureGroup, tree-Loop, tree-Loop1CharBody, tree-LookaroundAssertion}
+use Rattle.regress_tree.specs.Tree.{tree, wrapped, capture_group, lookaround}
+use Rattle.regress_tree.proofs.laws.Nodes.{tree-Cat, tree-CaptureGroup, tree-Loop, tree-Loop1CharBody, tree-LookaroundAssertion}
 use Rattle.regress_match.specs.Captures.{state}
 use Rattle.regress_match.specs.Leaves.{has_one_outcome}
 use Rattle.regress_match.specs.Subject.{subject}
@@ -22,21 +22,6 @@ returns-in-Cat c =
     (ap (λ t. steps u.setting u.bytes u.direction t (state c.args.captures.now c.args.place)) (ap tree c.in-Cat.is ∙ tree-Cat c.in-Cat.parts))
     (rw c.deref.ensures.value at does))
     c.row.ensures
-
-pub returns-in-Alt : goal.returns-in-Alt
-returns-in-Alt c =
-    let u = subject c.args.rules c.args.text.now in
-    let m = c.args.machine.now in
-    let captures = c.args.captures.now in
-    let s = state captures c.args.place in
-    ok_map c.alt.result
-    (λ to does.
-    does_same u _ _ m captures c.args.place c.args.next c.alt.new.machine captures to
-    (ap (λ t. steps u.setting u.bytes u.direction t s)
-    (ap tree c.in-Alt.is ∙ tree-Alt c.in-Alt.left c.in-Alt.right
-    ∙ ap₂ (λ x y. alt (tree x) (tree y)) (sym c.deref-in-Alt.ensures) (sym c.deref-in-Alt-2.ensures)))
-    does)
-    c.alt.ensures
 
 pub returns-in-CaptureGroup : goal.returns-in-CaptureGroup
 returns-in-CaptureGroup c =

@@ -1,0 +1,16 @@
+-- What is left matches what all of them do.
+use Rattle.std.proofs.Common.{◌≡◌}
+use Rattle.regress_tree.specs.Matching.{steps}
+use Rattle.regress_tree.specs.Steps.{State}
+use Rattle.regress_tree.specs.Tree.{tree}
+use Rattle.regress_match.specs.Subject.{subject}
+use Rattle.regress_match.proofs.peek.behind_failing.Given as goal
+
+abbrev pub invariant-loop-left : goal.invariant-loop-left
+invariant-loop-left l = record {
+  same : (s : State) → s.place ≡ l.place → (let u = subject l.rules l.text in
+      steps u.setting u.bytes u.direction (tree l.rest) s ≡ steps u.setting u.bytes u.direction (tree l.node) s);
+}
+
+abbrev pub decreases-loop-left : goal.decreases-loop-left
+decreases-loop-left l = l.left

@@ -1,0 +1,14 @@
+-- What is left matches what all of them do.
+use Rattle.std.proofs.Common.{◌≡◌}
+use Rattle.regress_tree.specs.Steps.{State}
+use Rattle.regress_match.specs.Leaves.{any_of}
+use Rattle.regress_match.specs.Subject.{subject}
+use Rattle.regress_match.proofs.peek.behind_missing.Given as goal
+
+abbrev pub invariant-loop-left : goal.invariant-loop-left
+invariant-loop-left l = record {
+  same : (s : State) → s.place ≡ l.place → (let any = any_of (subject l.rules l.text) l.icase in any l.rest s ≡ any l.strings s);
+}
+
+abbrev pub decreases-loop-left : goal.decreases-loop-left
+decreases-loop-left l = l.left
