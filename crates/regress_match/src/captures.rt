@@ -1,5 +1,5 @@
 //! What groups have captured.
-ghost use Rattle.std.specs.Prelude.{◌≡◌, ◌≤◌, ◌++◌, ℕ, IfOk, Some, length, take, drop, slice_set, min, max};
+ghost use Rattle.std.specs.Prelude.{◌≡◌, ◌≤◌, ℕ, IfOk, Some, length, take, drop, slice_set};
 ghost use Rattle.regress_tree.specs.Steps.{captured};
 ghost use Rattle.regress_tree.specs.Repetition.{unset};
 ghost use Rattle.regress_match.specs.Captures.{Later, undone, state};

@@ -1,5 +1,5 @@
 //! Loops over one character, in which no group lies: turns are counted, and given back one by one.
-ghost use Rattle.std.specs.Prelude.{◌≡◌, ◌<◌, ◌≤◌, ◌∷◌, ◌⊎◌, [], ℕ, IfOk, true, length};
+ghost use Rattle.std.specs.Prelude.{◌≡◌, ◌<◌, ◌≤◌, ◌⊎◌, ℕ, IfOk, true, length};
 ghost use Rattle.regress_tree.specs.Reading.{direction_if};
 ghost use Rattle.regress_tree.specs.Repetition.{turns, up_to};
 ghost use Rattle.regress_tree.specs.Steps.{State, Step};

@@ -1,10 +1,8 @@
 //! What each kind of task does.
 ghost use Rattle.std.specs.Prelude.{◌≡◌, ◌≤◌, [], ℕ, IfOk, MatchOption, length};
-ghost use Rattle.regress_base.specs.Table.{stands_for};
 ghost use Rattle.regress_tree.specs.Matching.{steps};
-ghost use Rattle.regress_tree.specs.Reading.{of_bytes};
 ghost use Rattle.regress_tree.specs.Repetition.{more_turns};
-ghost use Rattle.regress_tree.specs.Steps.{capture, ◌or_◌};
+ghost use Rattle.regress_tree.specs.Steps.{capture};
 ghost use Rattle.regress_tree.specs.Tree.{tree};
 ghost use Rattle.regress_match.specs.Captures.{state};
 ghost use Rattle.regress_match.specs.Leaves.{put};
