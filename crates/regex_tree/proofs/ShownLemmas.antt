@@ -20,7 +20,7 @@ use Rattle.regex_tree.specs.declared.failure.Failure.{Failure}
 use Rattle.regex_tree.specs.declared.request.Format.{Format}
 use Rattle.regex_tree.specs.declared.request.Stage.{Stage}
 use Rattle.regex_tree.specs.declared.request.Stage.TheVariants.{Both}
-use Rattle.regex_tree.specs.Shown.{Asked, IsAccepted, setting_asked, table_asked, IsOptimized, IsOptimizedShown, IsOutput, IsShown, IsShownAs, IsShownWith}
+use Rattle.regex_tree.specs.Shown.{Asked, IsParsed, setting_asked, table_asked, IsOptimized, IsOptimizedShown, IsOutput, IsShown, IsShownAs, IsShownWith}
 
 -- one tree
 pub shows_one : (format : Format) (flags : Flags) (t : Tree) (spans : List Span) (shown behind : List ℕ) (r : Result (Unit {0}) Failure)
@@ -43,43 +43,44 @@ shows_both format flags t spans (Ok done) old between new (first, one, before) (
     (first ++ second, (first, second, one, two, refl), appends_both old between new first second before behind)
 shows_both format flags t spans (Err failure) old between new before behind = tt
 
+-- the spans of its nodes show what they do
+pub spanned_parsed : (stage : Stage) (format : Format) (setting : Setting) (text : List ℕ) (r : Result SpannedRegex PlacedFault) →
+    IfOk r (λ s. (p : Pattern) × (accepted : parse.IsAccepted setting text p) × (tree s.regex.node ≡ tree_of setting.table p)
+    × (s.spans.items ≡ spans_of setting text p accepted.derived)) → IfOk r (IsParsed stage format setting text)
+spanned_parsed stage format setting text (Ok s) (p, accepted, same, spans) =
+    (p, accepted, same, λ bytes. subst (λ (ss : List Span). IsShown stage format setting.flags (tree s.regex.node) ss bytes) spans)
+spanned_parsed stage format setting text (Err fault) spanned = tt
+
 -- what is parsed by the table that is asked for
-module _ (flags : Flags) (text : List ℕ) (r : Result SpannedRegex PlacedFault) where
+module _ (stage : Stage) (format : Format) (flags : Flags) (text : List ℕ) (r : Result SpannedRegex PlacedFault) where
   abbrev setting : Table → Setting
   setting table = record { flags = flags; table = table }
 
-  abbrev Parsed : Table → Type 0
-  Parsed table = IfOk r (λ s. (p : Pattern) × (accepted : parse.IsAccepted (setting table) text p)
-      × (tree s.regex.node ≡ tree_of table p) × (s.spans.items ≡ spans_of (setting table) text p accepted.derived))
+  abbrev ParsedBy : Table → Type 0
+  ParsedBy table = IfOk r (IsParsed stage format (setting table) text)
 
-  pub parsed_asked : (small : Bool) (table : Table) → table ≡ table_asked small → Parsed table → Parsed (table_asked small)
-  parsed_asked small table same parsed = subst (λ (x : Table). Parsed x) same parsed
+  pub parsed_asked : (small : Bool) (table : Table) → table ≡ table_asked small → ParsedBy table → ParsedBy (table_asked small)
+  parsed_asked small table same parsed = subst (λ (x : Table). ParsedBy x) same parsed
 
-  abbrev Refused : Table → Type 0
-  Refused table = RefusedOnlyIf (unplaced r) (parse.NoneIsAccepted (setting table) text)
+  abbrev RefusedBy : Table → Type 0
+  RefusedBy table = RefusedOnlyIf (unplaced r) (parse.NoneIsAccepted (setting table) text)
 
-  pub refused_asked : (small : Bool) (table : Table) → table ≡ table_asked small → Refused table → Refused (table_asked small)
-  refused_asked small table same refused = subst (λ (x : Table). Refused x) same refused
+  pub refused_asked : (small : Bool) (table : Table) → table ≡ table_asked small → RefusedBy table → RefusedBy (table_asked small)
+  refused_asked small table same refused = subst (λ (x : Table). RefusedBy x) same refused
 
--- the spans and the tree of a pattern that is accepted
-module _ (stage : Stage) (format : Format) (asked : Asked) where
-  pub record IsParsed (t : Tree) (ss : List Span) : Type 0 where
-    pub pattern : Pattern
-    pub accepted : IsAccepted asked pattern
-    pub tree : t ≡ tree_of (table_asked asked.small) pattern
-    pub spans : ss ≡ spans_of (setting_asked asked) asked.text pattern accepted.derived
-
-  pub shows_output : (t : Tree) (spans : List Span) (r : Result (Unit {0}) Failure) (old new : Option (List ℕ)) → IsParsed t spans →
-      OnOk r (Took old new (IsShown stage format asked.flags t spans)) → OnOk r (Took old new (IsOutput stage format asked))
-  shows_output t spans (Ok done) old new parsed (bytes, shown, appends) = (
-    bytes,
-    (
-      parsed.pattern,
-      parsed.accepted,
-      subst (λ (u : Tree). IsShown stage format asked.flags u
-          (spans_of (setting_asked asked) asked.text parsed.pattern parsed.accepted.derived) bytes) parsed.tree
-          (subst (λ (ss : List Span). IsShown stage format asked.flags t ss bytes) parsed.spans shown),
-    ),
-    appends,
-  )
-  shows_output t spans (Err failure) old new parsed took = tt
+-- a pattern that is accepted
+pub shows_output : (stage : Stage) (format : Format) (asked : Asked) (parsed : SpannedRegex) (r : Result (Unit {0}) Failure)
+    (old new : Option (List ℕ)) → IsParsed stage format (setting_asked asked) asked.text parsed →
+    OnOk r (Took old new (IsShown stage format asked.flags (tree parsed.regex.node) parsed.spans.items)) →
+    OnOk r (Took old new (IsOutput stage format asked))
+shows_output stage format asked parsed (Ok done) old new (p, accepted, same, shows) (bytes, shown, appends) = (
+  bytes,
+  (
+    p,
+    accepted,
+    subst (λ (t : Tree). IsShown stage format asked.flags t (spans_of (setting_asked asked) asked.text p accepted.derived) bytes) same
+        (shows bytes shown),
+  ),
+  appends,
+)
+shows_output stage format asked parsed (Err failure) old new is_parsed took = tt

@@ -10,13 +10,14 @@ use Rattle.regress_tree.specs.NormalForm.{IsNormal}
 use Rattle.regress_tree.specs.Reading.{forwards}
 use Rattle.regress_tree.specs.WellFormed.{captures}
 use Rattle.regress_tree.specs.Setting.{Setting}
-use Rattle.regress_tree.specs.Tree.{Tree}
+use Rattle.regress_tree.specs.Tree.{Tree, tree}
 use Rattle.regress_syntax.specs.Syntax.{Pattern}
 use Rattle.regress_parse.specs.Accepted as parse
 use Rattle.regress_parse.specs.TreeOf.{tree_of}
 use Rattle.regress_markup.specs.Markup.{IsDocument}
 use Rattle.regress_show.specs.Json.{spanned_json_of}
 use Rattle.regress_spans.specs.Spans.{spans_of}
+use Rattle.regress_spans.specs.declared.pattern.SpannedRegex.{SpannedRegex}
 use Rattle.regress_spans.specs.declared.span.Span.{Span}
 use Rattle.regex_tree.specs.declared.request.Format.{Format}
 use Rattle.regex_tree.specs.declared.request.Format.TheVariants.{Text, Json, Svg}
@@ -73,6 +74,13 @@ IsShown Parsed format flags t spans bytes = IsShownWith format flags t spans [] 
 IsShown Optimized format flags t spans bytes = IsOptimizedShown format flags t bytes
 IsShown Both format flags t spans bytes = (first second : List ℕ) × IsShownWith format flags t spans (codes "--\n") first
     × IsOptimizedShown format flags t second × (bytes ≡ first ++ second)
+
+-- A pattern's tree, with spans by which the same is shown as by those of its nodes: none will do where none are told.
+abbrev pub IsParsed : Stage → Format → Setting → List ℕ → SpannedRegex → Type 0
+IsParsed stage format setting text r = (p : Pattern) × (accepted : parse.IsAccepted setting text p)
+    × (tree r.regex.node ≡ tree_of setting.table p)
+    × ((bytes : List ℕ) → IsShown stage format setting.flags (tree r.regex.node) r.spans.items bytes
+    → IsShown stage format setting.flags (tree r.regex.node) (spans_of setting text p accepted.derived) bytes)
 
 -- what is shown of a pattern that is accepted
 abbrev pub IsOutput : Stage → Format → Asked → List ℕ → Type 0

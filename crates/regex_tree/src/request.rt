@@ -1,5 +1,9 @@
 //! What the program is asked.
-ghost use Rattle.std.specs.Prelude.{◌≡◌, option_map};
+ghost use Rattle.std.specs.Prelude.{◌≡◌, ℕ, List, false, option_map};
+ghost use Rattle.regress_base.specs.declared.types.Flags.{Flags};
+ghost use Rattle.regress_spans.specs.declared.span.Span.{Span};
+ghost use Rattle.regress_tree.specs.Tree.{Tree};
+ghost use Rattle.regex_tree.specs.Shown.{IsShown};
 ghost use Rattle.regex_tree.specs.Taken.{no_options, options_of, taken, taken_of, with_option};
 
 use regress_arguments::read_pattern;
@@ -20,6 +24,19 @@ pub(crate) struct Request<'a> {
     pub(crate) stage: Stage,
     /// Whether the table is the small one, or that of all of Unicode.
     pub(crate) small: bool,
+}
+
+impl Request<'_> {
+    /// Whether what is shown tells where nodes stand: the text doesn't, and of the optimized tree it isn't known.
+    pub(crate) fn tells_spans(&self) -> bool
+        ensures { result ≡ false → (flags : Flags) (t : Tree) (ss others : List Span) (bytes : List ℕ) →
+            IsShown self.now.stage self.now.format flags t ss bytes → IsShown self.now.stage self.now.format flags t others bytes }
+    {
+        match (self.format, self.stage) {
+            (Format::Text, _) | (_, Stage::Optimized) => false,
+            _ => true,
+        }
+    }
 }
 
 #[derive(Clone, Copy)]

@@ -6,12 +6,11 @@ ghost use Rattle.regress_tree.specs.Tree.{tree};
 ghost use Rattle.regress_tree.specs.WellFormed.{IsWellFormed};
 ghost use Rattle.regex_tree.specs.declared.failure.Failure.TheVariants.{Memory, Output};
 ghost use Rattle.regex_tree.specs.Ending.{IsDue};
+ghost use Rattle.regress_parse.specs.Accepted.{NoneIsAccepted};
 ghost use Rattle.regress_parse.specs.Fault.{RefusedOnlyIf, unplaced};
 ghost use Rattle.regress_parse.specs.Source.{IsCodePoint};
-ghost use Rattle.regress_parse.specs.TreeOf.{tree_of};
-ghost use Rattle.regress_spans.specs.Spans.{spans_of};
-ghost use Rattle.regress_syntax.specs.Syntax.{Pattern};
-ghost use Rattle.regex_tree.specs.Shown.{IsAccepted, NoneIsAcceptedOf, IsOptimizedShown, IsOutput, IsShown, IsShownWith, asked, setting_asked, table_asked};
+ghost use Rattle.regress_syntax.specs.SettingOf.{setting_of};
+ghost use Rattle.regex_tree.specs.Shown.{IsParsed, NoneIsAcceptedOf, IsOptimizedShown, IsOutput, IsShown, IsShownWith, asked, setting_asked, table_asked};
 
 use crate::failure::Failure;
 use crate::output::write_out;
@@ -19,7 +18,7 @@ use crate::request::{Format, Request, Stage};
 use regress_base::util::code_points;
 use regress_diagram::svg_with_titles;
 use regress_opt::optimize;
-use regress_parse::PlacedFault;
+use regress_parse::{PlacedFault, try_parse_with_place};
 use regress_show::SpannedJson;
 use regress_spans::{Span, SpannedRegex, try_parse_with_spans};
 use regress_tree::ir::Regex;
@@ -65,14 +64,34 @@ pub(crate) fn show<W: Write>(
 fn parse(alloc: Global, points: &[u32], request: &Request<'_>) -> Result<SpannedRegex, PlacedFault>
     requires { All IsCodePoint points.now }
     ensures refused { RefusedOnlyIf (unplaced result) (NoneIsAcceptedOf (asked points.now request.now.flags request.now.small)) }
-    ensures parsed { IfOk result (λ r. (p : Pattern) × (accepted : IsAccepted (asked points.now request.now.flags request.now.small) p)
-        × (tree r.regex.node ≡ tree_of (table_asked request.now.small) p)
-        × (r.spans.items ≡ spans_of (setting_asked (asked points.now request.now.flags request.now.small)) points.now p accepted.derived)) }
+    ensures parsed { IfOk result (IsParsed request.now.stage request.now.format
+        (setting_asked (asked points.now request.now.flags request.now.small)) points.now) }
     ensures flags { IfOk result (λ r. r.regex.flags ≡ request.now.flags) }
     ensures well_formed { IfOk result (λ r. IsWellFormed (tree r.regex.node)) }
 {
     let tables = tables(alloc, request.small)?;
-    try_parse_with_spans(alloc, points, request.flags, &tables)
+    parse_with(alloc, points, request, &tables)
+}
+
+/// Parses a pattern by these tables. It is read for its spans only where they are told, since that takes as long again.
+fn parse_with(
+    alloc: Global,
+    points: &[u32],
+    request: &Request<'_>,
+    tables: &Tables,
+) -> Result<SpannedRegex, PlacedFault>
+    requires { All IsCodePoint points.now }
+    ensures refused { RefusedOnlyIf (unplaced result) (NoneIsAccepted (setting_of request.now.flags tables.now) points.now) }
+    ensures parsed { IfOk result (IsParsed request.now.stage request.now.format (setting_of request.now.flags tables.now) points.now) }
+    ensures flags { IfOk result (λ r. r.regex.flags ≡ request.now.flags) }
+    ensures well_formed { IfOk result (λ r. IsWellFormed (tree r.regex.node)) }
+{
+    if request.tells_spans() {
+        return try_parse_with_spans(alloc, points, request.flags, tables);
+    }
+    let regex = try_parse_with_place(alloc, points, request.flags, tables)?;
+    let spans = Vec::new(alloc);
+    Ok(SpannedRegex { regex, spans })
 }
 
 fn tables(alloc: Global, small: bool) -> Result<Tables, AllocError>

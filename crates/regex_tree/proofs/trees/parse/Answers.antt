@@ -5,11 +5,13 @@ use Rattle.regex_tree.proofs.trees.parse.Goals as goal
 pub returns-clause-parsed : goal.returns-clause-parsed
 returns-clause-parsed c =
     let request = c.args.request.now in
-    let found = c.try_parse_with_spans in
-    parsed_asked request.flags c.args.points.now found.result request.small (table_of c.in_ok-tables.tables) c.in_ok-tables.ensures found.ensures.spanned
+    let found = c.parse_with in
+    parsed_asked request.stage request.format request.flags c.args.points.now found.result request.small (table_of c.in_ok-tables.tables)
+    c.in_ok-tables.ensures found.ensures.parsed
 
 pub returns-clause-refused : goal.returns-clause-refused
 returns-clause-refused c =
     let request = c.args.request.now in
-    let found = c.try_parse_with_spans in
-    refused_asked request.flags c.args.points.now found.result request.small (table_of c.in_ok-tables.tables) c.in_ok-tables.ensures found.ensures.refused
+    let found = c.parse_with in
+    refused_asked request.stage request.format request.flags c.args.points.now found.result request.small (table_of c.in_ok-tables.tables)
+    c.in_ok-tables.ensures found.ensures.refused
