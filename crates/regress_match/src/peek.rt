@@ -74,21 +74,20 @@ fn front_fails(text: &str, rules: Rules<'_>, node: &Node, place: usize) -> bool
             ..
         } => {
             let inside = Rules {
-                flags: rules.flags,
-                known: rules.known,
                 backwards: *backwards,
+                ..rules
             };
             if *negate {
-                leaf_holds(text, inside, contents, place)
+                matches!(told(text, inside, contents, place), Some(Some(_)))
             } else {
-                leaf_fails(text, inside, front_of(contents), place)
+                matches!(told(text, inside, front_of(contents), place), Some(None))
             }
         }
         Node::StringSet {
             alternatives,
             icase,
         } => behind_missing(text, rules, alternatives, *icase, place).is_empty(),
-        _ => leaf_fails(text, rules, node, place),
+        _ => matches!(told(text, rules, node, place), Some(None)),
     }
 }
 
@@ -155,24 +154,15 @@ fn first_part(parts: &[Node]) -> Option<&Node>
     Some(first)
 }
 
-/// Whether it is a leaf that looks at no group, and matches nothing there.
+/// Where it goes from a place if it is a leaf that looks at no group. Of other nodes nothing is told.
 #[inline(always)]
-fn leaf_fails(text: &str, rules: Rules<'_>, node: &Node, place: usize) -> bool
-    ensures { result ≡ true → FailsAt (subject rules.entry text.now) place (tree node.now) }
+fn told(text: &str, rules: Rules<'_>, node: &Node, place: usize) -> Option<Option<usize>>
+    ensures { IfSome result (GoesTo (subject rules.entry text.now) place (tree node.now)) }
 {
-    is_simple(node) && simple_leaf(text, rules, node, place).is_none()
-}
-
-/// Whether it is a leaf that looks at no group, and matches there.
-fn leaf_holds(text: &str, rules: Rules<'_>, node: &Node, place: usize) -> bool
-    ensures { result ≡ true → (to : ℕ) × GoesTo (subject rules.entry text.now) place (tree node.now) (Some to) }
-{
-    if !is_simple(node) {
-        return false;
-    }
-    match simple_leaf(text, rules, node, place) {
-        Some(_) => true,
-        None => false,
+    if is_simple(node) {
+        Some(simple_leaf(text, rules, node, place))
+    } else {
+        None
     }
 }
 

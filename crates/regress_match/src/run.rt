@@ -151,9 +151,8 @@ fn look<'a>(
     ensures later { IfOk result (λ _. Later captures.old captures.new) }
 {
     let inside = Rules {
-        flags: rules.flags,
-        known: rules.known,
         backwards: looking.backwards,
+        ..rules
     };
     if fails_at_once(text, inside, looking.body, looking.place) {
         return Ok(holds_if(looking.negate));
