@@ -99,7 +99,7 @@ pub fn match_at(
     match first_at(
         alloc,
         regex,
-        Known::new(tables),
+        Known::new(tables, regex.flags),
         text,
         place,
         &mut scratch,

@@ -30,7 +30,7 @@ impl<'a> Prepared<'a> {
     {
         Prepared {
             regex,
-            known: Known::new(tables),
+            known: Known::new(tables, regex.flags),
             candidates: candidates_of(&regex.node),
             groups: group_count(&regex.node),
         }
