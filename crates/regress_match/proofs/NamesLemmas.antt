@@ -35,8 +35,10 @@ finds_both a b c xs ys first second = record {
   span =
       second.span
       ∙ ap (λ x. option_or x (named_span b.name.now (state_of b.found.now).captures ys)) first.span
-      ∙ ap (λ n. option_or (option_or a.span (named_span a.name.now (state_of a.found.now).captures xs)) (named_span n.now (state_of b.found.now).captures ys)) first.name
-      ∙ ap (λ m. option_or (option_or a.span (named_span a.name.now (state_of a.found.now).captures xs)) (named_span a.name.now (state_of m.now).captures ys)) first.found
+      ∙ ap (λ n. option_or (option_or a.span (named_span a.name.now (state_of a.found.now).captures xs))
+      (named_span n.now (state_of b.found.now).captures ys)) first.name
+      ∙ ap (λ m. option_or (option_or a.span (named_span a.name.now (state_of a.found.now).captures xs))
+      (named_span a.name.now (state_of m.now).captures ys)) first.found
       ∙ or-assoc a.span _ _
       ∙ ap (option_or a.span) (sym (named_span-append a.name.now (state_of a.found.now).captures xs ys));
 }

@@ -170,7 +170,8 @@ module _ (bytes : List ℕ) where
     giving-stop : (stop : ℕ) (h : State) → h.place ≡ stop → behind stop h ≡ []
     giving-stop stop h at =
         ap (drop 1) (along-next (opposite d) stop h)
-        ∙ ap (λ (b : Bool). if b then [] else read_on (giving_back d bytes stop) h (next_character (opposite d) (of_bytes bytes) h.place)) (eq-eqb h.place stop at)
+        ∙ ap (λ (b : Bool). if b then [] else read_on (giving_back d bytes stop) h (next_character (opposite d) (of_bytes bytes) h.place))
+        (eq-eqb h.place stop at)
 
     giving-on : (stop c : ℕ) (h : State) (to : ℕ) → next_character d (of_bytes bytes) h.place ≡ Some (record { character = c; place = to }) →
         ahead d bytes h.place ≤ ahead d bytes stop → behind stop (record h { place = to }) ≡ giving_back d bytes stop h
@@ -228,7 +229,8 @@ module _ (bytes : List ℕ) where
         behind stop h ≡ read_on (giving_back d bytes stop) h o
     behind-at stop h o on next =
         ap (drop 1) (along-next (opposite d) stop h)
-        ∙ ap (λ (b : Bool). if b then [] else read_on (giving_back d bytes stop) h (next_character (opposite d) (of_bytes bytes) h.place)) (ne_eqb h.place stop on)
+        ∙ ap (λ (b : Bool). if b then [] else read_on (giving_back d bytes stop) h (next_character (opposite d) (of_bytes bytes) h.place))
+        (ne_eqb h.place stop on)
         ∙ ap (read_on (giving_back d bytes stop) h) next
 
     pub gives_only : (stop : ℕ) (h : State) → (h.place ≡ stop → ⊥) → next_character (opposite d) (of_bytes bytes) h.place ≡ None →

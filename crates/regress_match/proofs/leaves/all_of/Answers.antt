@@ -15,7 +15,8 @@ returns-in_err-x c = λ s at.
     let cs = in_order d c.args.characters.now in
     let none : next_character d r c.loop-i.here ≡ None = sym c.next_read.ensures ∙ ap (option_map read_of) c.in_err-x.was in
     rw c.from_residual.ensures
-    (sym (order_none d r _ cs s c.loop-i.i c.loop-i.here (omega (arith, length-in_order d c.args.characters.now, c.loop-i-test.true)) none (c.loop-i.invariant s at)))
+    (sym (order_none d r _ cs s c.loop-i.i c.loop-i.here (omega (arith, length-in_order d c.args.characters.now, c.loop-i-test.true)) none
+    (c.loop-i.invariant s at)))
 
 pub returns-then-not-stands_for : goal.returns-then-not-stands_for
 returns-then-not-stands_for c = λ s at.

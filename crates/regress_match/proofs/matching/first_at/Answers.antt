@@ -9,7 +9,8 @@ pub returns-in_default : goal.returns-in_default
 returns-in_default c =
     let f = steps (record { flags = c.args.regex.now.flags; table = table_of c.args.known.tables.now }) c.args.text.now forwards (tree c.args.regex.now.node) in
     record {
-      answers = answers_at f (tree c.args.regex.now.node) c.args.captures.now c.run.new.captures c.in_ok-answer.answer c.args.place c.requires c.in_ok-answer.ensures.answers;
+      answers = answers_at f (tree c.args.regex.now.node) c.args.captures.now c.run.new.captures c.in_ok-answer.answer c.args.place c.requires
+          c.in_ok-answer.ensures.answers;
       fresh = if_nowhere _ c.in_ok-answer.answer c.in_default.not-Nowhere;
       left = c.in_ok-answer.ensures.budget;
     }

@@ -21,4 +21,5 @@ returns c =
       leaves = λ a b t u d behind skip call. call.leaves;
       goes_on = λ a b t u d behind skip call. search rules;
     }) _ _ _ _ _ _ c.walk.ensures.visited in
-    finish _ c.walk.new.func.0.now.span _ (search rules) (finds.1.span ∙ ap (named_span c.args.name.now (state_of c.args.found.now).captures) (gathered-groups (tree c.args.regex.now.node)))
+    finish _ c.walk.new.func.0.now.span _ (search rules) (finds.1.span ∙ ap (named_span c.args.name.now (state_of c.args.found.now).captures)
+    (gathered-groups (tree c.args.regex.now.node)))

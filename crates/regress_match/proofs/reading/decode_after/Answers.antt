@@ -8,7 +8,8 @@ use Rattle.regress_match.proofs.reading.decode_after.Goals as goal
 pub returns-in_err-behind : goal.returns-in_err-behind
 returns-in_err-behind c =
     let text = c.args.text.now in
-    rw c.from_residual.ensures (sym (read_after_none text c.args.place (after_none text c.args.place (λ on. false≢true (c.in_err-behind.ensures.variant.1 on)))))
+    rw c.from_residual.ensures (sym (read_after_none text c.args.place (after_none text c.args.place
+    (λ on. false≢true (c.in_err-behind.ensures.variant.1 on)))))
 
 pub returns-in_err-c : goal.returns-in_err-c
 returns-in_err-c c =

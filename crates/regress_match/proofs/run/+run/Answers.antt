@@ -14,7 +14,8 @@ use Rattle.regress_match.proofs.run.+run.Goals as goal
 pub look-returns-then-fails_at_once-clause-looks : goal.look-returns-then-fails_at_once-clause-looks
 look-returns-then-fails_at_once-clause-looks t c =
     let l = c.args.looking in
-    let body = steps (record { flags = c.args.rules.flags; table = table_of c.args.rules.known.tables.now }) c.args.text.now (direction_if l.backwards) (tree l.body.now) in
+    let body = steps (record { flags = c.args.rules.flags; table = table_of c.args.rules.known.tables.now }) c.args.text.now (direction_if l.backwards)
+    (tree l.body.now) in
     looks_none l.negate body c.args.captures.now c.args.captures.now l.place c.holds_if.result
     (c.fails_at_once.ensures c.if-fails_at_once.true (state c.args.captures.now l.place) refl) refl c.holds_if.ensures
 
@@ -24,7 +25,8 @@ look-returns-then-fails_at_once-clause-later t c = Later-refl c.args.captures.no
 pub look-returns-in-At-clause-looks : goal.look-returns-in-At-clause-looks
 look-returns-in-At-clause-looks t c =
     let l = c.args.looking in
-    let body = steps (record { flags = c.args.rules.flags; table = table_of c.args.rules.known.tables.now }) c.args.text.now (direction_if l.backwards) (tree l.body.now) in
+    let body = steps (record { flags = c.args.rules.flags; table = table_of c.args.rules.known.tables.now }) c.args.text.now (direction_if l.backwards)
+    (tree l.body.now) in
     let s = state c.args.captures.now l.place in
     let found : (rest : List State) × (body s ≡ state c.run.new.captures c.in-At.field-0 ∷ rest) = rw c.in-At.is at c.in_ok-answer.ensures.answers in
     looks_first l.negate body c.args.captures.now c.run.new.captures l.place c.in-At.field-0 c.holds_if-in-At.result found.0 found.1 c.holds_if-in-At.ensures
@@ -32,7 +34,8 @@ look-returns-in-At-clause-looks t c =
 pub look-returns-clause-looks : goal.look-returns-clause-looks
 look-returns-clause-looks t c =
     let l = c.args.looking in
-    let body = steps (record { flags = c.args.rules.flags; table = table_of c.args.rules.known.tables.now }) c.args.text.now (direction_if l.backwards) (tree l.body.now) in
+    let body = steps (record { flags = c.args.rules.flags; table = table_of c.args.rules.known.tables.now }) c.args.text.now (direction_if l.backwards)
+    (tree l.body.now) in
     let s = state c.args.captures.now l.place in
     let before = c.args.captures.now.trail.items in
     let since = c.run.new.captures.trail.items in

@@ -18,7 +18,8 @@ pub loop-left-preserved : goal.loop-left-preserved
 loop-left-preserved c =
     let d = direction_if c.args.rules.backwards in
     let t = tree c.args.body.now in
-    let one : (s : State) → put (record s { place = c.loop-left.here }) (Some c.in-Some.to) ≡ one_of d c.args.text.now t (record s { place = c.loop-left.here }) =
+    let one : (s : State) → put (record s { place = c.loop-left.here }) (Some c.in-Some.to) ≡ one_of d c.args.text.now t
+    (record s { place = c.loop-left.here }) =
     λ s. ap (put (record s { place = c.loop-left.here })) (sym c.in-Some.is) ∙ c.one_character.ensures (record s { place = c.loop-left.here }) refl in
     record {
       same = λ s at.

@@ -13,4 +13,5 @@ returns c = λ u.
     let body = steps u.setting u.bytes u.direction (tree r.body.now) in
     goes_visit u _ (λ t. if t.place == place then [] else more_of u r t) r.body c.args.machine.now c.push.new.self c.args.captures.now c.unset.new.self place
     c.args.next c.in_ok-task.task place (c.in_ok-task.ensures u) c.in_ok-unset.ensures.later
-    (moved-later (more_of u r) place _ ∙ ap (λ s. flat_map (λ t. if t.place == place then [] else more_of u r t) (body s)) (sym (c.in_ok-unset.ensures.state place)))
+    (moved-later (more_of u r) place _ ∙ ap (λ s. flat_map (λ t. if t.place == place then [] else more_of u r t) (body s))
+    (sym (c.in_ok-unset.ensures.state place)))

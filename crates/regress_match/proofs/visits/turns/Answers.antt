@@ -19,7 +19,8 @@ returns-then-left-eq0 c =
     let captures = c.args.captures.now in
     ok_map c.more.result
     (λ to does.
-    does_same u (what_step u (whats.Turns r c.args.left)) (more_of u r) c.args.machine.now captures c.args.place c.args.next c.more.new.machine c.more.new.captures to
+    does_same u (what_step u (whats.Turns r c.args.left)) (more_of u r) c.args.machine.now captures c.args.place c.args.next c.more.new.machine
+    c.more.new.captures to
     (ap (λ n. flat_map (more_of u r) (turns n (turn_of u r) (state captures c.args.place))) c.if-left-eq0.true ∙ append-nil _)
     does)
     c.more.ensures
@@ -33,7 +34,8 @@ returns c =
     let body = steps u.setting u.bytes u.direction (tree r.body.now) in
     let s = state c.args.captures.now place in
     let T = turn_of u r in
-    goes_visit u _ (turns n T then_ more_of u r) r.body c.args.machine.now c.push.new.self c.args.captures.now c.unset.new.self place c.args.next c.in_ok-task.task
+    goes_visit u _ (turns n T then_ more_of u r) r.body c.args.machine.now c.push.new.self c.args.captures.now c.unset.new.self place c.args.next
+    c.in_ok-task.task
     place (c.in_ok-task.ensures u) c.in_ok-unset.ensures.later
     (ap (λ f. flat_map (more_of u r) (f s)) (turns-less c.args.left T (omega arith))
     ∙ sym (flat_map-then (turns n T) (more_of u r) (T s))
