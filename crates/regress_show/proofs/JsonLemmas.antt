@@ -1,8 +1,10 @@
 -- What is written behind what was written.
-use Rattle.std.proofs.Common.{◌≡◌, ◌∙◌, ℕ, zero, suc, ◌+◌, ◌<◌, true, false, List, [], ◌∷◌, ◌++◌, length, get_or, take, drop, map, flat_map, refl, sym, ap, add-one, append_assoc, append-nil, codes, Vec, Box, Global, rules, arith}
+use Rattle.std.proofs.Common.{◌≡◌, ◌∙◌, ℕ, zero, suc, ◌+◌, ◌<◌, true, false, List, [], ◌∷◌, ◌++◌, length, get_or, take, drop, map, flat_map, refl, sym, ap, add-one, append_assoc, append-nil, codes, Option, Some, None, Bor, Vec, Box, Global, rules, arith}
 use denote.Text.{Utf8}
 use denote.Shadow.{shadow}
 use lib.Utf8.{encode}
+use Rattle.std.specs.Slice.Iter.{iter_rest, iter_steps}
+use Rattle.std.specs.declared.slice.Iter.{Iter}
 use Rattle.std.specs.List.{slice_get, join_by}
 use Rattle.std.specs.Fmt.{decimal, HasWritten, IsPlainFormatter}
 use Rattle.std.specs.declared.fmt.Formatter.{Formatter}
@@ -109,6 +111,15 @@ slice_get-drop (s ∷ spans) (suc number) = slice_get-drop spans number
 pub mark-first : (all left : List Span) (number : ℕ) → left ≡ drop number all → ending (span_mark left) 0 ≡ ending (span_mark all) number
 mark-first all left number is =
     ap (λ s. span_or_none s ++ codes "}") (ap (λ spans. slice_get spans 0) is ∙ slice_get-drop all number)
+
+drop-none : (spans : List Span) → length spans ≡ 0 → drop 1 spans ≡ spans
+drop-none [] none = refl
+drop-none (s ∷ spans) none = cc
+
+-- the next one is passed, if there is one
+pub next-passed : (before after : Iter Span) (r : Option (Bor Span)) → iter_steps before r after → iter_rest after ≡ drop 1 (iter_rest before)
+next-passed before after None (none, same) = ap iter_rest same ∙ sym (drop-none (iter_rest before) none)
+next-passed before after (Some s) is = ap (drop 1) (sym is)
 
 -- What is written from the node `now` on, whose span is the next one, completes all that is written from the node `at` on.
 pub record Completes {W : Type 0} (took : W → List ℕ → W → Type 0) (from to : Formatter W) (all left : List Span) (whole rest : ℕ → List ℕ)

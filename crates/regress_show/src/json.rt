@@ -3,12 +3,13 @@ ghost use Rattle.std.specs.Prelude.{◌≡◌, ◌++◌, ℕ, List, OnOk, Some, 
 ghost use Rattle.std.specs.Box.{boxed_slice_items};
 ghost use Rattle.std.specs.List.{join_by};
 ghost use Rattle.std.specs.Fmt.{WritesOnOk, decimal};
+ghost use Rattle.std.specs.Slice.Iter.{iter_rest};
 ghost use Rattle.regress_tree.specs.Tree.{tree, trees, capture_group, loop, loop_one, lookaround, anchor, word_boundary, bracket, char_set, back_ref, string_set};
 ghost use Rattle.regress_tree.specs.Visits.{nodes, nodes_in_row};
 ghost use Rattle.regress_spans.specs.declared.span.Span.{Span};
 ghost use Rattle.regress_show.specs.Json as text;
 
-use crate::marks::Marks;
+use crate::marks::{Marks, pass_alternations, write_ending};
 use crate::sides::sides;
 use regress_base::codepointset::Interval;
 use regress_base::types::{
@@ -66,7 +67,7 @@ fn write_pattern<W: Write>(regex: &Regex, spans: &[Span], f: &mut Formatter<W>) 
     ensures { WritesOnOk W.write_str_gives f.old result (text.spanned_json_of regex.now.flags (tree regex.now.node) spans.now) f.new }
 {
     write_flags(regex.flags, f)?;
-    write_node(&regex.node, &mut Marks { left: spans }, f)?;
+    write_node(&regex.node, &mut spans.iter(), f)?;
     f.write_str("}")
 }
 
@@ -90,9 +91,9 @@ fn write_flags<W: Write>(flags: Flags, f: &mut Formatter<W>) -> fmt::Result
 /// Writes a node, with the marks of all nodes in it.
 #[cycle(write_node)]
 fn write_node<W: Write>(node: &Node, marks: &mut Marks<'_>, f: &mut Formatter<W>) -> fmt::Result
-    ensures written { (all : List Span) (at : ℕ) → marks.old.left.now ≡ drop at all →
+    ensures written { (all : List Span) (at : ℕ) → iter_rest marks.old ≡ drop at all →
         WritesOnOk W.write_str_gives f.old result (text.node_json (text.span_mark all) at (tree node.now)) f.new }
-    ensures passed { OnOk result (marks.new.left.now ≡ drop (nodes (tree node.now)) marks.old.left.now) }
+    ensures passed { OnOk result (iter_rest marks.new ≡ drop (nodes (tree node.now)) (iter_rest marks.old)) }
 {
     write_opening(node, f)?;
     match node {
@@ -109,16 +110,16 @@ fn write_node<W: Write>(node: &Node, marks: &mut Marks<'_>, f: &mut Formatter<W>
             }
         }
     }
-    marks.write_ending(f)
+    write_ending(marks, f)
 }
 
 /// Writes the alternatives of a right side, up to the end of the list, and passes the `Alt`s that it is. They take no stack:
 /// there may be as many levels as alternatives.
 #[cycle(write_node)]
 fn write_further<W: Write>(right: &Node, marks: &mut Marks<'_>, f: &mut Formatter<W>) -> fmt::Result
-    ensures written { (all : List Span) (at : ℕ) → marks.old.left.now ≡ drop at all →
+    ensures written { (all : List Span) (at : ℕ) → iter_rest marks.old ≡ drop at all →
         WritesOnOk W.write_str_gives f.old result (text.further_json (text.span_mark all) at (tree right.now) ++ codes "]") f.new }
-    ensures passed { OnOk result (marks.new.left.now ≡ drop (nodes (tree right.now)) marks.old.left.now) }
+    ensures passed { OnOk result (iter_rest marks.new ≡ drop (nodes (tree right.now)) (iter_rest marks.old)) }
 {
     let mut last = right;
     while let Some((left, right)) = sides(last) {
@@ -128,16 +129,16 @@ fn write_further<W: Write>(right: &Node, marks: &mut Marks<'_>, f: &mut Formatte
     }
     f.write_str(",")?;
     write_node(last, marks, f)?;
-    marks.pass_alternations(right);
+    pass_alternations(marks, right);
     f.write_str("]")
 }
 
 /// Writes the parts of a row, up to the end of the list.
 #[cycle(write_node)]
 fn write_row<W: Write>(parts: &[Node], marks: &mut Marks<'_>, f: &mut Formatter<W>) -> fmt::Result
-    ensures written { (all : List Span) (at : ℕ) → marks.old.left.now ≡ drop at all →
+    ensures written { (all : List Span) (at : ℕ) → iter_rest marks.old ≡ drop at all →
         WritesOnOk W.write_str_gives f.old result (text.row_json (text.span_mark all) at true (trees parts.now) ++ codes "]") f.new }
-    ensures passed { OnOk result (marks.new.left.now ≡ drop (nodes_in_row (trees parts.now)) marks.old.left.now) }
+    ensures passed { OnOk result (iter_rest marks.new ≡ drop (nodes_in_row (trees parts.now)) (iter_rest marks.old)) }
 {
     let mut first = true;
     for part in parts {

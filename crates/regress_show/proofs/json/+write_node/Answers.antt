@@ -1,6 +1,7 @@
 -- What was written before, the node, and what is still to come.
 use Rattle.std.proofs.Common.{◌≡◌, ◌+◌, ◌∷◌, ◌∙◌, refl, sym, ap, arith, rules, drop}
 use Rattle.std.specs.Prelude.{Result, Ok, Err, OnOk}
+use Rattle.std.specs.Slice.Iter.{iter_rest}
 use Rattle.std.specs.Fmt.{HasWritten}
 use Rattle.std.specs.declared.fmt.Error.{Error}
 use Rattle.std.proofs.Math.Nat.{add-zero}
@@ -34,7 +35,7 @@ write_further-loop-left-preserved g t c =
     let own = c.in_ok-write_node.ensures in
     record {
       smaller = omega (arith, c.in-Some.ensures.smaller.1, l.invariant.smaller);
-      passed = ap (drop (shown right)) own.passed ∙ drop-drop (shown right) (nodes left) l.marks.left.now
+      passed = ap (drop (shown right)) own.passed ∙ drop-drop (shown right) (nodes left) (iter_rest l.marks)
           ∙ (rw c.in-Some.ensures.sides at l.invariant.passed);
       completes = λ all at is plain.
           let so_far = l.invariant.completes all at is plain in
@@ -63,10 +64,10 @@ pub write_further-returns-clause-passed : goal.write_further-returns-clause-pass
 write_further-returns-clause-passed g t c =
     let last = tree c.loop-left.last.now in
     let right = tree c.args.right.now in
-    let old = c.args.marks.now.left.now in
+    let old = (iter_rest c.args.marks.now) in
     always c.write_str-3.result (c.pass_alternations.ensures
     ∙ ap (drop (alternations right)) (c.in_ok-write_node-2.ensures.passed
-    ∙ ap (λ n. drop n c.loop-left.marks.left.now) (shown-last last c.in_default.ensures.sides) ∙ c.loop-left.invariant.passed)
+    ∙ ap (λ n. drop n (iter_rest c.loop-left.marks)) (shown-last last c.in_default.ensures.sides) ∙ c.loop-left.invariant.passed)
     ∙ drop-drop (alternations right) (shown right) old ∙ ap (λ n. drop n old) (sym (nodes-shown right)))
 
 pub write_node-returns-clause-written : goal.write_node-returns-clause-written
@@ -75,7 +76,7 @@ write_node-returns-clause-written g t c all at is plain ok =
     let node = tree c.args.node.now in
     let mark = span_mark all in
     let front = c.in_ok-write_opening.ensures plain refl in
-    let so_far : HasWritten took c.args.f.now (unended mark at node) c.match-node.f × (c.match-node.marks.left.now ≡ drop (at + within node) all) =
+    let so_far : HasWritten took c.args.f.now (unended mark at node) c.match-node.f × ((iter_rest c.match-node.marks) ≡ drop (at + within node) all) =
     elim c.match-node.branch [
       | write_node-in-Cat+in_ok-write_row-in-Cat w ↦
           let one = rw (w.in-Cat.is, tree-Cat) at front in
@@ -114,8 +115,8 @@ write_node-returns-clause-written g t c all at is plain ok =
 pub write_node-returns-clause-passed : goal.write_node-returns-clause-passed
 write_node-returns-clause-passed g t c =
     let node = tree c.args.node.now in
-    let old = c.args.marks.now.left.now in
-    let so_far : c.match-node.marks.left.now ≡ drop (within node) old =
+    let old = (iter_rest c.args.marks.now) in
+    let so_far : (iter_rest c.match-node.marks) ≡ drop (within node) old =
     elim c.match-node.branch [
       | write_node-in-Cat+in_ok-write_row-in-Cat w ↦
           rw (w.marks-is, w.in-Cat.is, tree-Cat) (rw w.deref.ensures.value at w.in_ok-write_row-in-Cat.ensures.passed)
@@ -148,7 +149,7 @@ write_row-loop-part-preserved g t c =
     let own = c.in_ok-write_node.ensures in
     record {
       passed = ap (drop (nodes_in_row (trees behind))) own.passed
-          ∙ drop-drop (nodes_in_row (trees behind)) (nodes part) l.marks.left.now
+          ∙ drop-drop (nodes_in_row (trees behind)) (nodes part) (iter_rest l.marks)
           ∙ (rw cut at l.invariant.passed);
       completes = λ all at is plain.
           let so_far = l.invariant.completes all at is plain in
@@ -177,4 +178,4 @@ write_row-returns-clause-passed g t c =
     let l = c.loop-part in
     let parts = c.args.parts.now in
     always c.write_str.result
-    (sym (at_drop_all (λ ps. drop (nodes_in_row (trees ps)) l.marks.left.now) parts l.part-index c.loop-part-test.false) ∙ l.invariant.passed)
+    (sym (at_drop_all (λ ps. drop (nodes_in_row (trees ps)) (iter_rest l.marks)) parts l.part-index c.loop-part-test.false) ∙ l.invariant.passed)

@@ -1,5 +1,6 @@
 -- What is still to come completes the whole, and passes the spans that are still to be passed.
 use Rattle.std.proofs.Common.{◌≡◌, ◌≤◌, ℕ, List, true, drop}
+use Rattle.std.specs.Slice.Iter.{iter_rest}
 use Rattle.std.specs.Fmt.{IsPlainFormatter}
 use Rattle.regress_spans.specs.declared.span.Span.{Span}
 use Rattle.regress_tree.specs.declared.ir.node.Node.{size-Node}
@@ -14,9 +15,9 @@ invariant-write_further-loop-left g l =
     let took = g.W.Write.write_str_gives in
     record {
       smaller : size-Node l.last ≤ size-Node l.right;
-      passed : drop (shown (tree l.last)) l.marks.left.now ≡ drop (shown (tree l.right)) l.fn.marks.left.now;
-      completes : (all : List Span) (at : ℕ) → l.fn.marks.left.now ≡ drop at all → IsPlainFormatter l.fn.f →
-          Completes took l.fn.f l.f all l.marks.left.now (λ n. further_json (span_mark all) n (tree l.right))
+      passed : drop (shown (tree l.last)) (iter_rest l.marks) ≡ drop (shown (tree l.right)) (iter_rest l.fn.marks);
+      completes : (all : List Span) (at : ℕ) → (iter_rest l.fn.marks) ≡ drop at all → IsPlainFormatter l.fn.f →
+          Completes took l.fn.f l.f all (iter_rest l.marks) (λ n. further_json (span_mark all) n (tree l.right))
           (λ n. further_json (span_mark all) n (tree l.last)) at;
     }
 
@@ -28,8 +29,8 @@ invariant-write_row-loop-part g l =
     let took = g.W.Write.write_str_gives in
     let rest = trees (drop l.part-index l.parts) in
     record {
-      passed : drop (nodes_in_row rest) l.marks.left.now ≡ drop (nodes_in_row (trees l.parts)) l.fn.marks.left.now;
-      completes : (all : List Span) (at : ℕ) → l.fn.marks.left.now ≡ drop at all → IsPlainFormatter l.fn.f →
-          Completes took l.fn.f l.f all l.marks.left.now (λ n. row_json (span_mark all) n true (trees l.parts))
+      passed : drop (nodes_in_row rest) (iter_rest l.marks) ≡ drop (nodes_in_row (trees l.parts)) (iter_rest l.fn.marks);
+      completes : (all : List Span) (at : ℕ) → (iter_rest l.fn.marks) ≡ drop at all → IsPlainFormatter l.fn.f →
+          Completes took l.fn.f l.f all (iter_rest l.marks) (λ n. row_json (span_mark all) n true (trees l.parts))
           (λ n. row_json (span_mark all) n l.first rest) at;
     }

@@ -1,11 +1,14 @@
 use Rattle.std.proofs.Common.{◌∙◌, ap, drop}
+use Rattle.std.specs.Slice.Iter.{iter_rest}
 use Rattle.std.proofs.lemmas.List.{drop-drop}
 use Rattle.regress_tree.specs.Tree.{tree}
 use Rattle.regress_show.specs.Passed.{alternations}
-use Rattle.regress_show.proofs.marks.Marks.pass_alternations.Goals as goal
+use Rattle.regress_show.proofs.JsonLemmas.{next-passed}
+use Rattle.regress_show.proofs.marks.pass_alternations.Goals as goal
 
 pub loop-right-preserved : goal.loop-right-preserved
 loop-right-preserved c =
     let below = alternations (tree c.in-Some.right.now) in
-    ap (drop below) c.next.ensures.rest ∙ drop-drop below 1 c.loop-right.self.left.now
+    let marks = c.loop-right.marks in
+    ap (drop below) (next-passed marks c.next.new.self c.next.result c.next.ensures.steps) ∙ drop-drop below 1 (iter_rest marks)
     ∙ (rw c.in-Some.ensures.sides at c.loop-right.invariant)

@@ -1,0 +1,9 @@
+use Rattle.std.proofs.Common.{◌≡◌, drop}
+use Rattle.std.specs.Slice.Iter.{iter_rest}
+use Rattle.regress_tree.specs.Tree.{tree}
+use Rattle.regress_show.specs.Passed.{alternations}
+use Rattle.regress_show.proofs.marks.pass_alternations.Given as goal
+
+-- those further down are still to be passed
+abbrev pub invariant-loop-right : goal.invariant-loop-right
+invariant-loop-right l = drop (alternations (tree l.rest)) (iter_rest l.marks) ≡ drop (alternations (tree l.fn.right)) (iter_rest l.fn.marks)
