@@ -165,7 +165,8 @@ quoted unicode t inside found opens moved e =
 pub string_at : (strings : List (Vec ℕ Global)) (i : ℕ) (string : Vec ℕ Global) → All (All IsCodePoint) (strings_of strings) →
     i < length strings → string ≡ get_or strings i string → All IsCodePoint string.items
 string_at strings i string each lt is =
-    subst (All IsCodePoint) (get_or-map (λ (other : Vec ℕ Global). other.items) strings i string string.items lt ∙ ap (λ (other : Vec ℕ Global). other.items) (sym is))
+    subst (All IsCodePoint) (get_or-map (λ (other : Vec ℕ Global). other.items) strings i string string.items lt ∙ ap
+    (λ (other : Vec ℕ Global). other.items) (sym is))
     (each i string.items (omega (arith, length-map strings (λ (other : Vec ℕ Global). other.items))))
 
 pub one_more_held : (strings : List (Vec ℕ Global)) (i : ℕ) (string : Vec ℕ Global) (copy : List ℕ) (new : CodeValue) → i < length strings →

@@ -28,7 +28,8 @@ module _ (left right : Tree) where
   stays : ((match_always_fails left ≡ false) × (match_always_fails right ≡ false)) ⊎ ((has_group left || has_group right) ≡ true) →
       is_failed_away (alt left right) ≡ false
   stays (inl neither) = ap (λ b. b && not (has_group left || has_group right)) (ap₂ ◌||◌ neither.0 neither.1)
-  stays (inr grouped) = ap (λ b. (match_always_fails left || match_always_fails right) && not b) grouped ∙ by (match_always_fails left || match_always_fails right)
+  stays (inr grouped) = ap (λ b. (match_always_fails left || match_always_fails right) && not b) grouped ∙ by
+      (match_always_fails left || match_always_fails right)
     where
       by : (b : Bool) → (b && false) ≡ false
       by true = refl

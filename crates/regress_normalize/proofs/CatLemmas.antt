@@ -78,7 +78,8 @@ module _ {S : Type 0} (R : S → Node → Node → Bool → S → Node → Node 
       let taken = takes s x k true t x' k' r in
       behind_empties t k' xs ys rest
       ∙ ap (λ (u : Tree). is_empty u || some_in_row is_empty (trees xs)) taken.is
-      ∙ sym (ap₂ (λ (u v : Tree). is_empty u || (is_empty v || some_in_row is_empty (trees xs))) (is_written (tree k) taken.own).is (is_written (tree x) taken.more).is)
+      ∙ sym (ap₂ (λ (u v : Tree). is_empty u || (is_empty v || some_in_row is_empty (trees xs))) (is_written (tree k) taken.own).is
+      (is_written (tree x) taken.more).is)
   behind_empties s k (x ∷ xs) ys (false, t, x', k', r, (zs, rest, is)) =
       let same = takes s x k false t x' k' r in
       ap (λ ns. some_in_row is_empty (trees ns)) is

@@ -214,11 +214,14 @@ joins backwards before behind a b =
 pub takes_packs : (d : Direction) (before behind : Trees) (old part new : Tree) → TakesBytes old part new →
     Packs d (in_text_order d (row_append before (more_trees old (more_trees part behind)))) (in_text_order d (row_append before (more_trees new behind)))
 takes_packs d before behind old part new takes =
-    subst (λ (t : Tree). Packs d (in_text_order d (row_append before (more_trees t (more_trees part behind)))) (in_text_order d (row_append before (more_trees new behind))))
+    subst (λ (t : Tree). Packs d (in_text_order d (row_append before (more_trees t (more_trees part behind))))
+    (in_text_order d (row_append before (more_trees new behind))))
     (sym (is_written old takes.own).is)
-    (subst (λ (t : Tree). Packs d (in_text_order d (row_append before (more_trees (written (bytes_of old)) (more_trees t behind)))) (in_text_order d (row_append before (more_trees new behind))))
+    (subst (λ (t : Tree). Packs d (in_text_order d (row_append before (more_trees (written (bytes_of old)) (more_trees t behind))))
+    (in_text_order d (row_append before (more_trees new behind))))
     (sym (is_written part takes.more).is)
-    (subst (λ (t : Tree). Packs d (in_text_order d (row_append before (more_trees (written (bytes_of old)) (more_trees (written (bytes_of part)) behind)))) (in_text_order d (row_append before (more_trees t behind))))
+    (subst (λ (t : Tree). Packs d (in_text_order d (row_append before (more_trees (written (bytes_of old)) (more_trees (written (bytes_of part)) behind))))
+    (in_text_order d (row_append before (more_trees t behind))))
     (sym takes.is) (joins d before behind (bytes_of old) (bytes_of part))))
 
 -- ---- nothing to pack

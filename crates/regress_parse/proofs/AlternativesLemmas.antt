@@ -256,7 +256,8 @@ lone-yields table names d ctx depth t before new (Err fault) none read =
     on_kind_then fault (λ kind. first-fail table names ctx kind depth t before) read
 
 -- so is a later one
-pub alternatives-fail : (table : Table) (names : List (Option Name)) (d : Direction) (ctx : Context) (kind : FaultKind) (depth : ℕ) (t0 : Source) (before : Counts)
+pub alternatives-fail : (table : Table) (names : List (Option Name)) (d : Direction) (ctx : Context) (kind : FaultKind) (depth : ℕ) (t0 : Source)
+    (before : Counts)
     (t : Source) (now : Counts) (nodes : List Node) (final : Node) → AlternativesSoFar table names d ctx depth t0 before t now nodes final →
     is_at bar t ≡ true → IfSome (terms_at ctx (drop 1 t)) (λ x. Exceeds kind now (depth + 1) (terms_part table names x.0)) →
     IfSome (pattern_at ctx t0) (λ x. Exceeds kind before depth (pattern_part table names x.0))

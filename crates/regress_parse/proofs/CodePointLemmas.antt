@@ -80,7 +80,8 @@ module _ (n : ℕ) (table : Table) where
       (λ _. finds_cond _ (is_at 61 t) _ _ (λ _. finds_some _ _ tt)
       (λ _. finds_cond _ (is_at 33 t) _ _ (λ _. finds_some _ _ tt)
       (λ _. finds_cond _ (is_at 60 t) _ _ (λ _. angle_at-good t)
-      (λ _. finds_map (λ (_ : Change). Unit {0}) (IsGoodHead n) (λ change. opens (modified change)) (modifiers_at t) (λ x h. tt) (finds_any (modifiers_at t))))))
+      (λ _. finds_map (λ (_ : Change). Unit {0}) (IsGoodHead n) (λ change. opens (modified change)) (modifiers_at t) (λ x h. tt)
+      (finds_any (modifiers_at t))))))
 
   group_at-good : (t : Source) → Finds (IsGoodHead n) (group_at table t)
   group_at-good t = finds_cond _ (is_at question_mark t) _ _ (λ _. behind_mark_at-good (drop 1 t)) (λ _. finds_some _ _ tt)

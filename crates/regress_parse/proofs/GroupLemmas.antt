@@ -146,7 +146,8 @@ module _ (table : Table) (all : List (Option Name)) where
     permuted-trees_of_terms d n no_terms = IsPermutation-refl []
     permuted-trees_of_terms d n (more_terms x q xs) =
         both_permuted n _ _ _ _ _ (length-names_of_term x q)
-        (subst (IsPermutation _) (sym (captures-tree_of_times q n (n + (counts_of_item x).groups) (tree_of_item table all d n x))) (permuted-tree_of_item d n x))
+        (subst (IsPermutation _) (sym (captures-tree_of_times q n (n + (counts_of_item x).groups) (tree_of_item table all d n x)))
+        (permuted-tree_of_item d n x))
         (permuted-trees_of_terms d (n + (counts_of_term x q).groups) xs)
 
     permuted-tree_of_item : (d : Direction) (n : ℕ) (x : Item) →

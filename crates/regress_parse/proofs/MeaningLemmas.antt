@@ -245,7 +245,8 @@ module _ (setting : Setting) (text : List ℕ) (is_text : IsText text) where
         let strings = strings_part icase (longest_first value.strings) in
         let bracket' = bracket_part (not (has_strings value)) negated (intervals_of p) in
         let empty' = empty_part value.has_empty in
-        subst (TreeSimulates setting text d _) (sym (tree_of_class-parts icase negated value (intervals_of p))) (alternation_simulates d _ (strings ++ bracket' ++ empty')
+        subst (TreeSimulates setting text d _) (sym (tree_of_class-parts icase negated value (intervals_of p)))
+        (alternation_simulates d _ (strings ++ bracket' ++ empty')
         (all_simulate d _ _ (strings ++ bracket') empty'
         (all_simulate d _ _ strings bracket' (strings_part_simulates d icase (longest_first value.strings))
         (bracket_part_simulates (not (has_strings value)) negated (intervals_of p) (bracket_simulates d negated p q e)))

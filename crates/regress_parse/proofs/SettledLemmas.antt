@@ -30,7 +30,8 @@ none_begins setting flaw t left place lawful first split is behind p accepted =
     subst (λ (u : Source). Shows flaw 1 (marks sets setting.table plain (u ++ behind))) (sym front)
     (shows_front flaw sets setting.table plain 1 t left place behind (omega arith) first split is) in
     shows_none flaw p accepted.limits.levels
-    (subst (Shows flaw 1) (sym (gives_marks sets setting.table (take (place + 1) t ++ behind) lawful (own_context setting p) p refl refl accepted.derived)) shown)
+    (subst (Shows flaw 1) (sym (gives_marks sets setting.table (take (place + 1) t ++ behind) lawful (own_context setting p) p refl refl accepted.derived))
+    shown)
 
 located_settles : (setting : Setting) (t : Source) (r : Refusal) → IsLawful setting.table → IsLocated setting.flags.unicode_sets t r →
     IsSettled setting t r.kind (length t - r.left)

@@ -165,7 +165,8 @@ module _ (table : Table) (names : List (Option Name)) (ctx : Context) where
       ∙ ap (found_map (λ (q : Option Quantifier). (x.0, q))) behind
 
   -- one loop too many is too many for the term
-  pub times-too_many : (kind : FaultKind) → kind ≡ TooManyLoops → (found : Found Term) (rest : Source) (x : Item) (q : Quantifier) (before : Counts) (depth : ℕ) → found ≡ Some ((x, Some q), rest) →
+  pub times-too_many : (kind : FaultKind) → kind ≡ TooManyLoops → (found : Found Term) (rest : Source) (x : Item) (q : Quantifier) (before : Counts)
+      (depth : ℕ) → found ≡ Some ((x, Some q), rest) →
       max_loops < before.loops + (counts_of_item x).loops + 1 →
       IfSome found (λ x. Exceeds kind before depth (term_part table names x.0))
   times-too_many kind told found rest x q before depth read many =

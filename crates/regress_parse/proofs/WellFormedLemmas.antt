@@ -96,7 +96,8 @@ module _ (m : ℕ) where
   class_set_may_stand : (icase negated : Bool) (p : ℕ → Bool) (value : Value) → OfCodePoints value.strings →
       MayStand m (tree_of_class icase negated value (intervals_of p)) inside
   class_set_may_stand icase negated p value bounded =
-      subst (λ t. MayStand m t inside) (sym (tree_of_class-parts icase negated value (intervals_of p))) (alternation_may_stand (class_parts icase negated value (intervals_of p))
+      subst (λ t. MayStand m t inside) (sym (tree_of_class-parts icase negated value (intervals_of p)))
+      (alternation_may_stand (class_parts icase negated value (intervals_of p))
       (class_parts-have (λ t. MayStand m t inside) icase negated value (intervals_of p)
       (strings_may_stand icase (longest_first value.strings) (All-longest_first (All IsCodePoint) value.strings bounded))
       (bracket_may_stand negated p) tt))

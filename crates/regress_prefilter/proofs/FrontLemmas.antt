@@ -47,7 +47,8 @@ all_more P Q f (x ∷ xs) all = All-cons Q x xs (f x (All-head P x xs all)) (all
 pub begins_more : (set set' : ℕ → Bool) (through through' : Bool) (bytes : List ℕ) (f : Step) → ((b : ℕ) → IsTrue (set b) → IsTrue (set' b)) →
     (through ≡ true → through' ≡ true) → Begins set through bytes f → Begins set' through' bytes f
 begins_more set set' through through' bytes f more on begins =
-    λ s. all_more _ (λ t. IsBegun set' through' bytes s.place t.place) (λ t. begun_more set set' through through' bytes s.place t.place more on) (f s) (begins s)
+    λ s. all_more _ (λ t. IsBegun set' through' bytes s.place t.place) (λ t. begun_more set set' through through' bytes s.place t.place more on) (f s)
+    (begins s)
 
 module _ (set : ℕ → Bool) (bytes : List ℕ) where
   -- from one outcome on
@@ -106,19 +107,22 @@ module _ (set : ℕ → Bool) (bytes : List ℕ) where
 
   begins-turns : (through : Bool) (n : ℕ) (f : Step) → Begins set through bytes f → Begins set true bytes (turns n f)
   begins-turns through zero f first = begins-stay
-  begins-turns through (suc n) f first = begins-maybe through true (turns (suc n) f) (begins_then through true f (turns n f) first (begins-turns through n f first))
+  begins-turns through (suc n) f first = begins-maybe through true (turns (suc n) f)
+      (begins_then through true f (turns n f) first (begins-turns through n f first))
 
   begins-up_to : (through : Bool) (greedy : Bool) (n : ℕ) (f : Step) → Begins set through bytes f → Begins set true bytes (up_to greedy n f)
   begins-up_to through greedy zero f first = begins-stay
   begins-up_to through true (suc n) f first =
       let more : Step = moving f then_ up_to true n f in
       begins_or true more stay
-      (begins-maybe through true more (begins_then through true (moving f) (up_to true n f) (begins-moving through f first) (begins-up_to through true n f first)))
+      (begins-maybe through true more (begins_then through true (moving f) (up_to true n f) (begins-moving through f first)
+      (begins-up_to through true n f first)))
       begins-stay
   begins-up_to through false (suc n) f first =
       let more : Step = moving f then_ up_to false n f in
       begins_or true stay more begins-stay
-      (begins-maybe through true more (begins_then through true (moving f) (up_to false n f) (begins-moving through f first) (begins-up_to through false n f first)))
+      (begins-maybe through true more (begins_then through true (moving f) (up_to false n f) (begins-moving through f first)
+      (begins-up_to through false n f first)))
 
   or-right : (a b : Bool) → b ≡ true → (a || b) ≡ true
   or-right true b is = refl
@@ -193,7 +197,8 @@ module _ (set : ℕ → Bool) (bytes : List ℕ) where
     where
       tested : (b : Bool) → (b ≡ true → IsMemberAt set bytes s.place) →
           All (λ t. IsBegun set false bytes s.place t.place) (if b then record s { place = read.place } ∷ [] else [])
-      tested true h = All-cons (λ t. IsBegun set false bytes s.place t.place) (record s { place = read.place }) [] (inl (h refl)) (All-nil (λ t. IsBegun set false bytes s.place t.place))
+      tested true h = All-cons (λ t. IsBegun set false bytes s.place t.place) (record s { place = read.place }) [] (inl (h refl))
+          (All-nil (λ t. IsBegun set false bytes s.place t.place))
       tested false h = All-nil (λ t. IsBegun set false bytes s.place t.place)
 
   pub begins-one : (test : ℕ → Bool) → ((c : ℕ) → test c ≡ true → IsCovered set c) → Begins set false bytes (one_character forwards (of_bytes bytes) test)
@@ -277,7 +282,8 @@ pub not-one : (a b : Bool) → a ≡ false → (a || b) ≡ true → b ≡ true
 not-one true b off is = let bad : ⊥ = cc in absurd bad
 not-one false b off is = is
 
-pub front_then : (a b : Front) (set : ℕ → Bool) (through : Bool) (bytes : List ℕ) (f g : Step) → ((x : ℕ) → set x ≡ (contains a.bytes x || contains b.bytes x)) →
+pub front_then : (a b : Front) (set : ℕ → Bool) (through : Bool) (bytes : List ℕ) (f g : Step) →
+    ((x : ℕ) → set x ≡ (contains a.bytes x || contains b.bytes x)) →
     ((a.through && b.through) ≡ true → through ≡ true) → IsFrontOf a bytes f → IsFrontOf b bytes g → Begins set through bytes (f then_ g)
 front_then a b set through bytes f g members on first second =
     begins_more set set (a.through && b.through) through bytes (f then_ g) (λ x h. h) on
@@ -312,7 +318,8 @@ abbrev pub is_still : Tree → Bool
 is_still (leaf l) = is_still_leaf l
 is_still t = false
 
-still-leaf : (set : ℕ → Bool) (setting : Setting) (bytes : List ℕ) (l : Leaf) → is_still_leaf l ≡ true → Begins set true bytes (leaf_steps setting bytes forwards l)
+still-leaf : (set : ℕ → Bool) (setting : Setting) (bytes : List ℕ) (l : Leaf) → is_still_leaf l ≡ true → Begins set true bytes
+    (leaf_steps setting bytes forwards l)
 still-leaf set setting bytes empty is = begins-stay set bytes
 still-leaf set setting bytes goal is = begins-stay set bytes
 still-leaf set setting bytes (anchor kind multiline) is = begins-hold set bytes (at_anchor (of_bytes bytes) kind multiline)
@@ -356,7 +363,8 @@ if-some (Some x) f h = f x h
 pub spine-start : (front : Front) (t : Tree) → IsSpine front t t
 spine-start front t = λ setting bytes. (λ s. [], λ s. All-nil _, λ s. refl)
 
-pub spine-next : (a b r : Front) (whole left right : Tree) → ((bytes : List ℕ) (f g : Step) → IsFrontOf a bytes f → IsFrontOf b bytes g → IsFrontOf r bytes (f or_ g)) →
+pub spine-next : (a b r : Front) (whole left right : Tree) → ((bytes : List ℕ) (f g : Step) → IsFrontOf a bytes f → IsFrontOf b bytes g → IsFrontOf r bytes
+    (f or_ g)) →
     IsSpine a whole (alt left right) → IsFront b left → IsSpine r whole right
 spine-next a b r whole left right or so_far front =
     λ setting bytes.
@@ -368,7 +376,8 @@ spine-next a b r whole left right or so_far front =
       λ s. before.2 s ∙ sym (append_assoc (before.0 s) (L s) (R s)),
     )
 
-pub spine-last : (a b r : Front) (whole rest : Tree) → ((bytes : List ℕ) (f g : Step) → IsFrontOf a bytes f → IsFrontOf b bytes g → IsFrontOf r bytes (f or_ g)) →
+pub spine-last : (a b r : Front) (whole rest : Tree) → ((bytes : List ℕ) (f g : Step) → IsFrontOf a bytes f → IsFrontOf b bytes g → IsFrontOf r bytes
+    (f or_ g)) →
     IsSpine a whole rest → IsFront b rest → IsFront r whole
 spine-last a b r whole rest or so_far front =
     λ setting bytes.
@@ -377,7 +386,8 @@ spine-last a b r whole rest or so_far front =
     (or bytes before.0 (steps setting bytes forwards rest) before.1 (front setting bytes))
 
 -- parts in a row
-pub row-next : (a b r : Front) (ts : Trees) (t : Tree) → ((bytes : List ℕ) (f g : Step) → IsFrontOf a bytes f → IsFrontOf b bytes g → IsFrontOf r bytes (f then_ g)) →
+pub row-next : (a b r : Front) (ts : Trees) (t : Tree) → ((bytes : List ℕ) (f g : Step) → IsFrontOf a bytes f → IsFrontOf b bytes g → IsFrontOf r bytes
+    (f then_ g)) →
     IsFront a (cat ts) → IsFront b t → IsFront r (cat (row_append ts (more_trees t no_trees)))
 row-next a b r ts t then' so_far front =
     λ setting bytes.

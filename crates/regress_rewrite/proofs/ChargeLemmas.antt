@@ -68,4 +68,5 @@ levels-positive (wrapped w body) = omega arith
 
 -- a tree has a node and a level
 pub charged-none : (most budget : ℕ) (t : Tree) → (1 ≤ most → 1 ≤ budget → ⊥) → None ≡ after_charge most budget t
-charged-none most budget t none = none_of most budget (has_loop t) (has_string_set t) (charge t) (levels t) (total-positive charges charge_of_leaf-positive (omega arith) (omega arith) (λ w. omega arith) t) (levels-positive t) none
+charged-none most budget t none = none_of most budget (has_loop t) (has_string_set t) (charge t) (levels t)
+    (total-positive charges charge_of_leaf-positive (omega arith) (omega arith) (λ w. omega arith) t) (levels-positive t) none

@@ -33,7 +33,8 @@ module _ {R : Type 0} (step : R → Tree → Walk → Result PassAction AllocErr
     inside_stays : (t : Tree) (d : ℕ) (behind : Bool) (a : R) → Inside (Applied step unicode) true d behind t t (a, false) (a, false)
     inside_stays (leaf l) d behind a = in_leaf
     inside_stays (cat parts) d behind a = in_cat (row_stays parts (deeper d) behind a)
-    inside_stays (alt left right) d behind a = in_alt (after left (deeper d) behind a (inside_stays left (deeper d) behind a)) (after right (deeper d) behind a (inside_stays right (deeper d) behind a))
+    inside_stays (alt left right) d behind a = in_alt (after left (deeper d) behind a (inside_stays left (deeper d) behind a))
+        (after right (deeper d) behind a (inside_stays right (deeper d) behind a))
     inside_stays (wrapped w body) d behind a = in_wrapped (after body (deeper d) (turned_by w behind) a (inside_stays body (deeper d) (turned_by w behind) a))
 
     pub row_stays : (ts : Trees) (d : ℕ) (behind : Bool) (a : R) → RowVisited (Applied step unicode) true d behind ts ts (a, false) (a, false)

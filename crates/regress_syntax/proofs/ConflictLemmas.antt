@@ -247,12 +247,14 @@ conflict-captures a b e =
 abbrev by_name_and_path : NamedGroup → NamedGroup → Ordering
 by_name_and_path =
     then_cmp (on (λ (g : NamedGroup). g.name.items) (slice_cmp nat_cmp))
-    (then_cmp (on (λ (g : NamedGroup). g.path.levels.items) by_levels) (then_cmp (on (λ (g : NamedGroup). g.left) nat_cmp) (on (λ (g : NamedGroup). g.number) nat_cmp)))
+    (then_cmp (on (λ (g : NamedGroup). g.path.levels.items) by_levels) (then_cmp (on (λ (g : NamedGroup). g.left) nat_cmp)
+    (on (λ (g : NamedGroup). g.number) nat_cmp)))
 
 is_order : IsStrictWeakOrder (λ x y. is_lt (by_name_and_path x y))
 is_order =
     ranks_by (then_total (on_total (λ (g : NamedGroup). g.name.items) nat_list_cmp_total)
-    (then_total (on_total (λ (g : NamedGroup). g.path.levels.items) by_levels_total) (then_total (on_total (λ (g : NamedGroup). g.left) nat_cmp_total) (on_total (λ (g : NamedGroup). g.number) nat_cmp_total))))
+    (then_total (on_total (λ (g : NamedGroup). g.path.levels.items) by_levels_total)
+    (then_total (on_total (λ (g : NamedGroup). g.left) nat_cmp_total) (on_total (λ (g : NamedGroup). g.number) nat_cmp_total))))
     (λ (g : NamedGroup). g)
 
 groups_between : (x y z : NamedGroup) → is_lt (by_name_and_path y x) ≡ false → is_lt (by_name_and_path z y) ≡ false →
@@ -287,7 +289,8 @@ apart_in_any_order found in_order moved sorted near =
     (λ k d l. false_from_ne_true _ (λ e. true≢false (near k d l ∙ not_from_true _ e))))
 
 pub conflict_in_any_order : (found in_order : List NamedGroup) → IsPermutation found in_order →
-    (k : ℕ) × (k + 1 < length in_order) × ((d : NamedGroup) → false ≡ not (conflict (capture_of (get_or in_order k d)) (capture_of (get_or in_order (k + 1) d)))) →
+    (k : ℕ) × (k + 1 < length in_order) × ((d : NamedGroup) → false ≡ not (conflict (capture_of (get_or in_order k d))
+    (capture_of (get_or in_order (k + 1) d)))) →
     are_apart (map capture_of found) ≡ false
 conflict_in_any_order found [] moved (k, l, e) = absurd (omega arith)
 conflict_in_any_order found (g ∷ gs) moved (k, l, e) =

@@ -54,7 +54,8 @@ numbers_named name n (Some other ∷ names) = by (bytes_eq other name) (numbers_
     rest = filter (λ (p : Name × ℕ). bytes_eq p.0 name) (numbered (n + 1) names)
 
     by : (b : Bool) → map (λ (p : Name × ℕ). p.1) (filter (λ (p : Name × ℕ). bytes_eq p.0 name) (numbered (n + 1) names)) ≡ groups_named name (n + 1) names →
-        map (λ (p : Name × ℕ). p.1) (cond b ((other, n) ∷ filter (λ (p : Name × ℕ). bytes_eq p.0 name) (numbered (n + 1) names)) (filter (λ (p : Name × ℕ). bytes_eq p.0 name) (numbered (n + 1) names)))
+        map (λ (p : Name × ℕ). p.1) (cond b ((other, n) ∷ filter (λ (p : Name × ℕ). bytes_eq p.0 name) (numbered (n + 1) names))
+        (filter (λ (p : Name × ℕ). bytes_eq p.0 name) (numbered (n + 1) names)))
         ≡ cond b (n ∷ groups_named name (n + 1) names) (groups_named name (n + 1) names)
     by true e = ap (λ (ks : List ℕ). n ∷ ks) e
     by false e = e
@@ -158,7 +159,13 @@ module _ (names : List (Option Name)) (text sorted : List NamedGroup) (moved : I
       rises (g ∷ gs) same up i j d le lt =
           let l : j < length (g ∷ gs) = omega (arith, lt, length-map (g ∷ gs) (λ (g : NamedGroup). g.number)) in
           let k : i < length (g ∷ gs) = omega (arith, l, le) in
-          rw (get_or-map (λ (g : NamedGroup). g.number) (g ∷ gs) i g d k, get_or-map (λ (g : NamedGroup). g.number) (g ∷ gs) j g d l, same i g k, same j g l) (up i j g le l)
+          rw (
+            get_or-map (λ (g : NamedGroup). g.number) (g ∷ gs) i g d k,
+            get_or-map (λ (g : NamedGroup). g.number) (g ∷ gs) j g d l,
+            same i g k,
+            same j g
+                l,
+          ) (up i j g le l)
 
   -- those of a name stand as they did
   name_kept : IsStableBy is_before text sorted → (name : Name) →
@@ -201,12 +208,19 @@ module _ (names : List (Option Name)) (text sorted : List NamedGroup) (moved : I
 -- ---- one group more
 
 -- the group behind others
-pub number_added : (old new : List NamedGroup) (group : NamedGroup) (name : Vec ℕ Global) (given : Option (Vec ℕ Global)) (names names' : List (Option (Vec ℕ Global))) →
+pub number_added : (old new : List NamedGroup) (group : NamedGroup) (name : Vec ℕ Global) (given : Option (Vec ℕ Global))
+    (names names' : List (Option (Vec ℕ Global))) →
     given ≡ Some name → group.name.items ≡ name.items → group.number ≡ length names + 1 → new ≡ old ++ group ∷ [] → names' ≡ names ++ given ∷ [] →
     map name_and_number old ≡ numbered 1 (names_of names) → map name_and_number new ≡ numbered 1 (names_of names')
 number_added old new group name given names names' e same number pushed more h =
-    let known : names_of (given ∷ []) ≡ Some group.name.items ∷ [] = ap (λ (x : Option (Vec ℕ Global)). names_of (x ∷ [])) e ∙ ap (λ (n : Name). Some n ∷ []) (sym same) in
-    let here : 1 + length (names_of names) ≡ group.number = omega (arith, number, length-map names (option_map {T = Vec ℕ Global} {U = List ℕ} (λ name. name.items))) in
+    let known : names_of (given ∷ []) ≡ Some group.name.items ∷ [] = ap (λ (x : Option (Vec ℕ Global)). names_of (x ∷ [])) e ∙ ap
+    (λ (n : Name). Some n ∷ []) (sym same) in
+    let here : 1 + length (names_of names) ≡ group.number = omega (
+      arith,
+      number,
+      length-map names
+          (option_map {T = Vec ℕ Global} {U = List ℕ} (λ name. name.items)),
+    ) in
     ap (map name_and_number) pushed
     ∙ map-append name_and_number old (group ∷ [])
     ∙ ap₂ (λ (xs : List (Name × ℕ)) (k : ℕ). xs ++ (group.name.items, k) ∷ []) h (sym here)

@@ -92,7 +92,8 @@ module _ {table : Table} where
             | None ↦ first_row (class_escape_rows table unicode c t)
           ])
       by (Some named) = leads_some (set (class_members named), t) (pass_escaped (in_class 0 0) c t)
-      by None = first_row-has (Leads false table (class_escape 0 0) (c ∷ t) (class 0 0)) (class_escape_rows table unicode c t) leads_none (class_escape_rows_lead unicode c t)
+      by None = first_row-has (Leads false table (class_escape 0 0) (c ∷ t) (class 0 0)) (class_escape_rows table unicode c t) leads_none
+          (class_escape_rows_lead unicode c t)
 
   lead_class_escape_at : (unicode : Bool) (t : Source) → Leads false table (class_escape 0 0) t (class 0 0) (class_escape_at table unicode t)
   lead_class_escape_at unicode [] = leads_none

@@ -356,7 +356,8 @@ module _ {sets : Bool} {table : Table} where
 
   -- a group without a name
   nameless : (kind : Group) (t rest : Source) → mark_of_group kind ≡ Marks.opens → group_name_at table t ≡ None →
-      Passes sets table plain t plain rest → Gives (named_mark (group_name_at table t) ∷ marks sets table plain t) (behind_head sets table) (Some (opens kind, rest))
+      Passes sets table plain t plain rest → Gives (named_mark (group_name_at table t) ∷ marks sets table plain t) (behind_head sets table)
+      (Some (opens kind, rest))
   nameless kind t rest opens_none none h =
       gives_some (opens kind, rest) (ap₂ (λ a b. a ∷ b) (ap named_mark none ∙ sym opens_none) h.same)
 
@@ -365,7 +366,8 @@ module _ {sets : Bool} {table : Table} where
       subst (λ u. Passes sets table plain t plain u) (drop_one_more t) (passes_then (pass_at in_text 60 t refl e) (pass_at in_text k (drop 1 t) quiet next))
 
 module _ (sets : Bool) {table : Table} (lawful : IsLawful table) where
-  gives_angle_at : (t : Source) → is_at 60 t ≡ true → Gives (named_mark (group_name_at table t) ∷ marks sets table plain t) (behind_head sets table) (angle_at table t)
+  gives_angle_at : (t : Source) → is_at 60 t ≡ true → Gives (named_mark (group_name_at table t) ∷ marks sets table plain t) (behind_head sets table)
+      (angle_at table t)
   gives_angle_at t e =
       gives_cond (is_at 61 (drop 1 t)) _ _
       (λ equals. nameless _ t (drop 2 t) refl (no_group_name_at table 61 t refl (equals_begins_none lawful) equals) (pass_two 61 t refl e equals))

@@ -243,7 +243,8 @@ module _ (table : Table) where
           subst (Gives (within table depth before value.levels t) (behind_class table depth before))
           (sym (parts_joined table unicode inner in_negated n value t))
           (gives_cond (is_at 93 t) _ _ (λ e. gives_some (value, drop 1 t) (pass_close depth before value.levels t e))
-          (λ _. gives_then (behind_part table depth before value.levels) (operand_at table unicode inner in_negated t >>= part_behind table unicode inner in_negated) _
+          (λ _. gives_then (behind_part table depth before value.levels) (operand_at table unicode inner in_negated t >>= part_behind table unicode inner
+          in_negated) _
           (gives_then _ (operand_at table unicode inner in_negated t) _ (gives_operand_at depth before value.levels t)
           (gives_part_behind depth before value.levels))
           (λ x. gives_parts_by n depth before (joined value x.0) x.1)))

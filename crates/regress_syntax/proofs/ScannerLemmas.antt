@@ -135,7 +135,8 @@ behind_captures all rest given old mid new added names named same place counted 
 -- ---- at the end of a pattern
 
 -- as many levels as were counted, unless there are more than can be
-counted : (n d : ℕ) → min n (2 ^ 64 - 1) ≡ min d (2 ^ 64 - 1) → (d ≤ max_nesting_depth → n ≤ max_nesting_depth) × (max_nesting_depth < d → max_nesting_depth < n)
+counted : (n d : ℕ) → min n (2 ^ 64 - 1) ≡ min d (2 ^ 64 - 1) → (d ≤ max_nesting_depth → n ≤ max_nesting_depth) ×
+    (max_nesting_depth < d → max_nesting_depth < n)
 counted n d same = (λ few. omega (arith, same), λ many. omega (arith, same))
 
 pub levels_behind : (all : List Mark) (scanner : Scanner) → Behind all [] scanner → scanner.deepest ≤ max_nesting_depth → deepest 1 all ≤ max_nesting_depth

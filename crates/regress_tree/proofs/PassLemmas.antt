@@ -59,7 +59,8 @@ module _ (parts : List Node) (i : ℕ) (in_row : i < length parts) (d node : Nod
   parts-fail here =
       let rest = trees (drop (suc i) parts) in
       let whole : trees parts ≡ row_append (trees (take i parts)) (row_append (more_trees (tree node) no_trees) rest) =
-      ap trees (split_at parts i d in_row ∙ ap (λ n. take i parts ++ n ∷ drop (suc i) parts) (sym at)) ∙ trees-append (take i parts) (node ∷ drop (suc i) parts) in
+      ap trees (split_at parts i d in_row ∙ ap (λ n. take i parts ++ n ∷ drop (suc i) parts) (sym at)) ∙ trees-append (take i parts)
+      (node ∷ drop (suc i) parts) in
       subst (λ ts. RefusedAt inside (cat ts) before) (sym whole)
       (rows-fail (trees (take i parts)) (row_append (more_trees (tree node) no_trees) rest) before mid g passed
       (rows-fail-first (more_trees (tree node) no_trees) rest mid (single-fail (tree node) mid here)))

@@ -85,7 +85,8 @@ unicode_sound =
     (map (λ n. named_set INTERVALS.now n.0.now n.1 n.2) SCRIPT_REST.now) (canonical_sets (λ name. name.now) INTERVALS.now SCRIPT.now script)
     (canonical_sets (λ name. name.now) INTERVALS.now SCRIPT_REST.now script_rest))
     (All-append (λ entry. IsCanonical entry.value) (map (λ n. named_set INTERVALS.now n.0.now n.1 n.2) SCRIPT_EXTENSIONS.now)
-    (map (λ n. named_set INTERVALS.now n.0.now n.1 n.2) SCRIPT_EXTENSIONS_REST.now) (canonical_sets (λ name. name.now) INTERVALS.now SCRIPT_EXTENSIONS.now script_extensions)
+    (map (λ n. named_set INTERVALS.now n.0.now n.1 n.2) SCRIPT_EXTENSIONS_REST.now)
+    (canonical_sets (λ name. name.now) INTERVALS.now SCRIPT_EXTENSIONS.now script_extensions)
     (canonical_sets (λ name. name.now) INTERVALS.now SCRIPT_EXTENSIONS_REST.now script_extensions_rest))
     (canonical_sets (λ name. name.now) INTERVALS.now BINARY.now binary)
     sound_strings

@@ -164,7 +164,8 @@ mutual
   row-read n no_trees rest h = refl
   row-read n (more_trees t ts) rest h =
       ap (read_row (read_tree n) (suc (trees_count ts))) (append_assoc (encode t) (encode_row ts) rest)
-      ∙ ap (λ a. let others = read_row (read_tree n) (trees_count ts) a.1 in (more_trees a.0 others.0, others.1)) (tree-read n t (encode_row ts ++ rest) (left-shorter (encode t) (encode_row ts) n h))
+      ∙ ap (λ a. let others = read_row (read_tree n) (trees_count ts) a.1 in (more_trees a.0 others.0, others.1))
+      (tree-read n t (encode_row ts ++ rest) (left-shorter (encode t) (encode_row ts) n h))
       ∙ ap (λ others. (more_trees t others.0, others.1)) (row-read n ts rest (right-shorter (encode t) (encode_row ts) n h))
 
 pub decode-encode : (t : Tree) → decode (encode t) ≡ t

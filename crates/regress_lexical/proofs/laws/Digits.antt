@@ -128,7 +128,8 @@ octal_length false t = omega (arith, length-take 2 t)
 pub front_shorter : (p : ℕ → Bool) (t : Source) → length (front p t) ≤ length t
 unfolding front
 front_shorter p [] = omega arith
-front_shorter p (c ∷ t) = elim (p c) as (λ b. length (cond b (c ∷ front p t) []) ≤ length (c ∷ t)) [ true ↦ omega (arith, front_shorter p t) | false ↦ omega arith ]
+front_shorter p (c ∷ t) = elim (p c) as (λ b. length (cond b (c ∷ front p t) []) ≤ length (c ∷ t))
+    [ true ↦ omega (arith, front_shorter p t) | false ↦ omega arith ]
 
 number_below : (base : ℕ) (cs : List ℕ) → AllBelowBase base (map digit cs) → number base cs < base ^ length cs
 number_below base cs h =

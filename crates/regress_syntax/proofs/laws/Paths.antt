@@ -87,7 +87,8 @@ none_in_itself [] n h = refl
 none_in_itself (level ∷ path) n h =
     let below = below_from_falls level.opening path h.1 in
     or_from _ _
-    (or_from _ _ (and_right _ _ (not_from_true _ (same_number level.alternative level.alternative refl))) (none_beside level path level.opening (omega arith) below))
+    (or_from _ _ (and_right _ _ (not_from_true _ (same_number level.alternative level.alternative refl)))
+    (none_beside level path level.opening (omega arith) below))
     (drop_later path (level ∷ []) path level.opening below (omega arith, tt) ∙ none_in_itself path level.opening h.1)
 
 below_end : (inner outer : Path) (n : ℕ) → Below n (inner ++ outer) → Below n outer

@@ -209,14 +209,16 @@ or_else outer opening first n xs ys ns ms a b r others =
       inside =
           each_append _ r.found others.found
           (each_map _ _ (λ g h. (first, omega arith, within n r.opened n others.opened _ (omega arith) others.more g h)) r.found r.inside)
-          (each_map _ _ (λ g h. (h.0, omega (arith, h.1), within r.opened others.opened n others.opened _ r.more (omega arith) g h.2)) others.found others.inside);
+          (each_map _ _ (λ g h. (h.0, omega (arith, h.1), within r.opened others.opened n others.opened _ r.more (omega arith) g h.2)) others.found
+          others.inside);
       named = map-append (λ g. g.name) r.found others.found ∙ ap₂ (λ x y. x ++ y) r.named others.named;
       apart = are_apart-append r.found others.found
           ∙ ap₂ (λ x y. x && y) r.apart
           (ap₂ (λ x y. x && y)
           (in_alternatives r.found others.found
           (each_map _ _
-          (λ g h. each_map _ _ (λ other k. beside n r.opened r.opened others.opened outer opening first g other h k) others.found others.inside) r.found r.inside))
+          (λ g h. each_map _ _ (λ other k. beside n r.opened r.opened others.opened outer opening first g other h k) others.found others.inside) r.found
+          r.inside))
           others.apart);
     }
 

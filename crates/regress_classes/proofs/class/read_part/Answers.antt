@@ -18,5 +18,6 @@ returns-in-Some-clause-value c = (
 
 pub returns-clause-value : goal.returns-clause-value
 returns-clause-value c =
-    subst (λ (t : Source). ReadsAs (λ _ members. Adds members c.args.set.now c.read_any_part.new.set) (source c.read_any_part.new.cursor) c.read_any_part.result (class_part_at (table_of c.args.tables.now) c.args.unicode t))
+    subst (λ (t : Source). ReadsAs (λ _ members. Adds members c.args.set.now c.read_any_part.new.set) (source c.read_any_part.new.cursor)
+    c.read_any_part.result (class_part_at (table_of c.args.tables.now) c.args.unicode t))
     c.in_default.ensures.none c.read_any_part.ensures.value

@@ -18,7 +18,8 @@ loop-cursor-smaller c =
 pub loop-cursor-preserved : goal.loop-cursor-preserved
 loop-cursor-preserved c =
     let found = c.in_ok-read_part.ensures.value in
-    one_more_read (table_of c.args.tables.now) c.args.unicode _ (source c.loop-cursor.cursor) (source c.read_part.new.cursor) c.loop-cursor.gathered c.read_part.new.set found.0
+    one_more_read (table_of c.args.tables.now) c.args.unicode _ (source c.loop-cursor.cursor) (source c.read_part.new.cursor) c.loop-cursor.gathered
+    c.read_part.new.set found.0
     c.loop-cursor.invariant (sym c.is_at.ensures ∙ c.loop-cursor-test.true) found.1 found.2
 
 pub returns-in_err-read_part-clause-value : goal.returns-in_err-read_part-clause-value
@@ -32,7 +33,8 @@ returns-in_err-read_part-clause-value c =
 pub returns-clause-value : goal.returns-clause-value
 returns-clause-value c =
     let closes : is_at 93 (source c.loop-cursor.cursor) ≡ true = sym c.is_at.ensures ∙ c.loop-cursor-test.false in
-    let all = all_read (table_of c.args.tables.now) c.args.unicode _ (source c.loop-cursor.cursor) c.loop-cursor.gathered _ c.loop-cursor.invariant closes c.in_ok-into_set.ensures in (
+    let all = all_read (table_of c.args.tables.now) c.args.unicode _ (source c.loop-cursor.cursor) c.loop-cursor.gathered _ c.loop-cursor.invariant closes
+    c.in_ok-into_set.ensures in (
       all.0,
       all.1 ∙ ap (λ (rest : Source). Some (all.0, rest)) (sym (c.try_consume.ensures.moves ∙ cond-true _ _ _ (c.try_consume.ensures.found ∙ closes))),
       all.2,

@@ -22,4 +22,15 @@ pub returns : goal.returns
 returns c =
     IfOk-weaker c.set_of.result (HasMembers in_order) (HasMembers (white_space ++ line_terminators))
     (λ set has. record { canonical = has.canonical; each = λ n. has.each n ∙ joined n })
-    (rw (c.new.ensures, c.new-2.ensures, c.new-3.ensures, c.new-4.ensures, c.new-5.ensures, c.new-6.ensures, c.new-7.ensures, c.new-8.ensures, c.new-9.ensures, c.new-10.ensures) at c.set_of.ensures)
+    (rw (
+      c.new.ensures,
+      c.new-2.ensures,
+      c.new-3.ensures,
+      c.new-4.ensures,
+      c.new-5.ensures,
+      c.new-6.ensures,
+      c.new-7.ensures,
+      c.new-8.ensures,
+      c.new-9.ensures,
+      c.new-10.ensures,
+    ) at c.set_of.ensures)

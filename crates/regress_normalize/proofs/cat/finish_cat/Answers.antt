@@ -74,7 +74,8 @@ returns-then-is_empty c =
     let known = c.leaf_facts-then-is_empty in
     subst (λ (t : Tree). Normalized d t (tree c.in-Some.alone) (Ok known.result)) (sym node_is)
     (empty_normalized d row ts parts (trees c.pack.new.parts.items) keeps left goals c.in_ok-taken.taken done lasting (tree c.in-Some.alone)
-    c.in-Some.ensures.some (sym c.is_empty.ensures ∙ c.if-is_empty.true) known.result (rw (is_empty-leaf (tree c.in-Some.alone) (sym c.is_empty.ensures ∙ c.if-is_empty.true)) at known.ensures.has)
+    c.in-Some.ensures.some (sym c.is_empty.ensures ∙ c.if-is_empty.true) known.result
+    (rw (is_empty-leaf (tree c.in-Some.alone) (sym c.is_empty.ensures ∙ c.if-is_empty.true)) at known.ensures.has)
     known.ensures.was)
 
 pub returns : goal.returns

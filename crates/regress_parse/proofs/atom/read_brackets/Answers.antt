@@ -22,7 +22,8 @@ returns-then-not-scope-clause-value c =
       class flags found.0.0 found.0.1,
       cond-false _ _ _ c.if-not-scope.true ∙ ap (found_map (λ (inverted, members). class flags inverted members)) found.1,
       record {
-        node = c.in_ok-make_class.ensures found.0.1 found.2.1 ∙ ap (tree_of_atom (table_of c.args.scope.now.tables.now) (names_in c.args.scope.now.groups.now)) same;
+        node = c.in_ok-make_class.ensures found.0.1 found.2.1 ∙ ap (tree_of_atom (table_of c.args.scope.now.tables.now)
+            (names_in c.args.scope.now.groups.now)) same;
         levels = omega arith;
         allows = refl;
       },
@@ -44,7 +45,8 @@ returns-clause-value c =
       class_set flags found.0.0 found.0.1,
       cond-true _ _ _ c.if-not-scope.false ∙ ap (found_map (λ (negated, value). class_set flags negated value)) found.1,
       record {
-        node = c.in_ok-make_class_set.ensures found.0.1 found.2.1 ∙ ap (tree_of_atom (table_of c.args.scope.now.tables.now) (names_in c.args.scope.now.groups.now)) same;
+        node = c.in_ok-make_class_set.ensures found.0.1 found.2.1 ∙ ap (tree_of_atom (table_of c.args.scope.now.tables.now)
+            (names_in c.args.scope.now.groups.now)) same;
         levels = omega (arith, found.2.1.others.levels);
         allows = refl;
       },

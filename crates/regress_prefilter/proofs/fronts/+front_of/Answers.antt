@@ -45,7 +45,8 @@ front_of_other-returns-in-CaptureGroup t c =
     let is : tree c.args.node.now ≡ wrapped (capture_group at.id name) (tree body) =
     ap tree at.is ∙ tree-CaptureGroup at.id at.contents at.name
     ∙ ap (λ n. wrapped (capture_group at.id name) (tree n)) (sym c.deref-in-CaptureGroup.ensures) in
-    if-some c.front_of.result (λ front here. subst (λ (x : Tree). IsFront front x) (sym is) (front-capture front at.id name (tree body) here)) c.front_of.ensures
+    if-some c.front_of.result (λ front here. subst (λ (x : Tree). IsFront front x) (sym is) (front-capture front at.id name (tree body) here))
+    c.front_of.ensures
 
 pub front_of_other-returns-in-LookaroundAssertion : goal.front_of_other-returns-in-LookaroundAssertion
 front_of_other-returns-in-LookaroundAssertion t c =
@@ -60,7 +61,8 @@ front_of_row-returns-then-not-all t c =
     let l = c.loop-part in
     let ps = c.args.parts.now in
     let off : l.all.through ≡ false = first_of (search rules, grind arith) in
-    subst (λ (nodes : Trees). IsFront l.all (cat nodes)) (sym (trees-append (take l.part-index ps) (drop l.part-index ps)) ∙ ap trees (take-append-drop l.part-index ps))
+    subst (λ (nodes : Trees). IsFront l.all (cat nodes)) (sym (trees-append (take l.part-index ps) (drop l.part-index ps)) ∙ ap trees
+    (take-append-drop l.part-index ps))
     (row-rest l.all (trees (take l.part-index ps)) (trees (drop l.part-index ps)) off l.invariant)
 
 pub front_of_row-loop-part-preserved : goal.front_of_row-loop-part-preserved
@@ -73,7 +75,8 @@ front_of_row-loop-part-preserved t c =
     ap trees (take_more ps l.part-index node in_row ∙ ap (λ n. take l.part-index ps ++ n ∷ []) (sym c.part-item.is))
     ∙ trees-append (take l.part-index ps) (node ∷ []) in
     subst (λ (nodes : Trees). IsFront c.then-all.result (cat nodes)) (sym more)
-    (row-next l.all c.in_ok-front_of.field-0 c.then-all.result (trees (take l.part-index ps)) (tree node) c.then-all.ensures l.invariant c.in_ok-front_of.ensures)
+    (row-next l.all c.in_ok-front_of.field-0 c.then-all.result (trees (take l.part-index ps)) (tree node) c.then-all.ensures l.invariant
+    c.in_ok-front_of.ensures)
 
 pub front_of_row-returns : goal.front_of_row-returns
 front_of_row-returns t c =

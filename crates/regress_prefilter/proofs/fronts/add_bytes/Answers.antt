@@ -7,6 +7,7 @@ use Rattle.regress_prefilter.proofs.fronts.add_bytes.Goals as goal
 pub loop-b-preserved : goal.loop-b-preserved
 loop-b-preserved c = λ x is.
     let in_row : c.loop-b.b-index < length c.args.bytes.now = search rules in
-    ⊎_elim (λ left. left_list (contains c.add_character.new.set) c.args.bytes.now c.loop-b.b-index x in_row (subst (λ x. IsCovered (contains c.add_character.new.set) x) c.from.ensures c.add_character.ensures.covered) left)
+    ⊎_elim (λ left. left_list (contains c.add_character.new.set) c.args.bytes.now c.loop-b.b-index x in_row
+    (subst (λ x. IsCovered (contains c.add_character.new.set) x) c.from.ensures c.add_character.ensures.covered) left)
     (λ covered. inr (covered_kept _ (contains c.add_character.new.set) x c.add_character.ensures.kept covered))
     (c.loop-b.invariant x is)

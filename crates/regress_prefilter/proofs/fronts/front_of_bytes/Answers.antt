@@ -13,6 +13,7 @@ returns c = λ setting bytes.
     let first = c.in-Some.first.now in
     let rest = c.in-Some.field-0-1.now in
     let split : c.args.written.now ≡ first ∷ rest = search rules in
-    let member : IsTrue (contains c.set.new.self first) = or-one (first == first) _ (contains c.set.new.self first) (c.set.ensures first) (eq-eqb first first refl) in
+    let member : IsTrue (contains c.set.new.self first) = or-one (first == first) _ (contains c.set.new.self first) (c.set.ensures first)
+    (eq-eqb first first refl) in
     subst (λ (written : List ℕ). Begins (contains c.set.new.self) false bytes (these_bytes forwards bytes written)) (sym split)
     (begins-bytes (contains c.set.new.self) bytes first rest member)

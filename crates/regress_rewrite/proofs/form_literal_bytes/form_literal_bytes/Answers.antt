@@ -17,7 +17,8 @@ out-CharSet : (characters : Vec ℕ Global) → out-Node (CharSet characters) �
 out-CharSet characters = search (rules, the_lemmas)
 
 pub returns-in-Char-clause-lawful : goal.returns-in-Char-clause-lawful
-returns-in-Char-clause-lawful c = rw (c.in-Char.is, out-Char) (simp tree-Char (rw c.in-Char.c-is at (c.form_character.ensures.lawful (direction_of c.args.walk.now))))
+returns-in-Char-clause-lawful c = rw (c.in-Char.is, out-Char) (simp tree-Char (rw c.in-Char.c-is at
+    (c.form_character.ensures.lawful (direction_of c.args.walk.now))))
 
 pub returns-in-CharSet-clause-lawful : goal.returns-in-CharSet-clause-lawful
 returns-in-CharSet-clause-lawful c =

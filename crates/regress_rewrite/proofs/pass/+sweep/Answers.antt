@@ -33,7 +33,8 @@ sweep_down-sweep-requires g t c κs lives =
     let left = c.in-Some.ensures.left in
     let top_is = left.is ∙ ap (λ n. alt (tree n) left.right) (sym c.deref_mut.ensures.value) in
     let smaller = units_down (tree l.node) (tree l.above) (tree c.shift.new.from) (tree c.shift.new.onto) (tree node) left.right shifted top_is in
-    let part = IsPart-down (tree l.node) (tree l.above) (tree c.shift.new.from) (tree c.shift.new.onto) (tree node) left.right shifted top_is _ _ l.invariant.swept.keeps c.requires.part in
+    let part = IsPart-down (tree l.node) (tree l.above) (tree c.shift.new.from) (tree c.shift.new.onto) (tree node) left.right shifted top_is _ _
+    l.invariant.swept.keeps c.requires.part in
     (omega (arith, smaller, l.invariant.smaller), (search rules, part))
 
 pub sweep_down-loop-levels-preserved-in-Some : goal.sweep_down-loop-levels-preserved-in-Some
@@ -56,7 +57,8 @@ sweep_down-loop-levels-preserved-in-Some g t c =
           after_down (Applied g.R.Rewrite.step c.args.walk.now.unicode) (further l.levels c.args.walk.now.depth) c.args.walk.now.depth
           c.args.walk.now.in_lookbehind (tree l.node) (tree l.above) _ _ (tree node) _ _ shifted top_is
           _ _ b e t u _ (ap (λ k. further k c.args.walk.now.depth) l.invariant.levels) (λ x m whole rest. l.invariant.visited x u m e whole rest)
-          (rw (← further_next l.levels _ c.args.walk.now.depth refl) at first) (rw (← further_next l.levels _ c.args.walk.now.depth refl) at second) (rw ends at climbed);
+          (rw (← further_next l.levels _ c.args.walk.now.depth refl) at first) (rw (← further_next l.levels _ c.args.walk.now.depth refl) at second)
+          (rw ends at climbed);
       smaller = omega (arith, smaller, l.invariant.smaller);
       swept = rw ends (down_next _ _ g.R.Rewrite.removes _ l.changed _ (tree l.node) (tree l.above) _ _ (tree node) _ _ shifted top_is
           l.invariant.swept here);
@@ -331,7 +333,8 @@ sweep_down-returns-in_err-sweep_one-clause-visited g t c u b climbed =
     let inner = c.inside-2.ensures in
     let depth = further-inside _ _ c.args.walk.now.depth _ refl inner.depth inner.same in
     let last = rw n_is at (visited_there (Applied g.R.Rewrite.step) inner.unicode depth inner.direction c.in_err-sweep_one.ensures.visited) in
-    l.invariant.visited (tree c.sweep_one.new.node) u (c.sweep_one.new.pass, false) b last (rw (above_is, not_answered _ c.from_residual-in_err-sweep_one.ensures.0) at climbed)
+    l.invariant.visited (tree c.sweep_one.new.node) u (c.sweep_one.new.pass, false) b last
+    (rw (above_is, not_answered _ c.from_residual-in_err-sweep_one.ensures.0) at climbed)
 
 pub sweep_down-returns-clause-visited : goal.sweep_down-returns-clause-visited
 sweep_down-returns-clause-visited g t c u b climbed =

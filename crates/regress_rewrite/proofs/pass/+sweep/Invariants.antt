@@ -35,7 +35,8 @@ invariant-sweep_parts-loop-i g l =
       unvisited : drop l.i l.parts.items ≡ drop l.i old;
       visited : (ts : Trees) (b : _) →
           RowVisited (Applied g.R.Rewrite.step l.walk.unicode) true l.walk.depth l.walk.in_lookbehind (trees (drop l.i old)) ts (l.pass, true) b →
-          RowVisited (Applied g.R.Rewrite.step l.walk.unicode) true l.walk.depth l.walk.in_lookbehind (trees old) (row_append (trees (take l.i l.parts.items)) ts)
+          RowVisited (Applied g.R.Rewrite.step l.walk.unicode) true l.walk.depth l.walk.in_lookbehind (trees old)
+          (row_append (trees (take l.i l.parts.items)) ts)
           (l.initial.pass, true) b;
       swept : PartsSwept g.R.Rewrite.removes g.R.Rewrite.is_exact (direction_of l.walk) old l.parts.items l.i (Ok l.changed);
     }

@@ -18,7 +18,8 @@ invariant-loop-levels g l =
       levels : l.levels ≡ spine_length (tree l.above);
       climbed : (u : Tree) (b : _) →
           ClimbedMut (Applied g.R.Rewrite.step l.walk.unicode) (tree l.above) l.walk.depth l.walk.in_lookbehind (tree l.node) u (l.pass, true) b →
-          ClimbedMut (Applied g.R.Rewrite.step l.walk.unicode) (tree l.initial.above) l.walk.depth l.walk.in_lookbehind (tree l.initial.node) u (l.initial.pass, true) b;
+          ClimbedMut (Applied g.R.Rewrite.step l.walk.unicode) (tree l.initial.above) l.walk.depth l.walk.in_lookbehind (tree l.initial.node) u
+          (l.initial.pass, true) b;
       swept : UpSwept g.R.Rewrite.is_exact (direction_of l.walk) shape old start (tree l.above) (tree l.node) (Ok l.changed);
     }
 

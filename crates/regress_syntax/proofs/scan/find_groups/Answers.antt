@@ -33,7 +33,8 @@ loop-c-preserved c =
       | in-Some-2+in_ok-pass w ↦ rw w.scanner-is w.in_ok-pass.ensures.numbers
       | in_default-2 w ↦ rw w.scanner-is (omega arith)
     ] in
-    let levels : length (path_of c.match-branch-3.scanner.path) ≡ levels_behind (mode_of c.loop-c.mode) (length (path_of c.loop-c.scanner.path)) c.in-Some.c.now = elim c.match-branch-3.branch [
+    let levels : length (path_of c.match-branch-3.scanner.path) ≡ levels_behind (mode_of c.loop-c.mode) (length (path_of c.loop-c.scanner.path))
+    c.in-Some.c.now = elim c.match-branch-3.branch [
       | in-Some-2+in_ok-pass w ↦
           rw w.scanner-is
           (w.in_ok-pass.ensures.levels c.loop-c.invariant.found.some

@@ -11,4 +11,5 @@ returns-in_ok-keep_strings-in-Intersection c = λ s.
     ∙ ap (λ l. filter (λ string. is_among (strings_of l) string.items) c.args.others.items) c.deref.ensures.value))
 
 pub returns-in_ok-append-in-Subtraction : goal.returns-in_ok-append-in-Subtraction
-returns-in_ok-append-in-Subtraction c = λ s. rw c.in-Subtraction.is (strings_joined c.args.strings.items c.args.others.items c.append.new.self.items s c.in_ok-append-in-Subtraction.ensures.items)
+returns-in_ok-append-in-Subtraction c = λ s. rw c.in-Subtraction.is (strings_joined c.args.strings.items c.args.others.items c.append.new.self.items s
+    c.in_ok-append-in-Subtraction.ensures.items)

@@ -10,7 +10,8 @@ use Rattle.regress_classes.proofs.ClassStringLemmas.{character_shortens, charact
 use Rattle.regress_classes.proofs.class_sets.strings.read_strings.Goals as goal
 
 pub loop-cursor-init : goal.loop-cursor-init
-loop-cursor-init c = no_strings c.args.unicode (source c.args.cursor.now) c.new-string.result.items c.new-value.result c.new-string.ensures.items c.new-value.ensures
+loop-cursor-init c = no_strings c.args.unicode (source c.args.cursor.now) c.new-string.result.items c.new-value.result c.new-string.ensures.items
+    c.new-value.ensures
 
 pub loop-cursor-preserved-then-try_consume : goal.loop-cursor-preserved-then-try_consume
 loop-cursor-preserved-then-try_consume c =

@@ -219,7 +219,8 @@ pub consume_disjunction-loop-inside-init : goal.consume_disjunction-loop-inside-
 consume_disjunction-loop-inside-init t c =
     let around = c.args.around.now in
     let old = c.args.self.now in
-    let found = built (terms_part (table_in around) (names_around around)) (direction_of around) (around.depth + 1) (counted old) c.consume_alternative-first.new.self
+    let found = built (terms_part (table_in around) (names_around around)) (direction_of around) (around.depth + 1) (counted old)
+    c.consume_alternative-first.new.self
     (terms_at (context_in around) (text old)) c.in_ok-last.last c.in_ok-last.ensures.value in
     let b = found.2 in
     rw (b.rest, c.new-before.ensures.items) (
@@ -307,9 +308,11 @@ consume_term-returns-in_err-item-clause-value t c =
     let there = source c.read_group.new.cursor in
     let front : text old ≡ opening ∷ here = front_is opening (text old) here (sym past.found) past.moves in
     let same : item_at ctx (text old) ≡ item_behind pattern_at ctx (opens (group_of c.in_ok-kind.kind), there) =
-    ap (item_at ctx) front ∙ opening_item (table_in around) (names_around around) ctx here (opens (group_of c.in_ok-kind.kind), there) c.in_ok-kind.ensures.value in
+    ap (item_at ctx) front ∙ opening_item (table_in around) (names_around around) ctx here (opens (group_of c.in_ok-kind.kind), there)
+    c.in_ok-kind.ensures.value in
     rw (p.1, p.2, term_at-is ctx (text old), same)
-    (on_kind_then c.in_err-item.field-0.0 (λ kind. times-fail (table_in around) (names_around around) ctx kind _ (counted old) around.depth) c.in_err-item.ensures.value)
+    (on_kind_then c.in_err-item.field-0.0 (λ kind. times-fail (table_in around) (names_around around) ctx kind _ (counted old) around.depth)
+    c.in_err-item.ensures.value)
 
 pub consume_term-returns-then-try_consume-clause-value : goal.consume_term-returns-then-try_consume-clause-value
 consume_term-returns-then-try_consume-clause-value t c =
@@ -345,7 +348,8 @@ consume_term-returns-in_err-item-2-clause-value t c =
     let same : here ≡ text old = past.moves in
     let none : is_at opening here ≡ false = ap (is_at opening) same ∙ sym past.found in
     let all : around.depth + (max_nesting_depth - around.depth) ≡ max_nesting_depth = omega (arith, c.requires) in
-    let read = subst (λ (b : Bool). ReadsAtom ctx (max_nesting_depth - around.depth) (not b) (source c.read_atom.new.cursor) (Err c.in_err-item-2.field-0.0) (atom_at ctx here))
+    let read = subst (λ (b : Bool). ReadsAtom ctx (max_nesting_depth - around.depth) (not b) (source c.read_atom.new.cursor) (Err c.in_err-item-2.field-0.0)
+    (atom_at ctx here))
     (sym c.begins_anchor-allowed.ensures) c.in_err-item-2.ensures.value in
     rw (p.1, p.2, ← same, term_at-is ctx here)
     (on_kind_then c.in_err-item-2.field-0.0 (λ kind. times-fail (table_in around) (names_around around) ctx kind _ (counted old) around.depth)
@@ -411,7 +415,8 @@ consume_terms-returns-in_err-consume_term-clause-reached t c =
     (omega (arith, l.invariant.1, ap length here)))
     c.in_err-consume_term.ensures.reached)
 
-pub consume_disjunction-returns-then-around-ge-MAX_NESTING_DEPTH-clause-reached : goal.consume_disjunction-returns-then-around-ge-MAX_NESTING_DEPTH-clause-reached
+pub consume_disjunction-returns-then-around-ge-MAX_NESTING_DEPTH-clause-reached :
+    goal.consume_disjunction-returns-then-around-ge-MAX_NESTING_DEPTH-clause-reached
 consume_disjunction-returns-then-around-ge-MAX_NESTING_DEPTH-clause-reached t c =
     let around = c.args.around.now in
     let old = c.args.self.now in

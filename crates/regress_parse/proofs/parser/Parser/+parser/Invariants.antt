@@ -41,7 +41,8 @@ decreases-consume_terms-loop-self l = length (text l.self)
 
 abbrev pub invariant-consume_disjunction-loop-inside : goal.invariant-consume_disjunction-loop-inside
 invariant-consume_disjunction-loop-inside l =
-    AlternativesSoFar (table_in l.around) (names_around l.around) (direction_of l.around) (context_in l.around) l.around.depth (text l.fn.self) (counted l.fn.self)
+    AlternativesSoFar (table_in l.around) (names_around l.around) (direction_of l.around) (context_in l.around) l.around.depth (text l.fn.self)
+    (counted l.fn.self)
     (text l.self) (counted l.self) l.before.items l.last
     × Spends (counted l.fn.self) (counted l.self) (text l.fn.self) (text l.self)
 

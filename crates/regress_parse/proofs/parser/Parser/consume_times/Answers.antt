@@ -63,7 +63,8 @@ returns-in_err-count_loop-clause-value c =
     let ctx = context_in around in
     let old = c.args.self.now in
     λ x before first allowed b.
-    let read = times_read table names ctx (Some (x, text old)) (x, text old) c.args.allowed (Some (Some c.in-Some.quantifier, source c.read_times.new.cursor)) refl allowed
+    let read = times_read table names ctx (Some (x, text old)) (x, text old) c.args.allowed
+    (Some (Some c.in-Some.quantifier, source c.read_times.new.cursor)) refl allowed
     (c.in_ok-times.ensures.value ∙ ap (λ q. Some (q, source c.read_times.new.cursor)) c.in-Some.is) in
     rw (p.1, p.2) (on_kind_then c.in_err-count_loop.field-0.0
     (λ kind told. times-too_many table names ctx kind told.0 _ _ x c.in-Some.quantifier before around.depth read
@@ -78,7 +79,8 @@ returns-clause-value c =
     let ctx = context_in around in
     let old = c.args.self.now in
     λ x before first allowed b.
-    let read = times_read table names ctx (Some (x, text old)) (x, text old) c.args.allowed (Some (Some c.in-Some.quantifier, source c.read_times.new.cursor)) refl allowed
+    let read = times_read table names ctx (Some (x, text old)) (x, text old) c.args.allowed
+    (Some (Some c.in-Some.quantifier, source c.read_times.new.cursor)) refl allowed
     (c.in_ok-times.ensures.value ∙ ap (λ q. Some (q, source c.read_times.new.cursor)) c.in-Some.is) in
     let counts = c.in_ok-count_loop.ensures.ok ∙ ap (λ n. added n one_loop) b.counts ∙ added-assoc before _ one_loop in
     let groups : c.count_loop.new.self.group_count ≡ before.groups + (counts_of_item x).groups =

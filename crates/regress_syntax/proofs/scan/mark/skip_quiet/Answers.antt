@@ -63,5 +63,12 @@ loop-c-preserved c = record {
       c.loop-c.invariant.flaws flaw sets mode n
       ∙ escape_left flaw sets mode n c.in-Some.c.now _ _ c.in-Some.ensures.cases.0 (c.if-c-from.true ∙ c.from.ensures)
       ∙ ap (left_at flaw sets (mode_of mode) n) (sym c.skip_escaped-rest.ensures);
-  within = omega (arith, c.loop-c.invariant.within, ap length c.in-Some.ensures.cases.0, ap length c.skip_escaped-rest.ensures, length-drop 1 c.in-Some.behind.now);
+  within = omega (
+    arith,
+    c.loop-c.invariant.within,
+    ap length c.in-Some.ensures.cases.0,
+    ap length c.skip_escaped-rest.ensures,
+    length-drop 1
+        c.in-Some.behind.now,
+  );
 }

@@ -105,8 +105,12 @@ duplicate_node-returns-in_err-duplicate_box-in-Loop1CharBody-clause-copy t c = I
 pub duplicate_node-returns-in_err-duplicate_box-in-Loop1CharBody-clause-some : goal.duplicate_node-returns-in_err-duplicate_box-in-Loop1CharBody-clause-some
 duplicate_node-returns-in_err-duplicate_box-in-Loop1CharBody-clause-some t c = IfOk-from_err _ _ c.from_residual-in_err-duplicate_box-in-Loop1CharBody.ensures.0
 
-pub duplicate_node-returns-in_err-duplicate_box-in-LookaroundAssertion-clause-copy : goal.duplicate_node-returns-in_err-duplicate_box-in-LookaroundAssertion-clause-copy
-duplicate_node-returns-in_err-duplicate_box-in-LookaroundAssertion-clause-copy t c = IfOk-from_err _ _ c.from_residual-in_err-duplicate_box-in-LookaroundAssertion.ensures.0
+pub duplicate_node-returns-in_err-duplicate_box-in-LookaroundAssertion-clause-copy :
+    goal.duplicate_node-returns-in_err-duplicate_box-in-LookaroundAssertion-clause-copy
+duplicate_node-returns-in_err-duplicate_box-in-LookaroundAssertion-clause-copy t c = IfOk-from_err _ _
+    c.from_residual-in_err-duplicate_box-in-LookaroundAssertion.ensures.0
 
-pub duplicate_node-returns-in_err-duplicate_box-in-LookaroundAssertion-clause-some : goal.duplicate_node-returns-in_err-duplicate_box-in-LookaroundAssertion-clause-some
-duplicate_node-returns-in_err-duplicate_box-in-LookaroundAssertion-clause-some t c = IfOk-from_err _ _ c.from_residual-in_err-duplicate_box-in-LookaroundAssertion.ensures.0
+pub duplicate_node-returns-in_err-duplicate_box-in-LookaroundAssertion-clause-some :
+    goal.duplicate_node-returns-in_err-duplicate_box-in-LookaroundAssertion-clause-some
+duplicate_node-returns-in_err-duplicate_box-in-LookaroundAssertion-clause-some t c = IfOk-from_err _ _
+    c.from_residual-in_err-duplicate_box-in-LookaroundAssertion.ensures.0

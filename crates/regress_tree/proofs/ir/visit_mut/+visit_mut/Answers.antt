@@ -48,7 +48,8 @@ visit_inside-returns-in-Some-clause-visited g t c =
     let value = c.deref_mut-in-Some.ensures.value in
     let new = record c.in-Some.body.now { value = c.visit_mut-in-Some.new.n } in
     let ends = rw (c.in-Some.is, around.is) at (c.body_mut.follows.holds new) in
-    rw (ends, around.is) (in_wrapped (rw value at (visited_there (CallsMut (goal.F-step g)) inner.unicode inner.depth turned c.visit_mut-in-Some.ensures.visited)))
+    rw (ends, around.is) (in_wrapped (rw value at (visited_there (CallsMut (goal.F-step g)) inner.unicode inner.depth turned
+    c.visit_mut-in-Some.ensures.visited)))
 
 pub visit_inside-returns-in_default-body_mut : goal.visit_inside-returns-in_default-body_mut
 visit_inside-returns-in_default-body_mut g t c =
@@ -69,8 +70,10 @@ visit_before-loop-here-preserved-in-Some g t c =
     let top_is = left.is ∙ ap (λ n. alt (tree n) left.right) (sym c.deref_mut.ensures.value) in
     let ends = rw (c.in-Some.is, left.is) at (c.left_mut.follows.holds (record c.in-Some.left.now { value = c.visit_mut.new.n })) in
     let called = called_there (CallsMut (goal.F-step g)) so_far.unicode refl so_far.direction c.loop-here-test.ensures.called in
-    let first = visited_there (CallsMut (goal.F-step g)) (here.unicode ∙ so_far.unicode) here.depth (here.direction ∙ so_far.direction) c.visit_mut.ensures.visited in
-    let fewer = nodes_down Call l.here.depth 0 walk.in_lookbehind (tree c.call.new.n) (tree l.above) (tree c.shift.new.from) (tree c.shift.new.onto) (tree node) (tree node) left.right shifted top_is in
+    let first = visited_there (CallsMut (goal.F-step g)) (here.unicode ∙ so_far.unicode) here.depth (here.direction ∙ so_far.direction)
+    c.visit_mut.ensures.visited in
+    let fewer = nodes_down Call l.here.depth 0 walk.in_lookbehind (tree c.call.new.n) (tree l.above) (tree c.shift.new.from) (tree c.shift.new.onto)
+    (tree node) (tree node) left.right shifted top_is in
     let no_more = call_adds (goal.F-step g) _ _ _ _ _ _ _ _ c.requires.ends called in
     record {
       callable = c.visit_mut.ensures.callable;
@@ -80,7 +83,9 @@ visit_before-loop-here-preserved-in-Some g t c =
       visited = λ u e second.
           rw ends
           (before_down Call l.here.depth 0 walk.in_lookbehind (tree c.call.new.n) (tree l.above) (tree c.shift.new.from) (tree c.shift.new.onto) (tree node)
-          (tree c.visit_mut.new.n) left.right shifted top_is (tree l.n) l.func c.call.new.func c.visit_mut.new.func e u (λ v. Visited Call false walk.depth walk.in_lookbehind (tree c.args.n.now) v c.args.func.now e) (λ v whole. so_far.visited v e whole) called first (rw here.depth at second));
+          (tree c.visit_mut.new.n) left.right shifted top_is (tree l.n) l.func c.call.new.func c.visit_mut.new.func e u
+          (λ v. Visited Call false walk.depth walk.in_lookbehind (tree c.args.n.now) v c.args.func.now e) (λ v whole. so_far.visited v e whole) called first
+          (rw here.depth at second));
     }
 
 pub visit_before-returns-clause-visited : goal.visit_before-returns-clause-visited
@@ -110,13 +115,16 @@ visit_after-loop-levels-preserved-in-Some g t c =
     let left = c.in-Some.ensures.left in
     let top_is = left.is ∙ ap (λ n. alt (tree n) left.right) (sym c.deref_mut.ensures.value) in
     let ends = rw (c.in-Some.is, left.is) at (c.left_mut.follows.holds (record c.in-Some.left.now { value = c.visit_mut.new.n })) in
-    let first = visited_there (CallsMut (goal.F-step g)) (here.unicode ∙ so_far.unicode) here.depth (here.direction ∙ so_far.direction) c.visit_mut.ensures.visited in
+    let first = visited_there (CallsMut (goal.F-step g)) (here.unicode ∙ so_far.unicode) here.depth (here.direction ∙ so_far.direction)
+    c.visit_mut.ensures.visited in
     let depth = so_far.depth ∙ ap (λ k. further k walk.depth) so_far.levels in
-    let fewer = nodes_down Call l.here.depth walk.depth walk.in_lookbehind (tree l.n) (tree l.above) (tree c.shift.new.from) (tree c.shift.new.onto) (tree node) (tree node) left.right shifted top_is in
+    let fewer = nodes_down Call l.here.depth walk.depth walk.in_lookbehind (tree l.n) (tree l.above) (tree c.shift.new.from) (tree c.shift.new.onto)
+    (tree node) (tree node) left.right shifted top_is in
     record {
       callable = c.visit_mut.ensures.callable;
       smaller = omega (arith, fewer, so_far.smaller);
-      levels = rw ends (levels_down Call l.here.depth walk.depth walk.in_lookbehind (tree l.n) (tree l.above) (tree c.shift.new.from) (tree c.shift.new.onto) (tree node) (tree node) left.right shifted top_is
+      levels = rw ends (levels_down Call l.here.depth walk.depth walk.in_lookbehind (tree l.n) (tree l.above) (tree c.shift.new.from)
+          (tree c.shift.new.onto) (tree node) (tree node) left.right shifted top_is
           l.levels so_far.levels);
       depth = here.depth ∙ further_next l.levels l.here.depth walk.depth so_far.depth;
       direction = here.direction ∙ so_far.direction;
@@ -125,7 +133,8 @@ visit_after-loop-levels-preserved-in-Some g t c =
           let ways = rw ends at climbed in
           after_down Call l.here.depth walk.depth walk.in_lookbehind (tree l.n) (tree l.above) (tree c.shift.new.from) (tree c.shift.new.onto) (tree node)
           (tree c.visit_mut.new.n) left.right shifted top_is l.func c.visit_mut.new.func m e u v
-          (Visited Call true walk.depth walk.in_lookbehind (tree c.args.n.now) v c.args.func.now e) depth (λ x b whole rest. so_far.visited x v b e whole rest) first (rw here.depth at second) ways;
+          (Visited Call true walk.depth walk.in_lookbehind (tree c.args.n.now) v c.args.func.now e) depth
+          (λ x b whole rest. so_far.visited x v b e whole rest) first (rw here.depth at second) ways;
     }
 
 pub visit_after-returns-clause-visited : goal.visit_after-returns-clause-visited
@@ -144,7 +153,8 @@ visit_after-returns-clause-visited g t c =
     ] in
     let inside = rw n_is at (inside_there (CallsMut (goal.F-step g)) so_far.unicode refl so_far.direction c.visit_inside.ensures.visited) in
     let called = called_there (CallsMut (goal.F-step g)) so_far.unicode refl so_far.direction c.call.ensures.called in
-    so_far.visited (tree c.call.new.n) (tree c.climb.new.n) c.call.new.func c.climb.new.func (after_children inside called) (rw above_is at c.climb.ensures.climbed)
+    so_far.visited (tree c.call.new.n) (tree c.climb.new.n) c.call.new.func c.climb.new.func (after_children inside called)
+    (rw above_is at c.climb.ensures.climbed)
 
 pub visit_row-visit_mut-requires : goal.visit_row-visit_mut-requires
 visit_row-visit_mut-requires g t c κs lives =

@@ -22,7 +22,8 @@ returns-in-ByteSequence c =
 pub returns-then-not-is_empty : goal.returns-then-not-is_empty
 returns-then-not-is_empty c =
     rw (c.in-ByteSet.is, tree-ByteSet)
-    (stands-where _ (some-small_set _ _ _ _ _ c.in-ByteSet.bytes.ok.0 c.if-not-is_empty.true c.is_empty.ensures (rw c.deref-then-not-is_empty.ensures.value at c.is_byte_set.ensures)))
+    (stands-where _ (some-small_set _ _ _ _ _ c.in-ByteSet.bytes.ok.0 c.if-not-is_empty.true c.is_empty.ensures
+    (rw c.deref-then-not-is_empty.ensures.value at c.is_byte_set.ensures)))
 
 pub returns-else-not-is_empty : goal.returns-else-not-is_empty
 returns-else-not-is_empty c =
@@ -31,8 +32,10 @@ returns-else-not-is_empty c =
 pub returns-then-not-is_empty-2 : goal.returns-then-not-is_empty-2
 returns-then-not-is_empty-2 c =
     rw (c.in-CharSet.is, tree-CharSet)
-    (stands-where _ (some-small_set _ _ _ _ _ c.in-CharSet.characters.ok.0 c.if-not-is_empty-2.true c.is_empty-in-CharSet.ensures (rw c.deref-then-not-is_empty-2.ensures.value at c.is_char_set.ensures)))
+    (stands-where _ (some-small_set _ _ _ _ _ c.in-CharSet.characters.ok.0 c.if-not-is_empty-2.true c.is_empty-in-CharSet.ensures
+    (rw c.deref-then-not-is_empty-2.ensures.value at c.is_char_set.ensures)))
 
 pub returns-else-not-is_empty-2 : goal.returns-else-not-is_empty-2
 returns-else-not-is_empty-2 c =
-    rw (c.in-CharSet.is, tree-CharSet) (stands-where _ (no-small_set _ _ _ _ c.in-CharSet.characters.ok.0 c.if-not-is_empty-2.false c.is_empty-in-CharSet.ensures))
+    rw (c.in-CharSet.is, tree-CharSet) (stands-where _ (no-small_set _ _ _ _ c.in-CharSet.characters.ok.0 c.if-not-is_empty-2.false
+    c.is_empty-in-CharSet.ensures))
