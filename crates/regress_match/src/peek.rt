@@ -18,7 +18,7 @@ use std::boxed::BoxedSlice;
 /// How many nodes it goes down to the leaf in front. A bound, since each node on the way may ask.
 const LEVELS: usize = 6;
 
-/// How many alternatives of a choice are asked, and how many strings of a set. A bound too.
+/// How many alternatives of a choice are asked, and how many strings of a set. A bound too, so that steps bound the time.
 const ALTERNATIVES: usize = 16;
 
 /// Whether what stands in front of a node tells that the node matches nothing from a place: a leaf, a lookaround at one, or
@@ -41,8 +41,8 @@ pub fn fails_at_once(text: &str, rules: Rules<'_>, node: &Node, place: usize) ->
     false
 }
 
-/// What is left of alternatives behind those in front that are told to match nothing from a place: of these it leaves out
-/// some at most.
+/// What is left of alternatives behind those in front that are told to match nothing from a place. It leaves out
+/// `ALTERNATIVES` of these at most.
 pub fn behind_failing<'a>(text: &str, rules: Rules<'_>, node: &'a Node, place: usize) -> &'a Node
     ensures { (s : State) → s.place ≡ place → (let u = subject rules.entry text.now in
         steps u.setting u.bytes u.direction (tree result.now) s ≡ steps u.setting u.bytes u.direction (tree node.now) s) }
@@ -91,7 +91,7 @@ fn front_fails(text: &str, rules: Rules<'_>, node: &Node, place: usize) -> bool
     }
 }
 
-/// What is left of strings behind those in front that don't stand there: of these it leaves out some at most.
+/// What is left of strings behind those in front that don't stand there. It leaves out `ALTERNATIVES` of these at most.
 pub fn behind_missing<'a>(
     text: &str,
     rules: Rules<'_>,
