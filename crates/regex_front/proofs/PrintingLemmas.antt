@@ -1,4 +1,4 @@
--- What the parts of a run come to.
+-- The results of the two parts of a run.
 use Rattle.std.proofs.Common.{ℕ, List, ◌++◌, Option, ap₂}
 use Rattle.std.specs.Prelude.{Result, Ok, Err, OnOk}
 use Rattle.regex_front.specs.declared.failure.Failure.{Failure}
@@ -7,7 +7,7 @@ use Rattle.regress_arguments.specs.Request.{Request}
 use Rattle.regress_arguments.proofs.laws.Output.{appends_both}
 use Rattle.regex_front.specs.Printed.{IsParsedText, IsOptimizedText, IsOutput}
 
--- both parts are the whole
+-- both parts are the whole output
 whole_output : (request : Request) (old between new : Option (List ℕ)) → Took old between (IsParsedText request) →
     Took between new (IsOptimizedText request) → Took old new (IsOutput request)
 whole_output request old between new first second = (
@@ -22,7 +22,7 @@ whole_output request old between new first second = (
   appends_both old between new first.0 second.0 first.2 second.2,
 )
 
--- the second part behind the first, where it is written
+-- the second part after the first, if it is written
 pub then_whole : (request : Request) (r : Result (Unit {0}) Failure) (old between new : Option (List ℕ)) →
     Took old between (IsParsedText request) → OnOk r (Took between new (IsOptimizedText request)) → OnOk r (Took old new (IsOutput request))
 then_whole request (Ok done) old between new first second = whole_output request old between new first second

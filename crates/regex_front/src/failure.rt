@@ -1,4 +1,4 @@
-//! Why a run ends with another status than 0.
+//! Failures of a run, with their exit statuses.
 ghost use Rattle.std.specs.Prelude.{◌≡◌};
 ghost use Rattle.regex_front.specs.declared.failure.Failure.TheVariants.{Output};
 ghost use Rattle.regex_front.specs.Ending.{status_of};
@@ -7,17 +7,18 @@ use regress_front::parse::{Error, ParseFault};
 use std::alloc::AllocError;
 use std::io::Write;
 
-/// Why a run ends with another status than 0. No `io::Error` is converted by `?`: it says that the output
-/// can't be written only where it comes from a write.
+/// Why a run ends with a status other than 0.
+///
+/// `io::Error` has no `From` conversion: only the error of a write becomes `Output`.
 #[derive(Debug, Drop)]
 pub(crate) enum Failure {
-    /// The pattern has a fault: status 1.
+    /// The pattern is rejected: status 1.
     Syntax(Error),
-    /// The arguments are none that are taken: status 2.
+    /// The arguments are invalid: status 2.
     Usage,
-    /// Memory was wanting: status 3.
+    /// An allocation failed: status 3.
     Memory,
-    /// Standard output can't be written: status 4.
+    /// Standard output cannot be written: status 4.
     Output,
 }
 
@@ -46,7 +47,7 @@ impl From<ParseFault> for Failure {
     }
 }
 
-/// Writes what a failure has to say to `err`, and answers its status. A failing write changes nothing.
+/// Writes the message of a failure to `err`, and returns the exit status. An error of that write is ignored.
 pub(crate) fn tell<E: Write>(failure: Failure, err: &mut E) -> u8
     ensures status { result ≡ status_of failure }
     ensures quiet { failure ≡ Output → err.new ≡ err.old }

@@ -1,6 +1,6 @@
-//! `regex-front PATTERN [FLAGS]` prints the tree of a pattern, as it is parsed and as it is optimized.
-//! It ends with the status that `run_front` answers. An argument that isn't UTF-8 is none that is taken:
-//! status 2 and the usage. Want of memory for the arguments or the buffer is status 3, as elsewhere.
+//! `regex-front PATTERN [FLAGS]` prints the tree of a pattern, as parsed and as optimized. It exits with the status
+//! that `run_front` returns. If an argument is not UTF-8, it prints the usage and exits with 2; if an allocation for
+//! the arguments or the output buffer fails, with 3.
 #![tactic(auto)]
 
 ghost use Rattle.std.specs.Prelude.{◌≡◌, ◌≢◌, ◌≤◌, ◌↔◌, ◌⊎◌, None, IfSome, IfErr, OnOk};
@@ -25,7 +25,7 @@ fn main(rt: HostRuntime) -> ExitCode {
     ExitCode::from(run(&rt, rt.stdout(), &mut rt.stderr()))
 }
 
-/// Runs the program in its environment, which tells its arguments.
+/// Runs the program with the arguments of its environment.
 fn run<R: Env + AllocGlobal, W: Write + Drop, E: Write>(rt: &R, out: W, err: &mut E) -> u8
     ensures known { result ≤ 4 }
 {
@@ -36,7 +36,7 @@ fn run<R: Env + AllocGlobal, W: Write + Drop, E: Write>(rt: &R, out: W, err: &mu
     }
 }
 
-/// Runs `run_front` with a buffer before its output. Where no memory is found for that it ends with 3.
+/// Runs `run_front` with a buffered output. The status is 3 if the buffer cannot be allocated.
 fn run_buffered<W: Write + Drop, E: Write>(
     alloc: Global,
     args: &[String],
@@ -56,21 +56,23 @@ fn run_buffered<W: Write + Drop, E: Write>(
     }
 }
 
-/// Runs the program on its arguments, without its own name, and answers its status:
-/// - 0: the parsed tree, `--` and the optimized tree were written to `out`;
-/// - 1: the pattern has a fault, and `error: ` with its text was written to `err`;
-/// - 2: the arguments aren't a pattern and perhaps letters of `imsuv`, each at most once, and `err` has the usage;
-/// - 3: memory was wanting, and `err` has `error: out of memory`; `out` has nothing, or the parsed tree and `--`;
-/// - 4: `out` can't be written; it may have taken the front of what 0 writes.
+/// Runs the program on its arguments, without its own name, and returns its exit status:
+/// - 0: the parsed tree, `--` and the optimized tree are written to `out`;
+/// - 1: the pattern is rejected, and `error: ` with the text of the syntax error is written to `err`;
+/// - 2: the arguments are not a pattern with optional letters of `imsuv`, each at most once, and the usage is written
+///   to `err`;
+/// - 3: an allocation failed, and `error: out of memory` is written to `err`; `out` has nothing, or the parsed tree and
+///   `--`;
+/// - 4: `out` cannot be written; it may have accepted a prefix of the output of status 0.
 ///
-/// The parsed tree is written and flushed before the optimized one is made. A failing write to `err` changes no status.
+/// The parsed tree is written and flushed before the pattern is optimized. An error of a write to `err` is ignored.
 pub fn run_front<W: Write, E: Write>(alloc: Global, args: &[String], out: &mut W, err: &mut E) -> u8
     ensures known { result ≤ 4 }
     ensures usage { (result ≡ 2) ↔ (request_of args.now ≡ None) }
     ensures refused { result ≡ 1 → IfSome (request_of args.now) NoneIsAccepted }
     ensures accepted { (result ≡ 0) ⊎ (result ≡ 4) → IfSome (request_of args.now) IsAcceptedPattern }
 
-    // What is written, byte for byte: both trees, nothing, or the first one.
+    // The bytes written: both trees, nothing, or the first tree.
     ensures printed { result ≡ 0 → IfSome (request_of args.now)
         (λ request. Took (W.contents out.old) (W.contents out.new) (IsOutput request)) }
     ensures untouched { (result ≡ 1) ⊎ (result ≡ 2) → out.new ≡ out.old }

@@ -1,4 +1,4 @@
-//! The two trees that are printed of a pattern.
+//! Prints the two trees of a pattern.
 ghost use Rattle.std.specs.Prelude.{◌≡◌, ◌≢◌, ◌≤◌, ◌⊎◌, ◌++◌, All, Some, IfOk, IfErr, OnOk, chars};
 ghost use Rattle.std.specs.Io.KnownBytes.{Appends};
 ghost use Rattle.regress_front.specs.TableOf.{table_of};
@@ -21,7 +21,7 @@ use regress_front::util::code_points;
 use std::alloc::Global;
 use std::io::{self, Write};
 
-/// Prints the tree of a pattern as it is parsed, and then as it is optimized.
+/// Prints the tree of a pattern, as parsed and then as optimized.
 pub(crate) fn print_trees<W: Write>(
     alloc: Global,
     pattern: &str,
@@ -40,7 +40,7 @@ pub(crate) fn print_trees<W: Write>(
     print_optimized(alloc, &points, flags, &tables, out)
 }
 
-/// Prints the tree of a pattern as it is parsed, and the line behind it.
+/// Prints the parsed tree of a pattern, and the line `--`.
 fn print_parsed<W: Write>(
     alloc: Global,
     points: &[u32],
@@ -58,7 +58,7 @@ fn print_parsed<W: Write>(
     write_tree(&parsed, "--\n", out).map_err(|_| Failure::Output)
 }
 
-/// Prints the tree of a pattern as it is optimized.
+/// Prints the optimized tree of a pattern.
 fn print_optimized<W: Write>(
     alloc: Global,
     points: &[u32],
@@ -77,7 +77,7 @@ fn print_optimized<W: Write>(
     write_tree(&optimized, "", out).map_err(|_| Failure::Output)
 }
 
-/// Writes a tree and what comes behind it, and flushes: what is printed then stays printed.
+/// Writes a tree and the text after it, and flushes the output, so that it is printed even if the program fails later.
 fn write_tree<W: Write>(regex: &Regex, behind: &str, out: &mut W) -> io::Result<()>
     ensures { OnOk result (Appends (W.contents out.old) (W.contents out.new) (printed (tree regex.now.node) ++ behind.now)) }
 {

@@ -1,4 +1,4 @@
--- From what the pattern means to what is found.
+-- From the meaning of a pattern to what a search finds.
 use Rattle.std.proofs.Common.{◌≡◌, ◌∙◌, ℕ, zero, suc, List, ◌∷◌, None, length, map, refl, ap, sym}
 use Rattle.std.specs.Prelude.{encode_utf8_all, replicate}
 use Rattle.std.proofs.lemmas.List.Elements.{All-replicate}
@@ -14,7 +14,7 @@ use Rattle.regress_front.specs.WellFormed.{captures}
 use Rattle.regress_match.specs.Matched.{no_groups}
 use Rattle.regex_match.specs.Found.{FindsWhatMeans}
 
--- nothing captured is nothing captured in places of the UTF-8
+-- unset captures stay unset as byte offsets
 nothing : (text : List ℕ) (n : ℕ) → map (byte_capture text) (replicate n None) ≡ replicate n None
 nothing text zero = refl
 nothing text (suc n) = ap (λ xs. None ∷ xs) (nothing text n)

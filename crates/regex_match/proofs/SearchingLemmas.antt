@@ -1,4 +1,4 @@
--- A search goes on further to the right, with a line for each match.
+-- A search advances to the right, with one output line for each match.
 use Rattle.std.proofs.Common.{◌≡◌, ℕ, ◌+◌, ◌-◌, ◌<◌, Bool, true, false, List, [], ◌∷◌, ◌++◌, Option, Some, None, inl, inr, map, length, not-suc-le-zero, refl, sym, ap, subst, arith, ◌∙◌, flat_map}
 use Rattle.std.proofs.lemmas.List.{append-nil, flat_map_more, get_or-map, length-map}
 use Rattle.std.specs.Io.KnownBytes.{Appends, Keeps}
@@ -28,7 +28,7 @@ pub further : (old new : Matches) (m : Match) → IsLeftmost (searched_text old)
     length (searched_text new) + 2 - next_from new < length (searched_text old) + 2 - next_from old
 further old new m found next same = omega (arith, found.from, found.boundary.0, next, ap length same)
 
--- what is found and written while one search becomes the other
+-- the matches found and the lines written between two states of a search
 pub record Progress (old new : Matches) (groups : List Capture) (before after : Option (List ℕ)) (any : Bool) : Type 0 where
   pub found : List Match
   pub some : has_some found ≡ any
@@ -57,7 +57,7 @@ begins m groups before = record {
   written = appends_nothing before;
 }
 
--- the ids of the listed groups
+-- the ids of the listed groups ascend
 sorted-map : (groups : List Group) → IsNonDecreasingBy (λ group. group.id) groups →
     IsNonDecreasingBy (λ group. group.id) (map capture_of groups)
 sorted-map [] sorted = λ i j d up within. absurd (not-suc-le-zero within)
@@ -104,15 +104,15 @@ module _ (old now : Matches) (groups : List Capture) (before between : Option (L
     sofar.written,
   )
 
-  -- none is left
+  -- no match remains
   pub all : Finds (searched_text now) (searched_outcomes now) (next_from now) outcomes.NoMatch → WritesRest old groups before between any
   all none = (sofar.found, sofar.some, lines true (λ is. none))
 
-  -- more may be left
+  -- more matches may remain
   pub first : WritesSome old groups before between
   first = (sofar.found, lines false (λ is. let bad : ⊥ = cc in absurd bad))
 
--- The lines of a search that was made of a tree and a text are those of the tree.
+-- The lines of a search over a tree and a text are those of the tree.
 module _ (setting : Setting) (t : Tree) (m : Matches) (groups : List Group) (input old between new : Option (List ℕ))
     (is_outcomes : searched_outcomes m ≡ outcomes_at setting (searched_text m) t) (is_from : next_from m ≡ 0)
     (read : IfSome input (λ known. searched_text m ≡ known)) (listed : IsPermutation (captures t) (map capture_of groups))

@@ -1,11 +1,11 @@
--- Which patterns are accepted.
+-- Accepted patterns.
 use Rattle.regress_arguments.specs.Request.{Request}
 use Rattle.regress_front.specs.Accepted as parse
 use Rattle.regress_front.specs.Setting.{Setting}
 use Rattle.regress_front.specs.Syntax.{Pattern}
 use Rattle.regress_ucd.specs.UnicodeTable.{unicode_table}
 
--- its flags, and the whole of Unicode
+-- the request's flags, and the table of all of Unicode
 abbrev pub setting_of_request : Request → Setting
 setting_of_request (text, flags) = record { flags = flags; table = unicode_table }
 

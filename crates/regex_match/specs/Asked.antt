@@ -1,4 +1,4 @@
--- What the program is asked.
+-- The request that the arguments make.
 use Rattle.std.specs.Prelude.{ℕ, ◌&&◌, List, [], ◌∷◌, Option, Some, None, option_map, if◌then◌else◌, ◌==◌, length, bytes_eq, chars, codes, String, string_bytes}
 use Rattle.std.specs.List.{starts_with}
 use Rattle.std.specs.declared.alloc.Global.{Global}
@@ -11,12 +11,12 @@ pub data Task : Type 0 where
   help : Task
   matches : Request → Task
 
--- What is asked, as the code has it.
+-- the request as the code represents it
 abbrev pub task : Asked → Task
 task Help = help
 task (Matches pattern flags) = matches (chars pattern.now, flags)
 
--- `--help`, or `PATTERN [FLAGS]`, perhaps behind `--`. Nothing else may begin with two hyphens.
+-- `--help`, or `PATTERN [FLAGS]`, optionally after `--`. No other first argument may begin with two hyphens.
 abbrev pub task_of : List (String Global) → Option Task
 task_of [] = None
 task_of (first ∷ rest) =
@@ -25,12 +25,12 @@ task_of (first ∷ rest) =
     else if starts_with (λ b c. b == c) (string_bytes first) (codes "--") then None
     else option_map matches (request_of (first ∷ rest))
 
--- of a pattern this holds, and the help isn't asked for
+-- the request is for a pattern with this property
 abbrev pub OfPattern : (Request → Type 0) → Task → Type 0
 OfPattern P help = ⊥
 OfPattern P (matches request) = P request
 
--- the help is asked for, or of a pattern this holds
+-- the request is for the help, or for a pattern with this property
 abbrev pub OrHelp : (Request → Type 0) → Task → Type 0
 OrHelp P help = Unit {0}
 OrHelp P (matches request) = P request

@@ -8,7 +8,7 @@ use Rattle.regex_match.specs.Asked.{Task, help, matches}
 use Rattle.regex_match.specs.declared.failure.Failure.{Failure}
 use Rattle.regex_match.specs.declared.failure.Failure.TheVariants.{Usage, Memory, Output, Syntax, OutOfSteps, Input}
 
--- the status of a failure
+-- the exit status of a failure
 abbrev pub status_of : Failure → ℕ
 status_of Usage = 2
 status_of Memory = 3
@@ -17,12 +17,12 @@ status_of (Syntax e place) = 5
 status_of OutOfSteps = 6
 status_of Input = 7
 
--- a fault of the parser as a failure
+-- an error of the parser as a failure
 abbrev pub failure_of : PlacedFault → Failure
 failure_of (fault.Syntax e place) = Syntax e place
 failure_of (fault.Memory e) = Memory
 
--- When a failure is due: a fault where no pattern is accepted, and what comes behind it where one is.
+-- When a failure is due: a syntax error if no pattern is accepted, and a later failure if one is.
 abbrev pub IsDue : (accepted none : Type 0) → Failure → Type 0
 IsDue accepted none Usage = ⊥
 IsDue accepted none Memory = Unit {0}
@@ -31,7 +31,8 @@ IsDue accepted none (Syntax e place) = none
 IsDue accepted none OutOfSteps = accepted
 IsDue accepted none Input = accepted
 
--- What a failure leaves written: nothing, or the lines of the first matches. Where the output fails that isn't said.
+-- What was written before a failure: nothing, or the lines of the first matches. For an output error it is not
+-- specified.
 abbrev pub Leaves : (nothing first : Type 0) → Failure → Type 0
 Leaves nothing first Usage = nothing
 Leaves nothing first Memory = nothing ⊎ first
@@ -40,7 +41,7 @@ Leaves nothing first (Syntax e place) = nothing
 Leaves nothing first OutOfSteps = first
 Leaves nothing first Input = nothing
 
--- What a run comes to: nothing is asked, or the help is there, or all matches are printed, or a failure is due.
+-- The result of a run: wrong usage, the help, all matches printed, or a failure that is due.
 abbrev pub Ends : (all : Bool → Request → Type 0) → (first : Request → Type 0) → (nothing : Type 0) → Option Task →
     Result Bool Failure → Type 0
 Ends all first nothing None r = (r ≡ Err Usage) × nothing

@@ -1,4 +1,4 @@
--- What is found of a pattern.
+-- What a search for a pattern finds.
 use Rattle.std.specs.Prelude.{◌≡◌, ℕ, ◌≤◌, List, length, map, encode_utf8_all}
 use Rattle.regress_front.specs.Accepted.{IsAccepted}
 use Rattle.regress_front.specs.Meaning.{meaning}
@@ -12,14 +12,14 @@ use Rattle.regress_front.specs.TreeOf.{tree_of}
 use Rattle.regress_front.specs.WellFormed.{captures}
 use Rattle.regress_match.specs.Matched.{no_groups, outcomes_at}
 
--- Behind each character of each text, the outcomes of the tree over the UTF-8 are those of the pattern over the
--- characters, place for byte place, in their order.
+-- From every character boundary of every text, the outcomes of the tree over the UTF-8 are the outcomes of the pattern
+-- over the code points, in the same order, with code-point indices converted to byte offsets.
 abbrev pub FindsWhatMeans : Setting → Tree → Pattern → Type 0
 FindsWhatMeans setting t p = (text : List ℕ) (k : ℕ) → IsText text → k ≤ length text →
     outcomes_at setting (encode_utf8_all text) t (byte_place text k)
     ≡ map (byte_state text) (meaning setting text forwards p (no_groups (length (captures t)) k))
 
--- A tree that finds what the accepted pattern means, and has its groups.
+-- A tree with the outcomes and the groups of the accepted pattern.
 pub record IsTreeOf (setting : Setting) (source : Source) (t : Tree) : Type 0 where
   pub pattern : Pattern
   pub accepted : IsAccepted setting source pattern

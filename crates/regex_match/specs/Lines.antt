@@ -1,4 +1,4 @@
--- The line of a match.
+-- The output line of a match.
 use Rattle.std.specs.Prelude.{ℕ, List, [], ◌++◌, flat_map, Option, Some, None, codes, slice_index_or}
 use Rattle.std.specs.Fmt.{decimal}
 use Rattle.regress_front.specs.Steps.{CaptureSpan}
@@ -6,21 +6,21 @@ use Rattle.regress_front.specs.WellFormed.{Capture}
 use Rattle.regress_match.specs.Matched.{start_of, state_of}
 use Rattle.regress_match.specs.declared.matching.Match.{Match}
 
--- from where to where, in bytes
+-- a half-open span in bytes
 abbrev pub span : CaptureSpan → List ℕ
 span s = decimal s.0 ++ codes "-" ++ decimal s.1
 
--- what a group has captured, if it has
+-- the span of a group, or `-` if it is unset
 abbrev pub captured_span : Option CaptureSpan → List ℕ
 captured_span None = codes "-"
 captured_span (Some s) = span s
 
--- what stands in front of that
+-- the name of a group before its span, if it has one
 abbrev pub name_in_front : Option (List ℕ) → List ℕ
 name_in_front None = []
 name_in_front (Some name) = name ++ codes "="
 
--- a group behind a space
+-- a space and a group
 abbrev pub field : Match → Capture → List ℕ
 field m group = codes " " ++ name_in_front group.name ++ captured_span (slice_index_or (state_of m).captures group.id None)
 

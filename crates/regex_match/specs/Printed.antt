@@ -1,4 +1,4 @@
--- What is printed of a text.
+-- The program's output for a text.
 use Rattle.std.specs.Prelude.{◌≡◌, ℕ, Bool, true, false, List, [], ◌∷◌, flat_map, Option, IfSome}
 use Rattle.std.specs.List.Sorted.{IsNonDecreasingBy, IsPermutation}
 use Rattle.regress_arguments.specs.Output.{Took}
@@ -16,7 +16,7 @@ use Rattle.regex_match.specs.Accepted.{setting_of_request}
 use Rattle.regex_match.specs.Found.{IsTreeOf}
 use Rattle.regex_match.specs.Lines.{line}
 
--- The lines of the matches from a place on, in their order: where the search ended, all of them, else the first ones.
+-- The lines of the matches from byte offset `from` on, in order: all of them if the search ended, else the first ones.
 pub record AreLines (text : List ℕ) (at : ℕ → List State) (from : ℕ) (groups : List Capture) (ended : Bool) (found : List Match)
     (bytes : List ℕ) : Type 0 where
   pub to : ℕ
@@ -24,7 +24,7 @@ pub record AreLines (text : List ℕ) (at : ℕ → List State) (from : ℕ) (gr
   pub none : ended ≡ true → Finds text at to outcomes.NoMatch
   pub lines : bytes ≡ flat_map (line groups) found
 
--- the lines of a tree's matches in what was read, each with the groups in the order of their ids
+-- the lines of a tree's matches in the input, each with the groups in ascending order of their ids
 pub record AreLinesOf (setting : Setting) (t : Tree) (input : Option (List ℕ)) (ended : Bool) (found : List Match)
     (bytes : List ℕ) : Type 0 where
   pub text : List ℕ
@@ -34,7 +34,7 @@ pub record AreLinesOf (setting : Setting) (t : Tree) (input : Option (List ℕ))
   pub sorted : IsNonDecreasingBy (λ group. group.id) groups
   pub lines : AreLines text (outcomes_at setting text t) 0 groups ended found bytes
 
--- those of the tree of an accepted pattern
+-- the lines of the tree of an accepted pattern
 pub record IsPrinted (request : Request) (input : Option (List ℕ)) (ended : Bool) (found : List Match) (bytes : List ℕ) : Type 0 where
   pub tree : Tree
   pub good : IsTreeOf (setting_of_request request) request.0 tree
@@ -44,30 +44,30 @@ abbrev pub has_some : List Match → Bool
 has_some [] = false
 has_some (m ∷ ms) = true
 
--- All matches were printed, and there were some or none.
+-- All matches were printed, and `any` states whether there were some.
 abbrev pub PrintsAll : (input old new : Option (List ℕ)) → (any : Bool) → Request → Type 0
 PrintsAll input old new any request =
     (found : List Match) × (has_some found ≡ any) × Took old new (IsPrinted request input true found)
 
--- the first ones were
+-- the first matches were printed
 abbrev pub PrintsFirst : (input old new : Option (List ℕ)) → Request → Type 0
 PrintsFirst input old new request = (found : List Match) × Took old new (IsPrinted request input false found)
 
--- the lines of what a tree finds were written: of all matches, of which there were some or none
+-- the lines of all matches of a tree were written, and `any` states whether there were some
 abbrev pub WritesAll : Setting → Tree → (input old new : Option (List ℕ)) → (any : Bool) → Type 0
 WritesAll setting t input old new any =
     (found : List Match) × (has_some found ≡ any) × Took old new (AreLinesOf setting t input true found)
 
--- of the first ones
+-- the lines of the first matches of a tree were written
 abbrev pub WritesFirst : Setting → Tree → (input old new : Option (List ℕ)) → Type 0
 WritesFirst setting t input old new = (found : List Match) × Took old new (AreLinesOf setting t input false found)
 
--- the lines of what a search has still to find were written: of all of it
+-- the lines of all remaining matches of a search were written
 abbrev pub WritesRest : Matches → List Capture → (old new : Option (List ℕ)) → (any : Bool) → Type 0
 WritesRest m groups old new any = (found : List Match) × (has_some found ≡ any)
     × Took old new (AreLines (searched_text m) (searched_outcomes m) (next_from m) groups true found)
 
--- of what comes first
+-- the lines of the first remaining matches were written
 abbrev pub WritesSome : Matches → List Capture → (old new : Option (List ℕ)) → Type 0
 WritesSome m groups old new = (found : List Match)
     × Took old new (AreLines (searched_text m) (searched_outcomes m) (next_from m) groups false found)

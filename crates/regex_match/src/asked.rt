@@ -1,4 +1,4 @@
-//! What the program is asked.
+//! The request that the arguments make.
 ghost use Rattle.std.specs.Prelude.{◌≡◌, option_map};
 ghost use Rattle.regress_arguments.specs.Request.{request_of};
 ghost use Rattle.regex_match.specs.Asked.{matches, task, task_of};
@@ -6,15 +6,16 @@ ghost use Rattle.regex_match.specs.Asked.{matches, task, task_of};
 use regress_arguments::read_pattern;
 use regress_front::types::Flags;
 
-/// What the program is asked.
+/// The request that the arguments make.
 #[derive(Clone, Copy)]
 pub(crate) enum Asked<'a> {
     Help,
-    /// The matches of a pattern under flags.
+    /// Print the matches of a pattern under these flags.
     Matches(&'a str, Flags),
 }
 
-/// Reads `--help` or, perhaps behind `--`, `PATTERN [FLAGS]`. Nothing else may begin with two hyphens.
+/// Parses `--help` or `PATTERN [FLAGS]`, the latter optionally after `--`. No other first argument may begin with two
+/// hyphens.
 pub(crate) fn read_asked(args: &[String]) -> Option<Asked<'_>>
     ensures { option_map task result ≡ task_of args.now }
 {

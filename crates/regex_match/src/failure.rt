@@ -1,4 +1,4 @@
-//! Why a run ends with another status than 0 or 1.
+//! Failures of a run, with their exit statuses.
 ghost use Rattle.std.specs.Prelude.{◌≡◌};
 ghost use Rattle.regex_match.specs.Ending.{status_of};
 ghost use Rattle.regex_match.specs.declared.failure.Failure.TheVariants.{Output};
@@ -7,21 +7,22 @@ use regress_front::parse::{Error, PlacedFault};
 use std::alloc::AllocError;
 use std::io::Write;
 
-/// Why a run ends with another status than 0 or 1. No `io::Error` is converted by `?`: whether it is one of the input or
-/// of the output is told where it comes.
+/// Why a run ends with a status other than 0 or 1.
+///
+/// `io::Error` has no `From` conversion: the caller knows whether it is an error of the input or of the output.
 #[derive(Debug, Drop)]
 pub(crate) enum Failure {
-    /// The arguments are none that are taken: status 2.
+    /// The arguments are invalid: status 2.
     Usage,
-    /// Memory was wanting: status 3.
+    /// An allocation failed: status 3.
     Memory,
-    /// Standard output can't be written: status 4.
+    /// Standard output cannot be written: status 4.
     Output,
-    /// The pattern has a fault, at the index of a code point or at its end: status 5.
+    /// The pattern is rejected, with a syntax error at a code-point index of the pattern or at its end: status 5.
     Syntax { error: Error, place: usize },
-    /// The steps were used up: status 6.
+    /// The step limit was reached: status 6.
     OutOfSteps,
-    /// Standard input can't be read, or isn't UTF-8: status 7.
+    /// Standard input cannot be read, or is not UTF-8: status 7.
     Input,
 }
 
@@ -50,7 +51,7 @@ impl From<PlacedFault> for Failure {
     }
 }
 
-/// Writes what a failure has to say to `err`, and answers its status. A failing write changes nothing.
+/// Writes the message of a failure to `err`, and returns the exit status. An error of that write is ignored.
 pub(crate) fn tell<E: Write>(failure: Failure, err: &mut E) -> u8
     ensures status { result ≡ status_of failure }
     ensures quiet { failure ≡ Output → err.new ≡ err.old }

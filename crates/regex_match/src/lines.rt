@@ -1,4 +1,4 @@
-//! Matches in lines.
+//! The output line of a match.
 ghost use Rattle.std.specs.Prelude.{◌≡◌, option_map, string_bytes};
 ghost use Rattle.std.specs.Fmt.{WritesOnOk};
 ghost use Rattle.regress_match.specs.Names.{capture_of};
@@ -7,7 +7,7 @@ ghost use Rattle.regex_match.specs.Lines.{captured_span, field, name_in_front};
 use regress_match::{Group, Match};
 use std::fmt::{self, Display, Formatter, Write};
 
-/// A match that is displayed as a line: its span, and that of each group.
+/// A match that displays as a line: its span, and the span of each group.
 #[derive(Clone, Copy)]
 pub(crate) struct Line<'a> {
     pub(crate) found: &'a Match,
@@ -30,7 +30,7 @@ impl Display for Line<'_> {
     }
 }
 
-/// Writes what a group has captured, behind its name.
+/// Writes the span of a group after its name.
 fn write_group<W: Write>(found: &Match, group: &Group, f: &mut Formatter<W>) -> fmt::Result
     ensures { WritesOnOk W.write_str_gives f.old result (field found.now (capture_of group.now)) f.new }
 {

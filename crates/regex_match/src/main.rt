@@ -1,6 +1,6 @@
-//! `regex-match [--] PATTERN [FLAGS]` prints where a pattern matches the text of standard input.
-//! It ends with the status that `run_match` answers. An argument that isn't UTF-8 is none that is taken:
-//! status 2 and the usage. Want of memory for the arguments or the buffer is status 3, as elsewhere.
+//! `regex-match [--] PATTERN [FLAGS]` prints where a pattern matches in the text of standard input. It exits with the
+//! status that `run_match` returns. If an argument is not UTF-8, it prints the usage and exits with 2; if an allocation
+//! for the arguments or the output buffer fails, with 3.
 #![tactic(auto)]
 
 ghost use Rattle.std.specs.Prelude.{◌≡◌, ◌≤◌, ◌↔◌, ◌⊎◌, true, false, None, IfSome, IfOk, IfErr};
@@ -28,7 +28,7 @@ fn main(rt: HostRuntime) -> ExitCode {
     ExitCode::from(run(&rt, rt.stdin(), rt.stdout(), &mut rt.stderr()))
 }
 
-/// Runs the program in its environment, which tells its arguments.
+/// Runs the program with the arguments of its environment.
 fn run<R: Env + AllocGlobal, I: Read + Drop, W: Write + Drop, E: Write>(
     rt: &R,
     input: I,
@@ -44,7 +44,7 @@ fn run<R: Env + AllocGlobal, I: Read + Drop, W: Write + Drop, E: Write>(
     }
 }
 
-/// Runs `run_match` with a buffer before its output. Where no memory is found for that it ends with 3.
+/// Runs `run_match` with a buffered output. The status is 3 if the buffer cannot be allocated.
 fn run_buffered<I: Read + Drop, W: Write + Drop, E: Write>(
     alloc: Global,
     args: &[String],
@@ -60,17 +60,18 @@ fn run_buffered<I: Read + Drop, W: Write + Drop, E: Write>(
     }
 }
 
-/// Runs the program on its arguments, without its own name, and answers its status:
-/// - 0: there is a match, and each has its line in `out`; or the help was asked for, and is there;
-/// - 1: there is none;
-/// - 2: the arguments aren't taken, and `err` has the usage;
-/// - 3: memory was wanting, and `err` has `error: out of memory`;
-/// - 4: `out` can't be written;
-/// - 5: the pattern has a fault, and `error: ` with its text and place was written to `err`;
-/// - 6: the steps were used up, and `err` has `error: out of steps`;
-/// - 7: the input can't be read or isn't UTF-8, and `err` has `error: ` and that.
+/// Runs the program on its arguments, without its own name, and returns its exit status:
+/// - 0: there are matches, and a line for each is written to `out`; or the help was asked for and is written to `out`;
+/// - 1: there is no match;
+/// - 2: the arguments are invalid, and the usage is written to `err`;
+/// - 3: an allocation failed, and `error: out of memory` is written to `err`;
+/// - 4: `out` cannot be written;
+/// - 5: the pattern is rejected, and `error: ` with the text of the syntax error and its code-point index is written to
+///   `err`;
+/// - 6: the step limit was reached, and `error: out of steps` is written to `err`;
+/// - 7: the input cannot be read or is not UTF-8, and `error: ` with that text is written to `err`.
 ///
-/// With 3, 4 and 6 `out` may have taken lines of the first matches. A failing write to `err` changes no status.
+/// With 3, 4 and 6, lines of the first matches may have been written to `out`. An error of a write to `err` is ignored.
 pub fn run_match<I: Read + Drop, W: Write, E: Write>(
     alloc: Global,
     args: &[String],
@@ -81,12 +82,12 @@ pub fn run_match<I: Read + Drop, W: Write, E: Write>(
     ensures known { result ≤ 7 }
     ensures usage { (result ≡ 2) ↔ (task_of args.now ≡ None) }
 
-    // All matches of the pattern, byte for byte, under its flags and the whole of Unicode: some, or none.
+    // All matches of the pattern under its flags and all of Unicode, byte for byte: some, or none.
     ensures found { result ≡ 0 → IfSome (task_of args.now)
         (OrHelp (PrintsAll (I.remaining input) (W.contents out.old) (W.contents out.new) true)) }
     ensures none { result ≡ 1 → IfSome (task_of args.now)
         (OfPattern (PrintsAll (I.remaining input) (W.contents out.old) (W.contents out.new) false)) }
-    // The first ones, where the steps were used up; nothing or these, where memory was wanting.
+    // The first matches, if the step limit was reached; nothing or the first matches, if an allocation failed.
     ensures steps { result ≡ 6 → IfSome (task_of args.now)
         (OfPattern (PrintsFirst (I.remaining input) (W.contents out.old) (W.contents out.new))) }
     ensures wanting { result ≡ 3 → (out.new ≡ out.old) ⊎ IfSome (task_of args.now)
@@ -94,7 +95,7 @@ pub fn run_match<I: Read + Drop, W: Write, E: Write>(
     ensures untouched { (result ≡ 2) ⊎ ((result ≡ 5) ⊎ (result ≡ 7)) → out.new ≡ out.old }
     ensures quiet { (result ≡ 0) ⊎ ((result ≡ 1) ⊎ (result ≡ 4)) → err.new ≡ err.old }
 
-    // No such pattern is accepted, or one is.
+    // The pattern is rejected, or accepted.
     ensures refused { result ≡ 5 → IfSome (task_of args.now) (OfPattern NoneIsAccepted) }
     ensures accepted { (result ≡ 4) ⊎ (result ≡ 7) → IfSome (task_of args.now) (OrHelp IsAcceptedPattern) }
 {
@@ -105,7 +106,7 @@ pub fn run_match<I: Read + Drop, W: Write, E: Write>(
     }
 }
 
-/// Prints what the arguments ask for, and answers whether there was something.
+/// Prints what the arguments ask for, and returns whether there is a match or help.
 fn answer<I: Read + Drop, W: Write>(
     alloc: Global,
     args: &[String],
@@ -123,32 +124,32 @@ fn answer<I: Read + Drop, W: Write>(
     }
 }
 
-/// What the program is asked, and what it answers.
+/// The help: usage, output and exit statuses.
 const HELP: &str = "\
 usage: regex-match [--] PATTERN [FLAGS]
 
-Prints where PATTERN matches the text of standard input, a line for each match, from left to right and
-none overlapping: its span in bytes and, for each group in order, a space and its span, as in
+Prints where PATTERN matches in the text of standard input, one line for each match, from left to
+right without overlaps: its span in bytes and, for each capture group in order, a space and its span:
     0-5 0-2 year=3-7 -
-A group with a name has it in front. A `-` alone stands for a group that captured nothing.
+A named group has its name before its span. A lone `-` is a group that is unset.
 
-PATTERN is of ECMAScript's syntax, over characters, under the whole of Unicode. FLAGS are letters, each
-at most once:
-    i  letters match in either case
-    m  ^ and $ match at lines too
-    s  . matches line ends too
-    u  the syntax and the folds of u
-    v  the syntax of v: operations on classes, strings in classes
-A first argument -- is left out, so that PATTERN may begin with two hyphens.
+PATTERN is a regular expression in ECMAScript syntax, over all of Unicode. FLAGS are letters, each at
+most once:
+    i  ignore case
+    m  ^ and $ match at line boundaries too
+    s  . matches line terminators too
+    u  Unicode mode: its syntax and case folding
+    v  set operations and strings in classes; give u with it, as uv
+A first argument -- is skipped, so that PATTERN may begin with two hyphens.
 
-status:
+exit status:
     0  there is a match, or this help was asked for
-    1  there is none
-    2  the arguments are not taken
-    3  memory was wanting
+    1  there is no match
+    2  the arguments are invalid
+    3  out of memory
     4  standard output can't be written
-    5  PATTERN has a fault
-    6  a billion steps were used up; the lines of the matches found so far are written
+    5  PATTERN is rejected: a syntax error
+    6  a step limit of a billion was reached; the matches found so far are printed
     7  standard input can't be read, or isn't UTF-8
 ";
 

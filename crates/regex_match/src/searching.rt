@@ -1,4 +1,4 @@
-//! The matches of a text, each in its line.
+//! Prints the matches in a text, one line each.
 ghost use Rattle.std.specs.Prelude.{◌≡◌, ◌⊎◌, ◌≤◌, All, Some, map, string_bytes, IfSome, IfOk, IfErr, OnOk, ⊤, chars};
 ghost use Rattle.std.specs.Io.KnownBytes.{Appends};
 ghost use Rattle.regress_front.specs.Accepted.{NoneIsAccepted};
@@ -26,10 +26,10 @@ use regress_ucd::unicode_tables;
 use std::alloc::Global;
 use std::io::{self, ErrorKind, Read, Write};
 
-/// How many steps all matches of a run may take: some minute's.
+/// The step limit for all matches of a run together, about a minute's worth.
 const STEPS: u64 = 1_000_000_000;
 
-/// Prints the matches of a pattern in the input, and answers whether there is one.
+/// Prints the matches of a pattern in the input, and returns whether there is one.
 pub(crate) fn print_matches<I: Read + Drop, W: Write>(
     alloc: Global,
     pattern: &str,
@@ -47,7 +47,7 @@ pub(crate) fn print_matches<I: Read + Drop, W: Write>(
     print_found(alloc, &regex, &tables, input, out)
 }
 
-/// The optimized tree of a pattern.
+/// Returns the optimized tree of a pattern.
 fn prepared(alloc: Global, points: &[u32], flags: Flags, tables: &Tables) -> Result<Regex, Failure>
     requires { All (λ c. c ≤ CODE_POINT_MAX) points.now }
     ensures tree { IfOk result (λ regex. IsTreeOf (setting_of flags tables.now) points.now (tree regex.node)) }
@@ -59,7 +59,7 @@ fn prepared(alloc: Global, points: &[u32], flags: Flags, tables: &Tables) -> Res
     Ok(regex)
 }
 
-/// Prints the matches of a tree in the input, and answers whether there is one.
+/// Prints the matches of a tree in the input, and returns whether there is one.
 fn print_found<I: Read + Drop, W: Write>(
     alloc: Global,
     regex: &Regex,
@@ -81,7 +81,7 @@ fn print_found<I: Read + Drop, W: Write>(
     ended
 }
 
-/// Writes a line for each match that is left, and answers whether there is one.
+/// Writes a line for each remaining match, and returns whether there is one.
 fn write_all<W: Write>(
     alloc: Global,
     matches: &mut Matches<'_>,
@@ -121,7 +121,7 @@ fn read_text<I: Read + Drop>(alloc: Global, input: I) -> Result<String, Failure>
     io::read_to_string(alloc, input).map_err(unread)
 }
 
-/// Why the input can't be had.
+/// Converts an error of the input.
 fn unread(error: io::Error) -> Failure
     ensures { (result ≡ Memory) ⊎ (result ≡ Input) }
 {

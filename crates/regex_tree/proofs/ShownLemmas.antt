@@ -1,4 +1,4 @@
--- What the writes of a run come to.
+-- The results of the writes of a run.
 use Rattle.std.proofs.Common.{◌≡◌, ℕ, Bool, List, [], ◌++◌, Option, refl, subst, codes}
 use Rattle.std.specs.Io.KnownBytes.{Appends}
 use Rattle.std.specs.Prelude.{Result, Ok, Err, OnOk, IfOk}
@@ -35,7 +35,7 @@ pub shows_optimized : (format : Format) (flags : Flags) (t o : Tree) (r : Result
 shows_optimized format flags t o (Ok done) old new optimized (bytes, shown, appends) = (bytes, (o, optimized, shown), appends)
 shows_optimized format flags t o (Err failure) old new optimized took = tt
 
--- one behind the other
+-- both trees in order
 pub shows_both : (format : Format) (flags : Flags) (t : Tree) (spans : List Span) (r : Result (Unit {0}) Failure) (old between new : Option (List ℕ)) →
     Took old between (IsShownWith format flags t spans (codes "--\n")) → OnOk r (Took between new (IsOptimizedShown format flags t)) →
     OnOk r (Took old new (IsShown Both format flags t spans))
@@ -43,7 +43,7 @@ shows_both format flags t spans (Ok done) old between new (first, one, before) (
     (first ++ second, (first, second, one, two, refl), appends_both old between new first second before behind)
 shows_both format flags t spans (Err failure) old between new before behind = tt
 
--- the spans of its nodes show what they do
+-- the spans of the tree's own nodes are shown as themselves
 pub spanned_parsed : (stage : Stage) (format : Format) (setting : Setting) (text : List ℕ) (r : Result SpannedRegex PlacedFault) →
     IfOk r (λ s. (p : Pattern) × (accepted : parse.IsAccepted setting text p) × (tree s.regex.node ≡ tree_of setting.table p)
     × (s.spans.items ≡ spans_of setting text p accepted.derived)) → IfOk r (IsParsed stage format setting text)
@@ -51,7 +51,7 @@ spanned_parsed stage format setting text (Ok s) (p, accepted, same, spans) =
     (p, accepted, same, λ bytes. subst (λ (ss : List Span). IsShown stage format setting.flags (tree s.regex.node) ss bytes) spans)
 spanned_parsed stage format setting text (Err fault) spanned = tt
 
--- what is parsed by the table that is asked for
+-- the result of parsing with the requested table
 module _ (stage : Stage) (format : Format) (flags : Flags) (text : List ℕ) (r : Result SpannedRegex PlacedFault) where
   abbrev setting : Table → Setting
   setting table = record { flags = flags; table = table }
@@ -68,7 +68,7 @@ module _ (stage : Stage) (format : Format) (flags : Flags) (text : List ℕ) (r 
   pub refused_asked : (small : Bool) (table : Table) → table ≡ table_asked small → RefusedBy table → RefusedBy (table_asked small)
   refused_asked small table same refused = subst (λ (x : Table). RefusedBy x) same refused
 
--- a pattern that is accepted
+-- an accepted pattern
 pub shows_output : (stage : Stage) (format : Format) (asked : Asked) (parsed : SpannedRegex) (r : Result (Unit {0}) Failure)
     (old new : Option (List ℕ)) → IsParsed stage format (setting_asked asked) asked.text parsed →
     OnOk r (Took old new (IsShown stage format asked.flags (tree parsed.regex.node) parsed.spans.items)) →

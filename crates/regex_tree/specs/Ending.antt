@@ -6,19 +6,19 @@ use Rattle.regex_tree.specs.declared.failure.Failure.{Failure}
 use Rattle.regex_tree.specs.declared.failure.Failure.TheVariants.{Syntax, Usage, Memory, Output}
 use Rattle.regex_tree.specs.Shown.{Asked, IsAcceptedPattern, NoneIsAcceptedOf}
 
--- the status of a failure
+-- the exit status of a failure
 abbrev pub status_of : Failure → ℕ
 status_of (Syntax e place) = 1
 status_of Usage = 2
 status_of Memory = 3
 status_of Output = 4
 
--- a fault of the parser as a failure
+-- an error of the parser as a failure
 abbrev pub failure_of : PlacedFault → Failure
 failure_of (fault.Syntax e place) = Syntax e place
 failure_of (fault.Memory e) = Memory
 
--- A fault of the pattern is told only of one that isn't accepted, and one of the output only where there is output.
+-- A syntax error is reported only for a rejected pattern, and an output error only for an accepted one.
 abbrev pub IsDue : Asked → Failure → Type 0
 IsDue asked (Syntax e place) = NoneIsAcceptedOf asked
 IsDue asked Usage = ⊥

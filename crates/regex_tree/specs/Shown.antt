@@ -1,4 +1,4 @@
--- What is shown of a pattern.
+-- The program's output for a pattern.
 use Rattle.std.specs.Prelude.{◌≡◌, ℕ, Bool, List, [], ◌++◌, codes, if◌then◌else◌}
 use Rattle.regress_base.specs.Table.{Table}
 use Rattle.regress_base.specs.declared.types.Flags.{Flags}
@@ -24,7 +24,7 @@ use Rattle.regex_tree.specs.declared.request.Format.TheVariants.{Text, Json, Svg
 use Rattle.regex_tree.specs.declared.request.Stage.{Stage}
 use Rattle.regex_tree.specs.declared.request.Stage.TheVariants.{Parsed, Optimized, Both}
 
--- a pattern by its characters, its flags, and whether the table is the small one
+-- a pattern as a list of code points, its flags, and whether the small table is used
 pub record Asked : Type 0 where
   pub text : List ℕ
   pub flags : Flags
@@ -48,17 +48,17 @@ IsAcceptedPattern asked = (p : Pattern) × IsAccepted asked p
 abbrev pub NoneIsAcceptedOf : Asked → Type 0
 NoneIsAcceptedOf asked = parse.NoneIsAccepted (setting_asked asked) asked.text
 
--- What shows one tree: its text, its JSON with the spans of its nodes, or some picture, which is well formed.
+-- The output for one tree: its text, its JSON with the spans of its nodes, or a well-formed picture.
 abbrev pub IsShownAs : Format → Flags → Tree → List Span → List ℕ → Type 0
 IsShownAs Text flags t spans bytes = bytes ≡ printed t
 IsShownAs Json flags t spans bytes = bytes ≡ spanned_json_of flags t spans ++ codes "\n"
 IsShownAs Svg flags t spans bytes = (picture : List ℕ) × IsDocument picture × (bytes ≡ picture ++ codes "\n")
 
--- one tree, and these bytes behind it
+-- one tree, and these bytes after it
 abbrev pub IsShownWith : Format → Flags → Tree → List Span → (behind bytes : List ℕ) → Type 0
 IsShownWith format flags t spans behind bytes = (shown : List ℕ) × IsShownAs format flags t spans shown × (bytes ≡ shown ++ behind)
 
--- a tree in normal form that means what the other one does, and captures the same
+-- a tree in normal form with the meaning and the captures of the other one
 pub record IsOptimized (t optimized : Tree) : Type 0 where
   pub normal : IsNormal optimized
   pub meaning : MeansTheSame forwards t optimized
@@ -68,21 +68,21 @@ pub record IsOptimized (t optimized : Tree) : Type 0 where
 abbrev pub IsOptimizedShown : Format → Flags → Tree → List ℕ → Type 0
 IsOptimizedShown format flags t bytes = (optimized : Tree) × IsOptimized t optimized × IsShownWith format flags optimized [] [] bytes
 
--- what is shown of a parsed tree whose nodes have these spans
+-- the output for a parsed tree whose nodes have these spans
 abbrev pub IsShown : Stage → Format → Flags → Tree → List Span → List ℕ → Type 0
 IsShown Parsed format flags t spans bytes = IsShownWith format flags t spans [] bytes
 IsShown Optimized format flags t spans bytes = IsOptimizedShown format flags t bytes
 IsShown Both format flags t spans bytes = (first second : List ℕ) × IsShownWith format flags t spans (codes "--\n") first
     × IsOptimizedShown format flags t second × (bytes ≡ first ++ second)
 
--- A pattern's tree, with spans by which the same is shown as by those of its nodes: none will do where none are told.
+-- The tree of a pattern, with spans that are shown like those of its nodes. Any spans will do if none are shown.
 abbrev pub IsParsed : Stage → Format → Setting → List ℕ → SpannedRegex → Type 0
 IsParsed stage format setting text r = (p : Pattern) × (accepted : parse.IsAccepted setting text p)
     × (tree r.regex.node ≡ tree_of setting.table p)
     × ((bytes : List ℕ) → IsShown stage format setting.flags (tree r.regex.node) r.spans.items bytes
     → IsShown stage format setting.flags (tree r.regex.node) (spans_of setting text p accepted.derived) bytes)
 
--- what is shown of a pattern that is accepted
+-- the output for an accepted pattern
 abbrev pub IsOutput : Stage → Format → Asked → List ℕ → Type 0
 IsOutput stage format asked bytes = (p : Pattern) × (accepted : IsAccepted asked p)
     × IsShown stage format asked.flags (tree_of (table_asked asked.small) p) (spans_of (setting_asked asked) asked.text p accepted.derived) bytes

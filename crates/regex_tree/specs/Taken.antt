@@ -1,4 +1,4 @@
--- Which arguments are taken.
+-- Valid arguments.
 use Rattle.std.specs.Prelude.{ℕ, true, false, ◌||◌, List, [], ◌∷◌, Option, Some, None, option_map, option_and_then, if◌then◌else◌, ◌==◌, bytes_eq, slice_index, chars, codes, String, string_bytes}
 use Rattle.std.specs.declared.alloc.Global.{Global}
 use Rattle.regress_arguments.specs.Request.{Request, request_of}
@@ -8,7 +8,7 @@ use Rattle.regex_tree.specs.declared.request.Format.TheVariants.{Text, Json, Svg
 use Rattle.regex_tree.specs.declared.request.Stage.TheVariants.{Parsed, Optimized}
 use Rattle.regex_tree.specs.declared.request.Options.{Options}
 
--- the options with one more, where it is known
+-- the options with one more, if it is known
 abbrev pub with_option : Options → List ℕ → Option Options
 with_option options word =
     if bytes_eq word (codes "--help") || bytes_eq word (codes "-h") then Some (record options { help = true })
@@ -20,7 +20,8 @@ with_option options word =
     else if bytes_eq word (codes "--small") then Some (record options { small = true })
     else None
 
--- The options, and the arguments behind them: they end at `--`, or in front of a word that doesn't begin with a hyphen.
+-- The options, and the arguments after them. Options end at `--`, or before an argument that does not begin with a
+-- hyphen.
 abbrev pub options_of : Options → List (String Global) → Option (Options × List (String Global))
 options_of options [] = Some (options, [])
 options_of options (first ∷ rest) =
@@ -32,13 +33,13 @@ options_of options (first ∷ rest) =
 abbrev pub no_options : Options
 no_options = record { help = false; format = Text; stage = None; small = false }
 
--- The help, or `PATTERN [FLAGS]` behind the options; nothing where these can't be read.
+-- The help, or `PATTERN [FLAGS]` after the options; `None` if the arguments are invalid.
 abbrev pub taken_of : List (String Global) → Option (Option Request)
 taken_of args =
     option_and_then (λ found. if found.0.help then Some None else option_map (λ request. Some request) (request_of found.1))
     (options_of no_options args)
 
--- what is asked for, as the code has it
+-- the request as the code represents it
 abbrev pub taken : Asked → Option Request
 taken Usage = None
 taken (Tree request) = Some (chars request.pattern.now, request.flags)

@@ -1,4 +1,4 @@
-//! Why a run ends with another status than 0.
+//! Failures of a run, with their exit statuses.
 ghost use Rattle.std.specs.Prelude.{◌≡◌};
 ghost use Rattle.regex_tree.specs.declared.failure.Failure.TheVariants.{Output};
 ghost use Rattle.regex_tree.specs.Ending.{status_of};
@@ -7,46 +7,47 @@ use regress_parse::{Error, ParseFault, PlacedFault};
 use std::alloc::AllocError;
 use std::io::Write;
 
-/// What `--help` writes, and a run whose arguments are none that are taken.
+/// The text that `--help` writes, and that a run with invalid arguments writes.
 pub(crate) const USAGE: &str = "\
 usage: regex-tree [--text|--json|--svg] [--parsed|--optimized] [--small] [--] PATTERN [FLAGS]
 
-Shows the tree of a pattern. Without options: the parsed tree, --, the optimized one.
-  --text       a line for each node
-  --json       one JSON object, of the parsed tree unless the other one is asked for
+Shows the tree of a pattern. Without options: the parsed tree, --, the optimized tree.
+  --text       one line for each node
+  --json       one JSON object, of the parsed tree unless --optimized is given
   --svg        a railroad diagram as an SVG picture, of the same tree
-  --parsed     the parsed tree alone
-  --optimized  the optimized tree alone
-  --small      with the small table: ASCII, and a few more characters
+  --parsed     the parsed tree only
+  --optimized  the optimized tree only
+  --small      with the small table: ASCII and a few more characters
   --help, -h   this text
-  --           what follows is the pattern, as in -- --help
+  --           end of the options: the next argument is PATTERN
 
 FLAGS are letters, each at most once:
-  i  either case
-  m  ^ and $ match at lines too
-  s  . matches a line terminator too
-  u  the stricter grammar, and folds of Unicode
-  v  classes with strings and operators; give u with it, as uv
+  i  ignore case
+  m  ^ and $ match at line boundaries too
+  s  . matches line terminators too
+  u  Unicode mode: its syntax and case folding
+  v  set operations and strings in classes; give u with it, as uv
 
-It ends with one of these:
-  0  what was asked for is written
-  1  the pattern has a fault
-  2  the arguments are none that are taken
-  3  memory is wanting
+exit status:
+  0  the requested output is written
+  1  PATTERN is rejected: a syntax error
+  2  the arguments are invalid
+  3  out of memory
   4  the output can't be written
 ";
 
-/// Why a run ends with another status than 0. No `io::Error` is converted by `?`: it says that the output
-/// can't be written only where it comes from a write.
+/// Why a run ends with a status other than 0.
+///
+/// `io::Error` has no `From` conversion: only the error of a write becomes `Output`.
 #[derive(Drop)]
 pub(crate) enum Failure {
-    /// The pattern has a fault, at that code point: status 1.
+    /// The pattern is rejected, with a syntax error at that code-point index: status 1.
     Syntax { error: Error, place: usize },
-    /// The arguments are none that are taken: status 2.
+    /// The arguments are invalid: status 2.
     Usage,
-    /// Memory was wanting: status 3.
+    /// An allocation failed: status 3.
     Memory,
-    /// Standard output can't be written: status 4.
+    /// Standard output cannot be written: status 4.
     Output,
 }
 
@@ -75,7 +76,7 @@ impl From<PlacedFault> for Failure {
     }
 }
 
-/// Writes what a failure has to say to `err`, and answers its status. A failing write changes nothing.
+/// Writes the message of a failure to `err`, and returns the exit status. An error of that write is ignored.
 pub(crate) fn tell<E: Write>(failure: Failure, err: &mut E) -> u8
     ensures status { result ≡ status_of failure }
     ensures quiet { failure ≡ Output → err.new ≡ err.old }

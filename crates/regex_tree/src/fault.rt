@@ -1,9 +1,9 @@
-//! A fault of a pattern, for a person and for a tool.
+//! Syntax errors, for people and for tools.
 
 use regress_parse::Error;
 use std::io::{self, Write};
 
-/// Writes a fault, the pattern in a line of its own, and a caret under the place.
+/// Writes a syntax error, the pattern on a line of its own, and a caret below the error's position.
 pub(crate) fn write_fault<E: Write>(
     error: &Error,
     pattern: &str,
@@ -17,7 +17,7 @@ pub(crate) fn write_fault<E: Write>(
     err.write_all(b"^\n")
 }
 
-/// Writes a pattern with each control character as U+FFFD, so that it is one line.
+/// Writes a pattern with each control character as U+FFFD, so that it takes one line.
 fn write_in_one_line<E: Write>(pattern: &str, err: &mut E) -> io::Result<()> {
     for c in pattern.chars() {
         let shown = if c.is_control() { '\u{FFFD}' } else { c };
@@ -52,7 +52,7 @@ fn write_json_text<W: Write>(text: &str, out: &mut W) -> io::Result<()> {
     Ok(())
 }
 
-/// Writes a character of a text of JSON.
+/// Writes a character of a JSON string.
 fn write_json_character<W: Write>(c: char, out: &mut W) -> io::Result<()> {
     match c {
         '"' => out.write_all(b"\\\""),

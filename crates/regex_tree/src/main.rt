@@ -1,6 +1,6 @@
-//! `regex-tree [--text|--json|--svg] [--parsed|--optimized] [--small] [--] PATTERN [FLAGS]` shows the tree of a pattern.
-//! It ends with the status that `run_tree` answers. An argument that isn't UTF-8 is none that is taken: status 2 and the
-//! usage. Want of memory for the arguments or the buffer is status 3, as elsewhere.
+//! `regex-tree [--text|--json|--svg] [--parsed|--optimized] [--small] [--] PATTERN [FLAGS]` shows the tree of a
+//! pattern. It exits with the status that `run_tree` returns. If an argument is not UTF-8, it prints the usage and
+//! exits with 2; if an allocation for the arguments or the output buffer fails, with 3.
 #![tactic(auto)]
 
 ghost use Rattle.std.specs.Prelude.{◌≡◌, ◌≢◌, ◌≤◌, ◌↔◌, ◌⊎◌, None};
@@ -29,7 +29,7 @@ fn main(rt: HostRuntime) -> ExitCode {
     ExitCode::from(run(&rt, rt.stdout(), &mut rt.stderr()))
 }
 
-/// Runs the program in its environment, which tells its arguments.
+/// Runs the program with the arguments of its environment.
 fn run<R: Env + AllocGlobal, W: Write + Drop, E: Write>(rt: &R, out: W, err: &mut E) -> u8
     ensures known { result ≤ 4 }
 {
@@ -40,7 +40,7 @@ fn run<R: Env + AllocGlobal, W: Write + Drop, E: Write>(rt: &R, out: W, err: &mu
     }
 }
 
-/// Runs `run_tree` with a buffer before its output. Where no memory is found for that it ends with 3.
+/// Runs `run_tree` with a buffered output. The status is 3 if the buffer cannot be allocated.
 fn run_buffered<W: Write + Drop, E: Write>(
     alloc: Global,
     args: &[String],
@@ -55,14 +55,15 @@ fn run_buffered<W: Write + Drop, E: Write>(
     }
 }
 
-/// Runs the program on its arguments, without its own name, and answers its status:
-/// - 0: what was asked for was written to `out`: trees, or the usage;
-/// - 1: the pattern has a fault, which was written to `err` with its place, or with `--json` to `out` as an object;
-/// - 2: the arguments are none that are taken, and `err` has the usage;
-/// - 3: memory was wanting, and `err` has `error: out of memory`;
-/// - 4: `out` can't be written; it may have taken the front of what 0 writes.
+/// Runs the program on its arguments, without its own name, and returns its exit status:
+/// - 0: the requested output is written to `out`: trees, or the usage;
+/// - 1: the pattern is rejected; the syntax error with its position is written to `err` or, with `--json`, to `out` as
+///   an object;
+/// - 2: the arguments are invalid, and the usage is written to `err`;
+/// - 3: an allocation failed, and `error: out of memory` is written to `err`;
+/// - 4: `out` cannot be written; it may have accepted a prefix of the output of status 0.
 ///
-/// A failing write to `err` changes no status.
+/// An error of a write to `err` is ignored.
 pub fn run_tree<W: Write, E: Write>(alloc: Global, args: &[String], out: &mut W, err: &mut E) -> u8
     ensures known { result ≤ 4 }
     ensures usage { (result ≡ 2) ↔ (taken_of args.now ≡ None) }
@@ -93,7 +94,7 @@ fn run_request<W: Write, E: Write>(
     }
 }
 
-/// Writes a fault of the pattern in the format that is asked for, and answers the status.
+/// Writes a syntax error in the requested format, and returns the exit status.
 fn tell_fault<W: Write, E: Write>(
     error: &Error,
     place: usize,

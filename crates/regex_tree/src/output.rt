@@ -1,4 +1,4 @@
-//! What the program writes.
+//! Writes the program's output.
 ghost use Rattle.std.specs.Prelude.{◌≡◌, ◌++◌, IfErr, IfSome, OnOk};
 ghost use Rattle.std.specs.Io.KnownBytes.{Appends};
 ghost use Rattle.regex_tree.specs.declared.failure.Failure.TheVariants.{Output};
@@ -7,7 +7,8 @@ use crate::failure::Failure;
 use std::fmt::Display;
 use std::io::Write;
 
-/// Writes what is shown, what ends it and what comes behind it, and flushes: what is written then stays written.
+/// Writes a value, its end and the text after it, and flushes the output, so that it is written even if the program
+/// fails later.
 pub(crate) fn write_out<D: Display, W: Write>(
     shown: &D,
     end: &str,

@@ -1,4 +1,4 @@
-//! What the program is asked.
+//! The request that the arguments make.
 ghost use Rattle.std.specs.Prelude.{◌≡◌, ℕ, List, false, option_map};
 ghost use Rattle.regress_base.specs.declared.types.Flags.{Flags};
 ghost use Rattle.regress_spans.specs.declared.span.Span.{Span};
@@ -9,25 +9,26 @@ ghost use Rattle.regex_tree.specs.Taken.{no_options, options_of, taken, taken_of
 use regress_arguments::read_pattern;
 use regress_base::types::Flags;
 
-/// What the arguments ask for.
+/// The request that the arguments make.
 pub(crate) enum Asked<'a> {
     Tree(Request<'a>),
     Usage,
 }
 
-/// A pattern, the flags that the letters name, and what is to be shown of it.
+/// A pattern, its flags, and what to show of it.
 #[derive(Clone, Copy)]
 pub(crate) struct Request<'a> {
     pub(crate) pattern: &'a str,
     pub(crate) flags: Flags,
     pub(crate) format: Format,
     pub(crate) stage: Stage,
-    /// Whether the table is the small one, or that of all of Unicode.
+    /// Whether to use the small table instead of that of all of Unicode.
     pub(crate) small: bool,
 }
 
 impl Request<'_> {
-    /// Whether what is shown tells where nodes stand: the text doesn't, and of the optimized tree it isn't known.
+    /// Returns whether the output contains the spans of nodes. The text format has none, and those of an optimized tree
+    /// are not known.
     pub(crate) fn tells_spans(&self) -> bool
         ensures { result ≡ false → (flags : Flags) (t : Tree) (ss others : List Span) (bytes : List ℕ) →
             IsShown self.now.stage self.now.format flags t ss bytes → IsShown self.now.stage self.now.format flags t others bytes }
@@ -41,23 +42,23 @@ impl Request<'_> {
 
 #[derive(Clone, Copy)]
 pub(crate) enum Format {
-    /// A line for each node.
+    /// One line for each node.
     Text,
     Json,
-    /// A picture.
+    /// A railroad diagram.
     Svg,
 }
 
-/// Which tree is shown.
+/// The tree to show.
 #[derive(Clone, Copy)]
 pub(crate) enum Stage {
     Parsed,
     Optimized,
-    /// The parsed one, a line `--`, and the optimized one.
+    /// The parsed tree, a line `--`, and the optimized tree.
     Both,
 }
 
-/// What the options in front of the pattern say. The last one of a kind stands.
+/// The options before the pattern. The last one of a kind takes effect.
 #[derive(Clone, Copy)]
 struct Options {
     help: bool,
@@ -74,7 +75,7 @@ const NO_OPTIONS: Options = Options {
 };
 
 impl Options {
-    /// The tree that is asked for. JSON and a picture are of one tree.
+    /// Returns the requested tree. JSON and a picture show one tree only.
     fn stage(&self) -> Stage {
         match (self.stage, self.format) {
             (Some(stage), _) => stage,
@@ -84,8 +85,10 @@ impl Options {
     }
 }
 
-/// Reads `[OPTION ..] [--] PATTERN [FLAGS]`, or nothing where there are fewer or more arguments, an option is unknown, or
-/// a letter is none of `imsuv` or comes twice.
+/// Parses `[OPTION ..] [--] PATTERN [FLAGS]`.
+///
+/// The result is `None` if there are fewer or more arguments, an option is unknown, or a letter is not in `imsuv` or
+/// occurs twice.
 pub(crate) fn read_request(args: &[String]) -> Option<Asked<'_>>
     ensures { option_map taken result ≡ taken_of args.now }
 {
@@ -103,7 +106,7 @@ pub(crate) fn read_request(args: &[String]) -> Option<Asked<'_>>
     }))
 }
 
-/// The options, and the arguments behind them. None where one is unknown.
+/// Parses the options, and returns them with the arguments after them; `None` if one is unknown.
 fn read_options(args: &[String]) -> Option<(Options, &[String])>
     ensures { option_map (λ found. (found.0, found.1.now)) result ≡ options_of no_options args.now }
 {
@@ -123,7 +126,7 @@ fn read_options(args: &[String]) -> Option<(Options, &[String])>
     Some((options, rest))
 }
 
-/// The options with one more.
+/// Adds an option; `None` if it is unknown.
 fn with_option(options: Options, word: &str) -> Option<Options>
     ensures { result ≡ with_option options word.now }
 {

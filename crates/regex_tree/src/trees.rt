@@ -1,4 +1,4 @@
-//! The trees that are shown of a pattern.
+//! Shows the trees of a pattern.
 ghost use Rattle.std.specs.Prelude.{◌≡◌, ◌⊎◌, IfOk, IfErr, OnOk, All, chars};
 ghost use Rattle.regress_arguments.specs.Output.{Took};
 ghost use Rattle.regress_unicode.specs.TableOf.{table_of};
@@ -27,7 +27,7 @@ use regress_unicode::Tables;
 use std::alloc::{AllocError, Global};
 use std::io::Write;
 
-/// A pattern as it was written, and where the nodes of a tree stand in it: no spans where that isn't told.
+/// A pattern's source, and the spans of a tree's nodes in it; no spans if they are not known or not shown.
 #[derive(Clone, Copy)]
 struct Written<'a> {
     pattern: &'a [u32],
@@ -60,7 +60,7 @@ pub(crate) fn show<W: Write>(
     )
 }
 
-/// Parses a pattern by its code points, as the request has it otherwise.
+/// Parses a pattern, given as code points, as the request specifies.
 fn parse(alloc: Global, points: &[u32], request: &Request<'_>) -> Result<SpannedRegex, PlacedFault>
     requires { All IsCodePoint points.now }
     ensures refused { RefusedOnlyIf (unplaced result) (NoneIsAcceptedOf (asked points.now request.now.flags request.now.small)) }
@@ -73,7 +73,7 @@ fn parse(alloc: Global, points: &[u32], request: &Request<'_>) -> Result<Spanned
     parse_with(alloc, points, request, &tables)
 }
 
-/// Parses a pattern by these tables. It is read for its spans only where they are told, since that takes as long again.
+/// Parses a pattern with these tables. Spans are computed only if they are shown, since that takes as long as parsing.
 fn parse_with(
     alloc: Global,
     points: &[u32],
@@ -104,7 +104,7 @@ fn tables(alloc: Global, small: bool) -> Result<Tables, AllocError>
     }
 }
 
-/// Shows what was parsed of a pattern. The parsed tree is written and flushed before the optimized one is made of it.
+/// Shows the parsed pattern. The parsed tree is written and flushed before it is optimized.
 fn show_trees<W: Write>(
     alloc: Global,
     regex: &mut Regex,
@@ -128,7 +128,7 @@ fn show_trees<W: Write>(
     }
 }
 
-/// Optimizes the tree, and shows that. It isn't told where its nodes stand in the pattern.
+/// Optimizes the tree and shows it, without spans.
 fn show_optimized<W: Write>(
     alloc: Global,
     regex: &mut Regex,
@@ -149,7 +149,7 @@ fn show_optimized<W: Write>(
     write_tree(alloc, regex, &written, format, "", out)
 }
 
-/// Writes a tree and what comes behind it. A picture is made whole before any of it is written.
+/// Writes a tree and the text after it. A picture is built completely before any of it is written.
 fn write_tree<W: Write>(
     alloc: Global,
     regex: &Regex,

@@ -1,11 +1,11 @@
--- The flags that letters name.
+-- Flags by their letters.
 use Rattle.std.specs.Prelude.{ℕ, true, false, List, [], ◌∷◌, Option, Some, None, option_and_then, if◌then◌else◌, ◌==◌}
 use Rattle.regress_base.specs.declared.types.Flags.{Flags}
 
 abbrev pub no_flags : Flags
 no_flags = record { icase = false; multiline = false; dot_all = false; unicode = false; unicode_sets = false }
 
--- the flags with that of one letter more (`i`, `m`, `s`, `u` or `v`), which was not there
+-- the flags with the flag of one more letter (`i`, `m`, `s`, `u` or `v`), which was not set before
 abbrev pub with_letter : Flags → ℕ → Option Flags
 with_letter flags c =
     if c == 105 then (if flags.icase then None else Some (record flags { icase = true }))

@@ -1,10 +1,10 @@
--- What a program is asked.
+-- The request that a program's arguments make.
 use Rattle.std.specs.Prelude.{ℕ, List, [], ◌∷◌, Option, Some, None, option_map, chars, String, string_bytes}
 use Rattle.std.specs.declared.alloc.Global.{Global}
 use Rattle.regress_base.specs.declared.types.Flags.{Flags}
 use Rattle.regress_arguments.specs.Letters.{no_flags, with_letters}
 
--- a pattern, by its characters, and the flags
+-- a pattern, as a list of code points, and its flags
 abbrev pub Request : Type 0
 Request = List ℕ × Flags
 

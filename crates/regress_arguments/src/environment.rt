@@ -7,12 +7,12 @@ use std::alloc::AllocError;
 use std::env::{self, Env};
 use std::io::{self, ErrorKind};
 
-/// Why a program's arguments can't be had.
+/// Why the arguments of a program are not available.
 #[derive(Clone, Copy, Debug, PartialEq, Eq)]
 pub enum ArgumentsError {
-    /// No memory was found for them.
+    /// An allocation failed.
     OutOfMemory,
-    /// One isn't UTF-8.
+    /// An argument is not UTF-8.
     NotUtf8,
 }
 
@@ -27,12 +27,16 @@ impl From<AllocError> for ArgumentsError {
     }
 }
 
-/// The program's arguments, without its own name, in their order.
+/// Returns the program's arguments in order, without its own name.
+///
+/// # Errors
+/// Returns [`ArgumentsError::OutOfMemory`] if an allocation fails, and [`ArgumentsError::NotUtf8`] if an argument is
+/// not UTF-8.
 pub fn arguments<R: Env + AllocGlobal>(rt: &R) -> Result<Vec<String>, ArgumentsError> {
     Ok(env::args(rt).map_err(unread)?.skip(1).collect(rt.alloc())?)
 }
 
-/// Why the arguments can't be had.
+/// Converts the error of an argument.
 fn unread(error: io::Error) -> ArgumentsError
     ensures memory { error_kind error ≡ ErrorKind.OutOfMemory → result ≡ OutOfMemory }
     ensures other { error_kind error ≢ ErrorKind.OutOfMemory → result ≡ NotUtf8 }

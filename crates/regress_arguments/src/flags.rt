@@ -1,10 +1,13 @@
-//! The flags that letters name.
+//! Flags by their letters.
 ghost use Rattle.std.specs.Prelude.{◌≡◌};
 ghost use Rattle.regress_arguments.specs.Letters.{no_flags, with_letter, with_letters};
 
 use regress_base::types::Flags;
 
-/// The flags that the letters name, in any order. None where one is none of `imsuv`, or comes twice.
+/// Returns the flags that `letters` specifies, in any order; `None` if one is not in `imsuv` or occurs twice.
+///
+/// The letters mean ignoreCase, multiline, dotAll, unicode and unicodeSets (ECMA-262, RegExpInitialize). Dialect: `u`
+/// and `v` may be given together.
 pub fn read_flags(letters: &str) -> Option<Flags>
     ensures { result ≡ with_letters no_flags letters.now }
 {
@@ -15,7 +18,7 @@ pub fn read_flags(letters: &str) -> Option<Flags>
     Some(flags)
 }
 
-/// The flags with that of one letter more, which was not there.
+/// Sets the flag of one more letter; `None` if it is set already or there is no such flag.
 fn with_letter(flags: Flags, letter: u8) -> Option<Flags>
     ensures { result ≡ with_letter flags letter }
 {

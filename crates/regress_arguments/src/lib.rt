@@ -1,4 +1,4 @@
-//! What the programs have in common: their arguments, and the flags that letters name.
+//! What the programs have in common: the parsing of their arguments.
 #![tactic(auto)]
 
 mod environment;

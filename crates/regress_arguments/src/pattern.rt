@@ -5,8 +5,9 @@ ghost use Rattle.regress_arguments.specs.Request.{request_of};
 use crate::flags::read_flags;
 use regress_base::types::Flags;
 
-/// Reads `PATTERN [FLAGS]`: the pattern, and the flags that the letters name. None where there are fewer or more
-/// arguments, or the letters name no flags.
+/// Parses the arguments `PATTERN [FLAGS]`, and returns the pattern and its flags.
+///
+/// The result is `None` if there are fewer or more arguments, or if [`read_flags`] rejects the letters.
 pub fn read_pattern(args: &[String]) -> Option<(&str, Flags)>
     ensures { option_map (λ found. (chars found.0.now, found.1)) result ≡ request_of args.now }
 {

@@ -1,4 +1,4 @@
--- One interval more in a canonical list.
+-- A canonical list after one interval is added.
 use Rattle.std.proofs.Common.{◌≡◌, ℕ, ◌+◌, ◌-◌, ◌<◌, ◌≤◌, inl, inr, List, length, get_or, ap, ◌∙◌, sym, subst, nat_lt, cond, le_refl, le_of_eq, Some, slice_get, arith}
 use Rattle.std.proofs.lemmas.Option.{slice_get_within, get_or_from_slice_get}
 use Rattle.std.proofs.lemmas.Bool.{cases_lt}
@@ -12,7 +12,7 @@ use Rattle.regress_base.specs.Ranges.{IsEqualRange}
 use Rattle.regress_base.specs.Intervals.{Bounds, IsInterval, IsCanonical, Touches, IsTouchingRange}
 use Rattle.regress_base.proofs.CanonicalLemmas.{canonical_at, canonical_apart}
 
--- where an interval lies as seen from another, touching ones being equal
+-- how an interval compares with another one, where touching intervals are equal
 unfoldable pub merge_place : Bounds → Bounds → Ordering
 merge_place iv old = cond (nat_lt (old.last + 1) iv.first) Less (cond (nat_lt (iv.last + 1) old.first) Greater Equal)
 
@@ -22,7 +22,7 @@ pub merge_place_tells : (iv old : Bounds)
 unfolding merge_place
 merge_place_tells iv old = grind (arith, nat_tests)
 
--- an interval does not come later than one behind it
+-- an interval compares no later than one after it
 merge_place-rises : (iv a b : Bounds) → IsInterval iv → IsInterval a → IsInterval b → a.last + 1 < b.first
     → ordering_index (merge_place iv a) ≤ ordering_index (merge_place iv b)
 merge_place-rises iv a b hi ha hb apart = by_places (merge_place iv a) (merge_place iv b) (merge_place_tells iv a) (merge_place_tells iv b)
@@ -54,7 +54,7 @@ placed iv old o e =
     subst (λ (p : Ordering). MatchOrdering p (old.last + 1 < iv.first) ((iv.first ≤ old.last + 1) × (old.first ≤ iv.last + 1))
     (iv.last + 1 < old.first)) e (merge_place_tells iv old)
 
--- the range of equals by that place is the touching range
+-- the range of the intervals that compare as equal is the touching range
 pub touching-from_equal_range : (ivs : List Bounds) (iv : Bounds) (start end : ℕ) → IsEqualRange (merge_place iv) ivs start end
     → IsTouchingRange ivs iv start end
 touching-from_equal_range ivs iv start end range = record {
@@ -66,7 +66,7 @@ touching-from_equal_range ivs iv start end range = record {
   behind = λ k d from to. placed iv (get_or ivs k d) Greater (range.greater k d from to);
 }
 
--- where the last interval ends and begins, as seen from each one before it
+-- the last interval of a list, which begins after the end of each earlier one, with a gap between
 pub record LastAt (ivs : List Bounds) (last : Bounds) : Type 0 where
   pub some : 0 < length ivs
   pub here : (d : Bounds) → get_or ivs (length ivs - 1) d ≡ last
@@ -85,7 +85,7 @@ last_at ivs last can at =
           subst P (here d) (canonical_apart 0 ivs k (length ivs - 1) d can before inside));
     }
 
--- an interval that begins behind the last one
+-- the touching range of an interval after the last one
 pub touching-behind_all : (ivs : List Bounds) (iv last : Bounds) → IsCanonical ivs → slice_get ivs (length ivs - 1) ≡ Some last
     → last.last + 1 < iv.first → IsTouchingRange ivs iv (length ivs) (length ivs)
 touching-behind_all ivs iv last can at behind =
@@ -104,7 +104,7 @@ touching-behind_all ivs iv last can at behind =
       behind = λ k d from to. absurd (omega arith);
     }
 
--- an interval that ends before the first one
+-- the touching range of an interval before the first one
 pub touching-before_all : (ivs : List Bounds) (iv head : Bounds) → IsCanonical ivs → 0 < length ivs → head ≡ get_or ivs 0 head
     → iv.last + 1 < head.first → IsTouchingRange ivs iv 0 0
 touching-before_all ivs iv head can some here behind = record {
@@ -122,7 +122,7 @@ touching-before_all ivs iv head can some here behind = record {
       ]);
 }
 
--- an interval between the last one and the one before it
+-- the touching range of an interval between the last one and the one before it
 pub touching-before_last : (ivs : List Bounds) (iv before last : Bounds) → IsCanonical ivs → 1 < length ivs
     → before ≡ get_or ivs (length ivs - 2) before → last ≡ get_or ivs (length ivs - 1) last
     → before.last + 1 < iv.first → iv.last + 1 < last.first → IsTouchingRange ivs iv (length ivs - 1) (length ivs - 1)
@@ -144,7 +144,7 @@ touching-before_last ivs iv before last can two before_at last_at behind ahead =
       subst (λ n. iv.last + 1 < (get_or ivs n d).first) (sym same) (omega arith));
 }
 
--- an interval that begins in the last one
+-- the touching range of an interval that begins in the last one
 pub touching-in_last : (ivs : List Bounds) (iv last : Bounds) → IsCanonical ivs → iv.first ≤ iv.last
     → slice_get ivs (length ivs - 1) ≡ Some last → iv.first ≤ last.last + 1 → last.first ≤ iv.first
     → IsTouchingRange ivs iv (length ivs - 1) (length ivs)

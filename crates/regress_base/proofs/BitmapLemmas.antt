@@ -1,4 +1,4 @@
--- Facts on the set that a `ByteBitmap` stands for.
+-- Properties of the set that a `ByteBitmap` represents.
 use Rattle.std.proofs.Common.{◌≡◌, ℕ, ◌+◌, ◌*◌, ◌^◌, ◌<◌, Bool, true, false, ◌&&◌, ◌||◌, eqb, ltb, List, [], leb, length, get_or, set, bit_or, take, map, ◌/◌, ◌%◌, ◌≤◌, Decides, zero-add, refl, ap, sym, ◌∙◌, arith, inl, inr}
 use Rattle.std.specs.Int.{bit_at}
 use Rattle.std.specs.Int.RustNames.{count_ones}
@@ -67,7 +67,7 @@ members_from_words : (s t : ByteBitmap) → s.words ≡ t.words → SameMembers 
 unfolding contains
 members_from_words s t e = λ b. ap (λ ws. ltb b 256 && bit_in 16 ws b) e
 
--- tests that answer alike along the numbers below n answer alike there
+-- tests with the same results on the numbers below n agree there
 agree_below : (n : ℕ) (p q : ℕ → Bool) → map p (range_with_len 0 n) ≡ map q (range_with_len 0 n) → (b : ℕ) → b < n → p b ≡ q b
 agree_below n p q e b h =
     sym (get_or-map-range_with_len p 0 n b b false h (zero-add b)) ∙ ap (λ fs. get_or fs b false) e
@@ -87,19 +87,19 @@ pub different_word : (s t : ByteBitmap) (k : ℕ) → k < 16 → get_or s.words 
 different_word s t k inside fs ft differ =
     (λ e. absurd (false≢true e), λ same. absurd (differ (same_word s t k inside fs ft same)))
 
--- `==` on bitmaps by their words
+-- bitmaps with equal words have the same members
 pub equal_words : (s t : ByteBitmap) → length s.words ≡ 16 → length t.words ≡ 16
     → ((k : ℕ) → k < 16 → get_or s.words k 0 ≡ get_or t.words k 0) → SameMembers (contains s) (contains t)
 equal_words s t ls lt same =
     members_from_words s t (ext_get_or 0 s.words t.words (ls ∙ sym lt) (λ k inside. same k (omega arith)))
 
--- `==` on bitmaps
+-- `==` on bitmaps decides equality of their members
 pub same_members-Decides : (s t : ByteBitmap) → Decides (same_members s t) (SameMembers (contains s) (contains t))
 same_members-Decides s t =
     let d = pointwise_decides booleans_Decides (map (contains s) all_bytes) (map (contains t) all_bytes) in
     (λ e. members_from_flags s t (d.0 e), λ h. d.1 (λ i. map (λ b. h b i) all_bytes))
 
--- ---- a bitmap made of a list
+-- ---- a bitmap of a list of bytes
 
 pub bytes_of-none : (b : ℕ) → bytes_of [] b ≡ false
 unfolding bytes_of
@@ -120,9 +120,9 @@ bytes_of-more xs i b inside byte =
     let old = list_any (λ x. eqb x b) (take i xs) in
     ap (λ x. ltb b 256 && x) (list_any_more (λ x. eqb x b) xs i 0 inside ∙ or_turned v b old) ∙ or-guarded 256 v b old byte
 
--- ---- a bitmap that a run joins word by word
+-- ---- a bitmap to which a run is added word by word
 
--- the ends of a run within a word that lies between those of its first and its last byte
+-- the bounds of a run within one word, which is between the words of its first and its last byte
 pub record IsRunWithin (first last word low high : ℕ) : Type 0 where
   pub from : first / 16 ≤ word
   pub to : word ≤ last / 16
@@ -185,13 +185,13 @@ run_joins s first last word low high mask b len byte run bits =
       | inr apart ↦ rw (set, ne_eqb (b / 16) word apart) (both_false (ltb b 256) (bit_in 16 s.words b) inside)
     ]
 
--- the words before `word`, and then that one too
+-- the bytes of the words up to `word` are those before it and its own
 pub run_more : (inside old : Bool) (b word : ℕ)
     → ((inside && eqb (b / 16) word) || ((inside && ltb b (word * 16)) || old)) ≡ ((inside && ltb b ((word + 1) * 16)) || old)
 run_more false old b word = refl
 run_more true old b word = grind (arith, nat_tests)
 
--- ---- how many members a bitmap has
+-- ---- the number of members of a bitmap
 
 word_bit : (s : ByteBitmap) (i k : ℕ) → i < 16 → k < 16 → contains s (i * 16 + k) ≡ eqb (bit_at (get_or s.words i 0) k) 1
 unfolding contains

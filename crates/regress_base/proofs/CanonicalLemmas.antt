@@ -1,11 +1,11 @@
--- Canonical lists.
+-- Properties of canonical lists.
 use Rattle.std.proofs.Common.{◌≡◌, ℕ, ◌+◌, ◌<◌, ◌≤◌, true, false, inl, inr, IsTrue, nat_le, List, [], ◌∷◌, ◌++◌, length, drop, get_or, refl, ◌∙◌, sym, suc, zero, le_refl, le_of_suc-le-suc, not-suc-le-zero, arith, leb-true}
 use Rattle.std.proofs.lemmas.Bool.{and_parts, and_from, or_cases, le-leb, false≢true, false_from_ne_true}
 use Rattle.regress_base.specs.Intervals.{Bounds, IsInterval, code_point_max, is_within, is_member, is_canonical_from, IsCanonical}
 use Rattle.regress_base.proofs.WithinLemmas.{is_within-true}
 use Rattle.regress_base.proofs.MemberLemmas.{is_member-nil, is_member-cons}
 
--- what a canonical list says of its first interval and of the others
+-- what a canonical list states of its first interval and of the others
 pub record CanonicalParts (low : ℕ) (iv : Bounds) (ivs : List Bounds) : Type 0 where
   pub above : low ≤ iv.first
   pub interval : IsInterval iv
@@ -28,7 +28,7 @@ canonical_cons low iv ivs p =
     (and_from (nat_le iv.first iv.last) _ (le-leb iv.first iv.last p.interval.ordered)
     (and_from (nat_le iv.last code_point_max) _ (le-leb iv.last code_point_max p.interval.in_range) p.rest))
 
--- a list may begin lower than it must
+-- a list is canonical from any lower bound
 pub canonical_lower : (low low' : ℕ) (ivs : List Bounds) → low' ≤ low → IsTrue (is_canonical_from low ivs)
     → IsTrue (is_canonical_from low' ivs)
 canonical_lower low low' [] h can = refl
@@ -36,14 +36,14 @@ canonical_lower low low' (iv ∷ ivs) h can =
     let p = canonical_parts low iv ivs can in
     canonical_cons low' iv ivs (record { above = omega arith; interval = p.interval; rest = p.rest })
 
--- a list begins with its first interval
+-- a list is canonical from the start of its first interval
 pub from_first : (low : ℕ) (iv : Bounds) (ivs : List Bounds) → IsTrue (is_canonical_from low (iv ∷ ivs))
     → IsTrue (is_canonical_from iv.first (iv ∷ ivs))
 from_first low iv ivs can =
     let p = canonical_parts low iv ivs can in
     canonical_cons iv.first iv ivs (record { above = le_refl iv.first; interval = p.interval; rest = p.rest })
 
--- where the next interval may begin
+-- the least number at which the next interval can begin
 unfoldable pub next_low : ℕ → List Bounds → ℕ
 next_low low [] = low
 next_low low (iv ∷ ivs) = next_low (iv.last + 2) ivs
@@ -77,7 +77,7 @@ unfolding next_low
 canonical_back low [] ys can = can
 canonical_back low (x ∷ xs) ys can = canonical_back (x.last + 2) xs ys (canonical_parts low x (xs ++ ys) can).rest
 
--- the interval at a place
+-- the interval at an index
 pub record CanonicalAt (low : ℕ) (iv : Bounds) : Type 0 where
   pub above : low ≤ iv.first
   pub interval : IsInterval iv
@@ -95,7 +95,7 @@ canonical_at low (iv ∷ ivs) (suc k) d can h =
     canonical_at_low : (low : ℕ) (iv at : Bounds) → CanonicalParts low iv ivs → CanonicalAt (iv.last + 2) at → low ≤ at.first
     canonical_at_low low iv at p rest = omega (arith, p.above, p.interval.ordered, rest.above)
 
--- at least one code point is missing between two intervals
+-- between two intervals at least one code point is missing
 pub canonical_apart : (low : ℕ) (ivs : List Bounds) (i j : ℕ) (d : Bounds) → IsTrue (is_canonical_from low ivs) → i < j → j < length ivs
     → (get_or ivs i d).last + 1 < (get_or ivs j d).first
 canonical_apart low [] i j d can lt h = absurd (not-suc-le-zero h)
@@ -106,7 +106,7 @@ canonical_apart low (iv ∷ ivs) zero (suc j) d can lt h =
 canonical_apart low (iv ∷ ivs) (suc i) (suc j) d can lt h =
     canonical_apart (iv.last + 2) ivs i j d (canonical_parts low iv ivs can).rest (le_of_suc-le-suc lt) (le_of_suc-le-suc h)
 
--- every member lies at the low end or above it
+-- every member is at the lower bound or above it
 pub member_above : (low : ℕ) (ivs : List Bounds) (c : ℕ) → IsTrue (is_canonical_from low ivs) → is_member ivs c ≡ true
     → (low ≤ c) × (c ≤ code_point_max)
 member_above low [] c can h = absurd (false≢true (sym (is_member-nil c) ∙ h))
@@ -125,7 +125,7 @@ pub no_member_past_end : (ivs : List Bounds) (c : ℕ) → IsCanonical ivs → c
 no_member_past_end ivs c can h =
     false_from_ne_true _ (λ t. let above = member_above 0 ivs c can t in omega arith)
 
--- the intervals behind a place
+-- the intervals after an index are canonical
 pub canonical_behind : (low : ℕ) (ivs : List Bounds) (i : ℕ) (d : Bounds) → IsTrue (is_canonical_from low ivs) → i < length ivs
     → IsTrue (is_canonical_from ((get_or ivs i d).last + 2) (drop (suc i) ivs))
 canonical_behind low [] i d can h = absurd (not-suc-le-zero h)

@@ -1,4 +1,4 @@
--- Facts on bits that lie in cells of a fixed width, as in both bitmaps.
+-- Properties of bits in cells of a fixed width, which both bitmaps use.
 use Rattle.std.proofs.Common.{◌≡◌, ◌≢◌, ℕ, ◌+◌, ◌*◌, ◌/◌, ◌%◌, ◌^◌, ◌<◌, Bool, true, false, not, ◌&&◌, ◌||◌, eqb, ltb, leb, List, length, get_or, set, replicate, min, max, bit_and, bit_or, ◌≤◌, ◌-◌, refl, ap, sym, ◌∙◌, arith, get_or-set_other, get_or-set_same, inl, inr}
 use Rattle.std.specs.Int.{bit_at, Width}
 use Rattle.std.proofs.lemmas.Bool.{cases_eq, cases_lt, eq-eqb, ne_eqb, lt-ltb, le-ltb, le-leb, lt-leb}
@@ -27,12 +27,12 @@ of_bit x p h g =
       | inr a ↦ let e : x ≡ 1 = omega arith in rw e (of_one p g)
     ]
 
--- the code's test of one bit
+-- the test of one bit in the code
 pub tested : (w : Width) (n k : ℕ) → k < bits w → not (eqb (bit_and n (1 * 2 ^ k % 2 ^ bits w)) 0) ≡ eqb (bit_at n k) 1
 tested w n k h =
     rw (one_shl k (bits w) h, and_pow n k) (of_bit (bit_at n k) (2 ^ k) (bit_at-lt n k) (pow_pos k))
 
--- two places in one cell differ by their bit
+-- two numbers with the same cell and the same bit are equal
 same_place : (n a b : ℕ) → a / n ≡ b / n → a % n ≡ b % n → a ≡ b
 same_place n a b d m = sym (div-add-mod' a n) ∙ ap (λ q. q * n + a % n) d ∙ ap (λ r. b / n * n + r) m ∙ div-add-mod' b n
 
@@ -75,7 +75,7 @@ bit_in-with_bit w cells v b low inside =
       | inr ne ↦ rw (ne_eqb b v ne) (set_other w cells v b low inside ne)
     ]
 
--- a set of numbers below n, after v joins it
+-- a set of numbers below n after v is added
 pub or-guarded : (n v b : ℕ) (x : Bool) → v < n → (ltb b n && (eqb b v || x)) ≡ (eqb b v || (ltb b n && x))
 or-guarded n v b x h =
     elim (cases_eq b v) [
@@ -83,9 +83,9 @@ or-guarded n v b x h =
       | inr ne ↦ rw (ne_eqb b v ne) refl
     ]
 
--- ---- cells that a loop changes one by one
+-- ---- cells that a loop changes in order
 
--- the first i cells are changed, and the others are as they were
+-- the first i cells are changed, and the others are unchanged
 pub record CellsUpTo (i : ℕ) (change : ℕ → ℕ) (old new : List ℕ) : Type 0 where
   pub changed : (k : ℕ) → k < i → get_or new k 0 ≡ change k
   pub others : (k : ℕ) → i ≤ k → get_or new k 0 ≡ get_or old k 0
@@ -113,7 +113,7 @@ bit_in-with_mask n cells i mask b inside =
           rw (ne_eqb (b / n) i ne, get_or-set_other cells i (b / n) (bit_or x mask) 0 ne) (sym (or-false _))
     ]
 
--- a bit of a run of ones
+-- the bits of a run of ones
 pub ones_between : (low high k : ℕ) → low < 16 → high < 16 → k < 16
     → eqb (bit_at (bit_and (65535 * 2 ^ low % 65536) (65535 / 2 ^ (15 - high))) k) 1 ≡ (leb low k && leb k high)
 ones_between low high k l h within =

@@ -1,4 +1,4 @@
--- Membership along two lists that are walked at once.
+-- Membership while two lists are traversed at once.
 use Rattle.std.proofs.Common.{◌≡◌, ℕ, ◌+◌, ◌<◌, ◌≤◌, Bool, true, false, ◌||◌, ◌&&◌, inl, inr, IsTrue, nat_le, leb-true, List, [], ◌∷◌, ◌++◌, length, take, drop, get_or, max, min, refl, sym, ap, ap₂, ◌∙◌, subst, suc, add-one, ◌⊎◌, arith}
 use Rattle.std.proofs.lemmas.Bool.{and_left, and_right, and_from, and_parts, true≢false, false_from_ne_true, cases_lt, cond-true, cond-false, le-leb}
 use Rattle.std.proofs.lemmas.List.{drop_all, append-nil, get_or_read}
@@ -15,7 +15,7 @@ move_left false true true = refl
 move_left false true false = refl
 move_left false false w = sym (or-false w)
 
--- one interval more of the left list, or of the right one
+-- one more interval of the left or of the right list
 pub union_left : (xs : List Bounds) (i c : ℕ) (x : Bounds) (old new rest : Bool) → i < length xs → x ≡ get_or xs i x
     → new ≡ (old || is_within x c) → old ≡ (is_member (take i xs) c || rest) → new ≡ (is_member (take (i + 1) xs) c || rest)
 union_left xs i c x old new rest inside read added so_far =
@@ -31,7 +31,7 @@ union_right xs i c x old new rest inside read added so_far =
     added ∙ ap (λ b. b || is_within x c) so_far ∙ sym (or_assoc rest (is_member (take i xs) c) (is_within x c))
     ∙ ap (λ b. rest || b) (sym more)
 
--- no interval behind the place holds a code point up to the end of the one there
+-- no interval after the index contains a code point up to the end of the interval there
 none_behind : (ivs : List Bounds) (i c : ℕ) (x : Bounds) → IsCanonical ivs → i < length ivs → x ≡ get_or ivs i x → c ≤ x.last
     → is_member (drop (i + 1) ivs) c ≡ false
 none_behind ivs i c x can inside read below =
@@ -49,7 +49,7 @@ behind_and_within : (b w : Bool) → (w ≡ true → b ≡ false) → (b && w) �
 behind_and_within b true h = and_left b true (h refl)
 behind_and_within b false h = and_right b false refl
 
--- the left interval overlaps nothing behind the right one
+-- the left interval overlaps nothing after the right one
 meet_first : (o a b l r : Bool) → (a && r) ≡ false → ((o || (a && b)) || (l && (b || r))) ≡ (o || ((a || l) && (b || r)))
 meet_first true a b l r h = refl
 meet_first false false b l r h = refl
@@ -76,7 +76,7 @@ module _ (left right : List Bounds) (i j c : ℕ) (a b : Bounds) (old new whole 
   right_more : is_member (drop j right) c ≡ (is_within b c || is_member (drop (j + 1) right) c)
   right_more = is_member-drop_more right j c b right_in ∙ ap (λ x. is_within x c || is_member (drop (j + 1) right) c) (sym right_read)
 
-  -- the left interval ends no later than the right one, and goes
+  -- the left interval ends no later than the right one, and is dropped
   pub meet_left : a.last ≤ b.last → (new || (is_member (drop (i + 1) left) c && is_member (drop j right) c)) ≡ whole
   meet_left ends =
       let apart = within_and_behind (is_within a c) (is_member (drop (j + 1) right) c)
@@ -109,7 +109,7 @@ meet_none set left right c empty =
     ap (λ l. is_member l c || (is_member left c && is_member right c)) empty
     ∙ ap (λ b. b || (is_member left c && is_member right c)) (is_member-nil c)
 
--- ---- the common intervals, as their list is built
+-- ---- the common intervals while their list is built
 
 overlap-some : (a b : Bounds) → a.first ≤ b.last → b.first ≤ a.last
     → overlap a b ≡ record { first = max a.first b.first; last = min a.last b.last } ∷ []
@@ -178,7 +178,7 @@ overlap-low out a b low =
           omega arith
     ]
 
--- `out` is what the lists have in common, but for what is left of both, and all that lies before it
+-- `out` has the common members of both lists except for those of the remaining intervals, and all of it is before these
 pub record Met (left right out : List Bounds) (i j : ℕ) : Type 0 where
   pub canonical : IsCanonical out
   pub room : (d : Bounds) → i < length left → j < length right → next_low 0 out ≤ max (get_or left i d).first (get_or right j d).first
@@ -249,7 +249,7 @@ module _ (left right out new : List Bounds) (i j : ℕ) (a b : Bounds) (left_can
         (new_members c) (met.members c) ends;
   }
 
--- what `push_overlap` does
+-- the result of `push_overlap`
 pub pushed_some : (list new : List Bounds) (a b m : Bounds) → a.first ≤ b.last → b.first ≤ a.last → m.first ≡ max a.first b.first
     → m.last ≡ min a.last b.last → new ≡ list ++ m ∷ [] → new ≡ list ++ overlap a b
 pushed_some list new a b m left right first last pushed =

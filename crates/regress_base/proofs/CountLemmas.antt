@@ -1,4 +1,4 @@
--- The members below a bound: how many, and which.
+-- The number of members below a bound, and their list.
 use Rattle.std.proofs.Common.{◌≡◌, ℕ, zero, suc, ◌+◌, ◌-◌, ◌/◌, ◌%◌, ◌^◌, ◌<◌, ◌≤◌, Bool, true, false, cond, eqb, ◌⊎◌, List, [], ◌∷◌, ◌++◌, length, set, replicate, filter, count_by, refl, ap, sym, ◌∙◌, subst, arith, inl, inr}
 use Rattle.std.specs.List.{range_with_len}
 use Rattle.std.specs.Int.{bit_at}
@@ -14,7 +14,7 @@ use Rattle.regress_base.specs.ByteSets.{all_bytes, members_of, member_count}
 use Rattle.std.proofs.lemmas.Nat.{ones_cat, shr_split, shr_below, pow_pos, mod_below}
 use Rattle.std.proofs.lemmas.Nat.Bits.{bit_at_cat_low}
 
--- the numbers from a on, one more
+-- the numbers from a on, with one more
 range_with_len-more : (a n : ℕ) → range_with_len a (suc n) ≡ range_with_len a n ++ (a + n) ∷ []
 range_with_len-more a zero = ap (λ x. x ∷ []) (omega arith)
 range_with_len-more a (suc n) = ap (λ xs. a ∷ xs)
@@ -23,7 +23,7 @@ range_with_len-more a (suc n) = ap (λ xs. a ∷ xs)
 upto-more : (n : ℕ) → range_with_len 0 (suc n) ≡ range_with_len 0 n ++ n ∷ []
 upto-more n = range_with_len-more 0 n ∙ ap (λ x. range_with_len 0 n ++ x ∷ []) (zero-add n)
 
--- how many numbers below n pass the test
+-- the number of numbers below n that pass the test
 abbrev pub count_below : (ℕ → Bool) → ℕ → ℕ
 count_below p n = count_by p (range_with_len 0 n)
 
@@ -39,14 +39,14 @@ count_below-suc p n =
     ap (count_by p) (upto-more n) ∙ sum_by-append (λ x. cond (p x) 1 0) (range_with_len 0 n) (n ∷ [])
     ∙ ap (λ c. count_below p n + c) (zero-add (cond (p n) 1 0))
 
--- tests that agree below n pass as many numbers there
+-- tests that agree below n have the same count there
 pub count_below-agree : (p q : ℕ → Bool) (n : ℕ) → ((k : ℕ) → k < n → p k ≡ q k) → count_below p n ≡ count_below q n
 count_below-agree p q zero h = refl
 count_below-agree p q (suc n) h =
     count_below-suc p n ∙ ap (λ c. c + cond (p n) 1 0) (count_below-agree p q n (λ k l. h k (omega arith)))
     ∙ ap (λ t. count_below q n + cond t 1 0) (h n (omega arith)) ∙ sym (count_below-suc q n)
 
--- those below m, and those from m on
+-- the count below m + n is the count below m plus the count from m on
 pub count_below-add : (p : ℕ → Bool) (m n : ℕ) → count_below p (m + n) ≡ count_below p m + count_below (λ k. p (m + k)) n
 count_below-add p m zero =
     let e : m + zero ≡ m = omega arith in
@@ -67,7 +67,7 @@ count_below-le p m n h =
     let g = count_below-add p m (n - m) in
     omega arith
 
--- a number that passes counts
+-- a number that passes increases the count
 pub count_below-lt : (p : ℕ → Bool) (m n : ℕ) → m < n → p m ≡ true → count_below p m < count_below p n
 count_below-lt p m n h passes =
     let f = count_below-le p (suc m) n h in
@@ -112,7 +112,7 @@ count_ones-bits (suc k) n h =
     let last = top_bit a high in
     omega arith
 
--- ---- an array that is filled from the front
+-- ---- an array that is filled from the start
 
 pub write_next : (xs : List ℕ) (n v : ℕ) → length xs < n
     → set (xs ++ replicate (n - length xs) 0) (length xs) v ≡ (xs ++ v ∷ []) ++ replicate (n - (length xs + 1)) 0
@@ -122,7 +122,7 @@ write_next xs n v h =
     ap (λ k. set (xs ++ replicate k 0) (length xs) v) e ∙ set_at xs 0 (replicate m 0) v (length xs) refl
     ∙ sym (append_assoc xs (v ∷ []) (replicate m 0))
 
--- the array of n places begins with the numbers below b that pass the test, which are len, and goes on with zeros
+-- the array of length n begins with the `len` numbers below b that pass the test, and the rest of it is zeros
 pub record IsFilled (p : ℕ → Bool) (n b len : ℕ) (array : List ℕ) : Type 0 where
   pub filled : array ≡ filter_below p b ++ replicate (n - len) 0
   pub counted : len ≡ length (filter_below p b)
@@ -162,7 +162,7 @@ IsFilled-no p n b len array so_far fails =
       counted = so_far.counted ∙ ap length (sym same);
     }
 
--- ---- over all bytes
+-- ---- all bytes
 
 pub member_count-is : (p : ℕ → Bool) → count_below p 256 ≡ member_count p
 unfolding all_bytes
@@ -172,7 +172,7 @@ pub members_of-is : (p : ℕ → Bool) → filter_below p 256 ≡ members_of p
 unfolding all_bytes
 members_of-is p = refl
 
--- a member still has room
+-- the array has capacity for one more member
 pub IsFilled-room : (p : ℕ → Bool) (n b len : ℕ) (array : List ℕ) → IsFilled p n b len array → p b ≡ true → b < 256 → member_count p ≤ n
     → len < n
 IsFilled-room p n b len array so_far passes byte room =
@@ -181,7 +181,7 @@ IsFilled-room p n b len array so_far passes byte room =
     let all = member_count-is p in
     omega arith
 
--- one number more, which joins the array where it is a member
+-- one more number is tested, and added to the array if it is a member
 pub IsFilled-turn : (p : ℕ → Bool) (n b len len' : ℕ) (array array' : List ℕ) → b < 256 → member_count p ≤ n → IsFilled p n b len array
     → ((p b ≡ true) × (len' ≡ len + 1) × (array' ≡ set array len b)) ⊎ ((p b ≡ false) × (len' ≡ len) × (array' ≡ array))
     → IsFilled p n (b + 1) len' array'

@@ -1,4 +1,4 @@
--- A range of a canonical list replaced by what is left of it.
+-- A range of a canonical list, replaced by a part of its members.
 use Rattle.std.proofs.Common.{◌≡◌, ℕ, ◌+◌, ◌-◌, ◌≤◌, Bool, true, false, not, ◌||◌, ◌&&◌, inl, inr, ◌⊎◌, IsTrue, List, [], ◌∷◌, ◌++◌, length, take, drop, get_or, slice_get, Some, refl, sym, ap, ap₂, ◌∙◌, subst, le_refl, arith}
 use Rattle.std.proofs.lemmas.Bool.{cases_lt, cases_Bool, or_left, or_right, or_cases, and_parts, and_left, false≢true, true≢false, false_from_ne_true}
 use Rattle.std.proofs.lemmas.List.{take-append-drop, take-take, drop-take, append_assoc, get_or-take, get_or-drop, length-take-le, length-drop}
@@ -10,7 +10,7 @@ use Rattle.regress_base.proofs.CanonicalLemmas.{canonical_parts, canonical_cons,
 use Rattle.regress_base.proofs.JoinLemmas.{between}
 use Rattle.regress_base.proofs.AddLemmas.{last_at}
 
--- ---- fewer members in the same room
+-- ---- fewer members within the same bounds
 
 low_le : (low : ℕ) (xs : List Bounds) → IsTrue (is_canonical_from low xs) → low ≤ next_low low xs
 unfolding next_low
@@ -33,7 +33,7 @@ member_low low (x ∷ xs) c can h =
       | inr later ↦ member_low (x.last + 2) xs c p.rest later
     ]
 
--- the last member tells the room behind
+-- the last member bounds where the next interval can begin
 last_member : (low : ℕ) (xs : List Bounds) → IsTrue (is_canonical_from low xs)
     → (next_low low xs ≡ low) ⊎ ((c : ℕ) × (is_member xs c ≡ true) × (next_low low xs ≡ c + 2))
 unfolding next_low
@@ -74,7 +74,7 @@ replaced low xs ys zs can can_ys fewer =
     canonical_append low ys zs above
     (canonical_lower (next_low low xs) (next_low low ys) zs (room_behind low xs ys front above fewer) (canonical_back low xs zs can))
 
--- ---- a list in three parts, of which the middle one is replaced
+-- ---- a list in three parts, with the middle one replaced
 
 module _ (ivs : List Bounds) (start end : ℕ) where
   parts : start ≤ end → take start ivs ++ (between ivs start end ++ drop end ivs) ≡ ivs
@@ -99,7 +99,7 @@ module _ (ivs : List Bounds) (start end : ℕ) where
       (replaced (next_low 0 (take start ivs)) (between ivs start end) kept (drop end ivs) (canonical_back 0 (take start ivs) _ whole)
       can_kept fewer)
 
--- the same as a slice of the list
+-- the middle part is a slice of the list
 pub slice_between : (ivs : List Bounds) (start end : ℕ) → start ≤ end → take (end - start) (drop start ivs) ≡ between ivs start end
 slice_between ivs start end in_order =
     let whole : start + (end - start) ≡ end = omega arith in
@@ -146,7 +146,7 @@ within_span ivs first last span c can at_first at_last is h =
     let ends = in_span ivs first last c can at_first at_last h in
     ap (λ b. is_within b c) is ∙ le-is_within (pair first.first last.last) c ends.0 ends.1
 
--- ---- what is left when the members of other intervals go
+-- ---- a list without the members of other intervals
 
 cut_or : (t b d i : Bool) → (t ≡ true → i ≡ false) → (d ≡ true → i ≡ false) → (t || ((b && not i) || d)) ≡ ((t || (b || d)) && not i)
 cut_or true b d i front behind = sym (ap not (front refl))
@@ -159,7 +159,7 @@ cut_or false true d false front behind = refl
 cut_or false false true i front behind = sym (ap not (behind refl))
 cut_or false false false i front behind = refl
 
--- the list holds the members of the first that aren't among the second
+-- the list has exactly the members of the first list that are not in the second
 pub record IsCut (ivs dropped new : List Bounds) : Type 0 where
   pub canonical : IsCanonical new
   pub members : (c : ℕ) → is_member new c ≡ (is_member ivs c && not (is_member dropped c))
@@ -216,7 +216,7 @@ and_true : (b : Bool) → (b && true) ≡ b
 and_true true = refl
 and_true false = refl
 
--- nothing lies in the span
+-- if no interval touches the span, no member is dropped
 pub cut_none : (ivs dropped : List Bounds) (span : Bounds) (start end c : ℕ) → IsCanonical ivs
     → ((c : ℕ) → is_member dropped c ≡ true → is_within span c ≡ true) → IsTouchingRange ivs span start end → start ≡ end
     → is_member ivs c ≡ (is_member ivs c && not (is_member dropped c))
@@ -233,7 +233,7 @@ cut_none ivs dropped span start end c can spans range same =
       | inr kept ↦ sym (ap (λ b. is_member ivs c && not b) kept ∙ and_true (is_member ivs c))
     ]
 
--- nothing is to go
+-- if there are no members to drop, the list is unchanged
 pub cut_empty : (ivs dropped : List Bounds) (c : ℕ) → dropped ≡ [] → is_member ivs c ≡ (is_member ivs c && not (is_member dropped c))
 cut_empty ivs dropped c none =
     sym (ap (λ b. is_member ivs c && not b) (ap (λ l. is_member l c) none ∙ is_member-nil c) ∙ and_true (is_member ivs c))

@@ -1,4 +1,4 @@
--- Facts on the loops that look for the least place.
+-- Properties of the loops that search for the least index.
 use Rattle.std.proofs.Common.{◌≡◌, ℕ, zero, suc, ◌+◌, ◌*◌, ◌/◌, ◌<◌, ◌≤◌, Bool, true, false, ◌||◌, eqb, List, [], ◌∷◌, length, get_or, take, drop, ◌-◌, Decides, refl, ap, sym, subst, ◌∙◌, arith, inl, inr, below_more, not-suc-le-zero, le_of_suc-le-suc}
 use Rattle.std.specs.Simd.{first_chunks}
 use Rattle.std.proofs.Math.Bool.{or-false}
@@ -10,20 +10,20 @@ use Rattle.std.proofs.lemmas.Bool.{false≢true, cases_lt, lt-ltb, eq-eqb, ne_eq
 use Rattle.regress_base.specs.ByteSets.{bytes_of}
 use Rattle.regress_base.specs.Places.{IsLeastAt, IsMemberAt, StandsWhole, IsTestFor}
 
--- no byte of the text before place n is a member
+-- no byte of the text before index n is a member
 abbrev pub NoneBefore : (ℕ → Bool) → List ℕ → ℕ → Type 0
 NoneBefore set text n = (k : ℕ) → k < n → ¬ (IsMemberAt set text k)
 
 pub none_past : (set : ℕ → Bool) (text : List ℕ) → NoneBefore set text (length text) → (k : ℕ) → k ≤ length text → ¬ (IsMemberAt set text k)
 none_past set text none k h at = none k at.inside at
 
--- one place more, whose byte failed the test
+-- one more byte, which fails the test
 pub none_more : (says : ℕ → Bool → Type 0) (set : ℕ → Bool) (text : List ℕ) (i : ℕ) → IsTestFor says set → get_or text i 0 < 256
     → says (get_or text i 0) false → NoneBefore set text i → NoneBefore set text (i + 1)
 none_more says set text i tells byte failed none =
     below_more _ _ none (λ at. false≢true (tells (get_or text i 0) false byte failed ∙ at.member))
 
--- the first byte that passes the test stands at the least place
+-- the first byte that passes the test is at the least index
 pub first_found : (says : ℕ → Bool → Type 0) (set : ℕ → Bool) (text : List ℕ) (i : ℕ) → IsTestFor says set → get_or text i 0 < 256
     → says (get_or text i 0) true → NoneBefore set text i → i < length text → IsLeastAt (IsMemberAt set text) (length text) i
 first_found says set text i tells byte passed none inside = record {
@@ -32,9 +32,9 @@ first_found says set text i tells byte passed none inside = record {
   before = none;
 }
 
--- ---- a search by parts
+-- ---- a search by chunks
 
--- the part stands in the text from place n on
+-- the part is a slice of the text that begins at index n
 pub record IsStretch (text : List ℕ) (n : ℕ) (part : List ℕ) : Type 0 where
   pub within : n + length part ≤ length text
   pub same : (k : ℕ) → k < length part → get_or part k 0 ≡ get_or text (n + k) 0
@@ -43,7 +43,7 @@ member_of_part : (set : ℕ → Bool) (text : List ℕ) (n : ℕ) (part : List �
     → IsMemberAt set text (n + k) → IsMemberAt set part k
 member_of_part set text n part k at inside here = record { inside = inside; member = ap set (at.same k inside) ∙ here.member }
 
--- no member in a part
+-- no member is in the part
 pub none_in_part : (set : ℕ → Bool) (text : List ℕ) (n : ℕ) (part : List ℕ) → IsStretch text n part → NoneBefore set text n
     → ((k : ℕ) → k ≤ length part → ¬ (IsMemberAt set part k)) → NoneBefore set text (n + length part)
 none_in_part set text n part at none nowhere = λ k h here.
@@ -54,7 +54,7 @@ none_in_part set text n part at none nowhere = λ k h here.
           (member_of_part set text n part (k - n) at (omega arith) (subst (IsMemberAt set text) (sym e) here)))
     ]
 
--- the least member of a part, where there is none before it
+-- the least member of a part, with no member before the part
 pub found_in_part : (set : ℕ → Bool) (text : List ℕ) (n : ℕ) (part : List ℕ) (k : ℕ) → IsStretch text n part → NoneBefore set text n
     → IsLeastAt (IsMemberAt set part) (length part) k → IsLeastAt (IsMemberAt set text) (length text) (n + k)
 found_in_part set text n part k at none least =
@@ -71,7 +71,7 @@ found_in_part set text n part k at none least =
       ];
     }
 
--- the chunks of a list, one behind the other
+-- the chunks of a list, in order
 chunk_at : (n m : ℕ) (xs : List ℕ) (k : ℕ) (d : List ℕ) → k < m → get_or (first_chunks n m xs) k d ≡ take n (drop (k * n) xs)
 chunk_at n zero xs k d h = absurd (not-suc-le-zero h)
 chunk_at n (suc m) xs zero d h =
@@ -110,7 +110,7 @@ one_or_none x b =
       | inr ne ↦ rw (ne_eqb x b ne, ne_eqb b x (λ e. ne (sym e))) refl
     ]
 
--- the set of one byte
+-- the sets of one byte
 pub bytes_of-one : (xs : List ℕ) (b : ℕ) → length xs ≡ 1 → b < 256 → bytes_of xs b ≡ eqb b (get_or xs 0 0)
 unfolding bytes_of
 bytes_of-one [] b one byte = absurd (omega (arith, one))
@@ -145,7 +145,7 @@ bytes_of-four (v ∷ w ∷ x ∷ y ∷ []) b four byte = rw (lt-ltb b 256 byte)
     (ap (λ t. eqb v b || (eqb w b || (eqb x b || t))) (or-false (eqb y b)))
 bytes_of-four (v ∷ w ∷ x ∷ y ∷ z ∷ xs) b four byte = absurd (omega (arith, four))
 
--- what `starts_with` answers of the text from place i on
+-- the result of `starts_with` on the text from index i on
 pub starts-Decides : (text needle : List ℕ) (i : ℕ) (r : Bool) → r ≡ starts_with eqb (take (length text - i) (drop i text)) needle
     → Decides r (StandsWhole needle text i)
 starts-Decides text needle i r e =
@@ -153,7 +153,7 @@ starts-Decides text needle i r e =
     let at : r ≡ bytes_eq needle (take (length needle) (drop i text)) = e ∙ ap (λ xs. starts_with eqb xs needle) (take_rest text i) in
     (λ t. sym (d.0 (sym at ∙ t)), λ h. at ∙ d.1 (sym h))
 
--- the needle stands at the first place where `starts_with` answers true
+-- the needle occurs first at the least index for which `starts_with` returns true
 pub stands_first : (text needle : List ℕ) (i : ℕ) → ((k : ℕ) → k < i → ¬ (StandsWhole needle text k)) → i ≤ length text
     → StandsWhole needle text i → IsLeastAt (StandsWhole needle text) (length text) i
 stands_first text needle i none inside whole = record { within = inside; stands = whole; before = none }

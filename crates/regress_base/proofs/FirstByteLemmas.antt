@@ -1,4 +1,4 @@
--- Which first bytes the code points of an interval have in UTF-8.
+-- The first bytes of the code points of an interval in UTF-8.
 use Rattle.std.proofs.Common.{◌≡◌, ◌↔◌, ℕ, ◌+◌, ◌-◌, ◌*◌, ◌/◌, ◌<◌, ◌≤◌, max, min, Bool, true, ◌&&◌, ◌||◌, IsTrue, ◌⊎◌, ⊎_elim, inl, inr, length, slice_get, encode_utf8, Some, unwrap_or, nat_le, ap, sym, ◌∙◌, arith}
 use Rattle.std.proofs.lemmas.Bool.{cases_lt, leb-true, le-leb, and_parts, and_from, or_cases, or_left, or_right}
 use Rattle.std.proofs.lemmas.Nat.{le-div}
@@ -6,7 +6,7 @@ use Rattle.std.proofs.Math.Nat.{div-mul-le_self, le-div_iff_mul-le, mul-div_left
 use Rattle.regress_base.specs.FirstBytes.{IsFirstByteBetween}
 use Rattle.regress_base.proofs.Utf8Lemmas.{encode_one, encode_two, encode_three, encode_four}
 
--- one first byte for p code points in a row
+-- every p consecutive code points have the same first byte
 record IsRunOfWidth (base p first last : ℕ) : Type 0 where
   some : 0 < p
   begins : (c : ℕ) → first ≤ c → c ≤ last → slice_get (encode_utf8 c) 0 ≡ Some (base + c / p)
@@ -14,7 +14,7 @@ record IsRunOfWidth (base p first last : ℕ) : Type 0 where
 same_some : (x y : ℕ) → Some x ≡ Some y → x ≡ y
 same_some x y e = ap (λ o. unwrap_or o 0) e
 
--- the first code point, from `first` on, whose quotient is q
+-- the first code point at or above `first` whose quotient is q
 reached : (p first last q : ℕ) → 0 < p → first / p ≤ q → q ≤ last / p → first ≤ last → (c : ℕ) × (first ≤ c) × (c ≤ last) × (c / p ≡ q)
 reached p first last q some from to order =
     elim (cases_lt first (q * p)) [
@@ -49,7 +49,7 @@ run_begins base p first last f l b run order ef el =
     (omega arith, omega arith) in
     (to, from)
 
--- ---- the four widths
+-- ---- the four lengths
 
 run_of_one : (first last : ℕ) → last < 0x80 → IsRunOfWidth 0 1 first last
 run_of_one first last h = record {
@@ -87,7 +87,7 @@ width_three c g h = ap length (encode_three c g h)
 pub width_four : (c : ℕ) → 0x1_0000 ≤ c → length (encode_utf8 c) ≡ 4
 width_four c h = ap length (encode_four c h)
 
--- a code point of few bytes
+-- a code point with a short encoding
 narrow_two : (c : ℕ) → c < 0x800 → length (encode_utf8 c) ≤ 2
 narrow_two c h =
     elim (cases_lt c 0x80) [
@@ -102,7 +102,8 @@ narrow_three c h =
       | inr three ↦ omega (arith, width_three c three h)
     ]
 
--- the code points from `first` to `last`, where both have as many bytes, begin with the bytes from that of `first` to that of `last`
+-- if `first` and `last` have encodings of the same length, the code points between them have exactly the first bytes
+-- between theirs
 pub first_bytes_run : (first last f l b : ℕ) → first ≤ last → length (encode_utf8 first) ≡ length (encode_utf8 last)
     → slice_get (encode_utf8 first) 0 ≡ Some f → slice_get (encode_utf8 last) 0 ≡ Some l
     → ((f ≤ b) × (b ≤ l)) ↔ IsFirstByteBetween first last b
@@ -130,7 +131,7 @@ first_bytes_run first last f l b order width ef el =
       ]
     ]
 
--- the set after the bytes from f to l joined it
+-- the set after the bytes from f to l are added
 pub joined : (t old : Bool) (f l b : ℕ) (P : Type 0) → t ≡ ((nat_le f b && nat_le b l) || old) → ((f ≤ b) × (b ≤ l)) ↔ P
     → IsTrue t ↔ (IsTrue old ⊎ P)
 joined t old f l b P e run =
@@ -143,7 +144,7 @@ joined t old f l b P e run =
     (λ (p : P). e ∙ or_left inside old (and_from _ _ (le-leb f b (run.1 p).0) (le-leb b l (run.1 p).1))) in
     (to, from)
 
--- a part of the interval
+-- first bytes of a part of an interval are first bytes of the interval
 within : (a z first last b : ℕ) → first ≤ a → z ≤ last → IsFirstByteBetween a z b → IsFirstByteBetween first last b
 within a z first last b low high h =
     record {
@@ -153,7 +154,7 @@ within a z first last b low high h =
       begins = h.begins;
     }
 
--- The interval is cut where the number of bytes changes, and the parts join one after another.
+-- The interval is split where the length of the encoding changes, and the parts are added in order.
 pub four_widths : (first last z1 a2 z2 a3 z3 a4 b : ℕ) → z1 ≡ min last 0x7F → a2 ≡ max first 0x80 → z2 ≡ min last 0x7FF
     → a3 ≡ max first 0x800 → z3 ≡ min last 0xFFFF → a4 ≡ max first 0x1_0000 →
     (Before One Two Three Four : Type 0) → One ↔ (Before ⊎ IsFirstByteBetween first z1 b) → Two ↔ (One ⊎ IsFirstByteBetween a2 z2 b)

@@ -10,7 +10,7 @@ use Rattle.regress_base.proofs.MemberLemmas.{is_member-nil, is_member-cons, is_m
 use Rattle.regress_base.proofs.CanonicalLemmas.{canonical_parts, canonical_cons, canonical_lower, no_member_below}
 use Rattle.regress_base.proofs.UniqueLemmas.{canonical_unique}
 
--- the gaps from a number on, before, between and behind the intervals
+-- the gaps from a number on: before, between and after the intervals
 unfoldable pub gaps_from : ℕ → List Bounds → List Bounds
 gaps_from start [] = cond (nat_le start code_point_max) (record { first = start; last = code_point_max } ∷ []) []
 gaps_from start (iv ∷ ivs) =
@@ -62,7 +62,7 @@ canonical_gaps start low (iv ∷ ivs) h can =
           (canonical_lower (iv.last + 1) start (gaps_from (iv.last + 1) ivs) (omega arith) rest)
     ]
 
--- the gap before an interval does not matter at the interval's first or above it
+-- the gap before an interval does not matter from the start of the interval on
 skip_gap : (start c : ℕ) (iv : Bounds) (ivs : List Bounds) → iv.first ≤ c
     → is_member (gaps_from start (iv ∷ ivs)) c ≡ is_member (gaps_from (iv.last + 1) ivs) c
 skip_gap start c iv ivs from =
@@ -105,13 +105,13 @@ not-not : (b : Bool) → not (not b) ≡ b
 not-not true = refl
 not-not false = refl
 
--- the complement of a complement
+-- the complement of a complement is the list itself
 pub complement_twice : (ivs others back : List Bounds) → IsCanonical ivs → IsCanonical back → IsComplement ivs others
     → IsComplement others back → back ≡ ivs
 complement_twice ivs others back can can_back away home =
     canonical_unique back ivs can_back can (λ c within. home c within ∙ ap not (away c within) ∙ not-not (is_member ivs c))
 
--- one interval more, with a gap before it or without
+-- one more interval, with or without a gap before it
 module _ (start i last : ℕ) (iv : Bounds) (ivs : List Bounds) (inside : i < length ivs) (read : iv ≡ get_or ivs i iv)
     (ends : last ≡ iv.last) where
   split : drop i ivs ≡ iv ∷ drop (i + 1) ivs
@@ -140,7 +140,7 @@ module _ (start i last : ℕ) (iv : Bounds) (ivs : List Bounds) (inside : i < le
     gaps_step_none none kept =
         ap (λ l. l ++ gaps_from (last + 1) (drop (i + 1) ivs)) kept ∙ ap (λ l. out ++ l) (sym (no_gap none)) ∙ so_far
 
--- the whole complement, as its list is built
+-- the whole complement while its list is built
 pub complement_from : (ivs gaps : List Bounds) → IsCanonical ivs → gaps ≡ gaps_from 0 ivs → IsCanonical gaps × IsComplement ivs gaps
 complement_from ivs gaps can made = (
   subst IsCanonical (sym made) (canonical_gaps 0 0 ivs (le_refl 0) can),
@@ -148,12 +148,12 @@ complement_from ivs gaps can made = (
       ∙ complement_gaps 0 0 c ivs (le_refl 0) can (omega arith) within,
 )
 
--- the list and the count once all intervals are passed
+-- the list and the count after all intervals
 pub gaps_done : (out : List Bounds) (start i : ℕ) (ivs whole : List Bounds) → length ivs ≤ i → out ++ gaps_from start (drop i ivs) ≡ whole
     → out ++ gaps_from start [] ≡ whole
 gaps_done out start i ivs whole ended so_far = ap (λ l. out ++ gaps_from start l) (sym (drop_all i ivs ended)) ∙ so_far
 
--- ---- how many gaps there are
+-- ---- the number of gaps
 
 count-cons : (start : ℕ) (iv : Bounds) (ivs : List Bounds)
     → length (gaps_from start (iv ∷ ivs)) ≡ bool_byte (nat_lt start iv.first) + length (gaps_from (iv.last + 1) ivs)
@@ -176,7 +176,7 @@ count-end last =
       | inr full ↦ ap length (gaps_from-full (last + 1) (omega arith)) ∙ sym (ap bool_byte (le-ltb last code_point_max full))
     ]
 
--- one gap between each two neighbours, one before the first where it begins above `start`, and one behind the last
+-- one gap between every two neighbors, one before the first if it begins above `start`, and one after the last
 count-all : (start low : ℕ) (iv d : Bounds) (ivs : List Bounds) → IsTrue (is_canonical_from low (iv ∷ ivs))
     → length (gaps_from start (iv ∷ ivs))
     ≡ bool_byte (nat_lt start iv.first) + length ivs + bool_byte (nat_lt (get_or (iv ∷ ivs) (length ivs) d).last code_point_max)
@@ -192,7 +192,7 @@ count-all start low iv d (x ∷ xs) can =
     let others = count-all (iv.last + 1) (iv.last + 2) x d xs rest in
     omega arith
 
--- the count of a set's gaps, by its first and its last interval
+-- the number of gaps of a set, from its first and its last interval
 pub counted : (items ivs : List Bounds) (first last : Bounds) (n : ℕ) → IsCanonical items → items ≡ ivs → slice_get items 0 ≡ Some first
     → slice_get items (length items - 1) ≡ Some last
     → n ≡ length items - 1 + bool_byte (nat_lt 0 first.first) + bool_byte (nat_lt last.last code_point_max)
@@ -223,7 +223,7 @@ counted-none [] ivs same none =
     )
 counted-none (iv ∷ items) ivs same none = absurd (none-some iv (sym none))
 
--- the list with the last gap, or without one
+-- the list with or without a last gap
 pub gaps_end : (out new : List Bounds) (start i : ℕ) (ivs : List Bounds) → length ivs ≤ i
     → out ++ gaps_from start (drop i ivs) ≡ gaps_from 0 ivs → start ≤ code_point_max
     → new ≡ out ++ record { first = start; last = code_point_max } ∷ [] → new ≡ gaps_from 0 ivs

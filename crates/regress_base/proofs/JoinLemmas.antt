@@ -1,4 +1,4 @@
--- A range of a canonical list replaced by one interval.
+-- A range of a canonical list, replaced by one interval.
 use Rattle.std.proofs.Common.{◌≡◌, ℕ, ◌+◌, ◌-◌, ◌<◌, ◌≤◌, Bool, true, false, ◌||◌, inl, inr, IsTrue, List, [], ◌∷◌, ◌++◌, length, take, drop, get_or, set, min, max, refl, ap, ap₂, ◌∙◌, sym, suc, zero, subst, le_refl, le_of_eq, le_trans, add-one, add-zero, ◌≢◌, insert, arith}
 use Rattle.std.proofs.lemmas.Bool.{cases_lt, or_left, or_right, or_from}
 use Rattle.std.proofs.lemmas.List.{take-append-drop, take-take, take_more, take_more_set, drop-set-lt, drop_all, append_assoc, get_or-drop, get_or-take, length-take-le, length-drop, get_or_default}
@@ -12,7 +12,7 @@ use Rattle.regress_base.proofs.CanonicalLemmas.{canonical_parts, canonical_cons,
 abbrev pub between : List Bounds → ℕ → ℕ → List Bounds
 between ivs start end = drop start (take end ivs)
 
--- the interval stands for `iv` and for the intervals from `start` to `end`
+-- the merged interval has the members of `iv` and of the intervals from `start` to `end`
 pub record Merges (ivs : List Bounds) (iv : Bounds) (start end : ℕ) (merged : Bounds) : Type 0 where
   pub interval : IsInterval merged
   pub after : (k : ℕ) (d : Bounds) → k < start → (get_or ivs k d).last + 1 < merged.first
@@ -38,7 +38,7 @@ canonical_raise low low' (iv ∷ ivs) d can above =
     canonical_cons low' iv ivs (record { above = above (omega arith); interval = p.interval; rest = p.rest })
 
 module _ (ivs : List Bounds) (iv : Bounds) (start end : ℕ) (merged : Bounds) where
-  -- the list with the merged interval in place of the range
+  -- the list with the merged interval instead of the range is canonical
   pub canonical_joined : start ≤ end → end ≤ length ivs → IsCanonical ivs → Merges ivs iv start end merged
       → IsCanonical (take start ivs ++ merged ∷ drop end ivs)
   canonical_joined in_order in_bounds can m =
@@ -80,14 +80,14 @@ module _ (ivs : List Bounds) (iv : Bounds) (start end : ℕ) (merged : Bounds) w
       ∙ swap_or (is_member (take start ivs) c) (is_member (between ivs start end) c) (is_member (drop end ivs) c) (is_within iv c)
       ∙ ap (λ b. b || is_within iv c) (sym whole)
 
--- what `drain` leaves of the list in which one place was written
+-- the list after one element is overwritten and the rest of the range is drained
 pub drained : (ivs : List Bounds) (start end : ℕ) (merged : Bounds) → start < end → end ≤ length ivs
     → remove_range (set ivs start merged) (start + 1) end ≡ take start ivs ++ merged ∷ drop end ivs
 drained ivs start end merged some in_bounds =
     ap₂ (λ a b. a ++ b) (take_more_set ivs start merged (omega arith)) (drop-set-lt end ivs start merged some)
     ∙ append_assoc (take start ivs) (merged ∷ []) (drop end ivs)
 
--- an interval that touches none stands for itself
+-- an interval that touches no other is its own merged interval
 pub merges_none : (ivs : List Bounds) (iv : Bounds) (k : ℕ) → IsInterval iv → IsTouchingRange ivs iv k k → Merges ivs iv k k iv
 merges_none ivs iv k interval range =
     let none : between ivs k k ≡ [] = drop_all k (take k ivs) (le_of_eq (length-take-le k ivs range.in_bounds)) in
@@ -118,7 +118,7 @@ module _ (ivs : List Bounds) (start end : ℕ) (d : Bounds) (in_bounds : end ≤
       (λ k h. ap (λ b. is_within b c) (get_or-between k (omega (arith, length-between)))
       ∙ none (start + k) (omega arith) (omega (arith, length-between)))
 
--- the interval from the first of a touching range or of `iv` to the last of either
+-- the merged interval extends from the lower first to the higher last of `iv` and the touching range
 pub merges_some : (ivs : List Bounds) (iv : Bounds) (start end : ℕ) (d : Bounds) → IsCanonical ivs → IsInterval iv
     → IsTouchingRange ivs iv start end → start < end
     → (merged : Bounds) → merged.first ≡ min (get_or ivs start d).first iv.first → merged.last ≡ max (get_or ivs (end - 1) d).last iv.last
@@ -186,7 +186,7 @@ merges_some ivs iv start end d can interval range some merged first last =
               subst (λ (n : ℕ). (get_or ivs n d).last < c) same outside)
         ]
 
--- the list has the members of the interval besides
+-- the list has the members of the old one and those of the interval
 pub record IsAdded (ivs : List Bounds) (iv : Bounds) (new : List Bounds) : Type 0 where
   pub canonical : IsCanonical new
   pub members : (c : ℕ) → is_member new c ≡ (is_member ivs c || is_within iv c)
@@ -198,14 +198,14 @@ added ivs iv start end merged new can range merges made = record {
   members = λ c. ap (λ l. is_member l c) made ∙ members_joined ivs iv start end merged c range.in_order merges;
 }
 
--- an interval that touches none
+-- an interval that touches none is inserted
 pub added_new : (ivs : List Bounds) (iv : Bounds) (start end : ℕ) (new : List Bounds) → IsCanonical ivs → IsInterval iv
     → IsTouchingRange ivs iv start end → start ≡ end → new ≡ insert ivs start iv → IsAdded ivs iv new
 added_new ivs iv start end new can interval range same made =
     let none = subst (λ (n : ℕ). IsTouchingRange ivs iv start n) (sym same) range in
     added ivs iv start start iv new can none (merges_none ivs iv start interval none) made
 
--- an interval that touches some, of which the first keeps the place
+-- an interval that touches some is merged with them at the index of the first one
 pub added_joined : (ivs : List Bounds) (iv : Bounds) (start end : ℕ) (low high merged : Bounds) (new : List Bounds) → IsCanonical ivs
     → IsInterval iv → IsTouchingRange ivs iv start end → start ≢ end
     → low ≡ get_or ivs start low → high ≡ get_or ivs (end - 1) high

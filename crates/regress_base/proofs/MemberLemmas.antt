@@ -1,4 +1,4 @@
--- Membership in lists that are made of others.
+-- Membership in lists that are made from other lists.
 use Rattle.std.proofs.Common.{◌≡◌, ℕ, ◌+◌, ◌<◌, Bool, true, false, ◌||◌, List, [], ◌∷◌, ◌++◌, length, take, drop, get_or, refl, ap, ◌∙◌, suc, zero, le_of_suc-le-suc, not-suc-le-zero, arith}
 use Rattle.std.proofs.Math.Bool.{or-false}
 use Rattle.std.proofs.lemmas.Bool.{or_left, or_right, or_from}
@@ -31,7 +31,7 @@ pub is_member-push : (xs : List Bounds) (iv : Bounds) (c : ℕ) → is_member (x
 is_member-push xs iv c =
     is_member-append xs (iv ∷ []) c ∙ ap (λ b. is_member xs c || b) (is_member-one iv c)
 
--- one interval more of those taken
+-- one more interval of a prefix
 pub is_member-take_more : (xs : List Bounds) (i c : ℕ) (d : Bounds) → i < length xs
     → is_member (take (i + 1) xs) c ≡ (is_member (take i xs) c || is_within (get_or xs i d) c)
 is_member-take_more xs i c d h =

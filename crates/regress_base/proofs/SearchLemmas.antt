@@ -15,7 +15,7 @@ use Rattle.regress_base.proofs.CanonicalLemmas.{canonical_at, canonical_apart}
 abbrev no_bounds : Bounds
 no_bounds = record { first = 0; last = 0 }
 
--- where an interval lies as seen from a number
+-- how an interval compares with a number
 unfoldable pub place_of : ℕ → Bounds → Ordering
 place_of c iv = cond (nat_lt c iv.first) Greater (cond (nat_lt iv.last c) Less Equal)
 
@@ -39,7 +39,7 @@ place_of-Greater c iv e =
     lt-is_within iv c (subst (λ (o : Ordering). MatchOrdering o (iv.last < c) ((iv.first ≤ c) × (c ≤ iv.last)) (c < iv.first)) e
     (place_of_tells c iv))
 
--- the place of an interval is no later than that of one behind it
+-- an interval compares no later than one after it
 place_of-rises : (c : ℕ) (a b : Bounds) → IsInterval a → IsInterval b → a.last + 1 < b.first
     → ordering_index (place_of c a) ≤ ordering_index (place_of c b)
 place_of-rises c a b ha hb apart = by_places (place_of c a) (place_of c b) (place_of_tells c a) (place_of_tells c b)
@@ -54,7 +54,7 @@ place_of-rises c a b ha hb apart = by_places (place_of c a) (place_of c b) (plac
     by_places Greater Equal s t = absurd (omega (arith, ha.ordered, hb.ordered, s, t.0))
     by_places Greater Greater s t = le_refl 2
 
--- the places rise along a canonical list
+-- along a canonical list the results of the comparison do not decrease
 pub places_rise : (c : ℕ) (ivs : List Bounds) → IsCanonical ivs → IsNonDecreasingBy (λ iv. ordering_index (place_of c iv)) ivs
 places_rise c ivs can i j d le lt =
     elim (cases_lt i j) [
@@ -63,7 +63,7 @@ places_rise c ivs can i j d le lt =
       | inr not_before ↦ (let same : i ≡ j = omega arith in le_of_eq (ap (λ k. ordering_index (place_of c (get_or ivs k d))) same))
     ]
 
--- a search for a code point finds it just where it is a member
+-- a search for a code point succeeds if and only if it is a member
 pub found_member : (ivs : List Bounds) (c : ℕ) (r : Result ℕ ℕ) → IsCanonical ivs → IsSearchInRange r (length ivs)
     → IsBinarySearchResult (place_of c) ivs r → is_ok r ≡ is_member ivs c
 found_member ivs c (Ok i) can bound at = sym (is_member-at ivs i c no_bounds bound (place_of-Equal c _ (at no_bounds)))

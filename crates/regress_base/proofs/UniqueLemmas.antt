@@ -39,7 +39,7 @@ begins : (low : ℕ) (x y : Bounds) (xs ys : List Bounds) → IsTrue (is_canonic
 begins low x y xs ys cx cy same =
     (member_above y.first (y ∷ ys) x.first (from_first low y ys cy) (sym (same x.first) ∙ first_is_member low x xs cx)).0
 
--- what holds of the lists behind equal intervals
+-- lists after equal first intervals have the same members
 behind_same : (iv : Bounds) (xs ys : List Bounds) → IsTrue (is_canonical_from (iv.last + 2) xs)
     → IsTrue (is_canonical_from (iv.last + 2) ys) → ((c : ℕ) → is_member (iv ∷ xs) c ≡ is_member (iv ∷ ys) c) → (c : ℕ)
     → is_member xs c ≡ is_member ys c
@@ -69,7 +69,7 @@ canonical_unique_from low (x ∷ xs) (y ∷ ys) cx cy same =
     let rest_x = (canonical_parts low x xs cx).rest in
     ap₂ (λ h t. h ∷ t) equal (canonical_unique_from (x.last + 2) xs ys rest_x rest_y (behind_same x xs ys rest_x rest_y same_heads))
 
--- up to the greatest code point it is enough
+-- agreement on the code points suffices
 pub canonical_unique : (xs ys : List Bounds) → IsCanonical xs → IsCanonical ys
     → ((c : ℕ) → c ≤ code_point_max → is_member xs c ≡ is_member ys c) → xs ≡ ys
 canonical_unique xs ys cx cy same =
@@ -78,7 +78,7 @@ canonical_unique xs ys cx cy same =
       | inr within ↦ same c within
     ])
 
--- the comparison of ends decides equality
+-- the comparison of both ends decides equality of intervals
 pub Decides-bounds_eq : (a b : Bounds) → Decides (bounds_eq a b) (a ≡ b)
 Decides-bounds_eq a b = (
   λ t. (let both = and_parts (a.first == b.first) (a.last == b.last) t in
@@ -87,17 +87,17 @@ Decides-bounds_eq a b = (
       (eq-eqb a.last b.last (ap (λ (iv : Bounds). iv.last) e)),
 )
 
--- lists are compared interval by interval
+-- the pointwise comparison decides equality of lists
 pub Decides-lists : (xs ys : List Bounds) (t : Bool) → t ≡ pointwise bounds_eq xs ys → Decides t (xs ≡ ys)
 Decides-lists xs ys t made = slice_eq-Decides Decides-bounds_eq xs ys t made
 
--- so are the members of canonical ones
+-- for canonical lists it decides equality of members
 pub Decides-members : (xs ys : List Bounds) (t : Bool) → IsCanonical xs → IsCanonical ys → Decides t (xs ≡ ys)
     → Decides t ((c : ℕ) → c ≤ code_point_max → is_member xs c ≡ is_member ys c)
 Decides-members xs ys t cx cy decides =
     (λ passed. λ c within. ap (λ l. is_member l c) (decides.0 passed), λ same. decides.1 (canonical_unique xs ys cx cy same))
 
--- the whole is the one interval of all code points
+-- a canonical list has every code point as a member if and only if it is the one interval of all code points
 pub Decides-whole : (xs : List Bounds) (t : Bool) → IsCanonical xs → Decides t (xs ≡ pair 0 code_point_max ∷ [])
     → Decides t ((c : ℕ) → c ≤ code_point_max → is_member xs c ≡ true)
 Decides-whole xs t can decides =

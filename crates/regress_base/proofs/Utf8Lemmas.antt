@@ -1,4 +1,4 @@
--- The bytes of a code point, and the code point of bytes.
+-- The bytes of a code point, and the code point of a byte sequence.
 use Rattle.std.proofs.Common.{◌≡◌, ℕ, ◌+◌, ◌*◌, ◌/◌, ◌%◌, ◌^◌, ◌<◌, ◌≤◌, List, [], ◌∷◌, length, get_or, slice_get, Some, inl, inr, ap, sym, ◌∙◌, bit_or, lt-ltb, le-ltb, arith}
 use Rattle.std.proofs.lemmas.Bool.{cond-true, cond-false, cases_lt}
 use Rattle.std.proofs.lemmas.Nat.{or_shifted}
@@ -26,7 +26,7 @@ encode_four c low =
     cond-false _ _ _ (le-ltb c 0x80 (omega arith)) ∙ cond-false _ _ _ (le-ltb c 0x800 (omega arith))
     ∙ cond-false _ _ _ (le-ltb c 0x1_0000 low)
 
--- the first byte of each width, by the bits that the code sets
+-- the first byte of each length, by the bits that the code sets
 pub first_of_two : (c : ℕ) → 0x80 ≤ c → c < 0x800 → slice_get (encode_utf8 c) 0 ≡ Some (bit_or 0xC0 (c / 64))
 first_of_two c low high =
     ap (λ l. slice_get l 0) (encode_two c low high) ∙ ap Some (sym (or_shifted 3 6 (c / 64) (omega arith)))
@@ -39,7 +39,7 @@ pub first_of_four : (c : ℕ) → 0x1_0000 ≤ c → c ≤ 0x10_FFFF → slice_g
 first_of_four c low high =
     ap (λ l. slice_get l 0) (encode_four c low) ∙ ap Some (sym (or_shifted 15 4 (c / 262144) (omega arith)))
 
--- a byte of a list
+-- equal lists have equal bytes
 byte : (k : ℕ) (xs ys : List ℕ) → xs ≡ ys → get_or xs k 0 ≡ get_or ys k 0
 byte k xs ys e = ap (λ l. get_or l k 0) e
 
@@ -82,7 +82,7 @@ decode_four c b0 b1 b2 b3 lead e =
       ]
     ]
 
--- six bits more below a number that has room above
+-- six more low bits, without overflow
 pub shift_or : (a b : ℕ) → a < 2 ^ 24 → b < 64 → bit_or (a * 64 % 2 ^ 32) b ≡ a * 64 + b
 shift_or a b small six =
     let fits : a * 64 % 2 ^ 32 ≡ a * 64 = omega arith in

@@ -1,4 +1,4 @@
--- What the test of an interval tells.
+-- Properties of the test for membership in an interval.
 use Rattle.std.proofs.Common.{◌≡◌, ℕ, ◌<◌, ◌≤◌, true, false, ◌⊎◌, ◌&&◌, ◌==◌, max, min, inl, inr, le_refl, arith, IsTrue}
 use Rattle.std.proofs.lemmas.Bool.{cases_lt}
 use Rattle.std.proofs.lemmas.Bool.Decides.{nat_tests}
@@ -8,7 +8,7 @@ use Rattle.regress_base.specs.Intervals.{Bounds, IsInterval, is_within}
 abbrev pub pair : ℕ → ℕ → Bounds
 pair f l = record { first = f; last = l }
 
--- the test with the facts that it stands for
+-- the result of the test, with the inequalities that it decides
 pub is_within_tells : (iv : Bounds) (c : ℕ)
     → ((is_within iv c ≡ true) × (iv.first ≤ c) × (c ≤ iv.last)) ⊎ ((is_within iv c ≡ false) × ((c < iv.first) ⊎ (iv.last < c)))
 unfolding is_within
@@ -26,7 +26,7 @@ gt-is_within iv c above = grind (arith, is_within_tells iv c)
 pub is_within-true : (iv : Bounds) (c : ℕ) → is_within iv c ≡ true → (iv.first ≤ c) × (c ≤ iv.last)
 is_within-true iv c within = grind (arith, is_within_tells iv c)
 
--- the later first of two intervals that reach each other lies in both
+-- the higher first of two overlapping intervals is in both
 pub shared_from_ends : (a b : Bounds) → IsInterval a → IsInterval b → a.first ≤ b.last → b.first ≤ a.last
     → (c : ℕ) × IsTrue (is_within a c) × IsTrue (is_within b c)
 shared_from_ends a b ha hb first_in last_in =
@@ -42,11 +42,11 @@ ends_from_shared a b shared =
     let in_b = is_within-true b shared.0 shared.2 in
     (omega arith, omega arith)
 
--- an interval of one code point
+-- the interval of one code point
 pub is_within_one : (first last c : ℕ) → first ≡ last → is_within (record { first = first; last = last }) c ≡ (c == first)
 is_within_one first last c same = grind (arith, nat_tests, is_within_tells (record { first = first; last = last }) c)
 
--- the overlap of two intervals
+-- a number is in the overlap if and only if it is in both intervals
 pub is_within_overlap : (a b : Bounds) (c : ℕ)
     → is_within (record { first = max a.first b.first; last = min a.last b.last }) c ≡ (is_within a c && is_within b c)
 is_within_overlap a b c =

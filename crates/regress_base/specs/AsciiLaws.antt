@@ -9,6 +9,6 @@ pub ascii_contains-above : (s : AsciiBitmap) (b : ℕ) → 128 ≤ b → ascii_c
 unfolding ascii_contains
 ascii_contains-above s b h = rw (le-ltb b 128 h) refl
 
--- so a member is a byte
+-- so every member is a byte
 pub ascii_contains-bytes_only : (s : AsciiBitmap) (b : ℕ) → 256 ≤ b → ascii_contains s b ≡ false
 ascii_contains-bytes_only s b h = ascii_contains-above s b (omega arith)

@@ -1,4 +1,4 @@
--- A member of a byte set is a byte.
+-- Every member of a byte set is a byte.
 use Rattle.std.specs.Prelude.{◌≡◌, ℕ, ◌≤◌, false, List}
 use Rattle.std.proofs.lemmas.Bool.{le-ltb}
 use Rattle.std.proofs.Common.{refl}

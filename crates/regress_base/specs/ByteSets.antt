@@ -1,4 +1,4 @@
--- A byte set is a set of numbers below 256, given as a test on numbers.
+-- Byte sets: sets of numbers below 256, each given by a test on numbers.
 use Rattle.std.specs.Prelude.{◌≡◌, ℕ, ◌/◌, ◌%◌, Bool, ◌&&◌, ◌==◌, nat_lt, List, filter, count_by, slice_index}
 use Rattle.std.specs.Int.{bit_at}
 use Rattle.std.specs.List.{list_any, range_with_len}
@@ -7,15 +7,15 @@ use Rattle.std.specs.List.{list_any, range_with_len}
 unfoldable pub all_bytes : List ℕ
 all_bytes = range_with_len 0 256
 
--- the members of a byte set, each once, ascending
+-- the members of a byte set, ascending, each once
 abbrev pub members_of : (ℕ → Bool) → List ℕ
 members_of set = filter set all_bytes
 
--- how many members a byte set has
+-- the number of members of a byte set
 abbrev pub member_count : (ℕ → Bool) → ℕ
 member_count set = count_by set all_bytes
 
--- two byte sets have the same members
+-- both byte sets have the same members
 abbrev pub SameMembers : (ℕ → Bool) → (ℕ → Bool) → Type 0
 SameMembers p q = (b : ℕ) → p b ≡ q b
 
@@ -23,6 +23,6 @@ SameMembers p q = (b : ℕ) → p b ≡ q b
 unfoldable pub bytes_of : List ℕ → ℕ → Bool
 bytes_of xs b = nat_lt b 256 && list_any (λ x. x == b) xs
 
--- whether bit b is set, where cells of `width` bits each hold the bits, the lowest first
+-- whether bit b is set in a list of cells with `width` bits each, the lowest bit first
 unfoldable pub bit_in : ℕ → List ℕ → ℕ → Bool
 bit_in width cells b = bit_at (slice_index cells (b / width)) (b % width) == 1

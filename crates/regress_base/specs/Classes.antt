@@ -1,5 +1,4 @@
--- The classes of characters that a pattern may name, as lists of intervals (ECMA-262, sections 12.2,
--- 12.3 and 22.2.2.9).
+-- The character classes that a pattern can name, as lists of intervals (ECMA-262, sections 12.2, 12.3 and 22.2.2.9).
 use Rattle.std.specs.Prelude.{ℕ, List, [], ◌∷◌}
 use Rattle.regress_base.specs.Intervals.{Bounds}
 
@@ -13,12 +12,12 @@ one c = interval c c
 abbrev pub digits : List Bounds
 digits = interval 0x30 0x39 ∷ []
 
--- `\w`: 0 to 9, A to Z, the low line, a to z
+-- `\w`: 0 to 9, A to Z, the low line, a to z (basicWordChars of WordCharacters)
 abbrev pub word_characters : List Bounds
 word_characters = interval 0x30 0x39 ∷ interval 0x41 0x5A ∷ one 0x5F ∷ interval 0x61 0x7A ∷ []
 
--- WhiteSpace: tab, line tabulation, form feed, no-break zero width space and the space separators.
--- U+000A, which is a line terminator, stands in the first interval.
+-- WhiteSpace: tab, line tabulation, form feed, zero width no-break space and the space separators. The first interval
+-- also contains U+000A, which is a line terminator.
 abbrev pub white_space : List Bounds
 white_space =
     interval 0x9 0xC ∷ one 0x20 ∷ one 0xA0 ∷ one 0x1680 ∷ interval 0x2000 0x200A ∷ one 0x202F

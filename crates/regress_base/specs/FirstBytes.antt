@@ -1,4 +1,4 @@
--- The bytes with which code points begin in UTF-8.
+-- The first bytes of code points in UTF-8.
 use Rattle.std.specs.Prelude.{◌≡◌, ℕ, ◌≤◌, Some, slice_get, encode_utf8}
 
 -- b is the first byte of a code point from `first` to `last`, both included

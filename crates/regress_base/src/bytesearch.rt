@@ -1,6 +1,6 @@
-//! Sets of bytes, and searches for the next place of a text where one of their members, or a string, stands.
+//! Sets of bytes, and searches for the first member of a set, or for a string, in a text.
 //!
-//! A text is a slice of bytes. Its places go from 0 to its length. Nothing here takes memory, so every call answers.
+//! A text is a slice of bytes; byte offsets are from 0 to its length. Nothing here allocates, so no call fails.
 
 mod ascii;
 mod bitmap;

@@ -1,4 +1,4 @@
-//! The classes of characters that a pattern names by an escape, as canonical lists of intervals.
+//! The character classes that a pattern names by an escape, as canonical lists of intervals.
 
 ghost use Rattle.std.specs.Prelude.{◌≡◌};
 ghost use Rattle.regress_base.specs.Classes.{digits, word_characters, white_space, line_terminators};
@@ -6,7 +6,7 @@ ghost use Rattle.regress_base.specs.Intervals.{IsCanonical};
 
 use crate::interval::Interval;
 
-/// A class that has an escape: `\d`, `\s` or `\w`.
+/// A class with an escape: `\d`, `\s` or `\w` (ECMA-262, CharacterClassEscape).
 #[derive(Clone, Copy, Debug, PartialEq, Eq)]
 pub enum CharacterClassType {
     /// `\d`: [`DIGITS`].
@@ -17,7 +17,7 @@ pub enum CharacterClassType {
     Words,
 }
 
-/// The characters of `\w`: 0 to 9, A to Z, the low line, a to z (WordCharacters of ECMA-262, section
+/// The characters of `\w`: 0 to 9, A to Z, the low line, a to z (basicWordChars of WordCharacters in ECMA-262, section
 /// 22.2.2.9).
 pub const WORD_CHARS: [Interval; 4] = [
     Interval {
@@ -44,7 +44,7 @@ pub const DIGITS: [Interval; 1] = [Interval {
     last: 0x39,
 }];
 
-/// White space (ECMA-262, section 12.2), with the line feed in the first interval.
+/// White space (ECMA-262, section 12.2). The first interval also contains the line feed.
 pub const WHITESPACE: [Interval; 9] = [
     Interval {
         first: 0x9,
@@ -100,7 +100,7 @@ pub const LINE_TERMINATOR: [Interval; 3] = [
     },
 ];
 
-/// The characters of `\w`: [`WORD_CHARS`], with what is proved of it.
+/// Returns [`WORD_CHARS`], the characters of `\w`, with a proof that they are as defined and canonical.
 pub fn word_intervals() -> [Interval; 4]
     ensures value { result ≡ word_characters }
     ensures canonical { IsCanonical result }
@@ -108,7 +108,7 @@ pub fn word_intervals() -> [Interval; 4]
     WORD_CHARS
 }
 
-/// The characters of `\d`: [`DIGITS`], with what is proved of it.
+/// Returns [`DIGITS`], the characters of `\d`, with a proof that they are as defined and canonical.
 pub fn digit_intervals() -> [Interval; 1]
     ensures value { result ≡ digits }
     ensures canonical { IsCanonical result }
@@ -116,7 +116,7 @@ pub fn digit_intervals() -> [Interval; 1]
     DIGITS
 }
 
-/// White space: [`WHITESPACE`], with what is proved of it.
+/// Returns [`WHITESPACE`], with a proof that it is as defined and canonical.
 pub fn white_space_intervals() -> [Interval; 9]
     ensures value { result ≡ white_space }
     ensures canonical { IsCanonical result }
@@ -124,7 +124,7 @@ pub fn white_space_intervals() -> [Interval; 9]
     WHITESPACE
 }
 
-/// Line terminators: [`LINE_TERMINATOR`], with what is proved of it.
+/// Returns [`LINE_TERMINATOR`], with a proof that it is as defined and canonical.
 pub fn line_terminator_intervals() -> [Interval; 3]
     ensures value { result ≡ line_terminators }
     ensures canonical { IsCanonical result }

@@ -12,8 +12,10 @@ mod canonical;
 mod combine;
 mod invert;
 
-/// A set of code points. Its intervals ascend, and between neighbours at least one code point is
-/// missing, so that sets with the same members are the same list.
+/// A set of code points.
+///
+/// Its intervals ascend, and between neighbors at least one code point is missing, so that sets with the same members
+/// have the same intervals (ECMA-262, CharSet).
 #[derive(Debug, Drop)]
 pub struct CodePointSet {
     ivs: Vec<Interval>,
@@ -31,7 +33,7 @@ impl Model for CodePointSet {
 }
 
 impl CodePointSet {
-    /// The empty set. It takes no memory until something is added.
+    /// Returns the empty set. Nothing is allocated before a member is added.
     pub fn new(alloc: Global) -> CodePointSet
         ensures { result ≡ [] }
     {
@@ -40,7 +42,10 @@ impl CodePointSet {
         }
     }
 
-    /// The set of these intervals, which [`is_canonical`] takes.
+    /// Returns the set with exactly these intervals.
+    ///
+    /// # Preconditions
+    /// `ivs` is canonical, as [`is_canonical`] tests.
     pub fn from_sorted_disjoint_intervals(ivs: Vec<Interval>) -> CodePointSet
         requires { IsCanonical ivs.items }
         ensures { result ≡ ivs.items }
@@ -48,7 +53,10 @@ impl CodePointSet {
         CodePointSet { ivs }
     }
 
-    /// An equal set with memory of its own.
+    /// Returns an equal set with memory of its own from `alloc`.
+    ///
+    /// # Errors
+    /// Returns [`AllocError`] if an allocation fails.
     pub fn try_clone(&self, alloc: Global) -> Result<CodePointSet, AllocError>
         ensures { IfOk result (λ set. set ≡ self.now) }
     {
@@ -57,14 +65,17 @@ impl CodePointSet {
         })
     }
 
-    /// Whether `cp` is a member. A binary search: logarithmic in the number of intervals.
+    /// Returns whether `cp` is a member.
+    ///
+    /// # Complexity
+    /// A binary search: logarithmic in the number of intervals.
     pub fn contains(&self, cp: u32) -> bool
         ensures { result ≡ is_member self.now cp }
     {
         canonical::contains(&self.ivs, cp)
     }
 
-    /// Whether the set has no member.
+    /// Returns whether the set has no member.
     pub fn is_empty(&self) -> bool
         ensures intervals { IsTrue result ↔ (self.now ≡ []) }
         ensures members { IsTrue result ↔
@@ -73,14 +84,17 @@ impl CodePointSet {
         self.ivs.is_empty()
     }
 
-    /// Whether every code point is a member. Constant.
+    /// Returns whether every code point is a member.
+    ///
+    /// # Complexity
+    /// Constant.
     pub(crate) fn contains_all_codepoints(&self) -> bool
         ensures { IsTrue result ↔ ((c : ℕ) → c ≤ CODE_POINT_MAX → is_member self.now c ≡ true) }
     {
         self.intervals() == [Interval::new(0, CODE_POINT_MAX)].as_slice()
     }
 
-    /// The intervals, ascending.
+    /// Returns the intervals of the set, ascending. They are canonical, as [`is_canonical`] tests.
     pub fn intervals(&self) -> &[Interval]
         ensures value { result.now ≡ self.now }
         ensures canonical { IsCanonical result.now }

@@ -8,13 +8,13 @@ use std::fmt;
 use std::marker::Model;
 use std::ops::Range;
 
-/// A code point: a number from 0 to [`CODE_POINT_MAX`], surrogates included.
+/// A code point: a number from 0 to [`CODE_POINT_MAX`], surrogates included (Unicode Standard, section 3.4).
 pub type CodePoint = u32;
 
-/// The greatest code point.
+/// The greatest code point, U+10FFFF.
 pub const CODE_POINT_MAX: CodePoint = 0x10FFFF;
 
-/// An inclusive interval of code points: `first <= last <= CODE_POINT_MAX`.
+/// A closed interval of code points: `first <= last <= CODE_POINT_MAX`.
 #[derive(Clone, Copy, PartialEq, Eq)]
 pub struct Interval {
     pub(crate) first: CodePoint,
@@ -34,7 +34,10 @@ impl Model for Interval {
 }
 
 impl Interval {
-    /// The interval from `first` to `last`, both included.
+    /// Returns the interval from `first` to `last`, both included.
+    ///
+    /// # Preconditions
+    /// `first` is at most `last`, and `last` is at most [`CODE_POINT_MAX`].
     pub const fn new(first: CodePoint, last: CodePoint) -> Interval
         requires ordered { first ≤ last }
         requires in_range { last ≤ CODE_POINT_MAX }
@@ -43,7 +46,7 @@ impl Interval {
         Interval { first, last }
     }
 
-    /// The first code point.
+    /// Returns the first code point.
     pub const fn first(self) -> CodePoint
         ensures value { result ≡ self.first }
         ensures ordered { self.first ≤ self.last }
@@ -52,7 +55,7 @@ impl Interval {
         self.first
     }
 
-    /// The last code point.
+    /// Returns the last code point, which is in the interval.
     pub const fn last(self) -> CodePoint
         ensures value { result ≡ self.last }
         ensures ordered { self.first ≤ self.last }
@@ -61,8 +64,8 @@ impl Interval {
         self.last
     }
 
-    /// Where the interval lies as seen from `cp`: `Greater` where all of it is above `cp`, `Less`
-    /// where all of it is below, else `Equal`.
+    /// Compares the interval with `cp`: `Greater` if all of it is above `cp`, `Less` if all of it is below, and `Equal`
+    /// if it contains `cp`.
     #[tactic(auto, using(crate::proofs::WithinLemmas::is_within_tells))]
     pub fn compare(self, cp: u32) -> Ordering
         ensures greater { (result ≡ Greater) ↔ (cp < self.first) }
@@ -78,7 +81,7 @@ impl Interval {
         }
     }
 
-    /// Whether `cp` lies in the interval.
+    /// Returns whether the interval contains `cp`.
     #[tactic(auto, using(crate::proofs::WithinLemmas::is_within_tells))]
     pub fn contains(self, cp: CodePoint) -> bool
         ensures { result ≡ is_within self cp }
@@ -86,7 +89,7 @@ impl Interval {
         self.first <= cp && cp <= self.last
     }
 
-    /// Whether the two share a code point.
+    /// Returns whether the two intervals have a code point in common.
     pub fn overlaps(self, other: Interval) -> bool
         ensures ends { IsTrue result ↔ (self.first ≤ other.last) × (other.first ≤ self.last) }
         ensures shared { IsTrue result ↔
@@ -95,7 +98,7 @@ impl Interval {
         self.first <= other.last && other.first <= self.last
     }
 
-    /// The code points, ascending.
+    /// Returns the code points in ascending order, as a half-open range.
     pub fn codepoints(self) -> Range<u32>
         ensures start { result.start ≡ self.first }
         ensures end { result.end ≡ self.last + 1 }
@@ -103,7 +106,7 @@ impl Interval {
         self.first..self.last + 1
     }
 
-    /// How many code points the interval holds: at least one.
+    /// Returns the number of code points, at least 1.
     pub fn count_codepoints(self) -> usize
         ensures { result + self.first ≡ self.last + 1 }
     {
@@ -111,7 +114,7 @@ impl Interval {
     }
 }
 
-/// `U+{first}-U+{last}`, in upper case hexadecimal of at least four digits.
+/// Formats the interval as `U+{first}-U+{last}`, in upper-case hexadecimal of at least four digits.
 impl fmt::Debug for Interval {
     fn fmt<W: fmt::Write>(&self, f: &mut fmt::Formatter<W>) -> fmt::Result {
         write!(f, "U+{:04X}-U+{:04X}", self.first, self.last)

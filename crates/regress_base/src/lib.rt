@@ -1,5 +1,5 @@
-//! The lowest layer of the pattern front: the plain values, flags and limits that every layer shares,
-//! sets of code points, sets of bytes and searches, and the bytes of UTF-8.
+//! The lowest layer of the library: the plain values, flags and limits that every layer shares, sets of code points,
+//! sets of bytes with their searches, and the bytes of UTF-8.
 #![tactic(auto)]
 
 pub mod bytesearch;

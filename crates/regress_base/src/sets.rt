@@ -1,4 +1,4 @@
-//! What several crates do with sets of code points.
+//! Helpers for sets of code points that several crates share.
 ghost use Rattle.std.specs.Prelude.{◌≡◌, ◌↔◌, ◌||◌, ◌≤◌, ℕ, All, IsTrue, OnOk, nat_le};
 ghost use Rattle.std.specs.List.{list_all};
 ghost use Rattle.regress_base.specs.Intervals.{code_point_max, is_member, IsCanonical};
@@ -6,7 +6,10 @@ ghost use Rattle.regress_base.specs.Intervals.{code_point_max, is_member, IsCano
 use crate::codepointset::{CODE_POINT_MAX, CodePointSet, Interval};
 use std::alloc::AllocError;
 
-/// Adds the intervals one by one. The error is want of memory.
+/// Adds the code points of `intervals`, which may be in any order, to `set`.
+///
+/// # Errors
+/// Returns [`AllocError`] if an allocation fails. The intervals before the one that failed have been added.
 pub fn add_intervals(set: &mut CodePointSet, intervals: &[Interval]) -> Result<(), AllocError>
     ensures { OnOk result ((c : ℕ) →
         is_member set.new c ≡ (is_member set.old c || is_member intervals.now c)) }
@@ -17,7 +20,7 @@ pub fn add_intervals(set: &mut CodePointSet, intervals: &[Interval]) -> Result<(
     Ok(())
 }
 
-/// Whether all are code points.
+/// Returns whether every number is a code point, at most [`CODE_POINT_MAX`].
 pub fn are_code_points(numbers: &[u32]) -> bool
     ensures tested { result ≡ list_all (λ c. nat_le c code_point_max) numbers.now }
     ensures all { IsTrue result ↔ All (λ c. c ≤ code_point_max) numbers.now }
@@ -25,7 +28,9 @@ pub fn are_code_points(numbers: &[u32]) -> bool
     numbers.iter().all(|c| *c <= CODE_POINT_MAX)
 }
 
-/// What the type of a set says of it, for a proof that needs it. It does nothing else.
+/// States that the intervals of `set` are canonical, which its type guarantees.
+///
+/// The function has no effect: a function whose proof needs the fact calls it.
 pub fn set_is_canonical(set: &CodePointSet)
     ensures { IsCanonical set.now }
 {

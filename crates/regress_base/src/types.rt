@@ -12,69 +12,72 @@ pub use captures::{GroupData, LoopData};
 mod bracket;
 mod captures;
 
-/// The flags of a pattern, each read by itself. `unicode_sets` does not switch `unicode` on: a caller who
-/// wants the sets of JavaScript's flag v sets both.
+/// The flags of a pattern.
+///
+/// Each flag has its effect independently: `unicode_sets` does not imply `unicode`. A caller who wants the meaning of
+/// JavaScript's flag v sets both (dialect).
 #[derive(Clone, Copy, Debug, Default, PartialEq, Eq)]
 pub struct Flags {
-    /// Flag i: a character matches in either case.
+    /// Flag i, ignoreCase: a character matches each character with the same canonical form.
     pub icase: bool,
-    /// Flag m: `^` and `$` also match beside a line terminator.
+    /// Flag m, multiline: `^` and `$` also match next to a line terminator.
     pub multiline: bool,
-    /// Flag s: `.` also matches a line terminator.
+    /// Flag s, dotAll: `.` also matches a line terminator.
     pub dot_all: bool,
-    /// Flag u: the stricter grammar, and folds of Unicode.
+    /// Flag u, unicode: the stricter grammar, and simple case folding in place of upper case.
     pub unicode: bool,
-    /// Flag v: classes with strings and operators.
+    /// Flag v, unicodeSets: classes with strings and set operators.
     pub unicode_sets: bool,
 }
 
-/// Which end of the text, or of a line, an anchor stands for.
+/// The kind of an anchor: the start or the end of the text, or of a line with the flag m.
 #[derive(Clone, Copy, Debug)]
 pub enum AnchorType {
-    /// `^`
+    /// `^`: the start.
     StartOfLine,
-    /// `$`
+    /// `$`: the end.
     EndOfLine,
 }
 
-/// How often the body of a loop is matched.
+/// The number of iterations of a loop, and which of them are preferred (ECMA-262, Quantifier).
 #[derive(Clone, Copy, Debug)]
 pub struct Quantifier {
-    /// How many turns there are at least.
+    /// The minimum number of iterations.
     pub min: usize,
-    /// How many there are at most. With `None` there is no such number.
+    /// The maximum number of iterations, or `None` if there is no maximum.
     pub max: Option<usize>,
-    /// Whether another turn is tried before what follows the loop, or after it.
+    /// Whether another iteration is tried before what follows the loop (greedy), or after it (lazy).
     pub greedy: bool,
 }
 
-/// The number of a capture group, from 0 on, by the order of opening parentheses.
+/// The id of a capture group in a node: 0-based, in order of opening parentheses.
 pub type CaptureGroupID = u16;
 
 /// The name of a capture group.
 pub type CaptureGroupName = String;
 
-/// The number of a loop, from 0 on.
+/// The id of a loop, 0-based.
 pub type LoopID = u16;
 
-/// A place in a compiled program, from 0 on.
+/// A position in a compiled program, 0-based.
 pub type IP = usize;
 
-/// How many capture groups a pattern may have.
+/// The maximum number of capture groups in a pattern (dialect).
 pub const MAX_CAPTURE_GROUPS: usize = 65535;
 
-/// How many loops (quantified items) a pattern may have.
+/// The maximum number of loops (quantified terms) in a pattern (dialect).
 pub const MAX_LOOPS: usize = 65535;
 
-/// How many levels a pattern may have: the whole pattern is one, each group is one, and with the flag v so is each class
-/// in another one.
+/// The maximum nesting depth of a pattern (dialect). The whole pattern has depth 1. Each group adds 1, and so does,
+/// with the flag v, each class inside another class.
 pub const MAX_NESTING_DEPTH: u32 = 256;
 
-/// How many members a small set of bytes or code points may have.
+/// The maximum number of members of a small set of bytes or code points (dialect).
 pub const MAX_CHAR_SET_LENGTH: usize = 4;
 
-/// A law of the limits and of the greatest code point: they are the numbers of the definitions. It does nothing; a
-/// function whose proof needs the law calls it.
+/// States that the limits and the greatest code point are the numbers of the definitions.
+///
+/// The function has no effect: a function whose proof needs the fact calls it.
 pub fn limits_are_as_defined()
     ensures capture_groups { MAX_CAPTURE_GROUPS ≡ max_capture_groups }
     ensures loops { MAX_LOOPS ≡ max_loops }

@@ -1,4 +1,4 @@
-//! Helpers on slices, on texts and on the bytes of UTF-8.
+//! Helpers for slices, texts and the bytes of UTF-8.
 
 pub use characters::code_points;
 pub use equal_range::equal_range_by;

@@ -1,10 +1,10 @@
-//! What a line calls.
+//! Dispatches calls by their names.
 
 use crate::{intervals, lookups, plain, searches, sets, tables, unicode, utf8, whole};
 use regress_notation::Call;
 use regress_unicode::Tables;
 
-/// Makes the call of this name over this table, and answers whether there is one.
+/// Makes the call with this name over these tables, and returns whether there is one.
 pub fn answer(call: &mut Call, name: &str, tables: &Tables) -> bool {
     match name {
         "by" => {

@@ -1,9 +1,9 @@
-//! Calls on intervals, and the range of equals in a list.
+//! Calls on intervals, and the range of equal elements in a list.
 
 use regress_base::util::equal_range_by;
 use regress_notation::Call;
 
-/// Makes the call of this name, and answers whether there is one.
+/// Makes the call with this name, and returns whether there is one.
 pub(crate) fn answer(call: &mut Call, name: &str) -> bool {
     match name {
         "compare" => compare(call),
@@ -15,7 +15,7 @@ pub(crate) fn answer(call: &mut Call, name: &str) -> bool {
     true
 }
 
-/// For each number where the interval lies as seen from it, and whether that is a member.
+/// For each number, reports how the interval compares to it, and whether it contains it.
 fn compare(call: &mut Call) {
     let interval = call.interval();
     for number in &call.numbers() {
@@ -24,21 +24,21 @@ fn compare(call: &mut Call) {
     }
 }
 
-/// Whether two intervals have a member in common.
+/// Reports whether two intervals have a common member.
 fn overlap(call: &mut Call) {
     let one = call.interval();
     let other = call.interval();
     call.tell(&one.overlaps(other));
 }
 
-/// The code points of an interval as a range, and how many they are.
+/// Reports the code points of an interval as a range, and their number.
 fn count(call: &mut Call) {
     let interval = call.interval();
     call.show(&interval.codepoints());
     call.tell(&interval.count_codepoints());
 }
 
-/// The range of the numbers of an ascending list that are equal to one.
+/// Reports the range of the elements of an ascending list that are equal to a number.
 fn find_equal(call: &mut Call) {
     let wanted = call.number();
     let list = call.numbers();

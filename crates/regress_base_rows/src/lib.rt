@@ -1,5 +1,5 @@
-//! The calls of the two lowest crates, by lines of data: what a line's call comes to, on sets, intervals, searches,
-//! UTF-8, plain values and tables. A program compares the answers with what lines say they should be.
+//! The calls of test cases for the two lowest crates: on sets, intervals, searches, UTF-8, plain values and tables. A
+//! program compares their results with the expected ones.
 #![tactic(auto)]
 
 mod calls;

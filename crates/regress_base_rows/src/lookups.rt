@@ -4,7 +4,7 @@ use regress_base::codepointset::CodePointSet;
 use regress_notation::{Call, Fault};
 use regress_unicode::Tables;
 
-/// Makes the call of this name, and answers whether there is one.
+/// Makes the call with this name, and returns whether there is one.
 pub(crate) fn answer(call: &mut Call, name: &str, tables: &Tables) -> bool {
     match name {
         "set" => {
@@ -18,7 +18,7 @@ pub(crate) fn answer(call: &mut Call, name: &str, tables: &Tables) -> bool {
     true
 }
 
-/// The set of a name in a list, or `none`.
+/// Reports the set with a name in a list, or `none`.
 pub(crate) fn listed_set(call: &mut Call, list: &str, tables: &Tables) {
     match set_of(call, list, tables) {
         Some(set) => call.tell_intervals(set.intervals()),
@@ -26,7 +26,7 @@ pub(crate) fn listed_set(call: &mut Call, list: &str, tables: &Tables) {
     }
 }
 
-/// The set of a name in a list. The two sets of names' characters have the name `all`.
+/// Returns the set with a name in a list. The two sets of characters of names have the name `all`.
 fn set_of<'a>(call: &mut Call, list: &str, tables: &'a Tables) -> Option<&'a CodePointSet> {
     let name = call.field();
     match list {
@@ -43,7 +43,7 @@ fn set_of<'a>(call: &mut Call, list: &str, tables: &'a Tables) -> Option<&'a Cod
     }
 }
 
-/// The strings of a name, with ` | ` behind each, or `none`.
+/// Reports the strings with a name, with ` | ` after each, or `none`.
 fn strings(call: &mut Call, tables: &Tables) {
     let name = call.field();
     match tables.strings(name) {
@@ -57,7 +57,7 @@ fn strings(call: &mut Call, tables: &Tables) {
     }
 }
 
-/// The numbers of a string, with no space before the first.
+/// Appends the numbers of a string, without a space before the first.
 fn tell_string(call: &mut Call, string: &[u32]) {
     let mut between = "";
     for number in string {
@@ -67,8 +67,8 @@ fn tell_string(call: &mut Call, string: &[u32]) {
     }
 }
 
-/// How many code points the set of a name in a list has, its first and its last; or `none`. Of the list `strings`: how
-/// many strings, the first and the last.
+/// Reports the number of code points of the set with a name in a list, its first and its last; or `none`. For the list
+/// `strings`: the number of strings, the first and the last.
 fn extent(call: &mut Call, tables: &Tables) {
     let list = call.field();
     if list == "strings" {

@@ -1,4 +1,4 @@
-//! Plain values: brackets, groups, loops, limits, and the classes of characters.
+//! Calls on plain values: brackets, groups, loops, limits, and classes of characters.
 
 use regress_base::charclasses::{
     digit_intervals, line_terminator_intervals, white_space_intervals, word_intervals,
@@ -10,7 +10,7 @@ use regress_base::types::{
 };
 use regress_notation::{Call, Fault, read_number};
 
-/// Makes the call of this name, and answers whether there is one.
+/// Makes the call with this name, and returns whether there is one.
 pub(crate) fn answer(call: &mut Call, name: &str) -> bool {
     match name {
         "class" => class(call),
@@ -22,7 +22,7 @@ pub(crate) fn answer(call: &mut Call, name: &str) -> bool {
     true
 }
 
-/// The intervals of a class of characters.
+/// Reports the intervals of a class of characters.
 fn class(call: &mut Call) {
     match call.field() {
         "digits" => call.tell_intervals(&digit_intervals()),
@@ -33,7 +33,7 @@ fn class(call: &mut Call) {
     }
 }
 
-/// The limits, or a loop that has not begun.
+/// Reports the limits, or a loop that has not begun.
 fn values(call: &mut Call) {
     match call.field() {
         "limits" => {
@@ -52,7 +52,8 @@ fn values(call: &mut Call) {
     }
 }
 
-/// Whether a copy of a bracket accepts nothing, and how it is shown. The first field is `^` where it is inverted.
+/// Reports whether a bracket and its copy never match, and the copy's `Debug` form. The first field is `^` if it is
+/// inverted.
 fn bracket(call: &mut Call) {
     let alloc = call.alloc();
     let invert = call.field() == "^";
@@ -68,7 +69,7 @@ fn bracket(call: &mut Call) {
     call.show(&copy);
 }
 
-/// Which ends of a group are matched, its range, and its range where it is reset. An end that is no number is not set.
+/// Reports which ends of a group are set, its range, and its range after a reset. An end that is not a number is unset.
 fn group(call: &mut Call) {
     let mut group = GroupData::<u32>::new();
     group.start = read_number(call.field());

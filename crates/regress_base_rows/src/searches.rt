@@ -1,4 +1,4 @@
-//! Byte sets and searches.
+//! Calls on byte sets and searches.
 
 use regress_base::bytesearch::{
     AsciiBitmap, ByteArraySet, ByteBitmap, ByteSearcher, ByteSet, EmptyString, Needle,
@@ -6,11 +6,11 @@ use regress_base::bytesearch::{
 };
 use regress_notation::{Call, Fault, Promise};
 
-/// Makes the call of this name, and answers whether there is one.
+/// Makes the call with this name, and returns whether there is one.
 pub(crate) fn answer(call: &mut Call, name: &str) -> bool {
     match name {
         "find" => find(call),
-        "places" => places(call),
+        "positions" => places(call),
         "bitmap" => bitmap(call),
         "bitor" => join(call),
         "ascii" => ascii(call),
@@ -21,7 +21,7 @@ pub(crate) fn answer(call: &mut Call, name: &str) -> bool {
     true
 }
 
-/// Where a search finds the first member of a text.
+/// Reports where a search finds the first member in a text.
 fn find(call: &mut Call) {
     let kind = call.field();
     let members = call.bytes();
@@ -32,7 +32,7 @@ fn find(call: &mut Call) {
     }
 }
 
-/// A search of one kind. Arrays and small sets are by the number of their members.
+/// Runs a search of one kind. Arrays and small sets are selected by the number of members.
 fn search(kind: &str, members: &[u8], text: &[u8]) -> Option<Option<usize>> {
     match kind {
         "bitmap" => Some(ByteBitmap::new(members).find_in(text)),
@@ -72,8 +72,8 @@ fn search_wrapped(members: &[u8], text: &[u8]) -> Option<Option<usize>> {
     }
 }
 
-/// Says that the last of the members is found at each place of each text of at most 67 bytes that has no other, also
-/// where it stands once more behind, and nowhere where it is missing.
+/// Checks that the last member is found at each position of each text of at most 67 bytes that contains no other
+/// member, also if it occurs once more later, and that it is not found if it is missing.
 fn places(call: &mut Call) {
     let kind = call.field();
     let members = call.bytes();
@@ -88,10 +88,10 @@ fn places(call: &mut Call) {
             }
         }
     }
-    call.say("at each place");
+    call.say("at each position");
 }
 
-/// A text of zeros that has a byte at two places, as far as it is so long.
+/// Returns a text of zeros with a byte at two positions, if they are inside the text.
 fn text_with(byte: u8, place: usize, other: usize) -> [u8; 67] {
     let mut text = [0; 67];
     if place < 67 {
@@ -103,7 +103,7 @@ fn text_with(byte: u8, place: usize, other: usize) -> [u8; 67] {
     text
 }
 
-/// A bitmap, how many members it has and, if they are at most four, these and then zeros.
+/// Reports a bitmap, the number of its members and, if there are at most four, these, padded with zeros.
 fn bitmap(call: &mut Call) {
     let bitmap = ByteBitmap::new(&call.bytes());
     let count = bitmap.count_bits();
@@ -114,7 +114,7 @@ fn bitmap(call: &mut Call) {
     }
 }
 
-/// The union of two bitmaps, its complement, and whether the first one was the second.
+/// Reports the union of two bitmaps, its complement, and whether the two were equal.
 fn join(call: &mut Call) {
     let mut joined = ByteBitmap::new(&call.bytes());
     let other = ByteBitmap::new(&call.bytes());
@@ -128,7 +128,7 @@ fn join(call: &mut Call) {
     call.tell(&same);
 }
 
-/// A bitmap of ASCII, and those of all bytes that are not in it.
+/// Reports a bitmap of ASCII, and the bytes that are not in it.
 fn ascii(call: &mut Call) {
     let mut bitmap = AsciiBitmap::default();
     for byte in &call.bytes() {
@@ -148,7 +148,7 @@ fn ascii(call: &mut Call) {
     call.show(&outside);
 }
 
-/// Those of the bytes that are in a small set, by itself, wrapped and, if it has four members, as code points.
+/// Reports which of the bytes are in a small set; with four members, in its wrapped form too.
 fn members_of_small(call: &mut Call) {
     let set = call.bytes();
     for byte in &call.bytes() {
@@ -172,7 +172,7 @@ fn is_in_small(set: &[u8], byte: u8) -> Option<bool> {
     }
 }
 
-/// Those of the numbers that are in a set of four code points.
+/// Reports which of the numbers are in a set of four code points.
 fn members_of_four(call: &mut Call) {
     let set = call.numbers();
     let [a, b, c, d] = *set.as_slice() else {

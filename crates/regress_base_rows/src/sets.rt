@@ -4,7 +4,7 @@ use regress_base::codepointset::{CodePointSet, is_canonical};
 use regress_notation::{Call, Fault, Promise};
 use std::alloc::AllocError;
 
-/// Makes the call of this name, and answers whether there is one.
+/// Makes the call with this name, and returns whether there is one.
 pub(crate) fn answer(call: &mut Call, name: &str) -> bool {
     match name {
         "add" | "add_one" => add(call, name == "add"),
@@ -17,7 +17,7 @@ pub(crate) fn answer(call: &mut Call, name: &str) -> bool {
     true
 }
 
-/// The set behind `add` of each interval, or behind `add_one` of the first of each.
+/// Reports the set after `add` of each interval, or after `add_one` of the first code point of each.
 fn add(call: &mut Call, all: bool) {
     let mut set = call.set();
     for interval in &call.intervals() {
@@ -32,7 +32,7 @@ fn add(call: &mut Call, all: bool) {
     call.tell_intervals(set.intervals());
 }
 
-/// The set behind a call on another set.
+/// Reports the set after a call with another set.
 fn combine(call: &mut Call, name: &str) {
     let mut set = call.set();
     let other = call.set();
@@ -51,7 +51,7 @@ fn copy_of(call: &mut Call, set: &CodePointSet) -> CodePointSet {
     call.made(set.try_clone(alloc), CodePointSet::new(alloc))
 }
 
-/// What was done: a refused growth leaves the set as it was.
+/// Checks that a failed allocation leaves the set unchanged, and records it.
 fn keep(call: &mut Call, done: Result<(), AllocError>, set: &CodePointSet, before: &CodePointSet) {
     if done.is_err() {
         call.check(set == before, Promise::SetIsKept);
@@ -59,7 +59,7 @@ fn keep(call: &mut Call, done: Result<(), AllocError>, set: &CodePointSet, befor
     }
 }
 
-/// The complement, which has as many intervals as is told beforehand, and gives back the set.
+/// Reports the complement, and checks that it has the predicted number of intervals and that its complement is the set.
 fn invert(call: &mut Call) {
     let set = call.set();
     let inverted = complement_of(call, &set);
@@ -75,7 +75,7 @@ fn complement_of(call: &mut Call, set: &CodePointSet) -> CodePointSet {
     call.made(set.inverted(), CodePointSet::new(alloc))
 }
 
-/// Those of the code points that are members.
+/// Reports which of the code points are members.
 fn members(call: &mut Call) {
     let set = call.set();
     for point in &call.points() {
@@ -85,7 +85,7 @@ fn members(call: &mut Call) {
     }
 }
 
-/// A copy of the set of these intervals, if they are canonical, and how it is shown.
+/// Reports the `Debug` form of a copy of the set with these intervals, if they are canonical.
 fn copy_canonical(call: &mut Call) {
     let intervals = call.intervals();
     if !is_canonical(&intervals) {

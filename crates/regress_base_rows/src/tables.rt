@@ -1,4 +1,4 @@
-//! Tables of a caller's own, and packed ranges.
+//! Calls on a caller's own tables, and on packed ranges.
 ghost use Rattle.std.specs.Prelude.{IfSome};
 ghost use Rattle.regress_unicode.specs.FoldRows.{IsModulo};
 
@@ -6,7 +6,7 @@ use regress_base::codepointset::CodePointSet;
 use regress_notation::{Call, Fault, read_number};
 use regress_unicode::{CodePointRange, FoldRange, Tables, TablesError};
 
-/// Makes the call of this name, and answers whether there is one.
+/// Makes the call with this name, and returns whether there is one.
 pub(crate) fn answer(call: &mut Call, name: &str) -> bool {
     match name {
         "tables" => make(call),
@@ -16,8 +16,8 @@ pub(crate) fn answer(call: &mut Call, name: &str) -> bool {
     true
 }
 
-/// A table of rows for folds and for upper cases, of sets for the first and the further characters of names with a `;`
-/// between them, and of lists of sets and of strings.
+/// Makes tables from entries for folding and for upper case, sets for the first and the further characters of names,
+/// separated by `;`, lists of sets, and strings. Reports whether they are accepted.
 fn make(call: &mut Call) {
     let folds = call.field();
     let uppers = call.field();
@@ -31,7 +31,7 @@ fn make(call: &mut Call) {
     }
 }
 
-/// The table of these rows for folds, and for upper cases too, and of lists of these sets.
+/// Returns tables with these entries for folding and for upper case, and with these sets in each list.
 pub(crate) fn table_of(call: &mut Call, rows: &str, sets: &str) -> Option<Tables> {
     match tables_in(call, rows, rows, "", sets, "") {
         Ok(tables) => return Some(tables),
@@ -64,7 +64,7 @@ fn tables_in(
     )
 }
 
-/// Rows, with spaces between them.
+/// Parses entries, separated by spaces.
 fn rows_in(call: &mut Call, text: &str) -> Vec<FoldRange> {
     let mut rows = Vec::new(call.alloc());
     for part in text.split_whitespace() {
@@ -80,7 +80,8 @@ fn rows_in(call: &mut Call, text: &str) -> Vec<FoldRange> {
     rows
 }
 
-/// A row: its start, its length, how far it moves, and which of its code points do, as `0x41,26,32,1`.
+/// Parses an entry: its start, its length, its offset, and the distance of the code points that are mapped, as
+/// `0x41,26,32,1`.
 fn read_row(text: &str) -> Option<FoldRange> {
     let (start, rest) = text.split_once(',')?;
     let (length, rest) = rest.split_once(',')?;
@@ -118,7 +119,7 @@ fn read_modulo(text: &str) -> Option<u8>
     }
 }
 
-/// Sets with names, as `Nd=0x30-0x39;Zl=0x2028`.
+/// Parses named sets, as `Nd=0x30-0x39;Zl=0x2028`.
 fn sets_in(call: &mut Call, text: &str) -> Vec<(String, CodePointSet)> {
     let mut sets = Vec::new(call.alloc());
     for part in text.split_terminator(';') {
@@ -132,7 +133,7 @@ fn sets_in(call: &mut Call, text: &str) -> Vec<(String, CodePointSet)> {
     sets
 }
 
-/// The name of a part, and what has it.
+/// Splits `NAME=VALUE`.
 fn named_part<'a>(call: &mut Call, part: &'a str) -> (&'a str, &'a str) {
     call.read(part.split_once('='), (part, ""))
 }
@@ -142,7 +143,7 @@ fn own(call: &mut Call, name: &str) -> String {
     call.made(String::from_str(alloc, name), String::new(alloc))
 }
 
-/// Lists of strings with names, as `Keys=0x23 0x20E3,0x2A 0x20E3;None=`, where a `,` stands between strings.
+/// Parses named lists of strings, as `Keys=0x23 0x20E3,0x2A 0x20E3;None=`, with `,` between strings.
 fn lists_in(call: &mut Call, text: &str) -> Vec<(String, Vec<Vec<u32>>)> {
     let mut lists = Vec::new(call.alloc());
     for part in text.split_terminator(';') {
@@ -167,7 +168,7 @@ fn strings_in(call: &mut Call, text: &str) -> Vec<Vec<u32>> {
     strings
 }
 
-/// The ends of a packed range, by its start and its length.
+/// Reports the ends of a packed range with this start and length.
 fn range(call: &mut Call) {
     let start = call.number();
     let length = call.number();

@@ -1,4 +1,4 @@
-//! Calls on the maps and the names of a table.
+//! Calls on the mappings and the names of a table.
 
 use regress_base::codepointset::CodePointSet;
 use regress_base::types::Flags;
@@ -8,7 +8,7 @@ use regress_unicode::{
     uppercase,
 };
 
-/// Makes the call of this name, and answers whether there is one.
+/// Makes the call with this name, and returns whether there is one.
 pub(crate) fn answer(call: &mut Call, name: &str, tables: &Tables) -> bool {
     match name {
         "close" => close(call, tables),
@@ -22,7 +22,7 @@ pub(crate) fn answer(call: &mut Call, name: &str, tables: &Tables) -> bool {
     true
 }
 
-/// The closure of a set by the folds.
+/// Reports the closure of a set under case folding.
 fn close(call: &mut Call, tables: &Tables) {
     let set = call.set();
     let alloc = call.alloc();
@@ -30,7 +30,7 @@ fn close(call: &mut Call, tables: &Tables) {
     call.tell_intervals(closed.intervals());
 }
 
-/// The folds of code points, or their upper cases.
+/// Reports the folded characters of code points, or their upper cases.
 fn images(call: &mut Call, tables: &Tables, by_fold: bool) {
     for point in &call.points() {
         let image = if by_fold {
@@ -42,7 +42,7 @@ fn images(call: &mut Call, tables: &Tables, by_fold: bool) {
     }
 }
 
-/// The code points with the fold of one, or with its upper case.
+/// Reports the code points with the same folding, or the same upper case, as one.
 fn unfold(call: &mut Call, tables: &Tables, by_fold: bool) {
     let alloc = call.alloc();
     let point = call.point();
@@ -55,7 +55,7 @@ fn unfold(call: &mut Call, tables: &Tables, by_fold: bool) {
     call.tell_each(&points);
 }
 
-/// The code points that a literal stands for.
+/// Reports the code points that a literal matches.
 fn expand(call: &mut Call, tables: &Tables) {
     let alloc = call.alloc();
     let letters = call.field();
@@ -66,7 +66,7 @@ fn expand(call: &mut Call, tables: &Tables) {
     call.tell_each(&points);
 }
 
-/// Those of the code points that are in a set.
+/// Reports which of the code points are in a set.
 fn members(call: &mut Call, set: &CodePointSet) {
     for point in &call.points() {
         if set.contains(*point) {

@@ -8,7 +8,7 @@ use regress_base::util::{
 };
 use regress_notation::Call;
 
-/// Makes the call of this name, and answers whether there is one.
+/// Makes the call with this name, and returns whether there is one.
 pub(crate) fn answer(call: &mut Call, name: &str) -> bool {
     match name {
         "first_bytes" => first_bytes(call),
@@ -21,21 +21,21 @@ pub(crate) fn answer(call: &mut Call, name: &str) -> bool {
     true
 }
 
-/// The first byte of each code point.
+/// Reports the first byte of each code point.
 fn first_bytes(call: &mut Call) {
     for point in &call.points() {
         call.tell(&first_byte(*point));
     }
 }
 
-/// The character of each number.
+/// Reports the character for each number.
 fn characters(call: &mut Call) {
     for number in &call.numbers() {
         call.tell(&u32::from(to_char_sat(*number)));
     }
 }
 
-/// Those of the bytes that go on with a code point.
+/// Reports which of the bytes are continuation bytes.
 fn continuing(call: &mut Call) {
     for byte in &call.bytes() {
         if is_utf8_continuation(*byte) {
@@ -44,7 +44,7 @@ fn continuing(call: &mut Call) {
     }
 }
 
-/// The first byte of a code point; 255, which begins none, past the last one.
+/// Returns the first byte of a code point; past the last code point 255, which begins none.
 pub(crate) fn first_byte(point: u32) -> u8 {
     if point <= CODE_POINT_MAX {
         utf8_first_byte(point)
@@ -53,7 +53,7 @@ pub(crate) fn first_byte(point: u32) -> u8 {
     }
 }
 
-/// The code point of two, three or four bytes.
+/// Reports the code point that two, three or four bytes encode.
 fn decode(call: &mut Call) {
     let bytes = call.bytes();
     let point = call.read(decoded(&bytes), 0);
@@ -74,7 +74,7 @@ fn decoded(bytes: &[u8]) -> Option<u32> {
     }
 }
 
-/// The first bytes of an interval, and how many they are.
+/// Reports the first bytes of an interval, and their number.
 fn first_bytes_of(call: &mut Call) {
     let interval = call.interval();
     let mut bitmap = ByteBitmap::default();

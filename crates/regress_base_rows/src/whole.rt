@@ -1,4 +1,4 @@
-//! Checks over all code points, by the fold of each alone.
+//! Checks over all code points, from the folding of each single one.
 ghost use Rattle.std.specs.Prelude.{◌≤◌, All};
 
 use crate::utf8::first_byte;
@@ -9,7 +9,7 @@ use regress_notation::{Call, Fault, Promise};
 use regress_unicode::{Tables, add_icase_code_points, fold, unfold_char};
 use std::alloc::{AllocError, Global};
 
-/// Makes the call of this name, and answers whether there is one.
+/// Makes the call with this name, and returns whether there is one.
 pub(crate) fn answer(call: &mut Call, name: &str, tables: &Tables) -> bool {
     match name {
         "all" => check_all(call, tables),
@@ -17,21 +17,21 @@ pub(crate) fn answer(call: &mut Call, name: &str, tables: &Tables) -> bool {
         "closed_between" => closed_between(call, tables),
         _ => return false,
     }
-    call.say("so it is");
+    call.say("holds");
     true
 }
 
-/// Says that each image is its own image, that planes 15 and 16 are their own images, or that each code point is unfolded
-/// to all that have its image and no others.
+/// Checks that folding is idempotent, that it maps each code point of planes 15 and 16 to itself, or that unfolding a
+/// code point yields exactly the code points with the same folded character.
 fn check_all(call: &mut Call, tables: &Tables) {
     match call.field() {
-        "images" => {
+        "idempotent" => {
             for point in 0..=CODE_POINT_MAX {
                 let image = fold(point, tables);
                 call.check(fold(image, tables) == image, Promise::Idempotent);
             }
         }
-        "planes 15 and 16 stay" => {
+        "planes 15 and 16 are unchanged" => {
             for point in 0xF0000..=CODE_POINT_MAX {
                 call.check(fold(point, tables) == point, Promise::Idempotent);
             }
@@ -52,14 +52,14 @@ fn check_unfolding(call: &mut Call, tables: &Tables) {
     }
 }
 
-/// A code point that another one is the fold of.
+/// A code point, and the different one that it folds to.
 #[derive(Clone, Copy)]
 struct Move {
     from: u32,
     to: u32,
 }
 
-/// The code points that are not their own fold, ascending.
+/// Returns the code points that do not fold to themselves, ascending.
 fn moves(alloc: Global, tables: &Tables) -> Result<Vec<Move>, AllocError> {
     let mut moves = Vec::new(alloc);
     for from in 0..=CODE_POINT_MAX {
@@ -71,7 +71,7 @@ fn moves(alloc: Global, tables: &Tables) -> Result<Vec<Move>, AllocError> {
     Ok(moves)
 }
 
-/// An image, and what moves to it, ascending.
+/// Returns a folded character and the code points that fold to it, ascending.
 fn with_image(alloc: Global, moves: &[Move], image: u32) -> Result<Vec<u32>, AllocError> {
     let mut points = vec![in alloc; image]?;
     for Move { from, to } in moves {
@@ -83,7 +83,7 @@ fn with_image(alloc: Global, moves: &[Move], image: u32) -> Result<Vec<u32>, All
     Ok(points)
 }
 
-/// Says that of each interval between two bounds the first bytes are those of its code points one by one.
+/// Checks that the first bytes of each interval between two bounds are those of its single code points.
 fn first_bytes_between(call: &mut Call) {
     let bounds = call.points();
     for first in &bounds {
@@ -103,7 +103,8 @@ fn first_bytes_between(call: &mut Call) {
     }
 }
 
-/// Says that each interval between two bounds is closed by all that have an image of one of its code points.
+/// Checks that the closure of each interval between two bounds has exactly the code points with the folded character of
+/// a member.
 fn closed_between(call: &mut Call, tables: &Tables) {
     let alloc = call.alloc();
     let bounds = call.points();
@@ -132,7 +133,7 @@ fn set_of(call: &mut Call, interval: Interval) -> CodePointSet {
     set
 }
 
-/// Adds what has an image of one of the interval's code points.
+/// Adds the code points with the folded character of one of the interval's code points.
 fn add_images(call: &mut Call, closure: &mut CodePointSet, interval: Interval, moves: &[Move]) {
     let alloc = call.alloc();
     for Move { from, to } in moves {

@@ -1,4 +1,4 @@
--- The bound, and how near it is.
+-- The bound on the number of nodes, and how tight it is.
 use Rattle.std.proofs.Common.{ℕ, ◌+◌, ◌*◌, ◌≤◌, Bool, true, false, cond, ◌&&◌, [], ◌∷◌, length, refl, arith}
 use Rattle.regress_base.specs.declared.types.Flags.{Flags}
 use Rattle.regress_tree.specs.Reading.{forwards}
@@ -28,7 +28,7 @@ tree-nodes setting t p derived =
 pub bounded : (flags : Flags) (t : Source) → HasAtMost flags t (node_bound flags.unicode_sets t)
 bounded flags t table p derived = tree-nodes (record { flags = flags; table = table }) t p derived
 
--- ---- how near it is
+-- ---- how tight the bound is
 
 place_near : (a b d : Bool) (m k : ℕ) (n : ℕ) (x : ℕ) → x ≤ 5 * n + 2 * (m * k) →
     cond a 2 (cond b 5 (cond d (2 * m + 1) 1)) + x ≤ 5 * (1 + n) + 2 * (m * (cond d 1 0 + k))

@@ -1,5 +1,5 @@
--- What an item begins with: a group has a name only where one is opened, and an atom has no more nodes than its first code
--- point counts.
+-- The start of an item: a group has a name only if the source opens a named group there, and an atom has at most as
+-- many nodes as its first code point is counted for.
 use Rattle.std.proofs.Common.{◌≡◌, ℕ, ◌+◌, ◌*◌, ◌≤◌, nat_le, Bool, true, false, cond, ◌&&◌, ◌||◌, ◌==◌, List, [], ◌∷◌, length, drop, Option, Some, None, is_some, refl, sym, subst, arith, eqb-true}
 use Rattle.std.proofs.lemmas.Bool.{and_parts}
 use Rattle.regress_base.specs.Table.{Table}
@@ -25,13 +25,13 @@ use Rattle.regress_parse.specs.TreeOf.{references, alternation, strings_or_point
 use Rattle.regress_bound.specs.Bound.{opens_name, nodes_at}
 use Rattle.regress_bound.proofs.SourceLemmas.{nodes_at-some}
 
--- whatever was found
+-- Whatever is found has the trivial property.
 pub any_found : {A : Type 0} (found : Found A) → Finds (λ _. Unit {0}) found
 any_found found = record { each = λ x e. tt }
 
--- ---- what opens a group
+-- ---- the opening of a group
 
--- Of an atom Q holds, and a group has a name only where one is opened.
+-- The property holds of an atom, and a group has a name only if a named group is opened there.
 abbrev pub Fits : (Atom → Type 0) → (opened : Bool) → Head → Type 0
 Fits Q opened (single a) = Q a
 Fits Q opened (opens grouping) = Unit {0}
@@ -86,7 +86,7 @@ class-nodes true true false strings points = omega arith
 class-nodes true true true strings points = omega arith
 
 module _ (table : Table) (ctx : Context) (most : ℕ) (few : (name : Name) → length (groups_named name 1 ctx.names) ≤ most) where
-  -- it has so many nodes at most
+  -- The item has at most n nodes.
   abbrev pub AtMost : ℕ → Atom → Type 0
   AtMost n a = nodes (tree_of_atom table ctx.names a) ≤ n
 
@@ -128,7 +128,7 @@ module _ (table : Table) (ctx : Context) (most : ℕ) (few : (name : Name) → l
       (omega (arith, references-nodes ctx.setting.flags.icase (groups_named x.0 1 ctx.names), few x.0)))
       (λ _. finds_none (AtMost (2 * most + 1))))
 
-  -- what an escape that begins with c counts
+  -- the count of an escape that begins with c
   abbrev escaped : ℕ → ℕ
   escaped c = cond (c == 107) (2 * most + 1) 1
 
@@ -163,7 +163,7 @@ module _ (table : Table) (ctx : Context) (most : ℕ) (few : (name : Name) → l
           first_row-has (λ found. Finds (AtMost (escaped c)) found) (escape_rows ctx c t) (finds_none (AtMost (escaped c)))
           (escape_rows-nodes c t)
 
-  -- what c counts, and t behind it
+  -- the count of the code point c, which t follows
   abbrev here : ℕ → Source → ℕ
   here c t = nodes_at ctx.setting.flags.unicode_sets most (c ∷ t)
 

@@ -1,4 +1,4 @@
--- No more groups have a name than there are places at which one is opened.
+-- At most as many groups have a name as there are positions at which a named group begins.
 use Rattle.std.proofs.Common.{◌≡◌, ℕ, ◌+◌, ◌≤◌, Bool, true, false, cond, List, [], ◌∷◌, ◌++◌, length, Option, Some, None, ap, arith}
 use Rattle.std.proofs.lemmas.Option.{none-some}
 use Rattle.regress_lexical.specs.Source.{Source, closing, bar}
@@ -11,7 +11,7 @@ use Rattle.regress_bound.specs.Bound.{places, opens_name}
 use Rattle.regress_bound.proofs.SourceLemmas.{total-behind, behind_first}
 use Rattle.regress_bound.proofs.HeadLemmas.{Fits, head_by-fits, any_found}
 
--- how many have a name
+-- the number of groups with a name
 abbrev pub named : List (Option Name) → ℕ
 named [] = 0
 named (None ∷ names) = named names
@@ -26,14 +26,14 @@ one_more : (b : Bool) (k m : ℕ) (ks : List ℕ) → length ks ≤ m → length
 one_more true k m ks few = omega arith
 one_more false k m ks few = omega arith
 
--- a name stands for no more groups
+-- At most all named groups have this name.
 pub groups_named-few : (name : Name) (k : ℕ) (all : List (Option Name)) → length (groups_named name k all) ≤ named all
 groups_named-few name k [] = omega arith
 groups_named-few name k (None ∷ all) = groups_named-few name (k + 1) all
 groups_named-few name k (Some other ∷ all) =
     one_more (is_named name (Some other)) k (named all) (groups_named name (k + 1) all) (groups_named-few name (k + 1) all)
 
--- ---- by the grammar
+-- ---- the grammar
 
 is_opened : (kind : Group) (opened : Bool) → Fits (λ _. Unit {0}) opened (opens kind) → named (names_of_group kind) ≤ cond opened 1 0
 is_opened grouping opened fits = omega arith

@@ -1,4 +1,4 @@
--- The tree of a derived pattern has no more nodes than its source counts.
+-- The tree of a derived pattern has at most as many nodes as its source is counted for.
 use Rattle.std.proofs.Common.{◌≡◌, ℕ, ◌+◌, ◌≤◌, Bool, List, [], ◌∷◌, length, Option, Some, None, refl, sym, ap, ◌∙◌, subst, arith}
 use Rattle.std.proofs.lemmas.Option.{none-some}
 use Rattle.regress_base.specs.Table.{Table}
@@ -32,20 +32,20 @@ nodes-group start end (modified change) body = omega arith
 nodes-group start end (capture name) body = omega arith
 nodes-group start end (look negate direction) body = omega arith
 
--- ---- by the grammar
+-- ---- the grammar
 
--- what the rows ask of a context beside the source
+-- what the productions depend on in the context
 abbrev told : Context → Bool × List (Option Name)
 told ctx = (ctx.setting.flags.unicode_sets, ctx.names)
 
--- a group changes other flags alone
+-- A group changes neither the flag v nor the names.
 same_told : (kind : Group) (ctx : Context) → told (context_inside kind ctx) ≡ told ctx
 same_told grouping ctx = refl
 same_told (modified change) ctx = refl
 same_told (capture name) ctx = refl
 same_told (look negate direction) ctx = refl
 
--- what a source counts, where a name has no more groups than `most`
+-- the count of a source in which at most `most` groups share a name
 abbrev counted : (most : ℕ) → Bool → Source → ℕ
 counted most sets = total (nodes_at sets most)
 

@@ -1,4 +1,4 @@
--- What the places of a source count, and what is left of it behind some.
+-- The counts of the positions of a source, and of its suffixes.
 use Rattle.std.proofs.Common.{◌≡◌, ℕ, zero, suc, ◌+◌, ◌*◌, ◌<◌, ◌≤◌, Bool, true, false, cond, ◌&&◌, [], ◌∷◌, length, drop, ap, arith}
 use Rattle.regress_lexical.specs.Source.{Source, bar, is_at}
 use Rattle.regress_lexical.proofs.laws.Behind.{IsBehind}
@@ -10,11 +10,11 @@ module _ (count : Source → ℕ) where
   total-drop (suc n) [] = omega arith
   total-drop (suc n) (c ∷ t) = omega (arith, total-drop n t)
 
-  -- what is left counts no more than all
+  -- The count of a suffix is at most that of the source.
   pub total-behind : (t rest : Source) → IsBehind t rest → total count rest ≤ total count t
   total-behind t rest h = omega (arith, ap (total count) h.same, total-drop h.count t)
 
--- what takes a code point leaves something of what stands behind it
+-- A shorter suffix of a source is a suffix of the source after its first code point.
 pub behind_first : (c : ℕ) (t rest : Source) → IsBehind (c ∷ t) rest → length rest < length (c ∷ t) → IsBehind t rest
 behind_first c t rest h shorter = by h.count h.same
   where
@@ -30,11 +30,11 @@ some_counted false true d m = omega arith
 some_counted false false true m = omega arith
 some_counted false false false m = omega arith
 
--- each code point counts one node at least
+-- Each code point is counted for at least one node.
 pub nodes_at-some : (sets : Bool) (m : ℕ) (t : Source) → 1 ≤ nodes_at sets m t
 nodes_at-some sets m t = some_counted (is_at bar t) (is_at 91 t && sets) (is_reference t) m
 
--- so what is read from the front of a source, of which something is read, leaves less
+-- A shorter suffix has a lower count, by at least that of the first code point.
 pub nodes-shorter : (sets : Bool) (m : ℕ) (t rest : Source) → IsBehind t rest → length rest < length t →
     1 + total (nodes_at sets m) rest ≤ total (nodes_at sets m) t
 nodes-shorter sets m [] rest h shorter = absurd (omega arith)

@@ -1,4 +1,4 @@
--- How many nodes the tree of a pattern has at most, by its code points alone.
+-- An upper bound on the number of nodes of a pattern's tree, by its code points alone.
 use Rattle.std.specs.Prelude.{◌≤◌, ℕ, ◌+◌, ◌*◌, Bool, not, ◌&&◌, [], ◌∷◌, drop, if◌then◌else◌}
 use Rattle.regress_base.specs.Table.{Table}
 use Rattle.regress_base.specs.declared.types.Flags.{Flags}
@@ -8,16 +8,16 @@ use Rattle.regress_syntax.specs.Syntax.{Pattern}
 use Rattle.regress_parse.specs.TreeOf.{tree_of}
 use Rattle.regress_parse.specs.Accepted.{IsDerived}
 
--- the sum over all places of a source, each counted by what stands from there on
+-- the sum over all positions of a source, where each is counted by the source from there on
 abbrev pub total : (Source → ℕ) → Source → ℕ
 total count [] = 0
 total count (c ∷ t) = count (c ∷ t) + total count t
 
--- at how many places there is such a thing
+-- the number of positions at which the property holds
 abbrev pub places : (Source → Bool) → Source → ℕ
 places is_there = total (λ t. if is_there t then 1 else 0)
 
--- `(?<`, where neither `=` nor `!` stands behind it
+-- a `(?<` that neither `=` nor `!` follows
 abbrev pub opens_name : Source → Bool
 opens_name t =
     is_at opening t && is_at question_mark (drop 1 t) && is_at (char "<") (drop 2 t)
@@ -27,8 +27,9 @@ opens_name t =
 abbrev pub is_reference : Source → Bool
 is_reference t = is_at (char "\\") t && is_at (char "k") (drop 1 t)
 
--- How many nodes the code point at the front makes at most, where so many groups have a name. With the flag v a class is
--- strings or code points or the empty string, and a reference is one to any of the groups of its name.
+-- The number of nodes that the first code point makes at most, where `named` groups have a name. With the flag v a
+-- class is an alternation of strings, code points and the empty string. A reference by name is one to any of the groups
+-- of that name.
 abbrev pub nodes_at : (sets : Bool) (named : ℕ) → Source → ℕ
 nodes_at sets named t =
     if is_at bar t then 2
@@ -36,11 +37,11 @@ nodes_at sets named t =
     else if is_reference t then 2 * named + 1
     else 1
 
--- An empty pattern has three: a `Cat`, in it `Empty` and `Goal`.
+-- The bound. The tree of an empty pattern has three nodes: a `Cat` with an `Empty` and a `Goal`.
 abbrev pub node_bound : (sets : Bool) → Source → ℕ
 node_bound sets t = 3 + total (nodes_at sets (places opens_name t)) t
 
--- Whatever the table, a tree of the pattern that the source stands for has at most so many nodes.
+-- Whatever the table, the tree of a pattern that the grammar derives from the source has at most `most` nodes.
 abbrev pub HasAtMost : Flags → Source → ℕ → Type 0
 HasAtMost flags source most =
     (table : Table) (p : Pattern) → IsDerived (record { flags = flags; table = table }) source p → nodes (tree_of table p) ≤ most

@@ -1,17 +1,20 @@
-//! How many nodes the tree of a pattern has at most.
+//! Bounds the number of nodes of a pattern's tree.
 ghost use Rattle.std.specs.Prelude.{◌≡◌, ◌+◌, ◌-◌, ◌*◌, ◌^◌, ◌<◌, ◌≤◌, length, min};
 ghost use Rattle.regress_bound.specs.Bound.{HasAtMost, opens_name, is_reference, places, total, nodes_at, node_bound};
 
 use crate::places::{named_groups, nodes_at};
 use regress_base::types::Flags;
 
-/// How many nodes the tree of a pattern has at most as `try_parse` makes it, whatever the table: `usize::MAX` where that is
-/// no such number.
+/// Returns an upper bound on the number of nodes of the tree that `try_parse` makes of `pattern`, whatever the table.
 ///
-/// It is 3, and 1 for each code point, 1 more for each `|`, with the flag v 4 more for each `[`, and for each `\k` 2 more for
-/// each `(?<` that begins no lookbehind. So without references by name it is at most 5 times the length, and 3.
+/// The bound is 3, plus 1 for each code point, plus 1 more for each `|`, plus 4 more for each `[` with the flag v,
+/// plus, for each `\k`, 2 more for each `(?<` that begins no lookbehind. Without references by name it is at most 5
+/// times the length of the pattern, plus 3. It saturates: `usize::MAX` is no bound.
 ///
-/// It looks at each code point twice, takes no memory, and has an answer whether the code points are a pattern or not.
+/// The result is defined for any list of code points, also for one that is no pattern.
+///
+/// # Complexity
+/// Linear in the length of the pattern: each code point is visited twice. Nothing is allocated.
 pub fn node_bound(pattern: &[u32], flags: Flags) -> usize
     ensures nodes { result < 2 ^ 64 - 1 → HasAtMost flags pattern.now result }
     ensures value { result ≡ min (node_bound flags.unicode_sets pattern.now) (2 ^ 64 - 1) }
@@ -20,7 +23,7 @@ pub fn node_bound(pattern: &[u32], flags: Flags) -> usize
     sum_nodes(pattern, flags.unicode_sets, named_groups(pattern))
 }
 
-/// How many nodes so many code points make at most, or `usize::MAX`.
+/// Returns how many nodes these code points make at most, or `usize::MAX`.
 fn sum_nodes(pattern: &[u32], sets: bool, named: usize) -> usize
     ensures { result ≡ min (3 + total (nodes_at sets named) pattern.now) (2 ^ 64 - 1) }
 {

@@ -1,4 +1,4 @@
-//! How many nodes the tree of a pattern has at most, told before it is parsed.
+//! Bounds the number of nodes of a pattern's tree before it is parsed.
 #![tactic(auto)]
 
 mod bound;

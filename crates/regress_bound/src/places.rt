@@ -1,9 +1,9 @@
-//! What stands at a place of a pattern, as far as it says how many nodes there can be.
+//! Counts the nodes that each code point of a pattern can make.
 ghost use Rattle.std.specs.Prelude.{◌≡◌, ◌-◌, ◌^◌, drop, min};
 ghost use Rattle.regress_lexical.specs.Source.{is_at};
 ghost use Rattle.regress_bound.specs.Bound.{opens_name, is_reference, places, nodes_at};
 
-/// Whether `c` stands so many code points behind the front.
+/// Whether `c` is the code point at index `place`.
 fn stands(c: char, source: &[u32], place: usize) -> bool
     ensures { result ≡ is_at c (drop place source.now) }
 {
@@ -13,7 +13,7 @@ fn stands(c: char, source: &[u32], place: usize) -> bool
     }
 }
 
-/// Whether a named group begins here: `(?<`, with no `=` or `!` behind it.
+/// Whether a named group begins here: a `(?<` that neither `=` nor `!` follows.
 fn opens_name(source: &[u32]) -> bool
     ensures { result ≡ opens_name source.now }
 {
@@ -31,7 +31,7 @@ fn is_reference(source: &[u32]) -> bool
     stands('\\', source, 0) && stands('k', source, 1)
 }
 
-/// How many named groups there are at most.
+/// Returns an upper bound on the number of named groups.
 pub(crate) fn named_groups(pattern: &[u32]) -> usize
     ensures { result ≡ places opens_name pattern.now }
 {
@@ -46,7 +46,7 @@ pub(crate) fn named_groups(pattern: &[u32]) -> usize
     found
 }
 
-/// How many nodes the code point at the front makes at most, or `usize::MAX`.
+/// Returns how many nodes the first code point makes at most, or `usize::MAX`.
 pub(crate) fn nodes_at(source: &[u32], sets: bool, named: usize) -> usize
     ensures { result ≡ min (nodes_at sets named source.now) (2 ^ 64 - 1) }
 {

@@ -1,4 +1,4 @@
--- What a call answers, by what it found.
+-- The result of a call, from what it computed.
 use Rattle.std.proofs.Common.{◌≡◌, ◌++◌, ◌<◌, ℕ, List, Bool, false, drop, length, refl, sym, ap, ◌∙◌, subst}
 use Rattle.regress_tree.specs.Setting.{Setting}
 use Rattle.regress_lexical.specs.Source.{Source}
@@ -12,7 +12,7 @@ use Rattle.regress_c.specs.FaultAnswer.{AnswersFault, faultless, told}
 use Rattle.regress_c.specs.FaultAnswer as faults
 
 module _ {Asked : Type 0} {setting : Setting} {source : Source} where
-  -- the items that are handed out are those that were made
+  -- the words written are the words computed
   pub words-written : {optimized : Bool} {old new : List ℕ} {needed : ℕ} (items handed : List ℕ) → Asked →
       AreWords setting source optimized items → needed ≡ length items → handed ≡ items → new ≡ handed ++ drop (length handed) old →
       AnswersWords Asked setting source optimized old 0 needed 0 new
@@ -26,7 +26,7 @@ module _ {Asked : Type 0} {setting : Setting} {source : Source} where
       subst (λ room. AnswersWords Asked setting source optimized old 3 needed 0 room) (sym left)
       (words.little asked (items, are, count, subst (λ xs. length old < length xs) same less))
 
-  -- a tree has no fault
+  -- an accepted pattern has no syntax error
   pub no-fault : {old : List ℕ} (items : List ℕ) → Asked → AreWords setting source false items → AnswersFault Asked setting source old 0 0 old
   no-fault items asked are = faultless are.1.pattern asked are.1.accepted
 
@@ -42,10 +42,10 @@ module _ {Asked : Type 0} {setting : Setting} {source : Source} where
       subst (λ room. AnswersFault Asked setting source old 3 (length handed) room) (sym left)
       (faults.little asked none (handed, (kind, same ∙ says, is), refl, less))
 
--- ---- of a text
+-- -- of a text
 
 module _ {A B : Type 0} (to : A → B) (from : B → A) {setting : Setting} {source : Source} where
-  -- asked by the characters, or by the bytes
+  -- a request in code points, or in bytes
   pub words-asked : {optimized : Bool} {old new : List ℕ} {status needed place : ℕ} →
       AnswersWords A setting source optimized old status needed place new → AnswersWords B setting source optimized old status needed place new
   words-asked (written asked gives) = written (to asked) gives

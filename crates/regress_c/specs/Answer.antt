@@ -1,4 +1,4 @@
--- What a call answers.
+-- The results of calls.
 use Rattle.std.specs.Prelude.{◌≡◌, ◌<◌, ◌++◌, ℕ, Bool, true, false, List, drop, length}
 use Rattle.regress_tree.specs.NormalForm.{IsNormal}
 use Rattle.regress_tree.specs.Setting.{Setting}
@@ -12,7 +12,7 @@ use Rattle.regress_parse.specs.Accepted.{IsAccepted, IsTrueOf, Means}
 use Rattle.regress_parse.specs.Fault.{text_of}
 use Rattle.regress_words.specs.Words.{encode}
 
--- A tree of the pattern that the source stands for: as it is parsed, or in normal form.
+-- A tree of the pattern that the source denotes: as parsed, or in normal form.
 pub record IsAnswer (setting : Setting) (source : Source) (optimized : Bool) (t : Tree) : Type 0 where
   pub pattern : Pattern
   pub accepted : IsAccepted setting source pattern
@@ -21,18 +21,18 @@ pub record IsAnswer (setting : Setting) (source : Source) (optimized : Bool) (t 
   pub meaning : Means setting t pattern
   pub captures : captures t ≡ captures (tree_of setting.table pattern)
 
--- These are the words of such a tree.
+-- the encoding of such a tree
 abbrev pub AreWords : Setting → Source → Bool → List ℕ → Type 0
 AreWords setting source optimized words = (t : Tree) × IsAnswer setting source optimized t × (words ≡ encode t)
 
--- This is the text of a fault that the source may have.
+-- the text of a syntax error that the source has
 abbrev pub IsText : Setting → Source → List ℕ → Type 0
 IsText setting source text = (kind : FaultKind) × (text ≡ text_of kind) × IsTrueOf setting source kind
 
--- All items of which this holds were told to be so many, and were put at the front of the room.
+-- All items of a list with this property are at the start of the buffer, and `needed` is their number.
 abbrev pub Gives : {X : Type 0} → (List X → Type 0) → (needed : ℕ) (old new : List X) → Type 0
 Gives {X} P needed old new = (items : List X) × P items × (needed ≡ length items) × (new ≡ items ++ drop (length items) old)
 
--- They were told to be so many, and the room is less.
+-- The buffer is shorter than a list of items with this property, and `needed` is their number.
 abbrev pub WantsRoom : {X : Type 0} → (List X → Type 0) → (needed : ℕ) (old : List X) → Type 0
 WantsRoom {X} P needed old = (items : List X) × P items × (needed ≡ length items) × (length old < length items)

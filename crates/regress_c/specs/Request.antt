@@ -1,4 +1,4 @@
--- What a call asks for.
+-- The request that a call's arguments make.
 use Rattle.std.specs.Prelude.{ℕ, ◌≤◌, ◌<◌, Bool, not, ◌==◌, bit_and, All, List, IsUtf8, if◌then◌else◌}
 use Rattle.regress_base.specs.Intervals.{code_point_max}
 use Rattle.regress_base.specs.Table.{Table}
@@ -20,21 +20,21 @@ flags_of bits = record {
   unicode_sets = has bits 16;
 }
 
--- the small table by the next bit, else that of all of Unicode
+-- the small table if bit 5 is set, else the table of all of Unicode
 abbrev pub table_by : ℕ → Table
 table_by bits = if has bits 32 then small_table else unicode_table
 
 abbrev pub setting_by : ℕ → Setting
 setting_by bits = record { flags = flags_of bits; table = table_by bits }
 
--- no bit that has no meaning, and a number for a choice of two
+-- no unknown bit, and a choice of 0 or 1
 abbrev pub AreOptions : ℕ → ℕ → Type 0
 AreOptions bits choice = (bits < 64) × (choice < 2)
 
--- code points, and such options
+-- code points, and valid options
 abbrev pub IsRequest : List ℕ → ℕ → ℕ → Type 0
 IsRequest pattern bits choice = All (λ c. c ≤ code_point_max) pattern × AreOptions bits choice
 
--- the same of a pattern in UTF-8, whose characters are code points
+-- a pattern in UTF-8, and valid options
 abbrev pub IsTextRequest : List ℕ → ℕ → ℕ → Type 0
 IsTextRequest pattern bits choice = IsUtf8 pattern × AreOptions bits choice

@@ -1,4 +1,4 @@
-//! What the calls answer, over code points.
+//! The results of calls, for a pattern in code points.
 ghost use Rattle.std.specs.Prelude.{◌==◌};
 ghost use Rattle.regress_c.specs.Request.{setting_by, IsRequest};
 ghost use Rattle.regress_c.specs.WordsAnswer.{AnswersWords};
@@ -20,7 +20,8 @@ pub(crate) const ROOM: u32 = 3;
 
 pub(crate) const BAD_INPUT: u32 = 4;
 
-/// Writes the words of the tree of a pattern and tells how many they are, or where the pattern has a fault.
+/// Writes the encoding of a pattern's tree to `words` and its length to `needed`, or the code-point index of the
+/// pattern's syntax error to `place`. Returns the status.
 pub(crate) fn answer_words(
     alloc: Global,
     pattern: &[u32],
@@ -51,7 +52,8 @@ pub(crate) fn answer_words(
     }
 }
 
-/// Writes the text of a pattern's fault and tells how many bytes it takes, or that there is none.
+/// Writes the text of a pattern's syntax error to `text` and its length in bytes to `needed`; 0 if the pattern is
+/// accepted. Returns the status.
 pub(crate) fn answer_fault(
     alloc: Global,
     pattern: &[u32],

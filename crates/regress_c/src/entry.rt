@@ -1,4 +1,4 @@
-//! The calls from C.
+//! The functions that C calls.
 ghost use Rattle.std.specs.Prelude.{◌==◌, chars};
 ghost use Rattle.regress_c.specs.Request.{setting_by, IsRequest, IsTextRequest};
 ghost use Rattle.regress_c.specs.WordsAnswer.{AnswersWords};
@@ -8,7 +8,14 @@ use super::answers::{BAD_INPUT, MEMORY, answer_fault, answer_words};
 use super::request::read_points;
 use std::alloc::Global;
 
-/// Writes the words of the tree of a pattern of code points and tells how many they are, or where the pattern has a fault.
+/// Writes the encoding of the tree of a pattern in code points to `words`, and its length in words to `needed`; or, if
+/// the pattern is rejected, the code-point index of its syntax error to `place`.
+///
+/// The encoding is written only if it fits. Otherwise `words` is unchanged.
+///
+/// # Errors
+/// Returns a status: 0 for success, 1 if the pattern is rejected, 2 if an allocation failed, 3 if `words` is too small,
+/// and 4 if the arguments are invalid. `words` is changed only with 0, and `needed` is 0 unless the status is 0 or 3.
 #[unsafe(no_mangle)]
 pub extern "C" fn regress_front_parse_code_points(
     alloc: Global,
@@ -25,7 +32,10 @@ pub extern "C" fn regress_front_parse_code_points(
     answer_words(alloc, pattern, flags, optimize, words, needed, place)
 }
 
-/// The same of a pattern in UTF-8.
+/// As `regress_front_parse_code_points`, for a pattern in UTF-8. `place` counts code points here too.
+///
+/// # Errors
+/// As `regress_front_parse_code_points`; a pattern that is not UTF-8 is an invalid argument.
 #[unsafe(no_mangle)]
 pub extern "C" fn regress_front_parse_text(
     alloc: Global,
@@ -48,7 +58,13 @@ pub extern "C" fn regress_front_parse_text(
     }
 }
 
-/// Writes the text of the fault of a pattern of code points and tells how many bytes it takes, or that there is none.
+/// Writes the text of the syntax error of a pattern in code points to `text`, in UTF-8, and its length in bytes to
+/// `needed`.
+///
+/// # Errors
+/// Returns a status: 0 if the pattern is accepted, 1 if it is rejected and the text is written, 2 if an allocation
+/// failed, 3 if `text` is too small, and 4 if the arguments are invalid. `text` is changed only with 1, and `needed` is
+/// 0 unless the status is 1 or 3.
 #[unsafe(no_mangle)]
 pub extern "C" fn regress_front_tell_fault(
     alloc: Global,
@@ -62,7 +78,10 @@ pub extern "C" fn regress_front_tell_fault(
     answer_fault(alloc, pattern, flags, text, needed)
 }
 
-/// The same of a pattern in UTF-8.
+/// As `regress_front_tell_fault`, for a pattern in UTF-8.
+///
+/// # Errors
+/// As `regress_front_tell_fault`; a pattern that is not UTF-8 is an invalid argument.
 #[unsafe(no_mangle)]
 pub extern "C" fn regress_front_tell_fault_of_text(
     alloc: Global,

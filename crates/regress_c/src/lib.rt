@@ -1,4 +1,4 @@
-//! The library for C; include/regress_front.h describes its calls.
+//! The library for C. include/regress_front.h documents its functions.
 #![tactic(auto)]
 
 mod answers;

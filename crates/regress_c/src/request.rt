@@ -1,4 +1,4 @@
-//! What a call asks for.
+//! The request that a call's arguments make.
 ghost use Rattle.std.specs.Prelude.{◌≡◌, ◌≤◌, ◌↔◌, All, chars, IsTrue, IfOk, OnErr, MatchOption};
 ghost use Rattle.regress_front.specs.Intervals.{code_point_max};
 ghost use Rattle.regress_front.specs.TableOf.{table_of};
@@ -25,21 +25,21 @@ const SMALL_TABLE: u32 = 32;
 
 const ALL_BITS: u32 = 63;
 
-/// Whether these are code points, flags that there are, and 0 or 1.
+/// Returns whether `pattern` consists of code points, `bits` of known flags, and `choice` is 0 or 1.
 pub(crate) fn is_request(pattern: &[u32], bits: u32, choice: u32) -> bool
     ensures { IsTrue result ↔ IsRequest pattern.now bits choice }
 {
     pattern.iter().all(|c| *c <= CODE_POINT_MAX) && are_options(bits, choice)
 }
 
-/// Whether these are flags that there are, and 0 or 1.
+/// Returns whether `bits` consists of known flags, and `choice` is 0 or 1.
 fn are_options(bits: u32, choice: u32) -> bool
     ensures { IsTrue result ↔ AreOptions bits choice }
 {
     bits <= ALL_BITS && choice < 2
 }
 
-/// The code points of a pattern in UTF-8, or nothing where that or the options are none.
+/// Returns the code points of a pattern in UTF-8; `None` if it is not UTF-8 or the options are invalid.
 pub(crate) fn read_points(
     alloc: Global,
     pattern: &[u8],
@@ -59,7 +59,7 @@ pub(crate) fn read_points(
     }
 }
 
-/// The flags of a pattern among the bits.
+/// Returns the flags that are set in `bits`.
 pub(crate) fn read_flags(bits: u32) -> Flags
     ensures { result ≡ flags_of bits }
 {
@@ -72,7 +72,7 @@ pub(crate) fn read_flags(bits: u32) -> Flags
     }
 }
 
-/// The table that the bits name.
+/// Returns the table that `bits` selects.
 pub(crate) fn make_tables(alloc: Global, bits: u32) -> Result<Tables, AllocError>
     ensures { IfOk result (λ tables. table_of tables ≡ table_by bits) }
 {

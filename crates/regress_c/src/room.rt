@@ -1,7 +1,7 @@
-//! Items for a caller, in the room that the caller has for them.
+//! Copies items to a caller's buffer.
 ghost use Rattle.std.specs.Prelude.{◌≡◌, ◌<◌, ◌++◌, drop, length, MatchBool};
 
-/// Puts the items at the front of the room, if there is room enough. Else the room stays as it was.
+/// Copies the items to the start of the buffer, and returns whether they fit. Otherwise the buffer is unchanged.
 pub(crate) fn hand_out<T: Copy>(items: &[T], room: &mut [T]) -> bool
     ensures { MatchBool result (room.new ≡ items.now ++ drop (length items.now) room.old)
         ((room.new ≡ room.old) × (length room.old < length items.now)) }

@@ -1,4 +1,4 @@
-//! The words of a pattern's tree.
+//! The encoding of a pattern's tree.
 ghost use Rattle.std.specs.Prelude.{◌≡◌, ◌≤◌, All, IfOk, length};
 ghost use Rattle.regress_front.specs.Intervals.{code_point_max};
 ghost use Rattle.regress_front.specs.TableOf.{table_of};
@@ -18,7 +18,7 @@ use regress_front::unicode::Tables;
 use regress_words::encode;
 use std::alloc::Global;
 
-/// The words of the pattern's tree as it is parsed, or optimized.
+/// Returns the encoding of the pattern's tree, as parsed or optimized.
 pub(crate) fn make_words(
     alloc: Global,
     pattern: &[u32],
@@ -36,7 +36,7 @@ pub(crate) fn make_words(
     Ok(encode(alloc, &regex.node)?)
 }
 
-/// The pattern's tree as it is parsed, or optimized.
+/// Returns the pattern's tree, as parsed or optimized.
 fn make_tree(
     alloc: Global,
     pattern: &[u32],

@@ -1,4 +1,4 @@
--- What a tree takes at least, by what its parts do.
+-- The minimum length of a tree's matches, from those of its parts.
 use Rattle.std.proofs.Common.{◌≡◌, ℕ, ◌+◌, ◌*◌, ◌≤◌, min, List, Option, String, Box, Global, Vec, subst, arith}
 use Rattle.std.proofs.Math.Nat.{mul_comm}
 use Rattle.std.specs.declared.ops.Range.{Range}
@@ -38,7 +38,7 @@ pub more_trees_take : (m n : ℕ) (t : Tree) (ts : Trees) → TakesAtLeast m t �
 more_trees_take m n t ts first rest = λ setting bytes. GoesOn-then m n _ _ (first setting bytes) (rest setting bytes)
 
 mutual
-  -- whatever it holds, matching doesn't go back
+  -- matching forwards never moves backwards, whatever the tree contains
   takes_none : (t : Tree) → TakesAtLeast 0 t
   takes_none (leaf l) = takes_less 0 _ (leaf l) (omega arith) (leaf_takes l)
   takes_none (cat parts) = row_takes_none parts
@@ -64,7 +64,7 @@ pub cat_takes : (n : ℕ) (node : Node) (parts : Vec Node Global) (items : List 
     TakesAtLeast n (cat (trees items)) → TakesAtLeast n (tree node)
 cat_takes n node parts items is same takes = rw (is, tree-Cat, ← same) takes
 
--- one more alternative: what is told of the rest of the way is told of the whole
+-- one more alternative: what holds of the remaining alternatives holds of the whole
 pub alt_takes : (least n k : ℕ) (node : Node) (left right : Box Node Global) (Whole : ℕ → Type 0) → node ≡ Alt left right →
     ((m : ℕ) → TakesAtLeast m (tree node) → Whole (min least m)) → TakesAtLeast k (tree left.value) →
     TakesAtLeast n (tree right.value) → Whole (min least (min k n))

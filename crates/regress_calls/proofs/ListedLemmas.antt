@@ -1,4 +1,4 @@
--- What a linter has listed, after several calls.
+-- The groups that a linter lists in several calls.
 use Rattle.std.proofs.Common.{◌≡◌, List, [], ◌++◌, sym, ap, ◌∙◌, append-nil, append_assoc}
 use Rattle.regress_front.specs.WellFormed.{Capture}
 use Rattle.regress_calls.specs.declared.linter.Group.{Group}
@@ -16,6 +16,6 @@ Lists-then a b c xs ys first second = record {
       ∙ append_assoc (groups_of a.report.groups.items) xs ys;
 }
 
--- what the last call has left is what stands there once the calls are over
+-- after the walk, the list is the one that the last call left
 pub ended : (gs hs : List Group) → gs ≡ hs → (cs : List Capture) → groups_of hs ≡ cs → groups_of gs ≡ cs
 ended gs hs same cs listed = ap groups_of same ∙ listed

@@ -1,4 +1,4 @@
--- Loops around a node, and whether some are in one another.
+-- The loops around a node, and nested loops.
 use Rattle.std.proofs.Common.{◌≡◌, ℕ, ◌≤◌, Bool, true, false, ◌&&◌, ◌||◌, List, [], ◌∷◌, ◌++◌, ◌+◌, Option, subst, refl, sym, ap, ap₂, ◌∙◌, arith}
 use Rattle.std.specs.List.{list_any}
 use Rattle.std.proofs.Math.Bool.{or-false, or_assoc}
@@ -8,9 +8,9 @@ use Rattle.regress_front.specs.Tree.{Tree, Trees, leaf, cat, alt, wrapped, no_tr
 use Rattle.regress_tree.specs.Inherited.{inherited, inherited_in_row}
 use Rattle.regress_calls.specs.Nested.{is_unbounded, is_unbounded_loop, has_nested, is_around, Watches}
 
--- ---- all calls
+-- -- all calls
 
--- what a node inherits: whether an unbounded loop lies around
+-- what a node inherits: whether it is inside an unbounded loop
 abbrev pub handed : Bool → Tree → Bool
 handed around t = around || is_unbounded t
 
@@ -45,7 +45,8 @@ abbrev nested_in_row : Trees → Bool
 nested_in_row = some_node_in_row (λ t. is_unbounded t && some_node_inside is_unbounded t)
 
 mutual
-  -- some node is met in a tree: an unbounded loop, if there is one around, or one in one of the tree
+  -- nested loops are found in a tree if it contains an unbounded loop and is inside one, or if it contains nested ones
+  -- itself
   pub met_in : (around : Bool) (t : Tree) → list_any is_met (inherited handed around t) ≡ ((around && some_node is_unbounded t) || has_nested t)
   met_in around (leaf l) = at_none around
   met_in around (cat parts) =
@@ -67,7 +68,7 @@ mutual
       list_any-append is_met (inherited handed around t) (inherited_in_row handed around ts)
       ∙ ap₂ ◌||◌ (met_in around t) (met_in_row around ts) ∙ at_two around _ _ _ _
 
--- ---- calls one after another
+-- -- calls in order
 
 pub met_none : (b : Bool) → b ≡ (b || false)
 met_none b = sym (or-false b)
@@ -98,7 +99,7 @@ at_call d here t shown old new before after deep on watches =
     subst (λ (k : ℕ). Watches k (is_unbounded t) old new before after) deep
     (subst (λ (u : Tree). Watches here (is_unbounded u) old new before after) on watches)
 
--- from none met on
+-- starting with none found
 pub from_none : (first : Bool) (t : Tree) → first ≡ false → (first || list_any is_met (inherited handed false t)) ≡ has_nested t
 from_none first t none = ap (λ b. b || list_any is_met (inherited handed false t)) none ∙ met_in false t
 

@@ -1,4 +1,4 @@
-//! Parses a pattern only where its tree is small. docs/CALLING.md shows parts of it.
+//! Parses a pattern only if its tree is small. docs/guide.md shows parts of it.
 ghost use Rattle.std.specs.Prelude.{◌<◌, All, IfOk, IfSome};
 ghost use Rattle.regress_front.specs.Source.{IsCodePoint};
 ghost use Rattle.regress_front.specs.Tree.{tree};
@@ -10,7 +10,14 @@ use regress_front::types::Flags;
 use regress_front::unicode::Tables;
 use std::alloc::Global;
 
-/// The tree of a pattern, of fewer nodes than `limit`; None where it may have more. Such a pattern is not parsed.
+/// Returns the tree of a pattern if it is certain to have fewer than `limit` nodes, else `None`, without parsing the
+/// pattern.
+///
+/// # Preconditions
+/// Each element of `pattern` is a code point, at most U+10FFFF.
+///
+/// # Errors
+/// Returns [`ParseFault::Syntax`] if the pattern is rejected, and [`ParseFault::Memory`] if an allocation fails.
 pub fn parse_bounded(
     alloc: Global,
     pattern: &[u32],

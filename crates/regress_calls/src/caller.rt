@@ -1,4 +1,4 @@
-//! A caller of the library. docs/CALLING.md shows parts of it.
+//! A caller of the library. docs/guide.md shows parts of it.
 ghost use Rattle.std.specs.Prelude.{IfOk, chars};
 ghost use Rattle.regress_front.specs.SmallTable.{small_table};
 ghost use Rattle.regress_front.specs.Fault.{RefusedOnlyIf};
@@ -14,7 +14,10 @@ use regress_front::unicode::{FoldRange, Tables, TablesError};
 use regress_front::util::code_points;
 use std::alloc::{AllocError, AllocFailed, Global};
 
-/// The optimized tree of a pattern, as it prints.
+/// Returns the optimized tree of a pattern in its printed form.
+///
+/// # Errors
+/// Returns [`ParseFault::Syntax`] if the pattern is rejected, and [`ParseFault::Memory`] if an allocation fails.
 pub fn optimized_text(alloc: Global, pattern: &str, flags: Flags) -> Result<String, ParseFault>
     ensures accepted { IfOk result (λ _. (p : Pattern) × IsAccepted (record { flags = flags; table = small_table }) (chars pattern.now) p) }
     ensures refused { RefusedOnlyIf result (NoneIsAccepted (record { flags = flags; table = small_table }) (chars pattern.now)) }
@@ -26,7 +29,10 @@ pub fn optimized_text(alloc: Global, pattern: &str, flags: Flags) -> Result<Stri
     Ok(format!(in alloc; "{regex}")?)
 }
 
-/// The same under a table of the caller's own, with an error of the caller's own.
+/// Returns the optimized tree of a pattern under the caller's tables, with the caller's own error type.
+///
+/// # Errors
+/// Returns [`LinterError::Pattern`] if parsing fails, and [`LinterError::Memory`] if another allocation fails.
 pub fn optimized_text_by(
     alloc: Global,
     pattern: &str,
@@ -41,8 +47,11 @@ pub fn optimized_text_by(
     Ok(format!(in alloc; "{regex}")?)
 }
 
-/// A table of ASCII: the cases of its letters, and which characters stand in names. With an empty `id_start` each name
-/// but one of `$` and `_` would be refused.
+/// Returns tables for ASCII: the cases of its letters, and the characters of names. With an empty `id_start`, every
+/// name but those that begin with `$` or `_` would be rejected.
+///
+/// # Errors
+/// Returns an error if an allocation fails. These tables are valid, so that [`Tables::new`] does not reject them.
 pub fn ascii_tables(alloc: Global) -> Result<Tables, TablesError> {
     let folds = vec![in alloc; FoldRange::from(0x41, 26, 32, 1)]?;
     let uppers = vec![in alloc; FoldRange::from(0x61, 26, -32, 1)]?;
@@ -85,7 +94,7 @@ impl From<AllocError> for LinterError {
     }
 }
 
-// For a `?` on `Vec::push` and its kin, which hand back what found no room.
+// For `?` on `Vec::push` and similar functions, which return the value that did not fit.
 impl<T: Drop> From<AllocFailed<T>> for LinterError {
     fn from(_: AllocFailed<T>) -> LinterError {
         LinterError::Memory

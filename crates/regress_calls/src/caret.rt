@@ -1,12 +1,17 @@
-//! Shows where a pattern's fault is. docs/CALLING.md shows parts of it.
+//! Shows the position of a syntax error. docs/guide.md shows parts of it.
 use regress_front::parse::{PlacedFault, try_parse_with_place};
 use regress_front::types::Flags;
 use regress_front::unicode::Tables;
 use regress_front::util::code_points;
 use std::alloc::{AllocError, Global};
 
-/// The pattern, a caret under the place of its fault, and what is wrong there; None where there is no fault. The place
-/// counts code points, so it is below it where each takes one column.
+/// Returns the pattern, a caret below the position of its syntax error, and the error's text; `None` if the pattern is
+/// accepted.
+///
+/// The position is a code-point index, so that the caret is at the right column if each code point takes one column.
+///
+/// # Errors
+/// Returns [`AllocError`] if an allocation fails.
 pub fn pointed_at(
     alloc: Global,
     pattern: &str,

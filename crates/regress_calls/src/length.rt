@@ -1,4 +1,4 @@
-//! A recursion of a caller's own over a tree. docs/CALLING.md shows parts of it.
+//! A recursive function over a tree. docs/guide.md shows parts of it.
 ghost use Rattle.std.specs.Prelude.{◌≡◌};
 ghost use Rattle.regress_front.specs.Tree.{tree, trees, cat};
 ghost use Rattle.regress_tree.specs.Onward.{TakesAtLeast};
@@ -6,8 +6,14 @@ ghost use Rattle.regress_calls.specs.Least.{least_here};
 
 use regress_front::ir::Node;
 
-/// How many bytes each match of the tree takes at least, where it is matched forwards, up to `usize::MAX`. A character
-/// counts as one byte, and what a reference or one of a set of strings takes isn't counted.
+/// Returns a lower bound of the length in bytes of each match of the tree, if it is matched forwards, saturating at
+/// `usize::MAX`.
+///
+/// A character counts as one byte. Backreferences and sets of strings count as none.
+///
+/// # Complexity
+/// Linear in the size of the tree. The depth of recursion is the nesting depth; right sides of alternatives take no
+/// stack.
 #[cycle(least_length)]
 pub fn least_length(node: &Node) -> usize
     ensures { TakesAtLeast result (tree node.now) }
@@ -21,7 +27,7 @@ pub fn least_length(node: &Node) -> usize
     least.min(least_length_inside(last))
 }
 
-/// The same of a node, by what lies inside it.
+/// Returns the lower bound for a node that is not an `Alt`.
 #[cycle(least_length)]
 fn least_length_inside(node: &Node) -> usize
     ensures { TakesAtLeast result (tree node.now) }
@@ -35,7 +41,7 @@ fn least_length_inside(node: &Node) -> usize
     }
 }
 
-/// The same of nodes one after another.
+/// Returns the sum of the lower bounds of all parts.
 #[cycle(least_length)]
 fn least_length_of_all(parts: &[Node]) -> usize
     ensures { TakesAtLeast result (cat (trees parts.now)) }
@@ -47,7 +53,7 @@ fn least_length_of_all(parts: &[Node]) -> usize
     least
 }
 
-/// What a node that holds no other takes at least.
+/// Returns the lower bound for a leaf.
 fn least_length_here(node: &Node) -> usize
     ensures { result ≡ least_here (tree node.now) }
 {

@@ -1,4 +1,4 @@
-//! A linter, which is what a user of the tree writes first. docs/CALLING.md shows parts of it.
+//! A linter, as a user of the tree would write first. docs/guide.md shows parts of it.
 ghost use Rattle.std.specs.Prelude.{◌≡◌, ◌≤◌, ◌++◌, [], ◌∷◌, IfOk, OnOk, option_map, string_bytes};
 ghost use Rattle.regress_front.specs.Tree.{tree};
 ghost use Rattle.regress_front.specs.WellFormed.{captures};
@@ -9,27 +9,30 @@ ghost use Rattle.regress_calls.specs.Nested.{is_around, is_unbounded, has_nested
 use regress_front::ir::{Node, Regex, Walk, walk};
 use std::alloc::{AllocError, Global};
 
-/// A capture group: its number from 0, and its name, if it has one.
+/// A capture group: its id, from 0, and its name, if it has one.
 #[derive(Debug, Drop)]
 pub struct Group {
     pub id: u16,
     pub name: Option<String>,
 }
 
-/// What is told of a tree.
+/// What a linter reports about a tree.
 #[derive(Debug, Drop)]
 pub struct Report {
     /// The capture groups, each before those inside it.
     pub groups: Vec<Group>,
-    /// How many loops there are, of either kind.
+    /// The number of loops, `Loop` and `Loop1CharBody`.
     pub loops: usize,
     pub lookarounds: usize,
-    /// Whether an unbounded loop lies in another one, so that matching may take exponential time. It may take that
-    /// without such loops too, as in `(?:a|a)*`.
+    /// Whether an unbounded loop is inside another one, so that matching may take exponential time. It may take that
+    /// without nested loops too, as for `(?:a|a)*`.
     pub nested: bool,
 }
 
-/// Lists the capture groups of a tree, counts its loops and lookarounds, and warns of unbounded loops in one another.
+/// Lists the capture groups of a tree, counts its loops and lookarounds, and reports nested unbounded loops.
+///
+/// # Errors
+/// Returns [`AllocError`] if an allocation fails.
 pub fn lint(alloc: Global, regex: &Regex) -> Result<Report, AllocError>
     ensures groups { IfOk result (λ report. groups_of report.groups.items ≡ captures (tree regex.now.node)) }
     ensures nested { IfOk result (λ report. levels (tree regex.now.node) ≤ usize.MAX → report.nested ≡ has_nested (tree regex.now.node)) }
@@ -53,19 +56,19 @@ pub fn lint(alloc: Global, regex: &Regex) -> Result<Report, AllocError>
     Ok(linter.report)
 }
 
-/// A walk's state.
+/// The state of a walk.
 #[derive(Drop)]
 struct Linter {
     alloc: Global,
     report: Report,
-    /// The depth of the outermost unbounded loop around.
+    /// The depth of the outermost unbounded loop around the current node.
     repeated_at: Option<usize>,
-    /// Whether memory was wanting for a group.
+    /// Whether an allocation for a group failed.
     wanting: bool,
 }
 
 impl Linter {
-    /// Takes notice of a node, before those inside it.
+    /// Visits a node, before those inside it.
     fn visit(&mut self, node: &Node, depth: usize)
         ensures notes { Notes self.old self.new (tree node.now) }
         ensures loops { Watches depth (is_unbounded (tree node.now)) self.old.repeated_at self.new.repeated_at self.old.report.nested self.new.report.nested }
@@ -87,7 +90,7 @@ impl Linter {
         }
     }
 
-    /// Lists a capture group. Where no memory is found for its name it is left out.
+    /// Lists a capture group. If an allocation fails, the group is left out.
     fn list(&mut self, id: u16, name: &Option<String>) -> Result<(), AllocError>
         ensures wanting { self.new.wanting ≡ self.old.wanting }
         ensures around { self.new.repeated_at ≡ self.old.repeated_at }
@@ -103,7 +106,7 @@ impl Linter {
         Ok(())
     }
 
-    /// Looks whether a node, an unbounded loop or not, lies in an unbounded loop, and keeps in mind the outermost one.
+    /// Reports a node if it is an unbounded loop inside an unbounded loop, and records the outermost one.
     fn watch(&mut self, depth: usize, unbounded: bool)
         ensures wanting { self.new.wanting ≡ self.old.wanting }
         ensures groups { self.new.report.groups ≡ self.old.report.groups }
@@ -116,7 +119,7 @@ impl Linter {
         }
     }
 
-    /// Whether an unbounded loop that it has in mind lies around what is at that depth.
+    /// Returns whether the recorded unbounded loop is around a node at that depth.
     fn is_repeated(&self, depth: usize) -> bool
         ensures { result ≡ is_around depth self.now.repeated_at }
     {
@@ -127,7 +130,7 @@ impl Linter {
     }
 }
 
-/// Whether it is a loop with no greatest number of turns.
+/// Returns whether a node is a loop without a maximum number of iterations.
 fn is_unbounded(node: &Node) -> bool
     ensures { result ≡ is_unbounded (tree node.now) }
 {

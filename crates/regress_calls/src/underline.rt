@@ -1,4 +1,4 @@
-//! A linter that underlines what it warns of. docs/CALLING.md shows parts of it.
+//! A linter that underlines what it reports. docs/guide.md shows parts of it.
 use regress_front::ir::{Node, Walk, walk};
 use regress_front::parse::{PlacedFault, try_parse_with_spans};
 use regress_front::types::Flags;
@@ -6,8 +6,11 @@ use regress_front::unicode::Tables;
 use regress_front::util::code_points;
 use std::alloc::{AllocError, Global};
 
-/// The pattern, and a line under its first loop that has no bound; None where there is no such loop. It is below it where
-/// each code point takes one column.
+/// Returns the pattern and, below it, a line under its first unbounded loop; `None` if it has none. The columns are
+/// right if each code point takes one column.
+///
+/// # Errors
+/// Returns [`PlacedFault::Syntax`] if the pattern is rejected, and [`PlacedFault::Memory`] if an allocation fails.
 pub fn underlined_loop(
     alloc: Global,
     pattern: &str,

@@ -1,5 +1,5 @@
-//! Tests of the callers in `regress_calls`, and of what lines of data can't say: they stand here since a crate with tests
-//! is proved twice.
+//! Tests of the callers in `regress_calls`, and of what test cases in data files cannot express. They are in a crate of
+//! their own, since a crate with tests is proved twice.
 #![tactic(auto)]
 
 #[cfg(test)]

@@ -1,5 +1,5 @@
-//! Tests of what data can't say: the caller and the linter themselves, walks whose closures write, a rewrite of a
-//! caller's own. What patterns and calls come to stands as lines of data in `regress_rows`.
+//! Tests of what test cases in data files cannot express: the callers themselves, walks whose closures write, and a
+//! caller's own rewrite. Test cases for patterns and calls are the data of `regress_rows`.
 ghost use Rattle.std.specs.Prelude.{IfOk};
 ghost use Rattle.regress_front.specs.Tree.{tree};
 ghost use Rattle.regress_front.specs.WellFormed.{IsWellFormed};
@@ -17,7 +17,7 @@ use regress_front::unicode::Tables;
 use regress_front::util::code_points;
 use std::alloc::Global;
 
-/// The tree of a pattern, as it is parsed over the small table, with the flag u or with none.
+/// Returns the parsed tree of a pattern over the small table, with the flag u or without flags.
 fn parsed(alloc: Global, pattern: &str, unicode: bool) -> Result<Regex, ParseFault>
     ensures { IfOk result (λ regex. IsWellFormed (tree regex.node)) }
 {

@@ -1,4 +1,4 @@
--- What the operands of a chain of operators leave of the first one.
+-- What a chain of operators keeps of its first operand.
 use Rattle.std.proofs.Common.{◌≡◌, ℕ, ◌≤◌, Vec, Bool, true, false, not, ◌&&◌, ◌||◌, max, List, [], ◌∷◌, ◌++◌, inl, inr, cond, filter, refl, sym, ap, ap₂, ◌∙◌, subst, arith}
 use Rattle.std.proofs.lemmas.Bool.Decides.{leb_tells}
 use Rattle.std.proofs.lemmas.List.{map-append}
@@ -19,7 +19,7 @@ use Rattle.regress_classes.specs.ClassSets.{Value, is_among}
 use Rattle.regress_classes.specs.ClassViews.{HasMembers, HasOthers, IsValue, AreLeft, IsLeft, strings_of, applied, kept}
 use Rattle.regress_classes.proofs.ClassSetLemmas.{kept_strings}
 
--- ---- both operators alike
+-- ---- both operators
 
 abbrev pub left_of : Operator → Value → Value → Value
 left_of operator a b = record {
@@ -41,7 +41,7 @@ drops_more true true k = refl
 drops_more true false true = refl
 drops_more true false false = refl
 
--- one operand more, of which these are dropped
+-- One more operand, which drops these code points.
 members_left : (operator : Operator) (set v b old new : List Bounds) (dropped : List Bounds) → IsCanonical set →
     ((c : ℕ) → is_member v c ≡ (is_member set c && not (is_member old c))) →
     ((c : ℕ) → c ≤ code_point_max → is_member dropped c ≡ not (kept operator (is_member b c))) →
@@ -96,7 +96,7 @@ strings_joined olds news both s e =
     ∙ list_any-append (λ other. bytes_eq other s) (strings_of olds) (strings_of news))
     ∙ neither (is_among (strings_of olds) s) (is_among (strings_of news) s)
 
--- ---- strings and levels that are left
+-- ---- the strings and the nesting depth that are kept
 
 pub others_first : (operator : Operator) (a b : Value) (first taken : Others) → HasOthers a first → HasOthers b taken →
     AreLeft operator first taken (left_of operator a b)
@@ -137,9 +137,9 @@ others_over operator first new taken v h strings has_empty levels = record {
   levels = levels ∙ sym h.levels;
 }
 
--- ---- what is left
+-- ---- the value that is kept
 
--- the first operand behind the operator
+-- The first operand after the operator.
 pub left_first : (operator : Operator) (first : CodeValue) (a b : Value) (operand : CodeValue) (taken : Taken) (none dropped : List Bounds) →
     IsValue first a → IsValue operand b → none ≡ [] →
     ((c : ℕ) → c ≤ code_point_max → is_member dropped c ≡ not (kept operator (is_member operand.set c))) →
@@ -155,7 +155,7 @@ left_first operator first a b operand taken none dropped h k empty drops adds ot
       others = others_first operator a b first.others taken.others h.others others;
     })
 
--- one more
+-- One more operand.
 pub left_more : (operator : Operator) (first : CodeValue) (v b : Value) (operand : CodeValue) (old new : Taken) (dropped : List Bounds) →
     IsLeft operator first old v → IsValue operand b →
     ((c : ℕ) → c ≤ code_point_max → is_member dropped c ≡ not (kept operator (is_member operand.set c))) →
@@ -170,7 +170,7 @@ left_more operator first v b operand old new dropped h k drops adds others = rec
   others = others;
 }
 
--- the first operand once all of it is taken away
+-- What is kept of the first operand, once everything is dropped from it.
 pub left_over : (operator : Operator) (old new : CodeValue) (taken : Taken) (points : List Bounds) (v : Value) → IsLeft operator old taken v →
     HasMembers taken.points points → IsCanonical new.set →
     ((c : ℕ) → is_member new.set c ≡ (is_member old.set c && not (is_member points c))) → HasOthers v new.others → IsValue new v

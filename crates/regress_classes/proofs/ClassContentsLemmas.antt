@@ -1,4 +1,4 @@
--- What a class with the flag v holds, operand by operand.
+-- The contents of a class with the flag v, operand by operand.
 use Rattle.std.proofs.Common.{◌≡◌, ℕ, zero, suc, ◌+◌, ◌<◌, ◌≤◌, Bool, true, false, cond, [], ◌∷◌, length, drop, Some, None, refl, sym, ap, ◌∙◌, subst, add-one, arith, length-drop}
 use Rattle.std.proofs.lemmas.Bool.{cond-true, cond-false}
 use Rattle.std.proofs.lemmas.Option.{none-some}
@@ -12,9 +12,9 @@ use Rattle.regress_lexical.proofs.laws.Behind.{behind_shorter, Ends}
 use Rattle.regress_classes.proofs.laws.ClassSets.{operand_at-shortens, part_behind-ends, parts_joined, operands_joined}
 
 module _ (table : Table) (unicode : Bool) (inner : Source → Found (Bool × Value)) (inner_ends : (t : Source) → Ends (inner t) t) (in_negated : Bool) where
-  -- ---- no bound
+  -- ---- the contents without a bound
 
-  -- none at the end
+  -- There is no operand at the end of the source.
   pub no_operand : (t : Source) → t ≡ [] → operand_at table unicode inner in_negated t ≡ None
   unfolding operand_at set_character_at
   no_operand t e = ap (operand_at table unicode inner in_negated) e
@@ -81,7 +81,7 @@ module _ (table : Table) (unicode : Bool) (inner : Source → Found (Bool × Val
       ap (found_map (λ others. value_of x.0 ∷ others)) (operands_by-same n m c (drop 2 x.1) (omega arith) (omega arith)))
       (λ none. refl)))
 
-  -- one operand, and what stands behind it
+  -- One operand, and what follows it.
   pub operands_go_on : (c : ℕ) (f : Value → Value → Value) (value : Value) (t : Source) →
       operands_onto table unicode inner in_negated c f value t
       ≡ operand_at table unicode inner in_negated t >>= λ (x : Operand × Source).
@@ -100,14 +100,14 @@ module _ (table : Table) (unicode : Bool) (inner : Source → Found (Bool × Val
       (operands_by-same (length t) (length (drop 2 x.1) + 1) c (drop 2 x.1) (omega arith) (omega arith)))
       (λ none. refl)))
 
-  -- ---- rows of contents
+  -- ---- productions of contents
 
   pub no_contents : (t : Source) → t ≡ [] → contents_at table unicode inner in_negated t ≡ None
   no_contents t e =
       ap (contents_at table unicode inner in_negated) e
       ∙ ap (λ (first : Found Operand). first >>= contents_behind table unicode inner in_negated) (no_operand [] refl)
 
-  -- operands joined by `&&`, behind the first one, or by `--`
+  -- Operands joined by `&&` or by `--`, after the first one.
   pub intersection_read : (first : Operand) (t mid : Source) → are_at 38 t ≡ true → mid ≡ drop 2 t →
       contents_behind table unicode inner in_negated (first, t) ≡ operands_onto table unicode inner in_negated 38 common (value_of first) mid
   intersection_read first t mid both moved =
@@ -119,7 +119,7 @@ module _ (table : Table) (unicode : Bool) (inner : Source → Found (Bool × Val
       cond-false _ _ _ no_intersection ∙ cond-true _ _ _ both
       ∙ ap (operands_onto table unicode inner in_negated 45 without (value_of first)) (sym moved)
 
-  -- a single `&` behind the first operand
+  -- A single `&` after the first operand.
   pub ampersand_read : (first : Operand) (t mid : Source) → are_at 38 t ≡ false → are_at 45 t ≡ false → is_at 38 t ≡ true → mid ≡ drop 1 t →
       contents_behind table unicode inner in_negated (first, t)
       ≡ parts_onto table unicode inner in_negated (joined (value_of first) (only (one_point 38))) mid
@@ -127,7 +127,7 @@ module _ (table : Table) (unicode : Bool) (inner : Source → Found (Bool × Val
       cond-false _ _ _ no_intersection ∙ cond-false _ _ _ no_subtraction ∙ cond-true _ _ _ single
       ∙ ap (parts_onto table unicode inner in_negated (joined (value_of first) (only (one_point 38)))) (sym moved)
 
-  -- a first part, and those behind it
+  -- A first part, and the parts after it.
   pub first_part_read : (first : Operand) (t mid : Source) (part : Value × Source) → are_at 38 t ≡ false → are_at 45 t ≡ false → is_at 38 t ≡ false →
       mid ≡ t → part_behind table unicode inner in_negated (first, mid) ≡ Some part →
       contents_behind table unicode inner in_negated (first, t) ≡ parts_onto table unicode inner in_negated part.0 part.1
@@ -168,7 +168,7 @@ module _ (table : Table) (unicode : Bool) (inner : Source → Found (Bool × Val
       part_behind table unicode inner in_negated first ≡ Some part → length part.1 < length t
   parts_end t first part found e = part_shortens t part (part_read t first (Some part) found e)
 
-  -- ---- rows of operators
+  -- ---- productions of operators
 
   behind_operand : (c : ℕ) (f : Value → Value → Value) (value : Value) → Operand × Source → Found Value
   behind_operand c f value x =
@@ -211,7 +211,7 @@ pub no_levels : (table : Table) (unicode : Bool) (n : ℕ) (t : Source) → n �
 unfolding class_set_by
 no_levels table unicode n t e = ap (λ n. class_set_by table unicode n t) e
 
--- Whatever reads the contents: unfolded, they are too long for an equation to be put into them.
+-- Stated for any function that parses the contents: unfolded, they are too long to rewrite with an equation.
 behind_caret : (contents : Bool → Source → Found Value) (t mid : Source) (negated : Bool) (found : Found Value) → negated ≡ is_at 94 t →
     mid ≡ cond negated (drop 1 t) t → contents negated mid ≡ found →
     contents (is_at 94 t) (cond (is_at 94 t) (drop 1 t) t) >>= unless_of_strings (is_at 94 t) ≡ found >>= unless_of_strings negated
@@ -227,9 +227,9 @@ class_read table unicode n m t mid negated found one_more caret moved e =
     ap (λ n. class_set_by table unicode n t) one_more
     ∙ behind_caret (contents_at table unicode (class_set_by table unicode m)) t mid negated found caret moved e
 
--- ---- what was read so far
+-- ---- what was parsed so far
 
--- From t on, where `held` is held, was read up to rest, and the code has what is held there.
+-- From `t`, with `held` before it, the source was parsed up to `rest`, and the code has the result.
 pub record ReadFrom {Code : Type 0} (Is : Code → Value → Type 0) (read : Value → Source → Found Value) (held : Value) (t rest : Source)
     (code : Code) : Type 0 where
   pub value : Value

@@ -1,4 +1,4 @@
--- What a class holds, part by part.
+-- The contents of a class without the flag v, part by part.
 use Rattle.std.proofs.Common.{◌≡◌, ℕ, ◌+◌, ◌≤◌, ◌==◌, Bool, true, false, cond, not, ◌&&◌, ◌||◌, Option, List, [], ◌∷◌, ◌++◌, length, drop, Some, None, refl, sym, ap, ◌∙◌, append_assoc, append-nil, arith}
 use Rattle.std.proofs.lemmas.Bool.{cond-true, cond-false, and_parts, le-leb}
 use Rattle.std.specs.Prelude.{nat_le}
@@ -40,7 +40,7 @@ no_front k [] e = refl
 no_front k (c ∷ t) e = absurd (omega arith)
 
 module _ (table : Table) (unicode : Bool) where
-  -- an atom that begins no range is a part
+  -- An atom that starts no range is a part.
   pub alone_read : (t rest : Source) (atom : ClassAtom) → class_atom_at table unicode t ≡ Some (atom, rest) →
       begins_range rest ≡ false → class_part_at table unicode t ≡ Some (atom_members atom, rest)
   alone_read t rest atom found alone =
@@ -48,7 +48,7 @@ module _ (table : Table) (unicode : Bool) where
       cond (begins_range x.1) (range_at table unicode x.0 (drop 1 x.1)) (Some (atom_members x.0, x.1))) found
       ∙ cond-false _ _ _ alone
 
-  -- ---- code points that stand for themselves
+  -- ---- literal code points
 
   itself_read : (s t : Source) (c : ℕ) → s ≡ c ∷ t → (not (c == 93) && not (c == 92)) ≡ true → class_atom_at table unicode s ≡ Some (point c, t)
   itself_read s t c front plain =
@@ -75,7 +75,7 @@ module _ (table : Table) (unicode : Bool) where
 
   -- ---- the parts so far
 
-  -- From t on, the parts up to rest were read, and the set has what they hold.
+  -- From `t`, the parts were parsed up to `rest`, and the set has their members.
   pub record ReadUpTo (t rest : Source) (set : List Bounds) : Type 0 where
     pub members : List Bounds
     pub whole : class_parts_by table unicode (length t + 1) t ≡ more_parts members (class_parts_by table unicode (length rest + 1) rest)
@@ -110,7 +110,7 @@ module _ (table : Table) (unicode : Bool) where
       (parts_go_on table unicode rest goes_on
       ∙ ap (λ (part : Found (List Bounds)). part >>= λ (x : List Bounds × Source). more_parts x.0 (class_parts_by table unicode (length x.1 + 1) x.1)) none)
 
-  -- a class is its parts, behind `^` where that stands there
+  -- A class is its parts, after a `^` if there is one.
   pub class_is : (inverted : Bool) (t inside : Source) (parts : Found (List Bounds)) → inverted ≡ is_at 94 t →
       inside ≡ cond inverted (drop 1 t) t → class_parts_by table unicode (length inside + 1) inside ≡ parts →
       class_at table unicode t ≡ parts >>= λ (x : List Bounds × Source). Some ((inverted, x.0), x.1)

@@ -1,11 +1,11 @@
--- Operands of a class with the flag v, as they are read.
+-- Operands of a class with the flag v, as they are parsed.
 use Rattle.std.proofs.Common.{◌≡◌, ℕ, Bool, true, false, not, ◌&&◌, ◌||◌, cond, [], ◌∷◌, length, drop, Some, None, refl, sym, ap, arith, ◌∙◌}
 use Rattle.std.proofs.lemmas.Bool.{cond-true, cond-false}
 use Rattle.regress_base.specs.Table.{Table}
 use Rattle.regress_lexical.specs.Source.{Source, Found, found_map, is_at}
 use Rattle.regress_classes.specs.ClassSets.{Value, nested, character, class, is_set_syntax, is_double, begins_double, escaped_character_at, set_character_at, operand_at, escaped_operand_at}
 
--- ---- rows of characters
+-- ---- productions of characters
 
 module _ (unicode : Bool) where
   pub set_escape_read : (t mid : Source) → is_at 92 t ≡ true → mid ≡ drop 1 t → set_character_at unicode t ≡ escaped_character_at unicode mid
@@ -41,7 +41,7 @@ module _ (unicode : Bool) where
       if_not true e = refl
       if_not false e = absurd cc
 
--- ---- rows of operands
+-- ---- productions of operands
 
 module _ (table : Table) (unicode : Bool) (inner : Source → Found (Bool × Value)) (in_negated : Bool) where
   pub nested_read : (t mid : Source) (found : Found (Bool × Value)) → is_at 91 t ≡ true → mid ≡ drop 1 t → inner mid ≡ found →

@@ -1,4 +1,4 @@
--- What a value holds.
+-- The contents of a value of a class with the flag v.
 use Rattle.std.proofs.Common.{◌≡◌, ℕ, ◌+◌, ◌<◌, ◌≤◌, Vec, Bool, true, false, not, ◌||◌, ◌==◌, max, List, [], ◌∷◌, length, take, get_or, cond, filter, refl, sym, ap, ap₂, ◌∙◌, subst, append_assoc, append-nil, arith}
 use Rattle.std.proofs.lemmas.Bool.Decides.{nat_tests}
 use Rattle.std.proofs.lemmas.List.{take_all}
@@ -26,7 +26,7 @@ no_members set e = record {
   each = λ c. ap (λ (l : List Bounds). is_member l c) e;
 }
 
--- those that pass
+-- The members that pass a test.
 pub members_where : (p : ℕ → Bool) (new : List Bounds) → IsCanonical new → ((c : ℕ) → is_member new c ≡ p c) →
     HasMembers (intervals_of p) new
 members_where p new canonical e = record {
@@ -50,7 +50,7 @@ is_itself c n = grind (arith, nat_tests)
 pub is_one_point : (c n : ℕ) → (n == c) ≡ is_member (one_point c) n
 is_one_point c n = is_itself c n ∙ sym (is_member-one (record { first = c; last = c }) n)
 
--- ---- one value and another
+-- ---- two values
 
 pub joined-assoc : (a b c : Value) → joined (joined a b) c ≡ joined a (joined b c)
 joined-assoc a b c =
@@ -91,7 +91,7 @@ others_only a members held h = record {
   levels = omega (arith, h.levels);
 }
 
--- the same with one code point more
+-- A value with one more code point.
 pub with_point : (a : Value) (c : ℕ) (old : CodeValue) (set : List Bounds) → IsValue old a → IsCanonical set →
     ((n : ℕ) → is_member set n ≡ (is_member old.set n || (n == c))) →
     IsValue (record old { set = set }) (joined a (only (one_point c)))
@@ -103,7 +103,7 @@ with_point a c old set h canonical e = record {
   others = others_only a (one_point c) old.others h.others;
 }
 
--- the same for parts
+-- The same for a union.
 pub union_points : (a : Value) (members : List Bounds) (old : CodeUnion) (points : List Bounds) → IsUnion old a →
     ((n : ℕ) → is_member points n ≡ (is_member old.points n || is_member members n)) →
     IsUnion (record old { points = points }) (joined a (only members))
@@ -112,13 +112,13 @@ union_points a members old points h e = record {
   others = others_only a members old.others h.others;
 }
 
--- a string of one is a code point
+-- A string of one character is a code point.
 pub one_character : (s : List ℕ) (d : ℕ) → 1 ≤ length s → length s < 2 → value_of_string s ≡ only (one_point (get_or s 0 d))
 one_character [] d h k = absurd (omega arith)
 one_character (c ∷ []) d h k = refl
 one_character (c ∷ e ∷ cs) d h k = absurd (omega arith)
 
--- ---- strings that are searched
+-- ---- sets of strings
 
 or_if : (b x : Bool) → cond b true x ≡ (x || b)
 or_if true true = refl
@@ -126,7 +126,7 @@ or_if true false = refl
 or_if false true = refl
 or_if false false = refl
 
--- one more string is there
+-- A set of strings with one more string.
 pub one_more_string : (strings : List (Vec ℕ Global)) (i : ℕ) (string : Vec ℕ Global) (key s : List ℕ) (was : Bool) → i < length strings →
     string ≡ get_or strings i string → key ≡ string.items → was ≡ list_any (λ other. bytes_eq other.items s) (take i strings) →
     cond (is_eq (slice_cmp nat_cmp key s)) true was ≡ list_any (λ other. bytes_eq other.items s) (take (i + 1) strings)
@@ -145,7 +145,7 @@ pub all_strings : (strings : List (Vec ℕ Global)) (i : ℕ) (s : List ℕ) →
 all_strings strings i s le =
     ap (list_any (λ (other : Vec ℕ Global). bytes_eq other.items s)) (take_all i strings le) ∙ is_among-strings strings s
 
--- the strings that are kept
+-- The strings that are kept.
 pub kept_strings : (test : List ℕ → Bool) (p : Vec ℕ Global → Bool) → ((string : Vec ℕ Global) → p string ≡ test string.items) →
     (strings : List (Vec ℕ Global)) → strings_of (filter p strings) ≡ filter test (strings_of strings)
 kept_strings test p same [] = refl
@@ -159,7 +159,7 @@ kept_strings test p same (string ∷ strings) =
     if_kept true rest = ap (λ l. string.items ∷ l) rest
     if_kept false rest = rest
 
--- a class in another one
+-- A class inside another class.
 pub held_nested : (read : Bool × Value) (negated : Bool) (old : CodeValue) (set : List Bounds) → (negated ≡ read.0) × IsValue old read.1 →
     HasMembers (complement_if negated old.set) set →
     IsValue (record { set = set; others = record old.others { levels = old.others.levels + 1 } }) (nested read)

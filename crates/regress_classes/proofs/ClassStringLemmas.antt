@@ -1,4 +1,4 @@
--- The strings of `\q{..}`, one code point after the other.
+-- The strings of `\q{..}`, code point by code point.
 use Rattle.std.proofs.Common.{◌≡◌, ℕ, zero, suc, ◌+◌, ◌<◌, Vec, Bool, true, false, List, [], ◌∷◌, ◌++◌, length, take, drop, get_or, Some, None, refl, sym, ap, subst, ◌∙◌, append_assoc, add-one, arith, length-drop}
 use Rattle.std.proofs.lemmas.Bool.{cond-true, cond-false}
 use Rattle.std.proofs.lemmas.List.{get_or-map, length-map, map-append, take_more}
@@ -15,7 +15,7 @@ use Rattle.regress_lexical.proofs.laws.Behind.{behind_shorter}
 use Rattle.regress_classes.proofs.laws.ClassSets.{set_character_at-shortens}
 use Rattle.regress_classes.proofs.ClassSetLemmas.{joined-assoc, joined-nothing, nothing-joined}
 
--- ---- no bound
+-- ---- the strings without a bound
 
 pub character_shortens : (unicode : Bool) (t : Source) (x : ℕ × Source) → set_character_at unicode t ≡ Some x → length x.1 < length t
 unfolding set_character_at
@@ -73,7 +73,7 @@ strings-push (first ∷ strings) s =
     joined-assoc (value_of_string first) (value_of_strings strings) (value_of_string s)
     ∙ ap (joined (value_of_string first)) (strings-push strings s)
 
--- what stands behind strings that were read already
+-- the strings that follow those parsed already
 abbrev pub more_strings : List (List ℕ) → Found (List (List ℕ)) → Found (List (List ℕ))
 more_strings strings found = found_map (λ ss. strings ++ ss) found
 
@@ -86,7 +86,7 @@ one-more : (strings : List (List ℕ)) (s : List ℕ) (found : Found (List (List
 one-more strings s None = refl
 one-more strings s (Some x) = ap (λ (l : List (List ℕ)). Some (l, x.1)) (sym (append_assoc strings (s ∷ []) x.0))
 
--- From t on, the strings and the front of one more were read, up to rest.
+-- From `t`, the strings `held` and the start `s` of one more were parsed, up to `rest`.
 pub record StringsUpTo (unicode : Bool) (t rest : Source) (s : List ℕ) (held : CodeValue) : Type 0 where
   pub strings : List (List ℕ)
   pub whole : strings_from unicode [] t ≡ more_strings strings (strings_from unicode s rest)
@@ -137,7 +137,7 @@ all_strings_read unicode t rest behind s held new so_far closes moved value = (
   rw (sym (strings-push so_far.strings s)) value,
 )
 
--- no more character, nor at the end
+-- No more character follows, also at the end of the source.
 pub no_character : (unicode : Bool) (t rest : Source) (s : List ℕ) (held : CodeValue) → StringsUpTo unicode t rest s held →
     is_at 125 rest ≡ false → is_at 124 rest ≡ false → set_character_at unicode rest ≡ None → strings_from unicode [] t ≡ None
 no_character unicode t rest s held so_far goes_on more none =
@@ -150,7 +150,7 @@ pub character_at_end : (unicode : Bool) (t : Source) → t ≡ [] → set_charac
 unfolding set_character_at
 character_at_end unicode t e = ap (set_character_at unicode) e
 
--- behind `\q{`
+-- what follows `\q{`
 pub quoted : (unicode : Bool) (t inside : Source) (found : Found (List (List ℕ))) → is_at 123 t ≡ true → inside ≡ drop 1 t →
     strings_from unicode [] inside ≡ found → quoted_at unicode t ≡ found_map (λ ss. class (value_of_strings ss)) found
 quoted unicode t inside found opens moved e =
@@ -160,7 +160,7 @@ quoted unicode t inside found opens moved e =
     (omega (arith, at_front 123 t opens, length-drop 1 t)) (omega arith)
     ∙ ap (strings_from unicode []) (sym moved) ∙ e)
 
--- ---- the strings of a property, one after the other
+-- ---- the strings of a property, in order
 
 pub string_at : (strings : List (Vec ℕ Global)) (i : ℕ) (string : Vec ℕ Global) → All (All IsCodePoint) (strings_of strings) →
     i < length strings → string ≡ get_or strings i string → All IsCodePoint string.items

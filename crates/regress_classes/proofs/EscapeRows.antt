@@ -1,4 +1,4 @@
--- Which row an escape in a class is, by its first code point.
+-- Which production an escape in a class belongs to, by its first code point.
 use Rattle.std.proofs.Common.{◌≡◌, ℕ, Bool, true, false, not, ◌&&◌, ◌||◌, ◌==◌, ◌∷◌, Option, Some, None, ⊎_elim, refl, sym, ap, ap₂, ◌∙◌, subst, eqb-true, arith}
 use Rattle.std.proofs.lemmas.Bool.{cond-false, or_cases}
 use Rattle.std.proofs.lemmas.Bool.Decides.{nat_tests}
@@ -56,7 +56,7 @@ module _ (table : Table) (unicode : Bool) (s : Source) (c : ℕ) (t : Source) (f
       ∙ cond-false _ _ _ (ap (λ b. b && unicode) (property_letter c) ∙ property)
       ∙ ap (λ (r : Source). found_map point (escape_at unicode r)) (sym front)
 
--- ---- an escape in a class with it
+-- ---- an escape in a class with the flag v
 
 module _ (table : Table) (unicode in_negated : Bool) (s : Source) (c : ℕ) (t : Source) (front : s ≡ c ∷ t) where
   by_operand : (letter : Option (CharacterClassType × Bool)) → class_letter c ≡ letter →

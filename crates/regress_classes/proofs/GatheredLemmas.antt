@@ -1,4 +1,4 @@
--- What is gathered: a set, and the intervals behind it in the order in which they are written.
+-- What the parser collects: a set, and all other intervals in the order in which they are written.
 use Rattle.std.proofs.Common.{◌+◌, ◌<◌, ◌≤◌, max, suc, IsTrue, get_or, ap₂, subst, ◌≡◌, ℕ, Bool, true, false, ◌||◌, List, [], ◌∷◌, ◌++◌, IsPermutation, refl, sym, ap, ◌∙◌, arith}
 use Rattle.std.specs.Prelude.{MatchBool}
 use Rattle.std.specs.List.{list_any}
@@ -10,7 +10,7 @@ use Rattle.regress_base.specs.Intervals.{Bounds, IsInterval, is_within, is_membe
 use Rattle.regress_base.proofs.laws.Sets.{or_assoc, is_within_tells, canonical_cons, is_member-cons, is_member-one, is_member-append}
 use Rattle.regress_classes.specs.ClassViews.{HasMembers}
 
--- an interval more
+-- One more interval.
 pub put_behind : (set later new : List Bounds) (iv : Bounds) (c : ℕ) → new ≡ later ++ iv ∷ [] →
     is_member (set ++ new) c ≡ (is_member (set ++ later) c || is_within iv c)
 put_behind set later new iv c e =
@@ -20,7 +20,7 @@ put_behind set later new iv c e =
     ∙ or_assoc (is_member set c) (is_member later c) (is_within iv c)
     ∙ ap (λ b. b || is_within iv c) (sym (is_member-append set later c))
 
--- all of a set, where there is none yet
+-- A set is taken as a whole where there is none yet.
 pub set_taken : (set later new : List Bounds) (c : ℕ) → set ≡ [] →
     is_member (new ++ later) c ≡ (is_member (set ++ later) c || is_member new c)
 set_taken set later new c none =
@@ -38,7 +38,7 @@ unfolding is_member
 any_member [] c = refl
 any_member (iv ∷ ivs) c = ap (λ b. is_within iv c || b) (any_member ivs c)
 
--- the order doesn't matter
+-- The order of the intervals does not change their members.
 pub in_order : (list sorted new : List Bounds) → IsPermutation list sorted → ((c : ℕ) → is_member new c ≡ is_member sorted c) → IsCanonical new →
     HasMembers list new
 in_order list sorted new permutation joined canonical = record {
@@ -53,9 +53,9 @@ set_and set list new canonical joined = record {
   each = λ c. joined c ∙ sym (is_member-append set list c);
 }
 
--- ---- neighbours joined
+-- ---- merged neighbours
 
--- the next interval begins at `low` or above, and each other one no lower than the one before it
+-- The next interval starts at `low` or later, and each other one no earlier than the one before it.
 abbrev pub Ascends : ℕ → List Bounds → Type 0
 Ascends low [] = Unit {0}
 Ascends low (iv ∷ ivs) = (low ≤ iv.first) × Ascends iv.first ivs
@@ -69,7 +69,7 @@ ascends_from iv [] h = tt
 ascends_from iv (next ∷ ivs) h =
     (h 0 1 iv (omega arith) (omega arith), ascends_from next ivs (λ i j d le lt. h (suc i) (suc j) d (omega arith) (omega arith)))
 
--- the interval that goes to the end of the next one too
+-- the interval that extends to the end of the next one
 abbrev pub reaching : (last next : Bounds) → Bounds
 reaching last next = record { first = last.first; last = max last.last next.last }
 

@@ -1,4 +1,4 @@
--- Properties: words at the front of a source, what an escape reads, and copies of strings.
+-- Properties: words at the start of a source, what an escape parses to, and copies of strings.
 use Rattle.std.proofs.Common.{◌≡◌, ℕ, ◌<◌, ◌==◌, Bool, true, false, cond, List, [], ◌∷◌, ◌++◌, length, Some, None, refl, sym, ap, ap₂, ◌∙◌, append_assoc, append-nil, arith}
 use Rattle.std.proofs.lemmas.Bool.{cond-true}
 use Rattle.std.proofs.lemmas.Bool.Decides.{nat_tests}
@@ -9,7 +9,7 @@ use Rattle.regress_classes.specs.Properties.{is_property_character, property_wor
 pub ascii : (c : ℕ) → is_property_character c ≡ true → c < 128
 ascii c e = grind (arith, nat_tests)
 
--- From t on, this word was read up to rest.
+-- From `t`, this word was parsed up to `rest`.
 pub record WordUpTo (t rest : Source) (word : List ℕ) : Type 0 where
   pub read : word ++ front is_property_character rest ≡ front is_property_character t
   pub left : behind is_property_character rest ≡ behind is_property_character t

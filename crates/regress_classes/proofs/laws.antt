@@ -1,4 +1,4 @@
--- Laws of this crate's definitions, which the crates above may cite.
+-- Lemmas on this crate's definitions, for the crates above.
 pub mod ClassSets
 pub mod ClassStrings
 pub mod Pieces

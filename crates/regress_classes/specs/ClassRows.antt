@@ -1,4 +1,4 @@
--- What stands between brackets, without the flag v (ECMA-262, CharacterClass with annex B).
+-- Classes without the flag v (ECMA-262, CharacterClass, with annex B).
 use Rattle.std.specs.Prelude.{ℕ, zero, suc, ◌+◌, Bool, true, false, not, ◌&&◌, ◌||◌, List, [], ◌∷◌, ◌++◌, length, drop, Option, Some, None, if◌then◌else◌, nat_le, ◌==◌}
 use Rattle.regress_base.specs.declared.charclasses.CharacterClassType.{CharacterClassType}
 use Rattle.regress_base.specs.declared.charclasses.CharacterClassType.TheVariants.{Digits, Spaces, Words}
@@ -10,15 +10,16 @@ use Rattle.regress_lexical.specs.Digits.{is_decimal, is_letter, control}
 use Rattle.regress_lexical.specs.Escapes.{escape_at}
 use Rattle.regress_classes.specs.Properties.{Property, points_of, property_at}
 
--- ---- classes by an escape
+-- ---- class escapes
 
--- what the class holds (ECMA-262, CharacterClassEscape)
+-- the members of the class (ECMA-262, CharacterClassEscape)
 abbrev pub members_of : CharacterClassType → List Bounds
 members_of Digits = digits
 members_of Spaces = white_space ++ line_terminators
 members_of Words = word_characters
 
--- the class that a letter names, d, D, s, S, w or W, and whether the letter is a capital, which takes the complement
+-- the class that a letter names (`d`, `s` or `w`, or a capital of these), and whether it is a capital, which means the
+-- complement
 abbrev pub class_letter : ℕ → Option (CharacterClassType × Bool)
 class_letter c =
     if c == char "d" then Some (Digits, false)
@@ -29,7 +30,7 @@ class_letter c =
     else if c == char "W" then Some (Words, true)
     else None
 
--- all code points but these
+-- all code points that are no members
 abbrev pub complement : List Bounds → List Bounds
 complement members = intervals_of (λ c. not (is_member members c))
 
@@ -42,7 +43,7 @@ class_members (kind, negated) = complement_if negated (members_of kind)
 
 -- ---- atoms of a class
 
--- a code point, or what a class by an escape or a property holds
+-- A code point, or the members of a class escape or of a property (ECMA-262, ClassAtom).
 pub data ClassAtom : Type 0 where
   point : (c : ℕ) → ClassAtom
   set : (members : List Bounds) → ClassAtom
@@ -50,12 +51,12 @@ pub data ClassAtom : Type 0 where
 abbrev pub one_point : ℕ → List Bounds
 one_point c = record { first = c; last = c } ∷ []
 
--- what the atom holds
+-- the members of the atom
 abbrev pub atom_members : ClassAtom → List Bounds
 atom_members (point c) = one_point c
 atom_members (set members) = members
 
--- `\c` without the flag u: a letter, or a digit or `_`, for its low five bits; else the backslash alone
+-- `\c` without the flag u: with a letter, a digit or `_` the low five bits of its code; else a literal backslash
 abbrev pub class_control_at : Source → Found ClassAtom
 class_control_at [] = Some (point (char "\\"), char "c" ∷ [])
 class_control_at (d ∷ t) =
@@ -66,12 +67,13 @@ abbrev pub class_property : Bool → Property × Source → Found ClassAtom
 class_property negated (property, t) =
     elim (points_of property) [ None ↦ None | Some members ↦ Some (set (complement_if negated members), t) ]
 
--- behind `\p` or `\P`
+-- the property after `\p` or `\P`
 abbrev pub class_property_at : Table → Bool → Source → Found ClassAtom
 class_property_at table negated t = property_at false table t >>= class_property negated
 
 module _ (table : Table) (unicode : Bool) where
-  -- the rows of an escape in a class that begins with c and is no class itself, behind its backslash
+  -- the productions of an escape in a class that starts with c and is no class escape, after its backslash (ECMA-262,
+  -- ClassEscape)
   abbrev pub class_escape_rows : ℕ → Source → List (Row ClassAtom)
   class_escape_rows c t =
       -- `\b` is backspace
@@ -81,7 +83,7 @@ module _ (table : Table) (unicode : Bool) where
       ∷ when (is_one_of "pP" c && unicode) (class_property_at table (c == char "P") t)
       ∷ otherwise (found_map point (escape_at unicode (c ∷ t))) ∷ []
 
-  -- an escape in a class that begins with c, behind its backslash
+  -- an escape in a class that starts with c, after its backslash
   abbrev pub class_escape_by : ℕ → Source → Found ClassAtom
   class_escape_by c t =
       elim (class_letter c) [ None ↦ first_row (class_escape_rows c t) | Some named ↦ Some (set (class_members named), t) ]
@@ -100,33 +102,33 @@ module _ (table : Table) (unicode : Bool) where
 
 -- ---- ranges
 
--- both and the hyphen, without the flag u
+-- both atoms and the hyphen; only without the flag u
 abbrev pub three : Bool → List Bounds → List Bounds → Option (List Bounds)
 three unicode first last = if unicode then None else Some (first ++ one_point (char "-") ++ last)
 
--- a range of code points, which ends nowhere before it begins
+-- a range of code points, whose end is not less than its start
 abbrev pub points_between : ℕ → ℕ → Option (List Bounds)
 points_between a b = if nat_le a b then Some (record { first = a; last = b } ∷ []) else None
 
--- what two atoms with a hyphen between them hold: a range, or without the flag u all three where one is a class
+-- the members of two atoms with a hyphen between them: a range, or without the flag u all three if an atom is a class
 abbrev pub range_of : Bool → ClassAtom → ClassAtom → Option (List Bounds)
 range_of unicode (point a) (point b) = points_between a b
 range_of unicode (point a) (set others) = three unicode (one_point a) others
 range_of unicode (set members) (point b) = three unicode members (one_point b)
 range_of unicode (set members) (set others) = three unicode members others
 
--- a hyphen that may begin a range: one that is not the last
+-- whether a hyphen starts a range: one that is not before `]`
 abbrev pub begins_range : Source → Bool
 begins_range t = is_at (char "-") t && not (is_at (char "]") (drop 1 t))
 
 module _ (table : Table) (unicode : Bool) where
-  -- the rest of a range, behind its first atom and the hyphen
+  -- the rest of a range, after its first atom and the hyphen
   abbrev pub range_at : ClassAtom → Source → Found (List Bounds)
   range_at first t =
       class_atom_at table unicode t >>= λ (last, rest).
       elim (range_of unicode first last) [ None ↦ None | Some members ↦ Some (members, rest) ]
 
-  -- an atom, or a range
+  -- an atom or a range (ECMA-262, NonemptyClassRanges)
   abbrev pub class_part_at : Source → Found (List Bounds)
   class_part_at t =
       class_atom_at table unicode t >>= λ (first, rest).
@@ -134,7 +136,8 @@ module _ (table : Table) (unicode : Bool) where
 
   -- ---- the class
 
-  -- The parts up to `]`, as they are written, of which some may overlap. The number bounds how many.
+  -- The members of the parts up to `]`, as they are written; intervals may overlap. The number bounds the number of
+  -- parts.
   unfoldable pub class_parts_by : ℕ → Source → Found (List Bounds)
   class_parts_by zero t = None
   class_parts_by (suc n) t =
@@ -142,7 +145,7 @@ module _ (table : Table) (unicode : Bool) where
       else class_part_at t >>= λ (members, rest).
       (class_parts_by n rest >>= λ (others, behind). Some (members ++ others, behind))
 
-  -- what stands behind `[`: whether it is inverted, and what it holds
+  -- the class after its `[`: whether it is inverted, and its members
   unfoldable pub class_at : Source → Found (Bool × List Bounds)
   class_at t =
       let inverted = is_at (char "^") t in

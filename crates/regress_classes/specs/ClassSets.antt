@@ -1,4 +1,4 @@
--- Classes with the flag v (this project's profile of ECMA-262, ClassSetExpression).
+-- Classes with the flag v (dialect of ECMA-262, ClassSetExpression).
 use Rattle.std.specs.Prelude.{ℕ, zero, suc, ◌+◌, max, Bool, true, false, not, ◌&&◌, ◌||◌, List, [], ◌∷◌, ◌++◌, length, drop, filter, Option, Some, None, if◌then◌else◌, ◌==◌}
 use Rattle.std.specs.List.{list_any}
 use Rattle.std.specs.Str.{bytes_eq}
@@ -10,10 +10,11 @@ use Rattle.regress_lexical.specs.Escapes.{escape_at}
 use Rattle.regress_classes.specs.Properties.{Property, of_points, of_strings, property_at}
 use Rattle.regress_classes.specs.ClassRows.{complement_if, class_letter, class_members, one_point, points_between}
 
--- ---- what a class holds
+-- ---- contents of a class
 
--- Code points, of which some may overlap, strings of two or more in the order in which they were read, repeats kept,
--- whether the empty string is there, and how many levels of classes lie in it.
+-- The contents of a class: code points, in intervals that may overlap; the strings of two or more characters, in the
+-- order in which they were parsed and with repeats; whether it has the empty string; and how deep the classes in it
+-- nest.
 pub record Value : Type 0 where
   pub members : List Bounds
   pub strings : List (List ℕ)
@@ -23,7 +24,7 @@ pub record Value : Type 0 where
 abbrev pub nothing : Value
 nothing = record { members = []; strings = []; has_empty = false; levels = 0 }
 
--- whether it holds a string beside its code points, be it the empty one
+-- whether it has a string, which may be the empty one (ECMA-262, MayContainStrings, but by its contents)
 abbrev pub has_strings : Value → Bool
 has_strings v = not (length v.strings == 0) || v.has_empty
 
@@ -31,7 +32,7 @@ has_strings v = not (length v.strings == 0) || v.has_empty
 abbrev pub only : List Bounds → Value
 only members = record nothing { members = members }
 
--- what is in one or the other
+-- the union of both
 abbrev pub joined : Value → Value → Value
 joined a b = record {
   members = a.members ++ b.members;
@@ -40,7 +41,7 @@ joined a b = record {
   levels = max a.levels b.levels;
 }
 
--- what a first one comes to with each of the others, from the left on
+-- a first value combined with each of the others in order
 abbrev pub from_left : (Value → Value → Value) → Value → List Value → Value
 from_left f first [] = first
 from_left f first (next ∷ rest) = from_left f (f first next) rest
@@ -48,7 +49,7 @@ from_left f first (next ∷ rest) = from_left f (f first next) rest
 abbrev pub is_among : List (List ℕ) → List ℕ → Bool
 is_among strings s = list_any (λ other. bytes_eq other s) strings
 
--- `&&`: what is in both
+-- `&&`: the intersection (ECMA-262, ClassIntersection)
 abbrev pub common : Value → Value → Value
 common a b = record {
   members = intervals_of (λ c. is_member a.members c && is_member b.members c);
@@ -57,7 +58,7 @@ common a b = record {
   levels = max a.levels b.levels;
 }
 
--- `--`: what the second lacks of the first
+-- `--`: the difference of the first and the second (ECMA-262, ClassSubtraction)
 abbrev pub without : Value → Value → Value
 without a b = record {
   members = intervals_of (λ c. is_member a.members c && not (is_member b.members c));
@@ -66,7 +67,7 @@ without a b = record {
   levels = max a.levels b.levels;
 }
 
--- A string of one is a code point.
+-- A string of one character is a code point.
 abbrev pub value_of_string : List ℕ → Value
 value_of_string [] = record nothing { has_empty = true }
 value_of_string (c ∷ []) = only (one_point c)
@@ -76,17 +77,18 @@ abbrev pub value_of_strings : List (List ℕ) → Value
 value_of_strings [] = nothing
 value_of_strings (s ∷ ss) = joined (value_of_string s) (value_of_strings ss)
 
--- a class that lies in another one: it is complemented where it stands
+-- a class inside another class, where a negated class is its complement already (ECMA-262, NestedClass)
 abbrev pub nested : Bool × Value → Value
 nested (negated, v) = record v { members = complement_if negated v.members; levels = v.levels + 1 }
 
--- no complement of what holds a string
+-- a class, unless it is negated and has strings
 abbrev pub unless_of_strings : Bool → Value × Source → Found (Bool × Value)
 unless_of_strings negated (v, t) = if negated && has_strings v then None else Some ((negated, v), t)
 
 -- ---- operands
 
--- a character, which may be an end of a range, or what holds some of them and strings
+-- An operand is a character, which may be an end of a range, or a set of code points and strings (ECMA-262,
+-- ClassSetOperand).
 pub data Operand : Type 0 where
   character : (c : ℕ) → Operand
   class : (value : Value) → Operand
@@ -95,17 +97,17 @@ abbrev pub value_of : Operand → Value
 value_of (character c) = only (one_point c)
 value_of (class value) = value
 
--- both ends of a range are characters
+-- both ends of a range are characters (ECMA-262, ClassSetRange)
 abbrev pub range_of : Operand → Operand → Option (List Bounds)
 range_of (character a) (character b) = points_between a b
 range_of (character a) (class others) = None
 range_of (class value) last = None
 
--- code points that stand for themselves only behind a backslash, or never
+-- code points that are literals only after a backslash, or never
 abbrev pub is_set_syntax : ℕ → Bool
 is_set_syntax c = is_one_of "()[]{}/-|\\" c
 
--- one that stands for itself, but not before another of these
+-- a literal that may not be followed by another of these
 abbrev pub is_double : ℕ → Bool
 is_double c = is_one_of "&!#$%*+,.:;<=>?@^`~" c
 
@@ -113,11 +115,11 @@ abbrev pub begins_double : Source → Bool
 begins_double [] = false
 begins_double (c ∷ t) = is_double c
 
--- one that stands for itself behind a backslash
+-- a literal after a backslash (ECMA-262, ClassSetReservedPunctuator)
 abbrev pub is_reserved : ℕ → Bool
 is_reserved c = is_one_of "&-!#%,:;<=>@`~" c
 
--- an escape of one character, behind its backslash; `\b` is backspace
+-- an escape of one character, after its backslash; `\b` is backspace
 abbrev pub escaped_character_at : (unicode : Bool) → Source → Found ℕ
 escaped_character_at unicode [] = None
 escaped_character_at unicode (c ∷ t) =
@@ -125,7 +127,7 @@ escaped_character_at unicode (c ∷ t) =
     else if is_reserved c then Some (c, t)
     else escape_at unicode (c ∷ t)
 
--- one character
+-- one character (ECMA-262, ClassSetCharacter)
 unfoldable pub set_character_at : (unicode : Bool) → Source → Found ℕ
 set_character_at unicode [] = None
 set_character_at unicode (c ∷ t) =
@@ -133,8 +135,8 @@ set_character_at unicode (c ∷ t) =
     else if is_set_syntax c || (is_double c && begins_double t) then None
     else Some (c, t)
 
--- Behind `\q{`, and behind the characters s of a string: strings with `|` between them, up to `}`. The number bounds how
--- many code points there are.
+-- After `\q{`, and after the characters s of a string: strings with `|` between them, up to `}`. The number bounds the
+-- number of code points.
 unfoldable pub strings_by : ℕ → (unicode : Bool) → (s : List ℕ) → Source → Found (List (List ℕ))
 strings_by zero unicode s t = None
 strings_by (suc n) unicode s t =
@@ -142,36 +144,37 @@ strings_by (suc n) unicode s t =
     else if is_at (char "|") t then found_map (λ ss. s ∷ ss) (strings_by n unicode [] (drop 1 t))
     else set_character_at unicode t >>= λ (c, rest). strings_by n unicode (s ++ c ∷ []) rest
 
--- behind `\q`
+-- the strings after `\q` (ECMA-262, ClassStringDisjunction)
 abbrev pub quoted_at : (unicode : Bool) → Source → Found Operand
 quoted_at unicode t =
     if is_at (char "{") t
     then found_map (λ ss. class (value_of_strings ss)) (strings_by (length t) unicode [] (drop 1 t))
     else None
 
--- what a property stands for in a class. One of strings has no complement, and stands directly in no negated class.
+-- the contents of a property in a class; one of strings has no complement, and is not allowed directly in a negated
+-- class
 abbrev pub property_operand : (in_negated negated : Bool) → Property × Source → Found Operand
 property_operand in_negated negated (of_points members, t) = Some (class (only (complement_if negated members)), t)
 property_operand in_negated negated (of_strings written, t) =
     if in_negated || negated then None else Some (class (value_of_strings written), t)
 
--- behind `\p` or `\P`
+-- the property after `\p` or `\P`
 abbrev pub property_operand_at : Table → (in_negated negated : Bool) → Source → Found Operand
 property_operand_at table in_negated negated t = property_at true table t >>= property_operand in_negated negated
 
--- an operator: twice the same code point
+-- whether an operator, the same code point twice, is at the start of a source
 abbrev pub are_at : ℕ → Source → Bool
 are_at c t = is_at c t && is_at c (drop 1 t)
 
 module _ (table : Table) (unicode : Bool) where
-  -- the rows of an escape that begins with c and is no class, behind its backslash
+  -- the productions of an escape that starts with c and is no class escape, after its backslash
   abbrev pub operand_rows : (in_negated : Bool) → ℕ → Source → List (Row Operand)
   operand_rows in_negated c t =
       when (c == char "q") (quoted_at unicode t)
       ∷ when (is_one_of "pP" c) (property_operand_at table in_negated (c == char "P") t)
       ∷ otherwise (found_map character (escaped_character_at unicode (c ∷ t))) ∷ []
 
-  -- an escape, behind its backslash
+  -- an escape, after its backslash
   abbrev pub escaped_operand_at : (in_negated : Bool) → Source → Found Operand
   escaped_operand_at in_negated [] = None
   escaped_operand_at in_negated (c ∷ t) =
@@ -180,8 +183,7 @@ module _ (table : Table) (unicode : Bool) where
         | None ↦ first_row (operand_rows in_negated c t)
       ]
 
-  -- The rest is said where `inner` reads what stands behind the `[` of a class, and `in_negated` says whether the class
-  -- around is negated.
+  -- In what follows, `inner` parses a class after its `[`, and `in_negated` means that the class around is negated.
   module _ (inner : Source → Found (Bool × Value)) (in_negated : Bool) where
     unfoldable pub operand_at : Source → Found Operand
     operand_at t =
@@ -189,18 +191,18 @@ module _ (table : Table) (unicode : Bool) where
         else if is_at (char "\\") t then escaped_operand_at in_negated (drop 1 t)
         else found_map character (set_character_at unicode t)
 
-    -- ---- parts, which are joined
+    -- ---- unions (ECMA-262, ClassUnion)
 
     abbrev pub range_at : Operand → Source → Found Value
     range_at first t =
         operand_at t >>= λ (last, rest).
         elim (range_of first last) [ None ↦ None | Some members ↦ Some (only members, rest) ]
 
-    -- a part whose first operand is read: a hyphen behind that always makes a range
+    -- a part after its first operand: a hyphen always makes a range
     abbrev pub part_behind : Operand × Source → Found Value
     part_behind (first, t) = if is_at (char "-") t then range_at first (drop 1 t) else Some (value_of first, t)
 
-    -- The parts up to `]`. The number bounds how many.
+    -- The parts up to `]`. The number bounds the number of parts.
     unfoldable pub parts_by : ℕ → Source → Found (List Value)
     parts_by zero t = None
     parts_by (suc n) t =
@@ -212,7 +214,8 @@ module _ (table : Table) (unicode : Bool) where
 
     -- ---- operators
 
-    -- The operands behind an operator of two code points c, up to `]`, with c c between them. The number bounds how many.
+    -- The operands after an operator that is c twice, up to `]`, with that operator between them. The number bounds the
+    -- number of operands.
     unfoldable pub operands_by : ℕ → (c : ℕ) → Source → Found (List Value)
     operands_by zero c t = None
     operands_by (suc n) c t =
@@ -224,32 +227,33 @@ module _ (table : Table) (unicode : Bool) where
     abbrev pub operands_at : (c : ℕ) → Source → Found (List Value)
     operands_at c t = operands_by (length t + 1) c t
 
-    -- ---- what a class holds: one of five forms
+    -- ---- contents of a class: one of five productions
 
-    -- behind the first operand, by what follows it
+    -- the contents after the first operand, by what follows it
     abbrev pub contents_behind : Operand × Source → Found Value
     contents_behind (first, t) =
         -- operands joined by `&&`
         if are_at (char "&") t then found_map (from_left common (value_of first)) (operands_at (char "&") (drop 2 t))
         -- operands joined by `--`
         else if are_at (char "-") t then found_map (from_left without (value_of first)) (operands_at (char "-") (drop 2 t))
-        -- parts, of which the first takes a single `&` along: that is a member too, and begins no range
+        -- parts, with a single `&` after the first operand: that is a member and starts no range
         else if is_at (char "&") t
         then found_map (λ parts. from_left joined (value_of first) (only (one_point (char "&")) ∷ parts)) (parts_at (drop 1 t))
-        -- a first part, then parts, and where it is an operand and none follow, that operand alone
+        -- a first part, and the parts after it; a single operand is a part too
         else part_behind (first, t) >>= λ (part, rest). found_map (from_left joined part) (parts_at rest)
 
-    -- all of it, up to its `]`: nothing, or what a first operand begins
+    -- all contents up to the `]`: nothing, or what starts with a first operand
     abbrev pub contents_at : Source → Found Value
     contents_at t = if is_at (char "]") t then Some (nothing, drop 1 t) else operand_at t >>= contents_behind
 
-  -- Behind `[`: whether the class is negated, and what it holds. The number bounds how deep classes lie in one another.
+  -- A class after its `[`: whether it is negated, and its contents. The number bounds how deep classes nest, the class
+  -- itself included.
   unfoldable pub class_set_by : ℕ → Source → Found (Bool × Value)
   class_set_by zero t = None
   class_set_by (suc n) t =
       let negated = is_at (char "^") t in
       contents_at (class_set_by n) negated (if negated then drop 1 t else t) >>= unless_of_strings negated
 
-  -- no deeper than the limit of levels, of which the pattern around has one
+  -- a class that nests no deeper than the limit
   abbrev pub class_set_at : Source → Found (Bool × Value)
   class_set_at t = class_set_by max_nesting_depth t

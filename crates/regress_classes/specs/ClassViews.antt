@@ -1,4 +1,4 @@
--- What the values of the code stand for: classes of both kinds, and properties.
+-- The relation of the code's values to the definitions: classes without and with the flag v, and properties.
 use Rattle.std.specs.Prelude.{◌≡◌, ℕ, Vec, Bool, not, ◌&&◌, ◌||◌, max, List, map, filter, Some, None}
 use Rattle.std.specs.declared.alloc.Global.{Global}
 use Rattle.regress_base.specs.Intervals.{Bounds, is_member, IsCanonical}
@@ -36,67 +36,67 @@ IsClassAtomInRange (class_atoms.Point c) = IsCodePoint c
 IsClassAtomInRange (class_atoms.Class kind negated) = Unit {0}
 IsClassAtomInRange (class_atoms.Property members negated) = Unit {0}
 
--- The set has these members: the code keeps a set by its canonical intervals, not as it was written.
+-- The set has these members. The code keeps a set as canonical intervals, not as it was written.
 pub record HasMembers (members set : List Bounds) : Type 0 where
   pub canonical : IsCanonical set
   pub each : (c : ℕ) → is_member set c ≡ is_member members c
 
--- The new set has these members too.
+-- The new set has these members added.
 abbrev pub Adds : List Bounds → (old new : List Bounds) → Type 0
 Adds members old new = (c : ℕ) → is_member new c ≡ (is_member old c || is_member members c)
 
--- what is read between brackets
+-- the result of parsing a class without the flag v
 abbrev pub IsClassRead : CodeClass → Bool × List Bounds → Type 0
 IsClassRead class' (inverted, members) = (class'.inverted ≡ inverted) × HasMembers members class'.set
 
--- strings of the code
+-- the strings as lists of code points
 abbrev pub strings_of : List (Vec ℕ Global) → List (List ℕ)
 strings_of = map (λ string. string.items)
 
--- what a property of the code is
+-- the property of the definitions
 abbrev pub property_of : CodeProperty → Property
 property_of (properties.Points members) = of_points members.now
 property_of (properties.Strings written) = of_strings (strings_of written.now)
 
--- what the code holds beside the members of a value
+-- the strings and the nesting depth of a value
 pub record HasOthers (value : Value) (held : Others) : Type 0 where
   pub strings : strings_of held.strings.items ≡ value.strings
   pub has_empty : held.has_empty ≡ value.has_empty
   pub levels : held.levels ≡ value.levels
 
--- what the code has read of a class with the flag v is this value
+-- the contents of a class with the flag v
 pub record IsValue (held : CodeValue) (value : Value) : Type 0 where
   pub members : HasMembers value.members held.set
   pub others : HasOthers value held.others
 
--- the same of parts, of which the code points are still gathered
+-- the same for a union, whose code points are still collected
 pub record IsUnion (held : CodeUnion) (value : Value) : Type 0 where
   pub members : (c : ℕ) → is_member held.points c ≡ is_member value.members c
   pub others : HasOthers value held.others
 
--- The new union has what the part holds too.
+-- The new union has the contents of the part added.
 abbrev pub Joins : Value → (old new : CodeUnion) → Type 0
 Joins part old new = (a : Value) → IsUnion old a → IsUnion new (joined a part)
 
--- an operand of such a class; a character is a code point
+-- an operand of a class with the flag v, in which a character is a code point
 abbrev pub IsOperand : CodeOperand → Operand → Type 0
 IsOperand (operands.Character c) operand = (operand ≡ character c) × IsCodePoint c
 IsOperand (operands.Class held) operand = (value : Value) × (operand ≡ class value) × IsValue held value
 
--- what reads classes inside of this one, and whether that is negated
+-- the function that parses classes inside this class
 abbrev pub inner_of : Surroundings → Source → Found (Bool × Value)
 inner_of around = class_set_by (table_of around.tables.now) around.unicode around.levels
 
 module _ (table : Table) (unicode : Bool) (inner : Source → Found (Bool × Value)) (in_negated : Bool) where
-  -- the parts that are read, joined to what is held already
+  -- the contents before, joined with the parts that are parsed
   abbrev pub parts_onto : Value → Source → Found Value
   parts_onto held t = found_map (from_left joined held) (parts_at table unicode inner in_negated t)
 
-  -- what is held already with the operands that are read behind an operator
+  -- the contents before, combined with the operands that are parsed after an operator
   abbrev pub operands_onto : (c : ℕ) → (Value → Value → Value) → Value → Source → Found Value
   operands_onto c f held t = found_map (from_left f held) (operands_at table unicode inner in_negated c t)
 
--- an operator: twice its sign is written, and what it makes of two values
+-- the code point that an operator has twice
 abbrev pub sign_of : Operator → ℕ
 sign_of operators.Intersection = char "&"
 sign_of operators.Subtraction = char "-"
@@ -105,28 +105,28 @@ abbrev pub applied : Operator → Value → Value → Value
 applied operators.Intersection = common
 applied operators.Subtraction = without
 
--- whether something is left, where an operand behind the operator has it or not
+-- whether an operator keeps an element, given whether the operand after it has the element
 abbrev pub kept : Operator → Bool → Bool
 kept operators.Intersection has = has
 kept operators.Subtraction has = not has
 
--- The value has what is left of these where the others are taken away.
+-- The value has the strings of the first operand that the operator keeps, given those of the others.
 pub record AreLeft (operator : Operator) (first taken : Others) (value : Value) : Type 0 where
   pub strings : value.strings ≡ filter (λ s. kept operator (is_among (strings_of taken.strings.items) s)) (strings_of first.strings.items)
   pub has_empty : value.has_empty ≡ (first.has_empty && kept operator taken.has_empty)
   pub levels : value.levels ≡ max first.levels taken.levels
 
--- The value is what is left of the first operand where these are taken away.
+-- The value has what the operator keeps of the first operand, given the others.
 pub record IsLeft (operator : Operator) (first : CodeValue) (taken : Taken) (value : Value) : Type 0 where
   pub canonical : IsCanonical first.set
   pub members : (c : ℕ) → is_member value.members c ≡ (is_member first.set c && not (is_member taken.points c))
   pub others : AreLeft operator first.others taken.others value
 
--- what a chain of operators comes to so far
+-- the value of a chain of operators so far
 abbrev pub IsChain : Chain → Value → Type 0
 IsChain chain value =
     elim chain.taken [ None ↦ IsValue chain.first value | Some taken ↦ IsLeft chain.operator chain.first taken value ]
 
--- what is read behind a bracket
+-- the result of parsing a class with the flag v
 abbrev pub IsClassSetRead : CodeClassSet → Bool × Value → Type 0
 IsClassSetRead read (negated, value) = (read.negated ≡ negated) × IsValue read.value value

@@ -1,4 +1,4 @@
-//! What stands between brackets, without the flag v.
+//! Parses classes without the flag v.
 ghost use Rattle.std.specs.Prelude.{◌≡◌, ◌+◌, ◌==◌, ◌&&◌, not, Bool, true, drop, if◌then◌else◌, Some, None, List, [], ◌∷◌, length, OnOk, IfSome, IfNone};
 ghost use Rattle.regress_base.specs.Intervals.{Bounds};
 ghost use Rattle.regress_classes.specs.ClassRows.{complement_if, atom_members, begins_range, range_of, range_at, class_part_at, class_parts_by, class_at};
@@ -19,15 +19,26 @@ use regress_lexical::fault::{Fault, FaultKind, refused};
 use regress_unicode::Tables;
 use std::alloc::{AllocError, Global};
 
-/// A class: what stands between its brackets, and whether it is inverted.
+/// A class without the flag v: the set of its members as written, and whether the class is inverted.
 #[derive(Drop)]
 pub struct Class {
     pub inverted: bool,
     pub set: CodePointSet,
 }
 
-/// Reads a class, behind its `[` (ECMA-262, CharacterClass with annex B). `opened` is how many code points were left
-/// before that.
+/// Parses a class after its `[` (ECMA-262, CharacterClass, with annex B).
+///
+/// `unicode` is the flag u, and `opened` the number of code points that remained before the `[`. Afterwards `cursor` is
+/// after the `]`.
+///
+/// # Errors
+/// - [`Fault::Refused`] if the class is not closed, or if it has an invalid escape, property or range.
+/// - [`Fault::Memory`] if an allocation fails.
+///
+/// After an error the position of `cursor` is unspecified.
+///
+/// # Complexity
+/// Linear in the number of intervals if they are written in ascending order, else O(n log n).
 pub fn read_class(
     cursor: &mut Cursor,
     tables: &Tables,
@@ -42,7 +53,7 @@ pub fn read_class(
     Ok(Class { inverted, set })
 }
 
-/// Reads the parts of a class, and the `]` behind them.
+/// Parses the parts of a class and the `]` after them.
 fn read_parts(
     cursor: &mut Cursor,
     tables: &Tables,
@@ -61,7 +72,7 @@ fn read_parts(
     Ok(gathered.into_set()?)
 }
 
-/// Reads an atom or a range, and adds what it holds.
+/// Parses an atom or a range, and adds its members.
 fn read_part(
     cursor: &mut Cursor,
     tables: &Tables,
@@ -79,7 +90,7 @@ fn read_part(
     read_any_part(cursor, tables, unicode, opened, set)
 }
 
-/// Takes a code point that stands for itself, or a range from one to another, if such a part comes next, as mostly.
+/// Consumes a literal code point, or a range of two literal code points, if one is next. Most parts are such.
 fn take_plain_part(cursor: &mut Cursor) -> Option<Interval>
     ensures some { IfSome result (λ part. (table : Table) (unicode : Bool) →
         class_part_at table unicode (source cursor.old) ≡ Some (part ∷ [], source cursor.new)) }
@@ -102,7 +113,7 @@ fn take_plain_part(cursor: &mut Cursor) -> Option<Interval>
     }
 }
 
-/// The code point at the front and what is behind it, if it stands for itself.
+/// Splits off the first code point, if it is a literal.
 fn split_plain(source: &[u32]) -> Option<(u32, &[u32])>
     ensures { IfSome result (λ found. (source.now ≡ found.0 ∷ found.1.now) × ((not (found.0 == char "]") && not (found.0 == char "\\")) ≡ true)) }
 {
@@ -110,14 +121,14 @@ fn split_plain(source: &[u32]) -> Option<(u32, &[u32])>
     is_itself(*c).then_some((*c, rest))
 }
 
-/// Whether the code point stands for itself between brackets.
+/// Returns whether the code point is a literal in a class.
 fn is_itself(c: u32) -> bool
     ensures { result ≡ (not (c == char "]") && not (c == char "\\")) }
 {
     c != u32::from(']') && c != u32::from('\\')
 }
 
-/// Reads an atom or a range of any kind, and adds what it holds.
+/// Parses an atom or a range of any kind, and adds its members.
 fn read_any_part(
     cursor: &mut Cursor,
     tables: &Tables,
@@ -138,7 +149,7 @@ fn read_any_part(
     }
 }
 
-/// Moves past a hyphen, if one comes next that may begin a range.
+/// Consumes a hyphen, if one is next that starts a range.
 fn try_consume_hyphen(cursor: &mut Cursor) -> bool
     ensures found { result ≡ begins_range (source cursor.old) }
     ensures moves { source cursor.new ≡ (if result then drop 1 (source cursor.old) else source cursor.old) }
@@ -146,7 +157,7 @@ fn try_consume_hyphen(cursor: &mut Cursor) -> bool
     begins_range(cursor.rest) && cursor.try_consume('-')
 }
 
-/// Whether a hyphen stands there that may begin a range: one that is not the last.
+/// Returns whether `source` starts with a hyphen that starts a range: one that is not before `]`.
 fn begins_range(source: &[u32]) -> bool
     ensures { result ≡ begins_range source.now }
 {
@@ -158,7 +169,8 @@ fn begins_range(source: &[u32]) -> bool
     }
 }
 
-/// Reads the last atom of a range, behind its hyphen, and adds what the range holds. `left` tells where it begins.
+/// Parses the last atom of a range after its hyphen, and adds the members of the range. `left` is the number of code
+/// points that remained at its first atom.
 fn read_range(
     cursor: &mut Cursor,
     tables: &Tables,
@@ -176,7 +188,8 @@ fn read_range(
     add_range(set, cursor.alloc, unicode, left, first, last)
 }
 
-/// Adds what two atoms with a hyphen between them hold, the first of which is where `left` tells.
+/// Adds the members of two atoms with a hyphen between them. `left` is the number of code points that remained at the
+/// first.
 fn add_range(
     set: &mut Gathered,
     alloc: Global,
@@ -208,7 +221,7 @@ fn add_range(
     Ok(())
 }
 
-/// Adds what an atom holds.
+/// Adds the members of an atom.
 fn add_atom(set: &mut Gathered, alloc: Global, atom: ClassAtom) -> Result<(), AllocError>
     requires { IsClassAtomInRange atom }
     ensures { OnOk result (Adds (atom_members (class_atom_of atom.entry)) set.old set.new) }
@@ -226,7 +239,7 @@ fn add_atom(set: &mut Gathered, alloc: Global, atom: ClassAtom) -> Result<(), Al
     }
 }
 
-/// Adds the members, or those of the complement.
+/// Adds the members of a set, or of its complement if `negated`.
 fn add_members(set: &mut Gathered, members: &CodePointSet, negated: bool) -> Result<(), AllocError>
     ensures { OnOk result (Adds (complement_if negated members.now) set.old set.new) }
 {

@@ -1,4 +1,4 @@
-//! Atoms of a class.
+//! Parses the atoms of a class without the flag v.
 ghost use Rattle.std.specs.Prelude.{◌≡◌, ◌∷◌, Some, IfOk};
 ghost use Rattle.regress_classes.specs.ClassRows.{class_atom_at, class_escape_at, class_control_at, class_property_at};
 ghost use Rattle.regress_lexical.specs.Source.{char};
@@ -23,7 +23,7 @@ use regress_unicode::Tables;
 pub enum ClassAtom<'a> {
     /// A code point.
     Point(u32),
-    /// A class by an escape, or its complement.
+    /// A class escape, or its complement.
     Class {
         kind: CharacterClassType,
         negated: bool,
@@ -35,8 +35,15 @@ pub enum ClassAtom<'a> {
     },
 }
 
-/// Reads an atom of a class (ECMA-262, ClassAtom with annex B). `opened` is how many code points were left before the
-/// `[` of the class.
+/// Parses an atom of a class (ECMA-262, ClassAtom, with annex B).
+///
+/// `unicode` is the flag u, and `opened` the number of code points that remained before the `[` of the class.
+///
+/// # Errors
+/// - [`Fault::Refused`] if the next code point is `]`, if none remains, or if an escape or a property is invalid.
+/// - [`Fault::Memory`] if an allocation fails.
+///
+/// After an error the position of `cursor` is unspecified.
 pub fn read_class_atom<'a>(
     cursor: &mut Cursor,
     tables: &'a Tables,
@@ -55,8 +62,8 @@ pub fn read_class_atom<'a>(
     }
 }
 
-/// Reads an escape, behind its backslash (ECMA-262, ClassEscape with annex B). `begin` is how many code points were
-/// left before that.
+/// Parses an escape after its backslash (ECMA-262, ClassEscape, with annex B). `begin` is the number of code points
+/// that remained before the backslash.
 fn read_escaped_atom<'a>(
     cursor: &mut Cursor,
     tables: &'a Tables,
@@ -96,7 +103,7 @@ fn read_escaped_atom<'a>(
     }
 }
 
-/// Reads a property of code points, behind `\p` or `\P`.
+/// Parses a property of code points after its `\p` or `\P`.
 fn read_class_property<'a>(
     cursor: &mut Cursor,
     tables: &'a Tables,
@@ -113,7 +120,8 @@ fn read_class_property<'a>(
     }
 }
 
-/// A letter, a digit or `_` behind `\c`, for its low five bits; else the backslash alone.
+/// Returns the atom that `\c` starts: with a letter, a digit or `_` the low five bits of its code, else a literal
+/// backslash.
 fn class_control<'a>(source: &'a [u32], rest: &'a [u32]) -> (ClassAtom<'static>, &'a [u32])
     requires { source.now ≡ char "c" ∷ rest.now }
     ensures value { Some (class_atom_of result.0, result.1.now) ≡ class_control_at rest.now }

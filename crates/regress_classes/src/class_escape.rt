@@ -1,4 +1,4 @@
-//! Classes by an escape.
+//! Sets of class escapes.
 ghost use Rattle.std.specs.Prelude.{◌≡◌, ◌++◌, ℕ, IfOk};
 ghost use Rattle.regress_base.specs.Classes.{white_space, line_terminators};
 ghost use Rattle.regress_base.specs.Intervals.{is_member, IsCanonical};
@@ -9,7 +9,7 @@ use regress_base::charclasses::{CharacterClassType, digit_intervals, word_interv
 use regress_base::codepointset::{CodePointSet, Interval};
 use std::alloc::{AllocError, Global};
 
-/// The class that a letter names behind a backslash, and whether the letter is a capital, which takes the
+/// Returns the class that a letter names after a backslash, and whether the letter is a capital, which means the
 /// complement (ECMA-262, CharacterClassEscape).
 pub fn class_letter(c: u32) -> Option<(CharacterClassType, bool)>
     ensures { result ≡ class_letter c }
@@ -25,7 +25,11 @@ pub fn class_letter(c: u32) -> Option<(CharacterClassType, bool)>
     }
 }
 
-/// The members of a class by an escape.
+/// Returns the members of the class of `\d`, `\s` or `\w`, as ECMA-262 has them without the flag i
+/// (CharacterClassEscape).
+///
+/// # Errors
+/// Returns [`AllocError`] if an allocation fails.
 pub fn class_escape_set(alloc: Global, kind: CharacterClassType) -> Result<CodePointSet, AllocError>
     ensures { IfOk result (HasMembers (members_of kind)) }
 {
@@ -36,7 +40,7 @@ pub fn class_escape_set(alloc: Global, kind: CharacterClassType) -> Result<CodeP
     }
 }
 
-/// The members of `\s`: white space and line terminators, in one list in order.
+/// Returns the members of `\s`: white space and line terminators, in order.
 fn spaces(alloc: Global) -> Result<CodePointSet, AllocError>
     ensures { IfOk result (HasMembers (white_space ++ line_terminators)) }
 {
@@ -57,7 +61,7 @@ fn spaces(alloc: Global) -> Result<CodePointSet, AllocError>
     )
 }
 
-/// The set of these intervals, copied at once.
+/// Returns the set of these intervals, in one copy.
 fn set_of(alloc: Global, intervals: &[Interval]) -> Result<CodePointSet, AllocError>
     requires { IsCanonical intervals.now }
     ensures { IfOk result (HasMembers intervals.now) }
@@ -66,7 +70,10 @@ fn set_of(alloc: Global, intervals: &[Interval]) -> Result<CodePointSet, AllocEr
     Ok(CodePointSet::from_sorted_disjoint_intervals(list))
 }
 
-/// The members of a class by an escape, or of its complement.
+/// Returns the members of a class escape, or of its complement if `negated`.
+///
+/// # Errors
+/// Returns [`AllocError`] if an allocation fails.
 pub fn class_members(
     alloc: Global,
     kind: CharacterClassType,

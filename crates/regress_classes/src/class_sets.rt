@@ -1,4 +1,4 @@
-//! Classes with the flag v.
+//! Parses classes with the flag v.
 ghost use Rattle.std.specs.Prelude.{◌≡◌, ◌<◌, ◌≤◌, length, ◌+◌, ◌-◌, ◌^◌, Bool, true, false, drop, [], ◌∷◌, if◌then◌else◌, IfOk, OnOk, OnErr};
 ghost use Rattle.regress_classes.specs.ClassSets.{Value as Written, Operand as WrittenOperand, nested, are_at, operand_at, part_behind, contents_behind, contents_at, class_set_by};
 ghost use Rattle.regress_lexical.specs.Fault.{is_limit, FailsByNoLimit, FailsByLevelsOnlyIf};
@@ -27,7 +27,7 @@ use std::alloc::AllocError;
 use union::Union;
 pub use value::Value;
 
-/// A class: what stands between its brackets, and whether it is negated.
+/// A class with the flag v: its contents as written, and whether the class is negated.
 #[derive(Drop)]
 pub struct ClassSet {
     pub negated: bool,
@@ -35,7 +35,7 @@ pub struct ClassSet {
 }
 
 impl ClassSet {
-    /// What it holds in the class around it, where a negated one is complemented.
+    /// Returns the contents as those of an operand, where a negated class is its complement.
     fn into_nested(self) -> Result<Value, AllocError>
         requires { self.value.others.levels < 2 ^ 32 - 1 }
         ensures { IfOk result (λ held. (read : Bool × Written) → IsClassSetRead self read → IsValue held (nested read)) }
@@ -49,7 +49,7 @@ impl ClassSet {
     }
 }
 
-/// What lies around operands.
+/// The context of an operand.
 #[derive(Clone, Copy)]
 struct Surroundings<'a> {
     tables: &'a Tables,
@@ -57,13 +57,13 @@ struct Surroundings<'a> {
     unicode: bool,
     /// Whether the class around is negated.
     negated: bool,
-    /// How many classes may still lie in one another.
+    /// The remaining nesting depth for classes.
     levels: u32,
-    /// How many code points were left before the `[` of the class around.
+    /// The number of code points that remained before the `[` of the class around.
     opened: usize,
 }
 
-/// `&&` or `--`.
+/// The operators `&&` and `--`.
 #[derive(Clone, Copy)]
 enum Operator {
     Intersection,
@@ -71,7 +71,7 @@ enum Operator {
 }
 
 impl Operator {
-    /// Twice this is written.
+    /// Returns the character that the operator has twice.
     fn sign(self) -> char
         ensures { result ≡ sign_of self }
     {
@@ -81,7 +81,7 @@ impl Operator {
         }
     }
 
-    /// Whether something is left, where an operand behind the operator has it or not.
+    /// Returns whether the operator keeps an element, given whether the operand after it has the element.
     fn keeps(self, has: bool) -> bool
         ensures { result ≡ kept self has }
     {
@@ -91,7 +91,7 @@ impl Operator {
         }
     }
 
-    /// The fault where something else stands behind an operand.
+    /// Returns the kind of syntax error if anything else follows an operand.
     fn unexpected(self) -> FaultKind
         ensures { is_limit result ≡ false }
     {
@@ -102,8 +102,20 @@ impl Operator {
     }
 }
 
-/// Reads a class, behind its `[` (this project's profile of ECMA-262, ClassSetExpression). No more classes may lie in
-/// one another than `levels`, so deep the calls go. `opened` is how many code points were left before the `[`.
+/// Parses a class after its `[` (dialect of ECMA-262, ClassSetExpression).
+///
+/// `unicode` is the flag u, `levels` the remaining nesting depth, the class itself included, and `opened` the number of
+/// code points that remained before the `[`. Afterwards `cursor` is after the `]`.
+///
+/// # Errors
+/// - [`Fault::Refused`] if the class is not closed, if it nests deeper than `levels`, if it is negated and has strings,
+///   or if it has an invalid operand, operator or range.
+/// - [`Fault::Memory`] if an allocation fails.
+///
+/// After an error the position of `cursor` is unspecified.
+///
+/// # Complexity
+/// The contents of a class are traversed once for each class around it. The depth of recursion is at most `levels`.
 #[cycle(class_set)]
 pub fn read_class_set(
     cursor: &mut Cursor,
@@ -134,7 +146,7 @@ pub fn read_class_set(
     Ok(ClassSet { negated, value })
 }
 
-/// Reads what a class holds, up to its `]`.
+/// Parses the contents of a class, up to its `]`.
 #[cycle(class_set)]
 fn read_contents(cursor: &mut Cursor, around: &Surroundings) -> Result<Value, Fault>
     ensures value { ReadsAs IsValue (source cursor.new) result
@@ -152,7 +164,7 @@ fn read_contents(cursor: &mut Cursor, around: &Surroundings) -> Result<Value, Fa
     read_behind(cursor, around, first, left)
 }
 
-/// Reads on behind the first operand. `left` is how many code points were left before that.
+/// Parses the contents after the first operand. `left` is the number of code points that remained before that.
 #[cycle(class_set)]
 fn read_behind(
     cursor: &mut Cursor,
@@ -183,7 +195,7 @@ fn read_behind(
     }
 }
 
-/// Moves past `c` and another `c`, if both come next.
+/// Consumes `c` and another `c`, if both are next.
 fn try_consume_both(cursor: &mut Cursor, c: char) -> bool
     ensures found { result ≡ are_at c (source cursor.old) }
     ensures moves { source cursor.new ≡ (if result then drop 2 (source cursor.old) else source cursor.old) }
@@ -195,7 +207,7 @@ fn try_consume_both(cursor: &mut Cursor, c: char) -> bool
     found
 }
 
-/// Whether `c` and another `c` come next.
+/// Returns whether `source` starts with `c` and another `c`.
 fn are_at(source: &[u32], c: char) -> bool
     ensures { result ≡ are_at c source.now }
 {
@@ -205,7 +217,7 @@ fn are_at(source: &[u32], c: char) -> bool
     }
 }
 
-/// Reads the parts up to `]`, which join what is held already.
+/// Parses the parts up to `]`, and adds their contents to `union`.
 #[cycle(class_set)]
 fn read_parts(cursor: &mut Cursor, around: &Surroundings, mut union: Union) -> Result<Value, Fault>
     ensures value { (held : Written) → IsUnion union held → ReadsAs IsValue (source cursor.new) result
@@ -224,8 +236,8 @@ fn read_parts(cursor: &mut Cursor, around: &Surroundings, mut union: Union) -> R
     Ok(union.into_value()?)
 }
 
-/// Reads on behind the first operand of a part, and adds what the part holds. A hyphen there makes a range. `left` is
-/// how many code points were left before the part.
+/// Parses the rest of a part after its first operand, and adds its contents to `union`. A hyphen makes a range. `left`
+/// is the number of code points that remained before the part.
 #[cycle(class_set)]
 fn read_part_behind(
     cursor: &mut Cursor,
@@ -252,7 +264,7 @@ fn read_part_behind(
     }
 }
 
-/// Reads the operands behind an operator, up to `]`.
+/// Parses the operands after an operator, up to `]`.
 #[cycle(class_set)]
 fn read_operands(
     cursor: &mut Cursor,
@@ -276,8 +288,8 @@ fn read_operands(
     }
 }
 
-/// Moves past an operator. The fault comes where none comes next; at the end it is that the class is not closed, before
-/// whose `[` so many code points were left.
+/// Consumes an operator. Fails if none is next; at the end of the source the error is that the class is not closed.
+/// `opened` is the number of code points that remained before the `[` of the class.
 fn consume_operator(cursor: &mut Cursor, operator: Operator, opened: usize) -> Result<(), Fault>
     ensures ok { OnOk result ((are_at (sign_of operator) (source cursor.old) ≡ true) × (source cursor.new ≡ drop 2 (source cursor.old))) }
     ensures err { OnErr result (are_at (sign_of operator) (source cursor.old) ≡ false) }
@@ -295,7 +307,7 @@ fn consume_operator(cursor: &mut Cursor, operator: Operator, opened: usize) -> R
     }
 }
 
-/// Reads an operand (this project's profile of ECMA-262, ClassSetOperand).
+/// Parses an operand (dialect of ECMA-262, ClassSetOperand).
 #[cycle(class_set)]
 fn read_operand(cursor: &mut Cursor, around: &Surroundings) -> Result<Operand, Fault>
     ensures value { ReadsAs IsOperand (source cursor.new) result

@@ -1,4 +1,4 @@
-//! What a class holds, gathered in the order in which it is written.
+//! The members of a class, collected in the order in which they are written.
 ghost use Rattle.std.specs.Prelude.{◌≡◌, ℕ, ◌+◌, ◌<◌, ◌≤◌, ◌||◌, max, [], IfOk, MatchBool, OnOk};
 ghost use Rattle.regress_base.specs.Intervals.{IsCanonical, IsInterval, is_member, is_within};
 ghost use Rattle.std.specs.List.Sorted.{IsNonDecreasingBy};
@@ -9,12 +9,12 @@ use regress_base::sets::{add_intervals, set_is_canonical};
 use std::alloc::{AllocError, Global};
 use std::marker::Model;
 
-/// Up to how many intervals are put in their place one by one where a set is there already.
+/// Fewer intervals than this are inserted into a set one by one.
 const FEW: usize = 32;
 
-/// The first set that a class names, and its intervals in the order in which they are written. They
-/// are sorted once all are there: to put each in its place would move those behind it, so that a class
-/// in descending order would take quadratic time.
+/// The first set in a class, and all other intervals in the order in which they are written. They are sorted once all
+/// are there: inserting each one in order would move those after it, so a class in descending order would take
+/// quadratic time.
 #[derive(Drop)]
 pub(crate) struct Gathered {
     set: CodePointSet,
@@ -31,7 +31,7 @@ impl Model for Gathered {
 }
 
 impl Gathered {
-    /// Nothing.
+    /// Returns an empty collection.
     pub(crate) fn new(alloc: Global) -> Gathered
         ensures { result ≡ [] }
     {
@@ -61,7 +61,7 @@ impl Gathered {
         Ok(())
     }
 
-    /// Adds the members of a set, which is taken as it is where nothing is there yet.
+    /// Adds the members of a set. The first set is taken as it is.
     pub(crate) fn add_set(&mut self, set: CodePointSet) -> Result<(), AllocError>
         ensures { OnOk result ((c : ℕ) →
             is_member self.new c ≡ (is_member self.old c || is_member set c)) }
@@ -73,7 +73,7 @@ impl Gathered {
         self.add_all(set.intervals())
     }
 
-    /// The set of all of them. Linear where they ascend, else n log n.
+    /// Returns the set of all members, in linear time if the intervals ascend, else in O(n log n).
     pub(crate) fn into_set(self) -> Result<CodePointSet, AllocError>
         ensures { IfOk result (HasMembers self) }
     {
@@ -92,7 +92,7 @@ impl Gathered {
     }
 }
 
-/// The set of intervals in any order. It moves them in place.
+/// Returns the set of intervals in any order, sorted in place.
 fn set_of_written(list: Vec<Interval>) -> CodePointSet
     ensures { HasMembers list.items result }
 {
@@ -105,7 +105,7 @@ fn set_of_written(list: Vec<Interval>) -> CodePointSet
     CodePointSet::from_sorted_disjoint_intervals(list)
 }
 
-/// Joins the intervals between which no code point lies. It moves them in place.
+/// Merges intervals with no code point between them, in place.
 fn join_neighbours(list: &mut Vec<Interval>)
     requires { IsNonDecreasingBy (λ interval. interval.first) list.old.items }
     ensures members { (c : ℕ) → is_member list.new.items c ≡ is_member list.old.items c }
@@ -118,15 +118,15 @@ fn join_neighbours(list: &mut Vec<Interval>)
     list.dedup_by(|next, last| reach(last, *next));
 }
 
-/// What the type of an interval says of it, for a proof that needs it. It does nothing else.
+/// States the bounds of an interval for a proof that needs them. Does nothing else.
 fn is_interval(interval: Interval)
     ensures { IsInterval interval }
 {
     let _ = interval.first();
 }
 
-/// Lets the interval reach to the end of the next one, which begins no earlier, if no code point lies
-/// between the two. Answers whether that is so.
+/// Extends `last` to the end of `next`, which starts no earlier, if no code point is between the two. Returns whether
+/// it did.
 fn reach(last: &mut Interval, next: Interval) -> bool
     ensures intervals { IsInterval last.old × IsInterval next }
     ensures reached { MatchBool result

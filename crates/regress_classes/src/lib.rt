@@ -1,4 +1,4 @@
-//! Classes: by an escape, by a property, and between brackets, without the flag v and with it.
+//! Parses classes: class escapes, properties, and classes in brackets without and with the flag v.
 #![tactic(auto)]
 
 pub mod class;

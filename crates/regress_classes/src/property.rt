@@ -1,4 +1,4 @@
-//! Properties by a name.
+//! Parses properties by name.
 ghost use Rattle.std.specs.Prelude.{◌≡◌, ◌==◌, ◌||◌, true, [], ◌∷◌, string_bytes, option_map, IfOk, IfSome, IfNone};
 ghost use Rattle.regress_lexical.specs.Digits.{front};
 ghost use Rattle.regress_classes.specs.Properties.{is_property_character, lone_value, list_named, value_in, closed_property, property_word_at, braced_property_at, property_at};
@@ -15,27 +15,35 @@ use regress_lexical::fault::{Fault, FaultKind, refused};
 use regress_unicode::Tables;
 use std::alloc::AllocError;
 
-/// Room for nearly all names of Unicode, so that a word seldom grows.
+/// The capacity for a word: nearly all names of Unicode fit, so a word seldom grows.
 const WORD_ROOM: usize = 32;
 
-/// What a name stands for.
+/// The property that a name denotes.
 #[derive(Clone, Copy)]
 pub enum Property<'a> {
-    /// Code points.
+    /// A property of code points.
     Points(&'a CodePointSet),
-    /// Strings, which the flag v allows.
+    /// A property of strings, which needs the flag v.
     Strings(&'a [Vec<u32>]),
 }
 
-/// The letter behind the backslash of a property, or of its complement.
+/// Returns whether `c` is `p` or `P`, with which a property starts after its backslash.
 pub fn is_property_letter(c: u32) -> bool
     ensures { result ≡ (c == 112 || c == 80) }
 {
     c == u32::from('p') || c == u32::from('P')
 }
 
-/// Reads a property, behind `\p` or `\P` (ECMA-262, UnicodePropertyValueExpression); `sets` is the flag v. The fault
-/// comes where no brace follows, where what is in braces is no name of the table, or where they aren't closed.
+/// Parses a property after its `\p` or `\P` (ECMA-262, UnicodePropertyValueExpression).
+///
+/// `sets` is the flag v, with which properties of strings are allowed. Names are looked up in `tables`. Afterwards
+/// `cursor` is after the `}`.
+///
+/// # Errors
+/// - [`Fault::Refused`] if no `{` follows, if the braces are not closed, or if `tables` has no property of that name.
+/// - [`Fault::Memory`] if an allocation fails.
+///
+/// After an error the position of `cursor` is unspecified.
 #[tactic(auto, unfolding(crate::specs::Properties::property_at))]
 pub fn read_property<'a>(
     cursor: &mut Cursor,
@@ -55,7 +63,7 @@ pub fn read_property<'a>(
     }
 }
 
-/// Reads what stands between the braces, and looks it up.
+/// Parses the text between the braces, and looks it up.
 fn read_braced<'a>(
     cursor: &mut Cursor,
     sets: bool,
@@ -76,7 +84,7 @@ fn read_braced<'a>(
     Ok(listed_value(tables, &word, &value))
 }
 
-/// Reads the letters, digits and low lines at the front, if there are any.
+/// Parses the letters, digits and low lines at the start, if there are any.
 fn read_word(cursor: &mut Cursor) -> Result<Option<String>, AllocError>
     ensures { IfOk result (λ word. option_map (λ word. (string_bytes word, source cursor.new)) word ≡ property_word_at (source cursor.old)) }
 {
@@ -91,7 +99,7 @@ fn read_word(cursor: &mut Cursor) -> Result<Option<String>, AllocError>
     Ok(Some(word))
 }
 
-/// The letter, digit or low line at the front, and the text behind it.
+/// Splits off the first character, if it is a letter, a digit or a low line.
 #[tactic(auto, unfolding(regress_lexical::specs::Digits::front))]
 fn property_character<'a>(text: &'a [u32]) -> Read<'a, char>
     ensures some { IfSome result (λ found. (text.now ≡ found.0 ∷ found.1.now) × (is_property_character found.0 ≡ true)) }
@@ -104,14 +112,14 @@ fn property_character<'a>(text: &'a [u32]) -> Read<'a, char>
     Some((char::from_u32(*c)?, rest))
 }
 
-/// A letter, a digit or a low line.
+/// Returns whether `c` is a letter, a digit or a low line.
 fn is_property_character(c: u32) -> bool
     ensures { result ≡ is_property_character c }
 {
     is_letter(c) || is_decimal(c) || c == u32::from('_')
 }
 
-/// The value of a binary property, with the flag v of strings, or of a general category.
+/// Looks up a binary property, with the flag v one of strings, or a general category.
 fn lone_value<'a>(sets: bool, tables: &'a Tables, name: &str) -> Option<Property<'a>>
     ensures { option_map property_of result ≡ lone_value sets (table_of tables.now) name.now }
 {
@@ -124,7 +132,7 @@ fn lone_value<'a>(sets: bool, tables: &'a Tables, name: &str) -> Option<Property
     tables.general_category(name).map(Property::Points)
 }
 
-/// The value in the list of that name.
+/// Looks up the value in the list with this name.
 fn listed_value<'a>(tables: &'a Tables, list: &str, value: &str) -> Option<Property<'a>>
     ensures { option_map property_of result ≡ value_in value.now (list_named (table_of tables.now) list.now) }
 {

@@ -1,4 +1,4 @@
-//! Parts with the room that they take.
+//! Parts of a diagram with their extents.
 
 use crate::diagram::{BoxKind, Diagram, FrameKind, NO_ROOM, Room, Shape, Turns, clear};
 use crate::labels::Label;
@@ -6,7 +6,7 @@ use crate::style::{GAP, HALF, NOTE, PADDING, RADIUS, text_width};
 use crate::symbols::columns;
 use std::alloc::{AllocError, Global};
 
-/// A box with a label.
+/// Returns a box with a label.
 pub(crate) fn boxed(kind: BoxKind, label: Label) -> Diagram {
     let room = Room {
         width: text_width(label.columns()).saturating_add(2 * PADDING),
@@ -16,7 +16,7 @@ pub(crate) fn boxed(kind: BoxKind, label: Label) -> Diagram {
     Diagram::new(Shape::Boxed { kind, label }, room)
 }
 
-/// A box of characters that are matched as they stand, or in either case.
+/// Returns a box of literal characters, matched exactly or in either case.
 pub(crate) fn literal(text: String, either_case: bool) -> Diagram {
     let label = Label {
         front: "",
@@ -26,7 +26,7 @@ pub(crate) fn literal(text: String, either_case: bool) -> Diagram {
     boxed(BoxKind::Literal, label)
 }
 
-/// A box for a set, if that has anything.
+/// Returns a box for a set; an empty set has a box for what never matches.
 pub(crate) fn set_box(alloc: Global, label: Option<Label>) -> Diagram {
     match label {
         Some(label) => boxed(BoxKind::Set, label),
@@ -34,7 +34,7 @@ pub(crate) fn set_box(alloc: Global, label: Option<Label>) -> Diagram {
     }
 }
 
-/// How far a track lies below the one above it.
+/// Returns the distance between the baselines of two branches, one below the other.
 pub(crate) fn track_step(upper: Room, lower: Room) -> u32 {
     upper
         .below
@@ -43,7 +43,7 @@ pub(crate) fn track_step(upper: Room, lower: Room) -> u32 {
         .max(2 * RADIUS)
 }
 
-/// Parts of which one is taken, with a turn down and one back at each side.
+/// Returns alternative branches, joined by a fork at each side.
 pub(crate) fn tracks(tracks: Vec<Diagram>) -> Diagram {
     let mut room = NO_ROOM;
     let mut last = NO_ROOM;
@@ -62,7 +62,7 @@ pub(crate) fn tracks(tracks: Vec<Diagram>) -> Diagram {
     Diagram::new(Shape::Tracks(tracks), room)
 }
 
-/// A loop, with a turn at each side.
+/// Returns a loop around a body, with room for its lines at each side.
 pub(crate) fn turning(alloc: Global, turns: Turns, body: Diagram) -> Result<Diagram, AllocError> {
     let mut room = body.room;
     let label = text_width(columns(&turns.label));
@@ -80,7 +80,7 @@ pub(crate) fn turning(alloc: Global, turns: Turns, body: Diagram) -> Result<Diag
     Ok(Diagram::new(Shape::Loop { turns, body }, room))
 }
 
-/// A frame, with its label at the top.
+/// Returns a frame around a body, with its label at the top.
 pub(crate) fn framed(
     alloc: Global,
     kind: FrameKind,

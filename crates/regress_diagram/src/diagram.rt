@@ -1,9 +1,9 @@
-//! What is drawn: parts in one another, each with the room that it takes.
+//! Diagrams: nested parts, each with its extent.
 
 use crate::labels::Label;
 use crate::style::{END, GAP, RADIUS};
 
-/// A place, in user units from the upper left corner. Sums stop at `u32::MAX`, and differences at 0.
+/// A point, in user units from the upper left corner. Sums saturate at `u32::MAX`, and differences at 0.
 #[derive(Clone, Copy)]
 pub(crate) struct Place {
     pub(crate) x: u32,
@@ -32,17 +32,17 @@ impl Place {
     }
 }
 
-/// The room of a part. Its line comes in at the left and goes out at the right, in the same row.
+/// The extent of a part. The connecting line enters at the left and leaves at the right, at the height of the baseline.
 #[derive(Clone, Copy)]
 pub(crate) struct Room {
     pub(crate) width: u32,
-    /// The height above that row.
+    /// The height above the baseline.
     pub(crate) above: u32,
-    /// The height below it.
+    /// The height below the baseline.
     pub(crate) below: u32,
 }
 
-/// The room of a line alone.
+/// The extent of a bare line.
 pub(crate) const NO_ROOM: Room = Room {
     width: 0,
     above: 0,
@@ -55,53 +55,53 @@ impl Room {
     }
 }
 
-/// How far a line with turns lies from the row of a part that it clears.
+/// Returns how far from the baseline a line with rounded corners passes a part of that height.
 pub(crate) fn clear(height: u32) -> u32 {
     height.saturating_add(GAP).max(2 * RADIUS)
 }
 
-/// What kind of thing stands in a box.
+/// The kind of a box.
 #[derive(Clone, Copy)]
 pub(crate) enum BoxKind {
-    /// Characters that are matched as they stand.
+    /// Literal characters.
     Literal,
-    /// One character of several, or one string.
+    /// One character of a set, or one string.
     Set,
-    /// A place between characters.
+    /// A position between characters: an anchor or a word boundary.
     Position,
-    /// What a group has captured.
+    /// A backreference.
     Reference,
-    /// Nothing that can be matched.
+    /// Something that never matches.
     Never,
 }
 
-/// What a frame stands for.
+/// The kind of a frame.
 #[derive(Clone, Copy)]
 pub(crate) enum FrameKind {
     Group,
-    /// What has to be there, and isn't taken.
+    /// A lookaround: it has to match, and consumes nothing.
     Around,
-    /// What must not be there.
+    /// A negated lookaround: it must not match.
     Without,
 }
 
-/// The turns of a loop, as they are drawn.
+/// The lines of a loop.
 #[derive(Drop)]
 pub(crate) struct Turns {
-    /// Whether a line goes back below.
+    /// Whether a line leads back below, for further iterations.
     pub(crate) again: bool,
-    /// Whether a line goes by above.
+    /// Whether a line bypasses the body above.
     pub(crate) none: bool,
-    /// What is written below.
+    /// The label below.
     pub(crate) label: String,
 }
 
-/// A part of the picture.
+/// A part of a diagram.
 #[derive(Drop)]
 #[cycle(diagram)]
 pub(crate) struct Diagram {
     pub(crate) shape: Shape,
-    /// The part of the pattern as it was written, if that is known.
+    /// The source text of the part, if it is known.
     pub(crate) title: Option<String>,
     pub(crate) room: Room,
 }
@@ -109,19 +109,19 @@ pub(crate) struct Diagram {
 #[derive(Drop)]
 #[cycle(diagram)]
 pub(crate) enum Shape {
-    /// The line alone.
+    /// A bare line.
     Line,
-    /// The end of the line.
+    /// The end of the pattern.
     End,
     Boxed {
         kind: BoxKind,
         label: Label,
     },
-    /// Parts one after the other.
+    /// A sequence of parts.
     Row(Vec<Diagram>),
-    /// A row that goes on in further ones below.
+    /// A sequence that is wrapped into several lines.
     Rows(Vec<Diagram>),
-    /// Parts of which one is taken.
+    /// Alternative branches.
     Tracks(Vec<Diagram>),
     Loop {
         turns: Turns,
@@ -156,7 +156,7 @@ impl Diagram {
         Diagram::new(Shape::End, room)
     }
 
-    /// Whether it is a row behind which nothing comes.
+    /// Returns whether this is a sequence that ends with the end of the pattern.
     pub(crate) fn ends_the_line(&self) -> bool {
         match &self.shape {
             Shape::Row(parts) => parts

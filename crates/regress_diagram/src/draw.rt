@@ -1,4 +1,4 @@
-//! From what is drawn to a sheet.
+//! Draws a diagram on a sheet.
 ghost use Rattle.std.specs.Prelude.{◌≡◌, OnOk};
 
 use crate::boxes::track_step;
@@ -9,7 +9,7 @@ use crate::style::{GAP, RADIUS};
 use crate::ways::{Drawn, draw_branch, draw_fork, draw_line, draw_way_back, draw_way_up};
 use regress_markup::{Element, Sheet};
 
-/// Draws a part whose line comes in at a place.
+/// Draws a part whose connecting line enters at a point.
 #[cycle(draw)]
 pub(crate) fn draw(diagram: &Diagram, at: Place, sheet: &mut Sheet) -> Drawn
     ensures { OnOk result (sheet.new.depth ≡ sheet.old.depth) }
@@ -51,7 +51,7 @@ fn draw_loop(turns: &Turns, body: &Diagram, room: Room, at: Place, sheet: &mut S
     draw(body, middle(body.room.width, room, at), sheet)
 }
 
-/// Draws parts with lines between.
+/// Draws a sequence of parts, connected by lines.
 #[cycle(draw)]
 fn draw_row(parts: &[Diagram], at: Place, sheet: &mut Sheet) -> Drawn
     ensures { OnOk result (sheet.new.depth ≡ sheet.old.depth) }
@@ -68,7 +68,7 @@ fn draw_row(parts: &[Diagram], at: Place, sheet: &mut Sheet) -> Drawn
     Ok(())
 }
 
-/// Draws rows, and the ways from one to the next.
+/// Draws the lines of a wrapped sequence, and the connections between them.
 #[cycle(draw)]
 fn draw_rows(rows: &[Diagram], room: Room, at: Place, sheet: &mut Sheet) -> Drawn
     ensures { OnOk result (sheet.new.depth ≡ sheet.old.depth) }
@@ -94,7 +94,7 @@ fn draw_rows(rows: &[Diagram], room: Room, at: Place, sheet: &mut Sheet) -> Draw
     Ok(())
 }
 
-/// Draws tracks, the first one on the line.
+/// Draws alternative branches, the first one on the baseline.
 #[cycle(draw)]
 fn draw_tracks(tracks: &[Diagram], room: Room, at: Place, sheet: &mut Sheet) -> Drawn
     ensures { OnOk result (sheet.new.depth ≡ sheet.old.depth) }

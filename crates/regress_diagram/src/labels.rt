@@ -1,10 +1,10 @@
-//! What is written in boxes, on frames and below loops.
+//! Labels of boxes, frames and loops.
 
 use crate::symbols::columns;
 use regress_base::types::{AnchorType, Quantifier};
 use std::alloc::{AllocError, Global};
 
-/// What is written in a box: words in front, what the pattern has, and words behind.
+/// The label of a box: words before, a text from the pattern, and words after.
 #[derive(Drop)]
 pub(crate) struct Label {
     pub(crate) front: &'static str,
@@ -13,7 +13,7 @@ pub(crate) struct Label {
 }
 
 impl Label {
-    /// Words alone.
+    /// Returns a label of words only.
     pub(crate) fn words(alloc: Global, words: &'static str) -> Label {
         Label {
             front: words,
@@ -22,17 +22,17 @@ impl Label {
         }
     }
 
-    /// The column at which the text begins.
+    /// Returns the column at which the text begins.
     pub(crate) fn text_column(&self) -> u32 {
         column_behind(self.front)
     }
 
-    /// The column at which the words behind begin.
+    /// Returns the column at which the words after the text begin.
     pub(crate) fn behind_column(&self) -> u32 {
         self.text_column().saturating_add(column_behind(&self.text))
     }
 
-    /// How many columns it takes.
+    /// Returns the width in columns.
     pub(crate) fn columns(&self) -> u32 {
         self.behind_column()
             .saturating_add(column_behind(self.behind))
@@ -40,7 +40,7 @@ impl Label {
     }
 }
 
-/// The column behind a text and a space, or the first one where there is no text.
+/// Returns the column after a text and a space, or the first column if the text is empty.
 fn column_behind(text: &str) -> u32 {
     if text.is_empty() {
         0
@@ -67,7 +67,7 @@ pub(crate) fn lookaround_words(negate: bool, backwards: bool) -> &'static str {
     }
 }
 
-/// A group, counted from 1, with its name between quotation marks.
+/// Returns the label of a group, numbered from 1, with its quoted name.
 pub(crate) fn group_text(
     alloc: Global,
     front: &str,
@@ -80,7 +80,7 @@ pub(crate) fn group_text(
     }
 }
 
-/// How many turns a loop takes, and whether it takes few first. It is empty where the lines tell that.
+/// Returns how many iterations a loop takes, and whether it is lazy. The label is empty if the lines show that.
 pub(crate) fn turns_text(alloc: Global, quant: &Quantifier) -> Result<String, AllocError> {
     let mut text = times(alloc, quant.min, quant.max)?;
     if !quant.greedy && quant.max != Some(quant.min) {

@@ -1,4 +1,4 @@
-//! From a tree to what is drawn.
+//! Lays out a tree as a diagram.
 
 use crate::boxes::{boxed, framed, set_box, tracks, turning};
 use crate::diagram::{BoxKind, Diagram, FrameKind, Turns};
@@ -15,19 +15,19 @@ use regress_tree::ir::Node;
 use std::alloc::{AllocError, Global};
 use std::{mem, slice};
 
-/// What is known where a node is laid out.
+/// The context in which a node is laid out.
 #[derive(Drop)]
 struct Setting<'a> {
     alloc: Global,
     names: &'a [Option<String>],
     pattern: &'a [u32],
-    /// The spans of the nodes to come, in postorder.
+    /// The spans of the remaining nodes, in postorder.
     spans: slice::Iter<'a, Span>,
-    /// Whether it stands in a lookbehind, where the parts of a `Cat` stand turned.
+    /// Whether the node is inside a lookbehind, where the parts of a `Cat` are reversed.
     turned: bool,
 }
 
-/// What is drawn of a tree.
+/// Lays out a tree.
 pub(crate) fn layout(
     alloc: Global,
     node: &Node,
@@ -46,7 +46,7 @@ pub(crate) fn layout(
     lay_out(node, &mut setting)
 }
 
-/// What is drawn of a node.
+/// Lays out a node.
 #[cycle(lay_out)]
 fn lay_out(node: &Node, setting: &mut Setting<'_>) -> Result<Diagram, AllocError> {
     let mut pieces = Vec::new(setting.alloc);
@@ -64,7 +64,7 @@ fn lay_out(node: &Node, setting: &mut Setting<'_>) -> Result<Diagram, AllocError
 /// Pieces with their spans, in the order of the tree.
 type Pieces = Vec<(Piece, Option<Span>)>;
 
-/// Adds what is drawn of a node.
+/// Adds the piece of a node.
 #[cycle(lay_out)]
 fn add(node: &Node, setting: &mut Setting<'_>, pieces: &mut Pieces) -> Result<(), AllocError> {
     if let Node::Cat(parts) = node {
@@ -80,7 +80,7 @@ fn add(node: &Node, setting: &mut Setting<'_>, pieces: &mut Pieces) -> Result<()
     Ok(())
 }
 
-/// What is drawn of a node, but for a `Cat`.
+/// Returns the piece of a node that is not a `Cat`.
 #[cycle(lay_out)]
 fn piece(node: &Node, setting: &mut Setting<'_>) -> Result<Option<Piece>, AllocError> {
     let alloc = setting.alloc;
@@ -111,7 +111,7 @@ fn piece(node: &Node, setting: &mut Setting<'_>) -> Result<Option<Piece>, AllocE
     Ok(Some(Piece::Part(part)))
 }
 
-/// What is drawn of alternatives. Right sides take no stack: there may be as many levels as alternatives.
+/// Lays out alternatives. It iterates over right sides: there may be as many nested ones as alternatives.
 #[cycle(lay_out)]
 fn lay_out_tracks(node: &Node, setting: &mut Setting<'_>) -> Result<Diagram, AllocError> {
     let Node::Alt(left, right) = node else {
@@ -132,7 +132,7 @@ fn lay_out_tracks(node: &Node, setting: &mut Setting<'_>) -> Result<Diagram, All
     Ok(tracks(all))
 }
 
-/// How the turns of a loop are drawn.
+/// Returns the lines of a loop.
 fn turns(alloc: Global, quant: &Quantifier) -> Result<Turns, AllocError> {
     let again = match quant.max {
         Some(max) => max > 1,
@@ -158,7 +158,7 @@ fn lookaround(
     framed(alloc, kind, label, body)
 }
 
-/// What is drawn of a node that holds no other.
+/// Returns the piece of a leaf.
 fn leaf(node: &Node, setting: &Setting<'_>) -> Result<Option<Piece>, AllocError> {
     let alloc = setting.alloc;
     Ok(Some(match node {
@@ -196,7 +196,7 @@ fn leaf(node: &Node, setting: &Setting<'_>) -> Result<Option<Piece>, AllocError>
     }))
 }
 
-/// A box with words alone.
+/// Returns a box of words only.
 fn words(alloc: Global, kind: BoxKind, words: &'static str) -> Piece {
     Piece::Part(boxed(kind, Label::words(alloc, words)))
 }
@@ -214,7 +214,7 @@ fn reference(group: u32, icase: bool, setting: &Setting<'_>) -> Result<Diagram, 
     Ok(boxed(BoxKind::Reference, label))
 }
 
-/// What is drawn of the characters of a set, or of those that it lacks. A set of one is that character.
+/// Returns the piece of a set or, if `negated`, of its complement. A set of one character is that character.
 fn set(alloc: Global, negated: bool, set: CodePointSet) -> Result<Piece, AllocError> {
     if !negated && let Some(character) = only_character(set.intervals()) {
         return Ok(Piece::Character(character));

@@ -1,19 +1,19 @@
-//! Lists in boxes, which are cut where they are long.
+//! Lists inside boxes, which are cut off when they are long.
 
 use crate::symbols::columns;
 use std::alloc::{AllocError, Global};
 
-/// How many columns a list has, but for what is said of the rest.
+/// The maximum width of a list in columns, without the note about omitted items.
 const LIST_COLUMNS: u32 = 44;
 
-/// A list with spaces between its items. Behind an item that has no room none is written.
+/// A list of items, separated by spaces. After the first item that does not fit, none is written.
 #[derive(Drop)]
 pub(crate) struct Listing {
     text: String,
     columns: u32,
-    /// How many items are written.
+    /// The number of items written.
     written: usize,
-    /// How many have no room.
+    /// The number of items that do not fit.
     left_out: usize,
 }
 
@@ -27,7 +27,7 @@ impl Listing {
         }
     }
 
-    /// Adds an item. The first one has room always.
+    /// Adds an item. The first one always fits.
     pub(crate) fn push(&mut self, item: &str) -> Result<(), AllocError> {
         let wider = self.columns.saturating_add(columns(item)).saturating_add(1);
         if self.left_out > 0 || (self.written > 0 && wider > LIST_COLUMNS) {
@@ -42,12 +42,12 @@ impl Listing {
         self.text.push_str(item)
     }
 
-    /// Whether it has one item.
+    /// Returns whether the list has one item.
     pub(crate) fn is_single(&self) -> bool {
         self.written == 1 && self.left_out == 0
     }
 
-    /// The text, which says how many items are left out.
+    /// Returns the text, with the number of omitted items.
     pub(crate) fn finish(self, alloc: Global) -> Result<String, AllocError> {
         let left_out = self.left_out;
         let mut text = self.text;

@@ -1,4 +1,4 @@
-//! The names of groups by their numbers, as they are written.
+//! The names of groups by their ids, as they are displayed.
 
 use crate::symbols::quoted;
 use regress_base::types::CaptureGroupID;
@@ -7,12 +7,12 @@ use regress_tree::ir::Node;
 use regress_tree::ir::held::body;
 use std::alloc::{AllocError, Global};
 
-/// The name of each group that has one, between quotation marks and cut where it is long, at its id.
+/// The name of each named group at its id, quoted, and cut off if it is long.
 pub(crate) type Names = Vec<Option<String>>;
 
-/// Notes the names of the groups in a tree.
+/// Collects the names of the groups in a tree.
 ///
-/// It goes down the right sides of alternatives in a loop: there may be as many levels as alternatives.
+/// It iterates over the right sides of alternatives: there may be as many nested ones as alternatives.
 #[cycle(gather)]
 pub(crate) fn gather(alloc: Global, node: &Node, names: &mut Names) -> Result<(), AllocError> {
     let mut node = node;
@@ -42,7 +42,7 @@ fn gather_all(alloc: Global, parts: &[Node], names: &mut Names) -> Result<(), Al
     Ok(())
 }
 
-/// Notes the name of a node, if it is a group with a name.
+/// Records the name of a node, if it is a named group.
 fn note(alloc: Global, node: &Node, names: &mut Names) -> Result<(), AllocError> {
     if let Node::CaptureGroup {
         id,
@@ -66,7 +66,7 @@ fn put(id: CaptureGroupID, name: String, names: &mut Names) -> Result<(), AllocE
     Ok(())
 }
 
-/// The name of a group that is counted from 1.
+/// Returns the name of a group numbered from 1.
 pub(crate) fn name_of(group: u32, names: &[Option<String>]) -> Option<&String> {
     if group == 0 {
         return None;

@@ -1,4 +1,4 @@
-//! What is drawn of one part, without those in it.
+//! Draws single parts, without their bodies.
 ghost use Rattle.std.specs.Prelude.{◌≡◌, OnOk};
 
 use crate::diagram::{BoxKind, FrameKind, Place, Room, Turns, clear};
@@ -37,7 +37,7 @@ fn draw_rectangle(class: &str, radius: u32, room: Room, at: Place, sheet: &mut S
     })
 }
 
-/// Draws a mark of a line.
+/// Draws a circle on the connecting line.
 pub(crate) fn draw_circle(class: &str, radius: u32, middle: Place, sheet: &mut Sheet) -> Drawn
     ensures { OnOk result (sheet.new.depth ≡ sheet.old.depth) }
 {
@@ -50,7 +50,7 @@ pub(crate) fn draw_circle(class: &str, radius: u32, middle: Place, sheet: &mut S
     })
 }
 
-/// Draws the end of the line, a ring with a dot in it.
+/// Draws the end of the pattern, a ring with a dot in it.
 pub(crate) fn draw_end(at: Place, sheet: &mut Sheet) -> Drawn
     ensures { OnOk result (sheet.new.depth ≡ sheet.old.depth) }
 {
@@ -58,7 +58,7 @@ pub(crate) fn draw_end(at: Place, sheet: &mut Sheet) -> Drawn
     draw_circle("mark", END - 3, at.right(END), sheet)
 }
 
-/// Names the group that is open, as the first that is drawn in it.
+/// Titles the open group; it has to be the first element in it.
 fn draw_title(title: Option<&String>, sheet: &mut Sheet) -> Drawn
     ensures { OnOk result (sheet.new.depth ≡ sheet.old.depth) }
 {
@@ -103,7 +103,8 @@ fn draw_label(label: &Label, at: Place, sheet: &mut Sheet) -> Drawn
     draw_text("word", label.behind, behind, sheet)
 }
 
-/// Draws a frame and its label, as the first of a group, which it names: by what was written, or else by what it means.
+/// Draws a frame and its label at the start of a group, and titles the group: with the source text, or else with the
+/// frame's meaning.
 pub(crate) fn draw_frame(
     kind: FrameKind,
     label: &str,
@@ -129,7 +130,7 @@ pub(crate) fn draw_frame(
     draw_text("small", label, place, sheet)
 }
 
-/// Draws the line at both sides of what stands in the middle of a room.
+/// Draws the connecting lines at both sides of a body that is centred in an extent.
 pub(crate) fn draw_sides(body: Room, room: Room, at: Place, sheet: &mut Sheet) -> Drawn
     ensures { OnOk result (sheet.new.depth ≡ sheet.old.depth) }
 {
@@ -138,12 +139,12 @@ pub(crate) fn draw_sides(body: Room, room: Room, at: Place, sheet: &mut Sheet) -
     draw_line(start.right(body.width), at.right(room.width), sheet)
 }
 
-/// Where what is so wide begins in the middle of a room.
+/// Returns where something of that width begins if it is centred in an extent.
 pub(crate) fn middle(width: u32, room: Room, at: Place) -> Place {
     at.right(room.width.saturating_sub(width) / 2)
 }
 
-/// Draws the lines of a loop above and below its body, and what is written there.
+/// Draws the lines of a loop above and below its body, and its label.
 pub(crate) fn draw_turns(
     turns: &Turns,
     body: Room,

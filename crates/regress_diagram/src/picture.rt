@@ -1,4 +1,4 @@
-//! The picture of a pattern.
+//! Diagrams of patterns as SVG documents.
 ghost use Rattle.std.specs.Prelude.{◌≡◌, IfOk, OnOk, string_bytes};
 ghost use Rattle.regress_markup.specs.Markup.{IsDocument};
 
@@ -13,23 +13,37 @@ use regress_spans::Span;
 use regress_tree::ir::Regex;
 use std::alloc::{AllocError, Global};
 
-/// A railroad diagram of a pattern, as a document of SVG 1.1 with a style sheet of its own and no reference to another
-/// file. It is read from left to right: what stands in a row is matched one after the other, and of tracks one above the
-/// other one is taken. Lines that turn back are further turns of a loop, and lines above a box go by it. Names of groups and
-/// characters of the pattern stand as text, those that can't be seen by their numbers, as `U+000A`. A set that is long is
-/// cut, and says so. The error stands for want of memory.
+/// Returns a railroad diagram of a pattern, as an SVG 1.1 document with its own style sheet and without references to
+/// other files.
 ///
-/// Time and memory grow as the tree does. Right sides of alternatives take no stack: only left sides and what lies in other
-/// nodes do.
+/// The diagram reads from left to right: the parts of a sequence are matched in order, and of branches one above the
+/// other one is taken. Lines that lead back are further iterations of a loop, and lines above a box bypass it. Names of
+/// groups and characters of the pattern are text; invisible characters are shown by their numbers, as `U+000A`. A long
+/// set is cut off, with the number of omitted items. Parts of a lookbehind are in the order of the pattern.
+///
+/// # Errors
+/// Returns [`AllocError`] if an allocation fails. `regex` is only read.
+///
+/// # Complexity
+/// Time and memory are linear in the size of the tree. The depth of recursion is the nesting depth; right sides of
+/// alternatives take no stack.
 pub fn svg(alloc: Global, regex: &Regex) -> Result<String, AllocError>
     ensures { IfOk result (λ text. IsDocument (string_bytes text)) }
 {
     svg_with_titles(alloc, regex, &[], &[])
 }
 
-/// The same of a parsed tree, with titles: who points at a box, a frame or a loop sees that part of the pattern as it was
-/// written, up to 60 code points. `pattern` is what was parsed, and `spans` are those of `try_parse_with_spans`. What has no
-/// span, or one that doesn't lie in the pattern, has no such title.
+/// Returns the diagram of [`svg`] for a parsed tree, with titles: pointing at a box, a frame or a loop shows the part
+/// of the pattern that it came from, up to 60 code points.
+///
+/// `pattern` is the parsed pattern as code points, and `spans` are the spans that `try_parse_with_spans` returns for
+/// it. A node without a span, or with one that is not inside the pattern, has no such title.
+///
+/// # Errors
+/// Returns [`AllocError`] if an allocation fails. The arguments are only read.
+///
+/// # Complexity
+/// As [`svg`].
 pub fn svg_with_titles(
     alloc: Global,
     regex: &Regex,
@@ -56,7 +70,7 @@ pub fn svg_with_titles(
     sheet.finish()
 }
 
-/// Draws what lies below everything, and what is told of the whole.
+/// Draws the background, and the title and description of the whole.
 fn draw_paper(width: u32, height: u32, sheet: &mut Sheet) -> Drawn
     ensures { OnOk result (sheet.new.depth ≡ sheet.old.depth) }
 {
@@ -76,7 +90,7 @@ fn draw_paper(width: u32, height: u32, sheet: &mut Sheet) -> Drawn
     })
 }
 
-/// Draws the start of the line, and the diagram behind it.
+/// Draws the start of the line, and the diagram after it.
 fn draw_whole(diagram: &Diagram, start: Place, sheet: &mut Sheet) -> Drawn
     ensures { OnOk result (sheet.new.depth ≡ sheet.old.depth) }
 {

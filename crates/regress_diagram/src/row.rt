@@ -1,4 +1,4 @@
-//! Parts one after the other, as they are put together.
+//! Assembles sequences of parts.
 
 use crate::boxes::literal;
 use crate::diagram::{Diagram, NO_ROOM, Room, Shape, clear};
@@ -10,10 +10,10 @@ use regress_spans::Span;
 use std::alloc::{AllocError, Global};
 use std::mem;
 
-/// How many columns a box of characters has. What is longer goes on in the next box.
+/// The maximum width of a box of characters, in columns. Longer text continues in the next box.
 const LITERAL_COLUMNS: u32 = 40;
 
-/// What a row is put together of.
+/// An element of a sequence before it is boxed.
 #[derive(Drop)]
 pub(crate) enum Piece {
     Character(Character),
@@ -21,15 +21,15 @@ pub(crate) enum Piece {
     Part(Diagram),
 }
 
-/// A row that is put together. Characters side by side become one box.
+/// A sequence that is being assembled. Adjacent characters become one box.
 #[derive(Drop)]
 pub(crate) struct Row<'a> {
     alloc: Global,
     pattern: &'a [u32],
     parts: Vec<Diagram>,
-    /// The characters that wait for their box.
+    /// The characters that are not boxed yet.
     text: String,
-    /// Where they stand in the pattern.
+    /// Their span in the pattern.
     span: Option<Span>,
     columns: u32,
     either_case: bool,
@@ -48,7 +48,7 @@ impl<'a> Row<'a> {
         }
     }
 
-    /// Adds a piece, which stands there in the pattern.
+    /// Adds a piece with its span in the pattern.
     pub(crate) fn push(&mut self, piece: Piece, span: Option<Span>) -> Result<(), AllocError> {
         match piece {
             Piece::Character(character) => self.push_character(character, span)?,
@@ -70,7 +70,7 @@ impl<'a> Row<'a> {
         Ok(self.parts.push(part)?)
     }
 
-    /// Adds a character. One that can't be seen has a box of its own.
+    /// Adds a character. An invisible one has a box of its own.
     fn push_character(&mut self, next: Character, span: Option<Span>) -> Result<(), AllocError> {
         let Character { c, either_case } = next;
         let alone = c != 0x20 && !is_seen(c);
@@ -84,7 +84,7 @@ impl<'a> Row<'a> {
         if alone { self.box_text() } else { Ok(()) }
     }
 
-    /// Makes the box of the characters that wait for it.
+    /// Boxes the pending characters.
     fn box_text(&mut self) -> Result<(), AllocError> {
         if self.text.is_empty() {
             return Ok(());
@@ -96,7 +96,7 @@ impl<'a> Row<'a> {
         self.push_part(literal(text, self.either_case), span)
     }
 
-    /// What is drawn: a line where there is no part, and several rows where it is long.
+    /// Returns the diagram: a bare line if there are no parts, and several lines if it is wide.
     pub(crate) fn finish(mut self) -> Result<Diagram, AllocError> {
         self.box_text()?;
         let alloc = self.alloc;
@@ -112,7 +112,7 @@ impl<'a> Row<'a> {
     }
 }
 
-/// The parts in rows.
+/// Wraps the parts into lines.
 fn cut(alloc: Global, all: Vec<Diagram>) -> Result<Vec<Diagram>, AllocError> {
     let mut rows = Vec::new(alloc);
     let mut parts = Vec::new(alloc);
@@ -134,7 +134,7 @@ fn cut(alloc: Global, all: Vec<Diagram>) -> Result<Vec<Diagram>, AllocError> {
     Ok(rows)
 }
 
-/// The room of two parts with a line between.
+/// Returns the extent of two parts with a line between them.
 fn beside(left: Room, right: Room) -> Room {
     Room {
         width: left.width.saturating_add(GAP).saturating_add(right.width),
@@ -143,12 +143,13 @@ fn beside(left: Room, right: Room) -> Room {
     }
 }
 
-/// How far a row lies below the one above it, with the line between that leads back.
+/// Returns the distance between the baselines of two lines, with the connection between them.
 pub(crate) fn row_step(upper: Room, lower: Room) -> u32 {
     clear(upper.below).saturating_add(clear(lower.above))
 }
 
-/// Rows, with a turn at the left, and at the right one and the way up behind the last row.
+/// Returns a wrapped sequence, with room for the connections: a corner at the left, a corner at the right, and the way
+/// up after the last line.
 fn below_each_other(rows: Vec<Diagram>) -> Diagram {
     let mut room = NO_ROOM;
     let mut last = NO_ROOM;

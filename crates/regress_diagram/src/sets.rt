@@ -1,4 +1,4 @@
-//! What is written of a set: of characters, or of strings.
+//! Labels of sets of characters and of strings.
 ghost use Rattle.regress_base.specs.Intervals.{IsCanonical};
 
 use crate::labels::Label;
@@ -30,8 +30,8 @@ pub(crate) fn set_of_characters(alloc: Global, all: &[u32]) -> Result<CodePointS
     Ok(set)
 }
 
-/// Whether what is written of a set stands for what it lacks, and what is written. One that has the first and the last code
-/// point is told by what it lacks.
+/// Returns whether a bracket is displayed by its complement, and the set that is displayed. A set that contains both
+/// the first and the last code point is displayed by its complement.
 pub(crate) fn written(
     alloc: Global,
     set: &BracketContents,
@@ -43,7 +43,7 @@ pub(crate) fn written(
     }
 }
 
-/// One character, as it is or in either case.
+/// A character, matched exactly or in either case.
 #[derive(Clone, Copy)]
 pub(crate) struct Character {
     pub(crate) c: u32,
@@ -51,19 +51,19 @@ pub(crate) struct Character {
 }
 
 impl Character {
-    /// A character as it is.
+    /// Returns a character that is matched exactly.
     pub(crate) fn plain(c: u32) -> Character {
         let either_case = false;
         Character { c, either_case }
     }
 }
 
-/// The only character of a set, or the letter of ASCII that it has in either case.
+/// Returns the only character of a set, or the ASCII letter that the set contains in both cases.
 pub(crate) fn only_character(intervals: &[Interval]) -> Option<Character> {
     match intervals {
         [only] if only.first() == only.last() => Some(Character::plain(only.first())),
         [upper, lower] => letter(*upper, *lower),
-        // With the flag u, the long s and the sign of Kelvin are cases too.
+        // With the flag u, U+017F (long s) and U+212A (Kelvin sign) are case variants too.
         [upper, lower, other]
             if matches!(
                 (upper.first(), other.first()),
@@ -73,7 +73,7 @@ pub(crate) fn only_character(intervals: &[Interval]) -> Option<Character> {
     }
 }
 
-/// The small letter, if these are a letter of ASCII in both cases.
+/// Returns the lower-case letter if the two intervals are an ASCII letter in both cases.
 fn letter(upper: Interval, lower: Interval) -> Option<Character> {
     let (first, second) = (upper.first(), lower.first());
     let are_two = upper.last() == first && lower.last() == second;
@@ -85,7 +85,7 @@ fn letter(upper: Interval, lower: Interval) -> Option<Character> {
     }
 }
 
-/// What is written of the characters of a set, or of those that it lacks; None where there are none.
+/// Returns the label of a set or, if `negated`, of its complement; `None` if it never matches.
 pub(crate) fn set_label(
     alloc: Global,
     negated: bool,
@@ -116,7 +116,7 @@ pub(crate) fn set_label(
     }))
 }
 
-/// Takes the classes that lie in a set out of it, and lists them: the digits only where they are all of it.
+/// Removes the classes that a set contains from it, and lists them; `\d` only if it is the whole set.
 fn list_classes(
     alloc: Global,
     set: &mut CodePointSet,
@@ -134,7 +134,7 @@ fn list_classes(
     Ok(())
 }
 
-/// The characters of `\s`.
+/// Returns the characters of `\s`.
 fn spaces(alloc: Global) -> Result<CodePointSet, AllocError> {
     let mut set = CodePointSet::new(alloc);
     for interval in white_space_intervals() {
@@ -146,7 +146,8 @@ fn spaces(alloc: Global) -> Result<CodePointSet, AllocError> {
     Ok(set)
 }
 
-/// Takes a class out of a set if all of it lies there and the rest isn't torn to pieces, and answers whether it does.
+/// Removes a class from a set if the set contains all of it and the rest does not become fragmented. Returns whether it
+/// did.
 fn take(alloc: Global, set: &mut CodePointSet, class: &[Interval]) -> Result<bool, AllocError>
     requires { IsCanonical class.now }
 {
@@ -160,7 +161,7 @@ fn take(alloc: Global, set: &mut CodePointSet, class: &[Interval]) -> Result<boo
     Ok(true)
 }
 
-/// How many code points stand in intervals.
+/// Returns the number of code points in intervals.
 fn count(intervals: &[Interval]) -> usize {
     let mut sum = 0_usize;
     for interval in intervals {
@@ -169,7 +170,8 @@ fn count(intervals: &[Interval]) -> usize {
     sum
 }
 
-/// Lists an interval: by its ends, or one by one where there are two characters, or a few signs, whose order nobody knows.
+/// Lists an interval: by its ends, or character by character if it has two or is a short run of punctuation, whose
+/// order is not obvious.
 fn list_interval(
     interval: Interval,
     alloc: Global,
@@ -192,12 +194,12 @@ fn list_interval(
     listing.push(&item)
 }
 
-/// Whether a character of ASCII is the space or a sign.
+/// Returns whether an ASCII character is the space or punctuation.
 fn is_sign(c: u32) -> bool {
     matches!(c, 0x20..=0x2F | 0x3A..=0x40 | 0x5B..=0x60 | 0x7B..=0x7E)
 }
 
-/// What is written of a set of strings, or None where it has none.
+/// Returns the label of a set of strings, or `None` if it is empty.
 pub(crate) fn strings_label(
     alloc: Global,
     strings: &[BoxedSlice<u32>],

@@ -1,12 +1,12 @@
-//! Parts of a pattern as they were written.
+//! Excerpts of a pattern's source text.
 
 use regress_spans::Span;
 use std::alloc::{AllocError, Global};
 
-/// How many code points of a part a title has. Parts lie in one another, so that whole ones could grow as a square.
+/// The maximum length of a title in code points. Parts are nested, so that whole texts could take quadratic space.
 const TITLE_LENGTH: usize = 60;
 
-/// The part of a pattern at a span, cut where it is long. None where it is empty, and where the pattern has no such part.
+/// Returns the part of a pattern at a span, cut off if it is long; `None` if it is empty or not inside the pattern.
 pub(crate) fn excerpt(
     alloc: Global,
     pattern: &[u32],
@@ -25,7 +25,7 @@ pub(crate) fn excerpt(
     Ok(Some(text))
 }
 
-/// From where the first of two begins to where the last one ends.
+/// Returns the span from the start of the first to the end of the last.
 pub(crate) fn joined(first: Option<Span>, last: Option<Span>) -> Option<Span> {
     let (first, last) = (first.or(last)?, last?);
     let (start, end) = (first.start, last.end);

@@ -1,35 +1,35 @@
-//! Lengths and colours. Lengths are user units, which are pixels where a picture is shown at its own size.
+//! Lengths and colours. Lengths are in user units, which are pixels if a picture is shown at its own size.
 
-/// The radius of a turn of a line.
+/// The radius of a rounded corner.
 pub(crate) const RADIUS: u32 = 10;
 
-/// The length of the line between two parts, and the height between two.
+/// The length of the line between two parts, and the vertical distance between two.
 pub(crate) const GAP: u32 = 10;
 
-/// The room at each side of what is written in a box.
+/// The padding at each side of a box's label.
 pub(crate) const PADDING: u32 = 10;
 
 /// Half the height of a box.
 pub(crate) const HALF: u32 = 14;
 
-/// The height of a line of what is written outside of boxes.
+/// The height of a line of text outside of boxes.
 pub(crate) const NOTE: u32 = 16;
 
 /// The radius of the mark at the end of the line.
 pub(crate) const END: u32 = 7;
 
-/// The room around the whole, at each side.
+/// The margin at each side of the picture.
 pub(crate) const MARGIN: u32 = 24;
 
-/// The width from which a row goes on in a further one.
+/// The width past which a sequence is wrapped.
 pub(crate) const ROW_WIDTH: u32 = 1000;
 
-/// The width of so many columns of text, up to `u32::MAX`: 8.4 for each.
+/// Returns the width of a number of columns of text: 8.4 each, saturating.
 pub(crate) fn text_width(columns: u32) -> u32 {
     columns.saturating_mul(42) / 5
 }
 
-/// The style sheet. Its fonts are those of the system with columns, which are some 8.4 wide.
+/// The style sheet. Its fonts are the system's monospaced ones, whose columns are about 8.4 wide.
 pub(crate) const STYLE: &str = "\
 text{font:14px ui-monospace,SF Mono,Menlo,Cascadia Mono,DejaVu Sans Mono,Liberation Mono,Consolas,monospace;fill:#1f2328}\
 .word{fill:#57606a}.small{font-size:12px;fill:#57606a}.paper{fill:#fff}\

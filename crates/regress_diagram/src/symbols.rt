@@ -1,9 +1,9 @@
-//! Characters as a person sees them.
+//! Display of characters.
 
 use std::alloc::{AllocError, Global};
 
-/// Where what can't be seen begins and where it has ended, by turns: controls, most spaces, marks on what stands before
-/// them, the signs of Ohm, Kelvin and Ångström, which look like letters, surrogates and what is for private use.
+/// Invisible characters, as alternating starts and ends of ranges: controls, most spaces, combining marks, the Ohm,
+/// Kelvin and Ångström signs, which look like letters, surrogates and private-use characters.
 const UNSEEN: [u32; 50] = [
     0, 0x20, 0x7F, 0xA1, 0xAD, 0xAE, 0x300, 0x370, 0x483, 0x48A, 0x600, 0x606, 0x61C, 0x61D,
     0x115F, 0x1161, 0x1680, 0x1681, 0x17B4, 0x17B6, 0x180B, 0x1810, 0x1AB0, 0x1B00, 0x1DC0, 0x1E00,
@@ -12,13 +12,13 @@ const UNSEEN: [u32; 50] = [
     0x10000,
 ];
 
-/// The same of East Asian wide characters and of pictures.
+/// Wide characters in the same form: East Asian wide characters and pictographs.
 const WIDE: [u32; 22] = [
     0x1100, 0x1160, 0x2E80, 0x303F, 0x3041, 0xA4D0, 0xAC00, 0xD7A4, 0xF900, 0xFB00, 0xFE30, 0xFE70,
     0xFF00, 0xFF61, 0xFFE0, 0xFFE7, 0x1F300, 0x1F650, 0x1F680, 0x1FA00, 0x20000, 0x3FFFE,
 ];
 
-/// Whether a number lies behind a place where something begins, and before the one where it has ended.
+/// Returns whether a number is inside a range, given the alternating starts and ends of the ranges.
 fn is_within(turns: &[u32], c: u32) -> bool {
     match turns.binary_search(&c) {
         Ok(place) => place % 2 == 0,
@@ -26,12 +26,12 @@ fn is_within(turns: &[u32], c: u32) -> bool {
     }
 }
 
-/// Whether a character has a shape of its own.
+/// Returns whether a character has a visible shape of its own.
 pub(crate) fn is_seen(c: u32) -> bool {
     c < 0xE0000 && !is_within(&UNSEEN, c)
 }
 
-/// Adds a character: itself, `␣` for a space, and its number, as `U+000A`, where it can't be seen.
+/// Appends a character: itself, `␣` for a space, or its number, as `U+000A`, if it is invisible.
 pub(crate) fn push_symbol(c: u32, alloc: Global, text: &mut String) -> Result<(), AllocError> {
     match char::from_u32(c) {
         Some(' ') => text.push('␣'),
@@ -40,12 +40,12 @@ pub(crate) fn push_symbol(c: u32, alloc: Global, text: &mut String) -> Result<()
     }
 }
 
-/// How many columns a character takes.
+/// Returns the number of columns that a character takes.
 pub(crate) fn columns_of(c: u32) -> u32 {
     if is_within(&WIDE, c) { 2 } else { 1 }
 }
 
-/// How many columns a text takes, up to `u32::MAX`.
+/// Returns the number of columns that a text takes, saturating.
 pub(crate) fn columns(text: &str) -> u32 {
     let mut sum = 0_u32;
     for c in text.chars() {
@@ -54,10 +54,10 @@ pub(crate) fn columns(text: &str) -> u32 {
     sum
 }
 
-/// How many characters of a name or of a string of a set are written.
+/// The maximum number of characters that are displayed of a name or of a string of a set.
 const QUOTED_LENGTH: usize = 20;
 
-/// Characters between quotation marks, cut where they are many.
+/// Returns characters in quotation marks, cut off if there are many.
 pub(crate) fn quoted(alloc: Global, characters: &[u32]) -> Result<String, AllocError> {
     let mut text = String::from_str(alloc, "\"")?;
     for c in characters.iter().take(QUOTED_LENGTH) {

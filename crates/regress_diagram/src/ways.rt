@@ -1,4 +1,4 @@
-//! Lines, which turn round corners.
+//! Lines with rounded corners.
 ghost use Rattle.std.specs.Prelude.{◌≡◌, OnOk};
 
 use crate::diagram::{Place, Room};
@@ -6,7 +6,7 @@ use crate::style::RADIUS;
 use regress_markup::{Element, Sheet, Step};
 use std::alloc::AllocError;
 
-/// What a call answers that draws.
+/// The result of drawing.
 pub(crate) type Drawn = Result<(), AllocError>;
 
 fn draw_path(class: &str, from: Place, steps: &[Step], sheet: &mut Sheet) -> Drawn
@@ -20,7 +20,7 @@ fn line_to(to: Place) -> Step {
     Step::Line { x: to.x, y: to.y }
 }
 
-/// The place on the way from a corner to another place where the turn round that corner begins or ends.
+/// Returns the point next to a corner, towards another point, where the rounding begins or ends.
 fn beside(corner: Place, other: Place) -> Place {
     if corner.x < other.x {
         corner.right(RADIUS)
@@ -33,7 +33,7 @@ fn beside(corner: Place, other: Place) -> Place {
     }
 }
 
-/// The turn round a corner towards another place.
+/// Returns the rounded corner towards another point.
 fn turn(corner: Place, to: Place) -> Step {
     let end = beside(corner, to);
     Step::Curve {
@@ -44,7 +44,7 @@ fn turn(corner: Place, to: Place) -> Step {
     }
 }
 
-/// Draws a line to the right, if there is room for one.
+/// Draws a horizontal line to the right, unless its length is 0.
 pub(crate) fn draw_line(from: Place, to: Place, sheet: &mut Sheet) -> Drawn
     ensures { OnOk result (sheet.new.depth ≡ sheet.old.depth) }
 {
@@ -79,7 +79,7 @@ pub(crate) fn draw_way(from: Place, corners: [Place; 4], to: Place, sheet: &mut 
     draw_path("line", from, &steps, sheet)
 }
 
-/// Draws the line that goes by above.
+/// Draws the line that bypasses a loop's body above.
 pub(crate) fn draw_way_over(height: u32, start: Place, end: Place, sheet: &mut Sheet) -> Drawn
     ensures { OnOk result (sheet.new.depth ≡ sheet.old.depth) }
 {
@@ -88,7 +88,7 @@ pub(crate) fn draw_way_over(height: u32, start: Place, end: Place, sheet: &mut S
     draw_way(start, corners, end, sheet)
 }
 
-/// Draws the line that leads back below, with a point to the left on it.
+/// Draws the line that leads back below a loop's body, with an arrowhead to the left on it.
 pub(crate) fn draw_way_under(height: u32, start: Place, end: Place, sheet: &mut Sheet) -> Drawn
     ensures { OnOk result (sheet.new.depth ≡ sheet.old.depth) }
 {
@@ -106,7 +106,8 @@ pub(crate) fn draw_way_under(height: u32, start: Place, end: Place, sheet: &mut 
     )
 }
 
-/// Draws the way from the end of a row to the start of a lower one, with the line that leads back so far below the row.
+/// Draws the connection from the end of a line of a wrapped sequence to the start of the next, which leads back at the
+/// distance `back` below the first.
 pub(crate) fn draw_way_back(end: Place, back: u32, start: Place, sheet: &mut Sheet) -> Drawn
     ensures { OnOk result (sheet.new.depth ≡ sheet.old.depth) }
 {
@@ -116,7 +117,7 @@ pub(crate) fn draw_way_back(end: Place, back: u32, start: Place, sheet: &mut She
     draw_way(end, corners, start, sheet)
 }
 
-/// Draws the way from the end of the last row up to where the first one would go on.
+/// Draws the connection from the end of the last line up to where the first one would continue.
 pub(crate) fn draw_way_up(end: Place, out: Place, sheet: &mut Sheet) -> Drawn
     ensures { OnOk result (sheet.new.depth ≡ sheet.old.depth) }
 {
@@ -126,7 +127,7 @@ pub(crate) fn draw_way_up(end: Place, out: Place, sheet: &mut Sheet) -> Drawn
     draw_corner(under, top, out, sheet)
 }
 
-/// Draws where tracks leave the line at both sides of a room.
+/// Draws where branches leave the baseline at both sides of an extent.
 pub(crate) fn draw_fork(room: Room, at: Place, sheet: &mut Sheet) -> Drawn
     ensures { OnOk result (sheet.new.depth ≡ sheet.old.depth) }
 {
@@ -136,7 +137,7 @@ pub(crate) fn draw_fork(room: Room, at: Place, sheet: &mut Sheet) -> Drawn
     draw_corner(end, right, right.down(RADIUS), sheet)
 }
 
-/// Draws the ways from a row further up, between the sides of a room, to both ends of a track.
+/// Draws the connections from the branch above to both ends of a branch.
 pub(crate) fn draw_branch(
     upper: Place,
     room: Room,

@@ -1,4 +1,4 @@
--- Where anchors and word boundaries hold.
+-- Examples: where anchors and word boundaries match.
 use Rattle.std.proofs.Common.{[], ◌∷◌, refl, codes}
 use Rattle.regress_examples.proofs.Meanings.{plain, multiline, icase, unicode, icase_unicode, Gives, from, at}
 
@@ -54,7 +54,7 @@ a_boundary_takes_no_character : Gives plain (codes "\\ba") (codes "a") (from 0 (
 unfolding Gives
 a_boundary_takes_no_character = (refl, refl)
 
--- ECMA-262 has no quantifier here.
+-- ECMA-262 allows no quantifier here.
 a_boundary_may_be_repeated : Gives plain (codes "\\b+") (codes "a") (from 0 (at 0 [] ∷ []) ∷ from 1 (at 1 [] ∷ []) ∷ [])
 unfolding Gives
 a_boundary_may_be_repeated = (refl, refl)

@@ -1,4 +1,4 @@
--- What matches single characters: escapes, classes, and literals with the flag i.
+-- Examples: what escapes, classes, and literals with the flag i match.
 use Rattle.std.proofs.Common.{[], ◌∷◌, refl, codes}
 use Rattle.regress_base.specs.Classes.{digits, word_characters}
 use Rattle.regress_tree.specs.Setting.{Setting}
@@ -30,7 +30,7 @@ zero_gives_the_null_character : Gives plain (codes "\\0") (0x0 ∷ []) (from 0 (
 unfolding Gives
 zero_gives_the_null_character = (refl, refl)
 
--- ---- classes by an escape
+-- ---- class escapes
 
 digits_may_be_repeated : Gives plain (codes "\\d+") (codes "12a")
     (from 0 (at 2 [] ∷ at 1 [] ∷ []) ∷ from 1 (at 2 [] ∷ []) ∷ from 3 [] ∷ [])
@@ -54,7 +54,7 @@ the_long_s_is_no_word_character : Gives plain (codes "\\w") (0x17F ∷ []) (from
 unfolding Gives
 the_long_s_is_no_word_character = (refl, rw (own_set word_characters refl) refl)
 
--- ---- classes between brackets
+-- ---- classes in brackets
 
 the_empty_class_holds_nothing : Gives plain (codes "[]") (codes "a") (from 0 [] ∷ from 1 [] ∷ [])
 unfolding Gives
@@ -131,7 +131,7 @@ with_i_and_u_inversion_comes_last : Gives few_icase_unicode (codes "[^k]") (0x21
 unfolding Gives
 with_i_and_u_inversion_comes_last = (refl, rw k_set refl)
 
--- ---- words with the flags i and u
+-- ---- `\w` and `\b` with the flags i and u
 
 abbrev s_icase_unicode : Setting
 s_icase_unicode = record icase_unicode { table = only_s }

@@ -1,5 +1,5 @@
--- What classes hold, and what literals stand for with the flag i, at worked examples. Their trees hold all these code points,
--- as sets and lists which computation would have to find among all code points.
+-- Examples: the members of classes, and the characters that literals match with the flag i. The trees of such patterns
+-- have these code points as sets and lists, which computation would have to search for among all code points.
 use Rattle.std.proofs.Common.{◌≡◌, ℕ, ◌≤◌, Bool, true, false, not, ◌&&◌, ◌||◌, if◌then◌else◌, ◌==◌, nat_le, List, [], ◌∷◌, ◌++◌, refl, sym, ap, subst, ◌∙◌, arith}
 use Rattle.std.proofs.lemmas.Bool.{eqb-true}
 use Rattle.std.proofs.lemmas.Bool.Decides.{nat_tests}
@@ -15,7 +15,7 @@ use Rattle.regress_examples.proofs.Meanings.{empty_table, run}
 
 -- ---- classes without the flag i
 
--- a list in canonical form is what it holds
+-- A list in canonical form is the set of its members.
 pub own_set : (members : List Bounds) → IsCanonical members → intervals_of (is_member members) ≡ members
 own_set members can = sym (canonical_is members (is_member members) can (λ c h. refl))
 
@@ -111,9 +111,9 @@ consonants_set = sym (canonical_is consonants (λ c. is_member small_letters c &
         consonants_are c
         ∙ ap (λ there. is_member small_letters c && there) (sym (intervals_of-member (λ d. not (is_member vowels d)) c h))
 
--- ---- literals with the flag i, under a table of a few letters
+-- ---- literals with the flag i, with a table of a few letters
 
--- the folds and capitals of a, b, k, s, e acute and theta, and what else folds to them
+-- the case foldings and upper cases of a, b, k, s, e acute and theta, and of what else folds to them
 abbrev pub few_letters : Table
 few_letters = record empty_table {
   fold = λ c.
@@ -137,7 +137,7 @@ few_letters = record empty_table {
 abbrev pub letters : Bool → ℕ → List ℕ
 letters unicode c = class_of few_letters true unicode c
 
--- a letter stands for a list of letters
+-- A letter matches the letters of a list.
 stands_for_these : (unicode : Bool) (c : ℕ) (xs : List ℕ) → IsListing (stands_for few_letters true unicode c) xs → letters unicode c ≡ xs
 stands_for_these unicode c xs listing = sym (listing_is_listed (stands_for few_letters true unicode c) xs listing)
 
@@ -167,7 +167,7 @@ theta_with_u = stands_for_these true 0x3B8 _ (record { ascending = refl; members
 
 -- ---- classes with the flag i
 
--- a class that holds no character
+-- a class without a character
 pub closed_nothing : intervals_of (is_in_closure few_letters []) ≡ []
 unfolding is_member is_in_closure
 closed_nothing = sym (canonical_is [] (is_in_closure few_letters []) refl (λ c h. grind arith))
@@ -182,12 +182,12 @@ k_set = sym (canonical_is closed_k (is_in_closure few_letters (run 0x6B 0x6B ∷
     same : (c : ℕ) → c ≤ code_point_max → is_member closed_k c ≡ is_in_closure few_letters (run 0x6B 0x6B ∷ []) c
     same c h = grind (arith, nat_tests)
 
--- ---- words with the flags i and u, under a table of the letter s
+-- ---- words with the flags i and u, with a table of the letter s
 
 abbrev pub only_s : Table
 only_s = record empty_table { fold = λ c. if c == 0x53 || c == 0x17F then 0x73 else c }
 
--- whether a member of the interval folds to the image
+-- whether a member of the interval folds to this character
 abbrev folds_to : Bounds → ℕ → Bool
 folds_to iv image = list_any (λ c. only_s.fold c == image) (code_points iv)
 

@@ -1,5 +1,5 @@
--- Classes with the flag v, properties, and the marks of classes, by computation of their definitions. The source of a class
--- begins behind its `[`, and that of a property behind `\p`.
+-- Examples: classes with the flag v, properties, and the marks of classes, computed from the definitions. The source of
+-- a class starts after its `[`, and that of a property after its `\p`.
 use Rattle.std.proofs.Common.{◌≡◌, ℕ, ◌≤◌, Bool, true, false, not, ◌&&◌, List, [], ◌∷◌, map, Some, None, refl, sym, ap, ◌∙◌, arith, codes}
 use Rattle.std.proofs.lemmas.Bool.Decides.{nat_tests}
 use Rattle.regress_base.specs.Classes.{digits, word_characters}
@@ -20,16 +20,17 @@ use Rattle.regress_lexical.specs.Source.{Source, Found}
 abbrev run : ℕ → ℕ → Bounds
 run first last = record { first = first; last = last }
 
--- a code point alone
+-- a single code point
 abbrev one : ℕ → Bounds
 one c = run c c
 
--- what is read with the letters and names of the small table, without the flag u
+-- what is parsed with the letters and names of the small table, without the flag u
 unfoldable read : Source → Found (Bool × Value)
 unfolding class_set_by parts_by operands_by operand_at set_character_at strings_by escape_at unicode_at front behind property_at named small_table
 read t = class_set_at small_table false t
 
--- The whole source is a class, negated or not, of these code points and strings, with so many levels inside.
+-- The whole source is a class, negated or not, with these code points and strings, and with classes nested this deep
+-- inside.
 abbrev Reads : (negated : Bool) → Source → List Bounds → List (List ℕ) → ℕ → Type 0
 Reads negated t members strings levels =
     read t ≡ Some ((negated, record nothing { members = members; strings = strings; levels = levels }), [])
@@ -101,7 +102,7 @@ in_a_string_an_escaped_d_is_the_letter : Holds (codes "\\q{\\d}]") (one 0x64 ∷
 unfolding read
 in_a_string_an_escaped_d_is_the_letter = refl
 
--- the strings of the small table's property of strings
+-- the strings of the property of strings that the small table has
 abbrev keycaps : List (List ℕ)
 keycaps = map (λ key. key ∷ 0xFE0F ∷ 0x20E3 ∷ []) (codes "#*0123456789")
 
@@ -109,14 +110,14 @@ a_property_of_strings_beside_a_digit : Holds (codes "\\p{Emoji_Keycap_Sequence}1
 unfolding read
 a_property_of_strings_beside_a_digit = refl
 
--- Longest first, and of equal length the one that was read first.
+-- The longest string is first; of equal length, the one that was parsed first.
 strings_are_tried_longest_first : longest_first (codes "abc" ∷ codes "de" ∷ codes "fgh" ∷ [])
     ≡ codes "abc" ∷ codes "fgh" ∷ codes "de" ∷ []
 strings_are_tried_longest_first = refl
 
--- ---- classes inside, and operators
+-- ---- classes in a class, and operators
 
--- what passes a test is this list
+-- The list has the members that pass the test.
 listed : (members : List Bounds) (test : ℕ → Bool) → IsCanonical members →
     ((c : ℕ) → c ≤ code_point_max → is_member members c ≡ test c) → intervals_of test ≡ members
 listed members test canonical same = sym (canonical_is members test canonical same)
@@ -194,7 +195,7 @@ a_difference_keeps_the_empty_string_of_the_first : HoldsEmpty (codes "\\q{a|}--\
 unfolding read
 a_difference_keeps_the_empty_string_of_the_first = rw only_a refl
 
--- ---- where nothing is read
+-- ---- rejected classes
 
 a_hyphen_behind_an_ampersand : ReadsNothing (codes "a&-c]")
 unfolding read
@@ -278,7 +279,7 @@ a_complement_of_a_property_of_strings = refl
 
 -- ---- properties
 
--- the whole source is this property, with the flag v or without it
+-- the whole source is this property, with or without the flag v
 abbrev Names : (sets : Bool) → Source → Property → Type 0
 Names sets t property = property_at sets small_table t ≡ Some (property, [])
 
@@ -335,7 +336,7 @@ with_v_a_class_says_how_deep_it_is : marks true small_table plain (codes "[[\\(]
 unfolding marks
 with_v_a_class_says_how_deep_it_is = refl
 
--- it ends at its first `]`
+-- The class ends at its first `]`.
 without_v_a_class_has_no_mark : marks false small_table plain (codes "[[\\(]b]\\1(a)") ≡ captures None ∷ closes ∷ []
 unfolding marks
 without_v_a_class_has_no_mark = refl

@@ -1,4 +1,4 @@
--- How groups, names, modifiers and references are read, and their trees and marks, at worked patterns.
+-- Examples: how groups, names, modifiers and references are parsed, and their trees and marks.
 use Rattle.std.proofs.Common.{◌≡◌, ℕ, Bool, false, true, List, [], ◌∷◌, Option, Some, None, option_map, refl, codes}
 use Rattle.std.specs.Char.{encode_utf8}
 use Rattle.regress_base.specs.declared.types.Flags.{Flags}
@@ -38,7 +38,7 @@ with_i = record no_flags { icase = true }
 abbrev i_on : Change
 i_on = record { icase = Some true; multiline = None; dot_all = None }
 
--- a letter with the flag i on it
+-- a letter with the flag i
 abbrev letter_with_i : Pattern
 letter_with_i = one (word (group (modified i_on) (one (word (atom (literal with_i 97))))))
 
@@ -46,7 +46,7 @@ i_switched_on : pattern_of plain (codes "(?i:a)") ≡ Some letter_with_i
 unfolding pattern_of
 i_switched_on = refl
 
--- behind the hyphen there may be no letter
+-- No letter has to follow the hyphen.
 i_switched_on_and_nothing_off : pattern_of plain (codes "(?i-:a)") ≡ Some letter_with_i
 unfolding pattern_of
 i_switched_on_and_nothing_off = refl
@@ -65,14 +65,14 @@ no_question_mark_alone = refl
 
 -- ---- references by number
 
--- the parenthesis in the class opens no group
+-- A parenthesis in a class opens no group.
 one_group_beside_a_class : pattern_of plain (codes "[(]\\1(a)")
     ≡ Some (one (more_terms (atom (class no_flags false (run 40 40 ∷ []))) None
     (two (atom (back_reference no_flags (by_number 1))) (captured_letter 97))))
 unfolding pattern_of
 one_group_beside_a_class = refl
 
--- There is one group, not ten, so that the digits are octal.
+-- There is one group and not ten, so the digits are octal.
 octal_for_want_of_ten_groups : pattern_of plain (codes "\\10(a)") ≡ Some (one (two (letter 8) (captured_letter 97)))
 unfolding pattern_of
 octal_for_want_of_ten_groups = refl
@@ -85,14 +85,14 @@ no_octal_for_want_of_groups_with_u : pattern_of unicode (codes "\\2(a)") ≡ Non
 unfolding pattern_of
 no_octal_for_want_of_groups_with_u = refl
 
--- 8 is no octal digit
+-- 8 is no octal digit.
 digit_for_want_of_groups : pattern_of plain (codes "\\8") ≡ Some (one (word (letter 56)))
 unfolding pattern_of
 digit_for_want_of_groups = refl
 
 -- ---- names
 
--- where no group has a name, `\k` stands for the letter
+-- Where no group has a name, `\k` matches the letter.
 letter_for_want_of_names : pattern_of plain (codes "\\k") ≡ Some (one (word (letter 107)))
 unfolding pattern_of
 letter_for_want_of_names = refl
@@ -105,20 +105,20 @@ no_other_name : pattern_of named (codes "(?<a>x)\\k<b>") ≡ None
 unfolding pattern_of
 no_other_name = refl
 
--- a name is told by its characters, however these are written
+-- A name is its characters, however they are written.
 name_by_an_escape : pattern_of named (codes "(?<\\u0061>x)")
     ≡ Some (one (word (group (capture (Some (codes "a"))) (one (word (letter 120))))))
 unfolding pattern_of
 name_by_an_escape = refl
 
--- an escape of `>` ends no name, and is in none
+-- An escape of `>` does not end a name, and is not allowed in one.
 no_bracket_by_an_escape : pattern_of named (codes "(?<a\\u003Ex)") ≡ None
 unfolding pattern_of
 no_bracket_by_an_escape = refl
 
 -- ---- trees
 
--- The source is a pattern with this tree, before the goal.
+-- The source is a pattern with this tree, followed by the goal.
 unfoldable HasTree : Setting → Source → Tree → Type 0
 unfolding pattern_of encode_utf8
 HasTree setting source t = option_map (tree_of setting.table) (pattern_of setting source) ≡ Some (cat (row t (leaf goal)))
@@ -126,20 +126,20 @@ HasTree setting source t = option_map (tree_of setting.table) (pattern_of settin
 abbrev captured : ℕ → Option (List ℕ) → ℕ → Tree
 captured id name c = wrapped (capture_group id name) (character c)
 
--- the parts stand turned, and the groups keep their numbers
+-- The parts are reversed, and the groups keep their ids.
 lookbehind_of_groups : HasTree plain (codes "(?<=(a)(b))")
     (wrapped (lookaround false true 0 2) (cat (row (captured 1 None 98) (captured 0 None 97))))
 unfolding HasTree
 lookbehind_of_groups = refl
 
--- a lookahead in a lookbehind is not turned
+-- The parts of a lookahead in a lookbehind are not reversed.
 lookahead_in_a_lookbehind : HasTree plain (codes "(?<=(?=ab)c)")
     (wrapped (lookaround false true 0 0)
     (cat (row (character 99) (wrapped (lookaround false false 0 0) (cat (row (character 97) (character 98)))))))
 unfolding HasTree
 lookahead_in_a_lookbehind = refl
 
--- a name stands for each of its groups
+-- A name refers to each of its groups.
 reference_to_two_groups : HasTree named (codes "(?<a>x)|(?<a>y)\\k<a>")
     (alt (captured 0 (Some (codes "a")) 120)
     (cat (row (captured 1 (Some (codes "a")) 121) (alt (leaf (back_ref 1 false)) (leaf (back_ref 2 false))))))
@@ -148,14 +148,14 @@ reference_to_two_groups = refl
 
 -- ---- marks
 
--- The scan finds these marks, and so does the syntax tree.
+-- The source and the syntax tree have these marks.
 unfoldable HasMarks : Setting → Source → List Mark → Type 0
 unfolding pattern_of
 HasMarks setting source ms =
     (marks setting.flags.unicode_sets setting.table outside_classes source ≡ ms)
     × (option_map marks_of (pattern_of setting source) ≡ Some ms)
 
--- parentheses in classes and behind backslashes leave no mark
+-- Parentheses in classes and after backslashes leave no mark.
 marks_of_each_kind : HasMarks named (codes "(?<a>x)(?:y)[(]\\((z)")
     (captures (Some (codes "a")) ∷ closes ∷ opens ∷ closes ∷ captures None ∷ closes ∷ [])
 unfolding HasMarks
@@ -166,12 +166,12 @@ marks_of_groups_in_each_other : HasMarks plain (codes "(?<!(?i:a|(b)))")
 unfolding HasMarks
 marks_of_groups_in_each_other = (refl, refl)
 
--- in a class neither `[` nor an escaped `]` begins or ends anything
+-- In a class, neither `[` nor an escaped `]` starts or ends anything.
 marks_behind_a_class : HasMarks plain (codes "[[\\](]|(a)") (next ∷ captures None ∷ closes ∷ [])
 unfolding HasMarks
 marks_behind_a_class = (refl, refl)
 
--- whether the source is a pattern whose names conflict nowhere
+-- whether the source is a pattern without conflicting names
 unfoldable names_apart : Source → Option Bool
 unfolding pattern_of
 names_apart source = option_map are_names_apart (pattern_of named source)
@@ -184,7 +184,7 @@ one_name_twice_in_a_row : names_apart (codes "(?<a>x)(?<a>y)") ≡ Some false
 unfolding names_apart
 one_name_twice_in_a_row = refl
 
--- the second may match where the first has
+-- Both groups can take part in one match.
 one_name_behind_two_alternatives : names_apart (codes "(?:(?<a>x)|y)(?<a>z)") ≡ Some false
 unfolding names_apart
 one_name_behind_two_alternatives = refl

@@ -1,4 +1,4 @@
--- Literals at values, each computed.
+-- Examples: literals.
 use Rattle.std.proofs.Common.{◌≡◌, ℕ, true, false, [], ◌∷◌, refl, arith}
 use lib.Utf8.{encode}
 use Rattle.regress_unicode.specs.FoldRows.{image}
@@ -9,14 +9,14 @@ use Rattle.regress_base.specs.Table.{Table}
 use Rattle.regress_tree.specs.Tree.{char, byte_sequence, byte_set, char_set}
 use Rattle.regress_base.proofs.laws.Literals.{class_of-itself}
 
--- a surrogate is no character
+-- A surrogate is no character.
 surrogate-alone : is_character (0xD800 ∷ []) ≡ false
 surrogate-alone = refl
 
 piece-surrogate : piece_of (0xD800 ∷ []) ≡ char 0xD800
 piece-surrogate = refl
 
--- ASCII alone is a set of bytes
+-- Characters of ASCII alone become a set of bytes.
 piece-ascii : piece_of (0x41 ∷ 0x61 ∷ []) ≡ byte_set (0x41 ∷ 0x61 ∷ [])
 piece-ascii = refl
 
@@ -26,7 +26,7 @@ piece-one_past_ascii = refl
 piece-first_past_ascii : piece_of (0x7F ∷ 0x80 ∷ []) ≡ char_set (0x7F ∷ 0x80 ∷ [])
 piece-first_past_ascii = refl
 
--- without icase characters in a row are one byte sequence, and a surrogate parts them
+-- Without icase, adjacent characters become one byte sequence, which a surrogate interrupts.
 lowered-none : (table : Table) → lowered table true true [] ≡ []
 lowered-none table = refl
 
@@ -46,7 +46,7 @@ lowered-parted table =
     let third = class_of-itself table true 0x62 (omega arith) in
     rw (first, second, third) refl
 
--- over a text: with icase and unicode the long s is an s
+-- With icase and unicode, the long s matches an s in a text.
 abbrev at : ℕ → State
 at place = record { place = place; captures = [] }
 
@@ -58,7 +58,7 @@ literal-without_unicode : literal_steps small_table true false (0x17F ∷ []) (0
 unfolding image one_character small_table
 literal-without_unicode = refl
 
--- and a surrogate matches nothing that a text holds
+-- A surrogate matches nothing in a text.
 literal-surrogate : literal_steps small_table false true (0x61 ∷ []) (0xD800 ∷ []) (at 0) ≡ []
 unfolding one_character
 literal-surrogate = refl

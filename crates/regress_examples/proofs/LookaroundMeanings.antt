@@ -1,4 +1,4 @@
--- Where lookarounds hold, and what the groups inside capture.
+-- Examples: where lookarounds match, and what the groups inside them capture.
 use Rattle.std.proofs.Common.{[], ◌∷◌, refl, codes}
 use Rattle.regress_base.specs.Classes.{digits}
 use Rattle.regress_examples.proofs.CharacterSets.{own_set, letters_set}
@@ -147,7 +147,7 @@ a_reference_behind_its_group_comes_before_it_backwards : Gives plain (codes "(?<
 unfolding Gives
 a_reference_behind_its_group_comes_before_it_backwards = (refl, refl)
 
--- ---- lookarounds in each other
+-- ---- nested lookarounds
 
 a_lookahead_in_a_lookbehind_looks_forwards : Gives plain (codes "(?<=(?=b)b)") (codes "b")
     (from 0 [] ∷ from 1 (at 1 [] ∷ []) ∷ [])

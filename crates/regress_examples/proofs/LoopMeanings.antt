@@ -1,8 +1,9 @@
--- What loops match: how often, what becomes of turns that match nothing, and what the groups inside capture.
+-- Examples: the number of iterations of a loop, iterations that match the empty text, and what the groups inside
+-- capture.
 use Rattle.std.proofs.Common.{[], ◌∷◌, refl, codes}
 use Rattle.regress_examples.proofs.Meanings.{plain, Gives, from, at, unset, span}
 
--- ---- how often
+-- ---- number of iterations
 
 star_takes_as_many_as_it_can : Gives plain (codes "a*") (codes "aa")
     (from 0 (at 2 [] ∷ at 1 [] ∷ at 0 [] ∷ []) ∷ from 1 (at 2 [] ∷ at 1 [] ∷ []) ∷ from 2 (at 2 [] ∷ []) ∷ [])
@@ -72,7 +73,7 @@ a_repeated_outcome_of_a_loop_is_dropped : Gives plain (codes "(?:a|ab)(?:c|bcd)(
 unfolding Gives
 a_repeated_outcome_of_a_loop_is_dropped = (refl, refl)
 
--- ---- turns that match nothing
+-- ---- iterations that match the empty text
 
 an_empty_turn_is_dropped : Gives plain (codes "(?:|a)*") (codes "aa")
     (from 0 (at 2 [] ∷ at 1 [] ∷ at 0 [] ∷ []) ∷ from 1 (at 2 [] ∷ at 1 [] ∷ []) ∷ from 2 (at 2 [] ∷ []) ∷ [])
@@ -104,7 +105,7 @@ lazy_loops_stand_in_each_other : Gives plain (codes "(?:a*?)*?") (codes "a")
 unfolding Gives
 lazy_loops_stand_in_each_other = (refl, refl)
 
--- ---- what groups inside capture
+-- ---- captures of the groups inside
 
 without_a_turn_the_group_is_unset : Gives plain (codes "(a*)*") (codes "aa")
     (from 0 (at 2 (span 0 2 ∷ []) ∷ at 2 (span 1 2 ∷ []) ∷ at 1 (span 0 1 ∷ []) ∷ at 0 (unset ∷ []) ∷ []) ∷

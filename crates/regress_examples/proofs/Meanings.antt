@@ -1,6 +1,7 @@
--- What patterns match on texts, by computation of the definitions. The first outcomes are what V8 11.3 answers to a sticky
--- match from the place; the others, and those of patterns that have modifiers or groups of one name or match characters past
--- U+FFFF, follow from the rules of ECMA-262. The same stands for the worked meanings in the files beside this one.
+-- Examples: what patterns match on texts, computed from the definitions. The first outcome from each position is the
+-- result of a sticky match of V8 11.3 there. The other outcomes follow from the rules of ECMA-262, as do those of
+-- patterns with modifiers or several groups of one name, and those that match characters past U+FFFF. The same holds
+-- for the other files of meanings.
 use Rattle.std.proofs.Common.{◌≡◌, ℕ, false, true, List, [], ◌∷◌, map, length, Option, Some, None, option_map, encode_utf8_all, refl, codes}
 use Rattle.std.specs.Char.{encode_utf8}
 use Rattle.std.specs.Str.{chars}
@@ -37,7 +38,7 @@ use Rattle.regress_parse.specs.TreeOf.{tree_of}
 abbrev pub no_flags : Flags
 no_flags = record { icase = false; multiline = false; dot_all = false; unicode = false; unicode_sets = false }
 
--- each character is its own image, and nothing has a name
+-- Each character is its own canonical form, and no property has a name.
 abbrev pub empty_table : Table
 empty_table = record {
   fold = λ c. c;
@@ -54,7 +55,7 @@ empty_table = record {
 abbrev pub run : ℕ → ℕ → Bounds
 run first last = record { first = first; last = last }
 
--- settings by their flags
+-- settings, by their flags
 abbrev pub plain : Setting
 plain = record { flags = no_flags; table = empty_table }
 
@@ -64,11 +65,11 @@ dot_all = record plain { flags = record no_flags { dot_all = true } }
 abbrev pub multiline : Setting
 multiline = record plain { flags = record no_flags { multiline = true } }
 
--- where names are made of small letters
+-- with names of small letters
 abbrev pub named : Setting
 named = record plain { table = record empty_table { id_start = run 97 122 ∷ []; id_continue = run 97 122 ∷ [] } }
 
--- with the small table's letters
+-- with the letters of the small table
 abbrev pub unicode : Setting
 unicode = record { flags = record no_flags { unicode = true }; table = small_table }
 
@@ -86,28 +87,28 @@ whole (Some (p, c ∷ rest)) = None
 abbrev of_groups : Setting → List (Option Name) → Context
 of_groups setting names = record { setting = setting; groups = length names; names = names }
 
--- the context with the groups that the scan of the source finds
+-- the context with the groups that the scan finds in the source
 unfoldable pub context : Setting → Source → Context
 unfolding marks name_at rest_of_name_by unicode_at is_member is_within
 context setting source = of_groups setting (named_by (marks setting.flags.unicode_sets setting.table outside_classes source))
 
--- the pattern that the whole source is
+-- the pattern that the whole source is, or `None`
 unfoldable pub pattern_of : Setting → Source → Option Pattern
 unfolding context pattern_at read_terms head_at times_at quantifier_at front behind escape_at class_at class_parts_by
     class_set_by parts_by operands_by operand_at set_character_at strings_by property_at value_named modifiers_at
 pattern_of setting source = whole (pattern_at (context setting source) source)
 
--- at a place, where no group of the pattern has captured
+-- a position where all groups of the pattern are unset
 abbrev pub start : Pattern → ℕ → State
 start p place = record { place = place; captures = replicate (counts p).groups None }
 
--- the pattern's outcomes on the text from each of the places
+-- the outcomes of the pattern on the text, from each of the positions
 unfoldable pub outcomes : Setting → Source → List ℕ → List ℕ → Option (List (List State))
 unfolding pattern_of one_character hold_at captures repeat look back_reference any_string same_state is_in_closure image small_table
 outcomes setting source text places =
     option_map (λ p. map (λ k. meaning setting text forwards p (start p k)) places) (pattern_of setting source)
 
--- its tree's over the bytes of the text, from the same places
+-- the outcomes of the pattern's tree on the bytes of the text, from the same positions
 unfoldable pub tree_outcomes : Setting → Source → List ℕ → List ℕ → Option (List (List State))
 unfolding outcomes chars encode_utf8 character_at read_after read_before byte_place
 tree_outcomes setting source text places =
@@ -115,18 +116,18 @@ tree_outcomes setting source text places =
     (λ p. map (λ k. matches setting (encode_utf8_all text) forwards (tree_of setting.table p) (byte_state text (start p k))) places)
     (pattern_of setting source)
 
--- a place, and the outcomes from there
+-- a position, and the outcomes from there
 abbrev pub Row : Type 0
 Row = ℕ × List State
 
--- The source is a pattern, whose outcomes on the text are these, and so are its tree's, place for byte place.
+-- The source is a pattern with these outcomes on the text, and its tree has the same, as byte offsets.
 unfoldable pub Gives : Setting → Source → List ℕ → List Row → Type 0
 unfolding outcomes tree_outcomes
 Gives setting source text rows =
     (outcomes setting source text (map (λ r. r.0) rows) ≡ Some (map (λ r. r.1) rows))
     × (tree_outcomes setting source text (map (λ r. r.0) rows) ≡ Some (map (λ r. map (byte_state text) r.1) rows))
 
--- rows and outcomes in few words: a place, and what each group has captured
+-- short forms of test cases and outcomes: a position, and the capture of each group
 abbrev pub from : ℕ → List State → Row
 from place states = (place, states)
 

@@ -1,4 +1,4 @@
--- What modifiers of a group switch, and where.
+-- Examples: the flags that the modifiers of a group switch, and where.
 use Rattle.std.proofs.Common.{[], ◌∷◌, refl, codes}
 use Rattle.regress_tree.specs.Setting.{Setting}
 use Rattle.regress_examples.proofs.CharacterSets.{few_letters, a_in_two_cases, b_in_two_cases}
@@ -8,7 +8,7 @@ use Rattle.regress_examples.proofs.Meanings.{plain, dot_all, icase_unicode, Give
 abbrev few_plain : Setting
 few_plain = record plain { table = few_letters }
 
--- ---- i
+-- ---- the flag i
 
 i_is_on_inside : Gives few_plain (codes "(?i:a)b") (codes "Ab") (from 0 (at 2 [] ∷ []) ∷ from 1 [] ∷ from 2 [] ∷ [])
 unfolding Gives
@@ -41,7 +41,7 @@ words_inside_lack_the_long_s : Gives icase_unicode (codes "(?-i:\\b)") (0x17F �
 unfolding Gives
 words_inside_lack_the_long_s = (refl, refl)
 
--- ---- s and m
+-- ---- the flags s and m
 
 s_is_off_inside : Gives dot_all (codes "(?-s:.)") (0xA ∷ []) (from 0 [] ∷ from 1 [] ∷ [])
 unfolding Gives

@@ -1,4 +1,4 @@
--- The definitions at worked patterns, by computation.
+-- Examples: what patterns parse to, with their trees and meanings.
 use Rattle.std.proofs.Common.{◌≡◌, ℕ, ◌-◌, ◌^◌, false, true, List, [], ◌∷◌, Option, Some, None, refl, codes}
 use Rattle.regress_base.specs.declared.types.Quantifier.{Quantifier}
 use Rattle.regress_tree.specs.Setting.{Setting}
@@ -16,7 +16,7 @@ use Rattle.regress_examples.proofs.Meanings.{no_flags, empty_table, plain, unico
 abbrev pub letter : ℕ → Item
 letter c = atom (literal no_flags c)
 
--- two terms, and one alone, without quantifiers
+-- two terms, and one term, without quantifiers
 abbrev pub word : Item → Terms
 word x = more_terms x None no_terms
 
@@ -46,15 +46,15 @@ first_pattern-tree = refl
 first_pattern-levels : levels first_pattern ≡ 2
 first_pattern-levels = refl
 
--- a node each, and four more for each character
+-- one unit for each node, and four more for each character
 first_tree-units : units first_tree ≡ 25
 first_tree-units = refl
 
--- In a lookbehind the parts stand turned.
+-- In a lookbehind the parts are reversed.
 turned : tree_of_pattern empty_table [] backwards 0 (one (two (letter 97) (letter 98))) ≡ cat (row (character 98) (character 97))
 turned = refl
 
--- the group that is opened first has the first id, in either direction
+-- The group that opens first has the first id, in either direction.
 numbered : tree_of_pattern empty_table [] backwards 0
     (one (two (group (capture None) (one (word (letter 97)))) (group (capture None) (one (word (letter 98))))))
     ≡ cat (row (wrapped (capture_group 1 None) (character 98)) (wrapped (capture_group 0 None) (character 97)))
@@ -64,19 +64,19 @@ no_pattern : pattern_of plain (codes "(a") ≡ None
 unfolding pattern_of
 no_pattern = refl
 
--- what comes before a parenthesis too many is read, and that is left
+-- The source is parsed up to an unmatched closing parenthesis, which remains.
 left_over : pattern_at (context plain (codes "a)")) (codes "a)") ≡ Some (one (word (letter 97)), 41 ∷ [])
 unfolding pattern_of
 left_over = refl
 
--- `|` is two empty alternatives
+-- `|` has two empty alternatives.
 bar_alone : tree_of empty_table (either no_terms (one no_terms)) ≡ cat (row (alt (leaf empty) (leaf empty)) (leaf goal))
 bar_alone = refl
 
 empty_alone : tree_of empty_table (one no_terms) ≡ cat (row (leaf empty) (leaf goal))
 empty_alone = refl
 
--- flattening has something to do at the first pattern's tree, and not at the empty pattern's
+-- Flattening changes the tree of the first pattern, and not that of the empty pattern.
 first_tree-flattened_away : is_flattened_away first_tree ≡ true
 first_tree-flattened_away = refl
 
@@ -88,7 +88,7 @@ empty_tree-stays = refl
 abbrev pub quantifier : ℕ → Option ℕ → Quantifier
 quantifier least most = record { min = least; max = most; greedy = true }
 
--- terms that are letters
+-- terms of letters
 abbrev letters : List ℕ → Terms
 letters [] = no_terms
 letters (c ∷ cs) = more_terms (letter c) None (letters cs)
@@ -106,7 +106,7 @@ looped_pattern-read : pattern_of plain (codes "(a)*b(c){2}") ≡ Some looped_pat
 unfolding pattern_of
 looped_pattern-read = refl
 
--- each loop keeps which groups lie inside
+-- Each loop has the range of the groups inside.
 looped_pattern-tree : tree_of empty_table looped_pattern ≡ cat (row
     (cat (more_trees (wrapped (loop (quantifier 0 None) 0 1) (wrapped (capture_group 0 None) (character 97)))
     (row (character 98) (wrapped (loop (quantifier 2 (Some 2)) 1 2) (wrapped (capture_group 1 None) (character 99))))))
@@ -116,7 +116,7 @@ looped_pattern-tree = refl
 looped_pattern-counts : counts looped_pattern ≡ record { groups = 2; loops = 2 }
 looped_pattern-counts = refl
 
--- A brace that begins no quantifier stands for itself, and with the flag u for nothing.
+-- A brace that starts no quantifier is a literal; with the flag u it is rejected.
 brace_alone : pattern_of plain (codes "a{2") ≡ Some (one (letters (codes "a{2")))
 unfolding pattern_of
 brace_alone = refl
@@ -146,7 +146,7 @@ no_quantifier_out_of_order : pattern_of plain (codes "x{5,3}") ≡ None
 unfolding pattern_of
 no_quantifier_out_of_order = refl
 
--- both numbers saturate
+-- Both numbers saturate.
 great_numbers : pattern_of plain (codes "a{99999999999999999999}")
     ≡ Some (one (more_terms (letter 97) (Some (quantifier (2 ^ 64 - 1) (Some (2 ^ 64 - 1)))) no_terms))
 unfolding pattern_of
@@ -154,7 +154,7 @@ great_numbers = refl
 
 -- ---- escapes and classes
 
--- a class is no end of a range, so that all three parts are members
+-- A class is no end of a range, so all three parts are members.
 hyphen_behind_a_class : pattern_of plain (codes "[\\d-z]")
     ≡ Some (one (word (atom (class no_flags false (run 48 57 ∷ run 45 45 ∷ run 122 122 ∷ [])))))
 unfolding pattern_of
@@ -164,12 +164,12 @@ no_hyphen_behind_a_class_with_u : pattern_of unicode (codes "[\\d-z]") ≡ None
 unfolding pattern_of
 no_hyphen_behind_a_class_with_u = refl
 
--- two halves of a surrogate pair are one character
+-- The two halves of a surrogate pair are one character.
 pair_of_halves : pattern_of plain (codes "\\uD83D\\uDE00") ≡ Some (one (word (letter 0x1F600)))
 unfolding pattern_of
 pair_of_halves = refl
 
--- 0 before a digit begins an octal escape, and 8 is no octal digit
+-- `\0` before a digit starts an octal escape, and 8 is no octal digit.
 octal_before_another_digit : pattern_of plain (codes "\\08") ≡ Some (one (letters (0 ∷ 56 ∷ [])))
 unfolding pattern_of
 octal_before_another_digit = refl
@@ -185,7 +185,7 @@ abbrev captured : Pattern → Pattern
 captured p = one (word (group (capture None) p))
 
 module _ (setting : Setting) where
-  -- `(a|b|b)` over "ba": from the start the group captures the first character; a second equal outcome is dropped
+  -- `(a|b|b)` on "ba": from the start, the group captures the first character. A second equal outcome is dropped.
   two_ways : meaning setting (codes "ba") forwards
       (captured (either (word (letter 97)) (either (word (letter 98)) (one (word (letter 98))))))
       (record { place = 0; captures = None ∷ [] })
@@ -193,7 +193,7 @@ module _ (setting : Setting) where
   unfolding one_character captures same_state
   two_ways = refl
 
-  -- backwards from the end the last character comes first, and the smaller place comes first in the span
+  -- Backwards from the end, the last character is matched first. The smaller position is first in the span.
   behind : meaning setting (codes "ba") backwards (captured (one (word (letter 97)))) (record { place = 2; captures = None ∷ [] })
       ≡ record { place = 1; captures = Some (1, 2) ∷ [] } ∷ []
   unfolding one_character captures

@@ -1,4 +1,4 @@
--- What references match, by number and by name.
+-- Examples: what references by number and by name match.
 use Rattle.std.proofs.Common.{[], ◌∷◌, refl, codes}
 use Rattle.regress_examples.proofs.CharacterSets.{a_in_two_cases, k_in_two_cases, k_with_u}
 use Rattle.regress_examples.proofs.CharacterMeanings.{few_icase, few_icase_unicode}

@@ -1,4 +1,4 @@
--- What classes with the flag v and properties match: strings, operators, and classes in each other.
+-- Examples: what classes with the flag v and properties match: strings, operators, and nested classes.
 use Rattle.std.proofs.Common.{true, [], ◌∷◌, refl, codes}
 use Rattle.regress_tree.specs.Setting.{Setting}
 use Rattle.regress_examples.proofs.CharacterSets.{own_set, few_letters, k_set, closed_nothing, words_but_digits, words_but_digits_set, consonants, consonants_set}

@@ -1,4 +1,4 @@
--- Where the nodes of worked patterns stand, by computation. The spans are counted by hand on the patterns' code points.
+-- Examples: the spans of the nodes of patterns. The expected spans are counted by hand, in code points of the pattern.
 use Rattle.std.proofs.Common.{◌≡◌, ℕ, false, [], ◌∷◌, Some, None, refl, codes}
 use Rattle.regress_tree.specs.Reading.{backwards}
 use Rattle.regress_lexical.specs.Quantifiers.{quantifier_at}
@@ -36,7 +36,7 @@ grouped-derived = (
   refl,
 )
 
--- the letters, the empty alternative, the `Alt`, the group, the `Cat`, the final `Goal` and the root
+-- the two letters, the empty alternative, the `Alt`, the group, the `Cat`, the final `Goal` and the root
 grouped-spans : spans_of plain (codes "a(b|)") grouped grouped-derived
     ≡ to 0 1 ∷ to 2 3 ∷ to 4 4 ∷ to 2 4 ∷ to 1 5 ∷ to 0 5 ∷ to 5 5 ∷ to 0 5 ∷ []
 unfolding grouped-derived
@@ -64,8 +64,8 @@ looking_behind-derived = (
   refl,
 )
 
--- In the lookbehind the letters stand turned, and then come their `Cat` and the lookbehind itself. The loop has its `+`, and
--- the group around it no node.
+-- In the lookbehind the letters are reversed, and then come their `Cat` and the lookbehind itself. The span of the loop
+-- includes its `+`. The group around it has no node.
 looking_behind-spans : spans_of plain (codes "(?<=ab)(?:c+)") looking_behind looking_behind-derived
     ≡ to 5 6 ∷ to 4 5 ∷ to 4 6 ∷ to 0 7 ∷ to 10 11 ∷ to 10 12 ∷ to 0 13 ∷ to 13 13 ∷ to 0 13 ∷ []
 unfolding looking_behind-derived

@@ -1,4 +1,4 @@
--- The definitions at values, each computed.
+-- Examples: tables, and the case mappings and sets of the small table.
 use Rattle.std.proofs.Common.{◌≡◌, ℕ, true, false, List, [], ◌∷◌, Some, None, pos, negsuc, refl, codes}
 use Rattle.regress_base.specs.Intervals.{Bounds}
 use Rattle.regress_unicode.specs.FoldRows.{FoldRow, image, is_in_order, are_targets_in_range, stays_in_range}
@@ -12,7 +12,7 @@ row start length = record { start = start; length = length; delta = pos 1; modul
 set : ℕ → ℕ → List Bounds
 set first last = record { first = first; last = last } ∷ []
 
--- each second code point of a row moves
+-- Every second code point of an entry is mapped.
 image-moves : image (record { start = 4; length = 4; delta = pos 1; modulo = 2 } ∷ []) 6 ≡ 7
 unfolding image
 image-moves = refl
@@ -25,13 +25,13 @@ image-beyond : image (record { start = 4; length = 4; delta = pos 1; modulo = 2 
 unfolding image
 image-beyond = refl
 
--- the first row that has the code point counts
+-- The first entry with the code point applies.
 image-first : image (record { start = 4; length = 1; delta = negsuc 0; modulo = 1 } ∷ record
     { start = 4; length = 1; delta = pos 1; modulo = 1 } ∷ []) 4 ≡ 3
 unfolding image
 image-first = refl
 
--- runs that touch are in order, and runs that share a code point are not
+-- Adjacent runs are in order, and runs that share a code point are not.
 order-touching : is_in_order (row 4 4 ∷ row 8 1 ∷ []) ≡ true
 unfolding row
 order-touching = refl
@@ -44,7 +44,7 @@ order-turned : is_in_order (row 8 1 ∷ row 4 4 ∷ []) ≡ false
 unfolding row
 order-turned = refl
 
--- the ends of a run decide on its target
+-- The ends of a run decide whether its targets are in range.
 target-below : stays_in_range (negsuc 65) 0x41 ≡ false
 target-below = refl
 
@@ -61,7 +61,7 @@ targets-one_out : are_targets_in_range (row 4 4 ∷ record { start = 0; length =
 unfolding row
 targets-one_out = refl
 
--- the first entry of a name
+-- A name denotes its first entry.
 named-first : named {A = ℕ} (codes "b") (record { name = codes "a"; value = 1 } ∷ record { name = codes "b"; value = 2 } ∷ record
     { name = codes "b"; value = 3 } ∷ []) ≡ Some 2
 unfolding named
@@ -71,7 +71,6 @@ named-none : named {A = ℕ} (codes "c") (record { name = codes "a"; value = 1 }
 unfolding named
 named-none = refl
 
--- strings
 string-empty : is_string [] ≡ false
 string-empty = refl
 
@@ -81,7 +80,6 @@ string-last = refl
 string-past : is_string (0x61 ∷ 0x110000 ∷ []) ≡ false
 string-past = refl
 
--- lists
 ascending-twice : is_ascending (1 ∷ 1 ∷ []) ≡ false
 ascending-twice = refl
 
@@ -94,7 +92,7 @@ lists-last = refl
 lists-none : lists (0 ∷ 7 ∷ []) 6 ≡ false
 lists-none = refl
 
--- the small table: MICRO SIGN, KELVIN SIGN and LATIN SMALL LETTER LONG S
+-- With the small table: MICRO SIGN, KELVIN SIGN and LATIN SMALL LETTER LONG S.
 canon-u : canon small_table true 0xB5 ≡ 0x3BC
 unfolding image small_table
 canon-u = refl

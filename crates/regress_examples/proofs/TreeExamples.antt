@@ -1,4 +1,4 @@
--- The definitions at worked trees and places, by computation.
+-- Examples: what trees match, and the sizes of trees.
 use Rattle.std.proofs.Common.{◌≡◌, ℕ, Bool, true, false, List, [], ◌∷◌, map, Option, Some, None, refl, codes}
 use Rattle.std.specs.Str.{chars}
 use lib.Utf8.{encode}
@@ -43,22 +43,22 @@ a = leaf (char 97)
 abbrev b : Tree
 b = leaf (char 98)
 
--- a state where nothing has captured
+-- a state without captures
 abbrev at : ℕ → State
 at place = record { place = place; captures = [] }
 
--- where one group has captured this
+-- a state with the capture of one group
 abbrev with_group : ℕ → Option CaptureSpan → State
 with_group place span = record { place = place; captures = span ∷ [] }
 
 -- ---- repetition
 
--- `a*` over "aa" takes as many as it can, and then fewer
+-- `a*` on "aa" matches as many characters as possible first, and then fewer.
 greedy_star : matches plain (codes "aa") forwards (wrapped (loop star 0 0) a) (at 0) ≡ at 2 ∷ at 1 ∷ at 0 ∷ []
 unfolding one_character chars encode character_at read_after repeat same_state
 greedy_star = refl
 
--- `a*?` over "aa" takes as few as it can, and then more
+-- `a*?` on "aa" matches as few characters as possible first, and then more.
 lazy_one : matches plain (codes "aa") forwards (wrapped (loop_one lazy_star) a) (at 0) ≡ at 0 ∷ at 1 ∷ at 2 ∷ []
 unfolding one_character chars encode character_at read_after repeat same_state
 lazy_one = refl
@@ -68,30 +68,30 @@ star_backwards : matches plain (codes "aa") backwards (wrapped (loop star 0 0) a
 unfolding one_character chars encode character_at read_before repeat same_state
 star_backwards = refl
 
--- `(?:|a)*` over "a": a turn that does not move is dropped
+-- `(?:|a)*` on "a": an iteration that matches the empty text is dropped.
 empty_turns_are_dropped : matches plain (codes "a") forwards (wrapped (loop star 0 0) (alt (leaf empty) a)) (at 0) ≡ at 1 ∷ at 0 ∷ []
 unfolding one_character chars encode character_at read_after repeat same_state
 empty_turns_are_dropped = refl
 
--- `(?:|a){2}` over "a": a turn of the least number may be empty
+-- `(?:|a){2}` on "a": one of the minimum number of iterations can match the empty text.
 least_turns_may_be_empty : matches plain (codes "a") forwards (wrapped (loop twice 0 0) (alt (leaf empty) a)) (at 0) ≡ at 0 ∷ at 1 ∷ []
 unfolding one_character chars encode character_at read_after repeat same_state
 least_turns_may_be_empty = refl
 
--- `(?:(a)|b)*` over "ab": the second turn forgets what the group captured in the first
+-- `(?:(a)|b)*` on "ab": the second iteration unsets the group that the first one set.
 turns_forget : matches plain (codes "ab") forwards (wrapped (loop star 0 1) (alt (wrapped (capture_group 0 None) a) b)) (with_group 0 None)
     ≡ with_group 2 None ∷ with_group 1 (Some (0, 1)) ∷ with_group 0 None ∷ []
 unfolding one_character chars encode character_at read_after capture repeat same_state
 turns_forget = refl
 
--- the groups around the range keep what they have captured
+-- The groups outside the range keep their captures.
 unset_middle : unset 1 2 (record { place = 5; captures = Some (0, 1) ∷ Some (1, 2) ∷ Some (2, 3) ∷ [] })
     ≡ record { place = 5; captures = Some (0, 1) ∷ None ∷ Some (2, 3) ∷ [] }
 unset_middle = refl
 
 -- ---- anchors and boundaries
 
--- `^` and `$` in "a", a line feed, "b": the ends, and with `multiline` also the ends of a line
+-- where `^` and `$` match in "a", a line feed, "b": at the ends, and with `multiline` also at the ends of a line
 abbrev starts : (multiline : Bool) → List Bool
 starts multiline = map (at_anchor (of_characters (97 ∷ 10 ∷ 98 ∷ [])) StartOfLine multiline) (0 ∷ 1 ∷ 2 ∷ 3 ∷ [])
 
@@ -112,12 +112,12 @@ line_ends : ends true ≡ false ∷ true ∷ false ∷ true ∷ []
 unfolding is_member is_within
 line_ends = refl
 
--- a tree's anchor asks the bytes: behind U+2028, three bytes, a line starts
+-- The anchor of a tree tests bytes: after U+2028, which has three bytes, a line starts.
 behind_a_separator : matches plain (0xE2 ∷ 0x80 ∷ 0xA8 ∷ []) forwards (leaf (anchor StartOfLine true)) (at 3) ≡ at 3 ∷ []
 unfolding is_member is_within hold_at chars encode character_at read_before same_state
 behind_a_separator = refl
 
--- in "a-": a boundary before and behind the letter, none at the end
+-- word boundaries in "a-": before and after the letter, and not at the end
 abbrev boundaries : (invert : Bool) → List Bool
 boundaries invert = map (at_boundary (of_characters (codes "a-")) (is_word_character small_table false) invert) (0 ∷ 1 ∷ 2 ∷ [])
 
@@ -129,7 +129,7 @@ off_boundaries : boundaries true ≡ false ∷ false ∷ true ∷ []
 unfolding is_member is_within
 off_boundaries = refl
 
--- with `unicode_icase` U+017F and U+212A, which fold to s and k, are in the word set
+-- With `unicode_icase`, U+017F and U+212A are word characters, since they fold to s and k.
 words_in_either_case : map (is_word_character small_table true) (0x17F ∷ 0x212A ∷ 0x2D ∷ []) ≡ true ∷ true ∷ false ∷ []
 unfolding is_in_closure small_table image
 words_in_either_case = refl
@@ -140,18 +140,18 @@ words_as_they_stand = refl
 
 -- ---- lookarounds
 
--- `(?=(a))` in "ab": the place stays, and what the group has captured
+-- `(?=(a))` on "ab" keeps the position and the capture of its group.
 a_look_captures : matches plain (codes "ab") forwards (wrapped (lookaround false false 0 1) (wrapped (capture_group 0 None) a)) (with_group 0 None)
     ≡ with_group 0 (Some (0, 1)) ∷ []
 unfolding one_character chars encode character_at read_after capture look same_state
 a_look_captures = refl
 
--- `(?=a*)` in "aa" gives the first outcome of its body alone
+-- `(?=a*)` on "aa" yields only the first outcome of its body.
 one_outcome : matches plain (codes "aa") forwards (wrapped (lookaround false false 0 0) (wrapped (loop star 0 0) a)) (at 0) ≡ at 0 ∷ []
 unfolding one_character chars encode character_at read_after repeat look same_state
 one_outcome = refl
 
--- `(?!b)` in "ab"
+-- `(?!b)` on "ab"
 no_b_ahead : matches plain (codes "ab") forwards (wrapped (lookaround true false 0 0) b) (at 0) ≡ at 0 ∷ []
 unfolding one_character chars encode character_at read_after look same_state
 no_b_ahead = refl
@@ -160,7 +160,8 @@ b_ahead : matches plain (codes "ab") forwards (wrapped (lookaround true false 0 
 unfolding one_character chars encode character_at read_after look
 b_ahead = refl
 
--- `(?<=ab)` behind "ab": the parts of its body stand turned, and it looks backwards where the whole goes forwards
+-- `(?<=ab)` after "ab": the parts of its body are reversed, and it matches backwards where the whole tree matches
+-- forwards.
 abbrev behind_ab : Tree
 behind_ab = wrapped (lookaround false true 0 0) (cat (more_trees b (more_trees a no_trees)))
 
@@ -172,14 +173,14 @@ no_ab_behind : matches plain (codes "ab") forwards behind_ab (at 1) ≡ []
 unfolding one_character chars encode character_at read_before look
 no_ab_behind = refl
 
--- `(?=a)` looks forwards, also where the whole goes backwards
+-- `(?=a)` matches forwards, also where the whole tree matches backwards.
 ahead_in_a_lookbehind : matches plain (codes "ab") backwards (wrapped (lookaround false false 0 0) a) (at 0) ≡ at 0 ∷ []
 unfolding one_character chars encode character_at read_after look same_state
 ahead_in_a_lookbehind = refl
 
 -- ---- references
 
--- `\1` where the group has captured nothing, or there is none
+-- `\1` where the group is unset or does not exist matches the empty text.
 unset_group : matches plain (codes "a") forwards (leaf (back_ref 1 false)) (with_group 0 None) ≡ with_group 0 None ∷ []
 unfolding back_reference same_state
 unset_group = refl
@@ -188,7 +189,7 @@ no_such_group : matches plain (codes "a") backwards (leaf (back_ref 2 false)) (w
 unfolding back_reference same_state
 no_such_group = refl
 
--- U+E9 and U+1F600 twice, of two bytes and of four
+-- U+E9 and U+1F600 twice, which have two bytes and four
 abbrev two_twice : List ℕ
 two_twice = 0xC3 ∷ 0xA9 ∷ 0xF0 ∷ 0x9F ∷ 0x98 ∷ 0x80 ∷ 0xC3 ∷ 0xA9 ∷ 0xF0 ∷ 0x9F ∷ 0x98 ∷ 0x80 ∷ []
 
@@ -200,12 +201,12 @@ two_before : matches plain two_twice backwards (leaf (back_ref 1 false)) (with_g
 unfolding one_character chars encode character_at read_after read_before back_reference same_state
 two_before = refl
 
--- from another place, other characters stand there
+-- From another position, there are other characters.
 others_behind : matches plain two_twice forwards (leaf (back_ref 1 false)) (with_group 2 (Some (0, 6))) ≡ []
 unfolding one_character chars encode character_at read_after back_reference
 others_behind = refl
 
--- with `icase` a letter in its other case
+-- With `icase`, a letter matches its other case.
 in_either_case : matches plain (codes "aA") forwards (leaf (back_ref 1 true)) (with_group 1 (Some (0, 1))) ≡ with_group 2 (Some (0, 1)) ∷ []
 unfolding one_character chars encode character_at read_after back_reference same_state small_table image
 in_either_case = refl
@@ -216,7 +217,7 @@ in_one_case = refl
 
 -- ---- sets of strings
 
--- "ab" and "a", of which one is the front of the other, in the order in which they stand
+-- "ab" and "a", of which one is a prefix of the other, are tried in the given order.
 longer_first : matches plain (codes "ab") forwards (leaf (string_set (codes "ab" ∷ codes "a" ∷ []) false)) (at 0) ≡ at 2 ∷ at 1 ∷ []
 unfolding one_character chars encode character_at read_after any_string same_state
 longer_first = refl
@@ -225,12 +226,12 @@ shorter_first : matches plain (codes "ab") forwards (leaf (string_set (codes "a"
 unfolding one_character chars encode character_at read_after any_string same_state
 shorter_first = refl
 
--- before the place each string stands as it is written
+-- Backwards, each string is still matched as it is written, before the position.
 strings_before : matches plain (codes "ab") backwards (leaf (string_set (codes "ab" ∷ codes "ba" ∷ codes "b" ∷ []) false)) (at 2) ≡ at 0 ∷ at 1 ∷ []
 unfolding one_character chars encode character_at read_before any_string same_state
 strings_before = refl
 
--- with `icase` letters in their other case
+-- With `icase`, letters match their other case.
 strings_in_either_case : matches plain (codes "Ab") forwards (leaf (string_set (codes "aB" ∷ []) true)) (at 0) ≡ at 2 ∷ []
 unfolding one_character chars encode character_at read_after any_string same_state small_table image
 strings_in_either_case = refl
@@ -239,7 +240,7 @@ strings_in_one_case : matches plain (codes "Ab") forwards (leaf (string_set (cod
 unfolding one_character chars encode character_at read_after any_string
 strings_in_one_case = refl
 
--- a set of none, and an empty string
+-- an empty set of strings, and a set of an empty string
 no_string : matches plain (codes "a") forwards (leaf (string_set [] false)) (at 0) ≡ []
 unfolding any_string
 no_string = refl
@@ -250,7 +251,7 @@ an_empty_string = refl
 
 -- ---- bytes and brackets
 
--- a byte sequence compares its bytes as they stand, behind the place or before it
+-- A byte sequence matches its bytes in the given order, after the position or before it.
 bytes_behind : matches plain (codes "abab") forwards (leaf (byte_sequence (codes "ab"))) (at 2) ≡ at 4 ∷ []
 unfolding these_bytes same_state
 bytes_behind = refl
@@ -267,7 +268,7 @@ too_few_bytes_before : matches plain (codes "abab") backwards (leaf (byte_sequen
 unfolding these_bytes
 too_few_bytes_before = refl
 
--- `[^\d]` takes a letter, and no digit
+-- `[^\d]` matches a letter and no digit.
 letter_is_no_digit : matches plain (codes "a1") forwards (leaf (bracket true digits)) (at 0) ≡ at 1 ∷ []
 unfolding is_member is_within one_character chars encode character_at read_after same_state
 letter_is_no_digit = refl
@@ -278,7 +279,7 @@ digit_is_one = refl
 
 -- ---- sizes
 
--- a loop may be unrolled where its least number is not 0, and then its account holds what that may add
+-- A loop can be unrolled if its minimum is not 0; its account then includes what that can add.
 star_stays : loops (wrapped (loop star 0 0) a) ≡ 0
 star_stays = refl
 

@@ -1,3 +1,3 @@
-//! Worked examples: the definitions computed on trees, tables, classes, names and patterns, in `proofs/`. Nothing stands on
-//! this crate, and it has no code.
+//! Worked examples for the definitions, computed on trees, tables, classes, names and patterns, in `proofs/`. No other
+//! crate depends on this one, and it has no code.
 #![tactic(auto)]

@@ -1,4 +1,4 @@
--- The definitions that the public contracts cite, passed on, so that a caller names one library.
+-- The definitions that the public contracts cite, exported again, so that a caller names one library.
 
 -- Sets, bytes and limits.
 pub use Rattle.regress_base.specs.Limits
@@ -13,7 +13,7 @@ pub use Rattle.regress_base.specs.AsciiBitmap
 pub use Rattle.regress_base.specs.Places
 pub use Rattle.regress_base.specs.Needle
 pub use Rattle.regress_base.specs.Ranges
--- The table.
+-- The table of case and properties.
 pub use Rattle.regress_base.specs.Table
 pub use Rattle.regress_unicode.specs.FoldRows
 pub use Rattle.regress_unicode.specs.Parts

@@ -1,4 +1,4 @@
--- Letters that switch on and letters that switch off.
+-- The letters of modifiers that switch flags on and off.
 use Rattle.std.proofs.Common.{◌≡◌, ℕ, Bool, true, false, not, ◌&&◌, ◌||◌, ◌==◌, List, [], ◌∷◌, ◌++◌, refl, sym}
 use Rattle.std.proofs.Math.Bool.{and-true}
 use Rattle.std.specs.List.{list_all}
@@ -16,7 +16,7 @@ regroup false true true false e = refl
 regroup false true false d e = refl
 regroup false false c d e = refl
 
--- no letter twice in both, one behind the other
+-- The letters of a concatenation are distinct exactly if those of each list are and the lists share none.
 pub different_in_both : (on off : List ℕ) →
     are_different (on ++ off) ≡ (are_different on && are_different off && list_all (λ c. not (stands_in c off)) on)
 different_in_both [] off = sym (and-true (are_different off))

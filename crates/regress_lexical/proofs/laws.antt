@@ -1,4 +1,4 @@
--- Laws of this crate's definitions, which the crates above may cite.
+-- Lemmas about this crate's definitions, for the crates that depend on it.
 pub mod Sources
 pub mod Digits
 pub mod Behind

@@ -1,4 +1,4 @@
--- Digits at the front of a source, and letters.
+-- Digits and letters at the start of a source.
 use Rattle.std.specs.Prelude.{ℕ, ◌+◌, ◌-◌, ◌*◌, ◌%◌, Bool, ◌&&◌, ◌||◌, List, [], ◌∷◌, length, take, drop, Some, None, if◌then◌else◌, nat_le, ◌==◌}
 use Rattle.std.specs.List.{list_all}
 use Rattle.regress_lexical.specs.Source.{Source, Found, char}
@@ -22,11 +22,11 @@ is_letter c = is_between (char "A") (char "Z") c || is_between (char "a") (char 
 abbrev pub is_hex : ℕ → Bool
 is_hex c = is_decimal c || is_between (char "A") (char "F") c || is_between (char "a") (char "f") c
 
--- what a digit of any of these kinds stands for
+-- the value of a decimal or hexadecimal digit
 abbrev pub digit : ℕ → ℕ
 digit c = if is_decimal c then c - char "0" else if is_between (char "A") (char "F") c then c - (char "A" - 10) else c - (char "a" - 10)
 
--- the number that these digits write in a base, behind those that write n
+-- the number that these digits denote in a base, after digits that denote n
 abbrev pub number_from : ℕ → ℕ → List ℕ → ℕ
 number_from base n [] = n
 number_from base n (c ∷ cs) = number_from base (n * base + digit c) cs
@@ -34,7 +34,7 @@ number_from base n (c ∷ cs) = number_from base (n * base + digit c) cs
 abbrev pub number : ℕ → List ℕ → ℕ
 number base = number_from base 0
 
--- the longest front of the source whose code points pass the test, and what stands behind it
+-- the longest prefix of the source whose code points pass the test, and the source after it
 unfoldable pub front : (ℕ → Bool) → Source → Source
 front p [] = []
 front p (c ∷ t) = if p c then c ∷ front p t else []
@@ -47,6 +47,6 @@ behind p (c ∷ t) = if p c then behind p t else c ∷ t
 abbrev pub hex_at : ℕ → Source → Found ℕ
 hex_at n t = if length (take n t) == n && list_all is_hex (take n t) then Some (number 16 (take n t), drop n t) else None
 
--- what a control letter stands for: its code modulo 32
+-- the value of a control letter: its code modulo 32 (ECMA-262, CharacterValue)
 abbrev pub control : ℕ → ℕ
 control c = c % 32

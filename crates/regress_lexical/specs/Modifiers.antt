@@ -1,11 +1,11 @@
--- Modifiers of a group: flags that are switched on what stands inside (ECMA-262, RegularExpressionModifiers).
+-- The modifiers of a group: flags that it changes for its body (ECMA-262, RegularExpressionModifiers).
 use Rattle.std.specs.Prelude.{ℕ, Bool, true, false, not, ◌&&◌, List, [], ◌∷◌, ◌++◌, length, drop, Option, Some, None, if◌then◌else◌, ◌==◌}
 use Rattle.std.specs.List.{list_any}
 use Rattle.regress_base.specs.declared.types.Flags.{Flags}
 use Rattle.regress_lexical.specs.Source.{Source, Found, char, is_one_of, colon, is_at}
 use Rattle.regress_lexical.specs.Digits.{front, behind}
 
--- what becomes of each flag that can be switched: on, off, or as it was
+-- the change of each flag that modifiers can switch: on, off, or none
 pub record Change : Type 0 where
   pub icase : Option Bool
   pub multiline : Option Bool
@@ -15,7 +15,7 @@ abbrev pub switched : Option Bool → Bool → Bool
 switched None old = old
 switched (Some new) old = new
 
--- the flags inside
+-- the flags inside the group (ECMA-262, UpdateModifiers)
 abbrev pub changed : Change → Flags → Flags
 changed change flags = record flags {
   icase = switched change.icase flags.icase;
@@ -29,26 +29,26 @@ is_modifier c = is_one_of "ims" c
 abbrev pub stands_in : ℕ → List ℕ → Bool
 stands_in c letters = list_any (λ d. d == c) letters
 
--- no letter twice
+-- no letter occurs twice
 abbrev pub are_different : List ℕ → Bool
 are_different [] = true
 are_different (c ∷ cs) = not (stands_in c cs) && are_different cs
 
--- what the letters that switch on and those that switch off say of one
+-- the change of one flag, by the letters that switch on and those that switch off
 abbrev pub switch : (on off : List ℕ) → ℕ → Option Bool
 switch on off c = if stands_in c on then Some true else if stands_in c off then Some false else None
 
 abbrev pub change_by : (on off : List ℕ) → Change
 change_by on off = record { icase = switch on off (char "i"); multiline = switch on off (char "m"); dot_all = switch on off (char "s") }
 
--- the letters behind a hyphen, if one is there
+-- the letters after a hyphen, if there is one
 abbrev pub letters_off : Source → List ℕ
 letters_off t = if is_at (char "-") t then front is_modifier (drop 1 t) else []
 
 abbrev pub behind_letters_off : Source → Source
 behind_letters_off t = if is_at (char "-") t then behind is_modifier (drop 1 t) else t
 
--- Letters, perhaps a hyphen and letters, and `:`: one letter at least, and none twice.
+-- Letters, an optional hyphen with letters, and `:`. There is at least one letter, and none occurs twice.
 unfoldable pub modifiers_at : Source → Found Change
 modifiers_at t =
     let on = front is_modifier t in

@@ -1,24 +1,24 @@
--- The quantifier at the front of a source (ECMA-262, Quantifier).
+-- The quantifier at the start of a source (ECMA-262, Quantifier).
 use Rattle.std.specs.Prelude.{ℕ, ◌-◌, ◌^◌, Bool, true, not, min, [], ◌∷◌, length, drop, Option, Some, None, if◌then◌else◌, nat_le, ◌==◌}
 use Rattle.regress_base.specs.declared.types.Quantifier.{Quantifier}
 use Rattle.regress_lexical.specs.Source.{Source, Found, ◌>>=◌, char, is_at, question_mark}
 use Rattle.regress_lexical.specs.Digits.{is_decimal, number, front, behind}
 
--- how often at least and at most, none being without a limit
+-- minimum and maximum; `None` if there is no maximum
 abbrev pub Times : Type 0
 Times = ℕ × Option ℕ
 
--- a number of one or more digits, which saturates at `usize::MAX` once all are read (this project's profile)
+-- A number of one or more digits, which saturates at `usize::MAX` after all digits are parsed (dialect).
 abbrev pub count_at : Source → Found ℕ
 count_at t =
     if length (front is_decimal t) == 0 then None
     else Some (min (number 10 (front is_decimal t)) (2 ^ 64 - 1), behind is_decimal t)
 
--- the brace that closes
+-- the closing brace
 abbrev pub closed_brace : Times → Source → Found Times
 closed_brace times t = if is_at (char "}") t then Some (times, drop 1 t) else None
 
--- behind the least number: `}`, `,}`, or `,`, the greatest number and `}`
+-- what follows the minimum: `}`, `,}`, or `,`, the maximum and `}`
 abbrev pub most_at : ℕ × Source → Found Times
 most_at (least, t) =
     if is_at (char ",") t
@@ -26,7 +26,7 @@ most_at (least, t) =
     else (count_at (drop 1 t) >>= λ (most, rest). closed_brace (least, Some most) rest))
     else closed_brace (least, Some least) t
 
--- `*`, `+`, `?` or numbers in braces
+-- `*`, `+`, `?` or numbers in braces (ECMA-262, QuantifierPrefix)
 abbrev pub times_by : ℕ → Source → Found Times
 times_by c t =
     if c == char "*" then Some ((0, None), t)
@@ -35,7 +35,7 @@ times_by c t =
     else if c == char "{" then count_at t >>= most_at
     else None
 
--- `?` behind it makes it lazy
+-- A `?` after it makes the quantifier lazy.
 abbrev pub greedy_or_lazy : Times × Source → Found Quantifier
 greedy_or_lazy (times, t) = Some (
   record { min = times.0; max = times.1; greedy = not (is_at question_mark t) },
@@ -46,6 +46,6 @@ unfoldable pub quantifier_at : Source → Found Quantifier
 quantifier_at [] = None
 quantifier_at (c ∷ t) = times_by c t >>= greedy_or_lazy
 
--- the least number is no greater than the greatest
+-- The minimum is at most the maximum.
 abbrev pub is_ordered : Quantifier → Bool
 is_ordered q = elim q.max [ None ↦ true | Some most ↦ nat_le q.min most ]

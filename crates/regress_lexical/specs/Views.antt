@@ -1,13 +1,13 @@
--- What the values of the code stand for.
+-- What the values of the code represent.
 use Rattle.regress_lexical.specs.declared.cursor.Cursor.{Cursor}
 use Rattle.regress_lexical.specs.declared.modifiers.Change.{Change as CodeChange}
 use Rattle.regress_lexical.specs.Modifiers.{Change}
 use Rattle.regress_lexical.specs.Source.{Source}
 
--- what is still to read
+-- the source that remains at a cursor
 abbrev pub source : Cursor → Source
 source cursor = cursor.rest.now
 
--- what a group switches
+-- the change of flags
 abbrev pub change_of : CodeChange → Change
 change_of change = record { icase = change.icase; multiline = change.multiline; dot_all = change.dot_all }

@@ -1,4 +1,4 @@
-//! A place in the source of a pattern.
+//! A position in the source of a pattern.
 ghost use Rattle.std.specs.Prelude.{◌≡◌, All};
 ghost use Rattle.std.proofs.Props.{props};
 ghost use Rattle.regress_lexical.specs.Source.{IsCodePoint, is_special, is_plain};
@@ -8,11 +8,11 @@ use crate::fault::{Fault, FaultKind, refused};
 use crate::quantifier::may_begin;
 use std::alloc::Global;
 
-/// Whether the code point begins rows of its own, or none.
+/// Whether `c` is no literal by itself (ECMA-262, SyntaxCharacter).
 fn is_special(c: u32) -> bool
     ensures { result ≡ is_special c }
 {
-    // In two parts, of which each is tested by the bits of one word.
+    // The split in two halves lets each be tested by the bits of one word.
     if c < u32::from('@') {
         c == u32::from('*')
             || c == u32::from('+')
@@ -32,19 +32,19 @@ fn is_special(c: u32) -> bool
     }
 }
 
-/// Whether the code point stands for itself.
+/// Returns whether the code point is a literal by itself (ECMA-262, PatternCharacter).
 pub fn is_plain(c: u32) -> bool
     ensures { result ≡ is_plain c }
 {
-    // Most are letters.
+    // Most code points are letters.
     is_letter(c) || !is_special(c)
 }
 
-/// A place in the source of a pattern: what is still to read.
+/// A position in the source of a pattern: `rest` has the code points that remain to be parsed, each at most U+10FFFF.
 #[derive(Drop)]
 pub struct Cursor<'a> {
     pub rest: &'a [u32],
-    /// Where what is read finds memory.
+    /// The allocator for what is parsed.
     pub alloc: Global,
     pub ghost in_range: { All IsCodePoint rest.now } by { Prim.hlevel props },
 }
@@ -57,14 +57,14 @@ impl Cursor<'_> {
     ghost use Rattle.regress_lexical.specs.Views.{source};
     ghost use Rattle.regress_lexical.specs.declared.fault.Fault.TheVariants.{Refused};
 
-    /// A fault of the pattern, here.
+    /// Returns a syntax error of this kind at the cursor's position.
     pub fn refuse(&self, kind: FaultKind) -> Fault
         ensures { result ≡ Refused (record { kind = kind; left = length (source self.now) }) }
     {
         refused(self.rest.len(), kind)
     }
 
-    /// Whether `c` comes next.
+    /// Returns whether `c` is the next code point.
     pub fn is_at(&self, c: char) -> bool
         ensures { result ≡ is_at c (source self.now) }
     {
@@ -74,7 +74,7 @@ impl Cursor<'_> {
         }
     }
 
-    /// Whether the alternative ends here: at a `)`, a `|` or the end.
+    /// Returns whether the alternative ends here: at a `)`, a `|` or the end of the source.
     pub fn ends_alternative(&self) -> bool
         ensures { result ≡ ends_alternative (source self.now) }
     {
@@ -84,7 +84,7 @@ impl Cursor<'_> {
         }
     }
 
-    /// Moves past `c`, if it comes next.
+    /// Moves past `c` if it is the next code point, and returns whether it was.
     pub fn try_consume(&mut self, c: char) -> bool
         ensures found { result ≡ is_at c (source self.old) }
         ensures moves { source self.new ≡ (if result then drop 1 (source self.old) else source self.old) }
@@ -96,7 +96,7 @@ impl Cursor<'_> {
         found
     }
 
-    /// Takes the next code point, if there is one.
+    /// Takes the next code point and returns it, or returns `None` at the end of the source.
     pub fn next(&mut self) -> Option<u32>
         ensures some { IfSome result (λ c. source self.old ≡ c ∷ source self.new) }
         ensures none { IfNone result (source self.old ≡ []) }
@@ -106,7 +106,8 @@ impl Cursor<'_> {
         Some(*next)
     }
 
-    /// Takes the next code point, if it stands for itself and no quantifier can begin behind it, as with most.
+    /// Takes the next code point if it is a literal and the one after it begins no quantifier, as most often. Otherwise
+    /// returns `None` and does not move.
     pub fn next_plain(&mut self) -> Option<u32>
         ensures some { IfSome result (λ c. source self.old ≡ c ∷ source self.new) }
         ensures plain { IfSome result (λ c. is_plain c ≡ true) }
@@ -121,8 +122,11 @@ impl Cursor<'_> {
         Some(*next)
     }
 
-    /// Moves past the parenthesis that closes a group, which was opened where so many code points were left. The fault
-    /// comes where none comes next.
+    /// Moves past the `)` that closes a group. `opened` is the number of code points that remained at the group's `(`.
+    ///
+    /// # Errors
+    /// Returns [`FaultKind::UnbalancedParenthesis`], at the position of the group's `(`, if the next code point is no
+    /// `)`. The cursor does not move then.
     pub fn consume_closing(&mut self, opened: usize) -> Result<(), Fault>
         ensures ok { OnOk result (source self.old ≡ closing ∷ source self.new) }
         ensures err { OnErr result (is_at closing (source self.old) ≡ false) }

@@ -1,4 +1,4 @@
-//! Digits at the front of a source, and letters.
+//! Parses digits and letters at the start of a source.
 ghost use Rattle.std.specs.Prelude.{◌≡◌, ◌≤◌, ◌-◌, ◌^◌, true, [], ◌∷◌, min, length, drop, Some, None, IfSome, IfNone, option_map, if◌then◌else◌};
 ghost use Rattle.std.specs.List.{prefix_len, list_all};
 ghost use Rattle.regress_lexical.specs.Source.{is_at};
@@ -6,10 +6,10 @@ ghost use Rattle.regress_lexical.specs.Digits.{is_between, is_decimal, is_octal,
 ghost use Rattle.regress_lexical.specs.Quantifiers.{count_at};
 ghost use Rattle.regress_lexical.specs.Reads.{answered};
 
-/// What stands at the front of a source, and the source behind it; None where it doesn't stand there.
+/// What a source has at its start, and the source after it; `None` if the source does not start with it.
 pub type Read<'a, T> = Option<(T, &'a [u32])>;
 
-/// The source behind `c`, where that stands at the front.
+/// Returns the source after `c`, or `None` if `source` does not start with `c`.
 pub fn after(source: &[u32], c: char) -> Option<&[u32]>
     ensures { option_map (λ rest. rest.now) result ≡ (if is_at c source.now then Some (drop 1 source.now) else None) }
 {
@@ -19,42 +19,42 @@ pub fn after(source: &[u32], c: char) -> Option<&[u32]>
     }
 }
 
-/// Whether it is one of the characters from `first` to `last`.
+/// Returns whether `c` is one of the characters from `first` to `last`, both included.
 pub fn is_between(first: char, last: char, c: u32) -> bool
     ensures { result ≡ is_between first last c }
 {
     u32::from(first) <= c && c <= u32::from(last)
 }
 
-/// 0 to 9.
+/// Returns whether `c` is a decimal digit, 0 to 9.
 pub fn is_decimal(c: u32) -> bool
     ensures { result ≡ is_decimal c }
 {
     is_between('0', '9', c)
 }
 
-/// 0 to 7.
+/// Returns whether `c` is an octal digit, 0 to 7.
 pub fn is_octal(c: u32) -> bool
     ensures { result ≡ is_octal c }
 {
     is_between('0', '7', c)
 }
 
-/// A to Z and a to z.
+/// Returns whether `c` is an ASCII letter, A to Z or a to z.
 pub fn is_letter(c: u32) -> bool
     ensures { result ≡ is_letter c }
 {
     is_between('A', 'Z', c) || is_between('a', 'z', c)
 }
 
-/// 0 to 9, A to F and a to f.
+/// Returns whether `c` is a hexadecimal digit, 0 to 9, A to F or a to f.
 pub fn is_hex(c: u32) -> bool
     ensures { result ≡ is_hex c }
 {
     is_decimal(c) || is_between('A', 'F', c) || is_between('a', 'f', c)
 }
 
-/// What a digit of any of these kinds stands for. Of any other code point it says nothing.
+/// Returns the value of a decimal or hexadecimal digit. For any other code point the result has no meaning.
 pub fn digit(c: u32) -> u32
     ensures { result ≡ digit c }
 {
@@ -67,14 +67,17 @@ pub fn digit(c: u32) -> u32
     }
 }
 
-/// What a control letter stands for.
+/// Returns the value of a control letter, which is its code modulo 32 (ECMA-262, CharacterValue).
 pub fn control(c: u32) -> u32
     ensures { result ≡ control c }
 {
     c % 32
 }
 
-/// The number that the digits write in the base, behind those that write `first`. It saturates.
+/// Returns the number that `digits` denote in this base after digits that denote `first`. It saturates at `usize::MAX`.
+///
+/// # Preconditions
+/// `base` is at least 2.
 pub fn number_from(base: usize, first: usize, digits: &[u32]) -> usize
     requires { 2 ≤ base }
     ensures { result ≡ min (number_from base first digits.now) (2 ^ 64 - 1) }
@@ -88,7 +91,7 @@ pub fn number_from(base: usize, first: usize, digits: &[u32]) -> usize
     number
 }
 
-/// How many hexadecimal digits are at the front.
+/// Returns the number of hexadecimal digits at the start of `source`.
 pub fn hex_length(source: &[u32]) -> usize
     ensures value { result ≡ prefix_len is_hex source.now }
     ensures within { result ≤ length source.now }
@@ -96,7 +99,7 @@ pub fn hex_length(source: &[u32]) -> usize
     source.iter().take_while(|c| is_hex(**c)).count()
 }
 
-/// How many octal digits are at the front.
+/// Returns the number of octal digits at the start of `source`.
 pub fn octal_length(source: &[u32]) -> usize
     ensures value { result ≡ prefix_len is_octal source.now }
     ensures within { result ≤ length source.now }
@@ -104,7 +107,7 @@ pub fn octal_length(source: &[u32]) -> usize
     source.iter().take_while(|c| is_octal(**c)).count()
 }
 
-/// The decimal digit at the front.
+/// Parses one decimal digit.
 #[tactic(auto, unfolding(crate::specs::Digits::front, crate::specs::Digits::behind))]
 fn read_decimal<'a>(source: &'a [u32]) -> Read<'a, u32>
     ensures some { IfSome result (λ found. (source.now ≡ found.0 ∷ found.1.now) × (is_decimal found.0 ≡ true)) }
@@ -118,8 +121,8 @@ fn read_decimal<'a>(source: &'a [u32]) -> Read<'a, u32>
     Some((*c, rest))
 }
 
-/// The number that the digits at the front write, behind those that write `first`, and the source behind them. It
-/// saturates.
+/// Parses decimal digits, as many as there are, and returns the number that they denote after digits that denote
+/// `first`. It saturates.
 fn read_on<'a>(first: usize, source: &'a [u32]) -> (usize, &'a [u32])
     ensures number { result.0 ≡ min (number_from 10 first (front is_decimal source.now)) (2 ^ 64 - 1) }
     ensures rest { result.1.now ≡ behind is_decimal source.now }
@@ -133,7 +136,7 @@ fn read_on<'a>(first: usize, source: &'a [u32]) -> (usize, &'a [u32])
     (number, rest)
 }
 
-/// A decimal number, which saturates once all its digits are read.
+/// Parses a decimal number, the longest run of digits. It saturates at `usize::MAX`, after all its digits are parsed.
 pub fn read_count<'a>(source: &'a [u32]) -> Read<'a, usize>
     ensures { answered result ≡ count_at source.now }
 {
@@ -141,14 +144,17 @@ pub fn read_count<'a>(source: &'a [u32]) -> Read<'a, usize>
     Some(read_on(digit(c) as usize, rest))
 }
 
-/// Whether all are hexadecimal digits.
+/// Whether all code points are hexadecimal digits.
 fn all_hex(digits: &[u32]) -> bool
     ensures { result ≡ list_all is_hex digits.now }
 {
     digits.iter().all(|c| is_hex(*c))
 }
 
-/// Exactly so many hexadecimal digits.
+/// Parses exactly `count` hexadecimal digits and returns the number that they denote.
+///
+/// # Preconditions
+/// `count` is at most 4.
 #[tactic(auto, using(crate::proofs::laws::Digits::hex_fits))]
 pub fn read_hex<'a>(source: &'a [u32], count: usize) -> Read<'a, u32>
     requires { count ≤ 4 }

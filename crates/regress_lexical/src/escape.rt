@@ -1,4 +1,4 @@
-//! Escapes of one character.
+//! Parses escapes of one character.
 ghost use Rattle.std.specs.Prelude.{◌≡◌, ◌≤◌, true, false, ◌∷◌, length, drop, Some, None, if◌then◌else◌, ◌&&◌, ◌+◌, nat_le, All, IfSome};
 ghost use Rattle.regress_lexical.specs.Escapes.{
   braced_hex_at,
@@ -26,7 +26,7 @@ use crate::digits::{
 };
 use crate::fault::FaultKind;
 
-/// The code points that stand for themselves behind a backslash.
+/// The code points that a backslash makes literal (ECMA-262, IdentityEscape with the flag u).
 const SYNTAX_CHARACTERS: [u32; 15] = [
     '^' as u32,
     '$' as u32,
@@ -45,14 +45,14 @@ const SYNTAX_CHARACTERS: [u32; 15] = [
     '/' as u32,
 ];
 
-/// Whether the code point stands for itself behind a backslash.
+/// Whether a backslash makes the code point literal.
 fn is_syntax_character(c: u32) -> bool
     ensures { result ≡ is_syntax_character c }
 {
     SYNTAX_CHARACTERS.contains(&c)
 }
 
-/// Hexadecimal digits, one at least, and `}`, for a code point.
+/// Parses at least one hexadecimal digit and `}`, after a `{`. The value is a code point.
 #[tactic(auto, using(crate::proofs::laws::Digits::front_taken, crate::proofs::laws::Digits::behind_dropped))]
 fn read_braced_hex<'a>(source: &'a [u32]) -> Read<'a, u32>
     ensures { answered result ≡ braced_hex_at source.now }
@@ -66,7 +66,7 @@ fn read_braced_hex<'a>(source: &'a [u32]) -> Read<'a, u32>
     Some((number as u32, rest))
 }
 
-/// `\u` and four digits.
+/// Parses `\u` and four hexadecimal digits.
 #[tactic(auto, using(crate::proofs::laws::Digits::drop_one_more))]
 fn read_unit<'a>(source: &'a [u32]) -> Read<'a, u32>
     ensures { answered result ≡ unit_at source.now }
@@ -74,7 +74,7 @@ fn read_unit<'a>(source: &'a [u32]) -> Read<'a, u32>
     read_hex(after(after(source, '\\')?, 'u')?, 4)
 }
 
-/// The second half of a surrogate pair.
+/// Parses `\u` and four hexadecimal digits with the value of a trailing surrogate.
 fn read_second_half<'a>(source: &'a [u32]) -> Read<'a, u32>
     ensures value { answered result ≡ second_half_at source.now }
     ensures first { IfSome result (λ found. 0xDC00 ≤ found.0) }
@@ -87,7 +87,7 @@ fn read_second_half<'a>(source: &'a [u32]) -> Read<'a, u32>
     Some((low, rest))
 }
 
-/// One code point of two halves, by the rule of UTF-16, where a second one follows a first one.
+/// Combines a leading surrogate with a trailing one if its escape follows (ECMA-262, UTF16SurrogatePairToCodePoint).
 fn with_second_half(high: u32, source: &[u32]) -> (u32, &[u32])
     ensures { Some (result.0, result.1.now) ≡ with_second_half (high, source.now) }
 {
@@ -100,7 +100,9 @@ fn with_second_half(high: u32, source: &[u32]) -> (u32, &[u32])
     }
 }
 
-/// The forms of `\u`, behind the u.
+/// Parses the rest of an escape with `\u`, after its `u` (ECMA-262, RegExpUnicodeEscapeSequence with the flag u).
+///
+/// The value is a code point, which may be an unpaired surrogate. The result is `None` if there is no valid escape.
 #[tactic(auto, unfolding(crate::specs::Escapes::unicode_at))]
 pub fn read_unicode<'a>(source: &'a [u32]) -> Read<'a, u32>
     ensures { answered result ≡ unicode_at source.now }
@@ -112,7 +114,7 @@ pub fn read_unicode<'a>(source: &'a [u32]) -> Read<'a, u32>
     Some(with_second_half(high, rest))
 }
 
-/// What the letter of an escape is where no value can be read: itself without the flag u, and nothing with it.
+/// Returns the letter of an escape without a value: the letter itself without the flag u, and `None` with it.
 fn itself<'a>(c: u32, source: &'a [u32], unicode: bool) -> Read<'a, u32>
     ensures { answered result ≡ or_itself unicode c source.now None }
 {
@@ -122,14 +124,14 @@ fn itself<'a>(c: u32, source: &'a [u32], unicode: bool) -> Read<'a, u32>
     Some((c, source))
 }
 
-/// How many octal digits may stand behind the first one, so that the number stays below 256.
+/// Returns how many octal digits may follow the first one, so that the value stays below 256.
 fn octal_room(first: u32) -> usize
     ensures { result + 1 ≡ (if nat_le first (char "3") then 3 else 2) }
 {
     if first <= u32::from('3') { 2 } else { 1 }
 }
 
-/// A number of up to three octal digits, of which `c` is the first: of two, where three would pass 255.
+/// Parses an octal number whose first digit is `c`. It has at most three digits, and its value is at most 255.
 fn read_octal(c: u32, source: &[u32]) -> (u32, &[u32])
     requires { digits_spec.is_octal c ≡ true }
     ensures value { result.0 ≡ digits_spec.number 8 (octal_digits c source.now) }
@@ -139,7 +141,7 @@ fn read_octal(c: u32, source: &[u32]) -> (u32, &[u32])
     (number_from(8, digit(c) as usize, digits) as u32, rest)
 }
 
-/// The escapes of one letter.
+/// Returns the value of an escape of one letter (ECMA-262, ControlEscape).
 fn letter_escape(c: u32) -> Option<u32>
     ensures { result ≡ letter_escape c }
 {
@@ -162,7 +164,7 @@ fn begins_with_digit(source: &[u32]) -> bool
     }
 }
 
-/// A letter behind `c`.
+/// Parses a letter after `\c`.
 fn read_control<'a>(source: &'a [u32]) -> Read<'a, u32>
     ensures { answered result ≡ control_at source.now }
 {
@@ -172,7 +174,7 @@ fn read_control<'a>(source: &'a [u32]) -> Read<'a, u32>
     }
 }
 
-/// An escape that begins with `c` and is none of one letter.
+/// Parses an escape that begins with `c` and is no control escape.
 fn read_other<'a>(c: u32, source: &'a [u32], unicode: bool) -> Read<'a, u32>
     ensures { answered result ≡ other_escape unicode c source.now }
 {
@@ -193,7 +195,10 @@ fn read_other<'a>(c: u32, source: &'a [u32], unicode: bool) -> Read<'a, u32>
     }
 }
 
-/// What an escape stands for, behind its backslash (ECMA-262, CharacterEscape with annex B).
+/// Parses an escape of one character, after its backslash, and returns the code point that it denotes (ECMA-262,
+/// CharacterEscape, with Annex B).
+///
+/// `unicode` is the flag u. The result is `None` if there is no valid escape.
 #[tactic(auto, unfolding(crate::specs::Escapes::escape_at))]
 pub fn read_escape<'a>(source: &'a [u32], unicode: bool) -> Read<'a, u32>
     ensures value { answered result ≡ escape_at unicode source.now }
@@ -206,7 +211,8 @@ pub fn read_escape<'a>(source: &'a [u32], unicode: bool) -> Read<'a, u32>
     }
 }
 
-/// Why there is no escape behind a backslash.
+/// Returns the kind of syntax error for a backslash that begins no valid escape; `source` is what follows the
+/// backslash.
 pub fn escape_fault(source: &[u32]) -> FaultKind
     ensures { is_limit result ≡ false }
 {

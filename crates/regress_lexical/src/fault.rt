@@ -1,97 +1,97 @@
-//! Why nothing is read.
+//! Why a pattern is rejected, or could not be parsed.
 
 ghost use Rattle.std.specs.Prelude.{◌≡◌, alloc_error};
 ghost use Rattle.regress_lexical.specs.declared.fault.Fault.TheVariants.{Refused, Memory};
 
 use std::alloc::{AllocError, AllocFailed};
 
-/// What is wrong with a pattern.
+/// A kind of syntax error.
 #[derive(Drop)]
 pub enum FaultKind {
-    /// A parenthesis too many, or too few.
+    /// A `)` too many, or a missing one.
     UnbalancedParenthesis,
-    /// More levels than `MAX_NESTING_DEPTH`.
+    /// Deeper nesting than `MAX_NESTING_DEPTH`.
     TooDeep,
-    /// More groups than `MAX_CAPTURE_GROUPS`.
+    /// More capture groups than `MAX_CAPTURE_GROUPS`.
     TooManyGroups,
     /// More loops than `MAX_LOOPS`.
     TooManyLoops,
-    /// A backslash at the end, outside a class.
+    /// A backslash at the end of the pattern, outside of a class.
     IncompleteEscape,
-    /// A backslash at the end, in a class.
+    /// A backslash at the end of the pattern, inside a class.
     UnterminatedEscape,
-    /// No escape of a character.
+    /// A backslash that begins no valid escape.
     InvalidEscape,
-    /// With the flag u, `\u` that gives no code point.
+    /// With the flag u, a `\u` that denotes no code point.
     InvalidUnicodeEscape,
-    /// Without the flag u, a quantifier in braces where an item is due.
+    /// Without the flag u, a quantifier in braces where an item is expected.
     InvalidBracedQuantifier,
-    /// Another quantifier where an item is due, or with the flag u a brace or `]`.
+    /// A `*`, `+` or `?` where an item is expected, or, with the flag u, a `{`, `}` or `]`.
     InvalidAtom,
-    /// A quantifier behind an item that takes none.
+    /// A quantifier after an item that takes none.
     QuantifierNotAllowed,
-    /// More turns at least than at most, or with the flag u a `{` that begins no quantifier.
+    /// A quantifier whose minimum exceeds its maximum, or, with the flag u, a `{` that begins no quantifier.
     InvalidQuantifier,
-    /// No `]`.
+    /// A class without its `]`.
     UnbalancedBracket,
     /// A range that ends before it begins.
     ReversedRange,
-    /// With the flag u, a class as an end of a range.
+    /// With the flag u, a range one of whose ends is a class.
     InvalidRange,
-    /// With the flag v, no `]`, or half an operator.
+    /// With the flag v, a class without its `]`, or half an operator.
     UnbalancedSet,
-    /// With the flag v, a range that ends before it begins, or between other things than characters.
+    /// With the flag v, a range that ends before it begins, or one of whose ends is no character.
     InvalidSetRange,
-    /// What stands behind an operand of `&&` and is neither that nor `]`.
+    /// With the flag v, an operand of `&&` that is followed by neither `&&` nor `]`.
     UnexpectedInIntersection,
-    /// What stands behind an operand of `--` and is neither that nor `]`.
+    /// With the flag v, an operand of `--` that is followed by neither `--` nor `]`.
     UnexpectedInSubtraction,
-    /// With the flag v, the end where an operand is due.
+    /// With the flag v, the end of the pattern where an operand is expected.
     EmptyOperand,
-    /// With the flag v, a backslash at the end, in a class.
+    /// With the flag v, a backslash at the end of the pattern, inside a class.
     IncompleteSetEscape,
-    /// `\q` that no brace follows.
+    /// A `\q` that no `{` follows.
     StringsWithoutBrace,
-    /// `\q{` that isn't closed.
+    /// A `\q{` without its `}`.
     UnbalancedStrings,
-    /// With the flag v, what doesn't stand for itself in a class.
+    /// With the flag v, a code point that is no literal inside a class.
     InvalidSetCharacter,
-    /// With the flag v, a negated class that holds strings.
+    /// With the flag v, a negated class that contains strings.
     InvalidNegatedClass,
-    /// `\p` or `\P` that no brace follows.
+    /// A `\p` or `\P` that no `{` follows.
     PropertyWithoutBrace,
-    /// A property that isn't closed, or that the table doesn't have.
+    /// A property without its `}`, or one that is not in the table.
     InvalidProperty,
-    /// `(?` at the end, or `(?<` that is no lookbehind and has no name.
+    /// A `(?` at the end of the pattern, or a `(?<` that begins neither a lookbehind nor a valid name.
     InvalidGroupName,
-    /// `(?` before none of `:`, `=`, `!` and `<`, where no modifiers can be read.
+    /// A `(?` that is followed neither by `:`, `=`, `!` or `<` nor by valid modifiers.
     InvalidModifier,
-    /// `\k` without a name that can be read.
+    /// A `\k` that no valid name follows.
     InvalidReference,
-    /// No group has this name, told in its UTF-8.
+    /// A `\k` with a name that no group has. The field is the name in UTF-8.
     UnknownName(String),
-    /// Two groups of one name conflict.
+    /// Two groups of the same name that conflict.
     DuplicateName,
 }
 
-/// What is wrong with a pattern, and where.
+/// A syntax error: its kind and its position.
 #[derive(Drop)]
 pub struct Refusal {
     pub kind: FaultKind,
-    /// How many code points the pattern has from the place of the fault on.
+    /// The position of the error, as the number of code points of the pattern that remain from there on.
     pub left: usize,
 }
 
-/// Why nothing is read.
+/// Why parsing failed.
 #[derive(Drop)]
 pub enum Fault {
-    /// The pattern is none that the grammar derives within the limits.
+    /// A syntax error: the grammar does not derive the pattern, or the pattern exceeds a limit.
     Refused(Refusal),
-    /// Memory was wanting, which says nothing of the pattern.
+    /// An allocation failure, which implies nothing about the pattern.
     Memory(AllocError),
 }
 
-/// A fault of the pattern, where so many code points are left.
+/// Returns a syntax error of this kind, at the position from which `left` code points remain.
 pub fn refused(left: usize, kind: FaultKind) -> Fault
     ensures { result ≡ Refused (record { kind = kind; left = left }) }
 {

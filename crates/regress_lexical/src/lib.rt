@@ -1,4 +1,4 @@
-//! What is read of a pattern with no table and no class: the place in its source, faults, digits, the escapes of
+//! The lexical part of the parser, without tables and classes: the cursor, syntax errors, digits, escapes of
 //! characters, quantifiers and modifiers.
 #![tactic(auto)]
 

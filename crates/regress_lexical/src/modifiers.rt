@@ -1,4 +1,4 @@
-//! Modifiers of a group.
+//! Parses the modifiers of a group.
 ghost use Rattle.std.specs.Prelude.{◌≡◌, ◌≤◌, not, ◌&&◌, ◌++◌, ◌==◌, length, option_map};
 ghost use Rattle.std.specs.List.{prefix_len, list_all};
 ghost use Rattle.regress_lexical.specs.Digits.{front, behind};
@@ -8,7 +8,7 @@ ghost use Rattle.regress_lexical.specs.Views.{change_of};
 use crate::digits::{Read, after};
 use regress_base::types::Flags;
 
-/// What becomes of each flag that a group can switch on what stands inside: on, off, or as it was.
+/// The change of flags that a group makes for its body: each flag is switched on, switched off, or unchanged (`None`).
 #[derive(Clone, Copy)]
 pub struct Change {
     pub icase: Option<bool>,
@@ -21,7 +21,7 @@ impl Change {
     ghost use Rattle.regress_lexical.specs.Modifiers.{changed};
     ghost use Rattle.regress_lexical.specs.Views.{change_of};
 
-    /// The flags inside.
+    /// Returns the flags inside the group, where `flags` are those outside (ECMA-262, UpdateModifiers).
     pub fn apply(self, flags: Flags) -> Flags
         ensures { result ≡ changed (change_of self) flags }
     {
@@ -34,14 +34,14 @@ impl Change {
     }
 }
 
-/// i, m and s.
+/// Whether `c` is `i`, `m` or `s`.
 fn is_modifier(c: u32) -> bool
     ensures { result ≡ is_modifier c }
 {
     c == u32::from('i') || c == u32::from('m') || c == u32::from('s')
 }
 
-/// How many letters are at the front.
+/// Returns the number of modifier letters at the start of `source`.
 fn letters_length(source: &[u32]) -> usize
     ensures value { result ≡ prefix_len is_modifier source.now }
     ensures within { result ≤ length source.now }
@@ -49,7 +49,7 @@ fn letters_length(source: &[u32]) -> usize
     source.iter().take_while(|c| is_modifier(**c)).count()
 }
 
-/// The letters at the front, and the source behind them.
+/// Returns the modifier letters at the start, and the source after them.
 #[tactic(auto, using(crate::proofs::laws::Digits::front_taken, crate::proofs::laws::Digits::behind_dropped))]
 fn split_letters(source: &[u32]) -> (&[u32], &[u32])
     ensures letters { result.0.now ≡ front is_modifier source.now }
@@ -58,7 +58,7 @@ fn split_letters(source: &[u32]) -> (&[u32], &[u32])
     source.split_at(letters_length(source))
 }
 
-/// The letters behind a hyphen, if one is there, and the source behind them.
+/// Returns the letters after a hyphen, if there is one, and the source after them.
 fn split_letters_off(source: &[u32]) -> (&[u32], &[u32])
     ensures letters { result.0.now ≡ letters_off source.now }
     ensures rest { result.1.now ≡ behind_letters_off source.now }
@@ -69,7 +69,7 @@ fn split_letters_off(source: &[u32]) -> (&[u32], &[u32])
     }
 }
 
-/// Whether no code point stands there twice.
+/// Whether no code point occurs twice.
 fn are_different(letters: &[u32]) -> bool
     ensures { result ≡ are_different letters.now }
 {
@@ -83,14 +83,14 @@ fn are_different(letters: &[u32]) -> bool
     true
 }
 
-/// Whether no code point stands in both.
+/// Whether no code point occurs in both lists.
 fn are_apart(on: &[u32], off: &[u32]) -> bool
     ensures { result ≡ list_all (λ c. not (stands_in c off.now)) on.now }
 {
     on.iter().all(|c| !off.contains(c))
 }
 
-/// What the letters say of one.
+/// Returns the change of one flag.
 fn switch(on: &[u32], off: &[u32], c: char) -> Option<bool>
     ensures { result ≡ switch on.now off.now c }
 {
@@ -103,7 +103,7 @@ fn switch(on: &[u32], off: &[u32], c: char) -> Option<bool>
     }
 }
 
-/// What the letters say of each flag.
+/// Returns the change of each flag.
 fn change_by(on: &[u32], off: &[u32]) -> Change
     ensures { change_of result ≡ change_by on.now off.now }
 {
@@ -114,7 +114,7 @@ fn change_by(on: &[u32], off: &[u32]) -> Change
     }
 }
 
-/// Whether no letter stands there twice. Of three letters no more than three are different, so that it is linear.
+/// Whether no letter occurs twice in the two lists. There are only three distinct letters, so this takes linear time.
 #[tactic(auto, using(crate::proofs::ModifierLemmas::different_in_both))]
 fn are_all_different(on: &[u32], off: &[u32]) -> bool
     ensures { result ≡ are_different (on.now ++ off.now) }
@@ -122,14 +122,16 @@ fn are_all_different(on: &[u32], off: &[u32]) -> bool
     are_different(on) && are_different(off) && are_apart(on, off)
 }
 
-/// Whether one letter stands there at least, and none twice.
+/// Whether there is at least one letter, and none occurs twice.
 fn may_switch(on: &[u32], off: &[u32]) -> bool
     ensures { result ≡ (not (length (on.now ++ off.now) == 0) && are_different (on.now ++ off.now)) }
 {
     !(on.is_empty() && off.is_empty()) && are_all_different(on, off)
 }
 
-/// Reads modifiers and the colon behind them (ECMA-262, RegularExpressionModifiers).
+/// Parses modifiers and the colon after them (ECMA-262, RegularExpressionModifiers).
+///
+/// There is at least one letter, and none occurs twice; otherwise the result is `None`.
 #[tactic(auto, unfolding(crate::specs::Modifiers::modifiers_at))]
 pub fn read_modifiers<'a>(source: &'a [u32]) -> Read<'a, Change>
     ensures { option_map (λ found. (change_of found.0, found.1.now)) result ≡ modifiers_at source.now }

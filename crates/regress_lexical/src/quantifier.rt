@@ -1,4 +1,4 @@
-//! Quantifiers.
+//! Parses quantifiers.
 ghost use Rattle.std.specs.Prelude.{◌≡◌};
 ghost use Rattle.regress_lexical.specs.Beginnings.{may_begin};
 ghost use Rattle.regress_lexical.specs.Quantifiers.{most_at, times_by, quantifier_at, is_ordered};
@@ -7,10 +7,10 @@ ghost use Rattle.regress_lexical.specs.Reads.{answered};
 use crate::digits::{Read, after, read_count};
 use regress_base::types::Quantifier;
 
-/// How often at least and at most, none being without a limit.
+/// Minimum and maximum; `None` if there is no maximum.
 type Times = (usize, Option<usize>);
 
-/// Behind the least number: `}`, `,}`, or `,`, the greatest number and `}`.
+/// Parses what follows the minimum: `}`, `,}`, or `,`, the maximum and `}`.
 fn read_most<'a>(least: usize, source: &'a [u32]) -> Read<'a, Times>
     ensures { answered result ≡ most_at (least, source.now) }
 {
@@ -24,7 +24,7 @@ fn read_most<'a>(least: usize, source: &'a [u32]) -> Read<'a, Times>
     Some(((least, Some(most)), after(rest, '}')?))
 }
 
-/// `*`, `+`, `?` or numbers in braces, of which `c` is the first code point (ECMA-262, QuantifierPrefix).
+/// Parses `*`, `+`, `?` or numbers in braces, of which `c` is the first code point (ECMA-262, QuantifierPrefix).
 fn read_prefix<'a>(c: u32, source: &'a [u32]) -> Read<'a, Times>
     ensures { answered result ≡ times_by c source.now }
 {
@@ -42,7 +42,7 @@ fn read_prefix<'a>(c: u32, source: &'a [u32]) -> Read<'a, Times>
     }
 }
 
-/// Whether one may begin here, by the first code point alone.
+/// Returns whether a quantifier may begin here, by the first code point alone.
 pub fn may_begin(source: &[u32]) -> bool
     ensures { result ≡ may_begin source.now }
 {
@@ -57,7 +57,9 @@ pub fn may_begin(source: &[u32]) -> bool
     }
 }
 
-/// Reads a quantifier (ECMA-262, Quantifier).
+/// Parses a quantifier (ECMA-262, Quantifier). The result is `None` if none begins here.
+///
+/// Numbers saturate at `usize::MAX`. The minimum may exceed the maximum; [`is_ordered`] tests this.
 #[tactic(auto, unfolding(crate::specs::Quantifiers::quantifier_at))]
 pub fn read_quantifier<'a>(source: &'a [u32]) -> Read<'a, Quantifier>
     ensures { answered result ≡ quantifier_at source.now }
@@ -71,7 +73,7 @@ pub fn read_quantifier<'a>(source: &'a [u32]) -> Read<'a, Quantifier>
     Some((Quantifier { min, max, greedy }, rest))
 }
 
-/// Whether it asks for no more turns at least than at most.
+/// Returns whether the minimum is at most the maximum.
 pub fn is_ordered(quantifier: Quantifier) -> bool
     ensures { result ≡ is_ordered quantifier }
 {

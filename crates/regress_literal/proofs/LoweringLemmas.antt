@@ -1,4 +1,4 @@
--- The pieces of literals in a row match what the literals do, and stand apart.
+-- The pieces of a list of literals match what the literals match, and no two adjacent ones are byte sequences.
 use Rattle.std.proofs.Common.{◌≡◌, ◌≢◌, ℕ, ◌+◌, ◌<◌, ◌≤◌, Bool, true, false, cond, List, [], ◌∷◌, ◌++◌, length, drop, slice_index, map, flat_map, encode_utf8_all, refl, sym, ap, ◌∙◌, ⊎_elim, append-nil, append_assoc}
 use mathlib.Core.Path.{fun_ext}
 use Rattle.std.proofs.lemmas.Bool.{false≢true, cond-true, cond-false, cond_both, cases_Bool}
@@ -20,7 +20,7 @@ use Rattle.regress_tree.proofs.laws.Literals.{char-steps, class_of-steps}
 use Rattle.regress_tree.proofs.laws.Outcomes.{flat_map-stay, flat_map-then}
 use Rattle.regress_tree.proofs.laws.Simulation.{Simulates, Simulates-same_right, Simulates-stay, Simulates-then, Simulates-one_character}
 
--- ---- what they match
+-- ---- what the pieces match
 
 module _ (setting : Setting) (bytes : List ℕ) where
   abbrev leaves_steps : List Leaf → Step
@@ -36,11 +36,11 @@ module _ (setting : Setting) (bytes : List ℕ) where
   bytes_piece-steps [] s = sym (these_bytes-none forwards bytes s)
   bytes_piece-steps (b ∷ written) s = flat_map-stay (these_bytes forwards bytes (b ∷ written) s)
 
-  -- nothing stands before
+  -- An empty byte sequence first changes nothing.
   nothing_then : (f : Step) (s : State) → (these_bytes forwards bytes [] then_ f) s ≡ f s
   nothing_then f s = ap (flat_map f) (these_bytes-none forwards bytes s) ∙ append-nil (f s)
 
-  -- each piece of a class takes one of its members
+  -- The piece of a class matches one of the members of the class.
   piece_of-steps : (class : List ℕ) (s : State) →
       leaf_steps setting bytes forwards (piece_of class) s ≡ one_character forwards (of_bytes bytes) (lists class) s
   piece_of-steps [] s = refl
@@ -102,7 +102,7 @@ module _ (table : Table) (icase unicode : Bool) (setting : Setting) (text : List
       Simulates-then text forwards _ _ _ _ (Simulates-one_character text is_text forwards (stands_for table icase unicode c))
       (literals_simulate cs)
 
-  -- forwards the pieces in a row do over the bytes what the literals do over the characters
+  -- Forwards the pieces match over the bytes what the literals match over the characters.
   pub lowered_simulates : (cs : List ℕ) →
       Simulates text forwards (literal_steps table icase unicode text cs)
       (steps_in_row setting (encode_utf8_all text) forwards (row (map leaf (lowered table icase unicode cs))))
@@ -116,7 +116,7 @@ pub lowered-mean : (table : Table) (icase unicode : Bool) (cs : List ℕ) →
     MeanLiterals table icase unicode cs (lowered table icase unicode cs)
 lowered-mean table icase unicode cs setting text s is_text in' = (lowered_simulates table icase unicode setting text is_text cs).same s in'
 
--- ---- that they stand apart
+-- ---- no two adjacent pieces are byte sequences
 
 abbrev IsNoSequence : Leaf → Type 0
 IsNoSequence l = (bytes : List ℕ) → l ≢ byte_sequence bytes
@@ -171,7 +171,7 @@ module _ (table : Table) (icase unicode : Bool) where
   pub lowered-apart : (cs : List ℕ) → AreApart (lowered table icase unicode cs)
   lowered-apart cs = lowered_behind-apart [] cs
 
-  -- ---- one literal more
+  -- ---- one more literal
 
   lowered-character : (written : List ℕ) (c ch : ℕ) (cs : List ℕ) → class_of table icase unicode c ≡ ch ∷ [] →
       is_character (ch ∷ []) ≡ true →
@@ -185,7 +185,7 @@ module _ (table : Table) (icase unicode : Bool) where
       ≡ bytes_piece written ++ piece_of (class_of table icase unicode c) ∷ lowered_behind table icase unicode [] cs
   lowered-piece written c cs h = cond-false _ _ _ h
 
-  -- the pieces found, and those of the literals from i on behind these bytes, are the pieces of all
+  -- The pieces found, and those of the literals from i on after these bytes, are the pieces of all literals.
   abbrev pub AreFound : List Leaf → List ℕ → List ℕ → ℕ → Type 0
   AreFound found written cps i = found ++ lowered_behind table icase unicode written (drop i cps) ≡ lowered table icase unicode cps
 

@@ -1,4 +1,4 @@
--- What stands for literals in a tree.
+-- The leaves of a tree to which literals are lowered.
 use Rattle.std.specs.Prelude.{◌≡◌, ◌≢◌, ℕ, Bool, false, List, [], ◌∷◌, ◌++◌, map, if◌then◌else◌, encode_utf8_all}
 use lib.Utf8.{scalar}
 use Rattle.regress_base.specs.Table.{Table, stands_for, class_of}
@@ -11,19 +11,19 @@ use Rattle.regress_tree.specs.Steps.{State, Step, IsStateOf, byte_state, stay, �
 use Rattle.regress_tree.specs.SmallSets.{set_of}
 use Rattle.regress_tree.specs.Tree.{Leaf, char, byte_sequence, byte_set, char_set, leaf, row}
 
--- what a class becomes that is no single character: a code point without a UTF-8 of its own, or a set
+-- the leaf of a class that is not a single character: a code point without UTF-8 (a surrogate), or a set
 abbrev pub piece_of : List ℕ → Leaf
 piece_of [] = char_set []
 piece_of (c ∷ []) = char c
 piece_of (c ∷ d ∷ rest) = set_of (c ∷ d ∷ rest)
 
--- whether the class is one character
+-- The class is one character.
 abbrev pub is_character : List ℕ → Bool
 is_character [] = false
 is_character (c ∷ []) = scalar c
 is_character (c ∷ d ∷ rest) = false
 
--- bytes as a piece, if there are any
+-- the bytes as a piece, or no piece if there are none
 abbrev pub bytes_piece : List ℕ → List Leaf
 bytes_piece [] = []
 bytes_piece (b ∷ bytes) = byte_sequence (b ∷ bytes) ∷ []
@@ -35,14 +35,14 @@ piece (ByteSequence bytes) = byte_sequence bytes.items
 piece (ByteSet bytes) = byte_set bytes.items
 piece (CharSet characters) = char_set characters.items
 
--- no two neighbours are byte sequences
+-- No two adjacent leaves are byte sequences.
 abbrev pub AreApart : List Leaf → Type 0
 AreApart leaves =
     (front behind : List Leaf) (bytes next : List ℕ) → leaves ≢ front ++ byte_sequence bytes ∷ byte_sequence next ∷ behind
 
 module _ (table : Table) (icase unicode : Bool) where
-  -- The pieces of literals in a row behind these bytes: characters go on with the bytes, and all else is a piece of its
-  -- own (this project's profile).
+  -- The pieces of a list of literals after these bytes: the UTF-8 of a character extends the bytes, and any other class
+  -- is a piece by itself (dialect).
   abbrev pub lowered_behind : List ℕ → List ℕ → List Leaf
   lowered_behind bytes [] = bytes_piece bytes
   lowered_behind bytes (c ∷ cs) =
@@ -53,13 +53,14 @@ module _ (table : Table) (icase unicode : Bool) where
   abbrev pub lowered : List ℕ → List Leaf
   lowered = lowered_behind []
 
-  -- literals in a row, over the characters of a text
+  -- the literals in order, over the characters of a text
   abbrev pub literal_steps : List ℕ → List ℕ → Step
   literal_steps text [] = stay
   literal_steps text (c ∷ cs) =
       one_character forwards (of_characters text) (stands_for table icase unicode c) then_ literal_steps text cs
 
-  -- On every text and from every state the leaves in a row match forwards what the literals do, place for byte place.
+  -- In every text and from every state the leaves in order match forwards what the literals match, with the same
+  -- outcomes in byte offsets.
   abbrev pub MeanLiterals : List ℕ → List Leaf → Type 0
   MeanLiterals literals leaves = (setting : Setting) (text : List ℕ) (s : State) → IsText text → IsStateOf text s →
       steps_in_row setting (encode_utf8_all text) forwards (row (map leaf leaves)) (byte_state text s)

@@ -1,4 +1,4 @@
-//! The lowering of literals, by the table, to pieces of a tree.
+//! Lowering of literals to leaves of a tree: bytes and small sets.
 #![tactic(auto)]
 
 pub mod literal;

@@ -1,4 +1,4 @@
-//! Literals as bytes and small sets.
+//! Lowering of literals to bytes and small sets.
 ghost use Rattle.std.specs.Prelude.{◌≡◌, ◌≢◌, ℕ, ◌≤◌, ◌++◌, [], ◌∷◌, map, All, IfOk, IfSome, OnOk, is_some, string_bytes};
 ghost use Rattle.regress_base.specs.Intervals.{code_point_max};
 ghost use Rattle.regress_literal.specs.Literal.{piece, is_character, bytes_piece, piece_of as piece_of_class, lowered, AreApart, MeanLiterals};
@@ -10,16 +10,16 @@ use regress_unicode::{Tables, expand_code_point};
 use std::alloc::{AllocError, Global};
 use std::mem;
 
-/// What stands for literals in a tree.
+/// A leaf to which literals are lowered. Each variant is the kind of [`Node`] with the same name.
 #[derive(Debug, Drop, PartialEq, Eq)]
 pub enum Piece {
-    /// A code point that stands for itself alone and has no UTF-8: a surrogate.
+    /// A surrogate that matches only itself. It has no UTF-8, so it matches no character of a text.
     Char(u32),
-    /// Characters in a row, as the bytes of their UTF-8.
+    /// The UTF-8 of one or more characters in order, at least one byte.
     ByteSequence(Vec<u8>),
-    /// One of two to four ASCII characters, ascending.
+    /// One of two to four ASCII characters, in ascending order.
     ByteSet(Vec<u8>),
-    /// One of two to four code points, ascending, of which some is not ASCII.
+    /// One of two to four code points, in ascending order, at least one of which is not ASCII.
     CharSet(Vec<u32>),
 }
 
@@ -28,14 +28,20 @@ impl Piece {
     ghost use Rattle.regress_literal.specs.Literal.{piece};
     ghost use Rattle.regress_tree.specs.Tree.{leaf, row, trees};
 
-    /// The nodes of the pieces, one by one.
+    /// Returns the nodes of the pieces, in order.
+    ///
+    /// # Errors
+    /// Returns [`AllocError`] if an allocation fails. The pieces are dropped.
     pub fn into_nodes(alloc: Global, pieces: Vec<Piece>) -> Result<Vec<Node>, AllocError>
         ensures { IfOk result (λ nodes. trees nodes.items ≡ row (map (λ p. leaf (piece p)) pieces.items)) }
     {
         pieces.into_iter().map(Node::from).collect(alloc)
     }
 
-    /// An equal piece with memory of its own.
+    /// Returns an equal piece that owns all of its memory.
+    ///
+    /// # Errors
+    /// Returns [`AllocError`] if an allocation fails.
     pub fn try_clone(&self, alloc: Global) -> Result<Piece, AllocError>
         ensures { IfOk result (λ copy. piece copy ≡ piece self.now) }
     {
@@ -65,10 +71,22 @@ impl From<Piece> for Node {
     }
 }
 
-/// The pieces of literals in a row, which are code points. Where one stands for a single character, the UTF-8
-/// of that goes to a byte sequence, joined with the one directly before it. Where it stands for a single surrogate,
-/// or for two to four code points, it is a piece of its own. Linear in the literals, each of which takes a pass
-/// over the table's rows with `icase`.
+/// Returns the pieces of a list of literals, to be matched forwards in order.
+///
+/// The class of a literal is the set of code points that match it: the literal itself, and with `icase` all code points
+/// with the same canonical form (ECMA-262, Canonicalize), by the simple case folding with `unicode` and else by the
+/// upper case. If the class is a single character, the UTF-8 of that is appended to a byte sequence, which is joined
+/// with the one directly before it. If it is a single surrogate, or two to four code points, it is a piece by itself.
+/// No two adjacent pieces are byte sequences.
+///
+/// # Preconditions
+/// Each element of `cps` is a code point, at most U+10FFFF.
+///
+/// # Errors
+/// Returns [`AllocError`] if an allocation fails.
+///
+/// # Complexity
+/// Linear in the number of literals; with `icase` each of them takes one pass over the entries of the case table.
 pub fn lower_code_point_sequence(
     alloc: Global,
     cps: &[u32],
@@ -97,7 +115,7 @@ pub fn lower_code_point_sequence(
     Ok(pieces)
 }
 
-/// The character that the class is, if it is one.
+/// Returns the character of a class that is a single character.
 fn character(class: &[u32]) -> Option<char>
     ensures one { is_some result ≡ is_character class.now }
     ensures itself { IfSome result (λ c. class.now ≡ c ∷ []) }
@@ -108,7 +126,7 @@ fn character(class: &[u32]) -> Option<char>
     }
 }
 
-/// Adds the bytes of the text, if there are any.
+/// Adds the bytes of the text as a piece, if there are any.
 fn push_text(pieces: &mut Vec<Piece>, text: String) -> Result<(), AllocError>
     ensures { OnOk result (map piece pieces.new.items ≡ map piece pieces.old.items ++ bytes_piece (string_bytes text)) }
 {
@@ -118,7 +136,7 @@ fn push_text(pieces: &mut Vec<Piece>, text: String) -> Result<(), AllocError>
     Ok(())
 }
 
-/// The piece of a class that is no single character.
+/// Returns the piece of a class that is not a single character.
 fn piece_of(alloc: Global, class: Vec<u32>) -> Result<Piece, AllocError>
     requires { class.items ≢ [] }
     ensures { IfOk result (λ p. piece p ≡ piece_of_class class.items) }

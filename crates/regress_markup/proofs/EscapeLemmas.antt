@@ -1,4 +1,4 @@
--- No text has a `<`, a `>` or a `"` in it.
+-- No escaped text contains a `<`, a `>` or a `"`.
 use Rattle.std.proofs.Common.{◌≡◌, ◌∙◌, ℕ, ◌+◌, ◌/◌, ◌≤◌, Bool, true, false, ◌&&◌, List, [], ◌∷◌, flat_map, if◌then◌else◌, refl, arith, ◌==◌}
 use Rattle.std.specs.List.{list_all}
 use Rattle.std.proofs.lemmas.Bool.Decides.{nat_tests}
@@ -11,7 +11,7 @@ both : (a b : Bool) → a ≡ true → b ≡ true → (a && b) ≡ true
 both true b one two = two
 both false b one two = one
 
--- one text or another one
+-- One of two texts is chosen.
 chosen : (b : Bool) (x y : List ℕ) → list_all is_text_byte x ≡ true → (b ≡ false → list_all is_text_byte y ≡ true) →
     list_all is_text_byte (if b then x else y) ≡ true
 chosen true x y one two = one

@@ -1,9 +1,9 @@
--- A picture so far, with more behind it.
+-- An unfinished picture, with more content after it.
 use Rattle.std.proofs.Common.{◌≡◌, ◌∙◌, ℕ, zero, suc, ◌+◌, ◌-◌, ◌<◌, ◌≤◌, List, [], ◌∷◌, ◌++◌, length, ap, sym, refl, subst, append_assoc, append-nil, codes, arith, add-one, length-append}
 use Rattle.regress_markup.specs.Markup.{Content, nothing, element, group, content_bytes, element_bytes, group_tag, root_tag, IsFront}
 use Rattle.regress_markup.specs.declared.element.Element.{Element}
 
--- one content behind the other
+-- the two contents joined
 abbrev pub joined : Content → Content → Content
 joined nothing more = more
 joined (element e rest) more = element e (joined rest more)
@@ -20,14 +20,14 @@ content_bytes-joined (group class inside rest) b =
     ap (λ bytes. group_tag class ++ content_bytes inside ++ codes "</g>" ++ bytes) (content_bytes-joined rest b)
     ∙ regroup_four (group_tag class) (content_bytes inside) (codes "</g>") (content_bytes rest) (content_bytes b)
 
--- the bytes in front of a content, and more content
+-- the bytes before a content, and more content
 further : (bytes front : List ℕ) (content more : Content) → bytes ≡ front ++ content_bytes content →
     bytes ++ content_bytes more ≡ front ++ content_bytes (joined content more)
 further bytes front content more is =
     ap (λ all. all ++ content_bytes more) is ∙ append_assoc front (content_bytes content) (content_bytes more)
     ∙ ap (λ all. front ++ all) (sym (content_bytes-joined content more))
 
--- more content, in the innermost group that is open
+-- more content in the innermost open group
 pub front_more : (depth : ℕ) (bytes : List ℕ) (more : Content) → IsFront depth bytes → IsFront depth (bytes ++ content_bytes more)
 front_more zero bytes more (width, height, content, is) =
     (width, height, joined content more, further bytes (root_tag width height) content more is)
@@ -53,7 +53,7 @@ closed depth bytes (before, class, content, front, is) =
 pub begins : (width height : ℕ) (bytes : List ℕ) → bytes ≡ root_tag width height → IsFront 0 bytes
 begins width height bytes is = (width, height, nothing, is ∙ sym (append-nil (root_tag width height)))
 
--- an element more
+-- one more element
 pub draws : (depth : ℕ) (old new : List ℕ) (e : Element) → new ≡ old ++ element_bytes e → IsFront depth old → IsFront depth new
 draws depth old new e is front =
     let P : List ℕ → Type 0 = λ all. IsFront depth all in
@@ -76,7 +76,7 @@ longer : (depth : ℕ) (before rest inside : List ℕ) (b : ℕ) → depth ≤ l
 longer depth before rest inside b below =
     omega (arith, length-append (before ++ b ∷ rest) inside, length-append before (b ∷ rest))
 
--- each group that is open has taken a byte
+-- Each open group takes at least one byte.
 pub depth_within : (depth : ℕ) (bytes : List ℕ) → IsFront depth bytes → depth ≤ length bytes
 depth_within zero bytes front = omega arith
 depth_within (suc depth) bytes (before, class, content, front, is) =

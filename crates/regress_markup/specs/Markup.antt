@@ -1,4 +1,4 @@
--- A picture: a document of XML 1.0, in which elements of SVG stand.
+-- A picture: a document of XML 1.0 that contains elements of SVG.
 use Rattle.std.specs.Prelude.{◌≡◌, ℕ, zero, suc, List, [], ◌++◌, codes, flat_map, if◌then◌else◌, length, ◌==◌}
 use Rattle.std.specs.Fmt.{decimal}
 use Rattle.regress_markup.specs.Escape.{escaped_text}
@@ -7,7 +7,7 @@ use Rattle.regress_markup.specs.declared.element.Element.TheVariants.{Rectangle,
 use Rattle.regress_markup.specs.declared.element.Step.{Step}
 use Rattle.regress_markup.specs.declared.element.Step.TheVariants.{Move, Line, Horizontal, Vertical, Curve}
 
--- a command of a path
+-- a path command
 abbrev pub step_bytes : Step → List ℕ
 step_bytes (Move x y) = codes "M" ++ decimal x ++ codes " " ++ decimal y
 step_bytes (Line x y) = codes "L" ++ decimal x ++ codes " " ++ decimal y
@@ -19,7 +19,7 @@ step_bytes (Curve control_x control_y x y) =
 abbrev pub steps_bytes : List Step → List ℕ
 steps_bytes steps = flat_map step_bytes steps
 
--- what stands behind a text
+-- the note after a text, or nothing if it is empty
 abbrev pub note_bytes : List ℕ → List ℕ
 note_bytes note = if length note == 0 then [] else codes "<tspan class=\"note\">" ++ escaped_text note ++ codes "</tspan>"
 
@@ -32,7 +32,7 @@ text_bytes class x y text note =
     codes "<text class=\"" ++ escaped_text class ++ codes "\" x=\"" ++ decimal x ++ codes "\" y=\"" ++ decimal y ++ codes "\">"
     ++ escaped_text text ++ note_bytes note ++ codes "</text>"
 
--- an element that holds no other one
+-- an element that contains no other element
 abbrev pub element_bytes : Element → List ℕ
 element_bytes (Rectangle class x y width height radius) =
     codes "<rect class=\"" ++ escaped_text class.now ++ codes "\" x=\"" ++ decimal x ++ codes "\" y=\"" ++ decimal y ++ codes "\" width=\"" ++ decimal width
@@ -46,17 +46,17 @@ element_bytes (Title text) = codes "<title>" ++ escaped_text text.now ++ codes "
 element_bytes (Description text) = codes "<desc>" ++ escaped_text text.now ++ codes "</desc>"
 element_bytes (Style text) = codes "<style>" ++ escaped_text text.now ++ codes "</style>"
 
--- in front of what a group holds; behind it stands `</g>`
+-- the start tag of a group; its end tag is `</g>`
 abbrev pub group_tag : List ℕ → List ℕ
 group_tag class = codes "<g class=\"" ++ escaped_text class ++ codes "\">"
 
--- in front of what the picture holds; behind it stands `</svg>`
+-- the start tag of the picture; its end tag is `</svg>`
 abbrev pub root_tag : ℕ → ℕ → List ℕ
 root_tag width height =
     codes "<svg xmlns=\"http://www.w3.org/2000/svg\" viewBox=\"0 0 " ++ decimal width ++ codes " " ++ decimal height
     ++ codes "\" width=\"" ++ decimal width ++ codes "\" height=\"" ++ decimal height ++ codes "\" role=\"img\">"
 
--- what is drawn: elements, and groups with what is drawn in them
+-- content: a list of elements and of groups with content
 pub data Content : Type 0 where
   nothing : Content
   element : Element → Content → Content
@@ -72,14 +72,15 @@ abbrev pub IsDocument : List ℕ → Type 0
 IsDocument bytes =
     (width : ℕ) × (height : ℕ) × (content : Content) × (bytes ≡ root_tag width height ++ content_bytes content ++ codes "</svg>")
 
--- a picture that is drawn so far
+-- an unfinished picture
 pub record Drawn : Type 0 where
-  -- how many groups are open
+  -- the number of open groups
   pub depth : ℕ
   -- its bytes
   pub written : List ℕ
 
--- The bytes of a picture so far, in which that many groups are open: in each stands what is drawn in it up to the next one.
+-- The bytes of an unfinished picture with that number of open groups: each open group contains content, and then the
+-- next open group.
 abbrev pub IsFront : ℕ → List ℕ → Type 0
 IsFront zero bytes = (width : ℕ) × (height : ℕ) × (content : Content) × (bytes ≡ root_tag width height ++ content_bytes content)
 IsFront (suc depth) bytes =

@@ -1,4 +1,4 @@
-//! What a picture is made of.
+//! The elements of a picture.
 ghost use Rattle.std.specs.Prelude.{◌≡◌};
 ghost use Rattle.std.specs.Fmt.{WritesOnOk};
 ghost use Rattle.regress_markup.specs.Markup.{note_bytes, path_bytes, step_bytes, steps_bytes, text_bytes};
@@ -7,12 +7,12 @@ use crate::escape::Escaped;
 use std::fmt;
 use std::fmt::{Formatter, Write};
 
-/// An element that holds no other one. Places and lengths are user units, counted from the upper left corner; a `class` is
-/// what a style sheet names it by. Each text may hold any characters: those that XML has not (XML 1.0, section 2.2) are
-/// written as U+FFFD.
+/// An SVG element that contains no other element. Coordinates and lengths are user units, from the upper left corner; a
+/// `class` is the name by which a style sheet selects the element. A text may contain any characters; one that XML does
+/// not allow (XML 1.0, section 2.2) is written as U+FFFD.
 #[derive(Clone, Copy)]
 pub enum Element<'a> {
-    /// `rect`. Its corners are round with this radius.
+    /// `rect`, by its upper left corner. `radius` is the radius of its rounded corners.
     Rectangle {
         class: &'a str,
         x: u32,
@@ -28,15 +28,15 @@ pub enum Element<'a> {
         y: u32,
         radius: u32,
     },
-    /// `path`, from a place in steps.
+    /// `path`, from the point (`x`, `y`) along the steps in order.
     Path {
         class: &'a str,
         x: u32,
         y: u32,
         steps: &'a [Step],
     },
-    /// `text` that is seen, at a place that its style says more of. Behind it stands a note in a `tspan` of the class `note`,
-    /// unless the note is empty.
+    /// `text`, at the point (`x`, `y`); its style determines how it is aligned there. The note, if it is not empty,
+    /// follows the text in a `tspan` of the class `note`.
     Text {
         class: &'a str,
         x: u32,
@@ -44,36 +44,36 @@ pub enum Element<'a> {
         text: &'a str,
         note: &'a str,
     },
-    /// `title`: the name of what it stands in. It stands first there.
+    /// `title`: the name of the group or picture that contains it, where it should be the first element.
     Title(&'a str),
-    /// `desc`: more about what it stands in.
+    /// `desc`: a description of the group or picture that contains it.
     Description(&'a str),
     /// `style`: a style sheet.
     Style(&'a str),
 }
 
-/// A piece of a path from where the one before ends to the place that is named.
+/// A step of a path, from the end of the one before it to the given point.
 #[derive(Clone, Copy)]
 pub enum Step {
-    /// It begins anew, with nothing drawn.
+    /// A new start, without a line.
     Move {
         x: u32,
         y: u32,
     },
-    /// A line to any place.
+    /// A straight line.
     Line {
         x: u32,
         y: u32,
     },
-    /// A line in the same row.
+    /// A horizontal line.
     Horizontal {
         x: u32,
     },
-    /// A line in the same column.
+    /// A vertical line.
     Vertical {
         y: u32,
     },
-    /// A quadratic Bézier curve, which leaves towards the control point and comes from there.
+    /// A quadratic Bézier curve with one control point.
     Curve {
         control_x: u32,
         control_y: u32,
@@ -161,7 +161,7 @@ fn write_text<W: Write>(
     f.write_str("</text>")
 }
 
-/// Writes what stands behind a text, if there is something.
+/// Writes the note after a text, if it is not empty.
 fn write_note<W: Write>(note: &str, f: &mut Formatter<W>) -> fmt::Result
     ensures { WritesOnOk W.write_str_gives f.old result (note_bytes note.now) f.new }
 {
@@ -180,7 +180,7 @@ fn write_steps<W: Write>(steps: &[Step], f: &mut Formatter<W>) -> fmt::Result
     Ok(())
 }
 
-/// Writes a command of the data of a path.
+/// Writes a command of the path data.
 fn write_step<W: Write>(step: Step, f: &mut Formatter<W>) -> fmt::Result
     ensures { WritesOnOk W.write_str_gives f.old result (step_bytes step) f.new }
 {

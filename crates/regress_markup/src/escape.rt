@@ -1,4 +1,4 @@
-//! Texts as they stand in markup.
+//! Escaping of texts in markup.
 ghost use Rattle.std.specs.Prelude.{◌≡◌};
 ghost use Rattle.std.specs.Fmt.{WritesOnOk};
 ghost use Rattle.regress_markup.specs.Escape.{escaped, escaped_text, is_legal};
@@ -6,7 +6,7 @@ ghost use Rattle.regress_markup.specs.Escape.{escaped, escaped_text, is_legal};
 use std::fmt;
 use std::fmt::{Formatter, Write};
 
-/// A text as it stands between tags, and between the quotation marks of an attribute.
+/// A text that is written escaped, for content between tags or for an attribute value in double quotes.
 #[derive(Clone, Copy)]
 pub(crate) struct Escaped<'a>(pub(crate) &'a str);
 
@@ -30,7 +30,8 @@ fn write_characters<W: Write>(text: &str, f: &mut Formatter<W>) -> fmt::Result
     Ok(())
 }
 
-/// Writes a character by a reference where the character itself has another meaning, or would not be read as it is.
+/// Writes a character, as a reference if the character itself has a meaning in markup or would be normalized as white
+/// space.
 fn write_escaped<W: Write>(c: char, f: &mut Formatter<W>) -> fmt::Result
     ensures { WritesOnOk W.write_str_gives f.old result (escaped c) f.new }
 {
@@ -47,7 +48,7 @@ fn write_escaped<W: Write>(c: char, f: &mut Formatter<W>) -> fmt::Result
     }
 }
 
-/// Whether XML has the character (XML 1.0, section 2.2). Tabs and ends of lines are told apart before.
+/// Returns whether XML allows the character (XML 1.0, section 2.2). Tabs and line ends are handled before.
 fn is_legal(c: char) -> bool
     ensures { result ≡ is_legal c }
 {

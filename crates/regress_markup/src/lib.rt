@@ -1,4 +1,4 @@
-//! Pictures as SVG whose markup is well formed: they hold elements of a fixed list, and each text is escaped.
+//! Pictures as SVG with well-formed markup: they consist of elements of a fixed list, and each text is escaped.
 #![tactic(auto)]
 
 mod element;

@@ -1,4 +1,4 @@
-//! A picture while it is drawn.
+//! The canvas on which a picture is drawn.
 ghost use Rattle.std.specs.Prelude.{◌≡◌, ◌<◌, ◌+◌, ◌++◌, IfOk, OnOk, OnErr, codes, string_bytes};
 ghost use Rattle.regress_markup.specs.Markup.{IsDocument, element_bytes, group_tag, root_tag};
 
@@ -7,13 +7,13 @@ use crate::escape::Escaped;
 use std::alloc::{AllocError, Global};
 use std::marker::Model;
 
-/// A picture that is drawn element by element. What is drawn later lies above what was drawn before. A call that finds no
-/// memory changes nothing, and may be made again.
+/// A picture that is drawn element by element. A later element is above the earlier ones. A call of `draw`,
+/// `open_group` or `close_group` that returns an error changes nothing, and may be repeated.
 #[derive(Drop)]
 pub struct Sheet {
     alloc: Global,
     text: String,
-    /// How many groups are open.
+    /// The number of open groups.
     depth: usize,
 }
 
@@ -29,7 +29,10 @@ impl Model for Sheet {
 }
 
 impl Sheet {
-    /// An empty picture of that size.
+    /// Returns an empty picture of this width and height, in user units.
+    ///
+    /// # Errors
+    /// Returns [`AllocError`] if an allocation fails.
     pub fn new(alloc: Global, width: u32, height: u32) -> Result<Sheet, AllocError>
         ensures depth { IfOk result (λ sheet. sheet.depth ≡ 0) }
         ensures written { IfOk result (λ sheet. sheet.written ≡ root_tag width height) }
@@ -44,14 +47,17 @@ impl Sheet {
         })
     }
 
-    /// How many groups are open.
+    /// Returns the number of open groups.
     pub fn depth(&self) -> usize
         ensures { result ≡ self.now.depth }
     {
         self.depth
     }
 
-    /// Draws an element, in the innermost group that is open.
+    /// Draws an element in the innermost open group.
+    ///
+    /// # Errors
+    /// Returns [`AllocError`] if an allocation fails. The picture is unchanged.
     pub fn draw(&mut self, element: Element<'_>) -> Result<(), AllocError>
         ensures depth { OnOk result (self.new.depth ≡ self.old.depth) }
         ensures written { OnOk result (self.new.written ≡ self.old.written ++ element_bytes element.entry) }
@@ -62,7 +68,10 @@ impl Sheet {
         Ok(())
     }
 
-    /// Opens a group, `g`: what is drawn until it is closed belongs to it.
+    /// Opens a group, `g`, of this class. It contains everything that is drawn until it is closed.
+    ///
+    /// # Errors
+    /// Returns [`AllocError`] if an allocation fails. The picture is unchanged.
     pub fn open_group(&mut self, class: &str) -> Result<(), AllocError>
         ensures depth { OnOk result (self.new.depth ≡ self.old.depth + 1) }
         ensures written { OnOk result (self.new.written ≡ self.old.written ++ group_tag class.now) }
@@ -75,7 +84,13 @@ impl Sheet {
         Ok(())
     }
 
-    /// Closes the group that was opened last, of those that are open.
+    /// Closes the innermost open group.
+    ///
+    /// # Preconditions
+    /// At least one group is open.
+    ///
+    /// # Errors
+    /// Returns [`AllocError`] if an allocation fails. The picture is unchanged.
     pub fn close_group(&mut self) -> Result<(), AllocError>
         requires { 0 < self.old.depth }
         ensures depth { OnOk result (self.new.depth + 1 ≡ self.old.depth) }
@@ -87,7 +102,13 @@ impl Sheet {
         Ok(())
     }
 
-    /// The whole picture as a text, once no group is open.
+    /// Returns the whole picture, an SVG document.
+    ///
+    /// # Preconditions
+    /// No group is open.
+    ///
+    /// # Errors
+    /// Returns [`AllocError`] if an allocation fails. The picture is dropped.
     pub fn finish(self) -> Result<String, AllocError>
         requires { self.depth ≡ 0 }
         ensures document { IfOk result (λ text. IsDocument (string_bytes text)) }

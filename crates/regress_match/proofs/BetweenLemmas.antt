@@ -1,4 +1,4 @@
--- The characters of a span, one after the other.
+-- The characters of a span, decoded in order.
 use Rattle.std.proofs.Common.{◌≡◌, ℕ, zero, suc, ◌+◌, ◌-◌, ◌≤◌, ◌<◌, Bool, true, List, [], ◌∷◌, ◌++◌, length, Option, Some, None, sym, ap, ◌∙◌, arith, append_assoc, if◌then◌else◌, nat_lt, not-suc-le-zero}
 use Rattle.std.specs.Prelude.{option_map}
 use Rattle.std.specs.Char.{len_utf8}
@@ -31,7 +31,7 @@ characters_next r (suc n) k end read some lt is =
     ∙ ap (read_with (λ j. characters_from r n j end)) is
     ∙ ap (λ m. read.character ∷ characters_from r m read.place end) (omega arith)
 
--- one character more
+-- decoding one more character extends the result by that character
 pub between_next : (bytes : List ℕ) (start end place : ℕ) (found found' whole : List ℕ) (read : Read) →
     start + length found ≤ place → place < end → read_after bytes place ≡ Some read → found' ≡ found ++ read.character ∷ [] →
     whole ≡ found ++ characters_from (of_bytes bytes) (end - start - length found) place end →

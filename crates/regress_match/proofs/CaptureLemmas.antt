@@ -24,7 +24,7 @@ drop-within zero xs ys le = refl
 drop-within (suc k) [] ys le = absurd (not-suc-le-zero le)
 drop-within (suc k) (x ∷ xs) ys le = drop-within k xs ys (le_of_suc-le-suc le)
 
--- what was known before the changes is known after them
+-- later changes don't affect what undoing back to an earlier mark gives
 pub undone-later : (c c' : Captures) (k : ℕ) → Later c c' → k ≤ length c.trail.items →
     undone (drop k c'.trail.items) c'.spans.items ≡ undone (drop k c.trail.items) c.spans.items
 undone-later c c' k later le =
@@ -46,11 +46,11 @@ Later-trans a b c first second = record {
   undo = undone-append first.noted second.noted c.spans.items ∙ ap (undone first.noted) second.undo ∙ first.undo;
 }
 
--- all changes undone
+-- undoing all changes gives the same before and after later changes
 pub undone-all : (c c' : Captures) → Later c c' → undone c'.trail.items c'.spans.items ≡ undone c.trail.items c.spans.items
 undone-all c c' later = undone-later c c' 0 later (omega arith)
 
--- rewinding part of the way leaves the rest to undo
+-- undoing the changes after a mark, and then those before it, undoes all of them
 pub undone-part : (k : ℕ) (us : List Undo) (spans : List (Option CaptureSpan)) → undone (take k us) (undone (drop k us) spans) ≡ undone us spans
 undone-part k us spans = sym (undone-append (take k us) (drop k us) spans) ∙ ap (λ ws. undone ws spans) (take-append-drop k us)
 
@@ -59,7 +59,7 @@ set-back [] i v w is = refl
 set-back (x ∷ xs) zero v w is = ap (λ y. y ∷ xs) is
 set-back (x ∷ xs) (suc i) v w is = ap (λ ys. x ∷ ys) (set-back xs i v w is)
 
--- one change
+-- setting one group, with the change recorded, is a later state of the captures
 pub later_set : (c c' : Captures) (w : Undo) (span : Option CaptureSpan) → w.before ≡ get_or c.spans.items w.group w.before →
     c'.trail.items ≡ c.trail.items ++ w ∷ [] → c'.spans.items ≡ set c.spans.items w.group span → Later c c'
 later_set c c' w span was trail spans = record {
@@ -68,7 +68,7 @@ later_set c c' w span was trail spans = record {
   undo = ap (undone (w ∷ [])) spans ∙ undone-one w (set c.spans.items w.group span) ∙ set-back c.spans.items w.group span w.before was;
 }
 
--- The last change of several is undone.
+-- undoing the last change and then those after a mark is undoing all after the mark
 pub rewind_step : (us vs : List Undo) (w : Undo) (spans spans' : List (Option CaptureSpan)) (k : ℕ) → us ≡ vs ++ w ∷ [] → k ≤ length vs →
     spans' ≡ set spans w.group w.before →
     (take k vs ≡ take k us) × (undone (drop k vs) spans' ≡ undone (drop k us) spans)

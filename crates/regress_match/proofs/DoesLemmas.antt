@@ -1,4 +1,4 @@
--- What pushing tasks and choices comes to.
+-- What the machine does after frames and backtrack points are pushed.
 use Rattle.std.proofs.Common.{◌≡◌, ℕ, ◌+◌, ◌≤◌, List, [], ◌∷◌, ◌++◌, flat_map, length, refl, sym, ap, ap₂, subst, ◌∙◌, append_assoc, append-nil, arith, Result, Ok, Err, IfOk}
 use Rattle.std.proofs.lemmas.List.{length-append, drop_all}
 use Rattle.std.proofs.lemmas.List.Concat.{flat_map-append}
@@ -55,7 +55,7 @@ chosen u m m' c d tasks choices known noted le =
       machine = λ machine. push_choice m m' c d machine known noted le tasks choices;
     }
 
--- Nothing was pushed.
+-- A step with one outcome and nothing pushed goes on with the next frame.
 pub goes_on : (u : Subject) (f : Step) (m : Machine) (c : Captures) (place next to : ℕ) → f (state c place) ≡ state c to ∷ [] →
     Does u f m c place next m c (nexts.Go to next)
 goes_on u f m c place next to is = record {
@@ -74,7 +74,7 @@ goes_back u f m c place next is = record {
   later = Later-refl c;
 }
 
--- Tasks were pushed, and captures may have changed after that.
+-- A step that pushes a frame, and may change captures, goes on with that frame.
 pub goes_pushed : (u : Subject) (f g : Step) (m m' : Machine) (c c' : Captures) (place next task : ℕ) →
     (next ≤ length m.tasks.items → Pushed u m m' g next task) → Later c c' → f (state c place) ≡ g (state c' place) →
     Does u f m c place next m' c' (nexts.Go place task)
@@ -90,7 +90,7 @@ goes_pushed u f g m m' c c' place next task pushes later same = record {
   later = later;
 }
 
--- The same done for an equal step.
+-- Equal outcomes are done by the same run of the machine.
 pub does_same : (u : Subject) (f g : Step) (m : Machine) (c : Captures) (place next : ℕ) (m' : Machine) (c' : Captures) (r : Next) →
     f (state c place) ≡ g (state c place) → Does u g m c place next m' c' r → Does u f m c place next m' c' r
 does_same u f g m c place next m' c' r same does = record {
@@ -98,7 +98,7 @@ does_same u f g m c place next m' c' r same does = record {
   later = does.later;
 }
 
--- From one place first, and then from another.
+-- The last of several states is tried after the others.
 onward_or : (u : Subject) (m : Machine) (c : Captures) (next : ℕ) (states : List State) (s : State) →
     onward u m c next (states ++ s ∷ []) ≡ flat_map (todo u m.tasks.items next) states ++ (todo u m.tasks.items next s ++ waiting u m c)
 onward_or u m c next states s =
@@ -106,7 +106,7 @@ onward_or u m c next states s =
     ap (λ xs. xs ++ waiting u m c) (flat_map-append T states (s ∷ []) ∙ ap (λ xs. flat_map T states ++ xs) (append-nil (T s)))
     ∙ append_assoc (flat_map T states) (T s) (waiting u m c)
 
--- Something first, and else on from here.
+-- A step is tried first, and a backtrack point goes on with the next frame from the same state.
 pub does_or_stay : (u : Subject) (f g : Step) (m m' : Machine) (c : Captures) (place next : ℕ) (m'' : Machine) (c' : Captures) (r : Next) →
     (next ≤ length m.tasks.items → Chosen u m m' c place next) → g (state c place) ≡ f (state c place) ++ state c place ∷ [] →
     Does u f m' c place next m'' c' r → Does u g m c place next m'' c' r
@@ -121,7 +121,7 @@ does_or_stay u f g m m' c place next m'' c' r chose same does = record {
   later = does.later;
 }
 
--- On from one place, and else another task that was pushed.
+-- One position is tried first, and a backtrack point goes on with a pushed frame.
 pub does_stay_or : (u : Subject) (f g : Step) (m m' m'' : Machine) (c : Captures) (place next task to : ℕ) →
     (next ≤ length m.tasks.items → Pushed u m m' f next task) → (task ≤ length m'.tasks.items → Chosen u m' m'' c place task) →
     g (state c place) ≡ state c to ∷ f (state c place) → Does u g m c place next m'' c (nexts.Go to next)
@@ -141,7 +141,7 @@ does_stay_or u f g m m' m'' c place next task to pushes chose same = record {
   later = Later-refl c;
 }
 
--- A node comes next, and the task behind it was pushed.
+-- A node is matched next, and then a frame that was pushed.
 pub goes_visit : (u : Subject) (f g : Step) (node : Bor Node) (m m' : Machine) (c c' : Captures) (place next task to : ℕ) →
     (next ≤ length m.tasks.items → Pushed u m m' g next task) → Later c c' →
     f (state c place) ≡ flat_map g (steps u.setting u.bytes u.direction (tree node.now) (state c' to)) →
@@ -160,7 +160,7 @@ goes_visit u f g node m m' c c' place next task to pushes later same = record {
   later = later;
 }
 
--- A node comes next, and nothing was pushed.
+-- A node is matched next, with nothing pushed.
 pub goes_into : (u : Subject) (f : Step) (node : Bor Node) (m : Machine) (c : Captures) (place next to : ℕ) →
     f (state c place) ≡ steps u.setting u.bytes u.direction (tree node.now) (state c to) →
     Does u f m c place next m c (nexts.Visit to node next)
@@ -169,7 +169,7 @@ goes_into u f node m c place next to same = record {
   later = Later-refl c;
 }
 
--- A node comes next, and else a task that was pushed.
+-- A node is matched next, and a backtrack point goes on with a pushed frame.
 pub does_first : (u : Subject) (g h : Step) (node : Bor Node) (m m1 m2 : Machine) (c : Captures) (place next other : ℕ) →
     (next ≤ length m.tasks.items → Pushed u m m1 g next other) → (other ≤ length m1.tasks.items → Chosen u m1 m2 c place other) →
     h (state c place) ≡ steps u.setting u.bytes u.direction (tree node.now) (state c place) ++ g (state c place) →
@@ -202,7 +202,7 @@ pub nothing_in : {A : Type 0} (xs : List A) → length xs ≡ 0 → xs ≡ []
 nothing_in [] none = refl
 nothing_in (x ∷ xs) none = absurd (omega (arith, none))
 
--- Captures were changed, and nothing was pushed.
+-- Captures change, with nothing pushed.
 pub goes_changed : (u : Subject) (f : Step) (m : Machine) (c c' : Captures) (place next : ℕ) → Later c c' → f (state c place) ≡ state c' place ∷ [] →
     Does u f m c place next m c' (nexts.Go place next)
 goes_changed u f m c c' place next later is = record {
@@ -215,7 +215,7 @@ goes_changed u f m c c' place next later is = record {
   later = later;
 }
 
--- A lookaround comes next.
+-- A lookaround is matched next.
 pub goes_look : (u : Subject) (f : Step) (m : Machine) (c : Captures) (l : Looking) →
     f (state c l.place) ≡ look l.negate (steps u.setting u.bytes (direction_if l.backwards) (tree l.body.now)) (state c l.place) →
     Does u f m c l.place l.next m c (nexts.Look l)
@@ -224,7 +224,7 @@ goes_look u f m c l is = record {
   later = Later-refl c;
 }
 
--- One outcome at most, which sets no group.
+-- A step with at most one outcome, which sets no group, goes on or backtracks.
 pub goes_put : (u : Subject) (f : Step) (m : Machine) (c : Captures) (place next : ℕ) (to : Option ℕ) (r : Next) →
     f (state c place) ≡ put (state c place) to →
     (next ≤ length m.tasks.items → IsMachine m c → Continues u (onward u m c next (put (state c place) to)) m c r) →

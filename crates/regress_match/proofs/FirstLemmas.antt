@@ -1,4 +1,4 @@
--- The first outcome from a place with no group set.
+-- The first outcome from a position with no group set.
 use Rattle.std.proofs.Common.{◌≡◌, ◌∙◌, ℕ, List, length, refl, ap, sym}
 use Rattle.regress_tree.specs.Steps.{State, Step, distinct}
 use Rattle.regress_tree.specs.Tree.{Tree}
@@ -12,7 +12,7 @@ use Rattle.regress_match.specs.declared.machine.Answer.{Answer}
 use Rattle.regress_match.specs.declared.machine.Answer.TheVariants as answers
 use Rattle.regress_match.proofs.RunLemmas.{distinct_first, distinct_none}
 
--- dropping repeats leaves the first outcome
+-- removing duplicates keeps the first outcome
 answers_distinct : (states : List State) (c : Captures) (a : Answer) → Answers states c a → Answers (distinct states) c a
 answers_distinct states c (answers.At k) found = distinct_first states found.0 (state c k) found.1
 answers_distinct states c answers.Nowhere none = distinct_none states none
@@ -23,7 +23,7 @@ answers_same states others c (answers.At k) same found = (found.0, sym same ∙ 
 answers_same states others c answers.Nowhere same none = sym same ∙ none
 answers_same states others c answers.OutOfSteps same spent = tt
 
--- what a run comes to, from captures with no group set
+-- a run that starts with no group set returns the first outcome
 pub answers_at : (f : Step) (t : Tree) (before after : Captures) (a : Answer) (place : ℕ) → IsFresh t before →
     Answers (f (state before place)) after a → Answers (distinct (f (no_groups (length (captures t)) place))) after a
 answers_at f t before after a place fresh found =

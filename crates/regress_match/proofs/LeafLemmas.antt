@@ -1,4 +1,4 @@
--- What leaves match, as the code finds it.
+-- What leaves match, in the form in which the code computes it.
 use Rattle.std.proofs.Common.{◌≡◌, ℕ, zero, suc, ◌+◌, ◌-◌, ◌≤◌, ◌<◌, Bool, true, false, ◌&&◌, List, [], ◌∷◌, ◌++◌, flat_map, length, drop, get_or, Option, Some, None, refl, sym, ap, ap₂, ◌∙◌, arith, append-nil, map, if◌then◌else◌, nat_eq, nat_le}
 use Rattle.std.specs.Box.{boxed_slice_items}
 use Rattle.std.specs.Global.{Global}
@@ -15,7 +15,7 @@ use Rattle.regress_match.specs.Leaves.{any_of, put}
 use Rattle.regress_match.specs.Subject.{Subject}
 
 module _ (d : Direction) (r : Reading) where
-  -- one character
+  -- a test of one character: at the end of the input, a failed test, a passed test
   pub one_none : (test : ℕ → Bool) (s : State) → next_character d r s.place ≡ None → one_character d r test s ≡ []
   unfolding one_character
   one_none test s none = ap (moved test s) none
@@ -31,7 +31,7 @@ module _ (d : Direction) (r : Reading) where
   one_no test s read some tested = ap (moved test s) some ∙ ap (λ (b : Bool). if b then record s { place = read.place } ∷ [] else []) tested
 
   module _ (same : ℕ → ℕ → Bool) where
-    -- characters one after the other
+    -- characters in order: at the end of the input, a mismatch, a match
     pub all_none : (c : ℕ) (cs : List ℕ) (s : State) → next_character d r s.place ≡ None → all_of d r same (c ∷ cs) s ≡ []
     all_none c cs s none = ap (flat_map (all_of d r same cs)) (one_none (same c) s none)
 
@@ -44,7 +44,7 @@ module _ (d : Direction) (r : Reading) where
     all_yes c cs s read some tested =
         ap (flat_map (all_of d r same cs)) (one_yes (same c) s read some tested) ∙ append-nil (all_of d r same cs (record s { place = read.place }))
 
--- these bytes, by whether they stand there
+-- bytes match exactly if the text has them at the position
 pub bytes_forwards : (bytes written : List ℕ) (s : State) (b : Bool) → starts_with nat_eq (drop s.place bytes) written ≡ b →
     these_bytes forwards bytes written s ≡ (if b then record s { place = s.place + length written } ∷ [] else [])
 unfolding these_bytes
@@ -93,7 +93,7 @@ pub length-in_order : (d : Direction) (cs : List ℕ) → length (in_order d cs)
 length-in_order forwards cs = refl
 length-in_order backwards cs = length-reverse cs
 
--- What is left of characters in order, by what is read next.
+-- Matching the remaining characters, by the next character of the text.
 module _ (d : Direction) (r : Reading) (same : ℕ → ℕ → Bool) (cs : List ℕ) (s : State) (i here : ℕ) (within : i < length cs) where
   here_of : all_of d r same (drop i cs) (record s { place = here }) ≡ all_of d r same (get_or cs i 0 ∷ drop (i + 1) cs) (record s { place = here })
   here_of = ap (λ ds. all_of d r same ds (record s { place = here })) (drop_more cs i 0 within)
@@ -113,7 +113,7 @@ module _ (d : Direction) (r : Reading) (same : ℕ → ℕ → Bool) (cs : List 
   order_yes read some tested so_far =
       sym (all_yes d r same (get_or cs i 0) (drop (i + 1) cs) (record s { place = here }) read some tested) ∙ sym here_of ∙ so_far
 
--- References, by what the group has captured
+-- backreferences: to an unset group, and to a set one
 pub back_none : (d : Direction) (r : Reading) (same : ℕ → ℕ → Bool) (id : ℕ) (s : State) → get_or s.captures id None ≡ None →
     back_reference d r same id s ≡ s ∷ []
 unfolding back_reference
@@ -124,7 +124,7 @@ pub back_some : (d : Direction) (r : Reading) (same : ℕ → ℕ → Bool) (id 
 unfolding back_reference
 back_some d r same id start end s some = ap (λ span. once_more d r same span s) some
 
--- an item, whatever stands for one past the end
+-- an element of a list does not depend on the default
 pub get_or_at : {A : Type 0} (xs : List A) (i : ℕ) (v w : A) → get_or xs i v ≡ v → i < length xs → get_or xs i w ≡ v
 get_or_at [] i v w is within = absurd (omega (arith, within))
 get_or_at (x ∷ xs) zero v w is within = is
@@ -151,7 +151,7 @@ pub any-cons : (d : Direction) (r : Reading) (same : ℕ → ℕ → Bool) (stri
 unfolding any_string
 any-cons d r same string strings s = refl
 
--- strings, by what is found of the first
+-- a set of strings is its first string and then the others
 pub any_first : (u : Subject) (icase : Bool) (all rest : List (BoxedSlice ℕ Global)) (first : BoxedSlice ℕ Global) (to : Option ℕ) (s : State) →
     all ≡ first ∷ rest →
     put s to ≡ all_of u.direction (of_bytes u.bytes) (stands_for u.setting.table icase u.setting.flags.unicode)
@@ -163,7 +163,7 @@ any_first u icase all rest first to s split found =
     ∙ any-cons u.direction (of_bytes u.bytes) same (boxed_slice_items first) (map boxed_slice_items rest) s
     ∙ ap (λ xs. xs ++ any_of u icase rest s) (sym found)
 
--- the same, where strings before the first and behind it were left out that match nothing
+-- the same, where strings that fail are skipped before and after the first
 pub any_opened : (u : Subject) (icase : Bool) (all left rest others : List (BoxedSlice ℕ Global)) (first : BoxedSlice ℕ Global) (to found : Option ℕ)
     (s : State) → any_of u icase left s ≡ any_of u icase all s → left ≡ first ∷ rest →
     put s to ≡ all_of u.direction (of_bytes u.bytes) (stands_for u.setting.table icase u.setting.flags.unicode)

@@ -1,4 +1,4 @@
--- Turns of loops, groups and rows, as tasks do them.
+-- Loops, groups and concatenations as frames.
 use Rattle.std.proofs.Common.{◌≡◌, ℕ, zero, suc, ◌+◌, ◌-◌, ◌≤◌, Bool, true, false, not, ◌==◌, List, [], ◌∷◌, ◌++◌, filter, flat_map, map, refl, sym, ap, ◌∙◌, arith, if◌then◌else◌, not-suc-le-zero}
 use Rattle.std.proofs.Common.{length}
 use Rattle.std.proofs.lemmas.Bool.{eq-eqb, ne_eqb}
@@ -16,7 +16,7 @@ map-flat : (g : State → State) (states : List State) → map g states ≡ flat
 map-flat g [] = refl
 map-flat g (s ∷ states) = ap (λ rest. g s ∷ rest) (map-flat g states)
 
--- a group, closed behind its contents
+-- a group is its contents and then a frame that sets its capture
 pub capture-then : (id : ℕ) (f : Step) (s : State) → capture id f s ≡ (f then_ (λ t. captured id s.place t ∷ [])) s
 unfolding capture
 capture-then id f s = map-flat (captured id s.place) (f s)
@@ -27,7 +27,7 @@ moved-one : (g : Step) (k : ℕ) (t : State) (states rest : List State) (b : Boo
 moved-one g k t states rest true e same = rw e same
 moved-one g k t states rest false e same = rw e (ap (λ xs. g t ++ xs) same)
 
--- what has not moved is dropped, before or after
+-- empty iterations may be dropped when they end or when the next frame checks for them
 pub moved-later : (g : Step) (k : ℕ) (states : List State) →
     flat_map g (filter (λ v. not (v.place == k)) states) ≡ flat_map (λ t. if t.place == k then [] else g t) states
 moved-later g k [] = refl
@@ -55,7 +55,7 @@ more_lazy greedy n f s is le =
     let more : Step = moving f then_ up_to greedy (n - 1) f in
     ap (λ h. h s) (more-less greedy n f le) ∙ ap (λ (b : Bool). (if b then more or_ stay else stay or_ more) s) is
 
--- a loop, as the task that it begins with
+-- a loop is the frame with which it begins
 pub loop_is : (u : Subject) (r : Repeat) (q : Quantifier) (start end : ℕ) (body : Tree) (s : State) → tree r.body.now ≡ body →
     r.start ≡ start → r.end ≡ end → r.greedy ≡ q.greedy → r.more ≡ more_turns (length u.bytes + 1) q →
     repeat (length u.bytes + 1) q start end (steps u.setting u.bytes u.direction body) s ≡ what_step u (whats.Turns r q.min) s

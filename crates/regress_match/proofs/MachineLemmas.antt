@@ -1,4 +1,4 @@
--- Tasks and choices.
+-- Frames and backtrack points.
 use Rattle.std.proofs.Common.{◌≡◌, ℕ, zero, suc, ◌+◌, ◌≤◌, ◌<◌, List, [], ◌∷◌, ◌++◌, length, take, drop, refl, sym, ap, ap₂, subst, ◌∙◌, append_assoc, append-nil, arith, le_of_suc-le-suc, not-suc-le-zero, slice_index_or}
 use Rattle.std.proofs.lemmas.List.{length-append, length-take-le, take-append-drop}
 use Rattle.std.proofs.Math.Seq.{take-suc}
@@ -82,7 +82,7 @@ module _ (u : Subject) where
       ap (λ xs. xs ++ todo u ts e.task (saved c e)) (pending-push ts cs c d)
       ∙ append_assoc (todo u ts d.task (saved c d)) (pending u ts cs c) (todo u ts e.task (saved c e))
 
-  -- captures that give the same states at each choice
+  -- captures that undo to the same states give the same pending outcomes
   pub pending-captures : (ts : List Task) (low mark : ℕ) (cs : List Choice) (c c' : Captures) (n m : ℕ) → known_from low mark cs n m →
       ((k : ℕ) → k ≤ m → undone (drop k c'.trail.items) c'.spans.items ≡ undone (drop k c.trail.items) c.spans.items) →
       pending u ts cs c' ≡ pending u ts cs c
@@ -165,7 +165,7 @@ known-pop low mark (d ∷ cs) c n m known =
     let rest = known-pop d.known d.noted cs c n m known.3 in
     ((known.0, known.1, known.2, rest.0), rest.1, rest.2, rest.3)
 
--- what the last choice knows
+-- the marks of the last backtrack point are within the machine's lists
 pub choice_known : (m : Machine) (c : Captures) (cs : List Choice) (d : Choice) → IsMachine m c → m.choices.items ≡ cs ++ d ∷ [] →
     (d.known ≤ length m.tasks.items) × (d.noted ≤ length c.trail.items)
 choice_known m c cs d is split =
@@ -179,7 +179,7 @@ drop-take (suc j) zero xs le le' = absurd (not-suc-le-zero le)
 drop-take (suc j) (suc k) [] le le' = absurd (not-suc-le-zero le')
 drop-take (suc j) (suc k) (x ∷ xs) le le' = drop-take j k xs (le_of_suc-le-suc le) (le_of_suc-le-suc le')
 
--- The last choice, with the tasks and the changes that it knows.
+-- Backtracking restores the frames and captures of the last backtrack point.
 pub pop_choice : (u : Subject) (m m' : Machine) (c c' : Captures) (d : Choice) → IsMachine m c → m.choices.items ≡ m'.choices.items ++ d ∷ [] →
     m'.tasks.items ≡ take d.known m.tasks.items → c'.trail.items ≡ take d.noted c.trail.items →
     c'.spans.items ≡ undone (drop d.noted c.trail.items) c.spans.items →
@@ -221,7 +221,7 @@ pub pending-nil : (u : Subject) (m : Machine) (c : Captures) → m.choices.items
 unfolding pending
 pending-nil u m c none = ap (λ ds. pending u m.tasks.items ds c) none
 
--- a task, and what comes after it
+-- a frame does its own step and then the next frame
 pub todo-at : (u : Subject) (ts : List Task) (i : ℕ) (t : Task) → linked_from 0 ts → i < length ts → t ≡ slice_index_or ts i t →
     (t.next ≤ length ts) × (todo u ts (i + 1) ≡ (what_step u t.what then_ todo u ts t.next))
 todo-at u ts i t linked lt is =

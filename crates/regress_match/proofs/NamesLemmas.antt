@@ -1,4 +1,4 @@
--- What walks over groups gather.
+-- What walks over capture groups collect.
 use Rattle.std.proofs.Common.{◌≡◌, ◌∙◌, ◌++◌, [], ◌∷◌, ℕ, List, Option, None, Some, map, refl, sym, ap, append_assoc, append-nil, if◌then◌else◌}
 use Rattle.std.specs.Prelude.{slice_index_or}
 use Rattle.std.specs.Option.{option_or}

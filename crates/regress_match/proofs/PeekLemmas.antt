@@ -1,4 +1,4 @@
--- What fails at a place because the part in front does.
+-- A node fails at a position if its first part does.
 use Rattle.std.specs.Prelude.{IfSome}
 use Rattle.std.proofs.Common.{◌≡◌, ◌∙◌, ℕ, ◌+◌, ◌-◌, ◌≤◌, ◌==◌, Bool, true, false, not, [], ◌∷◌, ◌++◌, suc, zero, filter, flat_map, map, Option, Some, None, List, refl, ap, ap₂, append-nil, arith, length, slice_index_or}
 use Rattle.regress_base.specs.declared.types.Quantifier.{Quantifier}
@@ -41,7 +41,7 @@ module _ (u : Subject) (place : ℕ) where
   pub fails_loop_one : (t : Tree) (q : Quantifier) → 1 ≤ q.min → FailsAt u place t → FailsAt u place (wrapped (loop_one q) t)
   fails_loop_one t q some fails = λ s at. repeat_fails t _ 0 0 q s some fails at
 
--- a lookaround whose body fails, or negated holds
+-- a lookaround fails if its body fails, and a negated one if its body succeeds
 pub fails_look : (u : Subject) (place : ℕ) (t : Tree) (looks_back : Bool) (start end : ℕ) →
     FailsAt (record u { direction = direction_if looks_back }) place t → FailsAt u place (wrapped (lookaround false looks_back start end) t)
 unfolding look
@@ -52,16 +52,16 @@ pub fails_look_negated : (u : Subject) (place : ℕ) (t : Tree) (looks_back : Bo
 unfolding look
 fails_look_negated u place t looks_back start end to goes = λ s at. ap (looked true s) (goes s at)
 
--- two alternatives that fail
+-- an alternation fails if both sides fail
 pub fails_alt : (u : Subject) (place : ℕ) (t v : Tree) → FailsAt u place t → FailsAt u place v → FailsAt u place (alt t v)
 fails_alt u place t v fails fails' = λ s at. ap₂ ◌++◌ (fails s at) (fails' s at)
 
--- the second, where the first fails
+-- an alternation whose left side fails is its right side
 pub fails_first : (u : Subject) (place : ℕ) (t v : Tree) (s : State) → FailsAt u place t → s.place ≡ place →
     steps u.setting u.bytes u.direction (alt t v) s ≡ steps u.setting u.bytes u.direction v s
 fails_first u place t v s fails at = ap (λ xs. xs ++ steps u.setting u.bytes u.direction v s) (fails s at)
 
--- no turn more of what fails
+-- a loop whose body fails has no further iteration
 pub more_fails : (greedy : Bool) (n : ℕ) (f : Step) (s : State) → f s ≡ [] → up_to greedy n f s ≡ s ∷ []
 more_fails greedy zero f s none = refl
 more_fails true (suc n) f s none = ap (λ xs. flat_map (up_to true n f) (filter (λ t. not (t.place == s.place)) xs) ++ s ∷ []) none
@@ -70,7 +70,7 @@ more_fails false (suc n) f s none = ap (λ xs. s ∷ flat_map (up_to false n f) 
 pub no_more : (u : Subject) (r : Repeat) (s : State) → FailsAt u s.place (tree r.body.now) → more_of u r s ≡ s ∷ []
 no_more u r s fails = more_fails r.greedy r.more (turn_of u r) s (fails (unset r.start r.end s) refl)
 
--- a task of the list that matches nothing
+-- a frame fails if its own step does, or the next frame after it
 module _ (u : Subject) (m : Machine) (c : Captures) (task : ℕ) (t : Task) (s : State) (is : IsMachine m c) (some : 1 ≤ task)
     (within : task ≤ length m.tasks.items) (at : t ≡ slice_index_or m.tasks.items (task - 1) t) where
   by_what : todo u m.tasks.items task s ≡ flat_map (todo u m.tasks.items t.next) (what_step u t.what s)
@@ -82,7 +82,7 @@ module _ (u : Subject) (m : Machine) (c : Captures) (task : ℕ) (t : Task) (s :
   pub task_none : what_step u t.what s ≡ [] → todo u m.tasks.items task s ≡ []
   task_none none = by_what ∙ ap (flat_map (todo u m.tasks.items t.next)) none
 
-  -- behind a group
+  -- a group's closing frame fails if the frame after it does
   pub close_none : (id from : ℕ) → t.what ≡ whats.Close id from →
       todo u m.tasks.items t.next (captured id from s) ≡ [] → todo u m.tasks.items task s ≡ []
   close_none id from what none =

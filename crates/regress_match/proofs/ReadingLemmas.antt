@@ -1,4 +1,4 @@
--- Where characters begin and end.
+-- Decoding the character before or after a byte offset.
 use Rattle.std.proofs.Common.{◌≡◌, ℕ, zero, suc, ◌+◌, ◌-◌, ◌≤◌, ◌<◌, ◌==◌, Bool, true, false, List, [], ◌∷◌, ◌++◌, length, take, drop, get_or, Option, Some, None, refl, sym, ap, subst, ◌∙◌, arith, append_assoc, if◌then◌else◌, cond, nat_le, lit≤}
 use Rattle.std.specs.Char.{IsScalar, len_utf8, encode_utf8}
 use Rattle.std.specs.Option.{option_or, option_and_then}
@@ -24,7 +24,7 @@ lead false true z c xs ys zs rest p q r low le-p le-q le-r high = le-p
 lead false false true c xs ys zs rest p q r low le-p le-q le-r high = le-q
 lead false false false c xs ys zs rest p q r low le-p le-q le-r high = le-r
 
--- a character's first byte does not go on with another one
+-- the first byte of a character is no continuation byte
 pub first_leads : (c : ℕ) (rest : List ℕ) → 128 ≤ get_or (encode c ++ rest) 0 0 → 192 ≤ get_or (encode c ++ rest) 0 0
 unfolding encode
 first_leads c rest high =
@@ -63,7 +63,7 @@ pub read_after_some : (bytes : List ℕ) (k c : ℕ) → character_at bytes k �
 unfolding read_after
 read_after_some bytes k c some = rw some refl
 
--- none begins at the end
+-- no character begins at the end of the text
 pub end_none : (bytes : List ℕ) (k : ℕ) → length (drop k bytes) ≡ 0 → character_at bytes k ≡ None
 end_none bytes k none =
     no_character (character_at bytes k) (λ c e.
@@ -91,7 +91,7 @@ all_none : (a b c d : Option Read) → a ≡ None → b ≡ None → c ≡ None 
 all_none a b c d none-a none-b none-c none-d =
     ap (λ x. option_or x (option_or b (option_or c d))) none-a ∙ ap (λ x. option_or x (option_or c d)) none-b ∙ ap (λ x. option_or x d) none-c ∙ none-d
 
--- none ends off a boundary, or at the start
+-- no character ends at the start of the text, or off a character boundary
 pub before_none : (bytes : List ℕ) (k : ℕ) → IsUtf8 bytes → (1 ≤ k → IsCharBoundary bytes k → ⊥) → read_before bytes k ≡ None
 unfolding read_before
 before_none bytes k utf8 off =
@@ -111,7 +111,7 @@ before_none bytes k utf8 off =
         let here : k - n + len_utf8 c ≡ k = omega (arith, le, same) in
         off (omega (arith, le, same, some)) (subst (λ i. IsCharBoundary bytes i) here past)
 
--- the character before a place
+-- the character that ends at an offset
 pub before_some : (bytes : List ℕ) (k c : ℕ) (xs : List ℕ) → IsScalar c → k ≤ length bytes → take k bytes ≡ xs ++ encode_utf8 c →
     read_before bytes k ≡ Some (record { character = c; place = k - len_utf8 c })
 before_some bytes k c xs is le split =
@@ -127,7 +127,7 @@ before_some bytes k c xs is le split =
 ascii_scalar : (b : ℕ) → b < 128 → IsScalar b
 ascii_scalar b lt = grind arith
 
--- a byte that is an ASCII character
+-- an ASCII byte is a character of its own
 pub ascii_after : (bytes : List ℕ) (k b : ℕ) → b < 128 → k < length bytes → get_or bytes k 0 ≡ b →
     read_after bytes k ≡ Some (record { character = b; place = k + 1 })
 ascii_after bytes k b lt within is =

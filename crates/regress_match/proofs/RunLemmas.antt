@@ -1,4 +1,4 @@
--- Steps of a run, lookarounds in it, and its ends.
+-- One step of a run, its lookarounds, and how it ends.
 use Rattle.std.proofs.Common.{◌≡◌, ℕ, zero, suc, ◌+◌, ◌-◌, ◌≤◌, Bool, true, false, List, [], ◌∷◌, ◌++◌, flat_map, filter, not, length, take, drop, refl, sym, ap, ap₂, subst, ◌∙◌, append-nil, arith, slice_index_or, Option, if◌then◌else◌}
 use Rattle.std.proofs.Math.Seq.{drop-append_seam}
 use Rattle.regress_tree.specs.Reading.{direction_if}
@@ -26,7 +26,7 @@ use Rattle.regress_match.specs.declared.machine.Settled.TheVariants as settleds
 use Rattle.regress_match.specs.declared.machine.Task.{Task}
 use Rattle.regress_match.proofs.MachineLemmas.{todo-at, todo-none, pending-nil, machine_later, waiting_later}
 
--- a machine with nothing to do
+-- a machine with empty lists is valid
 empty_machine : (m : Machine) (c : Captures) → m.tasks.items ≡ [] → m.choices.items ≡ [] → IsMachine m c
 unfolding linked_from known_from
 empty_machine m c tasks choices = record {
@@ -34,7 +34,7 @@ empty_machine m c tasks choices = record {
   known = subst (λ cs. known_from 0 0 cs (length m.tasks.items) (length c.trail.items)) (sym choices) (omega arith, omega arith);
 }
 
--- a run begins
+-- a run begins with the node and nothing after it
 pub begins : (u : Subject) (m : Machine) (c : Captures) (node : Bor Node) (start : ℕ) → m.tasks.items ≡ [] → m.choices.items ≡ [] →
     IsMachine m c × Fits (aheads.Node node 0) (length m.tasks.items)
     × (steps u.setting u.bytes u.direction (tree node.now) (state c start) ≡ left_ahead u m c start (aheads.Node node 0))
@@ -52,7 +52,7 @@ pub positive : (n : ℕ) → (n ≡ 0 → ⊥) → 1 ≤ n
 positive zero some = absurd (some refl)
 positive (suc n) some = omega arith
 
--- it does a task
+-- doing a frame keeps the outcomes
 pub task_done : (u : Subject) (m m' : Machine) (c c' : Captures) (place task : ℕ) (t : Task) (r : Next) (ahead : Ahead) →
     IsMachine m c → 1 ≤ task → task ≤ length m.tasks.items → t ≡ slice_index_or m.tasks.items (task - 1) t →
     ahead ≡ aheads.Task task → Does u (what_step u t.what) m c place t.next m' c' r → Continues u (left_ahead u m c place ahead) m' c' r
@@ -64,19 +64,19 @@ task_done u m m' c c' place task t r ahead is some within at what does =
     ∙ ap (λ (h : Step). h (state c place) ++ waiting u m c) found.1 in
     subst (λ states. Continues u states m' c' r) (sym same) (does.continues found.0 is)
 
--- or a node
+-- matching a node keeps the outcomes
 pub node_done : (u : Subject) (m m' : Machine) (c c' : Captures) (place next : ℕ) (node : Bor Node) (r : Next) (ahead : Ahead) →
     IsMachine m c → next ≤ length m.tasks.items → ahead ≡ aheads.Node node next →
     Does u (steps u.setting u.bytes u.direction (tree node.now)) m c place next m' c' r → Continues u (left_ahead u m c place ahead) m' c' r
 node_done u m m' c c' place next node r ahead is within what does =
     subst (λ a. Continues u (left_ahead u m c place a) m' c' r) (sym what) (does.continues within is)
 
--- so it goes on
+-- equal outcomes may be exchanged
 pub goes_on_with : (u : Subject) (m : Machine) (c : Captures) (r : Next) (outcomes states : List State) → outcomes ≡ states →
     Continues u states m c r → Continues u outcomes m c r
 goes_on_with u m c r outcomes states same goes = subst (λ xs. Continues u xs m c r) (sym same) goes
 
--- it comes to its end
+-- with no frame remaining the current state is the first outcome
 pub ends_at : (u : Subject) (m : Machine) (c : Captures) (place : ℕ) (ahead : Ahead) (outcomes : List State) → ahead ≡ aheads.Task 0 →
     outcomes ≡ left_ahead u m c place ahead → (rest : List State) × (outcomes ≡ state c place ∷ rest)
 ends_at u m c place ahead outcomes none left = (
@@ -88,7 +88,7 @@ ends_at u m c place ahead outcomes none left = (
 abbrev looking_steps : Subject → Looking → Step
 looking_steps u l = steps u.setting u.bytes (direction_if l.backwards) (tree l.body.now)
 
--- a lookaround holds
+-- a lookaround that holds goes on with the next frame
 pub look_holds : (u : Subject) (outcomes : List State) (m : Machine) (c c' : Captures) (l : Looking) → Continues u outcomes m c (nexts.Look l) →
     Later c c' → look l.negate (looking_steps u l) (state c l.place) ≡ state c' l.place ∷ [] →
     Settles u outcomes m c' (settleds.On l.place (aheads.Task l.next))
@@ -99,7 +99,7 @@ look_holds u outcomes m c c' l goes later holds = (
       ∙ ap₂ ◌++◌ (append-nil (todo u m.tasks.items l.next (state c' l.place))) (sym (waiting_later u m c c' goes.0 later)),
 )
 
--- it fails
+-- a lookaround that fails backtracks
 pub look_fails : (u : Subject) (outcomes : List State) (m : Machine) (c c' : Captures) (l : Looking) → Continues u outcomes m c (nexts.Look l) →
     Later c c' → look l.negate (looking_steps u l) (state c l.place) ≡ [] → Settles u outcomes m c' settleds.Off
 look_fails u outcomes m c c' l goes later fails = (
@@ -107,7 +107,7 @@ look_fails u outcomes m c c' l goes later fails = (
   goes.2 ∙ ap (λ states. onward u m c l.next states) fails ∙ sym (waiting_later u m c c' goes.0 later),
 )
 
--- what a lookaround comes to, by the first outcome of its body
+-- a lookaround is decided by the first outcome of its body
 looked_first : (f : Step) (s t : State) (rest : List State) → f s ≡ t ∷ rest → look false f s ≡ record t { place = s.place } ∷ []
 unfolding look
 looked_first f s t rest is = ap (looked false s) is
@@ -124,7 +124,7 @@ looked_none_negated : (f : Step) (s : State) → f s ≡ [] → look true f s �
 unfolding look
 looked_none_negated f s is = ap (looked true s) is
 
--- what looking comes to, where the body has no outcome, and where it has one
+-- the result of a lookaround whose body has no outcome, and of one whose body has one
 pub looks_none : (negate : Bool) (f : Step) (c c' : Captures) (place : ℕ) (r : Looked) → f (state c place) ≡ [] → c'.spans.items ≡ c.spans.items →
     r ≡ (if negate then lookeds.Holds else lookeds.Fails) → Looks (look negate f (state c place)) c' place r
 looks_none true f c c' place r none spans is =
@@ -141,7 +141,7 @@ looks_first true f c c' place k r rest some is =
 looks_first false f c c' place k r rest some is =
     subst (Looks (look false f (state c place)) c' place) (sym is) (looked_first f (state c place) (state c' k) rest some)
 
--- What is first of all outcomes is first of the distinct ones.
+-- Removing duplicates keeps the first outcome.
 pub distinct_first : (states rest : List State) (s : State) → states ≡ s ∷ rest →
     (rest' : List State) × (distinct states ≡ s ∷ rest')
 distinct_first states rest s is = (filter (λ t. not (same_state s t)) (distinct rest), ap distinct is)
@@ -149,7 +149,7 @@ distinct_first states rest s is = (filter (λ t. not (same_state s t)) (distinct
 pub distinct_none : (states : List State) → states ≡ [] → distinct states ≡ []
 distinct_none states is = ap distinct is
 
--- The changes of a lookaround, undone again.
+-- The changes inside a lookaround can be undone by themselves.
 pub rewound : (before since all : List Undo) (noted : ℕ) (spans spans' spans'' : List (Option CaptureSpan)) → all ≡ before ++ since → noted ≡ length before →
     undone since spans' ≡ spans → spans'' ≡ undone (drop noted all) spans' → spans'' ≡ spans
 rewound before since all noted spans spans' spans'' split len undo is =

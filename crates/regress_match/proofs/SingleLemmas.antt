@@ -1,4 +1,4 @@
--- Tasks of loops over one character.
+-- Frames of loops over one character.
 use Rattle.std.proofs.Common.{◌≡◌, ◌⊎◌, inl, inr, ℕ, ◌+◌, ◌-◌, ◌≤◌, ◌<◌, Bool, true, false, not, [], ◌∷◌, ◌++◌, flat_map, length, Option, Some, None, refl, sym, ap, ap₂, subst, ◌∙◌, arith, append_assoc, append-nil, slice_index_or}
 use mathlib.Core.Path.{fun_ext}
 use Rattle.regress_tree.specs.Reading.{Read, direction_if, next_character, of_bytes}
@@ -31,7 +31,7 @@ turn-single u r takes ends =
     turn-none r.start r.end ends (steps u.setting u.bytes u.direction (tree r.body.now))
     ∙ fun_ext (λ s. takes_one-steps u.setting u.bytes u.direction (tree r.body.now) s takes)
 
--- such a loop, by its one character and what its least number of turns comes to
+-- a loop over one character, after its minimum of iterations
 pub loop_single : (u : Subject) (r : Repeat) (least : ℕ) (s : State) (to : Option ℕ) → takes_one (tree r.body.now) ≡ true → r.end ≤ r.start →
     turns least (one_of u.direction u.bytes (tree r.body.now)) s ≡ put s to →
     what_step u (whats.Turns r least) s ≡ flat_map (up_to r.greedy r.more (one_of u.direction u.bytes (tree r.body.now))) (put s to)
@@ -77,7 +77,7 @@ pub turned_round : (b : Bool) → direction_if (not b) ≡ opposite (direction_i
 turned_round true = refl
 turned_round false = refl
 
--- On from one place, and else a task from another place.
+-- One position is tried first, and a backtrack point goes on with a pushed frame from another position.
 pub does_or_at : (u : Subject) (f g : Step) (m m' m'' : Machine) (c : Captures) (place next task to at : ℕ) →
     (next ≤ length m.tasks.items → Pushed u m m' f next task) → (task ≤ length m'.tasks.items → Chosen u m' m'' c at task) →
     g (state c place) ≡ state c to ∷ f (state c at) → Does u g m c place next m'' c (nexts.Go to next)
@@ -97,7 +97,7 @@ does_or_at u f g m m' m'' c place next task to at pushes chose same = record {
   later = Later-refl c;
 }
 
--- A task that stands in the list is as if it had been pushed.
+-- A frame that is in the list acts as one just pushed.
 pub stands : (u : Subject) (m : Machine) (c : Captures) (task : ℕ) (t : Task) → IsMachine m c → 1 ≤ task → task ≤ length m.tasks.items →
     t ≡ slice_index_or m.tasks.items (task - 1) t → Pushed u m m (what_step u t.what) t.next task
 stands u m c task t is some within at =
@@ -112,7 +112,7 @@ stands u m c task t is some within at =
       machine = λ c' machine. machine;
     }
 
--- From one place as from another, with what comes after.
+-- Two positions with the same outcomes can be exchanged.
 pub does_from : (u : Subject) (f g : Step) (m : Machine) (c : Captures) (place at next : ℕ) (m' : Machine) (c' : Captures) (r : Next) →
     (next ≤ length m.tasks.items → IsMachine m c → onward u m c next (f (state c place)) ≡ onward u m c next (g (state c at))) →
     Does u g m c at next m' c' r → Does u f m c place next m' c' r
@@ -121,7 +121,7 @@ does_from u f g m c place at next m' c' r same does = record {
   later = does.later;
 }
 
--- A place is left out at which what comes after matches nothing.
+-- A position at which the next frame fails may be skipped when characters are given back.
 pub skips_back : (u : Subject) (m : Machine) (c : Captures) (next stop here : ℕ) (read : Read) → todo u m.tasks.items next (state c here) ≡ [] →
     (here ≡ stop → ⊥) → next_character (opposite u.direction) (of_bytes u.bytes) here ≡ Some read →
     onward u m c next (giving_back u.direction u.bytes stop (state c here)) ≡ onward u m c next (giving_back u.direction u.bytes stop (state c read.place))

@@ -1,4 +1,4 @@
--- Loops over one character: turns move, and each can be given back.
+-- Loops over one character: each iteration advances, and each can be given back.
 use Rattle.std.proofs.Common.{◌≡◌, ℕ, zero, suc, ◌+◌, ◌-◌, ◌≤◌, ◌<◌, ◌==◌, Bool, true, false, not, List, [], ◌∷◌, ◌++◌, filter, flat_map, length, drop, Option, Some, None, refl, sym, ap, subst, ◌∙◌, arith, append_assoc, append-nil, if◌then◌else◌, not-suc-le-zero}
 use Rattle.std.specs.Char.{len_utf8, encode_utf8}
 use Rattle.std.specs.Option.{option_map}
@@ -18,7 +18,7 @@ use Rattle.regress_match.specs.Leaves.{put}
 use Rattle.regress_match.specs.Turns.{opposite, read_on, along, one_of, giving_back, taking_more}
 use Rattle.regress_match.proofs.LoopLemmas.{more_greedy, more_lazy, turns-less}
 
--- ---- reading moves, and back again
+-- ---- decoding a character advances, and decoding backwards returns
 
 after_of : (bytes : List ℕ) (k c : ℕ) → character_at bytes k ≡ Some c → read_after bytes k ≡ Some (record { character = c; place = k + len_utf8 c })
 unfolding read_after
@@ -32,7 +32,7 @@ within bytes k c e =
     let some = (len_utf8_bounds c).0 in
     (omega (arith, some), omega (arith, len, length-drop k bytes, some))
 
--- how many bytes lie ahead
+-- the number of bytes ahead in a direction
 abbrev pub ahead : Direction → List ℕ → ℕ → ℕ
 ahead forwards bytes k = length bytes - k
 ahead backwards bytes k = k
@@ -65,7 +65,7 @@ module _ (bytes : List ℕ) where
       irreflexive : (n : ℕ) → n < n → ⊥
       irreflexive n lt = omega (arith, lt)
 
-  -- ---- along the places
+  -- ---- positions along a direction
 
   module _ (d : Direction) (stop : ℕ) where
     along-then : (n m : ℕ) (s : State) →
@@ -97,7 +97,7 @@ module _ (bytes : List ℕ) where
         (along-then (length bytes) (length bytes + 1) s
         (λ to less fits. along-enough (length bytes) (length bytes + 1) (record s { place = to }) (omega (arith, less, fits)) (omega (arith, less, fits))))
 
-  -- ---- one turn
+  -- ---- one iteration
 
   module _ (d : Direction) (t : Tree) where
     found : (o : Option Read) (s : State) (to : ℕ) → record s { place = to } ∷ [] ≡ moved (test_of t) s o →
@@ -113,7 +113,7 @@ module _ (bytes : List ℕ) where
         tested true same = ap first same
         tested false same = let bad : ⊥ = cc in absurd bad
 
-    -- a turn that was taken
+    -- an iteration that succeeds has decoded a character
     pub taken : (s : State) (to : ℕ) → record s { place = to } ∷ [] ≡ one_of d bytes t s →
         (c : ℕ) × (next_character d (of_bytes bytes) s.place ≡ Some (record { character = c; place = to }))
     unfolding one_character
@@ -130,7 +130,7 @@ module _ (bytes : List ℕ) where
         kept true apart = rw apart refl
         kept false apart = refl
 
-    -- each turn moves
+    -- each iteration advances
     pub moving-one : (s : State) → moving (one_of d bytes t) s ≡ one_of d bytes t s
     unfolding one_character
     moving-one s =
@@ -144,7 +144,7 @@ module _ (bytes : List ℕ) where
         flat_map f (moving (one_of d bytes t) s) ≡ f (record s { place = to })
     all_of_one f s to one = ap (flat_map f) (moving-one s ∙ one) ∙ append-nil (f (record s { place = to }))
 
-    -- exactly so many turns
+    -- exactly n iterations
     pub exactly_more : (n : ℕ) (h : State) (to : ℕ) → 0 < n → put h (Some to) ≡ one_of d bytes t h →
         turns n (one_of d bytes t) h ≡ turns (n - 1) (one_of d bytes t) (record h { place = to })
     exactly_more n h to some one =
@@ -156,9 +156,9 @@ module _ (bytes : List ℕ) where
     exactly_none n h some none =
         ap (λ f. f h) (turns-less n (one_of d bytes t) some) ∙ ap (flat_map (turns (n - 1) (one_of d bytes t))) (sym none)
 
-    -- ---- as many turns as can be taken
+    -- ---- the maximum of iterations
 
-    -- the places behind the one that the loop has come to
+    -- the positions after the one that the loop has reached, in the order in which they are given back
     abbrev pub behind : (stop : ℕ) → State → List State
     behind stop h = drop 1 (giving_back d bytes stop h)
 
@@ -220,7 +220,7 @@ module _ (bytes : List ℕ) where
     far_end n stop h whole none so_far =
         so_far ∙ ap (λ i. up_to true i (one_of d bytes t) h ++ behind stop h) none ∙ sym (giving-split stop h)
 
-    -- ---- giving back, and taking more
+    -- ---- giving characters back, and taking more
 
     pub gives_last : (stop : ℕ) (h : State) → h.place ≡ stop → giving_back d bytes stop h ≡ h ∷ []
     gives_last stop h at = giving-split stop h ∙ ap (λ xs. h ∷ xs) (giving-stop stop h at)
@@ -241,7 +241,7 @@ module _ (bytes : List ℕ) where
         giving_back d bytes stop h ≡ h ∷ giving_back d bytes stop (record h { place = read.place })
     gives_more stop h read on next = giving-split stop h ∙ ap (λ xs. h ∷ xs) (behind-at stop h (Some read) on next)
 
-    -- Where the outcomes from the next place are the same, so are those behind a turn.
+    -- Loops that agree from the next position agree from this one.
     lazy-then : (n m : ℕ) (s : State) →
         ((to : ℕ) → ahead d bytes to < ahead d bytes s.place → ahead d bytes s.place ≤ length bytes →
         up_to false n (one_of d bytes t) (record s { place = to }) ≡ up_to false m (one_of d bytes t) (record s { place = to })) →
@@ -264,7 +264,7 @@ module _ (bytes : List ℕ) where
             let less = less_ahead d s.place read e in
             kept (test_of t read.character) (record s { place = read.place }) (same read.place less.0 less.1)
 
-    -- any bounds past what lies ahead
+    -- bounds larger than the number of bytes ahead make no difference
     lazy-enough : (n m : ℕ) (s : State) → ahead d bytes s.place < n → ahead d bytes s.place < m →
         up_to false n (one_of d bytes t) s ≡ up_to false m (one_of d bytes t) s
     lazy-enough zero m s hn hm = absurd (not-suc-le-zero hn)
@@ -283,7 +283,7 @@ module _ (bytes : List ℕ) where
         (lazy-then (n - 1) (length bytes + 1) s
         (λ to less fits. lazy-enough (n - 1) (length bytes + 1) (record s { place = to }) (omega (arith, less, fits, lt)) (omega (arith, less, fits))))
 
-    -- a turn more, and then the same from there
+    -- taking one more iteration, and then the same from there
     pub more_some : (s : State) (to : ℕ) → put s (Some to) ≡ one_of d bytes t s →
         taking_more d bytes t s ≡ record s { place = to } ∷ taking_more d bytes t (record s { place = to })
     more_some s to one =

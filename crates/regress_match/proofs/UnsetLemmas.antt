@@ -1,4 +1,4 @@
--- Groups that are forgotten one by one.
+-- Groups unset one by one.
 use Rattle.std.proofs.Common.{◌≡◌, ℕ, zero, suc, ◌+◌, ◌≤◌, ◌<◌, min, Bool, true, false, ◌&&◌, List, [], ◌∷◌, length, Option, None, refl, sym, ap, ap₂, ◌∙◌, arith, nat_le, nat_lt, get_or, set, if◌then◌else◌, ◌⊎◌, inl, inr}
 use Rattle.std.proofs.lemmas.Bool.{cases_lt}
 use Rattle.regress_tree.specs.Repetition.{unset_from}
@@ -21,7 +21,7 @@ unset-none k start end [] le = refl
 unset-none k start end (x ∷ xs) le =
     ap₂ (λ (b : Bool) ys. (if b then None else x) ∷ ys) (outside start end k le) (unset-none (k + 1) start end xs le)
 
--- groups past the last one make no difference
+-- ids past the last group make no difference
 pub unset-past : (k start end end' : ℕ) (spans : List (Option CaptureSpan)) → k + length spans ≤ end → end ≤ end' →
     unset_from k start end spans ≡ unset_from k start end' spans
 unset-past k start end end' [] le le' = refl
@@ -35,7 +35,7 @@ beyond k start group [] lt = refl
 beyond k start group (x ∷ xs) lt =
     ap₂ (λ (b : Bool) ys. (if b then None else x) ∷ ys) (behind_test start group k lt) (beyond (k + 1) start group xs (omega (arith, lt)))
 
--- one group more
+-- unsetting one more group
 more_at : (k start j : ℕ) (spans : List (Option CaptureSpan)) → start ≤ k + j →
     unset_from k start (k + j + 1) spans ≡ set (unset_from k start (k + j) spans) j None
 more_at k start j [] le = refl

@@ -1,2 +1,2 @@
--- Laws of this crate's definitions, which the crates above may cite.
+-- Lemmas about this crate's definitions, for the crates that use it.
 pub mod Searched

@@ -6,12 +6,12 @@ use Rattle.regress_match.specs.declared.captures.Captures.{Captures}
 use Rattle.regress_match.specs.declared.machine.Answer.{Answer}
 use Rattle.regress_match.specs.declared.machine.Answer.TheVariants as answers
 
--- no group of a tree has captured anything, and no change is noted
+-- every group of the tree is unset, and no change is recorded
 pub record IsFresh (t : Tree) (c : Captures) : Type 0 where
   pub spans : c.spans.items ≡ replicate (length (captures t)) None
   pub trail : c.trail.items ≡ []
 
--- This holds where there is no outcome.
+-- The condition holds if the result is that there is no outcome.
 abbrev pub IfNowhere : Type 0 → Answer → Type 0
 IfNowhere P (answers.At k) = Unit {0}
 IfNowhere P answers.Nowhere = P

@@ -1,4 +1,4 @@
--- What the machine has still to do.
+-- What the machine has still to do: frames as a continuation, and backtrack points as alternatives.
 use Rattle.std.specs.Prelude.{◌≡◌, ℕ, zero, suc, ◌+◌, ◌≤◌, ◌==◌, List, [], ◌∷◌, ◌++◌, flat_map, length, drop, Option, Some, None, if◌then◌else◌}
 use Rattle.regress_tree.specs.Lookaround.{look}
 use Rattle.regress_tree.specs.Matching.{steps, steps_in_row}
@@ -29,12 +29,12 @@ use Rattle.regress_match.specs.declared.machine.Task.{Task}
 use Rattle.regress_match.specs.declared.machine.What.{What}
 use Rattle.regress_match.specs.declared.machine.What.TheVariants as whats
 
--- each task's next one stands before it
+-- each frame's `next` is the number of an earlier frame, or 0
 unfoldable pub linked_from : ℕ → List Task → Type 0
 linked_from n [] = Unit {0}
 linked_from n (t ∷ ts) = (t.next ≤ n) × linked_from (n + 1) ts
 
--- The choices, the oldest first, know more and more of n tasks and of m changes.
+-- The backtrack points, from the oldest on, have ascending marks into a list of n frames and m recorded changes.
 unfoldable pub known_from : (low mark : ℕ) → List Choice → (n m : ℕ) → Type 0
 known_from low mark [] n m = (low ≤ n) × (mark ≤ m)
 known_from low mark (c ∷ cs) n m =
@@ -44,25 +44,25 @@ pub record IsMachine (m : Machine) (c : Captures) : Type 0 where
   pub linked : linked_from 0 m.tasks.items
   pub known : known_from 0 0 m.choices.items (length m.tasks.items) (length c.trail.items)
 
--- The task is one of n, or none.
+-- A frame's number is at most n.
 abbrev pub Fits : Ahead → ℕ → Type 0
 Fits (aheads.Task i) n = i ≤ n
 Fits (aheads.Node node next) n = next ≤ n
 
--- the state in which a choice was made
+-- the state at a backtrack point
 abbrev pub saved : Captures → Choice → State
 saved c choice = record { place = choice.place; captures = undone (drop choice.noted c.trail.items) c.spans.items }
 
 module _ (u : Subject) where
-  -- one turn of a loop
+  -- one iteration of a loop
   abbrev pub turn_of : Repeat → Step
   turn_of r = turn r.start r.end (steps u.setting u.bytes u.direction (tree r.body.now))
 
-  -- as many turns as are left
+  -- the remaining optional iterations of a loop
   abbrev pub more_of : Repeat → Step
   more_of r = up_to r.greedy r.more (turn_of r)
 
-  -- nodes one after the other
+  -- the parts of a concatenation in order
   abbrev pub row_of : List Node → Step
   row_of parts = steps_in_row u.setting u.bytes u.direction (trees parts)
 
@@ -82,42 +82,42 @@ module _ (u : Subject) where
   choose (f ∷ fs) zero = f
   choose (f ∷ fs) (suc i) = choose fs i
 
-  -- what the tasks come to, each by those before it
+  -- the steps of the frames in order: each frame is its own step and then that of an earlier frame
   abbrev pub after : List Step → List Task → List Step
   after fs [] = fs
   after fs (t ∷ ts) = after (fs ++ (what_step t.what then_ choose fs t.next) ∷ []) ts
 
-  -- nothing, or the task of that number and what comes after it
+  -- the step of the frame with this number and of all frames after it; 0 is the end, which changes nothing
   unfoldable pub todo : List Task → ℕ → Step
   todo ts i = choose (after (stay ∷ []) ts) i
 
-  -- the choices that are left, the last one first
+  -- the outcomes from the backtrack points, from the last to the first
   unfoldable pub pending : List Task → List Choice → Captures → List State
   pending ts [] c = []
   pending ts (choice ∷ choices) c = pending ts choices c ++ todo ts choice.task (saved c choice)
 
-  -- what the machine has left beside what it is at
+  -- the outcomes from all backtrack points of the machine
   abbrev pub waiting : Machine → Captures → List State
   waiting m c = pending m.tasks.items m.choices.items c
 
-  -- from these states on with that task, and then the choices
+  -- the outcomes from these states with a frame, and then those from the backtrack points
   abbrev pub onward : Machine → Captures → ℕ → List State → List State
   onward m c task states = flat_map (todo m.tasks.items task) states ++ waiting m c
 
-  -- from the place on with that task, and then the choices
+  -- the outcomes from a position with a frame, and then those from the backtrack points
   abbrev pub left_at : Machine → Captures → ℕ → ℕ → List State
   left_at m c place task = todo m.tasks.items task (state c place) ++ waiting m c
 
-  -- what comes next, and then the tasks after it
+  -- the step of what comes next, and of the frames after it
   abbrev pub todo_ahead : List Task → Ahead → Step
   todo_ahead ts (aheads.Task i) = todo ts i
   todo_ahead ts (aheads.Node node next) = steps u.setting u.bytes u.direction (tree node.now) then_ todo ts next
 
-  -- the same, and then the choices
+  -- the outcomes from a position with what comes next, and then those from the backtrack points
   abbrev pub left_ahead : Machine → Captures → ℕ → Ahead → List State
   left_ahead m c place ahead = todo_ahead m.tasks.items ahead (state c place) ++ waiting m c
 
-  -- the machine goes on with these outcomes
+  -- The machine goes on after a step, and these are its remaining outcomes.
   abbrev pub Continues : List State → Machine → Captures → Next → Type 0
   Continues outcomes m c (nexts.Go place task) =
       IsMachine m c × (task ≤ length m.tasks.items) × (outcomes ≡ left_at m c place task)
@@ -130,14 +130,14 @@ module _ (u : Subject) where
       × (outcomes ≡ onward m c l.next
       (look l.negate (steps u.setting u.bytes (direction_if l.backwards) (tree l.body.now)) (state c l.place)))
 
-  -- so does it once lookarounds are matched
+  -- The same once lookarounds are matched.
   abbrev pub Settles : List State → Machine → Captures → Settled → Type 0
   Settles outcomes m c (settleds.On place ahead) =
       IsMachine m c × Fits ahead (length m.tasks.items) × (outcomes ≡ left_ahead m c place ahead)
   Settles outcomes m c settleds.Off = IsMachine m c × (outcomes ≡ waiting m c)
   Settles outcomes m c settleds.Spent = Unit {0}
 
-  -- A task was added that does this before the one given. Those before it are as they were.
+  -- A frame was pushed that does the step `f` before the frame `next`. The other frames are unchanged.
   pub record Pushed (old new : Machine) (f : Step) (next task : ℕ) : Type 0 where
     pub fits : task ≤ length new.tasks.items
     pub grown : length old.tasks.items ≤ length new.tasks.items
@@ -146,30 +146,30 @@ module _ (u : Subject) where
     pub waits : (c : Captures) → IsMachine old c → waiting new c ≡ waiting old c
     pub machine : (c : Captures) → IsMachine old c → IsMachine new c
 
-  -- A choice was added, of that task from that place.
+  -- A backtrack point was pushed, with a frame and a position.
   pub record Chosen (old new : Machine) (c : Captures) (place task : ℕ) : Type 0 where
     pub same : new.tasks.items ≡ old.tasks.items
     pub waits : waiting new c ≡ todo old.tasks.items task (state c place) ++ waiting old c
     pub machine : IsMachine old c → IsMachine new c
 
-  -- From that place on the machine does this, and then the next task.
+  -- From a position the machine does the step `f`, and then the frame `next`.
   pub record Does (f : Step) (old : Machine) (c : Captures) (place next : ℕ) (new : Machine) (c' : Captures) (r : Next) : Type 0 where
     pub continues : next ≤ length old.tasks.items → IsMachine old c →
         Continues (onward old c next (f (state c place))) new c' r
     pub later : Later c c'
 
-  -- the machine goes on from there with these outcomes, or there are none
+  -- after backtracking these are the remaining outcomes, or there are none
   abbrev pub Resumed : List State → Machine → Captures → Option (ℕ × ℕ) → Type 0
   Resumed outcomes m c (Some at) = IsMachine m c × (at.1 ≤ length m.tasks.items) × (outcomes ≡ left_at m c at.0 at.1)
   Resumed outcomes m c None = outcomes ≡ []
 
--- what the machine comes to
+-- the result of a run is its first outcome
 abbrev pub Answers : List State → Captures → Answer → Type 0
 Answers outcomes c (answers.At k) = (rest : List State) × (outcomes ≡ state c k ∷ rest)
 Answers outcomes c answers.Nowhere = outcomes ≡ []
 Answers outcomes c answers.OutOfSteps = Unit {0}
 
--- what looking comes to, where the body has these outcomes
+-- the result of a lookaround, as its step gives it
 abbrev pub Looks : List State → Captures → ℕ → Looked → Type 0
 Looks outcomes c place lookeds.Holds = outcomes ≡ state c place ∷ []
 Looks outcomes c place lookeds.Fails = outcomes ≡ []

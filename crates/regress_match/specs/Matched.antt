@@ -1,4 +1,4 @@
--- What a match is, and what is found.
+-- What a match is, and what a search finds.
 use Rattle.std.specs.Prelude.{◌≡◌, ℕ, ◌≤◌, ◌<◌, List, [], ◌∷◌, None, length, replicate}
 use Rattle.std.specs.Str.{IsCharBoundary}
 use Rattle.regress_tree.specs.Matching.{matches}
@@ -11,47 +11,47 @@ use Rattle.regress_match.specs.declared.matching.Outcome.{Outcome}
 use Rattle.regress_match.specs.declared.matching.Outcome.TheVariants as outcomes
 use Rattle.regress_match.specs.declared.matching.Match.{Match}
 
--- the state at a place in which none of n groups has captured anything
+-- the state at a position with n groups, all unset
 abbrev pub no_groups : (n place : ℕ) → State
 no_groups n place = record { place = place; captures = replicate n None }
 
--- the outcomes of a tree from a place with no group set
+-- the outcomes of a tree from a position with every group unset, as RegExpBuiltinExec starts a match
 abbrev pub outcomes_at : Setting → (text : List ℕ) → Tree → (place : ℕ) → List State
 outcomes_at setting text t place = matches setting text forwards t (no_groups (length (captures t)) place)
 
--- where a match starts
+-- the byte offset at which a match starts
 abbrev pub start_of : Match → ℕ
 start_of m = m.start
 
--- the state that a match is
+-- the state (MatchState) that a match reports
 abbrev pub state_of : Match → State
 state_of m = record { place = m.end; captures = m.groups.items }
 
--- The answer is the first outcome, if there is one and the steps were enough.
+-- The result is the first outcome, or `NoMatch` if there is none. Out of steps it states nothing.
 abbrev pub IsFirst : List State → Outcome → Type 0
 IsFirst states (outcomes.Matched m) = (rest : List State) × (states ≡ state_of m ∷ rest)
 IsFirst states outcomes.NoMatch = states ≡ []
 IsFirst states outcomes.OutOfSteps = Unit {0}
 
--- A match starts at this place.
+-- A match starts at this position.
 abbrev pub StartsAt : ℕ → Outcome → Type 0
 StartsAt place (outcomes.Matched m) = start_of m ≡ place
 StartsAt place outcomes.NoMatch = Unit {0}
 StartsAt place outcomes.OutOfSteps = Unit {0}
 
 module _ (text : List ℕ) (at : ℕ → List State) (origin : ℕ) where
-  -- No boundary of characters from there on and before this place has an outcome.
+  -- No character boundary in the half-open range from `origin` to `to` has an outcome.
   abbrev pub NoneBefore : ℕ → Type 0
   NoneBefore to = (p : ℕ) → origin ≤ p → p < to → IsCharBoundary text p → at p ≡ []
 
-  -- The first outcome from the least boundary of characters, from there on, that has one.
+  -- The match is the first outcome from the least character boundary, from `origin` on, that has one.
   pub record IsLeftmost (m : Match) : Type 0 where
     pub from : origin ≤ start_of m
     pub boundary : IsCharBoundary text (start_of m)
     pub first : (rest : List State) × (at (start_of m) ≡ state_of m ∷ rest)
     pub least : NoneBefore (start_of m)
 
-  -- what a search comes to
+  -- the result of a search: the leftmost match, or `NoMatch` if no character boundary has an outcome
   abbrev pub Finds : Outcome → Type 0
   Finds (outcomes.Matched m) = IsLeftmost m
   Finds outcomes.NoMatch = (p : ℕ) → origin ≤ p → IsCharBoundary text p → at p ≡ []

@@ -1,4 +1,4 @@
--- The groups of a pattern, and what those of a name have captured.
+-- The capture groups of a pattern, and what the groups with a name have captured.
 use Rattle.std.specs.Prelude.{ℕ, Bool, false, List, [], ◌∷◌, None, Some, Option, if◌then◌else◌, option_map, slice_index_or, string_bytes}
 use Rattle.std.specs.Str.{bytes_eq}
 use Rattle.std.specs.Option.{option_or}
@@ -6,16 +6,16 @@ use Rattle.regress_tree.specs.Steps.{CaptureSpan}
 use Rattle.regress_tree.specs.WellFormed.{Capture}
 use Rattle.regress_match.specs.declared.names.Group.{Group}
 
--- the capture group that is listed
+-- the capture group that a list element describes
 abbrev pub capture_of : Group → Capture
 capture_of g = record { id = g.id; name = option_map string_bytes g.name }
 
--- it has this name
+-- the group has this name
 abbrev pub is_named : List ℕ → Option (List ℕ) → Bool
 is_named name None = false
 is_named name (Some own) = bytes_eq own name
 
--- the span of the first of these groups that has this name and has matched
+-- the capture of the first set group with this name
 abbrev pub named_span : List ℕ → List (Option CaptureSpan) → List Capture → Option CaptureSpan
 named_span name spans [] = None
 named_span name spans (c ∷ cs) =

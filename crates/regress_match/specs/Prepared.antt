@@ -1,4 +1,4 @@
--- What is known of a tree is known in one way.
+-- The type of what is known of a tree is a proposition.
 use Rattle.std.specs.Coded.{Unit-prop}
 use Rattle.std.proofs.Props.{props}
 use Rattle.regress_tree.specs.Tree.{Tree}

@@ -1,4 +1,4 @@
--- A search for one match after the other.
+-- Repeated searches: all non-overlapping matches from left to right.
 use Rattle.std.specs.Prelude.{◌≡◌, ℕ, ◌+◌, List, [], ◌∷◌, length, max}
 use Rattle.regress_tree.specs.Steps.{State}
 use Rattle.regress_tree.specs.Tree.{tree}
@@ -10,38 +10,40 @@ use Rattle.regress_match.specs.declared.matching.Outcome.TheVariants as outcomes
 use Rattle.regress_match.specs.declared.prepared.Prepared.{Prepared}
 use Rattle.regress_match.specs.declared.search.Matches.{Matches}
 
--- the place from which the next match is looked for
+-- the byte offset from which the next match is searched
 abbrev pub next_from : Matches → ℕ
 next_from m = m.from
 
 abbrev pub searched_text : Matches → List ℕ
 searched_text m = m.text.now
 
--- the outcomes of a pattern on a text, from each place
+-- the outcomes of a pattern on a text, from each position
 abbrev pub outcomes_of : Prepared → (text : List ℕ) → (place : ℕ) → List State
 outcomes_of p text =
     outcomes_at (record { flags = p.regex.now.flags; table = table_of p.known.tables.now }) text (tree p.regex.now.node)
 
--- those that it searches for
+-- the outcomes among which a repeated search finds matches
 abbrev pub searched_outcomes : Matches → (place : ℕ) → List State
 searched_outcomes m = outcomes_of m.prepared m.text.now
 
--- Where the next one is looked for: behind the match, and at least one byte behind its start, as behind an empty one.
+-- The offset from which the next match is searched: the end of the last one, or one byte after its start if it is empty
+-- (AdvanceStringIndex, for UTF-8).
 abbrev pub place_behind : Match → ℕ
 place_behind m = max (state_of m).place (start_of m + 1)
 
--- so it is behind what was found, and past the text there is none
+-- the offset after a result: after a match, past the text if there is none, and unchanged if out of steps
 abbrev pub goes_on_from : List ℕ → ℕ → Outcome → ℕ
 goes_on_from text from (outcomes.Matched m) = place_behind m
 goes_on_from text from outcomes.NoMatch = length text + 1
 goes_on_from text from outcomes.OutOfSteps = from
 
--- the same tree on the same text
+-- the pattern and the text of a repeated search are unchanged
 pub record IsSameSearch (old new : Matches) : Type 0 where
   pub text : searched_text new ≡ searched_text old
   pub outcomes : searched_outcomes new ≡ searched_outcomes old
 
--- These are found one after the other, each the leftmost that there is, and then the search stands at the place `to`.
+-- The list has the matches that a repeated search finds in order, each the leftmost one, from the offset `from` until
+-- the search is at `to`.
 abbrev pub AreFound : (text : List ℕ) → (at : ℕ → List State) → (from to : ℕ) → List Match → Type 0
 AreFound text at from to [] = to ≡ from
 AreFound text at from to (m ∷ ms) = IsLeftmost text at from m × AreFound text at (place_behind m) to ms

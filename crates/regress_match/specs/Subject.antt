@@ -1,17 +1,17 @@
--- What is matched against.
+-- The input of a match.
 use Rattle.std.specs.Prelude.{ℕ, List}
 use Rattle.regress_tree.specs.Reading.{Direction, direction_if}
 use Rattle.regress_tree.specs.Setting.{Setting}
 use Rattle.regress_unicode.specs.TableOf.{table_of}
 use Rattle.regress_match.specs.declared.rules.Rules.{Rules}
 
--- a text as UTF-8, and how it is matched
+-- a text in UTF-8, with the flags, the case mappings and the direction of a match
 pub record Subject : Type 0 where
   pub setting : Setting
   pub bytes : List ℕ
   pub direction : Direction
 
--- the text under these rules
+-- the text under the rules of a match
 abbrev pub subject : Rules → List ℕ → Subject
 subject rules bytes = record {
   setting = record { flags = rules.flags; table = table_of rules.known.tables.now };

@@ -1,4 +1,4 @@
--- Loops over one character: where they may stop.
+-- Loops over one character: the positions at which they can stop.
 use Rattle.std.specs.Prelude.{ℕ, zero, suc, ◌+◌, ◌==◌, false, List, [], ◌∷◌, length, Option, Some, None, if◌then◌else◌}
 use Rattle.regress_tree.specs.Reading.{Direction, forwards, backwards, Reading, Read, next_character, of_bytes}
 use Rattle.regress_tree.specs.Repetition.{moving, up_to}
@@ -10,24 +10,24 @@ abbrev pub opposite : Direction → Direction
 opposite forwards = backwards
 opposite backwards = forwards
 
--- on from the place on the other side of a character
+-- on from the position on the other side of a character
 abbrev pub read_on : Step → State → Option Read → List State
 read_on f s None = []
 read_on f s (Some read) = f (record s { place = read.place })
 
--- The state, and those at the next places in that direction, up to the place `stop` and no more than n of them.
+-- The state, and the states at the next positions in a direction, up to the position `stop` and at most n of them.
 abbrev pub along : Direction → Reading → (stop n : ℕ) → Step
 along d r stop zero s = s ∷ []
 along d r stop (suc n) s = s ∷ (if s.place == stop then [] else read_on (along d r stop n) s (next_character d r s.place))
 
--- one character by the test of a leaf
+-- one character that the test of a leaf accepts (CharacterSetMatcher)
 abbrev pub one_of : Direction → List ℕ → Tree → Step
 one_of d bytes t = one_character d (of_bytes bytes) (test_of t)
 
--- The outcomes of a greedy loop that has come to a place: there, and then back to the place `stop`.
+-- The outcomes of a greedy loop that has reached a position: there, and then back to the position `stop`.
 abbrev pub giving_back : Direction → List ℕ → (stop : ℕ) → Step
 giving_back d bytes stop = along (opposite d) (of_bytes bytes) stop (length bytes + 1)
 
--- what a lazy loop with no greatest number of turns does once it has to go on
+-- the further iterations of a lazy loop with no maximum, of which it takes at least one
 abbrev pub taking_more : Direction → List ℕ → Tree → Step
 taking_more d bytes t = moving (one_of d bytes t) then_ up_to false (length bytes + 1) (one_of d bytes t)

@@ -1,4 +1,4 @@
-//! What groups have captured.
+//! Captures of groups, with a trail that undoes their changes.
 ghost use Rattle.std.specs.Prelude.{◌≡◌, ◌≤◌, ℕ, IfOk, Some, length, take, drop, slice_set};
 ghost use Rattle.regress_tree.specs.Steps.{captured};
 ghost use Rattle.regress_tree.specs.Repetition.{unset};
@@ -6,14 +6,14 @@ ghost use Rattle.regress_match.specs.Captures.{Later, undone, state};
 
 use std::alloc::AllocError;
 
-/// What a group had captured before a change.
+/// A change of a capture: the group, and its span before the change.
 #[derive(Clone, Copy)]
 pub struct Undo {
     pub group: usize,
     pub before: Option<(usize, usize)>,
 }
 
-/// From where to where each group has last matched, and the changes that can be undone, the last one at the end.
+/// The captures of all groups, and the trail of changes to them, the last change at the end.
 #[derive(Drop)]
 pub struct Captures {
     pub spans: Vec<Option<(usize, usize)>>,
@@ -21,7 +21,8 @@ pub struct Captures {
 }
 
 impl Captures {
-    /// Notes that a group has matched, or with None that it has not.
+    /// Sets the capture of a group, or with `None` unsets it, and records the change. An id with no group changes
+    /// nothing.
     fn set(&mut self, group: usize, span: Option<(usize, usize)>) -> Result<(), AllocError>
         ensures spans { IfOk result (λ _. self.new.spans.items ≡ slice_set self.old.spans.items group span) }
         ensures later { IfOk result (λ _. Later self.old self.new) }
@@ -36,7 +37,10 @@ impl Captures {
         Ok(())
     }
 
-    /// Notes that a group has matched between two places.
+    /// Sets the capture of a group to the span between two byte offsets, which may be in either order.
+    ///
+    /// # Errors
+    /// Returns [`AllocError`] if the change can't be recorded.
     pub fn close(&mut self, group: u16, from: usize, place: usize) -> Result<(), AllocError>
         ensures state { IfOk result (λ _. state self.new place ≡ captured group from (state self.old place)) }
         ensures later { IfOk result (λ _. Later self.old self.new) }
@@ -44,7 +48,11 @@ impl Captures {
         self.set(usize::from(group), Some((from.min(place), from.max(place))))
     }
 
-    /// Forgets what the groups `start` to `end` - 1 have captured.
+    /// Unsets the groups with ids from `start` up to but not including `end`, as RepeatMatcher does before an
+    /// iteration.
+    ///
+    /// # Errors
+    /// Returns [`AllocError`] if a change can't be recorded.
     pub fn unset(&mut self, start: usize, end: usize) -> Result<(), AllocError>
         ensures state { IfOk result (λ _. (place : ℕ) → state self.new place ≡ unset start end (state self.old place)) }
         ensures later { IfOk result (λ _. Later self.old self.new) }
@@ -59,6 +67,9 @@ impl Captures {
     }
 
     /// Undoes all changes but the first `noted`.
+    ///
+    /// # Preconditions
+    /// At least `noted` changes are recorded.
     pub fn rewind(&mut self, noted: usize)
         requires { noted ≤ length self.old.trail.items }
         ensures trail { self.new.trail.items ≡ take noted self.old.trail.items }

@@ -10,7 +10,8 @@ use crate::known::Known;
 use crate::rules::Rules;
 use regress_unicode::{fold, uppercase};
 
-/// Whether a character `c` of a reference or a string stands for `x`: with `icase` all that has its image does.
+/// Returns whether the character `x` of the text matches `c` of a backreference or a string: the same character, or
+/// with `icase` one with the same canonical form (Canonicalize).
 pub fn stands_for(rules: Rules<'_>, icase: bool, c: u32, x: u32) -> bool
     ensures { result ≡ stands_for (table_of rules.entry.known.tables.now) icase rules.entry.flags.unicode c x }
 {
@@ -27,7 +28,7 @@ pub fn stands_for(rules: Rules<'_>, icase: bool, c: u32, x: u32) -> bool
     }
 }
 
-/// Whether it ends a line.
+/// Returns whether `c` is a LineTerminator.
 #[tactic(auto, unfolding(regress_base::specs::Intervals::is_member, regress_base::specs::Intervals::is_within))]
 pub fn is_line_terminator(c: u32) -> bool
     ensures { result ≡ is_line_terminator c }
@@ -35,7 +36,8 @@ pub fn is_line_terminator(c: u32) -> bool
     matches!(c, 0xA | 0xD | 0x2028..=0x2029)
 }
 
-/// Whether it is in the word set, or with `unicode_icase` in its closure.
+/// Returns whether `c` is a word character (WordCharacters): one of `[A-Za-z0-9_]`, or with `unicode_icase` a character
+/// with the same simple case folding as one of these.
 pub fn is_word_character(known: Known<'_>, unicode_icase: bool, c: u32) -> bool
     ensures { result ≡ is_word_character (table_of known.entry.tables.now) unicode_icase c }
 {
@@ -53,7 +55,7 @@ pub fn is_word(c: u32) -> bool
     matches!(c, 0x30..=0x39 | 0x41..=0x5A | 0x5F | 0x61..=0x7A)
 }
 
-/// Whether it folds as a character of the word set does.
+/// Returns whether `c` has the same simple case folding as a word character.
 fn folds_to_word(known: Known<'_>, c: u32) -> bool
     ensures { result ≡ is_word_character (table_of known.entry.tables.now) true c }
 {

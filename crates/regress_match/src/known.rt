@@ -1,4 +1,4 @@
-//! What is known of a table before a search.
+//! What a search precomputes about the case mappings.
 ghost use Rattle.std.specs.Prelude.{◌≡◌, true};
 ghost use Rattle.regress_unicode.specs.TableOf.{table_of};
 ghost use Rattle.regress_match.specs.Known.{WordsStay, WordsStay-prop};
@@ -7,18 +7,19 @@ use crate::characters::is_word;
 use regress_base::types::Flags;
 use regress_unicode::{Tables, fold};
 
-/// A table, and what is known of it.
+/// The case mappings, with what is precomputed about them.
 #[derive(Clone, Copy)]
 pub struct Known<'t> {
     pub tables: &'t Tables,
-    /// Whether each character of the word set is known to fold to one of that set. Then a character's own fold tells whether
-    /// it is in the closure.
+    /// Whether each word character is known to fold to a word character. Then a character is in the closure of the word
+    /// characters if its own folding is a word character.
     pub words_stay: bool,
     ghost words: { words_stay ≡ true → WordsStay (table_of tables.now) } by { WordsStay-prop words_stay (table_of tables.now) },
 }
 
 impl<'t> Known<'t> {
-    /// What a pattern with these flags may ask: the word set folds only with the flag u.
+    /// Returns the tables with what a pattern with these flags can use. Word characters are folded only with the flag
+    /// `u`.
     pub fn new(tables: &'t Tables, flags: Flags) -> Known<'t>
         ensures { result.tables.now ≡ tables.now }
     {
@@ -29,7 +30,7 @@ impl<'t> Known<'t> {
     }
 }
 
-/// Whether each character of the word set folds to one of that set.
+/// Returns whether each word character folds to a word character.
 fn words_stay(tables: &Tables) -> bool
     ensures { result ≡ true → WordsStay (table_of tables.now) }
 {

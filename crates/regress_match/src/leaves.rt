@@ -25,7 +25,11 @@ use crate::rules::Rules;
 use regress_tree::ir::{AnchorType, Node};
 use std::alloc::{AllocError, Global};
 
-/// Where a leaf that has one outcome at most goes from a place.
+/// Returns the position at which a leaf with at most one outcome ends that is matched from `place`, or `None` if it
+/// fails.
+///
+/// # Errors
+/// Returns [`AllocError`] if an allocation fails, which a backreference needs.
 #[inline(always)]
 pub fn leaf(
     alloc: Global,
@@ -47,7 +51,8 @@ pub fn leaf(
     }
 }
 
-/// Where a leaf goes that looks at no group and is no set of strings.
+/// Returns the position at which a leaf ends that is matched from `place`, or `None` if it fails. The leaf is neither a
+/// backreference nor a set of strings.
 pub fn simple_leaf(text: &str, rules: Rules<'_>, node: &Node, place: usize) -> Option<usize>
     ensures { is_simple (tree node.now) ≡ true → GoesTo (subject rules.entry text.now) place (tree node.now) result }
 {
@@ -69,7 +74,7 @@ pub fn simple_leaf(text: &str, rules: Rules<'_>, node: &Node, place: usize) -> O
     }
 }
 
-/// Whether it is a leaf that looks at no group, and no set of strings.
+/// Returns whether a node is a leaf other than a backreference or a set of strings.
 pub fn is_simple(node: &Node) -> bool
     ensures { result ≡ is_simple (tree node.now) }
 {
@@ -96,7 +101,7 @@ pub fn is_simple(node: &Node) -> bool
     }
 }
 
-/// Whether it is a leaf that has one outcome at most.
+/// Returns whether a node is a leaf with at most one outcome, which is any but a set of strings.
 pub fn is_leaf(node: &Node) -> bool
     ensures { result ≡ has_one_outcome (tree node.now) }
 {
@@ -106,14 +111,15 @@ pub fn is_leaf(node: &Node) -> bool
     }
 }
 
-/// The place, where the test holds.
+/// Returns the position if the test holds.
 fn if_holds(holds: bool, place: usize) -> Option<usize>
     ensures { (s : State) → s.place ≡ place → put s result ≡ (if holds then s ∷ [] else []) }
 {
     if holds { Some(place) } else { None }
 }
 
-/// Where these bytes as they stand go.
+/// Returns the position after the bytes `written`, in the direction of matching, or `None` if the text does not have
+/// them.
 fn these_bytes(bytes: &[u8], backwards: bool, written: &[u8], place: usize) -> Option<usize>
     ensures { (s : State) → s.place ≡ place → put s result ≡ these_bytes (direction_if backwards) bytes.now written.now s }
 {
@@ -124,7 +130,7 @@ fn these_bytes(bytes: &[u8], backwards: bool, written: &[u8], place: usize) -> O
     }
 }
 
-/// Where these bytes go that stand behind the place.
+/// Returns the position after the bytes `written`, if the text has them from `place` on.
 fn bytes_behind(bytes: &[u8], written: &[u8], place: usize) -> Option<usize>
     ensures { (s : State) → s.place ≡ place → put s result ≡ these_bytes forwards bytes.now written.now s }
 {
@@ -135,7 +141,7 @@ fn bytes_behind(bytes: &[u8], written: &[u8], place: usize) -> Option<usize>
     }
 }
 
-/// Where these bytes go that stand before the place.
+/// Returns the position before the bytes `written`, if the text has them up to `place`.
 fn bytes_before(bytes: &[u8], written: &[u8], place: usize) -> Option<usize>
     ensures { (s : State) → s.place ≡ place → put s result ≡ these_bytes backwards bytes.now written.now s }
 {
@@ -150,7 +156,7 @@ fn bytes_before(bytes: &[u8], written: &[u8], place: usize) -> Option<usize>
     }
 }
 
-/// Whether these bytes stand behind the place.
+/// Returns whether the text has the bytes `written` from `place` on.
 fn stands_at(bytes: &[u8], written: &[u8], place: usize) -> bool
     ensures { result ≡ starts_with nat_eq (drop place bytes.now) written.now }
 {
@@ -161,7 +167,7 @@ fn stands_at(bytes: &[u8], written: &[u8], place: usize) -> bool
     }
 }
 
-/// Where a leaf that takes one character goes.
+/// Returns the position after one character that the leaf accepts (CharacterSetMatcher), or `None` if it fails.
 pub fn one_character(text: &str, rules: Rules<'_>, node: &Node, place: usize) -> Option<usize>
     ensures { (s : State) → s.place ≡ place → put s result ≡ one_of (direction_if rules.entry.backwards) text.now (tree node.now) s }
 {
@@ -169,7 +175,7 @@ pub fn one_character(text: &str, rules: Rules<'_>, node: &Node, place: usize) ->
     if accepts(node, c) { Some(to) } else { None }
 }
 
-/// Whether it is a leaf that takes one character.
+/// Returns whether a node is a leaf that matches exactly one character.
 pub fn takes_one(node: &Node) -> bool
     ensures { result ≡ takes_one (tree node.now) }
 {
@@ -185,11 +191,11 @@ pub fn takes_one(node: &Node) -> bool
     }
 }
 
-/// The character of which these bytes are the UTF-8, where they are that of one.
+/// Returns the character whose UTF-8 these bytes are, or `None` if they are not the UTF-8 of exactly one.
 fn sole_character(bytes: &[u8]) -> Option<u32>
     ensures { result ≡ sole_character bytes.now }
 {
-    // no character takes more, so a long literal is not looked through
+    // no character has more bytes, so a long literal is not checked
     if bytes.len() > 4 {
         return None;
     }
@@ -198,7 +204,7 @@ fn sole_character(bytes: &[u8]) -> Option<u32>
     if to == text.len() { Some(c) } else { None }
 }
 
-/// Whether a leaf that takes one character takes this one, and no other node does.
+/// Returns whether a leaf that matches one character accepts `c`; false for any other node.
 fn accepts(node: &Node, c: u32) -> bool
     ensures { result ≡ test_of (tree node.now) c }
 {
@@ -214,7 +220,7 @@ fn accepts(node: &Node, c: u32) -> bool
     }
 }
 
-/// Whether the character is one of these bytes.
+/// Returns whether `c` is one of the bytes.
 fn lists_byte(bytes: &[u8], c: u32) -> bool
     ensures { result ≡ lists bytes.now c }
 {
@@ -226,7 +232,7 @@ fn lists_byte(bytes: &[u8], c: u32) -> bool
     false
 }
 
-/// Whether the character is one of these.
+/// Returns whether `c` is one of the characters.
 fn lists(characters: &[u32], c: u32) -> bool
     ensures { result ≡ lists characters.now c }
 {
@@ -238,7 +244,8 @@ fn lists(characters: &[u32], c: u32) -> bool
     false
 }
 
-/// Whether the place is an end of the text or, with `multiline`, of a line.
+/// Returns whether an anchor holds at a position: at the start or end of the text, or with `multiline` of a line
+/// (CompileAssertion).
 fn at_anchor(text: &str, anchor_type: AnchorType, multiline: bool, place: usize) -> bool
     ensures { result ≡ at_anchor (of_bytes text.now) anchor_type multiline place }
 {
@@ -252,7 +259,7 @@ fn at_anchor(text: &str, anchor_type: AnchorType, multiline: bool, place: usize)
     }
 }
 
-/// Whether there is a neighbour that ends a line.
+/// Returns whether the neighbouring character is a LineTerminator.
 fn ends_line(neighbour: Option<(u32, usize)>) -> bool
     ensures { result ≡ passes is_line_terminator (option_map read_of neighbour) }
 {
@@ -262,7 +269,8 @@ fn ends_line(neighbour: Option<(u32, usize)>) -> bool
     }
 }
 
-/// Whether there is a word character on exactly one side of the place, or with `invert` on both or on none.
+/// Returns whether exactly one neighbour of the position is a word character, or with `invert` both or neither
+/// (CompileAssertion, IsWordChar).
 fn at_boundary(
     text: &str,
     known: Known<'_>,
@@ -277,7 +285,7 @@ fn at_boundary(
     (before != behind) != invert
 }
 
-/// Whether there is a neighbour that is a word character.
+/// Returns whether the neighbouring character is a word character.
 fn is_word(known: Known<'_>, unicode_icase: bool, neighbour: Option<(u32, usize)>) -> bool
     ensures { result ≡ passes (is_word_character (table_of known.entry.tables.now) unicode_icase) (option_map read_of neighbour) }
 {
@@ -287,7 +295,8 @@ fn is_word(known: Known<'_>, unicode_icase: bool, neighbour: Option<(u32, usize)
     }
 }
 
-/// Where what a group has captured goes once more.
+/// Returns the position after what the group has captured (BackreferenceMatcher). An unset group matches the empty
+/// text.
 fn back_reference(
     alloc: Global,
     text: &str,
@@ -311,7 +320,7 @@ fn back_reference(
     Ok(all_of(text, rules, icase, &characters, place))
 }
 
-/// The characters of a span.
+/// Returns the characters of a span of the text.
 fn characters_between(
     alloc: Global,
     text: &str,
@@ -332,7 +341,8 @@ fn characters_between(
     Ok(found)
 }
 
-/// Where characters go, one after the other, each of which may stand for another.
+/// Returns the position after the characters, in the direction of matching, or `None` if the text does not match them.
+/// With `icase` canonical forms are compared.
 pub fn all_of(
     text: &str,
     rules: Rules<'_>,
@@ -355,7 +365,7 @@ pub fn all_of(
     Some(here)
 }
 
-/// The character to which matching comes after so many.
+/// Returns the `i`-th character in the order of matching, which is backwards in a lookbehind.
 fn character_in_order(characters: &[u32], backwards: bool, i: usize) -> u32
     requires { i < length characters.now }
     ensures { result ≡ slice_index (in_order (direction_if backwards) characters.now) i }

@@ -1,4 +1,4 @@
-//! A matcher for the trees of `regress_tree`, proved against what they mean.
+//! A backtracking matcher for the trees of `regress_tree`, proved against their definition.
 #![tactic(auto)]
 
 mod captures;

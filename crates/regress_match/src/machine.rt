@@ -1,4 +1,4 @@
-//! The machine: tasks, and choices to which it goes back.
+//! The state of the backtracking machine: frames, which are the continuation, and backtrack points.
 ghost use Rattle.std.specs.Prelude.{◌≡◌, ◌≤◌, [], IfOk, length};
 ghost use Rattle.regress_match.specs.Captures.{undone};
 ghost use Rattle.regress_match.specs.Machine.{IsMachine, Resumed, Pushed, Chosen, waiting, what_step};
@@ -9,47 +9,50 @@ use regress_tree::ir::Node;
 use std::alloc::{AllocError, Global};
 use std::boxed::BoxedSlice;
 
-/// A loop, and how many turns may still follow the least number.
+/// A loop, with the number of optional iterations that may still follow the minimum.
 #[derive(Clone, Copy)]
 pub struct Repeat<'a> {
     pub body: &'a Node,
-    /// The groups inside: from this id on, up to the second without it.
+    /// The ids of the groups inside, as a half-open range from `start` to `end`.
     pub start: usize,
     pub end: usize,
     pub greedy: bool,
     pub more: usize,
 }
 
-/// What is to be done at a place.
+/// What a frame does at a position.
 #[derive(Clone, Copy)]
 pub enum What<'a> {
     Match(&'a Node),
-    /// These one after another.
+    /// Matches these parts in order.
     Row(&'a [Node]),
-    /// One of these strings, with `icase` or not.
+    /// Matches one of these strings, with `icase` or not.
     Strings(&'a [BoxedSlice<u32>], bool),
-    /// The group has matched from this place on.
+    /// Sets the capture of the group, whose match began at this byte offset.
     Close(u16, usize),
-    /// So many turns of the loop, and then those that may follow.
+    /// Takes this number of iterations of the loop, and then the optional ones.
     Turns(Repeat<'a>, usize),
-    /// One turn that must move, and then those that may follow.
+    /// Takes one iteration, which must not be empty, and then further optional ones.
     Turn(Repeat<'a>),
-    /// A turn began at this place. If it has moved, others may follow.
+    /// Ends an iteration that began at this byte offset. It fails if the iteration was empty; else further ones may
+    /// follow.
     Moved(Repeat<'a>, usize),
-    /// A loop over one character has come here. It may stop here, or after fewer turns down to this place.
+    /// Ends a loop over one character here, or after fewer iterations, down to this byte offset.
     GiveBack(usize),
-    /// One more turn of a loop over this one character, which has no greatest number of them.
+    /// Takes one more iteration of a loop over this one character, which has no maximum.
     TakeMore(&'a Node),
 }
 
-/// What is to be done, and what after it: a task of the list, counted from 1, or nothing.
+/// A frame: what it does, and the number of the frame after it. Frames are numbered from 1 in the list, and 0 is the
+/// end.
 #[derive(Clone, Copy)]
 pub struct Task<'a> {
     pub what: What<'a>,
     pub next: usize,
 }
 
-/// Where matching goes on: with this task, from this place, where so many tasks and changes of captures are known.
+/// A backtrack point: matching goes on from `place` with the frame `task`, after the list of frames is cut to `known`
+/// and the trail to `noted` elements.
 #[derive(Clone, Copy)]
 pub struct Choice {
     pub place: usize,
@@ -58,7 +61,7 @@ pub struct Choice {
     pub noted: usize,
 }
 
-/// What a search comes to.
+/// The result of a run: the position of the first outcome, no outcome, or that the step limit was reached.
 #[derive(Clone, Copy)]
 pub enum Answer {
     At(usize),
@@ -66,7 +69,7 @@ pub enum Answer {
     OutOfSteps,
 }
 
-/// A lookaround that is to be matched at a place, and the task after it.
+/// A lookaround to be matched at a position, and the frame after it.
 #[derive(Clone, Copy)]
 pub struct Looking<'a> {
     pub body: &'a Node,
@@ -76,14 +79,14 @@ pub struct Looking<'a> {
     pub next: usize,
 }
 
-/// What comes next at a place: a task of the list, where 0 is the end, or a node and then a task.
+/// What comes next at a position: a frame, where 0 is the end, or a node and then a frame.
 #[derive(Clone, Copy)]
 pub enum Ahead<'a> {
     Task(usize),
     Node(&'a Node, usize),
 }
 
-/// What a step comes to: on from a place with a task, or with a node and then a task; back to the last choice; or a
+/// The result of a step: go on from a position with a frame, or with a node and then a frame; backtrack; or match a
 /// lookaround first.
 #[derive(Clone, Copy)]
 pub enum Next<'a> {
@@ -93,7 +96,7 @@ pub enum Next<'a> {
     Look(Looking<'a>),
 }
 
-/// The same once lookarounds are matched, or the steps were used up.
+/// The same once lookarounds are matched, or that the step limit was reached.
 #[derive(Clone, Copy)]
 pub enum Settled<'a> {
     On(usize, Ahead<'a>),
@@ -101,7 +104,7 @@ pub enum Settled<'a> {
     Spent,
 }
 
-/// What matching a lookaround comes to.
+/// The result of a lookaround: it holds, it fails, or the step limit was reached.
 #[derive(Clone, Copy)]
 pub enum Looked {
     Holds,
@@ -109,7 +112,7 @@ pub enum Looked {
     Spent,
 }
 
-/// The tasks, of which each names one before it, and the choices that are left, the last one at the end.
+/// The frames, each of which names an earlier one as its next, and the backtrack points, the last one at the end.
 #[derive(Drop)]
 pub struct Machine<'a> {
     pub tasks: Vec<Task<'a>>,
@@ -117,7 +120,7 @@ pub struct Machine<'a> {
 }
 
 impl<'a> Machine<'a> {
-    /// One with nothing to do.
+    /// Returns a machine with empty lists.
     fn new(alloc: Global) -> Machine<'a> {
         Machine {
             tasks: Vec::new(alloc),
@@ -125,7 +128,7 @@ impl<'a> Machine<'a> {
         }
     }
 
-    /// Leaves nothing to do, and keeps the memory.
+    /// Empties both lists, and keeps their memory.
     pub fn clear(&mut self)
         ensures tasks { self.new.tasks.items ≡ [] }
         ensures choices { self.new.choices.items ≡ [] }
@@ -134,7 +137,11 @@ impl<'a> Machine<'a> {
         self.choices.clear();
     }
 
-    /// Goes back to the last choice.
+    /// Backtracks: removes the last backtrack point, restores frames and captures, and returns its position and frame.
+    /// Returns `None` if there is none.
+    ///
+    /// # Preconditions
+    /// The machine is valid with these captures: each mark of a backtrack point is within the lists.
     pub fn resume(&mut self, captures: &mut Captures) -> Option<(usize, usize)>
         requires { IsMachine self.old captures.old }
         ensures resumed { (u : Subject) → Resumed u (waiting u self.old captures.old) self.new captures.new result }
@@ -146,7 +153,10 @@ impl<'a> Machine<'a> {
         Some((choice.place, choice.task))
     }
 
-    /// Adds a task before another one, and answers its number.
+    /// Adds a frame before the frame `next`, and returns its number.
+    ///
+    /// # Errors
+    /// Returns [`AllocError`] if an allocation fails.
     pub fn push(&mut self, what: What<'a>, next: usize) -> Result<usize, AllocError>
         ensures { IfOk result (λ task. (u : Subject) → next ≤ length self.old.tasks.items →
             Pushed u self.old self.new (what_step u what.entry) next task) }
@@ -155,7 +165,10 @@ impl<'a> Machine<'a> {
         Ok(self.tasks.len())
     }
 
-    /// Adds a choice: that task, from that place.
+    /// Adds a backtrack point that goes on with the frame `task` from `place`.
+    ///
+    /// # Errors
+    /// Returns [`AllocError`] if an allocation fails.
     pub fn choose(
         &mut self,
         place: usize,
@@ -175,7 +188,7 @@ impl<'a> Machine<'a> {
     }
 }
 
-/// The memory of runs, kept from one to the next: a machine, and those of lookarounds that aren't being matched.
+/// The memory of runs, kept from one to the next: a machine, and idle machines for lookarounds.
 #[derive(Drop)]
 pub struct Scratch<'a> {
     pub machine: Machine<'a>,
@@ -191,7 +204,7 @@ impl<'a> Scratch<'a> {
     }
 }
 
-/// A machine for a lookaround.
+/// Returns an idle machine for a lookaround, or a new one.
 pub fn take_idle<'a>(alloc: Global, idle: &mut Vec<Machine<'a>>) -> Machine<'a> {
     match idle.pop() {
         Some(machine) => machine,
@@ -199,7 +212,7 @@ pub fn take_idle<'a>(alloc: Global, idle: &mut Vec<Machine<'a>>) -> Machine<'a> 
     }
 }
 
-/// Keeps a machine for the next lookaround, if there is room.
+/// Keeps a machine for the next lookaround, or drops it if the list can't grow.
 pub fn keep_idle<'a>(machine: Machine<'a>, idle: &mut Vec<Machine<'a>>) {
     let _ = idle.push(machine);
 }

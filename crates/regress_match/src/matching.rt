@@ -1,4 +1,4 @@
-//! Matching at a place.
+//! Matching at one position.
 ghost use Rattle.std.specs.Prelude.{◌≡◌, ◌+◌, ◌<◌, ◌≤◌, ◌^◌, None, IfOk, length, min, replicate, slice_index_or};
 ghost use Rattle.regress_tree.specs.Gathered.{own_group};
 ghost use Rattle.regress_tree.specs.Tree.{Tree, tree};
@@ -17,12 +17,12 @@ use regress_tree::ir::{Node, Regex, Walk, walk};
 use regress_unicode::Tables;
 use std::alloc::{AllocError, Global};
 
-/// Where a pattern has matched, in bytes of the text.
+/// A match: a span of the text, and the captures of the groups, in byte offsets.
 #[derive(Debug, Drop)]
 pub struct Match {
     start: usize,
     end: usize,
-    /// From where to where each group has last matched, by its id; None where it has not.
+    /// The capture of each group by its id, as a half-open range of byte offsets; `None` if the group is unset.
     groups: Vec<Option<(usize, usize)>>,
 }
 
@@ -34,29 +34,31 @@ impl Match {
         Match { start, end, groups }
     }
 
-    /// The byte place at which it starts.
+    /// Returns the byte offset at which the match starts.
     pub fn start(&self) -> usize
         ensures { result ≡ start_of self.now }
     {
         self.start
     }
 
-    /// The byte place behind it.
+    /// Returns the byte offset at which the match ends, which is not part of it.
     pub fn end(&self) -> usize
         ensures { result ≡ (state_of self.now).place }
     {
         self.end
     }
 
-    /// How many groups the pattern has.
+    /// Returns the number of capture groups of the pattern.
     pub fn group_count(&self) -> usize
         ensures { result ≡ length (state_of self.now).captures }
     {
         self.groups.len()
     }
 
-    /// From which byte place to which the group with this id has last matched. Ids count from 0 in the order of the opening
-    /// parentheses. None where it has not matched, and where there is no such group.
+    /// Returns the span that a group has captured last, as a half-open range of byte offsets.
+    ///
+    /// Ids count from 0, in the order of the opening parentheses; the group that a pattern calls 1 has the id 0. The
+    /// result is `None` if the group is unset, or if the pattern has no group with this id.
     pub fn group(&self, id: usize) -> Option<(usize, usize)>
         ensures { result ≡ slice_index_or (state_of self.now).captures id None }
     {
@@ -68,19 +70,37 @@ impl Match {
     }
 }
 
-/// What a search for a match comes to.
+/// The result of a search.
 #[derive(Debug, Drop)]
 pub enum Outcome {
-    /// The first outcome of the tree.
+    /// The pattern matches: the first outcome in order of preference.
     Matched(Match),
-    /// The tree has no outcome.
+    /// The pattern does not match.
     NoMatch,
-    /// The steps were used up before it was known.
+    /// The step limit was reached before the result was known.
     OutOfSteps,
 }
 
-/// Matches a pattern from the byte place on, with no group set, in at most so many steps: one for each node or task, and one for
-/// each byte that it goes over. The error is want of memory.
+/// Matches a pattern at exactly the byte offset `place`, with every group unset at first.
+///
+/// The result is the first outcome in the order of preference of ECMA-262. Every `place` is allowed: off a character
+/// boundary, or past the end of `text`, no character is found.
+///
+/// # Complexity
+/// A step is one visit of a node or of a frame of the continuation, where up to eight leaves at the start of a `Cat`
+/// belong to the same step. A step counts 1, and one that succeeds counts also the number of bytes by which it moves
+/// the position. One that fails counts 1, no matter how many bytes it has compared. The result is
+/// [`Outcome::OutOfSteps`] as soon as `steps` are used up.
+///
+/// So the limit bounds the number of steps, which may be exponential without it, but not the time of a step. That may
+/// be linear in the length of `text`: a loop over one character scans forwards, and then back over all positions at
+/// which what follows can't match; a backreference compares all that its group has captured.
+///
+/// The frames and backtrack points take memory linear in the number of steps. Recursion of the matcher is as deep as
+/// lookarounds are nested in the pattern.
+///
+/// # Errors
+/// Returns [`AllocError`] if an allocation fails. The arguments are unchanged.
 pub fn match_at(
     alloc: Global,
     regex: &Regex,
@@ -112,7 +132,11 @@ pub fn match_at(
     }
 }
 
-/// The first outcome from a place with no group set. Where there is none, no group is set then.
+/// Returns the end of the first outcome from a position with every group unset. If there is no outcome every group is
+/// unset afterwards.
+///
+/// # Preconditions
+/// Every group of `captures` is unset, and no change is recorded.
 pub(crate) fn first_at<'a>(
     alloc: Global,
     regex: &'a Regex,
@@ -151,7 +175,7 @@ pub(crate) fn first_at<'a>(
     Ok(answer)
 }
 
-/// No group of a tree has matched, which has so many, as far as they can be counted.
+/// Returns captures for `groups` groups, all unset.
 pub(crate) fn nothing_captured(alloc: Global, groups: usize) -> Result<Captures, AllocError>
     ensures { IfOk result (λ fresh. (t : Tree) → groups ≡ min (length (captures t)) usize.MAX → IsFresh t fresh) }
 {
@@ -161,7 +185,7 @@ pub(crate) fn nothing_captured(alloc: Global, groups: usize) -> Result<Captures,
     })
 }
 
-/// So many groups that have not matched.
+/// Returns a list of `count` unset groups.
 fn no_spans(alloc: Global, count: usize) -> Result<Vec<Option<(usize, usize)>>, AllocError>
     ensures items { IfOk result (λ spans. spans.items ≡ replicate count None) }
     ensures room { IfOk result (λ _. count < 2 ^ 63) }
@@ -173,14 +197,14 @@ fn no_spans(alloc: Global, count: usize) -> Result<Vec<Option<(usize, usize)>>, 
     Ok(spans)
 }
 
-/// Counts capture groups.
+/// A counter of capture groups.
 #[derive(Drop)]
 struct Counter {
     groups: usize,
 }
 
 impl Counter {
-    /// Counts a node that is one.
+    /// Counts the node if it is a capture group.
     fn visit(&mut self, node: &Node)
         ensures { self.new.groups ≡ min (self.old.groups + length (own_group (tree node.now))) usize.MAX }
     {
@@ -191,7 +215,7 @@ impl Counter {
     }
 }
 
-/// How many capture groups a tree has, as far as they can be counted.
+/// Returns the number of capture groups of a tree, at most `usize::MAX`.
 pub(crate) fn group_count(node: &Node) -> usize
     ensures { result ≡ min (length (captures (tree node.now))) usize.MAX }
 {

@@ -1,4 +1,4 @@
-//! Groups by their names.
+//! Groups by name.
 ghost use Rattle.std.specs.Prelude.{◌≡◌, ◌++◌, ◌∷◌, [], IfOk, map, option_map, string_bytes};
 ghost use Rattle.std.specs.List.Sorted.{IsNonDecreasingBy, IsPermutation};
 ghost use Rattle.regress_tree.specs.Gathered.{own_group};
@@ -13,15 +13,19 @@ use regress_base::types::{CaptureGroupID, CaptureGroupName};
 use regress_tree::ir::{Node, Regex, Walk, walk};
 use std::alloc::{AllocError, Global};
 
-/// A capture group of a pattern.
+/// A capture group of a pattern: its id, from 0, and its name.
 #[derive(Debug, Drop)]
 pub struct Group {
     pub id: CaptureGroupID,
-    /// Not empty. Several groups in different alternatives may share it.
+    /// The name, which is not empty, or `None` for a group without one. Several groups in different alternatives may
+    /// share a name.
     pub name: Option<CaptureGroupName>,
 }
 
-/// The groups of a pattern in the order of their ids. The error is want of memory.
+/// Returns the capture groups of a pattern in the order of their ids.
+///
+/// # Errors
+/// Returns [`AllocError`] if an allocation fails. Nothing is changed.
 pub fn groups(alloc: Global, regex: &Regex) -> Result<Vec<Group>, AllocError>
     ensures all { IfOk result (λ groups. IsPermutation (captures (tree regex.now.node)) (map capture_of groups.items)) }
     ensures sorted { IfOk result (λ groups. IsNonDecreasingBy (λ group. group.id) groups.items) }
@@ -31,7 +35,7 @@ pub fn groups(alloc: Global, regex: &Regex) -> Result<Vec<Group>, AllocError>
     Ok(groups)
 }
 
-/// The groups of a tree, each before those inside it.
+/// Returns the groups of a tree, each before those inside it.
 fn listed(alloc: Global, node: &Node) -> Result<Vec<Group>, AllocError>
     ensures { IfOk result (λ groups. map capture_of groups.items ≡ captures (tree node.now)) }
 {
@@ -45,7 +49,7 @@ fn listed(alloc: Global, node: &Node) -> Result<Vec<Group>, AllocError>
     Ok(listing.groups)
 }
 
-/// Groups as a walk comes to them, until memory is wanting.
+/// The groups in the order of a walk, until an allocation fails.
 #[derive(Drop)]
 struct Listing {
     groups: Vec<Group>,
@@ -53,7 +57,7 @@ struct Listing {
 }
 
 impl Listing {
-    /// Lists a node that is a group.
+    /// Appends the node if it is a capture group.
     fn visit(&mut self, alloc: Global, node: &Node)
         ensures { Lists self.old self.new (own_group (tree node.now)) }
     {
@@ -92,8 +96,13 @@ fn copy_name(
     }
 }
 
-/// From which byte place to which the group of this name has matched. Of several that share it, that is the one that has
-/// matched; None where none has, and where the pattern has no such name.
+/// Returns the span that the group with a name has captured last, as a half-open range of byte offsets.
+///
+/// If several groups share the name it is the first one that is set. The result is `None` if none is set, or if the
+/// pattern has no group with this name. `found` is a match of `regex`.
+///
+/// # Complexity
+/// The tree of the pattern is traversed once for each call.
 pub fn named(found: &Match, regex: &Regex, name: &str) -> Option<(usize, usize)>
     ensures { result ≡ named_span name.now (state_of found.now).captures (captures (tree regex.now.node)) }
 {
@@ -107,7 +116,7 @@ pub fn named(found: &Match, regex: &Regex, name: &str) -> Option<(usize, usize)>
     finder.span
 }
 
-/// Looks for a group that has a name and has matched.
+/// A search for a set group with a name.
 #[derive(Drop)]
 struct Finder<'a> {
     name: &'a str,
@@ -116,7 +125,7 @@ struct Finder<'a> {
 }
 
 impl Finder<'_> {
-    /// Takes the span of a node that is one, if there is none yet.
+    /// Takes the capture of the node if it is a group with the name, unless one was found.
     fn visit(&mut self, node: &Node)
         ensures { Finds self.old self.new (own_group (tree node.now)) }
     {

@@ -1,4 +1,4 @@
-//! What can be told of a node by the leaf in front of it.
+//! Tests whether a node fails at a position, by the leaf at its start.
 ghost use Rattle.std.specs.Prelude.{◌≡◌, [], ℕ, true, IfSome, Some};
 ghost use Rattle.regress_tree.specs.Matching.{steps};
 ghost use Rattle.regress_tree.specs.Tree.{tree, trees, cat};
@@ -15,14 +15,17 @@ use crate::rules::Rules;
 use regress_tree::ir::Node;
 use std::boxed::BoxedSlice;
 
-/// How many nodes it goes down to the leaf in front. A bound, since each node on the way may ask.
+/// The maximal number of nodes to descend to the leaf at the start. It is bounded, since each node on the way may run
+/// the test.
 const LEVELS: usize = 6;
 
-/// How many alternatives of a choice are asked, and how many strings of a set. A bound too, so that steps bound the time.
+/// The maximal number of alternatives and of strings that are tested. So a test looks at a bounded number of nodes.
+/// This does not bound the time of a step: a loop over one character runs the test at each position to which it goes
+/// back.
 const ALTERNATIVES: usize = 16;
 
-/// Whether what stands in front of a node tells that the node matches nothing from a place: a leaf, a lookaround at one, or
-/// a choice among those. It may match nothing though this is not told.
+/// Returns true only if a node fails at a position, as its start shows: a leaf, a lookaround of a leaf, a set of few
+/// strings, or an alternation of these. A node for which it returns false may fail too.
 pub fn fails_at_once(text: &str, rules: Rules<'_>, node: &Node, place: usize) -> bool
     ensures { result ≡ true → FailsAt (subject rules.entry text.now) place (tree node.now) }
 {
@@ -41,8 +44,8 @@ pub fn fails_at_once(text: &str, rules: Rules<'_>, node: &Node, place: usize) ->
     false
 }
 
-/// What is left of alternatives behind those in front that are told to match nothing from a place. It leaves out
-/// `ALTERNATIVES` of these at most.
+/// Returns the remaining alternatives of an alternation, after at most `ALTERNATIVES` at its start that are shown to
+/// fail at a position.
 pub fn behind_failing<'a>(text: &str, rules: Rules<'_>, node: &'a Node, place: usize) -> &'a Node
     ensures { (s : State) → s.place ≡ place → (let u = subject rules.entry text.now in
         steps u.setting u.bytes u.direction (tree result.now) s ≡ steps u.setting u.bytes u.direction (tree node.now) s) }
@@ -62,7 +65,7 @@ pub fn behind_failing<'a>(text: &str, rules: Rules<'_>, node: &'a Node, place: u
     rest
 }
 
-/// Whether it is a leaf, a lookaround at one or a set of few strings, and told to match nothing from a place.
+/// Returns true only if a leaf, a lookaround of a leaf, or a set of few strings fails at a position.
 fn front_fails(text: &str, rules: Rules<'_>, node: &Node, place: usize) -> bool
     ensures { result ≡ true → FailsAt (subject rules.entry text.now) place (tree node.now) }
 {
@@ -91,7 +94,7 @@ fn front_fails(text: &str, rules: Rules<'_>, node: &Node, place: usize) -> bool
     }
 }
 
-/// What is left of strings behind those in front that don't stand there. It leaves out `ALTERNATIVES` of these at most.
+/// Returns the remaining strings, after at most `ALTERNATIVES` at the start of the list that don't match at a position.
 pub fn behind_missing<'a>(
     text: &str,
     rules: Rules<'_>,
@@ -116,7 +119,7 @@ pub fn behind_missing<'a>(
     rest
 }
 
-/// What stands in front of a node, so that the node matches nothing where that does. It goes some levels down.
+/// Returns the node at the start of a node, at most `LEVELS` nodes down. Where it fails the node fails.
 #[inline(always)]
 fn front_of(node: &Node) -> &Node
     ensures { (u : Subject) (place : ℕ) → FailsAt u place (tree result.now) → FailsAt u place (tree node.now) }
@@ -133,7 +136,7 @@ fn front_of(node: &Node) -> &Node
     front
 }
 
-/// The part in front of a node, without which it matches nothing.
+/// Returns the part with which a node has to begin, so that the node fails where the part does.
 fn front_part(node: &Node) -> Option<&Node>
     ensures { IfSome result (λ part. (u : Subject) (place : ℕ) → FailsAt u place (tree part.now) → FailsAt u place (tree node.now)) }
 {
@@ -146,7 +149,7 @@ fn front_part(node: &Node) -> Option<&Node>
     }
 }
 
-/// The first of the parts of a row.
+/// Returns the first part of a `Cat`.
 fn first_part(parts: &[Node]) -> Option<&Node>
     ensures { IfSome result (λ part. (u : Subject) (place : ℕ) → FailsAt u place (tree part.now) → FailsAt u place (cat (trees parts.now))) }
 {
@@ -154,7 +157,7 @@ fn first_part(parts: &[Node]) -> Option<&Node>
     Some(first)
 }
 
-/// Where it goes from a place if it is a leaf that looks at no group. Of other nodes nothing is told.
+/// Returns where a leaf ends that does not depend on captures, or that it fails; `None` for any other node.
 #[inline(always)]
 fn told(text: &str, rules: Rules<'_>, node: &Node, place: usize) -> Option<Option<usize>>
     ensures { IfSome result (GoesTo (subject rules.entry text.now) place (tree node.now)) }
@@ -166,7 +169,8 @@ fn told(text: &str, rules: Rules<'_>, node: &Node, place: usize) -> Option<Optio
     }
 }
 
-/// Whether a task is told to match nothing from a place, by the leaf in front of it or, behind a group, of the next task.
+/// Returns true only if a frame fails at a position, by the leaf at its start or, for a frame that closes a group, at
+/// the start of the next frame.
 pub fn task_fails(
     text: &str,
     rules: Rules<'_>,
@@ -187,7 +191,7 @@ pub fn task_fails(
     }
 }
 
-/// Whether it is told by the leaf in front of the task itself.
+/// Returns true only if a frame fails at a position by the leaf at its own start.
 fn own_part_fails(
     text: &str,
     rules: Rules<'_>,

@@ -1,4 +1,4 @@
-//! What is known of a tree before a search.
+//! What is precomputed about a pattern before a search.
 ghost use Rattle.std.specs.Prelude.{◌≡◌, length, min};
 ghost use Rattle.regress_tree.specs.Tree.{tree};
 ghost use Rattle.regress_tree.specs.WellFormed.{captures};
@@ -11,13 +11,13 @@ use regress_prefilter::candidates::{Candidates, candidates_of};
 use regress_tree::ir::Regex;
 use regress_unicode::Tables;
 
-/// A pattern, and what is known of it.
+/// A pattern, with what is precomputed about it.
 #[derive(Clone, Copy)]
 pub(crate) struct Prepared<'a> {
     pub(crate) regex: &'a Regex,
     pub(crate) known: Known<'a>,
     pub(crate) candidates: Candidates,
-    /// How many groups there are, as far as they can be counted.
+    /// The number of groups, at most `usize::MAX`.
     pub(crate) groups: usize,
     ghost starts: { AreCandidates candidates (tree regex.now.node) } by { AreCandidates-prop candidates (tree regex.now.node) },
     ghost counted: { groups ≡ min (length (captures (tree regex.now.node))) 18446744073709551615 },

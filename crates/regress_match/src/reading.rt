@@ -1,9 +1,10 @@
-//! How a text is read, character by character, from either side of a place.
+//! Decoding of UTF-8, one character forwards or backwards from a byte offset.
 ghost use Rattle.std.specs.Prelude.{◌≡◌, ◌<◌, IfSome, length, option_map, slice_index};
 ghost use Rattle.regress_tree.specs.Reading.{next_character, of_bytes, read_after, read_before, direction_if};
 ghost use Rattle.regress_match.specs.Leaves.{read_of};
 
-/// The next character and the place on its other side. None at the end, and where no character has its boundary.
+/// Returns the next character in a direction, and the offset on its other side; `None` at the end of the text, and off
+/// a character boundary.
 #[inline]
 pub fn next_read(text: &str, backwards: bool, place: usize) -> Option<(u32, usize)>
     ensures { option_map read_of result ≡ next_character (direction_if backwards) (of_bytes text.now) place }
@@ -15,7 +16,7 @@ pub fn next_read(text: &str, backwards: bool, place: usize) -> Option<(u32, usiz
     }
 }
 
-/// The character that begins there, and the place behind it.
+/// Returns the character that begins at `place`, and the offset after it.
 pub fn read_after(text: &str, place: usize) -> Option<(u32, usize)>
     ensures { option_map read_of result ≡ read_after text.now place }
 {
@@ -25,7 +26,7 @@ pub fn read_after(text: &str, place: usize) -> Option<(u32, usize)>
     }
 }
 
-/// The character that ends there, and the place before it.
+/// Returns the character that ends at `place`, and the offset before it.
 pub fn read_before(text: &str, place: usize) -> Option<(u32, usize)>
     ensures { option_map read_of result ≡ read_before text.now place }
 {
@@ -38,7 +39,7 @@ pub fn read_before(text: &str, place: usize) -> Option<(u32, usize)>
     }
 }
 
-/// The byte at a place, where it is an ASCII character, as most are.
+/// Returns the byte at an offset if it is an ASCII character, which is the fast case.
 fn ascii_at(text: &str, place: usize) -> Option<u8>
     ensures { IfSome result (λ b. (b < 128) × (place < length text.now) × (slice_index text.now place ≡ b)) }
 {
@@ -50,7 +51,7 @@ fn ascii_at(text: &str, place: usize) -> Option<u8>
     }
 }
 
-/// The character that begins there, of any length, and the place behind it.
+/// Returns the character of any length that begins at `place`, and the offset after it.
 fn decode_after(text: &str, place: usize) -> Option<(u32, usize)>
     ensures { option_map read_of result ≡ read_after text.now place }
 {
@@ -59,7 +60,7 @@ fn decode_after(text: &str, place: usize) -> Option<(u32, usize)>
     Some((u32::from(c), place + c.len_utf8()))
 }
 
-/// The character that ends there, of any length, and the place before it.
+/// Returns the character of any length that ends at `place`, and the offset before it.
 fn decode_before(text: &str, place: usize) -> Option<(u32, usize)>
     ensures { option_map read_of result ≡ read_before text.now place }
 {

@@ -1,9 +1,9 @@
-//! How a text is matched.
+//! The rules of a match.
 
 use crate::known::Known;
 use regress_base::types::Flags;
 
-/// The flags and the table of a pattern, and the direction in which a part of it is matched.
+/// The flags and the case mappings of a pattern, and the direction in which a part of it is matched.
 #[derive(Clone, Copy)]
 pub struct Rules<'t> {
     pub flags: Flags,

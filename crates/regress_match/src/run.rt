@@ -1,4 +1,4 @@
-//! Runs of the machine, within steps.
+//! Runs of the machine, within a step limit.
 ghost use Rattle.std.specs.Prelude.{◌≡◌, ◌≤◌, [], true, false, IfOk, List, length, if◌then◌else◌};
 ghost use Rattle.regress_tree.specs.Reading.{direction_if};
 ghost use Rattle.regress_tree.specs.Lookaround.{look};
@@ -22,8 +22,20 @@ use regress_tree::ir::Node;
 use std::alloc::{AllocError, Global};
 use std::mem;
 
-/// Where the first outcome of a node from a place ends. The changes of captures are noted, and none was noted before. What
-/// the machine had to do is forgotten.
+/// Returns the position at which the first outcome of a node ends that is matched from `start`.
+///
+/// The changes of captures since the start are recorded in the trail. `machine` may have any content, which is dropped.
+/// `budget` is the number of remaining steps, from which those taken are subtracted.
+///
+/// # Preconditions
+/// No change of `captures` is recorded.
+///
+/// # Complexity
+/// A step counts 1, and one that succeeds counts also the bytes by which it moves the position. The time of a single
+/// step is not bounded by a constant. Recursion is as deep as lookarounds are nested in the node.
+///
+/// # Errors
+/// Returns [`AllocError`] if an allocation fails.
 #[cycle(run)]
 pub fn run<'a>(
     alloc: Global,
@@ -53,7 +65,7 @@ pub fn run<'a>(
         let next = advance(alloc, text, rules, ahead, place, machine, captures)?;
         match settle(alloc, text, rules, next, idle, captures, budget)? {
             Settled::On(to, with) => {
-                // one task may go over many characters
+                // a frame that succeeds counts the bytes it moves by; one that fails has counted 1
                 *budget = budget.saturating_sub(to.abs_diff(place) as u64);
                 place = to;
                 ahead = with;
@@ -71,7 +83,7 @@ pub fn run<'a>(
     Ok(Answer::OutOfSteps)
 }
 
-/// Whether nothing is left to be done.
+/// Returns whether no frame remains.
 fn is_end(ahead: Ahead<'_>) -> bool
     ensures end { result ≡ true → ahead.entry ≡ Task 0 }
     ensures more { result ≡ false → ahead.entry ≡ Task 0 → ⊥ }
@@ -134,7 +146,7 @@ fn settle<'a>(
     }
 }
 
-/// Matches a lookaround. What is captured inside is noted behind the changes before.
+/// Matches a lookaround (CompileAssertion). The changes of captures inside it are appended to the trail.
 #[cycle(run)]
 fn look<'a>(
     alloc: Global,
@@ -184,7 +196,7 @@ fn look<'a>(
     }
 }
 
-/// What looking comes to, by whether it holds.
+/// Returns whether a lookaround holds, as its result.
 fn holds_if(holds: bool) -> Looked
     ensures { result ≡ (if holds then Holds else Fails) }
 {

@@ -16,8 +16,21 @@ use regress_tree::ir::Regex;
 use regress_unicode::Tables;
 use std::alloc::{AllocError, Global};
 
-/// Finds the first match that starts at or after the byte place `from`, on a boundary of characters, in at most so many
-/// steps. The error is want of memory.
+/// Returns the leftmost match of `regex` in `text` that starts at the byte offset `from` or later, on a character
+/// boundary.
+///
+/// `from` may be off a character boundary; past the end of `text` there is no match.
+///
+/// # Complexity
+/// The matches that are tried at all positions together take at most `steps` steps, counted as in `match_at`; after
+/// these the result is [`Outcome::OutOfSteps`]. A position counts no step if the pattern can't match there by its first
+/// set or by the leaf at its start.
+///
+/// The limit bounds the number of steps, not the running time: `a*b` on `n` times the letter `a` takes a number of
+/// steps linear in `n`, and time quadratic in `n`.
+///
+/// # Errors
+/// Returns [`AllocError`] if an allocation fails. The arguments are unchanged.
 pub fn find(
     alloc: Global,
     regex: &Regex,
@@ -35,7 +48,7 @@ pub fn find(
     find_within(alloc, &prepared, text, from, &mut scratch, &mut left)
 }
 
-/// Finds it in at most the steps that are left, and takes off those that it took.
+/// Searches for the leftmost match within the remaining steps, and subtracts those that it takes.
 pub(crate) fn find_within<'a>(
     alloc: Global,
     prepared: &Prepared<'a>,
@@ -78,19 +91,20 @@ pub(crate) fn find_within<'a>(
     Ok(Outcome::NoMatch)
 }
 
-/// The matches of a text, from left to right, of which none begins before the end of the one before it.
+/// The non-overlapping matches in a text, from left to right: each starts at the end of the one before or later.
 #[derive(Drop)]
 pub struct Matches<'a> {
     prepared: Prepared<'a>,
     text: &'a str,
     from: usize,
     left: u64,
-    /// None before the first match is looked for.
+    /// `None` before the first call of `next`.
     scratch: Option<Scratch<'a>>,
 }
 
 impl<'a> Matches<'a> {
-    /// Those that start at or after the byte place `from`, found in at most so many steps for all of them.
+    /// Returns a search for the matches that start at the byte offset `from` or later. All calls of [`Matches::next`]
+    /// together take at most `steps` steps, counted as in `match_at`.
     pub fn new(
         regex: &'a Regex,
         tables: &'a Tables,
@@ -112,9 +126,15 @@ impl<'a> Matches<'a> {
         }
     }
 
-    /// Finds the next match. Behind an empty one it goes on one character further, behind the last one it answers
-    /// `NoMatch` from then on, and once the steps are used up it stays where it is. The error is want of memory, and
-    /// changes no place.
+    /// Returns the next match.
+    ///
+    /// After an empty match the search goes on one character further. After the last match each call returns
+    /// [`Outcome::NoMatch`]. Once the steps are used up it returns [`Outcome::OutOfSteps`], and the position of the
+    /// search stays as it is.
+    ///
+    /// # Errors
+    /// Returns [`AllocError`] if an allocation fails. The position of the search stays as it is, so that the call may
+    /// be repeated; the steps taken are used up.
     pub fn next(&mut self, alloc: Global) -> Result<Outcome, AllocError>
         ensures finds { IfOk result (Finds (searched_text self.old) (searched_outcomes self.old) (next_from self.old)) }
         ensures goes_on { IfOk result (λ outcome. next_from self.new ≡ goes_on_from (searched_text self.old) (next_from self.old) outcome) }
@@ -143,7 +163,7 @@ impl<'a> Matches<'a> {
     }
 }
 
-/// Whether what stands in front of a pattern tells that it matches nothing from a place.
+/// Returns true only if a pattern fails at a position, as its start shows.
 fn fails_from(regex: &Regex, known: Known<'_>, text: &str, place: usize) -> bool
     ensures { result ≡ true → outcomes_at (record { flags = regex.now.flags; table = table_of known.entry.tables.now }) text.now
         (tree regex.now.node) place ≡ [] }

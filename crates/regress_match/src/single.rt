@@ -1,4 +1,4 @@
-//! Loops over one character, in which no group lies: turns are counted, and given back one by one.
+//! Loops over one character, which contain no group: iterations are only counted, and given back one by one.
 ghost use Rattle.std.specs.Prelude.{◌≡◌, ◌<◌, ◌≤◌, ◌⊎◌, ℕ, IfOk, true, length};
 ghost use Rattle.regress_tree.specs.Reading.{direction_if};
 ghost use Rattle.regress_tree.specs.Repetition.{turns, up_to};
@@ -20,7 +20,8 @@ use crate::rules::Rules;
 use regress_tree::ir::Node;
 use std::alloc::AllocError;
 
-/// Whether it is such a loop. A lazy one must have no greatest number of turns that the text could reach.
+/// Returns whether a loop is over one character and handled here. A lazy one must also have no maximum that the text
+/// could reach.
 pub fn is_single(text: &str, repeat: Repeat<'_>) -> bool
     ensures body { result ≡ true → takes_one (tree repeat.entry.body.now) ≡ true }
     ensures groups { result ≡ true → repeat.entry.end ≤ repeat.entry.start }
@@ -31,7 +32,16 @@ pub fn is_single(text: &str, repeat: Repeat<'_>) -> bool
         && (repeat.greedy || repeat.more > text.len())
 }
 
-/// Takes the least number of turns of such a loop, and then, greedy, all that can follow, or, lazy, none.
+/// Takes the minimum of iterations of a loop over one character, and then, if greedy, as many as can follow, or, if
+/// lazy, none.
+///
+/// # Preconditions
+/// - The body is a leaf that matches exactly one character.
+/// - The loop contains no group: `end` is at most `start`.
+/// - The loop is greedy, or its maximum is more than the length of the text.
+///
+/// # Errors
+/// Returns [`AllocError`] if an allocation fails.
 pub fn single<'a>(
     text: &str,
     rules: Rules<'_>,
@@ -61,7 +71,7 @@ pub fn single<'a>(
     }
 }
 
-/// Stops at the end, or else goes back from there, down to the place at which the turns began that can be given back.
+/// Stops at `end`, with a backtrack point that gives characters back, down to `start`.
 fn give_some_back<'a>(
     text: &str,
     rules: Rules<'_>,
@@ -87,7 +97,7 @@ fn give_some_back<'a>(
     Ok(Next::Go(here, next))
 }
 
-/// The first place from the end back to `stop` at which the next task isn't told to match nothing, or `stop`.
+/// Returns the first position from `end` back to `stop` at which the next frame is not shown to fail, or `stop`.
 fn last_stop(
     text: &str,
     rules: Rules<'_>,
@@ -113,7 +123,7 @@ fn last_stop(
     here
 }
 
-/// Where so many turns come to.
+/// Returns the position after `count` iterations, or `None` if one of them fails.
 fn exactly(text: &str, rules: Rules<'_>, body: &Node, count: usize, place: usize) -> Option<usize>
     ensures { (s : State) → s.place ≡ place →
         turns count (one_of (direction_if rules.entry.backwards) text.now (tree body.now)) s ≡ put s result }
@@ -127,7 +137,7 @@ fn exactly(text: &str, rules: Rules<'_>, body: &Node, count: usize, place: usize
     Some(here)
 }
 
-/// Where as many turns come to as can be taken, at most so many.
+/// Returns the position after as many iterations as succeed, at most `most`.
 fn furthest(text: &str, rules: Rules<'_>, body: &Node, most: usize, place: usize) -> usize
     ensures { (s : State) → s.place ≡ place →
         (let d = direction_if rules.entry.backwards in
@@ -145,7 +155,13 @@ fn furthest(text: &str, rules: Rules<'_>, body: &Node, most: usize, place: usize
     here
 }
 
-/// Stops here, or else one character before, which is the same task from there.
+/// Stops at `place`, with a backtrack point that gives one more character back and does the same frame from there.
+///
+/// # Preconditions
+/// `number` is the number of a frame of the machine that gives characters back down to `stop`, before the frame `next`.
+///
+/// # Errors
+/// Returns [`AllocError`] if an allocation fails.
 pub fn give_back<'a>(
     text: &str,
     rules: Rules<'_>,
@@ -172,7 +188,13 @@ pub fn give_back<'a>(
     Ok(Next::Go(here, next))
 }
 
-/// Takes one character and stops, or else takes another, which is the same task from there.
+/// Takes one character and stops, with a backtrack point that does the same frame from there.
+///
+/// # Preconditions
+/// `number` is the number of a frame of the machine that takes more characters of `body`, before the frame `next`.
+///
+/// # Errors
+/// Returns [`AllocError`] if an allocation fails.
 pub fn take_more<'a>(
     text: &str,
     rules: Rules<'_>,

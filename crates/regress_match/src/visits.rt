@@ -1,4 +1,4 @@
-//! What each kind of task does.
+//! What each kind of frame and node does.
 ghost use Rattle.std.specs.Prelude.{◌≡◌, ◌≤◌, [], ℕ, IfOk, MatchOption, length};
 ghost use Rattle.regress_tree.specs.Matching.{steps};
 ghost use Rattle.regress_tree.specs.Repetition.{more_turns};
@@ -19,7 +19,13 @@ use regress_tree::ir::{Node, Quantifier};
 use std::alloc::{AllocError, Global};
 use std::boxed::BoxedSlice;
 
-/// Does a task, the one of that number.
+/// Does the frame `task` with the number `number`.
+///
+/// # Preconditions
+/// `task` is the frame of the machine with this number.
+///
+/// # Errors
+/// Returns [`AllocError`] if an allocation fails.
 pub fn step<'a>(
     alloc: Global,
     text: &str,
@@ -77,6 +83,9 @@ pub fn step<'a>(
 }
 
 /// Matches a node.
+///
+/// # Errors
+/// Returns [`AllocError`] if an allocation fails.
 #[inline(always)]
 pub fn visit<'a>(
     alloc: Global,
@@ -152,7 +161,7 @@ pub fn visit<'a>(
     }
 }
 
-/// On from a place, or back.
+/// Goes on from a position, or backtracks if there is none.
 fn go<'a>(to: Option<usize>, next: usize) -> Next<'a>
     ensures { (u : Subject) (m : Machine) (c : Captures) (k : ℕ) → next ≤ length m.tasks.items → IsMachine m c →
         Continues u (onward u m c next (put (state c k) to)) m c result }
@@ -163,7 +172,7 @@ fn go<'a>(to: Option<usize>, next: usize) -> Next<'a>
     }
 }
 
-/// Matches a loop: over one character by counting, and any other turn by turn.
+/// Matches a loop: one over a single character by counting, and any other iteration by iteration (RepeatMatcher).
 fn repetition<'a>(
     text: &str,
     rules: Rules<'_>,
@@ -184,7 +193,7 @@ fn repetition<'a>(
     }
 }
 
-/// How many turns may follow the least number.
+/// Returns the number of iterations that may follow the minimum, at most `bound`.
 fn more_turns(bound: usize, quant: &Quantifier) -> usize
     ensures { result ≡ more_turns bound quant.now }
 {
@@ -194,10 +203,10 @@ fn more_turns(bound: usize, quant: &Quantifier) -> usize
     }
 }
 
-/// How many leaves are matched in one step.
+/// The maximal number of leaves that are matched in one step.
 const MOST_LEAVES: usize = 8;
 
-/// Matches nodes one after the other: the leaves in front at once, and then the next node.
+/// Matches the parts of a `Cat` in order: the leaves at its start at once, and then the next node.
 fn row<'a>(
     alloc: Global,
     text: &str,
@@ -218,7 +227,7 @@ fn row<'a>(
     }
 }
 
-/// Goes on with the first node of a row, and then with the others.
+/// Goes on with the first part, and then with the others.
 fn enter<'a>(
     parts: &'a [Node],
     place: usize,
@@ -238,7 +247,8 @@ fn enter<'a>(
     Ok(Next::Visit(place, first, task))
 }
 
-/// Where the leaves in front of a row go, and what is left of the row behind them. None where one of them matches nothing.
+/// Returns the position after the leaves at the start of a `Cat`, and the remaining parts; `None` if one of the leaves
+/// fails.
 fn leaves_in_front<'a>(
     alloc: Global,
     text: &str,
@@ -271,7 +281,7 @@ fn leaves_in_front<'a>(
     Ok(Some((here, rest)))
 }
 
-/// Matches the first of these alternatives that isn't told to match nothing, or else those behind it.
+/// Matches the first alternative that is not shown to fail, with a backtrack point for those after it.
 fn alt<'a>(
     text: &str,
     rules: Rules<'_>,
@@ -296,7 +306,7 @@ fn alt<'a>(
     Ok(Next::Visit(place, left, next))
 }
 
-/// Matches what a group holds, and then notes its span.
+/// Matches the contents of a group, and then sets its capture.
 fn group<'a>(
     id: u16,
     contents: &'a Node,
@@ -311,7 +321,7 @@ fn group<'a>(
     Ok(Next::Visit(place, contents, task))
 }
 
-/// Matches the first string that stands there, or else one of the others.
+/// Matches the first string that the text has, with a backtrack point for the others.
 fn strings<'a>(
     text: &str,
     rules: Rules<'_>,
@@ -342,7 +352,7 @@ fn strings<'a>(
     Ok(Next::Go(to, next))
 }
 
-/// Takes so many turns of a loop, and then those that may follow.
+/// Takes `left` iterations of a loop, and then the optional ones.
 fn turns<'a>(
     text: &str,
     rules: Rules<'_>,
@@ -364,7 +374,7 @@ fn turns<'a>(
     Ok(Next::Visit(place, repeat.body, task))
 }
 
-/// Takes as many turns of a loop as may follow.
+/// Takes the optional iterations of a loop.
 fn more<'a>(
     text: &str,
     rules: Rules<'_>,
@@ -397,7 +407,7 @@ fn more<'a>(
     }
 }
 
-/// Takes a turn that must move, and then those that may follow.
+/// Takes an iteration that must not be empty, and then the further optional ones.
 fn turn<'a>(
     repeat: Repeat<'a>,
     place: usize,

@@ -20,7 +20,7 @@ use Rattle.regress_normalize.proofs.GoalLemmas.{alt_goal}
 use Rattle.regress_normalize.proofs.NormalLemmas.{IsNormal-alt, empty_normal}
 
 module _ (left right : Tree) where
-  -- what is a side alone is no `Alt` in normal form
+  -- an `Alt` without groups and with a side that fails is not in normal form
   fails_away : (match_always_fails left || match_always_fails right) ≡ true → has_group left ≡ false → has_group right ≡ false →
       is_failed_away (alt left right) ≡ true
   fails_away fails no_left no_right = and_from _ _ fails (ap not (ap₂ ◌||◌ no_left no_right))
@@ -45,7 +45,7 @@ module _ (d : Direction) (t : Tree) (left_facts right_facts : PartFacts) (sides 
   whole_part : IsPart (alt first second)
   whole_part = subst (λ (u : Tree). IsPart u) sides.is part
 
-  -- nothing in normal form is changed
+  -- an `Alt` in normal form is not changed
   other : {P : Type 0} (shape : Tree → Bool) → shape (alt first second) ≡ true → (IsNormal t → shape t ≡ false) → IsNormal t → P
   other shape some lacks normal = absurd (false≢true (sym (lacks normal) ∙ ap shape sides.is ∙ some))
 
@@ -98,7 +98,7 @@ module _ (d : Direction) (t : Tree) (left_facts right_facts : PartFacts) (sides 
           still_one = λ normal. failed (or_right _ _ right_fails) normal;
         }
 
-  -- it stays
+  -- an `Alt` without a shape to remove is unchanged
   pub alt_stays : (answer : Result PartFacts AllocError) → (is_empty first && is_empty second) ≡ false →
       ((left_facts.always_fails ≡ false) × (right_facts.always_fails ≡ false)) ⊎ ((left_facts.has_group || right_facts.has_group) ≡ true) →
       IfOk answer (λ facts. HasFacts facts (alt first second)) → IfOk answer (λ facts. facts.was_one_character ≡ false) →

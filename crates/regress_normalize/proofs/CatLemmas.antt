@@ -1,4 +1,4 @@
--- Lists of nodes that the calls on a row handle.
+-- Lists of nodes, as `retain` and `dedup_by` handle them.
 use Rattle.std.proofs.Common.{◌≡◌, Bool, true, false, if◌then◌else◌, ◌&&◌, ◌||◌, List, [], ◌∷◌, refl, sym, ap, ap₂, ◌∙◌, subst}
 use Rattle.std.specs.Prelude.{OnOk, MatchBool, Result, Ok, Err}
 use Rattle.std.specs.List.Retain.{DedupsFrom, IsDeduped}
@@ -16,11 +16,11 @@ use Rattle.regress_normalize.proofs.PackedLemmas.{Packs-refl, Packs-trans, leave
 
 -- ---- parts left out
 
--- Packs among parts that stay, whatever they are
+-- packing after parts that don't change, whatever they are
 abbrev PacksBehind : (d : Direction) (before old new : Trees) → Type 0
 PacksBehind d before old new = Packs d (in_text_order d (row_append before old)) (in_text_order d (row_append before new))
 
--- what is packed behind one part more
+-- packing after one more part
 behind_one : (d : Direction) (before : Trees) (t : Tree) (old new : Trees) →
     PacksBehind d (row_append before (more_trees t no_trees)) old new → PacksBehind d before (more_trees t old) (more_trees t new)
 behind_one d before t old new packs =
@@ -94,9 +94,9 @@ module _ {S : Type 0} (R : S → Node → Node → Bool → S → Node → Node 
   deduped_empties s [] ys is = ap (λ ns. some_in_row is_empty (trees ns)) is.told
   deduped_empties s (x ∷ xs) ys is = behind_empties s x xs ys is.told
 
--- ---- neighbours looked for from one end to the other
+-- ---- neighbours searched from one end to the other
 
--- those found from a place on, where the part before it has bytes or not
+-- whether there are neighbours with bytes from an index on, where `before` states whether the part before it has bytes
 abbrev pub neighbours_from : Bool → List Node → Bool
 neighbours_from before nodes = (before && first_in_row has_bytes (trees nodes)) || has_neighbours has_bytes (trees nodes)
 

@@ -1,4 +1,4 @@
--- What is known of a row, one part more.
+-- The facts of a list of parts, with one more part.
 use Rattle.std.proofs.Common.{◌≡◌, ℕ, ◌+◌, ◌≤◌, Bool, true, false, ◌||◌, max, inl, inr, Ordering, Less, Equal, Greater, refl, sym, ap, ◌∙◌, arith}
 use Rattle.std.specs.Prelude.{if◌then◌else◌}
 use Rattle.std.specs.Ordering.{ord_max, nat_cmp}
@@ -68,7 +68,7 @@ around-charge t = omega (arith, charge-parts_of t)
 pub around-levels : (t : Tree) → around t ≤ levels t
 around-levels t = omega (arith, levels-parts_of t)
 
--- the greater of two
+-- the greater of two numbers
 pub greater : (a b : ℕ) → ord_max nat_cmp a b ≡ max a b
 greater a b = elim (cases_lt b a) [
   | inl less ↦

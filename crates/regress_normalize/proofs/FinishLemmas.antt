@@ -1,4 +1,4 @@
--- What stands for a packed row, in normal form and with its facts.
+-- What replaces a packed list of parts is in normal form, and has the facts.
 use Rattle.std.proofs.Common.{◌≡◌, ℕ, ◌+◌, ◌≤◌, Bool, true, false, not, ◌&&◌, ◌||◌, ◌⊎◌, max, inl, inr, [], Result, Ok, Err, refl, sym, ap, ap₂, ◌∙◌, subst, arith}
 use Rattle.std.specs.Prelude.{IsTrue, IfOk, IsErr}
 use Rattle.std.specs.declared.alloc.AllocError.{AllocError}
@@ -26,9 +26,9 @@ use Rattle.regress_normalize.proofs.GoalLemmas.{cat_goal, only_goal}
 use Rattle.regress_normalize.proofs.NormalLemmas.{Kind, simplified, flattened, unrolled, promoted, formed, emptied, failed, shape, lacks, normal_from, empty_normal, nothing_normal}
 use Rattle.regress_normalize.proofs.PackedLemmas.{RowIsNormal-append}
 
--- ---- rows of parts in normal form
+-- ---- lists of parts in normal form
 
--- no node of the row has a shape of any kind
+-- no node of the list has a shape to be removed
 abbrev IsNormalRow : Trees → Type 0
 IsNormalRow ts = (k : Kind) → RowLacksShape (shape k) ts
 
@@ -59,7 +59,7 @@ cat_normal ts each long no_cat packed fails = normal_from (cat ts) (λ k. LacksS
     here emptied = packed.no_empty
     here failed = fails
 
--- what a `Cat` in normal form has
+-- what holds of the parts of a `Cat` in normal form
 record IsCleanRow (ts : Trees) : Type 0 where
   long : is_short ts ≡ false
   no_cat : has_cat ts ≡ false
@@ -77,7 +77,7 @@ clean_row ts normal =
       };
     }
 
--- ---- such rows, spliced
+-- ---- such lists, spliced
 
 parts_normal : (t : Tree) → IsNormal t → RowIsNormal (parts_of t)
 parts_normal (leaf l) normal = (normal, tt)
@@ -101,7 +101,7 @@ spliced_no_cat no_trees each = refl
 spliced_no_cat (more_trees t ts) each =
     some_in_row-append is_cat (parts_of t) (spliced ts) ∙ ap₂ ◌||◌ (parts_no_cat t each.0) (spliced_no_cat ts each.1)
 
--- where there is no group
+-- without a group the condition on groups can be dropped
 alone : (a b : Bool) → (a && not b) ≡ false → b ≡ false → a ≡ false
 alone true true is none = absurd (true≢false none)
 alone true false is none = absurd (true≢false is)
@@ -124,7 +124,7 @@ spliced_fail (more_trees t ts) each free fails =
     some_in_row-append match_always_fails (parts_of t) (spliced ts)
     ∙ ap₂ ◌||◌ (parts_fail t each.0 groups.0 failing.0) (spliced_fail ts each.1 groups.1 failing.1)
 
--- ---- levels
+-- ---- nesting depth
 
 levels-positive : (t : Tree) → 1 ≤ levels t
 levels-positive (leaf l) = omega arith
@@ -137,7 +137,7 @@ deepest-positive no_trees long = absurd (true≢false long)
 deepest-positive (more_trees t no_trees) long = absurd (true≢false long)
 deepest-positive (more_trees t (more_trees u us)) long = omega (arith, levels-positive t)
 
--- ---- a packed row
+-- ---- a packed list
 
 failing_free : (t : Tree) → match_always_fails t ≡ true → has_group t ≡ false
 failing_free (leaf l) is = refl
@@ -219,9 +219,9 @@ module _ (d : Direction) (row : RowFacts) (ts new : Trees) (taken : ℕ) (each :
     one_some : is_empty t ≡ false
     one_some = (or_parts (is_empty t) false (sym (ap (some_in_row is_empty) one) ∙ done.packed.no_empty)).0
 
--- ---- what the calls answer
+-- ---- the results of the calls
 
--- parts with what is known of them
+-- parts in normal form with their facts
 pub record AreParts (row : RowFacts) (ts : Trees) : Type 0 where
   pub each : RowIsNormal ts
   pub facts : HasRowFacts row ts
@@ -266,7 +266,7 @@ module _ (d : Direction) (row : RowFacts) (ts : Trees) (given : AreParts row ts)
         let clean = clean_row ts normal in
         left clean.no_cat clean.packed
 
-    -- what is shorter was not in normal form
+    -- a `Cat` that became too short was not in normal form
     not_left : is_short new ≡ true → IsNormal (cat ts) → ⊥
     not_left short normal = true≢false (sym short ∙ ap is_short (left_whole normal) ∙ (clean_row ts normal).long)
 

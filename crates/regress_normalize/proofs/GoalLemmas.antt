@@ -1,4 +1,4 @@
--- A `Goal` stays a part.
+-- A `Goal` part is kept.
 use Rattle.std.proofs.Common.{◌≡◌, Bool, true, false, ◌||◌, inl, inr, refl, sym, ap, ◌∙◌, subst}
 use Rattle.std.proofs.Math.Bool.{or-false}
 use Rattle.std.proofs.lemmas.Bool.{cases_Bool, or_left, or_right, true≢false, false≢true}
@@ -15,7 +15,7 @@ use Rattle.regress_normalize.specs.Normalized.{HasGoal}
 use Rattle.regress_normalize.specs.Steps.{Clears}
 use Rattle.regress_normalize.proofs.NormalLemmas.{IsNormal-leaf, nothing_normal}
 
--- ---- which trees have it
+-- ---- the trees that have it
 
 pub cat_goal : (ts : Trees) → HasGoal (cat ts) → some_in_row is_goal ts ≡ true
 cat_goal ts (inl has) = has
@@ -29,19 +29,19 @@ pub wrapped_goal : (w : Wrapper) (body : Tree) → HasGoal (wrapped w body) → 
 wrapped_goal w body (inl has) = false≢true has
 wrapped_goal w body (inr is) = false≢true (ap is_leaf is)
 
--- the part of a `Cat` of one
+-- the part of a `Cat` with one part
 pub only_goal : (part : Tree) → HasGoal (cat (more_trees part no_trees)) → HasGoal part
 only_goal (leaf l) has = inl (cat_goal _ has)
 only_goal (cat parts) has = absurd (false≢true (cat_goal _ has))
 only_goal (alt left right) has = absurd (false≢true (cat_goal _ has))
 only_goal (wrapped w body) has = absurd (false≢true (cat_goal _ has))
 
--- ---- it is in normal form, so it is left
+-- ---- a `Goal` is in normal form, so it is unchanged
 
 is_normal : (t : Tree) → is_goal t ≡ true → IsNormal t
 is_normal t is = subst (λ (u : Tree). IsNormal u) (sym (goal-is t is)) (IsNormal-leaf goal refl refl refl)
 
--- as a part of another tree,
+-- a `Goal` as a part of another tree
 module _ (t u : Tree) (left : IsNormal t → u ≡ t) where
   among_goal : (before behind : Trees) → some_in_row is_goal (row_append before (more_trees t behind)) ≡ true →
       some_in_row is_goal (row_append before (more_trees u behind)) ≡ true
@@ -66,7 +66,7 @@ module _ (t u : Tree) (left : IsNormal t → u ≡ t) where
   put_goal (right_of left_side) has = absurd (alt_goal left_side t has)
   put_goal (inside_of w) has = absurd (wrapped_goal w t has)
 
--- and alone
+-- a `Goal` as the whole tree
 leaf_goal : (t simplified : Tree) → Clears is_simplified_away t simplified → HasGoal t → IsNormal t
 leaf_goal t simplified first (inr is) = subst (λ (u : Tree). IsNormal u) (sym is) nothing_normal
 leaf_goal (leaf l) simplified first (inl has) = is_normal (leaf l) (sym (or-false (is_goal (leaf l))) ∙ has)
@@ -78,7 +78,7 @@ pub cleared_goal : (t simplified new : Tree) → Clears is_simplified_away t sim
 cleared_goal t simplified new first left has =
     subst (λ (u : Tree). HasGoal u) (sym (left (leaf_goal t simplified first has))) has
 
--- ---- in a row that is spliced
+-- ---- in a list that is spliced
 
 own_goal : (t : Tree) → is_goal t ≡ true → some_in_row is_goal (parts_of t) ≡ true
 own_goal (leaf l) is = or_left _ _ is

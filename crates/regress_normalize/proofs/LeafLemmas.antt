@@ -1,4 +1,4 @@
--- A node that holds no node: one kind of shape after the other is removed.
+-- A leaf: the kinds of shapes are removed in order.
 use Rattle.std.proofs.Common.{◌≡◌, ◌<◌, ◌⊎◌, Bool, true, false, inl, inr, Result, Ok, Err, refl, sym, ap, subst, ◌∙◌, arith}
 use Rattle.std.specs.Prelude.{IfOk}
 use Rattle.std.specs.Result.{IsErr}
@@ -26,9 +26,9 @@ use Rattle.regress_normalize.specs.Steps.{Clears}
 use Rattle.regress_normalize.proofs.GoalLemmas.{cleared_goal}
 use Rattle.regress_normalize.proofs.NormalLemmas.{IsNormal-leaf}
 
--- ---- what holds no node
+-- ---- leaves
 
--- it has what it lacks at its root
+-- a leaf lacks a shape if its root does
 leaf_lacks : (shape : Tree → Bool) (t : Tree) → is_leaf t ≡ true → shape t ≡ false → LacksShape shape t
 leaf_lacks shape (leaf l) is none = none
 leaf_lacks shape (cat parts) is none = absurd (false≢true is)
@@ -48,7 +48,7 @@ leaf_is_no_cat (cat parts) is = absurd (false≢true is)
 leaf_is_no_cat (alt left right) is = absurd (false≢true is)
 leaf_is_no_cat (wrapped w body) is = absurd (false≢true is)
 
--- what is less is lighter
+-- a leaf that is less than another weighs less
 pub leaf_lighter : (t u : Tree) → is_leaf t ≡ true → is_leaf u ≡ true → IsLess u t → weight u < weight t
 leaf_lighter (leaf l) (leaf k) is is' less = by less.less
   where
@@ -63,7 +63,7 @@ leaf_lighter (cat parts) u is is' less = absurd (false≢true is)
 leaf_lighter (alt left right) u is is' less = absurd (false≢true is)
 leaf_lighter (wrapped w body) u is is' less = absurd (false≢true is)
 
--- ---- one step more
+-- ---- one more step
 
 pub Clears-refl : (removes : Tree → Bool) (t : Tree) → is_leaf t ≡ true → Clears removes t t
 Clears-refl removes t is = record {
@@ -76,7 +76,7 @@ pub IsPart-cleared : (removes : Tree → Bool) (old t : Tree) → Clears removes
 IsPart-cleared removes old t clears part = IsPart-kept forwards (clears.keeps forwards) part
 
 module _ (removes : Tree → Bool) (t left : Tree) (action : PassAction) (lawful : (d : Direction) → ObeysLaw removes true d t left action) where
-  -- what is kept is what was there
+  -- `Keep` leaves the node unchanged
   pub kept : action ≡ Keep → after action left ≡ t
   kept same = ap (λ (a : PassAction). after a left) same ∙ (lawful forwards).kept same
 
@@ -94,7 +94,7 @@ module _ (removes : Tree → Bool) (t left : Tree) (action : PassAction) (lawful
 
 -- ---- forming
 
--- a leaf becomes another, where the answer says so
+-- a leaf becomes another by the action
 module _ (t : Tree) (l formed : Leaf) (is : t ≡ leaf l) where
   pub Clears-formed : (r : Result PassAction AllocError) →
       ((d : Direction) → IfOk r (ObeysLaw is_formed_away true d (leaf l) (leaf l))) →
@@ -107,7 +107,7 @@ module _ (t : Tree) (l formed : Leaf) (is : t ≡ leaf l) where
 
 -- ---- clearing
 
--- what is removed becomes `Empty`
+-- a node with this shape becomes `Empty`
 pub Clears-empty : (t : Tree) → is_leaf t ≡ true → is_emptied_away t ≡ true → IsPart t → Clears is_emptied_away t (leaf empty)
 Clears-empty t is some part = record {
   keeps = λ d. emptied_keeps d t (leaf_is_no_cat t is) some part;
@@ -120,7 +120,7 @@ Clears-empty t is some part = record {
 one_stands : (t : Tree) → matches_exactly_one_char t ≡ true → IsPart t → StandsAsOne t
 one_stands t one part n = MayStand-one_character part.0 n t part.1 one part.2
 
--- ---- all three
+-- ---- all three steps
 
 module _ (old simplified formed new : Tree) (part : IsPart old) (first : Clears is_simplified_away old simplified)
     (second : Clears is_formed_away simplified formed) (third : Clears is_emptied_away formed new) where
@@ -129,7 +129,7 @@ module _ (old simplified formed new : Tree) (part : IsPart old) (first : Clears 
       let at_first = one_stands simplified one (IsPart-kept forwards (first.keeps forwards) part) n in
       (third.keeps forwards).stands n one_character ((second.keeps forwards).stands n one_character at_first)
 
-  -- what is in normal form is left as it is
+  -- a leaf in normal form is unchanged
   same : IsNormal old → new ≡ old
   same normal =
       let one = first.left (LacksShape-here is_simplified_away old normal.simplified) in

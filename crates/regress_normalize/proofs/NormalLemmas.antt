@@ -1,4 +1,4 @@
--- The normal form of a whole, by that of its parts.
+-- A tree is in normal form if its parts are and its root lacks each shape.
 use Rattle.std.proofs.Common.{◌≡◌, Bool, false, ◌||◌, [], refl, ap₂}
 use Rattle.regress_tree.specs.NormalForm.{IsNormal}
 use Rattle.regress_tree.specs.Shapes.{LacksShape, is_simplified_away, is_flattened_away, is_unrolled_away, is_promoted_away, is_formed_away, is_emptied_away, is_failed_away}
@@ -8,7 +8,7 @@ use Rattle.regress_tree.proofs.laws.Measures.{LacksShape-from}
 use Rattle.regress_tree.proofs.laws.Places.{Place, put, LacksShape-whole}
 use Rattle.regress_rewrite.proofs.laws.Spine.{LacksShape-reattach}
 
--- the kinds of shape, one for each field of the normal form
+-- the kinds of shapes, one for each field of the normal form
 pub data Kind : Type 0 where
   simplified : Kind
   flattened : Kind
@@ -27,7 +27,7 @@ shape formed = is_formed_away
 shape emptied = is_emptied_away
 shape failed = is_failed_away
 
--- a tree is in normal form if it lacks each kind
+-- a tree in normal form lacks each kind
 pub lacks : (t : Tree) → IsNormal t → (k : Kind) → LacksShape (shape k) t
 lacks t normal simplified = normal.simplified
 lacks t normal flattened = normal.flattened
@@ -54,7 +54,7 @@ IsNormal-part p t normal = normal_from t (λ k. LacksShape-whole (shape k) p t (
 pub IsNormal-reattach : (above t : Tree) → IsNormal (reattach above t) → IsNormal t
 IsNormal-reattach above t normal = normal_from t (λ k. LacksShape-reattach (shape k) above t (lacks (reattach above t) normal k))
 
--- a leaf has shapes of three kinds
+-- the three kinds of shapes that a leaf can have
 pub IsNormal-leaf : (l : Leaf) → is_simplified_away (leaf l) ≡ false → is_formed_away (leaf l) ≡ false → is_emptied_away (leaf l) ≡ false →
     IsNormal (leaf l)
 IsNormal-leaf l no_bracket no_literal no_empty = record {
@@ -74,7 +74,7 @@ pub nothing_normal : IsNormal (leaf (byte_set []))
 nothing_normal = IsNormal-leaf (byte_set []) refl refl refl
 
 module _ (left right : Tree) (left_normal : IsNormal left) (right_normal : IsNormal right) where
-  -- an `Alt` has a shape of its own where both sides are `Empty`, and where one fails and no group is inside
+  -- an `Alt` has a shape itself only if both sides are `Empty`, or if one side fails and there is no group
   pub IsNormal-alt : is_emptied_away (alt left right) ≡ false → is_failed_away (alt left right) ≡ false → IsNormal (alt left right)
   IsNormal-alt no_empties no_failing = normal_from (alt left right) (λ k.
       LacksShape-from (shape k) (alt left right) (ap₂ ◌||◌ (lacks left left_normal k) (lacks right right_normal k)) (here k))

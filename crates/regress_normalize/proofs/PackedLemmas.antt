@@ -1,4 +1,4 @@
--- Rows packed: parts in the place of others, among parts that stay.
+-- Packing a list: parts are replaced among others that don't change.
 use Rattle.std.proofs.Common.{◌≡◌, ℕ, ◌+◌, Bool, true, false, ◌&&◌, ◌||◌, max, List, [], ◌∷◌, ◌++◌, refl, sym, ap, ap₂, ◌∙◌, subst, arith, le_refl, le_trans, length-append}
 use Rattle.std.proofs.Math.Bool.{and-false, or_assoc, or-false}
 use Rattle.std.proofs.lemmas.Bool.{or_parts, true≢false}
@@ -22,7 +22,7 @@ use Rattle.regress_normalize.specs.Normalized.{RowIsNormal}
 use Rattle.regress_normalize.specs.Packed.{in_text_order, Packs, IsPacked, TakesBytes}
 use Rattle.regress_normalize.proofs.NormalLemmas.{IsNormal-leaf}
 
--- ---- rows, one behind the other
+-- ---- appended lists
 
 pub RowIsNormal-append : (ts us : Trees) → RowIsNormal ts → RowIsNormal us → RowIsNormal (row_append ts us)
 RowIsNormal-append no_trees us first second = second
@@ -125,7 +125,7 @@ module _ (d : Direction) (u : Tree) (us vs : Trees) (packs : Packs d (more_trees
     goals = some_in_row-around is_goal packs.goals;
   }
 
--- ---- what is packed
+-- ---- the changes that pack
 
 empty_packs : (d : Direction) → Packs d (more_trees (leaf empty) no_trees) no_trees
 empty_packs d = record {
@@ -145,7 +145,7 @@ longer_normal : (a b : List ℕ) → IsNormal (written a) → IsNormal (written 
 longer_normal [] b normal = absurd (true≢false normal.emptied)
 longer_normal (x ∷ a) b normal = IsNormal-leaf (byte_sequence (x ∷ (a ++ b))) refl refl refl
 
--- the parts in the order of the text, and what runs backwards
+-- two neighbours with bytes, in the order of the text, become one
 pair_packs : (d : Direction) (a b : List ℕ) →
     Packs d (in_text_order d (more_trees (written a) (more_trees (written b) no_trees)))
     (in_text_order d (more_trees (written (a ++ b)) no_trees))
@@ -174,7 +174,7 @@ pair_packs backwards a b = record {
   goals = refl;
 }
 
--- ---- turned
+-- ---- reversed
 
 turned-around : (xs ts zs : Trees) →
     row_reverse (row_append xs (row_append ts zs)) ≡ row_append (row_reverse zs) (row_append (row_reverse ts) (row_reverse xs))
@@ -183,7 +183,7 @@ turned-around xs ts zs =
     ∙ ap (λ us. row_append us (row_reverse xs)) (row_reverse-append ts zs)
     ∙ row_append-assoc (row_reverse zs) (row_reverse ts) (row_reverse xs)
 
--- an `Empty` among others
+-- an `Empty` among other parts is left out
 pub leaves_out : (d : Direction) (before behind : Trees) →
     Packs d (in_text_order d (row_append before (more_trees (leaf empty) behind))) (in_text_order d (row_append before behind))
 leaves_out forwards before behind = Packs-segment forwards (leaf empty) no_trees no_trees (empty_packs forwards) before behind

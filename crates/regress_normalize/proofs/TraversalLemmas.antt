@@ -1,4 +1,4 @@
--- What the traversal keeps, step by step.
+-- What each step of the traversal keeps.
 use Rattle.std.proofs.Common.{◌≡◌, ℕ, ◌+◌, ◌<◌, List, [], ◌∷◌, length, take, get_or, set, Result, Ok, Err, refl, sym, ap, subst, ◌∙◌, arith}
 use Rattle.std.specs.Prelude.{IfOk, OnOk}
 use Rattle.std.specs.Result.{IsErr}
@@ -27,7 +27,7 @@ use Rattle.regress_normalize.proofs.GoalLemmas.{only_goal, put_goal}
 use Rattle.regress_normalize.proofs.NormalLemmas.{IsNormal-part, IsNormal-reattach}
 use Rattle.regress_normalize.proofs.PackedLemmas.{RowIsNormal-append}
 
--- ---- one step after the other
+-- ---- steps in sequence
 
 pub StandsFor-then : (d : Direction) (t u v : Tree) → StandsFor d t u → StandsFor d u v → StandsFor d t v
 StandsFor-then d t u v first second = record {
@@ -71,7 +71,7 @@ Normalized-after d t u v answer first second =
       still_one = λ normal. second.still_one (subst (λ (x : Tree). IsNormal x) (sym (first.left normal)) normal);
     }
 
--- the same where the second step needs more to leave what is there
+-- two steps, where the second one leaves the tree unchanged under a condition that follows from the normal form
 pub Normalized-finished : (clean : Type 0) (d : Direction) (t u v : Tree) (answer : Result PartFacts AllocError) → StandsFor d t u →
     Finished clean d u v answer → (IsNormal t → clean) → Normalized d t v answer
 Normalized-finished clean d t u v answer first second is_clean = record {
@@ -83,21 +83,21 @@ Normalized-finished clean d t u v answer first second is_clean = record {
   still_one = λ normal. second.still_one (is_clean normal);
 }
 
--- after an error nothing else is said
+-- after an error only what is always kept holds
 pub Normalized-error : (d : Direction) (t u : Tree) (answer : Result PartFacts AllocError) → IsErr answer → StandsFor d t u →
     Normalized d t u answer
 Normalized-error d t u (Ok facts) err stands = absurd (false≢true err)
 Normalized-error d t u (Err e) err stands =
     record { keeps = stands.keeps; goal = stands.goal; normal = tt; facts = tt; left = stands.left; still_one = λ normal. tt }
 
--- the same beside something else that is known before
+-- the same with one more condition
 pub Finished-error : (known : Type 0) (d : Direction) (t u : Tree) (answer : Result PartFacts AllocError) → IsErr answer → StandsFor d t u →
     Finished (IsNormal t × known) d t u answer
 Finished-error known d t u (Ok facts) err stands = absurd (false≢true err)
 Finished-error known d t u (Err e) err stands =
     record { keeps = stands.keeps; goal = stands.goal; normal = tt; facts = tt; left = λ clean. stands.left clean.0; still_one = λ clean. tt }
 
--- a part in the place of a `Cat` of one
+-- a part may replace a `Cat` with one part
 pub StandsFor-only_part : (d : Direction) (t part : Tree) → t ≡ cat (more_trees part no_trees) → StandsFor d t part
 StandsFor-only_part d t part is = subst (λ (u : Tree). StandsFor d u part) (sym is) (record {
   keeps = Keeps-one_part d part;
@@ -105,7 +105,7 @@ StandsFor-only_part d t part is = subst (λ (u : Tree). StandsFor d u part) (sym
   left = λ normal. absurd (true≢false (LacksShape-here is_flattened_away (cat (more_trees part no_trees)) normal.flattened));
 })
 
--- what a wrapper holds
+-- the body of a node
 module _ (d : Direction) (w : Wrapper) (t u : Tree) (answer : Result PartFacts AllocError)
     (here : Normalized (direction_at (inside_of w) d) t u answer) where
   pub stands_inside : StandsFor d (wrapped w t) (wrapped w u)
@@ -131,14 +131,14 @@ module _ (d : Direction) (w : Wrapper) (t u : Tree) (answer : Result PartFacts A
 
 -- ---- alternatives
 
--- how large the left sides above are, and the `Alt`s
+-- the size of the `Alt`s above and of their left sides
 abbrev pub units_above : Tree → ℕ
 units_above (leaf l) = 0
 units_above (cat parts) = 0
 units_above (alt left above) = 1 + units left + units_above above
 units_above (wrapped w body) = 0
 
--- how large an `Alt` is without its right side
+-- the size of an `Alt` without its right side
 abbrev pub units_left : Tree → ℕ
 units_left (leaf l) = 0
 units_left (cat parts) = 0
@@ -151,7 +151,7 @@ units-reattach (cat parts) t = omega arith
 units-reattach (alt left above) t = omega (arith, units-reattach above (alt left t))
 units-reattach (wrapped w body) t = omega arith
 
--- up: the `Alt` that stands there now
+-- ascending: the next `Alt`
 module _ (above node rest here : Tree) (shifted : Shifted above node rest here) where
   pub reattach_up : reattach rest here ≡ reattach above node
   reattach_up = ap (reattach rest) shifted.is ∙ sym (ap (λ (t : Tree). reattach t node) shifted.was)
@@ -203,7 +203,7 @@ both_sides t left right facts left_facts is onto made normal has =
 -- ---- parts
 
 module _ (now : List Node) (i : ℕ) (in_row : i < length now) (new : Node) where
-  -- the parts so far, and this one
+  -- the parts so far, with the current one
   pub taken : trees (take (i + 1) (set now i new)) ≡ row_append (trees (take i now)) (more_trees (tree new) no_trees)
   taken = ap trees (take_more_set now i new in_row) ∙ trees-append (take i now) (new ∷ [])
 

@@ -1,4 +1,4 @@
--- What a node around a body in normal form becomes, and why.
+-- What a node becomes whose body is in normal form, and why.
 use Rattle.std.proofs.Common.{◌≡◌, ◌⊎◌, ℕ, zero, suc, inl, inr, Bool, true, false, not, ◌&&◌, ◌||◌, [], List, nat_le, Result, Ok, Err, refl, sym, ap, ap₂, subst, ◌∙◌}
 use Rattle.std.specs.Prelude.{IsErr}
 use Rattle.std.specs.declared.alloc.AllocError.{AllocError}
@@ -35,9 +35,9 @@ use Rattle.regress_normalize.proofs.GoalLemmas.{wrapped_goal}
 use Rattle.regress_normalize.proofs.NormalLemmas.{empty_normal, nothing_normal}
 use Rattle.regress_normalize.proofs.PackedLemmas.{RowIsNormal-append}
 
--- ---- what is finished
+-- ---- finished nodes
 
--- what asks something of a wrapper
+-- the shapes that a node around a body can have
 pub record LacksAtRoot (t : Tree) : Type 0 where
   pub unrolled : is_unrolled_away t ≡ false
   pub promoted : is_promoted_away t ≡ false
@@ -56,7 +56,7 @@ IsNormal-wrapped w body normal lacks = record {
 }
 
 module _ (clean : Type 0) (d : Direction) (t : Tree) (no_goal : HasGoal t → ⊥) where
-  -- there was something to do
+  -- a node that had to change
   pub finished-changed : (clean → ⊥) → (new : Tree) (facts : PartFacts) → Keeps d t new → IsNormal new → HasFacts facts new →
       Finished clean d t new (Ok facts)
   finished-changed other new facts keeps normal has = record {
@@ -78,7 +78,7 @@ module _ (clean : Type 0) (d : Direction) (t : Tree) (no_goal : HasGoal t → �
     still_one = λ is_clean. tt;
   }
 
-  -- one step more
+  -- a node that changes in two steps
   pub finished-then : (clean → ⊥) → (mid new : Tree) (answer : Result PartFacts AllocError) → Keeps d t mid → Normalized d mid new answer →
       Finished clean d t new answer
   finished-then other mid new answer keeps rest = record {
@@ -92,7 +92,7 @@ module _ (clean : Type 0) (d : Direction) (t : Tree) (no_goal : HasGoal t → �
 
 -- ---- a loop that is not unrolled
 
--- what is emptied becomes `Empty`
+-- a node that matches only the empty text becomes `Empty`
 pub emptied_finished : (clean : Type 0) (d : Direction) (w : Wrapper) (body : Tree) → (clean → IsNormal (wrapped w body)) →
     is_emptied_away (wrapped w body) ≡ true → IsPart (wrapped w body) →
     (facts : PartFacts) → HasFacts facts (leaf empty) → Finished clean d (wrapped w body) (leaf empty) (Ok facts)
@@ -106,7 +106,7 @@ module _ (facts : PartFacts) (q : Quantifier) (start end : ℕ) (body : Tree) (n
   abbrev around : Tree
   around = wrapped (loop q start end) body
 
-  -- it is, or was, one character
+  -- the body matches one character, or did before it was formed into bytes
   abbrev IsOne : Type 0
   IsOne = (facts.was_one_character ≡ true) ⊎ (matches_exactly_one_char body ≡ true)
 
@@ -121,7 +121,7 @@ module _ (facts : PartFacts) (q : Quantifier) (start end : ℕ) (body : Tree) (n
       true≢false (sym is ∙ LacksShape-here is_promoted_away around clean.0.promoted)
 
   module _ (d : Direction) (part : IsPart around) (new : PartFacts) where
-    -- what the loop becomes in this form
+    -- the loop in this form is in normal form and has the facts
     pub form_finished : (form : LoopForm) → TakesForm form facts q start end body → HasFacts new (in_form form q start end body) →
         new.was_one_character ≡ false → may_unroll q start end body ≡ false →
         Finished (IsCleanAround facts around) d around (in_form form q start end body) (Ok new)
@@ -148,20 +148,20 @@ module _ (facts : PartFacts) (q : Quantifier) (start end : ℕ) (body : Tree) (n
       still_one = λ clean was. absurd (true≢false (sym was ∙ many));
     }
 
--- it is no `Cat`
+-- the loop in this form is no `Cat`
 pub form_no_cat : (form : LoopForm) (q : Quantifier) (start end : ℕ) (body : Tree) → is_cat (in_form form q start end body) ≡ false
 form_no_cat (OneCharacter room) q start end body = refl
 form_no_cat Empty q start end body = refl
 form_no_cat AlwaysFails q start end body = refl
 form_no_cat Stays q start end body = refl
 
--- ---- copies in a row
+-- ---- copies as parts
 
 RowIsNormal-copies : (n : ℕ) (t : Tree) → IsNormal t → RowIsNormal (copies n t)
 RowIsNormal-copies zero t normal = tt
 RowIsNormal-copies (suc n) t normal = (normal, RowIsNormal-copies n t normal)
 
--- ---- what a node holds
+-- ---- the body of a node
 
 abbrev body_of : Tree → Tree
 body_of (leaf l) = leaf l
@@ -169,7 +169,7 @@ body_of (cat parts) = cat parts
 body_of (alt left right) = alt left right
 body_of (wrapped w body) = body
 
--- the body is the one that was told of
+-- the body is in normal form and has the facts
 pub record HoldsBody (facts : PartFacts) (body : Tree) : Type 0 where
   pub normal : IsNormal body
   pub has : HasFacts facts body
@@ -190,7 +190,7 @@ module _ (facts : PartFacts) (q : Quantifier) (start end : ℕ) (body : Tree) (t
 
 -- ---- a loop that is unrolled
 
--- a loop that must take no turn is not
+-- a loop with no required iteration is not unrolled
 further-stays : (q : Quantifier) (start end : ℕ) (body : Tree) → may_unroll (further_turns q) start end body ≡ false
 further-stays q start end body = by (nat_le end start)
   where
@@ -220,7 +220,7 @@ module _ (facts : PartFacts) (q : Quantifier) (start end : ℕ) (body : Tree) (h
     };
   }
 
-  -- the copies, and what the loop of the turns that may follow becomes
+  -- the copies, and what the loop of the further iterations becomes
   module _ (more : is_zero (further_turns q).max ≡ false) (plan : LoopPlan) (planned : IsPlanned facts (further_turns q) start end body plan) where
     abbrev rest : Tree
     rest = wrapped (loop (further_turns q) start end) body
@@ -250,7 +250,7 @@ module _ (facts : PartFacts) (q : Quantifier) (start end : ℕ) (body : Tree) (h
       };
     }
 
--- a loop that is unrolled, and the row that it becomes
+-- a loop that is unrolled, and the list of parts that it becomes
 module _ (d : Direction) (t mid : Tree) (parts : Result RowFacts AllocError) (finished : HasFinishedParts d t mid parts)
     (facts : PartFacts) (holds : IsWrapperOf facts t) where
   no_goal : HasGoal t → ⊥
@@ -263,7 +263,7 @@ module _ (d : Direction) (t mid : Tree) (parts : Result RowFacts AllocError) (fi
   row_error (Ok known) err = absurd (false≢true err)
   row_error (Err e) err = finished-changed_error ⊥ d t no_goal (λ none. none) mid e finished.keeps
 
--- what is clean in a narrower sense
+-- a finished node under a stronger condition
 pub finished_narrower : (wide narrow : Type 0) (d : Direction) (t new : Tree) (answer : Result PartFacts AllocError) → (narrow → wide) →
     Finished wide d t new answer → Finished narrow d t new answer
 finished_narrower wide narrow d t new answer narrower finished = record {
@@ -275,7 +275,7 @@ finished_narrower wide narrow d t new answer narrower finished = record {
   still_one = λ clean. finished.still_one (narrower clean);
 }
 
--- what is known of a body tells whether a loop around it is unrolled
+-- the facts of a body decide whether a loop around it is unrolled
 pub told_by_facts : (q : Quantifier) (start end : ℕ) (body : Tree) (facts : PartFacts) → HasFacts facts body →
     may_unroll_by q start end facts.has_loop facts.has_string_set facts.charge facts.levels ≡ may_unroll q start end body
 told_by_facts q start end body facts has = rw (has.has_loop, has.has_string_set, has.charge, has.levels) refl
@@ -286,7 +286,7 @@ clean_normal facts (cat parts) clean = clean
 clean_normal facts (alt left right) clean = clean
 clean_normal facts (wrapped w body) clean = clean.0
 
--- what is clean is no loop that may be unrolled
+-- a loop that is unrolled was not in normal form
 pub unrolled_not_clean : (facts : PartFacts) (t : Tree) (q : Quantifier) (start end : ℕ) (body : Tree) → t ≡ wrapped (loop q start end) body →
     may_unroll q start end body ≡ true → IsCleanAround facts t → ⊥
 unrolled_not_clean facts t q start end body is may clean =

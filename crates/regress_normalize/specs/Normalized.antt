@@ -1,4 +1,4 @@
--- What normalizing makes of a part.
+-- The effect of normalizing a part of a tree.
 use Rattle.std.specs.Prelude.{◌≡◌, ◌⊎◌, true, [], Result, IfOk, OnOk}
 use Rattle.std.specs.declared.alloc.AllocError.{AllocError}
 use Rattle.regress_tree.specs.NodeTests.{is_goal}
@@ -12,37 +12,38 @@ use Rattle.regress_normalize.specs.PartFacts.{HasFacts, IsStillOne, HasRowFacts}
 use Rattle.regress_normalize.specs.declared.facts.PartFacts.{PartFacts}
 use Rattle.regress_normalize.specs.declared.facts.RowFacts.{RowFacts}
 
--- it or a part of it is `Goal`, or it is a set of nothing
+-- the tree or one of its parts is `Goal`, or it is an empty set
 abbrev pub HasGoal : Tree → Type 0
 HasGoal t = (some_in_row is_goal (parts_of t) ≡ true) ⊎ (t ≡ leaf (byte_set []))
 
--- The new tree stands for the old one, whatever is answered. Unless memory was wanting it is in normal form and has the facts.
+-- The new tree keeps what the law requires, whatever the result is. Unless an allocation failed it is in normal form
+-- and has the facts.
 pub record Finished (clean : Type 0) (d : Direction) (old new : Tree) (answer : Result PartFacts AllocError) : Type 0 where
   pub keeps : Keeps d old new
   pub goal : HasGoal old → HasGoal new
   pub normal : OnOk answer (IsNormal new)
   pub facts : IfOk answer (λ facts. HasFacts facts new)
-  -- and what is clean is left as it is
+  -- a tree that satisfies `clean` is unchanged
   pub left : clean → new ≡ old
   pub still_one : clean → IfOk answer (λ facts. IsStillOne facts new)
 
--- clean is what is in normal form
+-- Normalizing leaves a tree unchanged that is in normal form.
 abbrev pub Normalized : Direction → (old new : Tree) → Result PartFacts AllocError → Type 0
 Normalized d old new answer = Finished (IsNormal old) d old new answer
 
--- what holds a part with these facts is clean if it is in normal form, and they promote no loop that stands
+-- a node around a body with these facts is in normal form, and the facts promote no further loop
 abbrev pub IsCleanAround : PartFacts → Tree → Type 0
 IsCleanAround facts (leaf l) = IsNormal (leaf l)
 IsCleanAround facts (cat parts) = IsNormal (cat parts)
 IsCleanAround facts (alt left right) = IsNormal (alt left right)
 IsCleanAround facts (wrapped w body) = IsNormal (wrapped w body) × IsStillOne facts body
 
--- each tree of the row is in normal form
+-- each tree of the list is in normal form
 abbrev pub RowIsNormal : Trees → Type 0
 RowIsNormal no_trees = Unit {0}
 RowIsNormal (more_trees t ts) = IsNormal t × RowIsNormal ts
 
--- ---- nodes whose children are in normal form, with what is known of these
+-- ---- nodes whose children are in normal form, with their facts
 
 pub record IsCatOf (row : RowFacts) (t : Tree) : Type 0 where
   pub parts : Trees

@@ -1,4 +1,4 @@
--- What packing makes of a row: an `Empty` is left out, and two neighbouring byte sequences become one.
+-- Packing a list of parts: each `Empty` is left out, and neighbouring byte sequences become one.
 use Rattle.std.specs.Prelude.{◌≡◌, ℕ, ◌+◌, ◌≤◌, Bool, true, false, ◌++◌, max}
 use Rattle.regress_tree.specs.Measures.{total_in_row, levels_of_deepest}
 use Rattle.regress_tree.specs.NodeTests.{is_empty, is_goal, match_always_fails}
@@ -13,18 +13,18 @@ use Rattle.regress_normalize.specs.Normalized.{RowIsNormal}
 use Rattle.regress_normalize.specs.declared.facts.PartFacts.{PartFacts}
 use Rattle.regress_normalize.specs.declared.facts.RowFacts.{RowFacts}
 
--- the parts in the order in which the text has what they match
+-- the parts in the order of the text that they match
 abbrev pub in_text_order : Direction → Trees → Trees
 in_text_order forwards ts = ts
 in_text_order backwards ts = row_reverse ts
 
--- The new row stands for the old one, and what is known of it tells what is known of the new one.
+-- The new list may replace the old one, and its facts follow from those of the old one.
 pub record Packs (d : Direction) (old new : Trees) : Type 0 where
   pub keeps : Keeps d (cat old) (cat new)
   pub normal : RowIsNormal old → RowIsNormal new
   pub cats : has_cat new ≡ has_cat old
   pub fewer : row_length new ≤ row_length old
-  -- each part that is taken away is charged as one
+  -- each part that is removed reduces the size by one
   pub charge : total_in_row charges new + row_length old ≡ total_in_row charges old + row_length new
   pub levels : max 1 (levels_of_deepest new) ≡ max 1 (levels_of_deepest old)
   pub wrappers : (test : Wrapper → Bool) → some_node_in_row (on_wrapper test) new ≡ some_node_in_row (on_wrapper test) old
@@ -32,24 +32,24 @@ pub record Packs (d : Direction) (old new : Trees) : Type 0 where
   pub fails : some_in_row match_always_fails new ≡ some_in_row match_always_fails old
   pub goals : some_in_row is_goal new ≡ some_in_row is_goal old
 
--- There is nothing to pack.
+-- there is nothing to pack
 pub record IsPacked (ts : Trees) : Type 0 where
   pub no_empty : some_in_row is_empty ts ≡ false
   pub no_neighbours : has_neighbours has_bytes ts ≡ false
 
--- A tree has taken the bytes of the part behind it.
+-- a part has taken the bytes of the part after it
 pub record TakesBytes (old part new : Tree) : Type 0 where
   pub own : has_bytes old ≡ true
   pub more : has_bytes part ≡ true
   pub is : new ≡ leaf (byte_sequence (bytes_of old ++ bytes_of part))
 
--- The row is spliced and packed, and so many parts were taken away.
+-- The list is spliced and packed, and `taken` parts were removed.
 pub record IsRowPacked (d : Direction) (old new : Trees) (taken : ℕ) : Type 0 where
   pub packs : Packs d (spliced old) new
   pub packed : IsPacked new
   pub count : taken + row_length new ≡ row_length (spliced old)
 
--- What is known of what stands for a packed row, with a `Cat` around it or none.
+-- The facts of what replaces a packed list: a `Cat` of it (`around` is 1), or its one part (`around` is 0).
 pub record IsFactsOf (row : RowFacts) (taken around : ℕ) (facts : PartFacts) : Type 0 where
   pub charge : facts.charge + taken ≡ row.charge + around
   pub levels : facts.levels ≡ row.levels + around

@@ -1,4 +1,4 @@
--- What is known of parts in normal form.
+-- Facts about parts in normal form.
 use Rattle.std.specs.Prelude.{◌≡◌, ℕ, true, IsTrue, max}
 use Rattle.regress_tree.specs.Measures.{total_in_row, levels, levels_of_deepest}
 use Rattle.regress_tree.specs.NodeTests.{match_always_fails, matches_exactly_one_char}
@@ -10,11 +10,12 @@ use Rattle.regress_rewrite.specs.Splice.{spliced}
 use Rattle.regress_normalize.specs.declared.facts.PartFacts.{PartFacts}
 use Rattle.regress_normalize.specs.declared.facts.RowFacts.{RowFacts}
 
--- a loop over one character may hold it
+-- the tree may be the body of a `Loop1CharBody`
 abbrev pub StandsAsOne : Tree → Type 0
 StandsAsOne t = (n : ℕ) → MayStand n t one_character
 
--- Each fact but the last is the part's own, as it stands; the last one may promote a loop only where that may hold the part.
+-- The facts are those of the tree. But `was_one_character` states only that a loop around the tree may become a
+-- `Loop1CharBody`.
 pub record HasFacts (facts : PartFacts) (t : Tree) : Type 0 where
   pub charge : facts.charge ≡ charge t
   pub levels : facts.levels ≡ levels t
@@ -24,14 +25,14 @@ pub record HasFacts (facts : PartFacts) (t : Tree) : Type 0 where
   pub always_fails : facts.always_fails ≡ match_always_fails t
   pub one : IsTrue facts.was_one_character → StandsAsOne t
 
--- what was one character is one as it stands
+-- a tree that was one character still matches exactly one character
 abbrev pub IsStillOne : PartFacts → Tree → Type 0
 IsStillOne facts t = IsTrue facts.was_one_character → matches_exactly_one_char t ≡ true
 
--- What is known of a row, where the parts of a `Cat` count in its place.
+-- The facts of a list of parts, where each `Cat` counts as its parts.
 pub record HasRowFacts (facts : RowFacts) (ts : Trees) : Type 0 where
   pub charge : facts.charge ≡ total_in_row charges (spliced ts)
-  -- one where there is no part
+  -- 1 if there is no part
   pub levels : facts.levels ≡ max 1 (levels_of_deepest (spliced ts))
   pub has_group : facts.has_group ≡ some_node_in_row (on_wrapper is_group) ts
   pub has_loop : facts.has_loop ≡ some_node_in_row (on_wrapper is_loop) ts

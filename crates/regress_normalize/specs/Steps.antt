@@ -1,4 +1,4 @@
--- Steps on the way to the normal form.
+-- Steps to the normal form.
 use Rattle.std.specs.Prelude.{◌≡◌, Bool, true, false}
 use Rattle.regress_tree.specs.Copies.{is_leaf}
 use Rattle.regress_tree.specs.NormalForm.{IsNormal}
@@ -9,21 +9,21 @@ use Rattle.regress_normalize.specs.Normalized.{HasGoal}
 use Rattle.regress_normalize.specs.PartFacts.{HasFacts}
 use Rattle.regress_normalize.specs.declared.facts.PartFacts.{PartFacts}
 
--- What normalizing some of a tree keeps, whatever it answers.
+-- What normalizing part of a tree keeps, whatever the result is.
 pub record StandsFor (d : Direction) (old new : Tree) : Type 0 where
   pub keeps : Keeps d old new
   pub goal : HasGoal old → HasGoal new
-  -- what is in normal form is left as it is
+  -- a tree in normal form is unchanged
   pub left : IsNormal old → new ≡ old
 
--- What removing one kind of shape from a node that holds no node keeps, whatever it answers.
+-- What removing one kind of shape from a leaf keeps, whatever the result is.
 pub record Clears (removes : Tree → Bool) (old new : Tree) : Type 0 where
   pub keeps : (d : Direction) → Keeps d old new
   pub leaf : is_leaf new ≡ true
-  -- without the shape it is left as it is
+  -- a leaf without the shape is unchanged
   pub left : removes old ≡ false → new ≡ old
 
--- an `Alt` whose right side is in normal form, with what is known of that
+-- an `Alt` whose right side is in normal form and has these facts
 pub record IsAltOnto (right_facts : PartFacts) (t : Tree) : Type 0 where
   pub left : Tree
   pub right : Tree

@@ -1,4 +1,4 @@
--- Steps on the way of a loop into normal form.
+-- Steps to the normal form of a loop.
 use Rattle.std.specs.Prelude.{◌≡◌, ◌⊎◌, ℕ, true, false, [], Result, IfOk}
 use Rattle.std.specs.declared.alloc.AllocError.{AllocError}
 use Rattle.regress_base.specs.declared.types.Quantifier.{Quantifier}
@@ -27,14 +27,14 @@ pub record IsLoopOf (facts : PartFacts) (t : Tree) : Type 0 where
   pub normal : IsNormal body
   pub has : HasFacts facts body
 
--- what a loop of these becomes
+-- a loop in this form
 abbrev pub in_form : LoopForm → Quantifier → (start end : ℕ) → Tree → Tree
 in_form (OneCharacter room) q start end body = wrapped (loop_one q) body
 in_form Empty q start end body = leaf empty
 in_form AlwaysFails q start end body = leaf (byte_set [])
 in_form Stays q start end body = wrapped (loop q start end) body
 
--- what a loop becomes, and any other tree as it is
+-- a loop in this form; any other tree is unchanged
 abbrev pub loop_in_form : LoopForm → Tree → Tree
 loop_in_form form (wrapped (loop q start end) body) = in_form form q start end body
 loop_in_form form t = t
@@ -43,7 +43,7 @@ abbrev pub IsOneCharacter : LoopForm → Type 0
 IsOneCharacter (OneCharacter room) = Unit {0}
 IsOneCharacter form = ⊥
 
--- Why a loop takes the form. It stays where nothing but unrolling has anything to remove.
+-- The reason for which a loop takes the form. It stays a loop if no rewrite but unrolling has anything to remove.
 abbrev pub TakesForm : LoopForm → PartFacts → Quantifier → (start end : ℕ) → Tree → Type 0
 TakesForm (OneCharacter room) facts q start end body = (facts.was_one_character ≡ true) ⊎ (matches_exactly_one_char body ≡ true)
 TakesForm Empty facts q start end body = is_empty_wrapper (loop q start end) body ≡ true
@@ -52,13 +52,14 @@ TakesForm Stays facts q start end body =
     (matches_exactly_one_char body ≡ false) × (is_empty_wrapper (loop q start end) body ≡ false)
     × (is_failed_away (wrapped (loop q start end) body) ≡ false)
 
--- A loop takes the form for a reason, and what it becomes has the facts.
+-- The form of a loop has a reason, and the loop in this form has the facts.
 pub record IsPlanned (body_facts : PartFacts) (q : Quantifier) (start end : ℕ) (body : Tree) (plan : LoopPlan) : Type 0 where
   pub takes : TakesForm plan.form body_facts q start end body
   pub has : HasFacts plan.facts (in_form plan.form q start end body)
   pub many : plan.facts.was_one_character ≡ false
 
--- What is there stands for the old tree, and unless memory was wanting it is a `Cat` of parts in normal form with the facts.
+-- The new tree keeps what the law requires. Unless an allocation failed it is a `Cat` of parts in normal form with
+-- these facts.
 pub record HasFinishedParts (d : Direction) (old new : Tree) (answer : Result RowFacts AllocError) : Type 0 where
   pub keeps : Keeps d old new
   pub parts : IfOk answer (λ row. IsCatOf row new)

@@ -1,4 +1,4 @@
-//! An `Alt` whose sides are in normal form.
+//! Normalizes an `Alt` whose sides are in normal form.
 ghost use Rattle.std.specs.Prelude.{◌≡◌, false, ◌&&◌, IfOk};
 ghost use Rattle.regress_tree.specs.NodeTests.{is_empty};
 ghost use Rattle.regress_tree.specs.Reading.{Direction};
@@ -13,7 +13,13 @@ use regress_tree::ir::Node;
 use std::alloc::AllocError;
 use std::{cmp, mem};
 
-/// Brings an `Alt` of sides in normal form, with these facts, into normal form.
+/// Brings an `Alt` into normal form whose sides are in normal form and have these facts.
+///
+/// # Preconditions
+/// The node is such an `Alt`, and part of a well-formed tree.
+///
+/// # Errors
+/// Returns [`AllocError`] if a size exceeds `usize::MAX`, which no tree in memory has.
 pub fn finish_alt(
     node: &mut Node,
     left: &PartFacts,
@@ -40,14 +46,14 @@ pub fn finish_alt(
     join(left, right)
 }
 
-/// Whether both sides are `Empty`.
+/// Returns whether both sides are `Empty`.
 fn has_empty_sides(node: &Node) -> bool
     ensures { (left right : Tree) → tree node.now ≡ alt left right → result ≡ (is_empty left && is_empty right) }
 {
     matches!(node, Node::Alt(left, right) if left.is_empty() && right.is_empty())
 }
 
-/// Puts the left side in the place of an `Alt`.
+/// Replaces an `Alt` by its left side.
 fn take_left(node: &mut Node)
     ensures { (left right : Tree) → tree node.old ≡ alt left right → tree node.new ≡ left }
 {
@@ -56,7 +62,7 @@ fn take_left(node: &mut Node)
     }
 }
 
-/// Puts the right side in the place of an `Alt`.
+/// Replaces an `Alt` by its right side.
 fn take_right(node: &mut Node)
     ensures { (left right : Tree) → tree node.old ≡ alt left right → tree node.new ≡ right }
 {
@@ -65,7 +71,7 @@ fn take_right(node: &mut Node)
     }
 }
 
-/// What is known of a side in the place of an `Alt`, which was not one character.
+/// Returns the facts of a side that replaces an `Alt`; the `Alt` was not one character.
 fn alone(side: &PartFacts) -> PartFacts
     ensures { (t : Tree) → HasFacts side.now t → HasFacts result t }
 {
@@ -75,8 +81,8 @@ fn alone(side: &PartFacts) -> PartFacts
     }
 }
 
-/// What is known of an `Alt` by its sides. The error comes where the charge or the levels are more than
-/// `usize::MAX`: no memory holds such a tree.
+/// Returns the facts of an `Alt` from those of its sides. It fails if the charge or the nesting depth exceeds
+/// `usize::MAX`, which no tree in memory has.
 fn join(left: &PartFacts, right: &PartFacts) -> Result<PartFacts, AllocError>
     ensures has { (first second : Tree) → HasFacts left.now first → HasFacts right.now second →
         IfOk result (λ facts. HasFacts facts (alt first second)) }

@@ -1,4 +1,4 @@
-//! A `Cat` whose parts are in normal form.
+//! Normalizes a `Cat` whose parts are in normal form.
 ghost use Rattle.std.specs.Prelude.{◌≡◌, ◌⊎◌, ◌≤◌, ◌||◌, true, false, MatchBool, IfOk, OnOk, OnErr, IfSome, None};
 ghost use Rattle.regress_tree.specs.NodeTests.{is_empty, is_goal};
 ghost use Rattle.regress_tree.specs.Reading.{Direction};
@@ -18,8 +18,16 @@ use regress_rewrite::remove_empties::{leave_out_empties, stand_in};
 use regress_tree::ir::{Node, NodeList, Walk};
 use std::alloc::{AllocError, Global};
 
-/// Brings a `Cat` of parts in normal form, with these facts, into normal form. The time grows as the parts do, those of
-/// a part that is a `Cat` counted in its place, and as the bytes that are joined.
+/// Brings a `Cat` into normal form whose parts are in normal form and have these facts.
+///
+/// # Preconditions
+/// The node is such a `Cat`, and part of a well-formed tree.
+///
+/// # Complexity
+/// Linear in the parts, where a part that is a `Cat` counts as its parts, and in the bytes that are joined.
+///
+/// # Errors
+/// Returns [`AllocError`] if an allocation fails. The parts may be packed in part; the node has the same meaning.
 pub fn finish_cat(
     alloc: Global,
     node: &mut Node,
@@ -48,8 +56,11 @@ pub fn finish_cat(
     facts_of(row, taken, false)
 }
 
-/// What is known of a `Cat` of these parts once so many were taken away, or of the one part that is left. Each is
-/// charged as one.
+/// Returns the facts of a `Cat` of these parts after `taken` of them were removed, or of the one part that remains.
+/// Each part that is removed is charged as one.
+///
+/// # Preconditions
+/// `taken` is at most the charge of the parts.
 fn facts_of(row: &RowFacts, taken: usize, cat: bool) -> Result<PartFacts, AllocError>
     requires { taken ≤ row.now.charge }
     ensures cat { cat ≡ true → IfOk result (IsFactsOf row.now taken 1) }
@@ -67,8 +78,8 @@ fn facts_of(row: &RowFacts, taken: usize, cat: bool) -> Result<PartFacts, AllocE
     })
 }
 
-/// Puts the parts of each `Cat` in its place, leaves out each `Empty`, and joins the bytes of neighbours. It answers
-/// how many parts were taken away. After an error the row means what it did.
+/// Replaces each `Cat` by its parts, removes each `Empty`, and joins the bytes of neighbours. Returns the number of
+/// parts removed. After an error the list has the same meaning.
 fn pack(alloc: Global, parts: &mut NodeList, walk: &Walk) -> Result<usize, AllocError>
     ensures keeps { Keeps (direction_of walk.now) (cat (trees parts.old.items)) (cat (trees parts.new.items)) }
     ensures packed { IfOk result (IsRowPacked (direction_of walk.now) (trees parts.old.items) (trees parts.new.items)) }
@@ -81,7 +92,7 @@ fn pack(alloc: Global, parts: &mut NodeList, walk: &Walk) -> Result<usize, Alloc
     Ok(len - parts.len())
 }
 
-/// Puts the parts of each `Cat` in its place.
+/// Replaces each `Cat` in a list by its parts.
 fn splice_cats(alloc: Global, parts: &mut NodeList) -> Result<(), AllocError>
     ensures ok { OnOk result (trees parts.new.items ≡ spliced (trees parts.old.items)) }
     ensures err { OnErr result (trees parts.new.items ≡ trees parts.old.items) }
@@ -92,14 +103,14 @@ fn splice_cats(alloc: Global, parts: &mut NodeList) -> Result<(), AllocError>
     splice(alloc, parts)
 }
 
-/// Whether there is an `Empty`, or two neighbours have bytes.
+/// Returns whether there is an `Empty`, or two neighbours have bytes.
 fn has_seams(parts: &[Node]) -> bool
     ensures { result ≡ (some_in_row is_empty (trees parts.now) || has_neighbours has_bytes (trees parts.now)) }
 {
     parts.iter().any(Node::is_empty) || have_neighbours_bytes(parts)
 }
 
-/// Whether two neighbours have bytes.
+/// Returns whether two neighbours have bytes.
 fn have_neighbours_bytes(parts: &[Node]) -> bool
     ensures { result ≡ has_neighbours has_bytes (trees parts.now) }
 {
@@ -114,8 +125,8 @@ fn have_neighbours_bytes(parts: &[Node]) -> bool
     false
 }
 
-/// Leaves out each `Empty`, and joins the bytes of neighbours. Where the walk is in a lookbehind the parts stand turned:
-/// they are taken in the order of the text, so that bytes are always added at the end.
+/// Removes each `Empty`, and joins the bytes of neighbours. In a lookbehind the parts are reversed first, so that bytes
+/// are always appended in the order of the text.
 fn close_seams(parts: &mut NodeList, walk: &Walk) -> Result<(), AllocError>
     ensures packs { Packs (direction_of walk.now) (trees parts.old.items) (trees parts.new.items) }
     ensures packed { OnOk result (IsPacked (trees parts.new.items)) }
@@ -133,8 +144,8 @@ fn close_seams(parts: &mut NodeList, walk: &Walk) -> Result<(), AllocError>
     closed
 }
 
-/// Leaves out each `Empty`, and joins the bytes of neighbours, of which the first one's come first. It moves the parts in
-/// place, and asks for no memory but for bytes. Where that is refused, two neighbours stay apart.
+/// Removes each `Empty`, and joins the bytes of neighbours, where those of the earlier part come first. It works in
+/// place, and allocates memory only for bytes. If that fails, two neighbours remain separate.
 fn close_in_text_order(parts: &mut NodeList) -> Result<(), AllocError>
     ensures packs { (d : Direction) → Packs d (in_text_order d (trees parts.old.items)) (in_text_order d (trees parts.new.items)) }
     ensures packed { OnOk result (IsPacked (trees parts.new.items)) }
@@ -147,7 +158,7 @@ fn close_in_text_order(parts: &mut NodeList) -> Result<(), AllocError>
     Ok(())
 }
 
-/// Joins the bytes of neighbours. Where memory is refused for them, two neighbours stay apart.
+/// Joins the bytes of neighbours. If an allocation fails, two neighbours remain separate.
 fn join_neighbours(parts: &mut NodeList)
     ensures packs { (d : Direction) → Packs d (in_text_order d (trees parts.old.items)) (in_text_order d (trees parts.new.items)) }
     ensures empties { some_in_row is_empty (trees parts.new.items) ≡ some_in_row is_empty (trees parts.old.items) }
@@ -155,8 +166,8 @@ fn join_neighbours(parts: &mut NodeList)
     parts.dedup_by(|part, last| take_bytes(last, part));
 }
 
-/// Moves the bytes of a part behind those of the last one, if both have some and memory is given, and answers whether it
-/// did.
+/// Moves the bytes of `part` to the end of those of `last`, if both have some and no allocation fails, and returns
+/// whether it did.
 fn take_bytes(last: &mut Node, part: &mut Node) -> bool
     ensures { MatchBool result (TakesBytes (tree last.old) (tree part.old) (tree last.new))
         ((tree last.new ≡ tree last.old) × (tree part.new ≡ tree part.old)) }

@@ -1,4 +1,4 @@
-//! What is known of parts in normal form.
+//! Facts about parts in normal form.
 ghost use Rattle.std.specs.Prelude.{◌≡◌, not, ◌&&◌, OnOk};
 ghost use Rattle.regress_tree.specs.Tree.{Tree, Trees, no_trees, more_trees, row_append};
 ghost use Rattle.regress_tree.specs.Shapes.{is_cat, is_within, max_body_charge, max_body_levels};
@@ -8,28 +8,28 @@ use regress_rewrite::unroll_loops::{MAX_CHARGE, MAX_LEVELS};
 use std::alloc::AllocError;
 use std::cmp;
 
-/// What is known of a part in normal form, so that no question is asked of its nodes again.
+/// Facts about a part in normal form, so that its nodes need not be traversed again.
 #[derive(Clone, Copy)]
 pub struct PartFacts {
-    /// One for each node, and one more for each byte of a `ByteSequence`.
+    /// The charge: one for each node, and one more for each byte of a `ByteSequence`.
     pub charge: usize,
-    /// One, and the levels of the deepest part.
+    /// The nesting depth of nodes, where a leaf has depth 1.
     pub levels: usize,
-    /// Whether it is a capture group, or one lies inside.
+    /// Whether the part is or contains a capture group.
     pub has_group: bool,
-    /// Whether it is a loop of either kind, or one lies inside.
+    /// Whether the part is or contains a loop of either kind.
     pub has_loop: bool,
-    /// Whether it is a `StringSet`, or one lies inside.
+    /// Whether the part is or contains a `StringSet`.
     pub has_string_set: bool,
-    /// Whether it is a set or a bracket that accepts nothing.
+    /// Whether the part is a set or a bracket that accepts nothing.
     pub always_fails: bool,
-    /// Whether it matched exactly one character before literals were formed, as far as is looked at. A loop
-    /// over it becomes one over one character.
+    /// Whether the part was seen to match exactly one character before literals were formed. A loop around it becomes a
+    /// `Loop1CharBody`.
     pub was_one_character: bool,
 }
 
 impl PartFacts {
-    /// Whether it is small enough to be copied for each turn of a loop around it.
+    /// Returns whether the part is small enough to be copied for each iteration of a loop around it.
     pub fn may_be_copied(&self) -> bool
         ensures { result ≡ is_within max_body_levels max_body_charge self.now.has_loop self.now.has_string_set self.now.charge self.now.levels }
     {
@@ -40,23 +40,23 @@ impl PartFacts {
     }
 }
 
-/// What is known of parts in a row, each in normal form. A part that is a `Cat` counts as its parts do.
+/// Facts about a list of parts in normal form. A part that is a `Cat` counts as its parts.
 #[derive(Drop)]
 pub struct RowFacts {
-    /// That of all parts together.
+    /// The charge of all parts together.
     pub charge: usize,
-    /// The levels of the deepest part, and one where there is none.
+    /// The nesting depth of the deepest part, and 1 if there is none.
     pub levels: usize,
-    /// Whether one of them has a capture group, a loop, a `StringSet`.
+    /// Whether one of the parts has a capture group, a loop, a `StringSet`.
     pub has_group: bool,
     pub has_loop: bool,
     pub has_string_set: bool,
-    /// Whether one of them always fails.
+    /// Whether one of the parts always fails.
     pub some_fails: bool,
 }
 
 impl RowFacts {
-    /// Of no part.
+    /// Returns the facts of an empty list.
     pub fn none() -> RowFacts
         ensures { HasRowFacts result no_trees }
     {
@@ -70,13 +70,15 @@ impl RowFacts {
         }
     }
 
-    /// With one part more, behind the others. The error comes where the charge is more than `usize::MAX`: no
-    /// memory holds such a tree.
+    /// Adds the facts of one more part at the end; `cat` states whether it is a `Cat`.
+    ///
+    /// # Errors
+    /// Returns [`AllocError`] if the charge exceeds `usize::MAX`, which no tree in memory has.
     pub fn add(&mut self, part: &PartFacts, cat: bool) -> Result<(), AllocError>
         ensures { (ts : Trees) (t : Tree) → HasRowFacts self.old ts → HasFacts part.now t → cat ≡ is_cat t →
             OnOk result (HasRowFacts self.new (row_append ts (more_trees t no_trees))) }
     {
-        // The parts of a `Cat` stand in its place.
+        // The parts of a `Cat` are counted without the `Cat`.
         let around = usize::from(cat);
         self.charge = self
             .charge
@@ -90,7 +92,8 @@ impl RowFacts {
         Ok(())
     }
 
-    /// Whether a `Cat` of them is to be a node that always fails: a part does, and no capture group would be lost.
+    /// Returns whether a `Cat` of the parts is replaced by a node that always fails: a part does, and there is no
+    /// capture group.
     pub fn always_fails(&self) -> bool
         ensures { result ≡ (self.now.some_fails && not self.now.has_group) }
     {

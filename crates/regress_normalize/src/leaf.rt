@@ -1,4 +1,4 @@
-//! A node that holds no node.
+//! Normalizes a leaf.
 ghost use Rattle.std.specs.Prelude.{◌≡◌, true, false, IsTrue, IfOk, OnOk};
 ghost use Rattle.regress_tree.specs.Copies.{is_leaf};
 ghost use Rattle.regress_tree.specs.Reading.{Direction};
@@ -17,21 +17,31 @@ use regress_rewrite::simplify_brackets::simplify_brackets;
 use regress_tree::ir::Node;
 use std::alloc::{AllocError, Global};
 
-/// Brings a node that holds no node into normal form.
+/// Brings a leaf into normal form.
+///
+/// # Preconditions
+/// The node is a leaf, and part of a well-formed tree.
+///
+/// # Errors
+/// Returns [`AllocError`] if an allocation fails. The node has the same meaning.
 pub fn finish_leaf(alloc: Global, node: &mut Node) -> Result<PartFacts, AllocError>
     requires part { IsPart (tree node.old) }
     requires leaf { is_leaf (tree node.old) ≡ true }
     ensures { (d : Direction) → Normalized d (tree node.old) (tree node.new) result }
 {
     simplify(alloc, node)?;
-    // As bytes a character is not told from several.
+    // Once it is bytes, one character can't be distinguished from several.
     let was_one_character = node.matches_exactly_one_char();
     form(alloc, node)?;
     clear(node);
     Ok(leaf_facts(node, was_one_character))
 }
 
-/// What is known of a node that holds no node, beside what it was.
+/// Returns the facts of a leaf, with `was_one_character` as given.
+///
+/// # Preconditions
+/// - The node is a leaf.
+/// - If `was_one_character` is set, the node may be the body of a `Loop1CharBody`.
 pub fn leaf_facts(node: &Node, was_one_character: bool) -> PartFacts
     requires leaf { is_leaf (tree node.now) ≡ true }
     requires one { IsTrue was_one_character → StandsAsOne (tree node.now) }
@@ -49,7 +59,7 @@ pub fn leaf_facts(node: &Node, was_one_character: bool) -> PartFacts
     }
 }
 
-/// One, and one more for each byte of a `ByteSequence`.
+/// Returns one, and one more for each byte of a `ByteSequence`.
 fn charge(node: &Node) -> usize
     requires { is_leaf (tree node.now) ≡ true }
     ensures { result ≡ charge (tree node.now) }
@@ -75,7 +85,7 @@ fn simplify(alloc: Global, node: &mut Node) -> Result<(), AllocError>
     }
 }
 
-/// Makes a character and a set of ASCII bytes.
+/// Replaces a character or a set of ASCII characters by bytes.
 fn form(alloc: Global, node: &mut Node) -> Result<(), AllocError>
     requires leaf { is_leaf (tree node.old) ≡ true }
     ensures clears { Clears is_formed_away (tree node.old) (tree node.new) }
@@ -86,7 +96,7 @@ fn form(alloc: Global, node: &mut Node) -> Result<(), AllocError>
     Ok(())
 }
 
-/// What is to be done with a character or a set of ASCII.
+/// Returns the action that replaces a character or a set of ASCII characters by bytes.
 fn formed(alloc: Global, node: &Node) -> Result<PassAction, AllocError>
     requires leaf { is_leaf (tree node.now) ≡ true }
     ensures clears { IfOk result (λ action. Clears is_formed_away (tree node.now) (after action (tree node.now))) }
@@ -99,7 +109,7 @@ fn formed(alloc: Global, node: &Node) -> Result<PassAction, AllocError>
     }
 }
 
-/// Makes a `ByteSequence` without a byte `Empty`.
+/// Replaces a `ByteSequence` without a byte by `Empty`.
 fn clear(node: &mut Node)
     requires part { IsPart (tree node.old) }
     requires leaf { is_leaf (tree node.old) ≡ true }
@@ -112,7 +122,7 @@ fn clear(node: &mut Node)
     }
 }
 
-/// Whether it is a `ByteSequence` without a byte.
+/// Returns whether the node is a `ByteSequence` without a byte.
 fn has_no_byte(node: &Node) -> bool
     requires { is_leaf (tree node.now) ≡ true }
     ensures { result ≡ is_emptied_away (tree node.now) }

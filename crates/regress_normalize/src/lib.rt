@@ -1,4 +1,5 @@
-//! A tree brought into normal form in one traversal, children before parents, on facts that travel beside it.
+//! Brings a tree into normal form in one traversal, children before parents, which returns facts about each part to its
+//! parent.
 #![tactic(auto)]
 
 mod alternatives;

@@ -20,8 +20,18 @@ use regress_tree::ir::spine::{left_mut, relink, shift};
 use regress_tree::ir::{Node, NodeList, Walk};
 use std::alloc::{AllocError, Global};
 
-/// Brings a part of a tree into normal form, and answers what is then known of it. Of the walk the direction alone is
-/// looked at. After an error some nodes are rewritten and others not; the part means what it did.
+/// Brings a part of a tree into normal form, and returns facts about the result. Of `walk` it uses only the direction.
+///
+/// # Preconditions
+/// The node is part of a well-formed tree.
+///
+/// # Complexity
+/// Each node is visited once, and the copies that unrolling makes are not visited again. Recursion is as deep as nodes
+/// are nested, where the right sides of alternatives don't count.
+///
+/// # Errors
+/// Returns [`AllocError`] if an allocation fails. Some nodes are rewritten then and others not; the part has the same
+/// meaning.
 #[cycle(normalize)]
 pub fn normalize(alloc: Global, node: &mut Node, walk: &Walk) -> Result<PartFacts, AllocError>
     requires { IsPart (tree node.old) }
@@ -38,7 +48,8 @@ pub fn normalize(alloc: Global, node: &mut Node, walk: &Walk) -> Result<PartFact
     }
 }
 
-/// Goes down the right sides of alternatives to the last one. What it has gone down is `above`, the last one first.
+/// Descends the right sides of alternatives to the last one. The nodes of the descent are in `above`, the last one
+/// first.
 fn go_down(node: &mut Node, above: &mut Node)
     requires { tree above.old ≡ leaf empty }
     ensures whole { reattach (tree above.new) (tree node.new) ≡ tree node.old }
@@ -47,8 +58,8 @@ fn go_down(node: &mut Node, above: &mut Node)
     while shift(node, above) {}
 }
 
-/// Brings the alternatives above a node, the last one first, into normal form. The node is their last right side, in
-/// normal form, with these facts.
+/// Brings the alternatives above a node into normal form, the last one first. The node is the right side of the last
+/// one, in normal form, with these facts.
 #[cycle(normalize)]
 fn normalize_up(
     alloc: Global,
@@ -77,7 +88,7 @@ fn normalize_up(
     Ok(right)
 }
 
-/// Brings an `Alt` into normal form whose right side is, with these facts.
+/// Brings an `Alt` into normal form whose right side is in normal form and has these facts.
 #[cycle(normalize)]
 fn normalize_alt(
     alloc: Global,
@@ -122,7 +133,7 @@ fn normalize_last(alloc: Global, node: &mut Node, walk: &Walk) -> Result<PartFac
     }
 }
 
-/// Puts the part of a `Cat` of one in its place, and tells whether it did.
+/// Replaces a `Cat` with one part by that part, and returns whether it did.
 fn take_only_part(node: &mut Node) -> bool
     ensures { MatchBool result (tree node.old ≡ cat (more_trees (tree node.new) no_trees)) (tree node.new ≡ tree node.old) }
 {
@@ -158,7 +169,7 @@ fn normalize_parts(alloc: Global, parts: &mut NodeList, walk: &Walk) -> Result<R
     Ok(row)
 }
 
-/// Brings the node that a node holds into normal form.
+/// Brings the body of a node into normal form.
 #[cycle(normalize)]
 fn normalize_body(alloc: Global, node: &mut Node, walk: &Walk) -> Result<PartFacts, AllocError>
     requires part { IsPart (tree node.old) }

@@ -1,4 +1,4 @@
-//! A node that holds one node, which is in normal form.
+//! Normalizes a node whose body is in normal form.
 ghost use Rattle.std.specs.Prelude.{◌≡◌, ℕ, true, false, not, ◌&&◌, IfOk};
 ghost use Rattle.regress_tree.specs.NodeTests.{is_empty};
 ghost use Rattle.regress_tree.specs.Reading.{Direction};
@@ -21,26 +21,32 @@ use std::alloc::{AllocError, Global};
 use std::mem;
 use std::ops::Range;
 
-/// What a loop that is not unrolled becomes.
+/// The form of a loop that is not unrolled.
 #[derive(Drop)]
 enum LoopForm {
-    /// A loop over one character, with room for that.
+    /// A `Loop1CharBody`, with a box for its body.
     OneCharacter(Box<Node>),
     Empty,
-    /// A set of nothing.
+    /// An empty set.
     AlwaysFails,
-    /// What it is.
+    /// A loop, unchanged.
     Stays,
 }
 
-/// What a loop that is not unrolled is to become, and what is then known of it.
+/// The form of a loop that is not unrolled, with the facts of the loop in this form.
 #[derive(Drop)]
 struct LoopPlan {
     form: LoopForm,
     facts: PartFacts,
 }
 
-/// Brings a node around a body in normal form, with these facts, into normal form.
+/// Brings a node into normal form whose body is in normal form and has these facts.
+///
+/// # Preconditions
+/// The node is a group, a loop or a lookaround with such a body, and part of a well-formed tree.
+///
+/// # Errors
+/// Returns [`AllocError`] if an allocation fails. The node has the same meaning.
 pub fn finish_wrapper(
     alloc: Global,
     node: &mut Node,
@@ -81,14 +87,14 @@ pub fn finish_wrapper(
     }
 }
 
-/// Whether a lookaround finds the empty text everywhere, as far as is looked at.
+/// Returns whether a lookaround is seen to hold everywhere: its body is `Empty`, and it is not negated.
 fn always_holds(negate: bool, contents: &Node) -> bool
     ensures { result ≡ (not negate && is_empty (tree contents.now)) }
 {
     !negate && contents.is_empty()
 }
 
-/// Whether a loop of these turns and groups around a body with these facts is unrolled.
+/// Returns whether a loop with this quantifier and these groups, around a body with these facts, is unrolled.
 fn may_unroll(quant: &Quantifier, groups: &Range<u16>, body: &PartFacts) -> bool
     ensures { result ≡ may_unroll_by quant.now groups.now.start groups.now.end
         body.now.has_loop body.now.has_string_set body.now.charge body.now.levels }
@@ -96,7 +102,7 @@ fn may_unroll(quant: &Quantifier, groups: &Range<u16>, body: &PartFacts) -> bool
     has_few_turns(quant, groups) && body.may_be_copied()
 }
 
-/// Unrolls a loop, and brings the row of its copies into normal form.
+/// Unrolls a loop, and brings the list of its copies into normal form.
 fn finish_unrolled(
     alloc: Global,
     node: &mut Node,
@@ -112,8 +118,8 @@ fn finish_unrolled(
     finish_cat(alloc, node, &row, walk)
 }
 
-/// Makes a loop a `Cat` of a copy of its body for each turn that it must take and of what the turns come to that may
-/// follow, and tells what is known of the row. All is planned, and all memory taken, before the loop is changed.
+/// Replaces a loop by a `Cat` of a copy of its body for each required iteration and of the form of the loop of further
+/// iterations, and returns the facts of these parts. All memory is allocated before the loop is changed.
 fn unroll(alloc: Global, node: &mut Node, body: &PartFacts) -> Result<RowFacts, AllocError>
     requires part { IsPart (tree node.old) }
     requires body { IsWrapperOf body.now (tree node.old) }
@@ -137,7 +143,7 @@ fn unroll(alloc: Global, node: &mut Node, body: &PartFacts) -> Result<RowFacts, 
     }
     let plan = plan_loop(alloc, loopee, &rest, enclosed_groups, body)?;
     row.add(&plan.facts, false)?;
-    // There is room for what follows: nothing fails from here on.
+    // The capacity suffices for the loop, so nothing fails from here on.
     *quant = rest;
     take_form(alloc, node, plan.form);
     parts.push(mem::replace(node, Node::Empty))?;
@@ -145,7 +151,7 @@ fn unroll(alloc: Global, node: &mut Node, body: &PartFacts) -> Result<RowFacts, 
     Ok(row)
 }
 
-/// What is known of so many copies of a part.
+/// Returns the facts of `times` copies of a part.
 fn copies_facts(part: &PartFacts, times: usize, cat: bool) -> Result<RowFacts, AllocError>
     ensures { (t : Tree) → HasFacts part.now t → cat ≡ is_cat t → IfOk result (λ row. HasRowFacts row (copies times t)) }
 {
@@ -156,7 +162,7 @@ fn copies_facts(part: &PartFacts, times: usize, cat: bool) -> Result<RowFacts, A
     Ok(row)
 }
 
-/// Brings a loop that is not unrolled, around a body in normal form, into normal form.
+/// Brings a loop into normal form that is not unrolled, and whose body is in normal form.
 fn finish_loop(alloc: Global, node: &mut Node, body: &PartFacts) -> Result<PartFacts, AllocError>
     requires part { IsPart (tree node.old) }
     requires inner { IsLoopOf body.now (tree node.old) }
@@ -175,7 +181,7 @@ fn finish_loop(alloc: Global, node: &mut Node, body: &PartFacts) -> Result<PartF
     Ok(plan.facts)
 }
 
-/// What a loop of these parts that is not unrolled is to become, and what is then known of it.
+/// Returns the form of a loop that is not unrolled, with the facts of the result.
 fn plan_loop(
     alloc: Global,
     loopee: &Node,
@@ -191,7 +197,7 @@ fn plan_loop(
     Ok(LoopPlan { form, facts })
 }
 
-/// What is known of what a loop around a body becomes in this form.
+/// Returns the facts of a loop in this form, from those of its body.
 fn facts_of(alloc: Global, form: &LoopForm, body: &PartFacts) -> Result<PartFacts, AllocError>
     ensures has { (q : Quantifier) (start end : ℕ) (t : Tree) → HasFacts body.now t →
         IfOk result (λ facts. HasFacts facts (in_form form.now q start end t)) }
@@ -205,7 +211,7 @@ fn facts_of(alloc: Global, form: &LoopForm, body: &PartFacts) -> Result<PartFact
     }
 }
 
-/// What a loop of these parts becomes, with the room that it takes.
+/// Returns the form of a loop that is not unrolled, with the memory that it needs.
 fn form_of(
     alloc: Global,
     loopee: &Node,
@@ -223,7 +229,7 @@ fn form_of(
         return Ok(LoopForm::Empty);
     }
     if quant.min > 0 && body.always_fails {
-        // A set or a bracket, so no group is inside.
+        // The body is a set or a bracket, so there is no group.
         return Ok(LoopForm::AlwaysFails);
     }
     if loopee.matches_exactly_one_char() {
@@ -232,14 +238,14 @@ fn form_of(
     Ok(LoopForm::Stays)
 }
 
-/// A loop over one character, with room for its body.
+/// Returns the form of a `Loop1CharBody`, with a box for its body.
 fn one_character(alloc: Global) -> Result<LoopForm, AllocError>
     ensures { IfOk result IsOneCharacter }
 {
     Ok(LoopForm::OneCharacter(Box::new(alloc, Node::Empty)?))
 }
 
-/// Makes a loop what it is to become. It takes no memory.
+/// Brings a loop into its form. It allocates no memory.
 fn take_form(alloc: Global, node: &mut Node, form: LoopForm)
     requires { on_loop (λ quantifier start end body. true) (tree node.old) ≡ true }
     ensures { tree node.new ≡ loop_in_form form (tree node.old) }
@@ -252,7 +258,7 @@ fn take_form(alloc: Global, node: &mut Node, form: LoopForm)
     }
 }
 
-/// Makes a loop one over one character.
+/// Replaces a `Loop` by a `Loop1CharBody`.
 fn promote(node: &mut Node, room: Box<Node>)
     requires { on_loop (λ quantifier start end body. true) (tree node.old) ≡ true }
     ensures { (q : Quantifier) (start end : ℕ) (body : Tree) → tree node.old ≡ wrapped (loop q start end) body →
@@ -264,7 +270,7 @@ fn promote(node: &mut Node, room: Box<Node>)
     *node = promoted(loopee, *quant, room);
 }
 
-/// What is known of a node around a part, and whether it is a capture group or a loop.
+/// Returns the facts of a node around a body, which is a capture group, or a loop, or neither.
 fn around(body: &PartFacts, group: bool, repeats: bool) -> Result<PartFacts, AllocError>
     ensures has { (w : Wrapper) (t : Tree) → HasFacts body.now t → group ≡ is_group w → repeats ≡ is_loop w →
         IfOk result (λ facts. HasFacts facts (wrapped w t)) }

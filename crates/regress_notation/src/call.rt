@@ -1,4 +1,4 @@
-//! A call as a line writes it: its fields, and what it comes to.
+//! A call in a test case: its fields and its result.
 ghost use Rattle.std.specs.Prelude.{◌≤◌, All};
 
 use crate::fault::{Fault, Promise};
@@ -11,8 +11,9 @@ use regress_base::types::Flags;
 use std::alloc::{AllocError, Global};
 use std::fmt::{Debug, Display, Write};
 
-/// A call: its fields, which are read from the left, and what it comes to. The first fault is kept, and what can't be read
-/// or made is empty from then on: so a call is a row of steps, none of which has to look back.
+/// A call: its fields, which are parsed from left to right, and its result. The first `Fault` is kept; a value that
+/// cannot be parsed or allocated is empty from then on. A call is thus a sequence of steps, none of which has to check
+/// the ones before it.
 #[derive(Drop)]
 pub struct Call<'a> {
     alloc: Global,
@@ -22,7 +23,7 @@ pub struct Call<'a> {
 }
 
 impl<'a> Call<'a> {
-    /// The call of these fields, which have a tab between them.
+    /// Returns the call with these fields, separated by tabs.
     pub fn new(alloc: Global, fields: &'a str) -> Call<'a> {
         Call {
             alloc,
@@ -32,7 +33,10 @@ impl<'a> Call<'a> {
         }
     }
 
-    /// What the call comes to, or its fault. A field that was not read is one.
+    /// Returns the call's result.
+    ///
+    /// # Errors
+    /// Returns the first [`Fault`], or [`Fault::Line`] if fields remain.
     pub fn finish(self) -> Result<String, Fault> {
         let Call {
             rest,
@@ -47,7 +51,10 @@ impl<'a> Call<'a> {
         }
     }
 
-    /// What the call comes to, if it should come to something else.
+    /// Returns the call's result if it is not the expected one.
+    ///
+    /// # Errors
+    /// As [`Call::finish`].
     pub fn difference(self, expected: &str) -> Result<Option<String>, Fault> {
         let found = self.finish()?;
         Ok(if found.as_str() == expected {
@@ -57,33 +64,33 @@ impl<'a> Call<'a> {
         })
     }
 
-    /// The allocator of what the call makes.
+    /// Returns the allocator for values of the call.
     pub fn alloc(&self) -> Global {
         self.alloc
     }
 
-    /// Keeps a fault, if it is the first.
+    /// Records a `Fault`, if it is the first.
     pub fn fail(&mut self, fault: Fault) {
         if self.fault.is_none() {
             self.fault = Some(fault);
         }
     }
 
-    /// Says that the call keeps what it promises.
+    /// Records a broken promise unless `is_kept`.
     pub fn check(&mut self, is_kept: bool, promise: Promise) {
         if !is_kept {
             self.fail(Fault::Broken(promise));
         }
     }
 
-    /// What was done, unless memory was wanting.
+    /// Records a failed allocation, if `done` is one.
     pub fn done(&mut self, done: Result<(), AllocError>) {
         if done.is_err() {
             self.fail(Fault::Memory);
         }
     }
 
-    /// What was made or, where memory was wanting, what stands for it.
+    /// Returns the value or, if an allocation failed, records that and returns `otherwise`.
     pub fn made<T: Drop>(&mut self, made: Result<T, AllocError>, otherwise: T) -> T {
         match made {
             Ok(value) => value,
@@ -94,7 +101,7 @@ impl<'a> Call<'a> {
         }
     }
 
-    /// What was read or, where the line has no form of a line, what stands for it.
+    /// Returns the value or, if the field is malformed, records that and returns `otherwise`.
     pub fn read<T: Drop>(&mut self, read: Option<T>, otherwise: T) -> T {
         match read {
             Some(value) => value,
@@ -105,7 +112,7 @@ impl<'a> Call<'a> {
         }
     }
 
-    /// The next field.
+    /// Parses the next field as a text.
     pub fn field(&mut self) -> &'a str {
         let Some(rest) = self.rest else {
             self.fail(Fault::Line);
@@ -123,13 +130,13 @@ impl<'a> Call<'a> {
         }
     }
 
-    /// A number.
+    /// Parses the next field as a number.
     pub fn number(&mut self) -> u32 {
         let field = self.field();
         self.read(read_number(field), 0)
     }
 
-    /// A code point.
+    /// Parses the next field as a code point.
     pub fn point(&mut self) -> u32
         ensures { result ≤ CODE_POINT_MAX }
     {
@@ -143,19 +150,19 @@ impl<'a> Call<'a> {
         }
     }
 
-    /// An interval.
+    /// Parses the next field as an interval.
     pub fn interval(&mut self) -> Interval {
         let field = self.field();
         self.read(read_interval(field), Interval::new(0, 0))
     }
 
-    /// Numbers, with spaces between them.
+    /// Parses the next field as numbers, separated by spaces.
     pub fn numbers(&mut self) -> Vec<u32> {
         let field = self.field();
         self.numbers_in(field)
     }
 
-    /// The numbers of a text.
+    /// Parses a text as numbers.
     pub fn numbers_in(&mut self, text: &str) -> Vec<u32> {
         let mut numbers = Vec::new(self.alloc);
         for part in text.split_whitespace() {
@@ -167,7 +174,7 @@ impl<'a> Call<'a> {
         numbers
     }
 
-    /// Code points, with spaces between them.
+    /// Parses the next field as code points, separated by spaces.
     pub fn points(&mut self) -> Vec<u32>
         ensures { All (λ c. c ≤ CODE_POINT_MAX) result.items }
     {
@@ -175,7 +182,7 @@ impl<'a> Call<'a> {
         self.in_range(numbers)
     }
 
-    /// The numbers, if each is a code point.
+    /// Returns the numbers if each is a code point; otherwise records a malformed field.
     pub fn in_range(&mut self, numbers: Vec<u32>) -> Vec<u32>
         ensures { All (λ c. c ≤ CODE_POINT_MAX) result.items }
     {
@@ -186,7 +193,7 @@ impl<'a> Call<'a> {
         Vec::new(self.alloc)
     }
 
-    /// Bytes, with spaces between them.
+    /// Parses the next field as bytes, separated by spaces.
     pub fn bytes(&mut self) -> Vec<u8> {
         let mut bytes = Vec::new(self.alloc);
         for part in self.field().split_whitespace() {
@@ -199,7 +206,7 @@ impl<'a> Call<'a> {
         bytes
     }
 
-    /// Intervals, with spaces between them.
+    /// Parses the next field as intervals, separated by spaces.
     pub fn intervals(&mut self) -> Vec<Interval> {
         let mut intervals = Vec::new(self.alloc);
         for part in self.field().split_whitespace() {
@@ -211,13 +218,13 @@ impl<'a> Call<'a> {
         intervals
     }
 
-    /// A set, by its intervals.
+    /// Parses the next field as a set, given by its intervals.
     pub fn set(&mut self) -> CodePointSet {
         let field = self.field();
         self.set_in(field)
     }
 
-    /// The set of the intervals of a text.
+    /// Parses a text as a set, given by its intervals.
     pub fn set_in(&mut self, text: &str) -> CodePointSet {
         let mut set = CodePointSet::new(self.alloc);
         for part in text.split_whitespace() {
@@ -228,13 +235,13 @@ impl<'a> Call<'a> {
         set
     }
 
-    /// Flags, by their letters.
+    /// Parses the next field as flags, given by their letters.
     pub fn flags(&mut self) -> Flags {
         let field = self.field();
         self.read(read_flags(field), Flags::default())
     }
 
-    /// The code points that a pattern is written with.
+    /// Parses the next field as a pattern, and returns its code points.
     pub fn pattern(&mut self) -> Vec<u32>
         ensures { All (λ c. c ≤ CODE_POINT_MAX) result.items }
     {
@@ -246,26 +253,26 @@ impl<'a> Call<'a> {
         Vec::new(self.alloc)
     }
 
-    /// Adds a text to what the call comes to.
+    /// Appends a text to the result.
     pub fn say(&mut self, text: &str) {
         let said = self.told.push_str(text);
         self.done(said);
     }
 
-    /// Adds a value as it is displayed, with a space before it unless it is the first.
+    /// Appends a value by its `Display`, after a space unless it is the first.
     pub fn tell<T: Display>(&mut self, value: &T) {
         self.separate();
         self.add(value);
     }
 
-    /// Adds a value as it is displayed, right behind what stands there.
+    /// Appends a value by its `Display`, without a space.
     pub fn add<T: Display>(&mut self, value: &T) {
         if write!(self.told, "{value}").is_err() {
             self.fail(Fault::Memory);
         }
     }
 
-    /// Adds a value as it is shown, with a space before it unless it is the first.
+    /// Appends a value by its `Debug`, after a space unless it is the first.
     pub fn show<T: Debug>(&mut self, value: &T) {
         self.separate();
         if write!(self.told, "{value:?}").is_err() {
@@ -273,14 +280,14 @@ impl<'a> Call<'a> {
         }
     }
 
-    /// Adds the numbers.
+    /// Appends each number after a space.
     pub fn tell_each(&mut self, numbers: &[u32]) {
         for number in numbers {
             self.tell(number);
         }
     }
 
-    /// Adds the intervals, as lines write them.
+    /// Appends each interval in the notation of test cases.
     pub fn tell_intervals(&mut self, intervals: &[Interval]) {
         for interval in intervals {
             self.tell(&interval.first());

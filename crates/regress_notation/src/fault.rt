@@ -1,30 +1,30 @@
-//! Why a call has no answer.
+//! Why a call has no result.
 
 use std::alloc::AllocError;
 
-/// Why a call has no answer.
+/// Why a call has no result.
 #[derive(Clone, Copy, Debug)]
 pub enum Fault {
-    /// The line is no call.
+    /// The test case is malformed.
     Line,
-    /// Memory was wanting, and what the call promises then is kept.
+    /// An allocation failed, and what the call promises for that case holds.
     Memory,
     /// A promise is broken.
     Broken(Promise),
 }
 
-/// What a call promises, whatever it answers.
+/// What a call promises, whatever its result is.
 #[derive(Clone, Copy, Debug)]
 pub enum Promise {
-    /// A set is as it was where a growth was refused.
+    /// A set is unchanged after a failed allocation.
     SetIsKept,
     /// A copy is equal.
     CopyIsEqual,
-    /// An image is its own image.
+    /// Canonicalizing is idempotent.
     Idempotent,
-    /// Code points are unfolded to all that have the same image, and to no others.
+    /// Unfolding a code point yields exactly the code points with the same canonical form.
     Unfolded,
-    /// A set is closed by all that have an image of a member, and by no others.
+    /// The closure of a set has exactly the code points whose canonical form is that of a member.
     Closed,
     /// The first bytes of an interval are those of its code points.
     FirstBytes,
@@ -32,19 +32,19 @@ pub enum Promise {
     FoundFirst,
     /// A tree is well formed.
     WellFormed,
-    /// A tree has the groups and names that it had.
+    /// A tree keeps its groups and their names.
     GroupsAreKept,
-    /// A tree has grown by no more than its loops allow.
+    /// A tree has not grown by more than its loops allow.
     WithinBound,
-    /// An optimized tree has no shape that is removed.
+    /// An optimized tree is in normal form.
     Normal,
-    /// An optimized tree is left as it is.
+    /// An optimized tree is unchanged by further rewrites.
     Settled,
-    /// A pass ends.
+    /// A pass terminates.
     PassEnds,
-    /// A class of ranges is a pattern.
+    /// A class of ranges is accepted as a pattern.
     ClassIsRead,
-    /// A fault has a text.
+    /// A syntax error has a text.
     FaultIsTold,
 }
 

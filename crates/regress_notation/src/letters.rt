@@ -1,8 +1,8 @@
-//! How a line writes flags.
+//! The notation of flags.
 
 use regress_base::types::Flags;
 
-/// The flags of these letters, or nothing where one is none of `imsuv` or comes twice.
+/// Returns the flags of these letters; `None` if one is not in `imsuv` or occurs twice.
 pub fn read_flags(letters: &str) -> Option<Flags> {
     let mut flags = Flags::default();
     for letter in letters.chars() {

@@ -1,12 +1,12 @@
-//! How lines of data write what calls are made on and what they answer, for the program that reads such lines.
+//! The notation of test cases: what a call is made on, and its result.
 //!
-//! - Flags are letters of `imsuv`, perhaps none, each at most once.
-//! - A pattern is text as it is, backslashes too. `⟨HEX⟩` stands for a code point, surrogates included, given in
-//!   hexadecimal, and `⟨N×TEXT⟩` for N times the text, N being decimal.
-//! - A number is decimal, or hexadecimal behind `0x`. Code points and bytes are numbers, with spaces between them.
-//! - An interval is `10-20`, or `10` for `10-10`. A set is its intervals, with spaces between them.
+//! - Flags are letters of `imsuv`, possibly none, each at most once.
+//! - A pattern is literal text, backslashes too. `⟨HEX⟩` denotes a code point in hexadecimal, surrogates included, and
+//!   `⟨N×TEXT⟩` denotes N repetitions of TEXT, N in decimal.
+//! - A number is decimal, or hexadecimal after `0x`. Code points and bytes are numbers, separated by spaces.
+//! - An interval is `10-20`, or `10` for `10-10`, both ends inclusive. A set is its intervals, separated by spaces.
 //!
-//! What is answered has its numbers in decimal, and its intervals with both ends.
+//! Results have their numbers in decimal, and their intervals with both ends.
 #![tactic(auto)]
 
 mod call;

@@ -1,32 +1,35 @@
-//! The run over the lines of a program's input.
+//! Runs the test cases of a program's input.
 
 use crate::fault::{Fault, Promise};
 use std::alloc::Global;
 use std::io::{self, BufRead, ErrorKind, Write};
 
-/// What can say whether a line holds.
+/// A checker of test cases.
 pub trait Lines {
-    /// What a line comes to, if it should come to something else.
+    /// Returns the result of a test case, if it is not the expected one.
+    ///
+    /// # Errors
+    /// Returns a [`Fault`] if the test case is malformed, an allocation failed, or a promise is broken.
     fn difference(&mut self, alloc: Global, line: &str) -> Result<Option<String>, Fault>;
 }
 
-/// Why a run ends before the last line, or has none.
+/// Why a run ends early, or has no test case.
 #[derive(Clone, Copy, Debug)]
 pub enum Failure {
-    /// The line of this number, counted from 1, has no form of a line.
+    /// The line with this number, from 1, is not a test case.
     Line(usize),
-    /// Memory was wanting.
+    /// An allocation failed.
     Memory,
-    /// The input can't be read, or isn't UTF-8.
+    /// The input cannot be read, or is not UTF-8.
     Input,
-    /// The output can't be written.
+    /// The output cannot be written.
     Output,
-    /// There was no line to compare.
+    /// The input has no test case.
     NoLine,
 }
 
 impl Failure {
-    /// The status of a program that ends so.
+    /// Returns the exit status of the program.
     pub fn status(&self) -> u8 {
         match self {
             Failure::Line(_) => 2,
@@ -38,7 +41,7 @@ impl Failure {
     }
 }
 
-/// How many lines were read, how many hold and how many differ. All three saturate.
+/// The numbers of lines read, and of test cases that pass and fail. All three saturate.
 #[derive(Clone, Copy)]
 struct Tally {
     read: usize,
@@ -46,8 +49,12 @@ struct Tally {
     differ: usize,
 }
 
-/// Reads the lines, and writes each that differs to `out`, and at last how many hold. It answers 0 if no line differs,
-/// and else 1. A line that is empty or begins with `#` is passed over.
+/// Runs the test cases in `input`, writes those that fail to `out`, and finally the number that pass. Returns 0 if all
+/// pass, else 1. Empty lines and lines that begin with `#` are skipped.
+///
+/// # Errors
+/// Returns a [`Failure`] at the first malformed test case, failed allocation, or error of the input or output, or if
+/// there is no test case.
 pub fn run_lines<R: BufRead + Drop, W: Write, L: Lines>(
     alloc: Global,
     input: R,
@@ -68,7 +75,7 @@ pub fn run_lines<R: BufRead + Drop, W: Write, L: Lines>(
     end(tally, out)
 }
 
-/// Why no line can be had.
+/// Converts an error of the input.
 fn unread(error: &io::Error) -> Failure {
     match error.kind() {
         ErrorKind::OutOfMemory => Failure::Memory,
@@ -129,14 +136,14 @@ fn written(done: io::Result<()>) -> Result<(), Failure> {
     }
 }
 
-/// Writes how many lines differ, if any, and how many hold, if any.
+/// Writes the number of test cases that fail, and of those that pass, if any.
 fn end<W: Write>(tally: Tally, out: &mut W) -> Result<u8, Failure> {
     let Tally { hold, differ, .. } = tally;
     if differ > 0 {
-        written(writeln!(out, "{differ} lines differ"))?;
+        written(writeln!(out, "{differ} test cases fail"))?;
     }
     if hold > 0 {
-        written(writeln!(out, "{hold} lines hold"))?;
+        written(writeln!(out, "{hold} test cases pass"))?;
     }
     written(out.flush())?;
     if hold == 0 && differ == 0 {

@@ -1,9 +1,9 @@
-//! How a line writes a number.
+//! The notation of numbers.
 ghost use Rattle.std.specs.Prelude.{◌≤◌, IfSome};
 
 use regress_base::codepointset::CODE_POINT_MAX;
 
-/// A number: decimal, or hexadecimal behind `0x`.
+/// Parses a number: decimal, or hexadecimal after `0x`.
 pub fn read_number(text: &str) -> Option<u32> {
     match text.strip_prefix("0x") {
         Some(digits) => u32::from_str_radix(digits, 16).ok(),
@@ -11,7 +11,7 @@ pub fn read_number(text: &str) -> Option<u32> {
     }
 }
 
-/// A code point.
+/// Parses a code point.
 pub(crate) fn read_point(text: &str) -> Option<u32>
     ensures { IfSome result (λ point. point ≤ CODE_POINT_MAX) }
 {

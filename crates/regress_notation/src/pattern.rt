@@ -1,11 +1,11 @@
-//! How a line writes a pattern.
+//! The notation of patterns.
 ghost use Rattle.std.specs.Prelude.{◌≤◌, All, IfOk, IfSome};
 
 use regress_base::codepointset::CODE_POINT_MAX;
 use std::alloc::{AllocError, Global};
 
-/// The code points of a pattern as a line writes it. Nothing is answered where a `⟨` has no `⟩` behind it, or what
-/// stands between is neither a code point nor a text with its number.
+/// Returns the code points of a pattern in the notation of test cases; `None` if a `⟨` has no matching `⟩`, or if the
+/// text between them is neither a code point nor a repetition.
 pub(crate) fn read_pattern(alloc: Global, text: &str) -> Result<Option<Vec<u32>>, AllocError>
     ensures { IfOk result (λ read. IfSome read (λ points. All (λ c. c ≤ CODE_POINT_MAX) points.items)) }
 {
@@ -27,7 +27,7 @@ pub(crate) fn read_pattern(alloc: Global, text: &str) -> Result<Option<Vec<u32>>
     Ok(if in_range { Some(points) } else { None })
 }
 
-/// Adds the characters of a text.
+/// Appends the characters of a text.
 fn push_text(points: &mut Vec<u32>, text: &str) -> Result<(), AllocError> {
     for c in text.chars() {
         points.push(u32::from(c))?;
@@ -35,7 +35,7 @@ fn push_text(points: &mut Vec<u32>, text: &str) -> Result<(), AllocError> {
     Ok(())
 }
 
-/// Adds what stands between `⟨` and `⟩`, and answers whether that is anything.
+/// Appends what the text between `⟨` and `⟩` denotes, and returns whether it is well formed.
 fn push_bracketed(points: &mut Vec<u32>, inside: &str) -> Result<bool, AllocError> {
     match inside.split_once('×') {
         Some((number, text)) => {

@@ -1,4 +1,4 @@
--- A tree ends in `Goal` exactly where the old one did, or always fails.
+-- The new tree ends in `Goal` exactly if the old one does, or it always fails.
 use Rattle.std.proofs.Common.{◌≡◌, ◌⊎◌, ℕ, true, inl, inr, refl, sym, ap, ◌∙◌}
 use Rattle.std.specs.Prelude.{Result}
 use Rattle.std.specs.declared.alloc.AllocError.{AllocError}
@@ -14,7 +14,7 @@ use Rattle.regress_rewrite.specs.Splice.{parts_of}
 use Rattle.regress_normalize.specs.declared.facts.PartFacts.{PartFacts}
 use Rattle.regress_normalize.specs.Normalized.{Normalized}
 
--- a goal among the parts is the last one
+-- A goal among the parts is the last part.
 last_part : (n : ℕ) (p : Position) (t : Tree) → MayStand n t p → some_in_row is_goal (parts_of t) ≡ ends_in_goal t
 last_part n p (leaf l) m = or-false (is_goal (leaf l))
 last_part n p (cat parts) m = goal-last n (last_of p) parts m.1

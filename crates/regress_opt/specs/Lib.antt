@@ -1,5 +1,5 @@
 pub mod Optimized
--- what the public contracts cite of the crates below, passed on, so that a caller names one library
+-- definitions of other crates that the public contracts cite, exported again, so that a caller names one library
 pub use Rattle.regress_base.specs.Intervals
 pub use Rattle.regress_base.specs.Table
 pub use Rattle.regress_unicode.specs.TableOf

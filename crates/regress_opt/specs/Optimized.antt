@@ -1,4 +1,4 @@
--- What `optimize` makes of a tree, as it is answered beside it.
+-- The result of `optimize`: the new tree, and whether an allocation failed.
 use Rattle.std.specs.Prelude.{◌≡◌, ◌⊎◌, true, ◌≤◌, ◌+◌, ◌*◌, Result, OnOk}
 use Rattle.std.specs.declared.alloc.AllocError.{AllocError}
 use Rattle.regress_tree.specs.declared.ir.node.Regex.{Regex}
@@ -11,7 +11,8 @@ use Rattle.regress_tree.specs.Units.{units, unrolling, loops, account}
 use Rattle.regress_tree.specs.NormalForm.{IsNormal}
 use Rattle.regress_rewrite.specs.Law.{MeansTheSame}
 
--- The tree means the same and ends in `Goal` as it did, in normal form unless memory was wanting, and as it was where it had that form.
+-- The tree has the same meaning and ends in `Goal` as before. It is in normal form unless an allocation failed, and
+-- unchanged if it was in normal form before.
 pub record IsOptimized (old : Regex) (answer : Regex × Result (Unit {0}) AllocError) : Type 0 where
   pub meaning : MeansTheSame forwards (tree old.node) (tree answer.0.node)
   pub well_formed : IsWellFormed (tree answer.0.node)

@@ -1,4 +1,4 @@
-//! From the text of a pattern to its tree in normal form.
+//! From a pattern to its tree in normal form.
 ghost use Rattle.std.specs.Prelude.{◌≡◌, ◌⊎◌, true, ◌≤◌, ◌+◌, ◌*◌, All, IfOk, OnOk, IsOkAnd, MatchResult};
 ghost use Rattle.regress_base.specs.Intervals.{code_point_max};
 ghost use Rattle.regress_unicode.specs.TableOf.{table_of};
@@ -22,9 +22,21 @@ use regress_tree::ir::Regex;
 use regress_unicode::Tables;
 use std::alloc::{AllocError, Global};
 
-/// Parses a pattern as `try_parse` does, and then runs `optimize` on its tree, whose answer stands
-/// beside the tree: after an error the tree may not be in normal form, and all else that is said of it
-/// holds.
+/// Parses a pattern as `try_parse` does, optimizes its tree as [`optimize`] does, and returns the tree with the result
+/// of `optimize`.
+///
+/// The tree is in normal form if the second result is `Ok`. If it is an error, an allocation failed while optimizing:
+/// the tree may not be in normal form, but it has the pattern's meaning and may be used, or optimized again.
+///
+/// # Preconditions
+/// Each element of `pattern` is a code point, at most U+10FFFF.
+///
+/// # Errors
+/// - [`ParseFault::Syntax`] if the pattern is rejected, with the text that `try_parse` reports.
+/// - [`ParseFault::Memory`] if an allocation fails while parsing.
+///
+/// # Complexity
+/// As for `try_parse` and [`optimize`] together.
 pub fn parse_and_optimize(
     alloc: Global,
     pattern: &[u32],
@@ -33,29 +45,27 @@ pub fn parse_and_optimize(
 ) -> Result<(Regex, Result<(), AllocError>), ParseFault>
     requires { All (λ c. c ≤ code_point_max) pattern.now }
 
-    // Unless memory is wanting, a tree is answered exactly where the grammar derives one within the
-    // limits.
+    // Unless an allocation fails, the result is a tree exactly if the grammar derives one within the limits.
     ensures accepted { IfOk result (λ _. (p : Pattern) × IsAccepted (setting_of flags tables.now) pattern.now p) }
     ensures refused { RefusedOnlyIf result (NoneIsAccepted (setting_of flags tables.now) pattern.now) }
     ensures told { Tells result (IsTrueOf (setting_of flags tables.now) pattern.now) }
     ensures limits { Tells result (MayExceed pattern.now) }
     ensures only { OneIsDerived (setting_of flags tables.now) pattern.now }
 
-    // It is in normal form, and as it was parsed where that is.
+    // The tree is in normal form, and unchanged if the parsed tree is in normal form.
     ensures normal { IfOk result (λ r. OnOk r.1 (IsNormal (tree r.0.node))) }
     ensures left { IfOk result (λ r. OfAccepted (setting_of flags tables.now) pattern.now
         (λ p. IsNormal (tree_of (table_of tables.now) p) → tree r.0.node ≡ tree_of (table_of tables.now) p)) }
 
-    // On every UTF-8 text and from every state it gives the pattern's distinct outcomes in their
-    // order.
+    // In every UTF-8 text and from every state the tree yields the pattern's distinct outcomes in their order.
     ensures meaning { let setting = setting_of flags tables.now in
         IfOk result (λ r. OfAccepted setting pattern.now (Means setting (tree r.0.node))) }
     ensures flags { IfOk result (λ r. r.0.flags ≡ flags) }
-    // It ends in `Goal`, or always fails.
+    // The tree ends in `Goal`, or always fails.
     ensures goal { IfOk result (λ r. (ends_in_goal (tree r.0.node) ≡ true) ⊎ (match_always_fails (tree r.0.node) ≡ true)) }
 
-    // It is well formed, with the pattern's groups under their ids and names, and has grown by at most
-    // what unrolling adds for each loop.
+    // The tree is well formed, has the pattern's groups with their ids and names, and is larger than the parsed tree by
+    // at most what unrolling adds for each loop.
     ensures well_formed { IfOk result (λ r. IsWellFormed (tree r.0.node)) }
     ensures captures { IfOk result (λ r. OfAccepted (setting_of flags tables.now) pattern.now
         (λ p. captures (tree r.0.node) ≡ captures (tree_of (table_of tables.now) p))) }
@@ -66,7 +76,7 @@ pub fn parse_and_optimize(
     optimize_parsed(alloc, try_parse(alloc, pattern, flags, tables))
 }
 
-/// Optimizes what was parsed. Whatever memory there is, no tree is lost.
+/// Optimizes a parsed tree. No tree is lost if an allocation fails.
 fn optimize_parsed(
     alloc: Global,
     parsed: Result<Regex, ParseFault>,

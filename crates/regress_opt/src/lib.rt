@@ -1,4 +1,4 @@
-//! The optimizer: a tree brought into normal form, and from the text of a pattern to such a tree.
+//! The optimizer, which brings a tree into normal form, and the composition of parser and optimizer.
 #![tactic(auto)]
 
 mod headline;

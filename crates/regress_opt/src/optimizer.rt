@@ -1,4 +1,4 @@
-//! The tree of a pattern in normal form.
+//! The optimizer.
 ghost use Rattle.std.specs.Prelude.{◌≡◌, ◌⊎◌, true, ◌≤◌, ◌+◌, ◌*◌, OnOk};
 ghost use Rattle.regress_tree.specs.Reading.{forwards};
 ghost use Rattle.regress_tree.specs.NodeTests.{match_always_fails};
@@ -13,24 +13,35 @@ use regress_normalize::normalize;
 use regress_tree::ir::{Regex, Walk};
 use std::alloc::{AllocError, Global};
 
-/// Brings the tree into normal form, in which no node has a shape that a rewrite removes. After an error
-/// the tree may not be in normal form; it means what it did.
+/// Brings the tree of a pattern into normal form, in which no node has a shape that a rewrite removes
+/// (`specs/NormalForm.antt` of `regress_tree`). The tree keeps its meaning, its capture groups and its flags. A tree in
+/// normal form is unchanged.
 ///
-/// It is one traversal, children before parents, in which each node is brought into normal form once.
+/// # Preconditions
+/// The tree is well formed, as each parsed tree is (see `Regex::is_well_formed`).
+///
+/// # Errors
+/// Returns [`AllocError`] if an allocation fails. The tree may not be in normal form then; it is well formed and has
+/// the same meaning, and may be used, or optimized again.
+///
+/// # Complexity
+/// One traversal, children before parents, which visits each node of the old tree once. Unrolling adds at most 6401
+/// units for each loop with a minimum of at least one. The recursion is as deep as nodes are nested, where right sides
+/// of alternatives do not count.
 pub fn optimize(alloc: Global, r: &mut Regex) -> Result<(), AllocError>
     requires { IsWellFormed (tree r.old.node) }
 
-    // Whatever it answers.
+    // Also after an error.
     ensures meaning { MeansTheSame forwards (tree r.old.node) (tree r.new.node) }
     ensures well_formed { IsWellFormed (tree r.new.node) }
     ensures captures { captures (tree r.new.node) ≡ captures (tree r.old.node) }
     ensures account { account (tree r.new.node) ≤ account (tree r.old.node) }
     ensures units { units (tree r.new.node) ≤ units (tree r.old.node) + unrolling * loops (tree r.old.node) }
     ensures flags { r.new.flags ≡ r.old.flags }
-    // It ends in `Goal` exactly where the old one did, or always fails.
+    // The new tree ends in `Goal` exactly if the old one does, or always fails.
     ensures goal { (ends_in_goal (tree r.new.node) ≡ ends_in_goal (tree r.old.node)) ⊎ (match_always_fails (tree r.new.node) ≡ true) }
 
-    // The normal form.
+    // ---- the normal form
     ensures normal { OnOk result (IsNormal (tree r.new.node)) }
     ensures left { IsNormal (tree r.old.node) → tree r.new.node ≡ tree r.old.node }
 {

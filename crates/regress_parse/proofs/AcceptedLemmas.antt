@@ -1,5 +1,5 @@
--- What the reading function finds in a whole source is what the source stands for, since a scan finds the groups and names
--- of every pattern that the grammar derives.
+-- `pattern_at` parses a whole source as exactly the pattern that the grammar derives, since the scan finds the groups
+-- and names of every derived pattern.
 use Rattle.std.proofs.Common.{◌≡◌, ◌+◌, ◌<◌, ℕ, ◌≤◌, ◌⊎◌, ⊎_elim, min, List, [], length, Option, Some, inl, inr, refl, sym, ap, ap₂, ◌∙◌, subst, arith}
 use Rattle.std.proofs.lemmas.Option.{same_Some}
 use Rattle.std.proofs.lemmas.Bool.{false≢true, cases_lt}
@@ -26,7 +26,7 @@ module _ (setting : Setting) (t : Source) (gives : GivesMarks setting.flags.unic
   abbrev pub found_names : List (Option Name)
   found_names = named_by (marks setting.flags.unicode_sets setting.table plain t)
 
-  -- the context of these names and so many groups
+  -- the context with these names and this number of groups
   abbrev pub scanned : ℕ → Context
   scanned groups = record { setting = setting; groups = groups; names = found_names }
 
@@ -45,14 +45,14 @@ module _ (setting : Setting) (t : Source) (gives : GivesMarks setting.flags.unic
   abbrev pub most : ℕ
   most = min (length found_names) max_capture_groups
 
-  -- the context that the parser has of what the scan answered
+  -- The parser's context, made of what the scan found, is the scanned one.
   pub scanned-is : (groups : ℕ) (ns : List (Option Name)) → ns ≡ found_names → groups ≡ min (length ns) max_capture_groups →
       record { setting = setting; groups = groups; names = ns } ≡ scanned most
   scanned-is groups ns same e =
       ap₂ (λ (n : ℕ) (ns : List (Option Name)). record { setting = setting; groups = n; names = ns })
       (e ∙ ap (λ ns. min (length ns) max_capture_groups) same) same
 
-  -- its levels are those of the marks
+  -- The nesting depth of a derived pattern is that of the marks.
   marks-levels : (p : Pattern) → IsDerived setting t p → deepest 1 (marks setting.flags.unicode_sets setting.table plain t) ≡ levels p
   marks-levels p h = ap (deepest 1) (sym (gives (own_context setting p) p refl refl h)) ∙ deepest-whole p
 
@@ -73,7 +73,7 @@ module _ (setting : Setting) (t : Source) (gives : GivesMarks setting.flags.unic
       let groups : (counts p).groups ≡ most = omega (arith, groups_found (scanned most) p refl refl h, few) in
       subst (λ ctx. IsPattern ctx p t []) (sym (own_is (scanned most) p refl refl h most groups)) h
 
-  -- at most one
+  -- At most one pattern is derived from a source.
   pub same_derived : (p q : Pattern) → IsDerived setting t p → IsDerived setting t q → p ≡ q
   same_derived p q h k =
       let all = length found_names in
@@ -84,7 +84,7 @@ module _ (setting : Setting) (t : Source) (gives : GivesMarks setting.flags.unic
       (own_is (own_context setting r) r refl refl d all (groups_found (own_context setting r) r refl refl d)) d) in
       ap (λ (x : Pattern × Source). x.0) (same_Some (p, []) (q, []) (sym (read p h) ∙ read q k))
 
-  -- what the scan says of the marks is so of each pattern that is derived
+  -- What the scan reports of the marks holds for each derived pattern.
   pub marks-say : (kind : FaultKind) → MarksShow (marks setting.flags.unicode_sets setting.table plain t) kind → (p : Pattern) → IsDerived setting t p →
       Says kind p
   marks-say kind (inl (is, inl conflicts)) p h =
@@ -94,7 +94,7 @@ module _ (setting : Setting) (t : Source) (gives : GivesMarks setting.flags.unic
   marks-say kind (inr (inl (is, deep))) p h = inr (inr (inl (is, deep-levels p h deep)))
   marks-say kind (inr (inr (is, many))) p h = inl (is, omega (arith, many, groups_found (own_context setting p) p refl refl h))
 
-  -- what the parser says past a scan that was content
+  -- What the parser reports holds for each derived pattern, after a scan without an error.
   pub reading-says : deepest 1 (marks setting.flags.unicode_sets setting.table plain t) ≤ max_nesting_depth → (kind : FaultKind) →
       ((p : Pattern) → pattern_at (scanned most) t ≡ Some (p, []) →
       Exceeds kind nothing_counted 0 (pattern_part setting.table found_names p)) → IsTrueOf setting t kind
@@ -108,7 +108,7 @@ module _ (setting : Setting) (t : Source) (gives : GivesMarks setting.flags.unic
       by p h (inr (inl (is, many))) = inr (inl (is, omega (arith, many)))
       by p h (inr (inr deep)) = absurd (omega (arith, few, deep, marks-levels p h))
 
-  -- the names of a pattern that is read are apart where the scan's are
+  -- The names of a derived pattern do not conflict where those of the marks do not.
   pub marks-apart : (p : Pattern) → NoMarksConflict (marks setting.flags.unicode_sets setting.table plain t) → IsDerived setting t p →
       NoneConflict p
   marks-apart p apart h =
@@ -118,7 +118,7 @@ module _ (setting : Setting) (names : List (Option Name)) where
   pub fit-limits : (p : Pattern) → Fits nothing_counted 0 (pattern_part setting.table names p) → IsWithinLimits p
   fit-limits p h = record { groups = omega (arith, h.groups); loops = omega (arith, h.loops); levels = omega (arith, h.levels) }
 
--- what a fault says of a pattern leaves it refused
+-- A source with a true syntax error has no accepted pattern.
 pub true-refuses : (setting : Setting) (t : Source) (kind : FaultKind) → IsTrueOf setting t kind → NoneIsAccepted setting t
 true-refuses setting t kind told p h = by (told p h.derived)
   where

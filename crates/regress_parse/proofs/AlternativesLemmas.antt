@@ -1,4 +1,4 @@
--- What the parser's loop over alternatives has read so far.
+-- Invariants of the parser's loop over alternatives.
 use Rattle.std.proofs.Common.{◌≡◌, ℕ, ◌+◌, ◌-◌, ◌≤◌, ⊎_elim, true, false, List, [], ◌∷◌, ◌++◌, length, drop, map, Some, None, refl, sym, ap, ap₂, ◌∙◌, arith, length-drop, Option, Result, Ok, Err, subst}
 use Rattle.std.specs.Option.{IfSome, IsSomeAnd}
 use Rattle.std.proofs.lemmas.Option.{same_Some}
@@ -23,7 +23,7 @@ use Rattle.regress_parse.proofs.BuildLemmas.{alternatives-push}
 use Rattle.regress_parse.proofs.CountLemmas.{Fits-inside, Exceeds-around}
 use Rattle.regress_parse.proofs.ReaderLemmas.{pattern_at-is, terms_at-shortens, others_of}
 
--- a pattern behind alternatives
+-- a pattern after some alternatives
 abbrev pub eithers : List Terms → Pattern → Pattern
 eithers [] p = p
 eithers (ts ∷ tss) p = either ts (eithers tss p)
@@ -56,7 +56,7 @@ loops_of_all-push : (tss : List Terms) (ts : Terms) → loops_of_all (tss ++ ts 
 loops_of_all-push [] ts = omega arith
 loops_of_all-push (us ∷ tss) ts = omega (arith, loops_of_all-push tss ts)
 
--- one more alternative is no deeper than it and what was there
+-- One more alternative is no deeper than itself and the pattern.
 levels-eithers : (tss : List Terms) (ts : Terms) (p : Pattern) (most : ℕ) → levels (eithers tss (one ts)) ≤ most → levels p ≤ most →
     levels (eithers tss (either ts p)) ≤ most
 levels-eithers [] ts p most h k = omega arith
@@ -66,7 +66,7 @@ levels-inside : (tss : List Terms) (p : Pattern) → levels p ≤ levels (either
 levels-inside [] p = omega arith
 levels-inside (us ∷ tss) p = omega (arith, levels-inside tss p)
 
--- a pattern that was read behind alternatives
+-- a parsed pattern, after some alternatives
 abbrev behind_all : List Terms → Pattern × Source → Found Pattern
 behind_all tss (p, rest) = Some (eithers tss p, rest)
 
@@ -79,7 +79,7 @@ behind_bar : (tss : List Terms) (ts : Terms) (found : Found Pattern) →
 behind_bar tss ts None = refl
 behind_bar tss ts (Some y) = ap (λ p. Some (p, y.1)) (sym (eithers-push tss ts y.0))
 
--- what begins with terms has no fewer groups, loops and levels
+-- A pattern that starts with these terms has at least their groups, loops and nesting depth.
 record Begins (ts : Terms) (p : Pattern) : Type 0 where
   groups : (counts_of_terms ts).groups ≤ (counts p).groups
   loops : (counts_of_terms ts).loops ≤ (counts p).loops
@@ -109,7 +109,8 @@ module _ (table : Table) (names : List (Option Name)) (d : Direction) (ctx : Con
   abbrev part : Terms → Tree
   part ts = joined d (trees_of_terms table names d before.groups ts)
 
-  -- From t0, behind what was counted before, alternatives were read, and a last one that ends at t. These are their nodes.
+  -- From `t0`, after what was counted before, alternatives were parsed up to `t`, of which the last one is separate.
+  -- The nodes are theirs.
   pub record AlternativesSoFar (t : Source) (now : Counts) (done_nodes : List Node) (final : Node) : Type 0 where
     pub done : List Terms
     pub last : Terms
@@ -122,7 +123,7 @@ module _ (table : Table) (names : List (Option Name)) (d : Direction) (ctx : Con
     pub fits : Fits before depth (pattern_part table names (eithers done (one last)))
     pub shorter : length t ≤ length t0
 
-  -- the first alternative
+  -- The invariant holds after the first alternative.
   pub alternatives-start : (t : Source) (now : Counts) (node : Node) (ts : Terms) → terms_at ctx t0 ≡ Some (ts, t) →
       tree node ≡ part ts → now ≡ added before (counts_of_terms ts) → Fits before (depth + 1) (terms_part table names ts) →
       AlternativesSoFar t now [] node
@@ -140,7 +141,7 @@ module _ (table : Table) (names : List (Option Name)) (d : Direction) (ctx : Con
         shorter = terms_at-shortens ctx t0 (ts, t) found;
       }
 
-  -- what was counted before the next alternative
+  -- the counts before the next alternative
   record Here (now : Counts) (tss : List Terms) : Type 0 where
     groups : now.groups ≡ before.groups + groups_of_all tss
     loops : now.loops ≡ before.loops + loops_of_all tss
@@ -162,7 +163,7 @@ module _ (table : Table) (names : List (Option Name)) (d : Direction) (ctx : Con
     );
   }
 
-  -- what is read behind a bar
+  -- What is parsed after a `|` continues the alternatives.
   reads_on : (t : Source) (now : Counts) (nodes : List Node) (final : Node) (h : AlternativesSoFar t now nodes final) →
       is_at bar t ≡ true → pattern_at ctx t0 ≡ pattern_at ctx (drop 1 t) >>= behind_all (h.done ++ h.last ∷ [])
   reads_on t now nodes final h more =
@@ -170,7 +171,7 @@ module _ (table : Table) (names : List (Option Name)) (d : Direction) (ctx : Con
       ∙ ap (λ found. found >>= behind_all h.done) (cond-true (is_at bar t) _ _ more)
       ∙ behind_bar h.done h.last (pattern_at ctx (drop 1 t))
 
-  -- one more alternative
+  -- One more alternative keeps the invariant.
   pub alternatives-step : (t : Source) (now : Counts) (nodes : List Node) (final node : Node) (ts : Terms) (rest : Source) (new : Counts) →
       AlternativesSoFar t now nodes final → is_at bar t ≡ true → terms_at ctx (drop 1 t) ≡ Some (ts, rest) →
       tree node ≡ joined d (trees_of_terms table names d now.groups ts) → new ≡ added now (counts_of_terms ts) →
@@ -213,17 +214,17 @@ module _ (table : Table) (names : List (Option Name)) (d : Direction) (ctx : Con
         shorter = omega (arith, h.shorter, terms_at-shortens ctx (drop 1 t) (ts, rest) found, length-drop 1 t);
       }
 
-  -- no bar: the last alternative was the last
+  -- Without a `|`, the last alternative ends the pattern.
   pub alternatives-end : (t : Source) (now : Counts) (nodes : List Node) (final : Node) (h : AlternativesSoFar t now nodes final) →
       is_at bar t ≡ false → pattern_at ctx t0 ≡ Some (eithers h.done (one h.last), t)
   alternatives-end t now nodes final h none = h.reads ∙ ap (λ found. found >>= behind_all h.done) (cond-false (is_at bar t) _ _ none)
 
-  -- the node of all alternatives
+  -- The node of all alternatives is the pattern's tree.
   pub alternatives-node : (t : Source) (now : Counts) (nodes : List Node) (final : Node) (h : AlternativesSoFar t now nodes final) →
       alternatives (map tree nodes) (tree final) ≡ tree_of_pattern table names d before.groups (eithers h.done (one h.last))
   alternatives-node t now nodes final h = ap (alternatives (map tree nodes)) h.node ∙ h.nodes (one h.last)
 
--- a first alternative that is none, or too much, is so for the pattern
+-- If the first alternative is invalid or past a limit, then so is the pattern.
 pub first-fail : (table : Table) (names : List (Option Name)) (ctx : Context) (kind : FaultKind) (depth : ℕ) (t : Source) (before : Counts) →
     IfSome (terms_at ctx t) (λ x. Exceeds kind before (depth + 1) (terms_part table names x.0)) →
     IfSome (pattern_at ctx t) (λ x. Exceeds kind before depth (pattern_part table names x.0))
@@ -235,7 +236,7 @@ first-fail table names ctx kind depth t before refused =
     (omega (arith, less.groups)) (omega (arith, less.loops)) (omega (arith, less.levels))
     (to_each (terms_at ctx t) _ refused first.0 first.1))
 
--- no bar behind the first alternative: it is the pattern
+-- Without a `|` after the first alternative, that is the pattern.
 pub lone-yields : (table : Table) (names : List (Option Name)) (d : Direction) (ctx : Context) (depth : ℕ) (t : Source) (before : Counts) (new : Parser)
     (r : Result Node Fault) → is_at bar (text new) ≡ false →
     Yields (terms_part table names) d (depth + 1) before new r (terms_at ctx t) →
@@ -255,7 +256,7 @@ lone-yields table names d ctx depth t before new (Ok node) none read =
 lone-yields table names d ctx depth t before new (Err fault) none read =
     on_kind_then fault (λ kind. first-fail table names ctx kind depth t before) read
 
--- so is a later one
+-- If a later alternative is invalid or past a limit, then so is the pattern.
 pub alternatives-fail : (table : Table) (names : List (Option Name)) (d : Direction) (ctx : Context) (kind : FaultKind) (depth : ℕ) (t0 : Source)
     (before : Counts)
     (t : Source) (now : Counts) (nodes : List Node) (final : Node) → AlternativesSoFar table names d ctx depth t0 before t now nodes final →

@@ -1,4 +1,4 @@
--- Reading an item that holds no pattern.
+-- Parsing an item without a nested pattern.
 use Rattle.std.proofs.Common.{◌≡◌, ℕ, ◌<◌, ◌≤◌, ◌&&◌, Bool, true, false, cond, List, Result, Ok, Err, refl, sym, subst, arith}
 use Rattle.std.specs.Option.{IfSome}
 use Rattle.regress_base.specs.Intervals.{Bounds}
@@ -12,7 +12,7 @@ use Rattle.regress_syntax.specs.Rows.{Context, atom_allows, point_property}
 use Rattle.regress_classes.specs.ClassRows.{complement}
 use Rattle.regress_parse.specs.Parsing.{IsNode, ReadsAtom}
 
--- no class lies in a property of code points, and a quantifier may stand behind it
+-- A property of code points contains no nested class.
 levels_of_either : (b : Bool) (x y : Atom) → levels_of_atom x ≤ 0 → levels_of_atom y ≤ 0 → levels_of_atom (cond b x y) ≤ 0
 levels_of_either true x y h k = h
 levels_of_either false x y h k = k
@@ -32,7 +32,7 @@ module _ (ctx : Context) where
       either_allows (negated && ctx.setting.flags.icase) (class ctx.setting.flags false (complement members))
       (class ctx.setting.flags negated members) refl refl
 
-  -- what reads an item with no class in it reads it whatever levels are left
+  -- An item without a nested class parses alike at each remaining depth.
   pub with_no_levels : (left : ℕ) (allowed : Bool) (new : Source) (r : Result Node Fault) (found : Found Atom) →
       ReadsAs (IsNode ctx 0 allowed) new r found → ReadsAtom ctx left allowed new r found
   with_no_levels left allowed new (Ok node) found h =

@@ -18,7 +18,7 @@ pub alternatives-push : (nodes : List Node) (node : Node) (last : Tree) →
 alternatives-push [] node last = refl
 alternatives-push (n ∷ nodes) node last = ap (alt (tree n)) (alternatives-push nodes node last)
 
--- the `Cat` of several parts
+-- Several parts are joined to a `Cat`.
 pub joined-many : (d : Direction) (nodes : List Node) → 1 < length nodes → cat (turned d (trees nodes)) ≡ joined d (trees nodes)
 joined-many d [] h = absurd (omega arith)
 joined-many d (n ∷ []) h = absurd (omega arith)
@@ -28,7 +28,7 @@ pub trees-push : (nodes : List Node) (node : Node) → trees (nodes ++ node ∷ 
 trees-push [] node = refl
 trees-push (n ∷ nodes) node = ap (more_trees (tree n)) (trees-push nodes node)
 
--- ---- parts of which one is to match
+-- ---- alternations
 
 pub alternatives-are : (before : List Node) (last : Node) →
     alternatives (map tree before) (tree last) ≡ alternation (map tree (before ++ last ∷ []))
@@ -38,7 +38,7 @@ alternatives-are (n ∷ (m ∷ before)) last = ap (alt (tree n)) (alternatives-a
 
 -- ---- sets of classes
 
--- the closure of a set is that of the members that it was written with
+-- With the flag i, the closure of a set is the closure of the members that it was written with.
 pub closed_is : (table : Table) (flags : Flags) (members set closed : List Bounds) → flags.icase ≡ true →
     ((c : ℕ) → is_member closed c ≡ is_in_closure table set c) → IsCanonical closed → HasMembers members set →
     closed ≡ intervals_of (is_in_class table flags false members)
@@ -48,7 +48,7 @@ closed_is table flags members set closed icase closes canonical has =
     ∙ closure_same table set members has.each c
     ∙ ap (λ b. cond b (is_in_closure table members c) (is_member members c)) (sym icase))
 
--- without the flag i it stays
+-- Without the flag i, the set is unchanged.
 pub unclosed_is : (table : Table) (flags : Flags) (members set : List Bounds) → flags.icase ≡ false → HasMembers members set →
     set ≡ intervals_of (is_in_class table flags false members)
 unclosed_is table flags members set icase has =

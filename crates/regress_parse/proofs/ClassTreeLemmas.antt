@@ -1,4 +1,4 @@
--- The parts of a class with the flag v, joined, are its tree.
+-- The parts of a class with the flag v, joined, are the tree of the class.
 use Rattle.std.proofs.Common.{◌≡◌, ℕ, Bool, true, false, not, ◌||◌, ◌==◌, cond, List, [], ◌∷◌, ◌++◌, length, refl, ap, ◌∙◌, arith}
 use Rattle.std.proofs.lemmas.Bool.Decides.{nat_tests}
 use Rattle.regress_base.specs.Intervals.{Bounds}

@@ -1,4 +1,4 @@
--- What the rows read from code points: code points, names that may stand, and references to groups that there are.
+-- What the productions parse is in range: code points, valid names, and references to existing groups.
 use Rattle.std.proofs.Common.{◌≡◌, ℕ, ◌+◌, ◌*◌, ◌≤◌, nat_le, Bool, true, false, cond, ◌&&◌, ◌||◌, ◌==◌, [], ◌∷◌, drop, List, All, Option, Some, None, is_some, arith}
 use Rattle.std.specs.Option.{IfSome}
 use Rattle.std.proofs.lemmas.Bool.Decides.{nat_tests}
@@ -23,7 +23,7 @@ use Rattle.regress_lexical.proofs.laws.InRange.{Finds, finds_none, finds_some, f
 use Rattle.regress_syntax.proofs.laws.NameEnds.{IsName, name_characters}
 use Rattle.regress_lexical.proofs.laws.Sources.{EachRow, no_more, ◌also◌, first_row-has}
 
--- the source is made of code points
+-- All elements of the source are code points.
 pub record AreCodePoints (t : Source) : Type 0 where
   pub each : All IsCodePoint t
 
@@ -34,11 +34,10 @@ pub behind_found : {A : Type 0} (found : Found A) (t : Source) (x : A × Source)
     AreCodePoints x.1
 behind_found found t x ends e all = record { each = behind_all t x.1 (ends.each x e) all.each }
 
--- whatever is found is something
 finds_any : {A : Type 0} (found : Found A) → Finds (λ _. Unit {0}) found
 finds_any found = record { each = λ x e. tt }
 
--- ---- what may stand in a pattern of n groups
+-- ---- what is valid in a pattern of n groups
 
 abbrev pub IsGoodTarget : ℕ → Target → Type 0
 IsGoodTarget n (by_number k) = (1 ≤ k) × (k ≤ n)
@@ -92,7 +91,7 @@ number_from-least : (n : ℕ) (cs : List ℕ) → n ≤ number_from 10 n cs
 number_from-least n [] = omega arith
 number_from-least n (c ∷ cs) = omega (arith, number_from-least (n * 10 + digit c) cs)
 
--- the first digit is not 0, nor is the number
+-- A number whose first digit is not 0 is at least 1.
 number-least : (c : ℕ) (t : Source) → is_between 49 57 c ≡ true → 1 ≤ number 10 (front is_decimal (c ∷ t))
 unfolding front
 number-least c t e =
@@ -187,7 +186,7 @@ module _ (ctx : Context) (lawful : IsLawful ctx.setting.table) (n : ℕ) (within
   atom_by-good : (c : ℕ) (t : Source) → IsCodePoint c → AreCodePoints t → Finds (IsGoodAtom n) (atom_by ctx c t)
   atom_by-good c t h all = first_row-has (Finds (IsGoodAtom n)) (atom_rows ctx c t) (finds_none _) (atom_rows-good c t h all)
 
-  -- what an item begins with
+  -- The start of an item is valid.
   pub head_at-good : (t : Source) → AreCodePoints t → Finds (IsGoodHead n) (head_at ctx t)
   unfolding head_at
   head_at-good [] all = finds_none _

@@ -1,4 +1,4 @@
--- What is counted, and what keeps the limits.
+-- How counts and limits of a part relate to those of the pattern around it.
 use Rattle.std.proofs.Common.{◌≡◌, inl, inr, ℕ, ◌+◌, ◌≤◌, ap₂, arith}
 use Rattle.regress_syntax.specs.Syntax.{Counts, added, nothing_counted}
 use Rattle.regress_lexical.specs.declared.fault.FaultKind.{FaultKind}
@@ -16,7 +16,7 @@ added-nothing a =
     (let e : a.groups + 0 ≡ a.groups = omega arith in e)
     (let e : a.loops + 0 ≡ a.loops = omega arith in e)
 
--- What keeps the limits behind more, and as deep, keeps them behind less.
+-- If a whole keeps the limits after some counts, then so does a part of it.
 pub Fits-inside : (before mid : Counts) (depth deep : ℕ) (whole part : Part) →
     mid.groups + part.counts.groups ≤ before.groups + whole.counts.groups →
     mid.loops + part.counts.loops ≤ before.loops + whole.counts.loops →
@@ -27,7 +27,7 @@ Fits-inside before mid depth deep whole part g l d fits = record {
   levels = omega (arith, fits.levels);
 }
 
--- What is past a limit behind less, and no deeper, is so behind more.
+-- If a part is past a limit, then so is the whole around it.
 pub Exceeds-around : (kind : FaultKind) (before mid : Counts) (depth deep : ℕ) (whole part : Part) →
     mid.groups + part.counts.groups ≤ before.groups + whole.counts.groups →
     mid.loops + part.counts.loops ≤ before.loops + whole.counts.loops →

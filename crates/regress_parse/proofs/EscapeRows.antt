@@ -1,4 +1,4 @@
--- Which row an escape is, by its first code point.
+-- Which production an escape belongs to, by its first code point.
 use Rattle.std.proofs.Common.{◌≡◌, ℕ, Bool, true, false, cond, ◌&&◌, ◌||◌, ◌==◌, ◌∷◌, Option, Some, None, ⊎_elim, ap, subst, eqb-true, sym, ◌∙◌, arith}
 use Rattle.std.proofs.lemmas.Bool.{cond-true, cond-false, or_cases, and_parts}
 use Rattle.std.proofs.lemmas.Bool.Decides.{nat_tests}
@@ -21,19 +21,19 @@ module _ (ctx : Context) (s : Source) (c : ℕ) (t : Source) (front : s ≡ c �
         | None ↦ first_row (escape_rows ctx c t)
       ]) e
 
-  -- an escape that is a class
+  -- a class escape
   pub class_read : (named : CharacterClassType × Bool) → class_letter c ≡ Some named →
       escaped_at ctx s ≡ Some (class_escape ctx.setting.flags named.0 named.1, t)
   class_read named letter = by_letter (Some named) letter
 
-  -- a boundary
+  -- a word boundary
   pub boundary_read : c ≡ 98 → escaped_at ctx s ≡ Some (boundary ctx.setting.flags false, t)
   boundary_read e = ap (escaped_at ctx) (front ∙ ap (λ d. d ∷ t) e)
 
   pub no_boundary_read : c ≡ 66 → escaped_at ctx s ≡ Some (boundary ctx.setting.flags true, t)
   no_boundary_read e = ap (escaped_at ctx) (front ∙ ap (λ d. d ∷ t) e)
 
-  -- a backslash that stands alone
+  -- a literal backslash, before a `c`
   pub lone_read : is_lone_backslash ctx.setting.flags.unicode c t ≡ true → escaped_at ctx s ≡ Some (literal ctx.setting.flags 92, s)
   lone_read alone =
       let letter : c ≡ 99 = grind (arith, nat_tests, alone) in
@@ -42,7 +42,7 @@ module _ (ctx : Context) (s : Source) (c : ℕ) (t : Source) (front : s ≡ c �
       (sym letter) (λ h. cond-true _ _ _ h) alone
       ∙ ap (λ (r : Source). Some (literal ctx.setting.flags 92, r)) (sym front)
 
-  -- an escape that is a property
+  -- a property escape
   pub property_read : (is_one_of "pP" c && (ctx.setting.flags.unicode || ctx.setting.flags.unicode_sets)) ≡ true →
       escaped_at ctx s ≡ property_atom_at ctx (c == 80) t
   property_read both =
@@ -55,7 +55,7 @@ module _ (ctx : Context) (s : Source) (c : ℕ) (t : Source) (front : s ≡ c �
       (λ (large : (c == 80) ≡ true). subst (λ d. escaped_by ctx d t ≡ property_atom_at ctx (d == 80) t) (sym (eqb-true c 80 large)) (cond-true _ _ _ parts.1))
       (or_cases (c == 112) (c == 80) letter)
 
-  -- an escape that is none of these
+  -- an escape of none of these kinds
   module _ (letter : class_letter c ≡ None) (small : (c == 98) ≡ false) (large : (c == 66) ≡ false)
       (alone : is_lone_backslash ctx.setting.flags.unicode c t ≡ false)
       (property : (is_one_of "pP" c && (ctx.setting.flags.unicode || ctx.setting.flags.unicode_sets)) ≡ false) where

@@ -1,5 +1,5 @@
--- What is accepted was accepted by the Rust crate's rule on names, which compares the numbers of alternatives alone, level by
--- level, whatever parentheses they belong to. The pattern is the same, and so is its tree.
+-- Every accepted pattern is also accepted by the rule of the Rust crate on duplicate names, with the same tree. That
+-- rule compares only the numbers of the alternatives, depth by depth, whichever groups they belong to.
 use Rattle.std.proofs.Common.{◌≡◌, ap, IsTrue}
 use Rattle.regress_base.specs.Table.{IsLawful}
 use Rattle.regress_tree.specs.Setting.{Setting}
@@ -14,7 +14,7 @@ use Rattle.regress_parse.specs.TreeOf.{tree_of}
 use Rattle.regress_parse.specs.Accepted.{IsDerived, IsWithinLimits, IsAccepted}
 use Rattle.regress_parse.proofs.AcceptedLemmas.{same_derived}
 
--- as `IsAccepted`, but for the rule on names
+-- as `IsAccepted`, except for the rule on names
 pub record IsAcceptedByNumbers (setting : Setting) (source : Source) (p : Pattern) : Type 0 where
   pub derived : IsDerived setting source p
   pub limits : IsWithinLimits p

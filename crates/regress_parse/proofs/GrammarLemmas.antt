@@ -1,4 +1,5 @@
--- The reading function reads what the grammar relates, and nothing else. So a source stands for one syntax tree at most.
+-- The parsing function `pattern_at` agrees with the grammar's relation, so at most one syntax tree is derived from a
+-- source.
 use Rattle.std.proofs.Common.{◌≡◌, ℕ, zero, suc, ⊎_elim, true, false, [], ◌∷◌, drop, Option, Some, refl, sym, ap, ◌∙◌, subst, eqb-true}
 use Rattle.std.proofs.lemmas.Option.{none-some, same_Some, cond_some}
 use Rattle.std.proofs.lemmas.Bool.{cond-true, cond-false, cases_Bool}
@@ -16,7 +17,7 @@ at_this : (c : ℕ) (t : Source) → is_at c t ≡ true → t ≡ c ∷ drop 1 t
 at_this c [] e = cc
 at_this c (d ∷ t) e = ap (λ x. x ∷ t) (eqb-true d c e)
 
--- ---- what the function reads is in the relation
+-- ---- soundness: what the function parses is in the relation
 
 abbrev IsSound : (Context → Source → Found Pattern) → Type 0
 IsSound f = (ctx : Context) (t : Source) (x : Pattern × Source) → f ctx t ≡ Some x → IsPattern ctx x.0 t x.1
@@ -95,9 +96,9 @@ pub pattern_at-sound : IsSound pattern_at
 unfolding pattern_at
 pattern_at-sound ctx t y e = read_pattern-sound (enough t) ctx t y e
 
--- ---- what is in the relation the function reads
+-- ---- completeness: the function parses what is in the relation
 
--- no item begins where an alternative ends
+-- No item starts where an alternative ends.
 none_at_end : (ctx : Context) (t : Source) (x : Head × Source) → head_at ctx t ≡ Some x → ends_alternative t ≡ false
 none_at_end ctx t x front =
     ⊎_elim (λ (ends : ends_alternative t ≡ true). absurd (none-some x (sym (no_head_at_end ctx t ends) ∙ front)))

@@ -1,4 +1,4 @@
--- The capture groups of a pattern's tree are the pattern's, numbered as they open.
+-- The capture groups of a pattern's tree are those of the pattern, numbered in the order in which they open.
 use Rattle.std.proofs.Common.{◌≡◌, ℕ, ◌+◌, false, cond, ◌&&◌, ◌==◌, nat_le, nat_lt, List, [], ◌∷◌, ◌++◌, length, Option, Some, None, option_map, count_by, All, encode_utf8_all, refl, sym, ap, ap₂, subst, ◌∙◌, arith, append-nil}
 use Rattle.std.specs.List.Sorted.{IsPermutation}
 use Rattle.std.proofs.lemmas.List.{length-append}
@@ -35,7 +35,7 @@ length-numbered : (n : ℕ) (xs : List (Option Name)) → length (numbered n xs)
 length-numbered n [] = refl
 length-numbered n (x ∷ xs) = omega (arith, length-numbered (n + 1) xs)
 
--- ---- as many names as groups, `None` where a group has none
+-- ---- one name for each group, `None` for an unnamed one
 
 length-names_of_group : (kind : Group) → length (names_of_group kind) ≡ opened_by kind
 length-names_of_group grouping = refl
@@ -43,7 +43,7 @@ length-names_of_group (modified change) = refl
 length-names_of_group (capture name) = refl
 length-names_of_group (look negate direction) = refl
 
--- a quantifier opens none
+-- A quantifier opens no group.
 groups_of_times : (q : Option Quantifier) → (counts_of_times q).groups ≡ 0
 groups_of_times None = refl
 groups_of_times (Some q) = refl
@@ -108,7 +108,7 @@ captures-tree_of_atom table all (back_reference flags to) =
     captures-alternation (references flags.icase (referred all to))
     (references-have CapturesNothing flags.icase (referred all to) (λ i k lt. refl))
 
--- ---- in either direction a tree has the groups of its pattern
+-- ---- the tree has the groups of its pattern, in either direction
 
 captures-turned : (d : Direction) (ts : Trees) → IsPermutation (captures_in_row ts) (captures_in_row (turned d ts))
 captures-turned forwards ts = IsPermutation-refl (captures_in_row ts)
@@ -120,7 +120,7 @@ captures-joined d (more_trees t no_trees) =
     subst (IsPermutation (captures t ++ [])) (append-nil (captures t)) (IsPermutation-refl (captures t ++ []))
 captures-joined d (more_trees t (more_trees u us)) = captures-turned d (more_trees t (more_trees u us))
 
--- two parts, the second behind the k groups of the first
+-- Two parts, of which the second is after the k groups of the first.
 both_permuted : (n k : ℕ) (xs ys : List (Option Name)) (cs ds : List Capture) → length xs ≡ k → IsPermutation (numbered n xs) cs →
     IsPermutation (numbered (n + k) ys) ds → IsPermutation (numbered n (xs ++ ys)) (cs ++ ds)
 both_permuted n k xs ys cs ds e first second =
@@ -131,7 +131,7 @@ both_permuted n k xs ys cs ds e first second =
 
 module _ (table : Table) (all : List (Option Name)) where
   mutual
-    -- the groups behind n opened ones have the pattern's names and the ids from n on, in some order
+    -- After n opened groups, the tree has the pattern's names and the ids from n on, in some order.
     pub permuted-tree_of_pattern : (d : Direction) (n : ℕ) (p : Pattern) →
         IsPermutation (numbered n (names p)) (captures (tree_of_pattern table all d n p))
     permuted-tree_of_pattern d n (one ts) =
@@ -160,15 +160,15 @@ module _ (table : Table) (all : List (Option Name)) where
         (both_permuted n _ _ _ _ _ (length-names_of_group kind) (IsPermutation-refl (numbered n (names_of_group kind)))
         (permuted-tree_of_pattern (direction_of_group kind d) (n + opened_by kind) p))
 
-  -- their number
+  -- The tree has as many captures as the pattern has groups.
   pub length-captures-tree_of_pattern : (d : Direction) (n : ℕ) (p : Pattern) →
       length (captures (tree_of_pattern table all d n p)) ≡ (counts p).groups
   length-captures-tree_of_pattern d n p =
       length_permutation _ _ (permuted-tree_of_pattern d n p) ∙ length-numbered n (names p) ∙ length-names p
 
--- ---- their ids
+-- ---- ids
 
--- one if k is below n, else none
+-- 1 if k is less than n, else 0
 abbrev pub below : ℕ → ℕ → ℕ
 below k n = cond (nat_lt k n) 1 0
 
@@ -185,7 +185,7 @@ count_id-numbered k n (x ∷ xs) =
     let first = sum_by-cons (λ c. cond (c.id == k) 1 0) (record { id = n; name = option_map encode_utf8_all x }) (numbered (n + 1) xs) in
     omega (arith, first, below-add-one k n, count_id-numbered k (n + 1) xs, ap (below k) same)
 
--- the ids of groups behind n opened ones are those from n on, each once
+-- After n opened groups, the ids are those from n on, each once.
 count_id-permuted : (k n m : ℕ) (xs : List (Option Name)) (cs : List Capture) → length xs ≡ m → IsPermutation (numbered n xs) cs →
     below k n + count_id k cs ≡ below k (n + m)
 count_id-permuted k n m xs cs e permuted =
@@ -200,7 +200,7 @@ between : (k n m : ℕ) → below k n + cond (nat_le n k && nat_lt k (n + m)) 1 
 between k n m = grind (arith, nat_tests)
 
 module _ (table : Table) (all : List (Option Name)) where
-  -- those of an item lie inside the loop around it
+  -- The ids of an item are inside the range of the loop around it.
   pub HasGroups-tree_of_item : (d : Direction) (n : ℕ) (x : Item) → HasGroups n (n + (counts_of_item x).groups) (tree_of_item table all d n x)
   HasGroups-tree_of_item d n x k =
       omega (
@@ -209,7 +209,7 @@ module _ (table : Table) (all : List (Option Name)) where
         between k n (counts_of_item x).groups,
       )
 
-  -- and those of a pattern inside the lookaround around it
+  -- The ids of a pattern are inside the range of the lookaround around it.
   pub HasGroups-tree_of_pattern : (d : Direction) (n : ℕ) (p : Pattern) → HasGroups n (n + (counts p).groups) (tree_of_pattern table all d n p)
   HasGroups-tree_of_pattern d n p k =
       omega (

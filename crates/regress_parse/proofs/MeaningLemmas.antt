@@ -1,4 +1,4 @@
--- The tree of a pattern means what the pattern does.
+-- The tree of a pattern has the meaning of the pattern.
 use Rattle.std.proofs.Common.{◌≡◌, ℕ, ◌+◌, ◌-◌, Bool, true, false, cond, not, ◌&&◌, ◌||◌, ◌==◌, List, [], ◌∷◌, ◌++◌, append-nil, append_assoc, length, Option, Some, None, encode_utf8_all, refl, sym, ap, subst, ◌∙◌, arith}
 use Rattle.std.proofs.lemmas.Bool.Decides.{nat_tests}
 use Rattle.regress_base.specs.Brackets.{is_accepted}
@@ -35,7 +35,7 @@ use Rattle.regress_tree.proofs.laws.Strings.{Simulates-any_string}
 use Rattle.regress_tree.proofs.laws.Turned.{steps-row_reverse}
 
 module _ (setting : Setting) (bytes : List ℕ) (d : Direction) where
-  -- a row of one tree is the same turned
+  -- Reversing a list of one tree changes nothing.
   steps-turned_one : (e : Direction) (t : Tree) (s : State) →
       steps_in_row setting bytes d (turned e (more_trees t no_trees)) s ≡ steps setting bytes d t s
   steps-turned_one forwards t s = flat_map-stay (steps setting bytes d t s)
@@ -45,14 +45,14 @@ module _ (setting : Setting) (bytes : List ℕ) (d : Direction) where
   steps-turned_none forwards s = refl
   steps-turned_none backwards s = refl
 
-  -- a row joined to one tree matches what the row does, turned
+  -- A list joined to one tree matches what the list does, in the order of the direction.
   steps-joined : (e : Direction) (row : Trees) (s : State) →
       steps setting bytes d (joined e row) s ≡ steps_in_row setting bytes d (turned e row) s
   steps-joined e no_trees s = sym (steps-turned_none e s)
   steps-joined e (more_trees t no_trees) s = sym (steps-turned_one e t s)
   steps-joined e (more_trees t (more_trees u us)) s = refl
 
-  -- its parts match in the order of the direction
+  -- The parts of a list match in the order of the direction.
   steps-turned : (e : Direction) (t : Tree) (ts : Trees) (s : State) →
       steps_in_row setting bytes d (turned e (more_trees t ts)) s
       ≡ along e (steps setting bytes d t) (steps_in_row setting bytes d (turned e ts)) s
@@ -65,7 +65,8 @@ Simulates-along text forwards e f g h k first second = Simulates-then text e f g
 Simulates-along text backwards e f g h k first second = Simulates-then text e h k f g second first
 
 module _ (setting : Setting) (text : List ℕ) where
-  -- Over the bytes the tree, or the row turned, does what the step does over the characters.
+  -- Over the bytes of the text, the tree (or the list, in the order of the direction) does what the step does over its
+  -- characters.
   abbrev pub TreeSimulates : Direction → Step → Tree → Type 0
   TreeSimulates d f t = Simulates text d f (steps setting (encode_utf8_all text) d t)
 
@@ -104,7 +105,7 @@ module _ (setting : Setting) (text : List ℕ) (is_text : IsText text) where
   dot_simulates d true = Simulates-one_character text is_text d (λ x. true)
   dot_simulates d false = Simulates-one_character text is_text d (λ x. not (is_line_terminator x))
 
-  -- the class of a literal, whatever it has
+  -- The set of a literal, whatever its members are.
   module _ (d : Direction) (icase unicode : Bool) (c : ℕ) where
     set_simulates : (members : List ℕ) → class_of setting.table icase unicode c ≡ members →
         TreeSimulates setting text d (one_character d (of_characters text) (stands_for setting.table icase unicode c))
@@ -128,21 +129,21 @@ module _ (setting : Setting) (text : List ℕ) (is_text : IsText text) where
   literal_simulates d true unicode c = members_simulate d true unicode c (class_of setting.table true unicode c) refl
   literal_simulates d false unicode c = Simulates-one_character text is_text d (λ x. x == c)
 
-  -- a set, inverted or not
+  -- A bracket simulates a set, inverted or not.
   bracket_simulates : (d : Direction) (inverted : Bool) (p q : ℕ → Bool) → ((x : ℕ) → q x ≡ differ inverted (p x)) →
       TreeSimulates setting text d (one_character d (of_characters text) q) (leaf (bracket inverted (intervals_of p)))
   bracket_simulates d inverted p q e =
       agreeing_simulates text is_text d q (is_accepted inverted (intervals_of p))
       (λ x scalar_value. is_accepted-scalar inverted p x scalar_value ∙ sym (e x))
 
-  -- the empty set holds no character
+  -- The empty set has no character.
   moved-none : (s : State) (found : Option Read) → moved (lists []) s found ≡ []
   moved-none s None = refl
   moved-none s (Some read) = refl
 
-  -- ---- parts of which one is to match
+  -- ---- alternations
 
-  -- what the first part matches, and then what the next ones do
+  -- the outcomes of the first part, then those of the next ones
   abbrev any_part : Direction → List Tree → Step
   any_part d [] = fail
   any_part d (t ∷ ts) = steps setting (encode_utf8_all text) d t or_ any_part d ts
@@ -208,7 +209,7 @@ module _ (setting : Setting) (text : List ℕ) (is_text : IsText text) where
   strings_part_simulates d icase (s ∷ ss) =
       one_simulates d _ (leaf (string_set (s ∷ ss) icase)) (strings_simulate d icase (s ∷ ss))
 
-  -- a bracket that holds nothing takes nothing
+  -- An empty bracket matches no character.
   taken-none : (s : State) (found : Option Read) → moved (is_accepted false []) s found ≡ []
   unfolding is_member
   taken-none s None = refl
@@ -222,7 +223,7 @@ module _ (setting : Setting) (text : List ℕ) (is_text : IsText text) where
   empty_part_simulates d true = one_simulates d stay (leaf empty) (Simulates-stay text d)
   empty_part_simulates d false = Simulates-fail text d
 
-  -- what a test passes, which a bracket accepts
+  -- a test on characters, and the bracket that accepts the same ones
   module _ (d : Direction) (p q : ℕ → Bool) where
     abbrev BracketSimulates : Bool → List Bounds → Type 0
     BracketSimulates negated closed = TreeSimulates setting text d (one_character d (of_characters text) q) (leaf (bracket negated closed))
@@ -272,7 +273,7 @@ module _ (setting : Setting) (names : List (Option Name)) (text : List ℕ) (is_
       (references_simulate setting text is_text d flags.icase (referred names to))
 
   mutual
-    -- equal with repeats, whatever stands before
+    -- The simulation holds up to repeated outcomes, whatever is before the pattern.
     pub pattern_simulates : (d : Direction) (n : ℕ) (p : Pattern) →
         TreeSimulates setting text d (pattern_steps setting names text d n p) (tree_of_pattern setting.table names d n p)
     pattern_simulates d n (one ts) = joined_simulates setting text d _ (trees_of_terms setting.table names d n ts) (terms_simulate d n ts)
@@ -298,7 +299,8 @@ module _ (setting : Setting) (names : List (Option Name)) (text : List ℕ) (is_
         (tree_of_pattern setting.table names (direction_of_group kind d) (n + opened_by kind) p)
         (pattern_simulates (direction_of_group kind d) (n + opened_by kind) p)
 
--- On every text and from every state the tree's outcomes are the pattern's, place for byte place, in their order.
+-- On every text and from every state, the outcomes of the tree are those of the pattern, in the same order, as byte
+-- offsets.
 pub tree_of-means : (setting : Setting) (p : Pattern) → Means setting (tree_of setting.table p) p
 tree_of-means setting p text s is_text in' =
     let body = tree_of_pattern setting.table (names p) forwards 0 p in

@@ -1,4 +1,4 @@
--- What a call of the parser builds, from what it answers.
+-- What a call of the parser builds, from its result.
 use Rattle.std.proofs.Common.{◌≡◌, ◌∙◌, ℕ, Some, refl, sym, ap, subst}
 use Rattle.std.specs.Option.{IsSomeAnd}
 use Rattle.regress_tree.specs.declared.ir.node.Node.{Node}
@@ -14,7 +14,7 @@ module _ {A : Type 0} (part : A → Part) (d : Direction) (depth : ℕ) (before 
       (x : A × Source) × (found ≡ Some x) × Builds d depth before new node (part x.0) x.1
   built node h = some_and found (λ x. Builds d depth before new node (part x.0) x.1) h
 
-  -- the same, where the parser stands
+  -- the same, at the position of the parser
   pub built_here : (node : Node) → IsSomeAnd found (λ x. Builds d depth before new node (part x.0) x.1) →
       (x : A) × (found ≡ Some (x, text new)) × Builds d depth before new node (part x) (text new)
   built_here node h =
@@ -24,7 +24,7 @@ module _ {A : Type 0} (part : A → Part) (d : Direction) (depth : ℕ) (before 
         record { node = x.2.node; fits = x.2.fits; counts = x.2.counts; rest = refl },
       )
 
-  -- what holds of whatever was built holds of what was found
+  -- What holds for every part that was built holds for the one that was found.
   pub of_built : {B : Type 0} (more : Found A → Found B) (P : Found B → Type 0) (node : Node) →
       ((x : A) → found ≡ Some (x, text new) → Builds d depth before new node (part x) (text new) → P (more (Some (x, text new)))) →
       IsSomeAnd found (λ x. Builds d depth before new node (part x.0) x.1) → P (more found)

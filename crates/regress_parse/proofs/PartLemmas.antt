@@ -1,4 +1,4 @@
--- Parts of which one is to match: what holds of all of them.
+-- What holds of all parts of an alternation.
 use Rattle.std.proofs.Common.{ℕ, Bool, true, false, cond, not, List, [], ◌∷◌, ◌++◌, All}
 use Rattle.std.proofs.lemmas.List.Elements.{All-nil, All-cons, All-head, All-tail, All-append, All-map}
 use Rattle.regress_base.specs.Intervals.{Bounds}

@@ -1,4 +1,4 @@
--- What a fault of a limit's kind tells of the source, and what a part of it counts at most.
+-- What an error on a limit implies for the source, and how much a part of a source counts at most.
 use Rattle.std.proofs.Common.{◌≡◌, ◌⊎◌, inl, inr, ℕ, zero, suc, ◌+◌, ◌<◌, ◌≤◌, ⊎_elim, Bool, true, false, [], ◌∷◌, length, drop, Option, Some, None, sym, ap, ◌∙◌, subst, arith, length-drop}
 use Rattle.std.proofs.lemmas.Option.{none-some, same_Some, cond_some}
 use Rattle.std.proofs.lemmas.Bool.{false≢true}
@@ -20,9 +20,9 @@ use Rattle.regress_parse.specs.Parsing.{Reaches, Spends}
 use Rattle.regress_parse.specs.Reader.{Term, closed, item_behind, item_by, quantified, term_by, read_terms, read_pattern, enough, pattern_at, terms_at, item_at, term_at}
 use Rattle.regress_parse.proofs.ReaderLemmas.{more_by, others_by}
 
--- ---- kinds
+-- ---- kinds of syntax errors
 
--- a kind that speaks of no limit
+-- a kind that is about no limit
 pub no_limit : (before : Counts) (depth : ℕ) (t : Source) (kind : FaultKind) → is_limit kind ≡ false → Reaches kind before depth t
 no_limit before depth t kind none = record {
   groups = λ is. absurd (false≢true (sym none ∙ ap is_limit is));
@@ -30,7 +30,7 @@ no_limit before depth t kind none = record {
   levels = λ is. absurd (false≢true (sym none ∙ ap is_limit is));
 }
 
--- one that speaks of levels alone
+-- a kind that is about nesting depth alone
 pub levels_reach : (before : Counts) (depth : ℕ) (t : Source) (kind : FaultKind) →
     (is_limit kind ≡ false) ⊎ ((kind ≡ TooDeep) × (max_nesting_depth < depth + length t)) → Reaches kind before depth t
 levels_reach before depth t kind (inl none) = no_limit before depth t kind none
@@ -56,7 +56,7 @@ loops_reach before depth t kind is many = record {
   levels = λ levels. absurd (cc);
 }
 
--- What reaches past a limit from one place does from a place before it.
+-- If a limit is exceeded from one position, then it is from each earlier one.
 pub reaches_before : {before now : Counts} {t rest : Source} (depth deep : ℕ) → Spends before now t rest → deep + length rest ≤ depth + length t →
     (kind : FaultKind) → Reaches kind now deep rest → Reaches kind before depth t
 reaches_before depth deep spent less kind h = record {
@@ -65,7 +65,7 @@ reaches_before depth deep spent less kind h = record {
   levels = λ is. omega (arith, less, h.levels is);
 }
 
--- the whole source
+-- A whole source that exceeds a limit is long enough to do so.
 pub whole_exceeds : (t : Source) (kind : FaultKind) → Reaches kind nothing_counted 1 t → MayExceed t kind
 whole_exceeds t kind h = record {
   groups = λ is. omega (arith, h.groups is);
@@ -73,7 +73,7 @@ whole_exceeds t kind h = record {
   levels = λ is. omega (arith, h.levels is);
 }
 
--- what the scan refuses
+-- A source that the scan rejects for a limit is long enough to exceed it.
 pub marks_exceed : (sets : Bool) (table : _) (t : Source) (kind : FaultKind) → MarksShow (marks sets table plain t) kind → MayExceed t kind
 marks_exceed sets table t kind (inl (is, h)) = record {
   groups = λ groups. absurd (cc);
@@ -91,12 +91,12 @@ marks_exceed sets table t kind (inr (inr (is, many))) = record {
   levels = λ levels. absurd (cc);
 }
 
--- where a quantifier may begin a code point is left
+-- Where a quantifier may start, at least one code point remains.
 pub begins_some : (t : Source) → may_begin t ≡ true → 0 < length t
 begins_some [] e = cc
 begins_some (c ∷ t) e = omega arith
 
--- ---- what is counted
+-- ---- counts
 
 pub spends_same : (now : Counts) (t : Source) → Spends now now t t
 spends_same now t = record { groups = omega arith; loops = omega arith }
@@ -104,11 +104,11 @@ spends_same now t = record { groups = omega arith; loops = omega arith }
 pub spends_then : {before mid now : Counts} {t u rest : Source} → Spends before mid t u → Spends mid now u rest → Spends before now t rest
 spends_then h k = record { groups = omega (arith, h.groups, k.groups); loops = omega (arith, h.loops, k.loops) }
 
--- what is read and not counted
+-- Parsing without counting spends nothing.
 pub spends_read : (now : Counts) (t rest : Source) → length rest ≤ length t → Spends now now t rest
 spends_read now t rest shorter = record { groups = omega (arith, shorter); loops = omega (arith, shorter) }
 
--- what a part counts that is read from the front of a source
+-- what a part counts that is parsed from the start of a source
 pub record Costs (part : Counts) (t rest : Source) : Type 0 where
   pub groups : part.groups + length rest ≤ length t
   pub loops : part.loops + length rest ≤ length t
@@ -119,7 +119,7 @@ costs_spends before same h = record {
   loops = omega (arith, ap (λ (c : Counts). c.loops) same, h.loops);
 }
 
--- what reads patterns counts no more than it reads
+-- A parser of patterns counts at most the code points that it consumes.
 abbrev InnerCosts : (Context → Source → Found Pattern) → Type 0
 InnerCosts inner = (ctx : Context) (t : Source) (y : Pattern × Source) → inner ctx t ≡ Some y → Costs (counts y.0) t y.1
 
@@ -133,7 +133,7 @@ closed-costs kind x y e =
       omega (arith, ap (λ (z : Item × Source). length z.1) same, length-drop 1 x.1),
     )
 
--- behind the code point that every item begins with
+-- an item, after the code point with which every item starts
 item_behind-costs : (inner : Context → Source → Found Pattern) → InnerCosts inner → (ctx : Context) (t : Source) (x : Head × Source) (y : Item × Source) →
     length x.1 < length t → item_behind inner ctx x ≡ Some y → Costs (counts_of_item y.0) t y.1
 item_behind-costs inner h ctx t (single a, u) y shorter e =
@@ -157,7 +157,7 @@ item_by-costs inner h ctx t y e =
     let found = found_then (head_at ctx t) (item_behind inner ctx) y e in
     item_behind-costs inner h ctx t found.0 y (head_at-shortens ctx t found.0 found.1) found.2
 
--- one loop where there is a quantifier, which takes a code point
+-- A quantifier counts one loop and takes at least one code point.
 times-cost : (ctx : Context) (allowed : Bool) (x : Item) (t : Source) (q : Option Quantifier) (rest : Source) → times_at ctx allowed t ≡ Some (q, rest) →
     (counts_of_term x q).loops + length rest ≤ (counts_of_item x).loops + length t
 times-cost ctx allowed x t None rest e = omega (arith, times_at-shortens ctx allowed t (None, rest) e)

@@ -1,4 +1,4 @@
--- The reading function: it needs no more calls than the source allows, and its equations.
+-- The parsing function: the bound on its calls suffices for every source, and its equations.
 use Rattle.std.proofs.Common.{◌≡◌, ℕ, zero, suc, ◌+◌, ◌*◌, ◌<◌, ◌≤◌, ⊎_elim, true, false, cond, length, drop, Option, Some, refl, sym, ap, ◌∙◌, arith, length-drop}
 use Rattle.std.proofs.lemmas.Option.{none-some, same_Some, cond_some}
 use Rattle.regress_base.specs.declared.types.Quantifier.{Quantifier}
@@ -9,14 +9,14 @@ use Rattle.regress_lexical.proofs.laws.Sources.{found_then, then_same, chosen, c
 use Rattle.regress_syntax.proofs.laws.Rows.{head_at-shortens, times_at-shortens}
 use Rattle.regress_parse.specs.Reader.{Term, closed, item_behind, item_by, quantified, term_by, read_terms, read_pattern, enough, pattern_at, terms_at, item_at, term_at}
 
--- Readers of patterns, in every context, and what they keep.
+-- parsing functions for patterns, in every context, and what they keep
 abbrev Inner : Type 0
 Inner = Context → Source → Found Pattern
 
 abbrev InnerShortens : Inner → Type 0
 InnerShortens inner = (ctx : Context) → Shortens (inner ctx)
 
--- the two read alike what is shorter than n
+-- Both functions parse sources shorter than n alike.
 abbrev Agree : Inner → Inner → ℕ → Type 0
 Agree f g n = (ctx : Context) (u : Source) → length u < n → f ctx u ≡ g ctx u
 
@@ -62,7 +62,7 @@ item_by-same f g ctx t agree =
 term_by-same : (f g : Inner) (ctx : Context) (t : Source) → Agree f g (length t) → term_by f ctx t ≡ term_by g ctx t
 term_by-same f g ctx t agree = ap (λ found. found >>= quantified ctx) (item_by-same f g ctx t agree)
 
--- terms and alternatives behind a first one, where these read them
+-- the terms and alternatives after a first one, if those are parsed
 abbrev pub more_by : (Source → Found Terms) → Term × Source → Found Terms
 more_by read x = read x.1 >>= λ (y : Terms × Source). Some (more_terms x.0.0 x.0.1 y.0, y.1)
 
@@ -118,7 +118,7 @@ mutual
         others_by-shortens (read_pattern n ctx) (read_pattern-shortens n ctx) first.0 y first.2,
       )
 
--- More calls than enough change nothing.
+-- A larger bound changes nothing once the bound suffices.
 mutual
   unfolding read_terms
 
@@ -169,15 +169,15 @@ pub term_at-shortens : (ctx : Context) (t : Source) (y : Term × Source) → ter
 unfolding item_at term_at
 term_at-shortens ctx t y e = term_by-shortens pattern_at pattern_at-shortens ctx t y e
 
--- the terms behind a first one
+-- the terms after a first one
 abbrev pub more_of : Context → Term × Source → Found Terms
 more_of ctx = more_by (terms_at ctx)
 
--- the alternatives behind a first one
+-- the alternatives after a first one
 abbrev pub others_of : Context → Terms × Source → Found Pattern
 others_of ctx = others_by (pattern_at ctx)
 
--- The equations of the reading function, without bounds.
+-- The equations of the parsing function, without a bound.
 pub terms_at-is : (ctx : Context) (t : Source) →
     terms_at ctx t ≡ cond (ends_alternative t) (Some (no_terms, t)) (term_at ctx t >>= more_of ctx)
 unfolding read_terms terms_at item_at term_at

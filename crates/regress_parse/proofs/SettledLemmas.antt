@@ -1,4 +1,4 @@
--- What a scan finds misplaced leaves no pattern to be accepted that begins so.
+-- A source that starts with a misplaced code point, as the scan finds it, is not accepted.
 use Rattle.std.proofs.Common.{◌≡◌, ℕ, suc, ◌+◌, ◌-◌, false, ◌++◌, take, drop, length, Some, Err, refl, sym, ap, subst, arith}
 use Rattle.regress_base.specs.Table.{IsLawful}
 use Rattle.regress_tree.specs.Setting.{Setting}
@@ -45,7 +45,7 @@ pub settled : (setting : Setting) (t : Source) (fault : Fault) → IsLawful sett
 settled setting t (Refused r) lawful located = located_settles setting t r lawful located
 settled setting t (Memory e) lawful located = tt
 
--- with the place told
+-- the same for the error with its position
 pub placed_settles : (n : ℕ) (fault : Fault) (placed : PlacedFault) (P : FaultKind → ℕ → Type 0) → IsPlaced n fault placed →
     OnRefusal fault (λ r. P r.kind (n - r.left)) → TellsAt {X = Regex} (Err placed) P
 placed_settles n fault (PlacedSyntax e place) P (r, is, text, here, within) settles =

@@ -1,4 +1,4 @@
--- What the parser's loop over terms has read so far, as facts on sources, syntax trees and lists of nodes.
+-- Invariants of the parser's loop over terms, as facts on sources, syntax trees and lists of nodes.
 use Rattle.std.proofs.Common.{◌≡◌, ℕ, ◌+◌, ◌≤◌, max, true, false, List, [], ◌∷◌, ◌++◌, length, Some, None, refl, sym, ap, ap₂, ◌∙◌, arith, add_assoc, Option, Result, Ok, Err, subst}
 use Rattle.std.specs.Option.{IfSome, IsSomeAnd}
 use Rattle.std.proofs.lemmas.Option.{same_Some}
@@ -24,7 +24,7 @@ use Rattle.regress_parse.proofs.BuildLemmas.{trees-push}
 use Rattle.regress_parse.proofs.ReaderLemmas.{terms_at-is, term_at-shortens, more_of}
 use Rattle.regress_parse.proofs.CountLemmas.{Fits-inside, Exceeds-around, added-nothing}
 
--- terms before others
+-- terms before other terms
 abbrev pub append : Terms → Terms → Terms
 append no_terms ys = ys
 append (more_terms x q xs) ys = more_terms x q (append xs ys)
@@ -52,7 +52,7 @@ append-none : (xs : Terms) → append xs no_terms ≡ xs
 append-none no_terms = refl
 append-none (more_terms x q xs) = ap (more_terms x q) (append-none xs)
 
--- terms that were read before what is found
+-- terms that were parsed before what is found
 abbrev behind : Terms → Terms × Source → Found Terms
 behind xs (ys, rest) = Some (append xs ys, rest)
 
@@ -78,7 +78,7 @@ module _ (table : Table) (names : List (Option Name)) (d : Direction) where
       (add_assoc n c (counts_of_terms xs).groups))
 
   module _ (ctx : Context) (depth : ℕ) (t0 : Source) (before : Counts) where
-    -- From t0, behind what was counted before, the terms were read up to t, and these are their nodes.
+    -- From `t0`, after what was counted before, the terms were parsed up to `t`, and the nodes are theirs.
     pub record TermsSoFar (t : Source) (now : Counts) (parts : List Node) : Type 0 where
       pub terms : Terms
       pub reads : terms_at ctx t0 ≡ terms_at ctx t >>= behind terms
@@ -97,7 +97,7 @@ module _ (table : Table) (names : List (Option Name)) (d : Direction) where
       shorter = omega arith;
     }
 
-    -- one more term
+    -- One more term keeps the invariant.
     pub terms-step : (t : Source) (now : Counts) (parts : List Node) (node : Node) (x : Term) (rest : Source) (new : Counts) →
         TermsSoFar t now parts → ends_alternative t ≡ false → term_at ctx t ≡ Some (x, rest) →
         tree node ≡ (term_part table names x).node d now.groups → new ≡ added now (counts_of_term x.0 x.1) → Fits now depth (term_part table names x) →
@@ -134,7 +134,7 @@ module _ (table : Table) (names : List (Option Name)) (d : Direction) where
           shorter = omega (arith, h.shorter, term_at-shortens ctx t (x, rest) found);
         }
 
-    -- the first term
+    -- The invariant holds after the first term.
     pub terms-first : (node : Node) (x : Term) (rest : Source) (new : Counts) → ends_alternative t0 ≡ false → term_at ctx t0 ≡ Some (x, rest) →
         tree node ≡ (term_part table names x).node d before.groups → new ≡ added before (counts_of_term x.0 x.1) →
         Fits before depth (term_part table names x) → TermsSoFar rest new (node ∷ [])
@@ -144,7 +144,7 @@ module _ (table : Table) (names : List (Option Name)) (d : Direction) where
         (omega arith) (omega arith) (omega arith) fits))
         goes_on found built counts fits
 
-    -- the alternative has ended
+    -- The terms so far are the alternative, once it ends.
     pub terms-end : (t : Source) (now : Counts) (parts : List Node) (h : TermsSoFar t now parts) →
         ends_alternative t ≡ true → terms_at ctx t0 ≡ Some (h.terms, t)
     terms-end t now parts h ends =
@@ -152,7 +152,7 @@ module _ (table : Table) (names : List (Option Name)) (d : Direction) where
         ∙ ap (λ found. found >>= behind h.terms) (terms_at-is ctx t ∙ cond-true (ends_alternative t) _ _ ends)
         ∙ ap (λ ts. Some (ts, t)) (append-none h.terms)
 
-    -- a term that is none, or too much, is so for the alternative
+    -- If a term is invalid or past a limit, then so is the alternative.
     pub terms-fail : (kind : FaultKind) (t : Source) (now : Counts) (parts : List Node) → TermsSoFar t now parts →
         ends_alternative t ≡ false → IfSome (term_at ctx t) (λ x. Exceeds kind now depth (term_part table names x.0)) →
         IfSome (terms_at ctx t0) (λ x. Exceeds kind before depth (terms_part table names x.0))
@@ -193,7 +193,7 @@ module _ (table : Table) (names : List (Option Name)) (d : Direction) (ctx : Con
     levels = omega (arith, deep);
   }
 
-  -- an alternative without any term
+  -- an alternative without a term
   pub no_terms-yield : ends_alternative (text old) ≡ true → depth ≤ max_nesting_depth →
       Yields (terms_part table names) d depth (counted old) old (Ok Empty) (terms_at ctx (text old))
   no_terms-yield ends deep =
@@ -206,7 +206,7 @@ module _ (table : Table) (names : List (Option Name)) (d : Direction) (ctx : Con
         rest = refl;
       })
 
-  -- a first term that is none, or too much, is so for the alternative
+  -- If the first term is invalid or past a limit, then so is the alternative.
   pub first_term-fails : (kind : FaultKind) → ends_alternative (text old) ≡ false → depth ≤ max_nesting_depth →
       IfSome (term_at ctx (text old)) (λ x. Exceeds kind (counted old) depth (term_part table names x.0)) →
       IfSome (terms_at ctx (text old)) (λ x. Exceeds kind (counted old) depth (terms_part table names x.0))

@@ -1,4 +1,4 @@
--- A stable sort by falling length is the only one that there is.
+-- A stable sort by descending length is unique.
 use Rattle.std.proofs.Common.{◌≡◌, ℕ, zero, suc, ◌+◌, ◌<◌, ◌≤◌, inl, inr, Bool, true, false, cond, ◌==◌, List, [], ◌∷◌, ◌++◌, length, filter, get_or, Vec, All, refl, sym, ap, ap₂, ◌∙◌, subst, arith, add-one, append-nil}
 use Rattle.std.proofs.lemmas.List.Elements.{All-nil, All-cons, All-head, All-tail, All-append, All-filter, All-weaker, filter-append, filter_agree}
 use Rattle.std.proofs.lemmas.List.{length-append}
@@ -18,18 +18,18 @@ IsShorter n s = length s < n
 abbrev IsNoLonger : ℕ → List ℕ → Type 0
 IsNoLonger n s = length s ≤ n
 
--- no string is longer than one before it
+-- No string is longer than one before it.
 abbrev AreFalling : List (List ℕ) → Type 0
 AreFalling [] = Unit {0}
 AreFalling (s ∷ ss) = All (IsNoLonger (length s)) ss × AreFalling ss
 
--- those of one length
+-- the strings of length n
 abbrev of_length : ℕ → List (List ℕ) → List (List ℕ)
 of_length n = filter (λ s. length s == n)
 
 -- ---- the strings of each length
 
--- none is as long as this
+-- No string has length n if all are shorter.
 none_of_length : (n : ℕ) (ss : List (List ℕ)) → All (IsShorter n) ss → of_length n ss ≡ []
 none_of_length n [] h = refl
 none_of_length n (s ∷ ss) h =
@@ -52,7 +52,7 @@ past_own_length n s ss us e = by (length s == n) e
     by true h = cc
     by false h = h
 
--- Falling lists with the same strings of each length that occurs are one.
+-- Two descending lists with the same strings of each occurring length are equal.
 one_falling : (P : List ℕ → Type 0) (ss us : List (List ℕ)) → All P ss → All P us → AreFalling ss → AreFalling us →
     ((x : List ℕ) → P x → of_length (length x) ss ≡ of_length (length x) us) → ss ≡ us
 one_falling P [] [] hs ks f g same = refl
@@ -72,7 +72,7 @@ one_falling P (s ∷ ss) (u ∷ us) hs ks f g same =
       | inr (inr more) ↦ let e = sym (longer_than_all (length s) u us more g) ∙ sym h ∙ of_own_length s ss in cc
     ]
 
--- ---- by lengths that fall
+-- ---- strings by descending length
 
 All-shorter_than : (P : List ℕ → Type 0) (n : ℕ) (ss : List (List ℕ)) → All P ss → All P (shorter_than n ss)
 All-shorter_than P zero ss hs = All-nil P
@@ -117,14 +117,14 @@ shorter_than_falls zero ss = tt
 shorter_than_falls (suc n) ss =
     one_length_falls n (of_length n ss) (shorter_than n ss) (all_of_length n ss) (all_shorter n ss) (shorter_than_falls n ss)
 
--- all are as long
+-- All strings have length n.
 all_have_length : (n : ℕ) (ss : List (List ℕ)) → All (HasLength n) ss → of_length n ss ≡ ss
 all_have_length n [] h = refl
 all_have_length n (s ∷ ss) h =
     let own : (length s == n) ≡ true = let e : length s ≡ n = All-head (HasLength n) s ss h in grind (arith, nat_tests, e) in
     rw own (ap (λ xs. s ∷ xs) (all_have_length n ss (All-tail (HasLength n) s ss h)))
 
--- they have another length
+-- No string has length k if all have another length.
 none_have_length : (k n : ℕ) (ss : List (List ℕ)) → k < n → All (HasLength n) ss → of_length k ss ≡ []
 none_have_length k n [] l h = refl
 none_have_length k n (s ∷ ss) l h =
@@ -163,8 +163,7 @@ longest_first_of_length n ss =
           ∙ sym (none_of_length n ss (All-weaker (IsShorter bound) (IsShorter n) (λ s less. omega (arith, less, more)) ss (shorter_than_all ss)))
     ]
 
--- Strings that fall, and of each length that occurs are these in their order, are these with the longest first.
--- where there are strings, some stand there
+-- A nonempty list has a longest string.
 pub some_longest : (s : List ℕ) (ss : List (List ℕ)) → longest_first (s ∷ ss) ≡ [] → ⊥
 some_longest s ss none =
     let e = ap (of_length (length s)) (sym none) ∙ longest_first_of_length (length s) (s ∷ ss) ∙ of_own_length s ss in cc
@@ -175,12 +174,12 @@ longest_first_is P ss us hs ks f same =
     one_falling P us (longest_first ss) ks (All-longest_first P ss hs) f (shorter_than_falls (length (concat ss) + 1) ss)
     (λ x holds. same x holds ∙ sym (longest_first_of_length (length x) ss))
 
--- ---- what a sort leaves
+-- ---- the result of the sort
 
 past_first : (v : Vec ℕ Global) (vs : List (Vec ℕ Global)) (k : ℕ) (d : Vec ℕ Global) → get_or (v ∷ vs) (k + 1) d ≡ get_or vs k d
 past_first v vs k d = ap (λ i. get_or (v ∷ vs) i d) (add-one k)
 
--- where none is longer than the one before it
+-- A list is descending if no element is longer than the one before it.
 adjacent_fall : (vs : List (Vec ℕ Global)) → ((k : ℕ) (d : Vec ℕ Global) → k + 1 < length vs →
     length (get_or vs (k + 1) d).items ≤ length (get_or vs k d).items) → AreFalling (strings_of vs)
 adjacent_fall [] h = tt
@@ -199,7 +198,7 @@ adjacent_fall (v ∷ w ∷ vs) h =
       rest,
     )
 
--- the strings of the code of one length
+-- The strings of one length, among those of the code.
 of_length-items : (n : ℕ) (vs : List (Vec ℕ Global)) → of_length n (strings_of vs) ≡ strings_of (filter (λ v. length v.items == n) vs)
 of_length-items n [] = refl
 of_length-items n (v ∷ vs) =
@@ -208,7 +207,7 @@ of_length-items n (v ∷ vs) =
     ≡ strings_of (cond b (v ∷ filter (λ v. length v.items == n) vs) (filter (λ v. length v.items == n) vs)))
     [ true ↦ ap (λ xs. v.items ∷ xs) (of_length-items n vs) | false ↦ of_length-items n vs ]
 
--- the code has such a string
+-- The string is one of the code's.
 abbrev IsHeld : List ℕ → Type 0
 IsHeld s = (v : Vec ℕ Global) × (v.items ≡ s)
 
@@ -216,7 +215,7 @@ all_held : (vs : List (Vec ℕ Global)) → All IsHeld (strings_of vs)
 all_held [] = All-nil IsHeld
 all_held (v ∷ vs) = All-cons IsHeld v.items (strings_of vs) (v, refl) (all_held vs)
 
--- the key by which the code sorts them, and the test that this comes to: the longer one is less
+-- the key by which the code sorts, and the comparison that it results in: a longer string is less
 abbrev pub length_key : Vec ℕ Global → Reverse ℕ
 length_key v = record { 0 = length v.items }
 

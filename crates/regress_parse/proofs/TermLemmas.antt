@@ -1,4 +1,4 @@
--- An item, its quantifier, and the group that an item may be, from what is read of them.
+-- Items, quantifiers and groups, from what is parsed of them.
 use Rattle.std.proofs.Common.{◌≡◌, inl, inr, ℕ, ◌+◌, ◌<◌, ◌≤◌, ◌==◌, Bool, true, false, not, ◌&&◌, ◌||◌, [], ◌∷◌, drop, Option, Some, None, Result, Ok, Err, refl, sym, ap, ap₂, ◌∙◌, subst, arith, eqb-true, List}
 use Rattle.std.specs.Option.{IfSome, IsSomeAnd}
 use Rattle.std.specs.Result.{IfOk}
@@ -38,12 +38,12 @@ front_is k [] rest e same = cc
 front_is k (c ∷ t) rest e same = ap₂ (λ d u. d ∷ u) (eqb-true c k e) (sym same)
 
 module _ (table : Table) (names : List (Option Name)) (ctx : Context) where
-  -- no pattern fits where no level is left
+  -- No pattern fits where no nesting depth remains.
   pub too_deep : (kind : FaultKind) (before : Counts) (depth : ℕ) (found : Found Pattern) → max_nesting_depth ≤ depth →
       IfSome found (λ x. Exceeds kind before depth (pattern_part table names x.0))
   too_deep kind before depth found full = from_each found _ (λ x _. inr (inr (omega (arith, full, one_level x.0))))
 
-  -- ---- an item, behind what it begins with
+  -- ---- an item, after what it starts with
 
   item_from_head : (t : Source) (x : Head × Source) → head_at ctx t ≡ Some x → item_at ctx t ≡ item_behind pattern_at ctx x
   item_from_head t x head = item_at-is ctx t ∙ ap (λ found. found >>= item_behind pattern_at ctx) head
@@ -59,7 +59,7 @@ module _ (table : Table) (names : List (Option Name)) (ctx : Context) where
 
   -- ---- a term
 
-  -- an item, and what is read of its quantifier
+  -- An item with the quantifier that is parsed after it is a term.
   pub term_read : (t : Source) (head : Head × Source) (x : Item × Source) (allowed : Bool) (times : Found (Option Quantifier)) →
       head_at ctx t ≡ Some head → item_behind pattern_at ctx head ≡ Some x → allowed ≡ allows ctx.setting.flags.unicode head.0 →
       times_at ctx allowed x.1 ≡ times → term_at ctx t ≡ found_map (λ q. (x.0, q)) times
@@ -71,14 +71,14 @@ module _ (table : Table) (names : List (Option Name)) (ctx : Context) where
       ∙ ap (λ b. found_map (λ (q : Option Quantifier). (x.0, q)) (times_at ctx b x.1)) same
       ∙ ap (found_map (λ (q : Option Quantifier). (x.0, q))) found
 
-  -- a character that stands for itself, which no quantifier follows
+  -- A literal character that no quantifier follows is a term.
   pub plain_term : (c : ℕ) (t : Source) → is_plain c ≡ true → may_begin t ≡ false →
       term_at ctx (c ∷ t) ≡ Some ((atom (literal ctx.setting.flags c), None), t)
   plain_term c t plain alone =
       term_read (c ∷ t) (single (literal ctx.setting.flags c), t) (atom (literal ctx.setting.flags c), t) true (Some (None, t))
       (plain_head ctx c t plain) refl refl (no_times ctx true t alone)
 
-  -- a reference by number, which no quantifier follows
+  -- A reference by number that no quantifier follows.
   numbered_head : (c : ℕ) (t : Source) (k : ℕ) (rest : Source) → begins_number c ≡ true → group_number_at ctx.groups (c ∷ t) ≡ Some (k, rest) →
       head_at ctx (92 ∷ c ∷ t) ≡ Some (single (back_reference ctx.setting.flags (by_number k)), rest)
   unfolding head_at
@@ -107,13 +107,13 @@ module _ (table : Table) (names : List (Option Name)) (ctx : Context) where
       term_read (92 ∷ c ∷ t) (single (back_reference ctx.setting.flags (by_number k)), rest) (atom (back_reference ctx.setting.flags (by_number k)), rest)
       true (Some (None, rest)) (numbered_head c t k rest number found) refl refl (no_times ctx true rest alone)
 
-  -- no head, no term
+  -- Where no item starts, there is no term.
   pub no_term : (t : Source) → head_at ctx t ≡ None → term_at ctx t ≡ None
   no_term t front =
       term_at-is ctx t
       ∙ ap (λ found. found >>= quantified ctx) (item_at-is ctx t ∙ ap (λ found. found >>= item_behind pattern_at ctx) front)
 
-  -- ---- an item with no pattern inside, and what opens a group
+  -- ---- items without a nested pattern, and what opens a group
 
   pub opening_head : (t : Source) → head_at ctx (opening ∷ t) ≡ group_at ctx.setting.table t
   unfolding head_at
@@ -136,12 +136,12 @@ module _ (table : Table) (names : List (Option Name)) (ctx : Context) where
       item_at ctx (opening ∷ t) ≡ item_behind pattern_at ctx head
   opening_item t head found = item_from_head (opening ∷ t) head (opening_head t ∙ found)
 
-  -- what a group is at whose front this was read
+  -- The start of a group, and what is parsed after it, are the group.
   pub opened_same : (kind : Group) (t : Source) (x : Item × Source) → item_behind pattern_at ctx (opens kind, t) ≡ Some x →
       head_of_item x.0 ≡ opens kind
   opened_same kind t x found = head-same (opens kind, t) x found
 
-  -- an item that is none, or too much, is so for the term
+  -- If the item is invalid or past a limit, then so is the term.
   pub times-fail : (kind : FaultKind) (found : Found Item) (before : Counts) (depth : ℕ) →
       IfSome found (λ x. Exceeds kind before depth (item_part table names x.0)) →
       IfSome (found >>= quantified ctx) (λ x. Exceeds kind before depth (term_part table names x.0))
@@ -155,7 +155,7 @@ module _ (table : Table) (names : List (Option Name)) (ctx : Context) where
       (Exceeds-around kind before before depth depth (term_part table names (item.0.0, times.0.0)) (item_part table names item.0.0)
       (omega arith) (omega arith) (omega arith) (to_each found _ refused item.0 item.1)))
 
-  -- what is read of the quantifier behind an item
+  -- what is parsed of the quantifier after an item
   pub times_read : (found : Found Item) (x : Item × Source) (allowed : Bool) (times : Found (Option Quantifier)) → found ≡ Some x →
       allowed ≡ allows ctx.setting.flags.unicode (head_of_item x.0) → times_at ctx allowed x.1 ≡ times →
       found >>= quantified ctx ≡ found_map (λ q. (x.0, q)) times
@@ -164,7 +164,7 @@ module _ (table : Table) (names : List (Option Name)) (ctx : Context) where
       ∙ ap (λ b. found_map (λ (q : Option Quantifier). (x.0, q)) (times_at ctx b x.1)) (sym allowed_is)
       ∙ ap (found_map (λ (q : Option Quantifier). (x.0, q))) behind
 
-  -- one loop too many is too many for the term
+  -- If the loop is past the limit, then so is the term.
   pub times-too_many : (kind : FaultKind) → kind ≡ TooManyLoops → (found : Found Term) (rest : Source) (x : Item) (q : Quantifier) (before : Counts)
       (depth : ℕ) → found ≡ Some ((x, Some q), rest) →
       max_loops < before.loops + (counts_of_item x).loops + 1 →
@@ -173,7 +173,7 @@ module _ (table : Table) (names : List (Option Name)) (ctx : Context) where
       subst (λ found. IfSome found (λ x. Exceeds kind before depth (term_part table names x.0))) (sym read)
       (inr (inl (told, omega (arith, many))))
 
-  -- no quantifier can begin: the item is the term
+  -- Where no quantifier can start, the item is the term.
   pub builds_alone : (d : Direction) (depth : ℕ) (before : Counts) (new : Parser) (node : Node) (x : Item) (rest : Source) →
       Builds d depth before new node (item_part table names x) rest → Builds d depth before new node (term_part table names (x, None)) rest
   builds_alone d depth before new node x rest b = record {
@@ -194,7 +194,7 @@ module _ (table : Table) (names : List (Option Name)) (ctx : Context) where
       (builds_alone d depth before new node x.0.0 x.0.1 x.2)
   alone d depth before new (Err fault) found none h = on_kind_then fault (λ kind. times-fail kind found before depth) h
 
-  -- such a character, as the term at the front
+  -- A literal character as the first term.
   pub plain_yields : (d : Direction) (depth : ℕ) (old new : Parser) (node : Node) (c : ℕ) (t : Source) → depth ≤ max_nesting_depth →
       text old ≡ c ∷ t → is_plain c ≡ true → may_begin t ≡ false → counted new ≡ counted old → text new ≡ t →
       tree node ≡ tree_of_atom table names (literal ctx.setting.flags c) →
@@ -209,7 +209,7 @@ module _ (table : Table) (names : List (Option Name)) (ctx : Context) where
         rest = rest;
       })
 
-  -- an item with no pattern inside, as an item
+  -- An item without a nested pattern as an item.
   pub atom_yields : (d : Direction) (depth left : ℕ) (allowed : Bool) (old new : Parser) (r : Result Node Fault) (t : Source) →
       is_at opening t ≡ false → depth + left ≡ max_nesting_depth → counted new ≡ counted old →
       ReadsAtom ctx left allowed (text new) r (atom_at ctx t) →
@@ -238,7 +238,7 @@ module _ (table : Table) (names : List (Option Name)) (ctx : Context) where
       over kind None deep = tt
       over kind (Some x) deep = inr (inr (omega (arith, deep, all)))
 
-  -- whether a quantifier may stand behind it
+  -- whether a quantifier may follow it
   pub atom_allowed : (left : ℕ) (allowed : Bool) (new : Source) (r : Result Node Fault) (t : Source) → is_at opening t ≡ false →
       ReadsAtom ctx left allowed new r (atom_at ctx t) →
       IfOk r (λ node. (x : Item × Source) → item_at ctx t ≡ Some x → allowed ≡ allows ctx.setting.flags.unicode (head_of_item x.0))

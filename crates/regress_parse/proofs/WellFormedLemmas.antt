@@ -35,9 +35,9 @@ use Rattle.regress_parse.proofs.PartLemmas.{alternation-has, references-have, cl
 use Rattle.regress_parse.proofs.StringLemmas.{All-longest_first}
 use Rattle.regress_parse.proofs.GroupLemmas.{length-names, HasGroups-tree_of_item, HasGroups-tree_of_pattern, length-captures-tree_of, count_id-tree_of}
 
--- ---- what stands for an item, where there are m groups
+-- ---- the tree of an item, in a pattern of m groups
 
--- a name that isn't empty has bytes
+-- The encoding of a nonempty name is not empty.
 named_by_bytes : (name : Option Name) → IfSome name IsName → IfSome (option_map encode_utf8_all name) (λ bytes. bytes ≢ [])
 named_by_bytes None h = tt
 named_by_bytes (Some name) h = λ e. h.some (encodes_same name [] e)
@@ -122,7 +122,7 @@ module _ (m : ℕ) (table : Table) (lawful : IsLawful table) where
   atom_may_stand all (back_reference flags to) few h =
       references_may_stand m flags.icase (referred all to) (referred_are_groups m all to few h)
 
--- ---- what a tree of m groups is made of may stand
+-- ---- parts of a tree of m groups
 
 module _ (m : ℕ) where
   stands-turned : (d : Direction) (ts : Trees) → RowMayStand m ts inside → RowMayStand m (turned d ts) inside
@@ -151,30 +151,30 @@ module _ (m : ℕ) where
   stands-tree_of_times None start end body good groups h = h
   stands-tree_of_times (Some q) start end body good groups h = (tt, (good, groups), h)
 
--- ---- what stands for a derived pattern
+-- ---- the tree of a derived pattern
 
--- a quantifier that is read is one
+-- A parsed quantifier has a maximum of at least its minimum.
 times_at-good : (ctx : Context) (allowed : Bool) (t : Source) (q : Option Quantifier) (rest : Source) →
     times_at ctx allowed t ≡ Some (q, rest) → IfSome q IsQuantifier
 times_at-good ctx allowed t None rest e = tt
 times_at-good ctx allowed t (Some q) rest e = ordered_times q.min q.max (times_at-ordered ctx allowed t q rest e).1
 
--- The rows look at a lawful table, and at no more groups than there are.
+-- The context has a lawful table, and at most m groups.
 record IsKnown (m : ℕ) (ctx : Context) : Type 0 where
   lawful : IsLawful ctx.setting.table
   groups : ctx.groups ≤ m
 
--- so they do inside a group
+-- The context inside a group has them too.
 known_inside : (m : ℕ) (kind : Group) (ctx : Context) → IsKnown m ctx → IsKnown m (context_inside kind ctx)
 known_inside m grouping ctx h = h
 known_inside m (modified change) ctx h = record { lawful = h.lawful; groups = h.groups }
 known_inside m (capture name) ctx h = h
 known_inside m (look negate direction) ctx h = h
 
--- the pattern has m groups, and these are their names
+-- The pattern has m groups at most, with the names in `all`.
 module _ (m : ℕ) (table : Table) (lawful : IsLawful table) (all : List (Option Name)) (few : length all ≤ m) where
   mutual
-    -- with what follows, to go on from
+    -- The tree of the pattern is valid, and what follows the pattern consists of code points.
     pattern_stands : (ctx : Context) (d : Direction) (n : ℕ) (p : Pattern) (t rest : Source) → IsKnown m ctx → n + (counts p).groups ≤ m →
         AreCodePoints t → IsPattern ctx p t rest → MayStand m (tree_of_pattern table all d n p) inside × AreCodePoints rest
     pattern_stands ctx d n (one ts) t rest known h points derived =
@@ -216,9 +216,9 @@ module _ (m : ℕ) (table : Table) (lawful : IsLawful table) (all : List (Option
         let groups = subst (λ k. HasGroups (n + opened_by kind) k tree) end (HasGroups-tree_of_pattern table all inner (n + opened_by kind) p) in
         (stands-tree_of_group m n (n + (counts_of_item (group kind p)).groups) kind tree (omega arith) good groups body.0, rest_of body.1)
 
--- A derived pattern's tree is well formed: the ids are 0 up to the number of groups, each once, a loop and a lookaround tell
--- those inside, references are to groups that there are, literals and the members of classes are code points, no name is
--- empty, and the goal stands last.
+-- The tree of a derived pattern is well formed: the ids are 0 up to the number of groups, each once; a loop and a
+-- lookaround have the range of the ids inside; references are to existing groups; literals and members of classes are
+-- code points; no name is empty; and the goal is last.
 pub tree_of-well_formed : (setting : Setting) (source : Source) (p : Pattern) → IsLawful setting.table → All IsCodePoint source →
     IsDerived setting source p → IsWellFormed (tree_of setting.table p)
 tree_of-well_formed setting source p lawful points derived =

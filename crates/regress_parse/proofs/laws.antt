@@ -1,3 +1,3 @@
--- Laws of this crate's definitions, which the crates above may cite.
+-- Lemmas on this crate's definitions, for the crates above.
 pub mod Nodes
 pub mod Scanned

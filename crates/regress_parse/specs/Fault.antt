@@ -1,4 +1,4 @@
--- What is told of a pattern that is refused.
+-- What is reported of a rejected pattern.
 use Rattle.std.specs.Prelude.{◌≡◌, ℕ, ◌≤◌, List, [], ◌++◌, codes, string_bytes, Result, Ok, Err}
 use Rattle.regress_lexical.specs.declared.fault.FaultKind.{FaultKind}
 use Rattle.regress_lexical.specs.declared.fault.FaultKind.TheVariants.{UnbalancedParenthesis, TooDeep, TooManyGroups, TooManyLoops, IncompleteEscape, UnterminatedEscape, InvalidEscape, InvalidUnicodeEscape, InvalidBracedQuantifier, InvalidAtom, QuantifierNotAllowed, InvalidQuantifier, UnbalancedBracket, ReversedRange, InvalidRange, UnbalancedSet, InvalidSetRange, UnexpectedInIntersection, UnexpectedInSubtraction, EmptyOperand, IncompleteSetEscape, StringsWithoutBrace, UnbalancedStrings, InvalidSetCharacter, InvalidNegatedClass, PropertyWithoutBrace, InvalidProperty, InvalidGroupName, InvalidModifier, InvalidReference, UnknownName, DuplicateName}
@@ -7,7 +7,7 @@ use Rattle.regress_parse.specs.declared.fault.ParseFault.TheVariants.{Syntax, Me
 use Rattle.regress_parse.specs.declared.fault.PlacedFault.{PlacedFault}
 use Rattle.regress_parse.specs.declared.fault.PlacedFault.TheVariants.{Syntax as PlacedSyntax, Memory as PlacedMemory}
 
--- the words for a fault of each kind
+-- the text of each kind of syntax error, up to a name
 abbrev pub words : FaultKind → List ℕ
 words UnbalancedParenthesis = codes "Unbalanced parenthesis"
 words TooDeep = codes "Regular expression is too deeply nested"
@@ -42,7 +42,7 @@ words InvalidReference = codes "Invalid named backreference syntax"
 words (UnknownName name) = codes "Backreference to invalid named capture group: "
 words DuplicateName = codes "Duplicate capture group name"
 
--- the name behind them, in UTF-8
+-- the name at the end of the text, in UTF-8
 abbrev pub name_behind : FaultKind → List ℕ
 name_behind (UnknownName name) = string_bytes name
 name_behind other = []
@@ -50,19 +50,19 @@ name_behind other = []
 abbrev pub text_of : FaultKind → List ℕ
 text_of kind = words kind ++ name_behind kind
 
--- A fault of the pattern is answered only if this holds.
+-- The result is a syntax error only if P holds.
 abbrev pub RefusedOnlyIf : {X : Type 0} → Result X ParseFault → Type 0 → Type 0
 RefusedOnlyIf (Ok x) P = Unit {0}
 RefusedOnlyIf (Err (Syntax e)) P = P
 RefusedOnlyIf (Err (Memory e)) P = Unit {0}
 
--- A fault of the pattern is answered in the text of a kind of which this holds.
+-- A syntax error has the text of a kind for which P holds.
 abbrev pub Tells : {X : Type 0} → Result X ParseFault → (FaultKind → Type 0) → Type 0
 Tells (Ok x) P = Unit {0}
 Tells (Err (Syntax e)) P = (kind : FaultKind) × (string_bytes e.text ≡ text_of kind) × P kind
 Tells (Err (Memory e)) P = Unit {0}
 
--- the fault without its place
+-- the error without its position
 abbrev pub without_place : PlacedFault → ParseFault
 without_place (PlacedSyntax e place) = Syntax e
 without_place (PlacedMemory e) = Memory e
@@ -71,7 +71,7 @@ abbrev pub unplaced : {X : Type 0} → Result X PlacedFault → Result X ParseFa
 unplaced (Ok x) = Ok x
 unplaced (Err fault) = Err (without_place fault)
 
--- The place of a fault is within a pattern of that length, or at its end.
+-- The position of a syntax error is at most the length of the pattern.
 abbrev pub IsPlacedWithin : {X : Type 0} → ℕ → Result X PlacedFault → Type 0
 IsPlacedWithin length (Ok x) = Unit {0}
 IsPlacedWithin length (Err (PlacedSyntax e place)) = place ≤ length

@@ -5,7 +5,7 @@ pub mod Accepted
 pub mod Fault
 pub mod Settled
 pub mod Parsing
--- what the public contracts cite of the crates below, passed on, so that a caller names one library
+-- definitions of the crates below that the public contracts cite, exported again so that a caller names one library
 pub use Rattle.regress_base.specs.Table
 pub use Rattle.regress_unicode.specs.TableOf
 pub use Rattle.regress_tree.specs.Setting

@@ -1,4 +1,4 @@
--- How the parser's values stand to what the grammar reads. Of the public contracts only those on atoms cite this.
+-- How the parser's values relate to what the grammar derives. Of the public contracts only those on atoms cite this.
 use Rattle.std.specs.Prelude.{◌≡◌, ◌⊎◌, ℕ, ◌+◌, ◌-◌, ◌<◌, ◌≤◌, Bool, ◌||◌, List, [], ◌∷◌, ◌++◌, length, Option, Some, None, IfSome, string_bytes, Result, Ok, Err}
 use Rattle.std.specs.Option.{IsSomeAnd}
 use Rattle.regress_tree.specs.declared.ir.node.Node.{Node}
@@ -26,7 +26,7 @@ use Rattle.regress_parse.specs.Reader.{Term, pattern_at, term_at}
 use Rattle.regress_parse.specs.TreeOf.{tree_of_atom, tree_of_pattern, trees_of_terms, tree_of_item, tree_of_times, joined}
 use Rattle.regress_base.specs.Limits.{max_capture_groups, max_loops, max_nesting_depth}
 
--- what a stretch of the pattern comes to: its tree in a direction behind n opened groups, what it counts and its levels
+-- A part of the pattern: its tree in a direction after n opened groups, its counts and its nesting depth.
 pub record Part : Type 0 where
   pub node : Direction → ℕ → Tree
   pub counts : Counts
@@ -53,43 +53,44 @@ module _ (table : Table) (names : List (Option Name)) where
   abbrev pub item_part : Item → Part
   item_part x = record { node = λ d n. tree_of_item table names d n x; counts = counts_of_item x; levels = levels_of_item x }
 
--- The part keeps the limits where so much was counted before it and so many levels lie around it.
+-- The part keeps the limits after these counts and at this nesting depth.
 pub record Fits (before : Counts) (depth : ℕ) (part : Part) : Type 0 where
   pub groups : before.groups + part.counts.groups ≤ max_capture_groups
   pub loops : before.loops + part.counts.loops ≤ max_loops
   pub levels : depth + part.levels ≤ max_nesting_depth
 
--- The part is past the limit of which a fault of this kind speaks, or past that of levels.
+-- The part exceeds the limit that a syntax error of this kind is about, or that on nesting depth.
 abbrev pub Exceeds : FaultKind → (before : Counts) → (depth : ℕ) → Part → Type 0
 Exceeds kind before depth part =
     ((kind ≡ TooManyGroups) × (max_capture_groups < before.groups + part.counts.groups))
     ⊎ ((kind ≡ TooManyLoops) × (max_loops < before.loops + part.counts.loops))
     ⊎ (max_nesting_depth < depth + part.levels)
 
--- What was counted, the levels around, and what is still to read reach past the limit of which a fault of this kind speaks.
+-- With the remaining source, the counts and the nesting depth can exceed the limit that a syntax error of this kind is
+-- about.
 pub record Reaches (kind : FaultKind) (before : Counts) (depth : ℕ) (t : Source) : Type 0 where
   pub groups : kind ≡ TooManyGroups → max_capture_groups < before.groups + length t
   pub loops : kind ≡ TooManyLoops → max_loops < before.loops + length t
   pub levels : kind ≡ TooDeep → max_nesting_depth < depth + length t
 
--- Between two places of the source no more was counted than was read.
+-- Between two positions of the source, at most as much was counted as was parsed.
 pub record Spends (before now : Counts) (t rest : Source) : Type 0 where
   pub groups : now.groups + length rest ≤ before.groups + length t
   pub loops : now.loops + length rest ≤ before.loops + length t
 
--- what the parser has counted
+-- the groups and loops that the parser has counted
 abbrev pub counted : Parser → Counts
 counted p = record { groups = p.group_count; loops = p.loop_count }
 
--- the source that is still to read
+-- the remaining source
 abbrev pub text : Parser → Source
 text p = source p.cursor
 
--- the direction in which a part is matched that lies inside there
+-- the direction in which a part is matched there
 abbrev pub direction_of : Around → Direction
 direction_of around = direction_if around.backwards
 
--- what the rows look at there
+-- the context of the grammar there
 abbrev pub context_in : Around → Context
 context_in around = context_of around.scope
 
@@ -100,55 +101,56 @@ table_in around = table_of around.scope.tables.now
 abbrev pub names_around : Around → List (Option Name)
 names_around around = names_in around.scope.groups.now
 
--- The parser has gone over the part, and built its tree.
+-- The parser has parsed the part and built its tree.
 pub record Builds (d : Direction) (depth : ℕ) (before : Counts) (new : Parser) (built : Node) (part : Part) (behind : Source) : Type 0 where
   pub node : tree built ≡ part.node d before.groups
   pub fits : Fits before depth part
   pub counts : counted new ≡ added before part.counts
   pub rest : text new ≡ behind
 
--- the atom at the front
+-- the atom at the start of a source
 abbrev pub atom_at : Context → Source → Found Atom
 atom_at ctx [] = None
 atom_at ctx (c ∷ t) = atom_by ctx c t
 
--- whether `^` or `$` is at the front, behind which no quantifier may stand
+-- whether the source starts with `^` or `$`, which no quantifier may follow
 abbrev pub is_anchor : Source → Bool
 is_anchor t = is_at (char "^") t || is_at (char "$") t
 
--- The node is the tree of this atom, in which so many levels of classes lie at most, and a quantifier may stand behind it
--- or not.
+-- The node is the tree of this atom, with classes nested at most this deep. A quantifier may follow it or not.
 pub record IsNode (ctx : Context) (most : ℕ) (allowed : Bool) (built : Node) (a : Atom) : Type 0 where
   pub node : tree built ≡ tree_of_atom ctx.setting.table ctx.names a
   pub levels : levels_of_atom a ≤ most
   pub allows : atom_allows a ≡ allowed
 
--- A node was put behind others, and this is its tree.
+-- A node with this tree was added at the end of a list.
 pub record Pushes (t : Tree) (old new : List Node) : Type 0 where
   pub node : Node
   pub items : new ≡ old ++ node ∷ []
   pub is : tree node ≡ t
 
--- The term at the front is an item alone in which no class lies, and its node was put behind others.
+-- The first term of the source is an item without a nested class and without a quantifier, and its node was added to
+-- the list.
 pub record TakesAlone (ctx : Context) (t rest : Source) (old new : List Node) : Type 0 where
   pub item : Atom
   pub found : term_at ctx t ≡ Some ((atom item, None), rest)
   pub flat : levels_of_atom item ≡ 0
   pub pushed : Pushes (tree_of_atom ctx.setting.table ctx.names item) old new
 
--- What a call answers that reads an atom: its node, or a fault where there is none or too many levels lie in it.
+-- The result of parsing an atom: its node, or an error if there is no atom or its classes nest deeper than the
+-- remaining depth.
 abbrev pub ReadsAtom : Context → (left : ℕ) → (allowed : Bool) → Source → Result Node Fault → Found Atom → Type 0
 ReadsAtom ctx left allowed new (Ok node) found = (a : Atom) × (found ≡ Some (a, new)) × IsNode ctx left allowed node a
 ReadsAtom ctx left allowed new (Err fault) found = OnRefused fault (IfSome found (λ x. left < levels_of_atom x.0))
 
--- What a call of the parser answers: what the grammar reads, or a fault where it reads nothing, or what is past the limit
--- of which the fault speaks, or that of levels.
+-- The result of a call of the parser: what the grammar derives, or an error if it derives nothing, or if that exceeds
+-- the limit that the error is about or the one on nesting depth.
 abbrev pub Yields : {A : Type 0} → (A → Part) → Direction → ℕ → Counts → Parser → Result Node Fault → Found A → Type 0
 Yields part d depth before new (Ok node) found = IsSomeAnd found (λ x. Builds d depth before new node (part x.0) x.1)
 Yields part d depth before new (Err fault) found =
     OnKind fault (λ kind. IfSome found (λ x. Exceeds kind before depth (part x.0)))
 
--- What parsing a whole source answers: the pattern that it is there, within the limits, or a fault where it is none, as above.
+-- The result of parsing a whole source: its pattern, within the limits, or an error, as above.
 abbrev pub YieldsWhole : Context → Source → Result Node Fault → Type 0
 YieldsWhole ctx t (Ok node) =
     (p : Pattern) × (pattern_at ctx t ≡ Some (p, [])) × Fits nothing_counted 0 (pattern_part ctx.setting.table ctx.names p)
@@ -157,13 +159,13 @@ YieldsWhole ctx t (Err fault) =
     OnKind fault (λ kind. (p : Pattern) → pattern_at ctx t ≡ Some (p, []) →
     Exceeds kind nothing_counted 0 (pattern_part ctx.setting.table ctx.names p))
 
--- The fault of a pattern of that length is told so, or memory was wanting for that.
+-- The syntax error has its text and its position in a pattern of this length, or an allocation failed.
 abbrev pub IsPlaced : ℕ → Fault → PlacedFault → Type 0
 IsPlaced length fault (Syntax e place) =
     (r : Refusal) × (fault ≡ Refused r) × (string_bytes e.text ≡ text_of r.kind) × (place ≡ length - r.left) × (place ≤ length)
 IsPlaced length fault (Memory e) = Unit {0}
 
--- alternatives before a last one
+-- alternatives before a last one, as nested `Alt` nodes
 abbrev pub alternatives : List Tree → Tree → Tree
 alternatives [] last = last
 alternatives (t ∷ ts) last = alt t (alternatives ts last)

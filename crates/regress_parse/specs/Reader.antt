@@ -1,12 +1,12 @@
--- The grammar as a function: what it reads from the front of a source, and the source behind that. The relation of
--- `Grammar` in `regress_syntax` has the same forms, and the lemmas on it show that it relates what this reads and nothing else.
+-- The grammar as a function from a source to what it starts with and the remaining source. The relation of `Grammar` in
+-- `regress_syntax` has the same productions; the lemmas on this function show that the two agree.
 use Rattle.std.specs.Prelude.{ℕ, zero, suc, ◌+◌, ◌*◌, length, drop, Option, Some, None, if◌then◌else◌}
 use Rattle.regress_base.specs.declared.types.Quantifier.{Quantifier}
 use Rattle.regress_lexical.specs.Source.{Source, Found, ◌>>=◌, found_map, closing, bar, is_at, ends_alternative}
 use Rattle.regress_syntax.specs.Syntax.{Group, Pattern, Terms, Item, one, either, no_terms, more_terms, atom, group}
 use Rattle.regress_syntax.specs.Rows.{Context, context_inside, Head, single, opens, head_of_item, allows, head_at, times_at}
 
--- an item, and how often it is matched
+-- an item with its quantifier, if it has one (ECMA-262, Term)
 abbrev pub Term : Type 0
 Term = Item × Option Quantifier
 
@@ -14,7 +14,7 @@ Term = Item × Option Quantifier
 abbrev pub closed : Group → Pattern × Source → Found Item
 closed kind (p, t) = if is_at closing t then Some (group kind p, drop 1 t) else None
 
--- an item behind what it begins with, where `inner` reads patterns
+-- the rest of an item after its start, where `inner` parses patterns
 abbrev pub item_behind : (Context → Source → Found Pattern) → Context → Head × Source → Found Item
 item_behind inner ctx (single a, t) = Some (atom a, t)
 item_behind inner ctx (opens kind, t) = inner (context_inside kind ctx) t >>= closed kind
@@ -22,18 +22,18 @@ item_behind inner ctx (opens kind, t) = inner (context_inside kind ctx) t >>= cl
 abbrev pub item_by : (Context → Source → Found Pattern) → Context → Source → Found Item
 item_by inner ctx t = head_at ctx t >>= item_behind inner ctx
 
--- the quantifier behind an item
+-- the quantifier after an item
 abbrev pub quantified : Context → Item × Source → Found Term
 quantified ctx (x, t) = found_map (λ q. (x, q)) (times_at ctx (allows ctx.setting.flags.unicode (head_of_item x)) t)
 
--- what was read of an item, and the quantifier behind it
+-- a parsed item with the quantifier after it
 abbrev pub with_times : Context → Found Item → Found Term
 with_times ctx found = found >>= quantified ctx
 
 abbrev pub term_by : (Context → Source → Found Pattern) → Context → Source → Found Term
 term_by inner ctx t = item_by inner ctx t >>= quantified ctx
 
--- The number bounds how deep the calls go.
+-- The number bounds the depth of the calls.
 unfoldable mutual
   pub read_terms : ℕ → Context → Source → Found Terms
   read_terms zero ctx t = None
@@ -49,22 +49,22 @@ unfoldable mutual
       then (read_pattern n ctx (drop 1 mid) >>= λ (p, rest). Some (either ts p, rest))
       else Some (one ts, mid))
 
--- the calls that a source may need
+-- a bound that suffices for the source
 abbrev pub enough : Source → ℕ
 enough t = 2 * length t + 2
 
--- the pattern at the front
+-- the pattern at the start of a source (ECMA-262, Disjunction)
 unfoldable pub pattern_at : Context → Source → Found Pattern
 pattern_at ctx t = read_pattern (enough t) ctx t
 
--- the terms at the front, up to the end of the alternative
+-- the terms at the start of a source, up to the end of the alternative (ECMA-262, Alternative)
 unfoldable pub terms_at : Context → Source → Found Terms
 terms_at ctx t = read_terms (enough t) ctx t
 
--- the item at the front
+-- the item at the start of a source
 unfoldable pub item_at : Context → Source → Found Item
 item_at ctx t = item_by pattern_at ctx t
 
--- the term at the front
+-- the term at the start of a source (ECMA-262, Term)
 unfoldable pub term_at : Context → Source → Found Term
 term_at ctx t = item_at ctx t >>= quantified ctx

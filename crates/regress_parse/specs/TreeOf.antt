@@ -1,4 +1,4 @@
--- The tree of a syntax tree.
+-- From a syntax tree to the tree of nodes.
 use Rattle.std.specs.Prelude.{ℕ, ◌+◌, Bool, true, false, not, ◌&&◌, ◌||◌, ◌==◌, List, [], ◌∷◌, length, map, Option, Some, None, option_map, if◌then◌else◌, encode_utf8_all}
 use Rattle.regress_base.specs.Intervals.{Bounds, intervals_of}
 use Rattle.regress_base.specs.declared.types.Flags.{Flags}
@@ -13,12 +13,12 @@ use Rattle.regress_classes.specs.ClassSets.{Value}
 use Rattle.regress_syntax.specs.Syntax.{Name, Atom, literal, dot, anchor, boundary, class_escape, class, class_set, string_property, back_reference, Group, grouping, modified, capture, look, Pattern, Terms, Item, one, either, no_terms, more_terms, atom, group, opened_by, counts_of_item, counts_of_terms, counts_of_term, names}
 use Rattle.regress_syntax.specs.Meaning.{is_in_class, longest_first, direction_of_group, referred}
 
--- Where matching runs backwards the parts stand turned: the last one first.
+-- A list of parts is reversed where matching runs backwards.
 abbrev pub turned : Direction → Trees → Trees
 turned forwards ts = ts
 turned backwards ts = row_reverse ts
 
--- an alternative of no part is `Empty`, of one part that part, of several their `Cat`
+-- the tree of an alternative: `Empty` for no part, the part itself for one, a `Cat` for several
 abbrev pub joined : Direction → Trees → Tree
 joined d no_trees = leaf empty
 joined d (more_trees t no_trees) = t
@@ -28,31 +28,31 @@ abbrev pub is_backwards : Direction → Bool
 is_backwards forwards = false
 is_backwards backwards = true
 
--- a group around this tree, with it and in it the capture groups start to end - 1
+-- the tree of a group around a body; the group and its body have the ids from start to end - 1
 abbrev pub tree_of_group : (start end : ℕ) → Group → Tree → Tree
 tree_of_group start end grouping body = body
 tree_of_group start end (modified change) body = body
 tree_of_group start end (capture name) body = wrapped (capture_group start (option_map encode_utf8_all name)) body
 tree_of_group start end (look negate direction) body = wrapped (lookaround negate (is_backwards direction) start end) body
 
--- an item of the groups start to end - 1, as often as the quantifier says
+-- the tree of an item with the ids from start to end - 1, and its quantifier
 abbrev pub tree_of_times : Option Quantifier → (start end : ℕ) → Tree → Tree
 tree_of_times None start end body = body
 tree_of_times (Some q) start end body = wrapped (loop q start end) body
 
--- what stands for one of these characters; a literal stands for one at least, itself
+-- the leaf that matches one of these characters; a literal has at least one, itself
 abbrev pub leaf_of_members : List ℕ → Leaf
 leaf_of_members [] = char_set []
 leaf_of_members (c ∷ []) = char c
 leaf_of_members (c ∷ d ∷ rest) = char_set (c ∷ d ∷ rest)
 
 module _ (table : Table) where
-  -- with the flag i a literal stands for its class
+  -- With the flag i a literal matches every character with its canonical form.
   abbrev pub leaf_of_literal : Flags → ℕ → Leaf
   leaf_of_literal flags c = if flags.icase then leaf_of_members (class_of table true flags.unicode c) else char c
 
--- Parts of which one is to match: a, b and c stand as `Alt(a, Alt(b, c))`, one part alone as it is. Without a part
--- nothing matches.
+-- The tree of an alternation: `Alt(a, Alt(b, c))` for a, b and c, and the part itself for one. Without a part nothing
+-- matches.
 abbrev pub alternation : List Tree → Tree
 alternation [] = leaf (char_set [])
 alternation (t ∷ []) = t
@@ -61,19 +61,19 @@ alternation (t ∷ next ∷ ts) = alt t (alternation (next ∷ ts))
 abbrev pub references : (icase : Bool) → List ℕ → List Tree
 references icase = map (λ k. leaf (back_ref k icase))
 
--- a tree, and behind it the empty string, if that is there
+-- a tree, and after it the empty string, if the class has it
 abbrev pub or_empty : (has_empty : Bool) → Tree → Tree
 or_empty false t = t
 or_empty true t = alt t (leaf empty)
 
--- strings and code points of a class, where it has some
+-- the strings and the code points of a class, where it has any
 abbrev pub strings_or_points : (has_strings has_points has_empty : Bool) → (strings points : Leaf) → Tree
 strings_or_points false false has_empty strings points = if has_empty then leaf empty else leaf points
 strings_or_points false true has_empty strings points = or_empty has_empty (leaf points)
 strings_or_points true false has_empty strings points = or_empty has_empty (leaf strings)
 strings_or_points true true has_empty strings points = alt (leaf strings) (or_empty has_empty (leaf points))
 
--- A class with the flag v, whose code points are these once they are closed. If negated it has some outside of them.
+-- The tree of a class with the flag v, given the closure of its code points. A negated class always has a bracket.
 abbrev pub tree_of_class : (icase negated : Bool) → Value → (closed : List Bounds) → Tree
 tree_of_class icase negated value closed =
     strings_or_points (not (length value.strings == 0)) (negated || not (length closed == 0)) value.has_empty
@@ -85,7 +85,7 @@ module _ (table : Table) (names : List (Option Name)) where
   tree_of_atom (dot flags) = leaf (if flags.dot_all then match_any else match_any_except_line_terminator)
   tree_of_atom (anchor flags kind) = leaf (tree.anchor kind flags.multiline)
   tree_of_atom (boundary flags inverted) = leaf (word_boundary inverted (flags.unicode && flags.icase))
-  -- the complement is in the set
+  -- the set is the complement already
   tree_of_atom (class_escape flags kind negated) =
       leaf (bracket false (intervals_of (is_in_class table flags negated (members_of kind))))
   tree_of_atom (class flags inverted members) = leaf (bracket inverted (intervals_of (is_in_class table flags false members)))
@@ -94,13 +94,13 @@ module _ (table : Table) (names : List (Option Name)) where
   tree_of_atom (string_property flags written) = leaf (string_set written flags.icase)
   tree_of_atom (back_reference flags to) = alternation (references flags.icase (referred names to))
 
-  -- the tree, in a direction, of what stands behind n opened groups
+  -- the trees in a direction, after n opened groups
   abbrev mutual
     pub tree_of_pattern : Direction → ℕ → Pattern → Tree
     tree_of_pattern d n (one ts) = joined d (trees_of_terms d n ts)
     tree_of_pattern d n (either ts p) = alt (joined d (trees_of_terms d n ts)) (tree_of_pattern d (n + (counts_of_terms ts).groups) p)
 
-    -- in the order in which they are written
+    -- in the order in which the terms are written
     pub trees_of_terms : Direction → ℕ → Terms → Trees
     trees_of_terms d n no_terms = no_trees
     trees_of_terms d n (more_terms x q xs) =

@@ -1,4 +1,4 @@
-//! Items that hold no pattern.
+//! Parses items that contain no pattern: every item but a group.
 ghost use Rattle.std.specs.Prelude.{◌≡◌, ◌∷◌, true, false, not, ◌&&◌, ◌||◌, ◌==◌, ◌≤◌, ◌<◌, length, drop, Some, None, IfOk, IfSome, IfNone, MatchBool};
 ghost use Rattle.regress_lexical.specs.Digits.{is_between};
 ghost use Rattle.regress_lexical.specs.Escapes.{begins_with_letter};
@@ -33,8 +33,23 @@ use regress_syntax::{
 use regress_tree::ir::{AnchorType, Node, NodeList};
 use std::alloc::AllocError;
 
-/// Reads an item that holds no pattern, into its node. The fault comes where there is none, and where more levels of classes
-/// lie in it than are left.
+/// Parses an item that contains no pattern, and returns its node (ECMA-262, Atom without groups, and `^`, `$`, `\b` and
+/// `\B` of Assertion).
+///
+/// `left` is the remaining nesting depth for classes. Afterwards `cursor` is after the item.
+///
+/// # Preconditions
+/// `left` is at most [`MAX_NESTING_DEPTH`].
+///
+/// # Errors
+/// - [`Fault::Refused`] if no item starts at `cursor`, or if its classes nest deeper than `left`.
+/// - [`Fault::Memory`] if an allocation fails.
+///
+/// After an error the position of `cursor` is unspecified.
+///
+/// # Complexity
+/// With the flag `v`, the depth of recursion is at most the nesting depth of the classes, and at most
+/// [`MAX_NESTING_DEPTH`].
 pub fn read_atom(cursor: &mut Cursor, scope: &Scope, left: u32) -> Result<Node, Fault>
     requires { left ≤ max_nesting_depth }
     ensures value { ReadsAtom (context_of scope.now) left (not (is_anchor (source cursor.old))) (source cursor.new) result
@@ -52,8 +67,10 @@ pub fn read_atom(cursor: &mut Cursor, scope: &Scope, left: u32) -> Result<Node, 
     }
 }
 
-/// Adds the node of the next term, if that is a character that stands for itself or a reference by number, behind which
-/// no quantifier can begin, as most are: it needs no look at the other rows. Answers whether it did.
+/// Adds the node of the next term to `parts` and returns `true`, if the term is a literal character or a reference by
+/// number that no quantifier can follow. Else returns `false` and changes nothing.
+///
+/// Most terms are such, and need no test of the other productions.
 #[inline(always)]
 pub(crate) fn push_simple_term(
     cursor: &mut Cursor,
@@ -76,7 +93,7 @@ pub(crate) fn push_simple_term(
     Ok(true)
 }
 
-/// Takes a reference by number, if one comes next behind which no quantifier can begin.
+/// Consumes a reference by number that no quantifier can follow, if one is next, and returns its group.
 fn next_reference(cursor: &mut Cursor, scope: &Scope) -> Option<u32>
     ensures some { IfSome result (λ group. term_at (context_of scope.now) (source cursor.old)
         ≡ Some ((atom (back_reference scope.now.flags (by_number group)), None), source cursor.new)) }
@@ -104,7 +121,7 @@ fn next_reference(cursor: &mut Cursor, scope: &Scope) -> Option<u32>
     Some(group)
 }
 
-/// Whether `^` or `$` comes next, behind which no quantifier may stand.
+/// Returns whether `source` starts with `^` or `$`, which no quantifier may follow.
 pub fn begins_anchor(source: &[u32]) -> bool
     ensures { result ≡ is_anchor source.now }
 {
@@ -114,7 +131,7 @@ pub fn begins_anchor(source: &[u32]) -> bool
     }
 }
 
-/// Reads an item that is no class between brackets, behind its first code point `c`, which is at `front`.
+/// Parses an item other than a class in brackets, after its first code point `c`. `front` is the source from `c` on.
 fn read_other(cursor: &mut Cursor, scope: &Scope, c: u32, front: &[u32]) -> Result<Node, Fault>
     requires code_point { IsCodePoint c }
     requires no_class { (c == char "[") ≡ false }
@@ -140,7 +157,7 @@ fn read_other(cursor: &mut Cursor, scope: &Scope, c: u32, front: &[u32]) -> Resu
     }
 }
 
-/// Reads a class, behind its `[`. `opened` is how many code points were left before that.
+/// Parses a class after its `[`. `opened` is the number of code points that remained before the `[`.
 fn read_brackets(
     cursor: &mut Cursor,
     scope: &Scope,
@@ -162,15 +179,15 @@ fn read_brackets(
         MAX_NESTING_DEPTH,
         opened,
     )?;
-    // The scan in front has refused these already.
+    // The scan before parsing has rejected these already.
     if class.value.others.levels > left {
         return Err(refused(opened, FaultKind::TooDeep));
     }
     Ok(make_class_set(cursor.alloc, class.negated, class.value, scope)?)
 }
 
-/// A brace or `]` that stands for itself. A `{` does only where it begins no quantifier, which wants a look at all of
-/// it.
+/// Returns the node of a literal `{`, `}` or `]`. A `{` is a literal only if it starts no quantifier, so all of it is
+/// tested.
 fn read_brace(cursor: &mut Cursor, scope: &Scope, c: u32, front: &[u32]) -> Result<Node, Fault>
     requires code_point { IsCodePoint c }
     requires front { front.now ≡ c ∷ source cursor.now }
@@ -186,7 +203,7 @@ fn read_brace(cursor: &mut Cursor, scope: &Scope, c: u32, front: &[u32]) -> Resu
     }
 }
 
-/// Reads an escape, behind its backslash. `begin` is how many code points were left before that.
+/// Parses an escape after its backslash. `begin` is the number of code points that remained before the backslash.
 fn read_escaped(cursor: &mut Cursor, scope: &Scope, begin: usize) -> Result<Node, Fault>
     ensures value { ReadsAs (IsNode (context_of scope.now) 0 true) (source cursor.new) result (escaped_at (context_of scope.now) (source cursor.old)) }
     ensures kind { FailsByNoLimit result }
@@ -220,28 +237,30 @@ fn read_escaped(cursor: &mut Cursor, scope: &Scope, begin: usize) -> Result<Node
     }
 }
 
-/// A property, with the flag u or v.
+/// Returns whether the escape is a property, which needs the flag u or v.
 fn begins_property(c: u32, scope: &Scope) -> bool
     ensures { result ≡ (is_one_of "pP" c && (scope.now.flags.unicode || scope.now.flags.unicode_sets)) }
 {
     is_property_letter(c) && (scope.flags.unicode || scope.flags.unicode_sets)
 }
 
-/// A reference by name. Without the flag u and without names, `\k` is the escape of a character.
+/// Returns whether the escape is a reference by name. Without the flag u and without named groups, `\k` is a literal
+/// `k`.
 fn begins_name(c: u32, scope: &Scope) -> bool
     ensures { result ≡ (c == char "k" && (scope.now.flags.unicode || has_names (context_of scope.now).names)) }
 {
     c == u32::from('k') && has_references_by_name(scope)
 }
 
-/// 1 to 9.
+/// Returns whether `c` is a digit from 1 to 9.
 fn begins_number(c: u32) -> bool
     ensures { result ≡ begins_number c }
 {
     is_between('1', '9', c)
 }
 
-/// Reads a reference by number, which begins with `c`, or where there are not so many groups the escape of a character.
+/// Parses a reference by number, which starts with `c`, or a character escape if the number is greater than the number
+/// of groups.
 fn read_numbered(cursor: &mut Cursor, scope: &Scope, c: u32, begin: usize) -> Result<Node, Fault>
     requires front { source cursor.now ≡ c ∷ drop 1 (source cursor.now) }
     requires digit { begins_number c ≡ true }
@@ -262,7 +281,7 @@ fn read_numbered(cursor: &mut Cursor, scope: &Scope, c: u32, begin: usize) -> Re
     read_character(cursor, scope, c, begin)
 }
 
-/// Reads a reference by name, behind `\k`.
+/// Parses a reference by name after its `\k`.
 fn read_named(cursor: &mut Cursor, scope: &Scope, begin: usize) -> Result<Node, Fault>
     ensures value { ReadsAs (IsNode (context_of scope.now) 0 true) (source cursor.new) result (named_at (context_of scope.now) (source cursor.old)) }
     ensures kind { FailsByNoLimit result }
@@ -271,14 +290,15 @@ fn read_named(cursor: &mut Cursor, scope: &Scope, begin: usize) -> Result<Node, 
     Ok(make_references(cursor.alloc, groups, scope.flags.icase)?)
 }
 
-/// Whether the escape is a `c` that no letter follows, without the flag u: the backslash stands alone.
+/// Returns whether the escape is a `c` without a letter after it, and without the flag u: then the backslash is a
+/// literal.
 fn is_lone_backslash(c: u32, rest: &[u32], unicode: bool) -> bool
     ensures { result ≡ is_lone_backslash unicode c rest.now }
 {
     c == u32::from('c') && !unicode && !begins_with_letter(rest)
 }
 
-/// Whether a letter comes next.
+/// Returns whether `source` starts with a letter.
 fn begins_with_letter(source: &[u32]) -> bool
     ensures { result ≡ begins_with_letter source.now }
 {
@@ -288,7 +308,7 @@ fn begins_with_letter(source: &[u32]) -> bool
     }
 }
 
-/// Reads the escape of one character, which begins with `c`.
+/// Parses a character escape, which starts with `c` (ECMA-262, CharacterEscape).
 fn read_character(cursor: &mut Cursor, scope: &Scope, c: u32, begin: usize) -> Result<Node, Fault>
     requires { source cursor.now ≡ c ∷ drop 1 (source cursor.now) }
     ensures value { ReadsAs (IsNode (context_of scope.now) 0 true) (source cursor.new) result
@@ -302,7 +322,7 @@ fn read_character(cursor: &mut Cursor, scope: &Scope, c: u32, begin: usize) -> R
     Ok(make_literal(cursor.alloc, found, scope)?)
 }
 
-/// Reads a property, behind `\p` or `\P`.
+/// Parses a property after its `\p` or `\P`.
 fn read_property_atom(
     cursor: &mut Cursor,
     scope: &Scope,

@@ -1,4 +1,4 @@
-//! Trees from parts.
+//! Builds nodes from parts.
 ghost use Rattle.std.specs.Prelude.{◌≡◌, ℕ, Bool, false, List, ◌∷◌, ◌++◌, Some, IfOk, OnOk, map, option_map, string_bytes, encode_utf8_all};
 ghost use Rattle.regress_tree.specs.Assertions.{differ};
 ghost use Rattle.regress_base.specs.Intervals.{Bounds, intervals_of};
@@ -28,7 +28,7 @@ use std::alloc::{AllocError, Global};
 use std::cmp::Reverse;
 use std::ops::Range;
 
-/// The node of `.`.
+/// Returns the node of `.`.
 pub(crate) fn make_dot(scope: &Scope) -> Node
     ensures { tree result ≡ tree_of_atom (table_of scope.now.tables.now) (names_in scope.now.groups.now) (dot scope.now.flags) }
 {
@@ -39,7 +39,7 @@ pub(crate) fn make_dot(scope: &Scope) -> Node
     }
 }
 
-/// The node of `^` or `$`.
+/// Returns the node of `^` or `$`.
 pub(crate) fn make_anchor(anchor_type: AnchorType, scope: &Scope) -> Node
     ensures { tree result ≡ tree_of_atom (table_of scope.now.tables.now) (names_in scope.now.groups.now) (anchor scope.now.flags anchor_type) }
 {
@@ -49,7 +49,7 @@ pub(crate) fn make_anchor(anchor_type: AnchorType, scope: &Scope) -> Node
     }
 }
 
-/// The node of `\b`, or inverted of `\B`.
+/// Returns the node of `\b`, or of `\B` if `inverted`.
 pub(crate) fn make_boundary(inverted: bool, scope: &Scope) -> Node
     ensures { tree result ≡ tree_of_atom (table_of scope.now.tables.now) (names_in scope.now.groups.now) (boundary scope.now.flags inverted) }
 {
@@ -59,7 +59,7 @@ pub(crate) fn make_boundary(inverted: bool, scope: &Scope) -> Node
     }
 }
 
-/// The node of references to these groups, which are tried one after the other. Most are to one alone.
+/// Returns the node of references to these groups, which are tried in order. Most references are to one group.
 pub(crate) fn make_references(
     alloc: Global,
     groups: &[u32],
@@ -83,7 +83,7 @@ pub(crate) fn make_references(
     make_alternation(alloc, references)
 }
 
-/// The node of parts that are tried one after the other. Without any part nothing matches.
+/// Returns the node of parts that are tried in order. Without a part nothing matches.
 fn make_alternation(alloc: Global, mut parts: NodeList) -> Result<Node, AllocError>
     ensures { IfOk result (λ node. tree node ≡ alternation (map tree parts.items)) }
 {
@@ -93,7 +93,7 @@ fn make_alternation(alloc: Global, mut parts: NodeList) -> Result<Node, AllocErr
     }
 }
 
-/// The node of a literal: with the flag i all that it stands for.
+/// Returns the node of a literal. With the flag i it matches every character with the same canonical form.
 pub(crate) fn make_literal(alloc: Global, c: u32, scope: &Scope) -> Result<Node, AllocError>
     requires { IsCodePoint c }
     ensures { IfOk result (λ node. tree node ≡ leaf (leaf_of_literal (table_of scope.now.tables.now) scope.now.flags c)) }
@@ -105,7 +105,7 @@ pub(crate) fn make_literal(alloc: Global, c: u32, scope: &Scope) -> Result<Node,
     Ok(make_members(members))
 }
 
-/// Adds the node of a literal.
+/// Adds the node of a literal to `parts`.
 #[inline(always)]
 pub(crate) fn push_literal(parts: &mut NodeList, c: u32, scope: &Scope) -> Result<(), AllocError>
     requires { IsCodePoint c }
@@ -120,7 +120,7 @@ pub(crate) fn push_literal(parts: &mut NodeList, c: u32, scope: &Scope) -> Resul
     Ok(())
 }
 
-/// The node of one of these characters.
+/// Returns the node that matches one of these characters.
 fn make_members(members: Vec<u32>) -> Node
     ensures { tree result ≡ leaf (leaf_of_members members.items) }
 {
@@ -130,7 +130,7 @@ fn make_members(members: Vec<u32>) -> Node
     }
 }
 
-/// The node of a class by an escape, whose complement is taken once it is closed.
+/// Returns the node of a class escape. The complement is taken after the closure.
 pub(crate) fn make_class_escape(
     alloc: Global,
     kind: CharacterClassType,
@@ -147,7 +147,7 @@ pub(crate) fn make_class_escape(
     }))
 }
 
-/// The node of a class without the flag v.
+/// Returns the node of a class without the flag v.
 pub(crate) fn make_class(
     inverted: bool,
     set: CodePointSet,
@@ -162,8 +162,7 @@ pub(crate) fn make_class(
     }))
 }
 
-/// The node of a property of code points. With the flag i its complement is taken first, since it is closed as a set of
-/// its own.
+/// Returns the node of a property of code points. With the flag i the complement is taken before the closure.
 pub(crate) fn make_property(
     alloc: Global,
     set: &CodePointSet,
@@ -180,8 +179,8 @@ pub(crate) fn make_property(
     make_class(negated, set.try_clone(alloc)?, scope)
 }
 
-/// The node of a class with the flag v: first its strings of two or more, longest first, then its code points, and last
-/// the empty string.
+/// Returns the node of a class with the flag v: its strings of two or more characters, longest first, then its code
+/// points, and last the empty string.
 pub(crate) fn make_class_set(
     alloc: Global,
     negated: bool,
@@ -207,14 +206,14 @@ pub(crate) fn make_class_set(
     make_alternation(alloc, parts)
 }
 
-/// Sorts the strings by falling length. Those of one length keep their order.
+/// Sorts the strings by descending length. Strings of the same length keep their order.
 fn sort_longest_first(strings: &mut Vec<Vec<u32>>) -> Result<(), AllocError>
     ensures { OnOk result (strings_of strings.new.items ≡ longest_first (strings_of strings.old.items)) }
 {
     strings.sort_by_key(|string| Reverse(string.len()))
 }
 
-/// Adds the strings of a class, if it has any.
+/// Adds the strings of a class to `parts`, if it has any.
 fn push_strings(parts: &mut NodeList, strings: Vec<Vec<u32>>, icase: bool) -> Result<(), AllocError>
     ensures { OnOk result (map tree parts.new.items ≡ map tree parts.old.items ++ strings_part icase (strings_of strings.items)) }
 {
@@ -225,7 +224,7 @@ fn push_strings(parts: &mut NodeList, strings: Vec<Vec<u32>>, icase: bool) -> Re
     Ok(())
 }
 
-/// Adds the bracket of a class, if a character may pass it or it stands alone.
+/// Adds the bracket of a class to `parts`, if a character can match it or the class has no strings.
 fn push_bracket(
     parts: &mut NodeList,
     contents: BracketContents,
@@ -239,7 +238,7 @@ fn push_bracket(
     Ok(())
 }
 
-/// Adds the empty string of a class, if it is there.
+/// Adds the empty string of a class to `parts`, if it has it.
 fn push_empty(parts: &mut NodeList, has_empty: bool) -> Result<(), AllocError>
     ensures { OnOk result (map tree parts.new.items ≡ map tree parts.old.items ++ empty_part has_empty) }
 {
@@ -249,7 +248,7 @@ fn push_empty(parts: &mut NodeList, has_empty: bool) -> Result<(), AllocError>
     Ok(())
 }
 
-/// The node of these strings, tried in their order.
+/// Returns the node of these strings, which are tried in order.
 pub(crate) fn make_strings(
     alloc: Global,
     strings: Vec<Vec<u32>>,
@@ -267,7 +266,7 @@ pub(crate) fn make_strings(
     })
 }
 
-/// The set, or its complement.
+/// Returns the set, or its complement if `negated`.
 fn complement_if(set: CodePointSet, negated: bool) -> Result<CodePointSet, AllocError>
     ensures { IfOk result (λ other. (test : ℕ → Bool) → set ≡ intervals_of test →
         other ≡ intervals_of (λ c. differ negated (test c))) }
@@ -275,7 +274,7 @@ fn complement_if(set: CodePointSet, negated: bool) -> Result<CodePointSet, Alloc
     if negated { set.inverted() } else { Ok(set) }
 }
 
-/// The set, closed under fold with the flag i.
+/// Returns the set, with the flag i its closure.
 fn close(set: CodePointSet, scope: &Scope) -> Result<CodePointSet, AllocError>
     ensures { IfOk result (λ closed. (members : List Bounds) → HasMembers members set →
         closed ≡ intervals_of (is_in_class (table_of scope.now.tables.now) scope.now.flags false members)) }
@@ -287,7 +286,7 @@ fn close(set: CodePointSet, scope: &Scope) -> Result<CodePointSet, AllocError>
     }
 }
 
-/// The node of an item of these groups, matched as often as the quantifier says.
+/// Returns the node of an item with its quantifier. `enclosed_groups` is the range of the ids inside the item.
 pub(crate) fn make_loop(
     alloc: Global,
     item: Node,
@@ -304,7 +303,7 @@ pub(crate) fn make_loop(
     })
 }
 
-/// The node of a group around `contents`, with it and in it these capture groups.
+/// Returns the node of a group around `contents`. `groups` is the range of the ids of the group and of those inside.
 pub(crate) fn make_group(
     alloc: Global,
     kind: Group,
@@ -330,7 +329,7 @@ pub(crate) fn make_group(
     }
 }
 
-/// The text of a name, if there is one.
+/// Returns the text of a name, if there is one.
 fn name_text(alloc: Global, name: Option<Name>) -> Result<Option<String>, AllocError>
     ensures { IfOk result (λ text. option_map string_bytes text ≡ option_map (λ name. encode_utf8_all name.items) name) }
 {
@@ -340,7 +339,7 @@ fn name_text(alloc: Global, name: Option<Name>) -> Result<Option<String>, AllocE
     }
 }
 
-/// The characters as a text.
+/// Returns the characters as a string.
 fn text_of(alloc: Global, characters: &[char]) -> Result<String, AllocError>
     ensures { IfOk result (λ text. string_bytes text ≡ encode_utf8_all characters.now) }
 {
@@ -351,8 +350,8 @@ fn text_of(alloc: Global, characters: &[char]) -> Result<String, AllocError>
     Ok(text)
 }
 
-/// The node of an alternative: no part is `Empty`, one part is that part. Where matching runs backwards,
-/// the parts stand turned.
+/// Returns the node of an alternative: `Empty` for no part, the part itself for one, a `Cat` for several. If
+/// `backwards`, the parts of the `Cat` are reversed.
 pub(crate) fn make_cat(mut parts: NodeList, backwards: bool) -> Node
     ensures { tree result ≡ joined (direction_if backwards) (trees parts.items) }
 {
@@ -363,7 +362,7 @@ pub(crate) fn make_cat(mut parts: NodeList, backwards: bool) -> Node
     parts.pop().unwrap_or(Node::Empty)
 }
 
-/// Turns the parts where matching runs backwards.
+/// Reverses the parts if `backwards`.
 fn turn(parts: &mut NodeList, backwards: bool)
     ensures { trees parts.new.items ≡ turned (direction_if backwards) (trees parts.old.items) }
 {
@@ -372,7 +371,7 @@ fn turn(parts: &mut NodeList, backwards: bool)
     }
 }
 
-/// The node of alternatives: `Alt(a, Alt(b, c))`.
+/// Returns the node of alternatives, as in `Alt(a, Alt(b, c))`.
 pub(crate) fn make_alt(alloc: Global, mut before: NodeList, last: Node) -> Result<Node, AllocError>
     ensures { IfOk result (λ node. tree node ≡ alternatives (map tree before.items) (tree last)) }
 {

@@ -1,4 +1,4 @@
-//! Faults of patterns, in words.
+//! Syntax errors with their texts.
 
 ghost use Rattle.std.specs.Prelude.{◌≡◌, alloc_error, string_bytes, IfOk};
 ghost use Rattle.regress_parse.specs.Fault.{words, text_of, without_place};
@@ -9,16 +9,19 @@ ghost use Rattle.regress_parse.specs.declared.fault.PlacedFault.TheVariants.{Mem
 use regress_syntax::{Fault, FaultKind};
 use std::alloc::{AllocError, AllocFailed, Global};
 
-/// A fault of a pattern, told in words. Two are compared, ordered and hashed by the bytes of their texts.
+/// A syntax error, as a text. Errors are compared, ordered and hashed by the bytes of their texts.
 #[derive(Debug, Drop, PartialEq, Eq, PartialOrd, Ord, Hash, thiserror::Error)]
 #[error("{text}")]
 pub struct Error {
-    /// What is wrong, for a person to read.
+    /// What is wrong, as a message for a person. `docs/errors.md` lists the texts.
     pub text: String,
 }
 
 impl Error {
-    /// An equal fault, in memory of its own. The error stands for want of memory.
+    /// Returns a copy of the error, allocated from `alloc`.
+    ///
+    /// # Errors
+    /// Returns [`AllocError`] if the allocation fails.
     pub fn try_clone(&self, alloc: Global) -> Result<Error, AllocError>
         ensures { IfOk result (λ copy. string_bytes copy.text ≡ string_bytes self.now.text) }
     {
@@ -31,10 +34,10 @@ impl Error {
 /// Why a pattern was not parsed.
 #[derive(Debug, Drop, thiserror::Error)]
 pub enum ParseFault {
-    /// The pattern is none that the grammar derives within the limits.
+    /// The pattern is rejected: the grammar does not derive it within the limits.
     #[error("{0}")]
     Syntax(Error),
-    /// Memory was wanting, which says nothing of the pattern.
+    /// An allocation failed, whether or not the pattern is valid.
     #[error("out of memory")]
     Memory(AllocError),
 }
@@ -55,17 +58,18 @@ impl<T: Drop> From<AllocFailed<T>> for ParseFault {
     }
 }
 
-/// Why a pattern was not parsed, and where in it a fault is.
+/// Why a pattern was not parsed, and the position of a syntax error.
 #[derive(Debug, Drop, thiserror::Error)]
 pub enum PlacedFault {
-    /// The pattern is none that the grammar derives within the limits.
+    /// The pattern is rejected: the grammar does not derive it within the limits.
     #[error("{error}")]
     Syntax {
         error: Error,
-        /// Where that is: the index of a code point of the pattern, or its length. `docs/GRAMMAR.md` tells it for each text.
+        /// The position of the error: a code-point index of the pattern, at most its length. `docs/errors.md` specifies
+        /// it for each text.
         place: usize,
     },
-    /// Memory was wanting, which says nothing of the pattern.
+    /// An allocation failed, whether or not the pattern is valid.
     #[error("out of memory")]
     Memory(AllocError),
 }
@@ -89,7 +93,8 @@ impl From<PlacedFault> for ParseFault {
     }
 }
 
-/// The fault in words, and its place in a pattern of that length. Where its text finds no memory, that is the fault.
+/// Returns the error with its text, and its position in a pattern of `length` code points. If the text cannot be
+/// allocated, returns `Memory`.
 pub(crate) fn place(alloc: Global, fault: Fault, length: usize) -> PlacedFault
     ensures { IsPlaced length fault result }
 {
@@ -105,7 +110,7 @@ pub(crate) fn place(alloc: Global, fault: Fault, length: usize) -> PlacedFault
     }
 }
 
-/// The text of a fault of this kind.
+/// Returns the error of this kind, with its text.
 fn tell(alloc: Global, kind: &FaultKind) -> Result<Error, AllocError>
     ensures { IfOk result (λ error. string_bytes error.text ≡ text_of kind.now) }
 {
@@ -116,7 +121,7 @@ fn tell(alloc: Global, kind: &FaultKind) -> Result<Error, AllocError>
     Ok(Error { text })
 }
 
-/// The words for a fault of this kind, before the name where there is one.
+/// Returns the text for this kind of syntax error, up to a name.
 fn words(kind: &FaultKind) -> &'static str
     ensures { result.now ≡ words kind.now }
 {

@@ -1,4 +1,4 @@
-//! From the text of a pattern to its tree.
+//! Parses the text of a pattern into its tree.
 #![tactic(auto)]
 
 mod atom;

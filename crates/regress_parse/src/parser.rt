@@ -1,4 +1,4 @@
-//! A place in a pattern, and what lies around it.
+//! The state of the parser, and the context of a part of the pattern.
 ghost use Rattle.std.specs.Prelude.{◌≤◌};
 ghost use Rattle.regress_base.specs.Limits.{max_capture_groups, max_loops};
 
@@ -6,7 +6,7 @@ use regress_base::types::{CaptureGroupID, LoopID, MAX_CAPTURE_GROUPS, MAX_LOOPS}
 use regress_syntax::fault::{FaultKind, refused};
 use regress_syntax::{Cursor, Fault, Group, Scope};
 
-/// What is still to read, and how many groups and loops were counted before it.
+/// The remaining input, and the number of groups and loops before it.
 #[derive(Drop)]
 pub(crate) struct Parser<'a> {
     pub(crate) cursor: Cursor<'a>,
@@ -16,13 +16,13 @@ pub(crate) struct Parser<'a> {
     ghost loops_within: { loop_count ≤ max_loops },
 }
 
-/// What lies around a part of the pattern.
+/// The context of a part of the pattern.
 #[derive(Clone, Copy)]
 pub(crate) struct Around<'a> {
     pub(crate) scope: Scope<'a>,
     /// Whether the part is matched backwards.
     pub(crate) backwards: bool,
-    /// How many levels lie around it.
+    /// The nesting depth of the part.
     pub(crate) depth: u32,
 }
 
@@ -33,7 +33,7 @@ impl<'a> Around<'a> {
     ghost use Rattle.regress_syntax.specs.Views.{group_of};
     ghost use Rattle.regress_parse.specs.Parsing.{context_in, direction_of};
 
-    /// What lies around the parts inside a group, but for its level.
+    /// Returns the context of the parts inside a group, with the same nesting depth.
     pub(crate) fn inside(&self, kind: &Group) -> Around<'a>
         ensures context { context_in result ≡ context_inside (group_of kind.now) (context_in self.now) }
         ensures direction { direction_of result ≡ direction_of_group (group_of kind.now) (direction_of self.now) }
@@ -64,7 +64,8 @@ impl Parser<'_> {
     ghost use Rattle.regress_syntax.specs.Views.{group_of};
     ghost use Rattle.regress_parse.specs.Parsing.{text, counted};
 
-    /// Counts a group, if it captures. The fault comes where it is one too many; so many code points were left there.
+    /// Counts a group, if it captures. Fails if that exceeds `MAX_CAPTURE_GROUPS`. `left` is the number of code points
+    /// that remained at the group.
     pub(crate) fn count_group(&mut self, kind: &Group, left: usize) -> Result<(), Fault>
         ensures ok { OnOk result (counted self.new ≡ added (counted self.old) (counts_of_group (group_of kind.now))) }
         ensures err { FailsBy result (λ told. (told ≡ TooManyGroups) × (max_capture_groups < self.old.group_count + opened_by (group_of kind.now))) }
@@ -79,7 +80,8 @@ impl Parser<'_> {
         Ok(())
     }
 
-    /// Counts a loop. The fault comes where it is one too many; so many code points were left there.
+    /// Counts a loop. Fails if that exceeds `MAX_LOOPS`. `left` is the number of code points that remained at the
+    /// quantifier.
     pub(crate) fn count_loop(&mut self, left: usize) -> Result<(), Fault>
         ensures ok { OnOk result (counted self.new ≡ added (counted self.old) one_loop) }
         ensures err { FailsBy result (λ told. (told ≡ TooManyLoops) × (max_loops < self.old.loop_count + 1)) }

@@ -1,4 +1,4 @@
-//! From a whole pattern to its tree.
+//! Parses a whole pattern into its tree.
 ghost use Rattle.std.specs.Prelude.{◌≡◌, ◌-◌, Bool, All, length, IfOk};
 ghost use Rattle.regress_unicode.specs.TableOf.{table_of};
 ghost use Rattle.regress_syntax.specs.SettingOf.{setting_of};
@@ -23,26 +23,35 @@ use regress_tree::ir::{Node, Regex};
 use regress_unicode::Tables;
 use std::alloc::Global;
 
-/// Parses a pattern, a list of code points of which a surrogate is an ordinary literal, and no character of
-/// a text. `docs/GRAMMAR.md` has the rows, under the flags i, m, s, u and v. The flag v is read by itself: it asks for
-/// other classes, for `\p` and `\P`, and for properties of strings. A caller who wants JavaScript's flag v sets u too.
+/// Parses a pattern and returns its tree (ECMA-262, Pattern). `docs/syntax.md` has the grammar of the dialect, and
+/// `docs/ir.md` the tree.
 ///
-/// `Syntax` is answered with the text of a `FaultKind`, which says where each is due:
-/// - before the pattern is parsed, `Duplicate capture group name` where two groups of one name conflict, and else
-///   `Regular expression is too deeply nested` (`MAX_NESTING_DEPTH` levels: the whole pattern is one, and so is each
-///   group, lookaround, and class with the flag v that lies in another), and else `Capture group count limit exceeded`
-///   of more groups than 32 bits number;
-/// - past another limit, `Capture group count limit exceeded` (`MAX_CAPTURE_GROUPS`) or `Loop count limit
-///   exceeded` (`MAX_LOOPS`, a loop being an item with a quantifier);
-/// - else where no row applies: `Unbalanced parenthesis`, or a text on an item, a group, a reference,
-///   a quantifier, an escape, a property or a class.
+/// `pattern` is a list of code points. A surrogate in it is an ordinary literal, and matches no character of a text.
+/// The flags u and v are independent: v alone selects classes with strings and operators (ECMA-262,
+/// ClassSetExpression), `\p` and `\P`, and properties of strings. JavaScript's flag v is u and v together.
 ///
-/// Of several faults that parsing meets the first from the left is told. `Memory` is answered where memory was
-/// wanting, also for the text of a fault. The time taken grows as the pattern does, with a logarithm for groups
-/// that have names and for what a class holds, and with the flag i as that times the rows of the table. A reference
-/// by a name makes a node for each group that has it, so time and tree may grow as the product of both. With the
-/// flag v what a class holds is gone over once for each class around it; a property is copied out of the table
-/// wherever it is named.
+/// # Preconditions
+/// Each element of `pattern` is a code point, at most U+10FFFF.
+///
+/// # Errors
+/// - [`ParseFault::Syntax`] if the pattern is rejected, with the text of a `FaultKind`, which specifies when each
+///   occurs:
+///   - first of all, `Duplicate capture group name` if two groups of one name conflict; else `Regular expression is too
+///     deeply nested` if the nesting depth exceeds `MAX_NESTING_DEPTH`, where the whole pattern, each group and
+///     lookaround, and with the flag v each class inside another class count one; else `Capture group count limit
+///     exceeded` if the number of groups does not fit into 32 bits;
+///   - `Capture group count limit exceeded` if there are more than `MAX_CAPTURE_GROUPS` groups, and `Loop count limit
+///     exceeded` if there are more than `MAX_LOOPS` items with a quantifier;
+///   - `Unbalanced parenthesis`, or a text about an item, a group, a reference, a quantifier, an escape, a property or
+///     a class, if no production of the grammar applies. Of several such errors the leftmost one is reported.
+/// - [`ParseFault::Memory`] if an allocation fails, also that of the text of a syntax error.
+///
+/// # Complexity
+/// Time is linear in the length of the pattern, with a logarithmic factor for named groups and for the contents of
+/// classes; the flag i multiplies that by the number of entries of the case table. A reference by name makes a node for
+/// each group with the name, so time and size of the tree can grow as their product. With the flag v the contents of a
+/// class are traversed once for each class around it, and each use of a property copies its set from the table. The
+/// depth of recursion is at most `MAX_NESTING_DEPTH`.
 pub fn try_parse(
     alloc: Global,
     pattern: &[u32],
@@ -51,8 +60,8 @@ pub fn try_parse(
 ) -> Result<Regex, ParseFault>
     requires { All IsCodePoint pattern.now }
 
-    // Whatever memory there is: a tree only where the grammar and the limits have one, and a fault
-    // of the pattern only where they have none.
+    // These hold for every outcome of allocations: a tree only for a pattern that the grammar derives within the
+    // limits, and a syntax error only for one that it does not.
     ensures accepted { IfOk result (λ r. (p : Pattern)
         × IsAccepted (setting_of flags tables.now) pattern.now p × (tree r.node ≡ tree_of (table_of tables.now) p)) }
     ensures refused { RefusedOnlyIf result (NoneIsAccepted (setting_of flags tables.now) pattern.now) }
@@ -60,7 +69,7 @@ pub fn try_parse(
     ensures limits { Tells result (MayExceed pattern.now) }
     ensures only { OneIsDerived (setting_of flags tables.now) pattern.now }
 
-    // What the tree is good for.
+    // Properties of the tree.
     ensures meaning { let setting = setting_of flags tables.now in
         IfOk result (λ r. OfAccepted setting pattern.now (Means setting (tree r.node))) }
     ensures well_formed { IfOk result (λ r. IsWellFormed (tree r.node)) }
@@ -69,8 +78,18 @@ pub fn try_parse(
     Ok(try_parse_with_place(alloc, pattern, flags, tables)?)
 }
 
-/// Answers what `try_parse` does, and with a fault of the pattern where in it that is. `docs/GRAMMAR.md` tells the place
-/// for each text.
+/// Parses a pattern as [`try_parse`] does, and returns the position of a syntax error too.
+///
+/// # Preconditions
+/// Each element of `pattern` is a code point, at most U+10FFFF.
+///
+/// # Errors
+/// - [`PlacedFault::Syntax`] if the pattern is rejected, with the text that [`try_parse`] reports and the code-point
+///   index of the error, at most the length of `pattern`. `docs/errors.md` specifies the position for each text.
+/// - [`PlacedFault::Memory`] if an allocation fails, also that of the text of a syntax error.
+///
+/// # Complexity
+/// As for [`try_parse`].
 pub fn try_parse_with_place(
     alloc: Global,
     pattern: &[u32],
@@ -79,8 +98,8 @@ pub fn try_parse_with_place(
 ) -> Result<Regex, PlacedFault>
     requires { All IsCodePoint pattern.now }
 
-    // Whatever memory there is: a tree only where the grammar and the limits have one, and a fault
-    // of the pattern only where they have none.
+    // These hold for every outcome of allocations: a tree only for a pattern that the grammar derives within the
+    // limits, and a syntax error only for one that it does not.
     ensures accepted { IfOk result (λ r. (p : Pattern)
         × IsAccepted (setting_of flags tables.now) pattern.now p × (tree r.node ≡ tree_of (table_of tables.now) p)) }
     ensures refused { RefusedOnlyIf (unplaced result) (NoneIsAccepted (setting_of flags tables.now) pattern.now) }
@@ -90,7 +109,7 @@ pub fn try_parse_with_place(
     ensures settled { TellsAt result (IsSettled (setting_of flags tables.now) pattern.now) }
     ensures only { OneIsDerived (setting_of flags tables.now) pattern.now }
 
-    // What the tree is good for.
+    // Properties of the tree.
     ensures meaning { let setting = setting_of flags tables.now in
         IfOk result (λ r. OfAccepted setting pattern.now (Means setting (tree r.node))) }
     ensures well_formed { IfOk result (λ r. IsWellFormed (tree r.node)) }
@@ -102,7 +121,7 @@ pub fn try_parse_with_place(
     }
 }
 
-/// The tree, or the kind of the fault and how many code points are left there.
+/// Returns the tree, or the kind of the syntax error and the number of code points that remain at its position.
 fn parse(alloc: Global, pattern: &[u32], flags: Flags, tables: &Tables) -> Result<Regex, Fault>
     requires { All IsCodePoint pattern.now }
     ensures accepted { IfOk result (λ r. (p : Pattern)
@@ -130,7 +149,8 @@ fn parse(alloc: Global, pattern: &[u32], flags: Flags, tables: &Tables) -> Resul
     })
 }
 
-/// Parses the whole source, up to its end. A fault is told at the place that was noted for its kind, if there is one.
+/// Parses the whole source. A syntax error is reported at the position that the scan has noted for its kind, if there
+/// is one.
 fn parse_body(
     alloc: Global,
     pattern: &[u32],
@@ -148,7 +168,7 @@ fn parse_body(
     }
 }
 
-/// The same, with a fault at the place where it was met.
+/// Parses the whole source. A syntax error is reported at the position where the parser found it.
 fn parse_source(alloc: Global, pattern: &[u32], scope: &Scope) -> Result<Node, Fault>
     requires { All IsCodePoint pattern.now }
     ensures value { YieldsWhole (context_of scope.now) pattern.now result }

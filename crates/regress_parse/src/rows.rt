@@ -1,4 +1,4 @@
-//! The grammar, form by form.
+//! Parses the productions of the grammar.
 ghost use Rattle.std.specs.Prelude.{◌≡◌, ◌≤◌, ◌+◌, ◌∷◌, false, Some};
 ghost use Rattle.regress_lexical.specs.Fault.{FailsBy};
 ghost use Rattle.regress_lexical.specs.Source.{Source, opening, ends_alternative};
@@ -19,7 +19,7 @@ use regress_syntax::{Fault, Group, read_group, read_times};
 use regress_tree::ir::Node;
 
 impl Parser<'_> {
-    /// Reads alternatives up to a `)` or the end (ECMA-262, Disjunction).
+    /// Parses alternatives up to a `)` or the end (ECMA-262, Disjunction).
     #[cycle(parser)]
     pub(crate) fn consume_disjunction(&mut self, around: &Around) -> Result<Node, Fault>
         ensures value { Yields (pattern_part (table_in around.now) (names_around around.now)) (direction_of around.now) around.now.depth (counted self.old) self.new result
@@ -46,7 +46,7 @@ impl Parser<'_> {
         Ok(make_alt(self.cursor.alloc, before, last)?)
     }
 
-    /// Reads terms up to the end of the alternative (ECMA-262, Alternative). One term alone needs no list.
+    /// Parses terms up to the end of the alternative (ECMA-262, Alternative). A single term needs no list.
     #[cycle(parser)]
     fn consume_alternative(&mut self, around: &Around) -> Result<Node, Fault>
         requires { around.now.depth ≤ max_nesting_depth }
@@ -64,7 +64,7 @@ impl Parser<'_> {
         self.consume_terms(first?, around)
     }
 
-    /// Reads the first term. Mostly it is a character that stands for itself, which needs no look at the other rows.
+    /// Parses the first term. Most often it is a literal character, which needs no test of the other productions.
     #[cycle(parser)]
     fn consume_first_term(&mut self, around: &Around) -> Result<Node, Fault>
         requires { around.now.depth ≤ max_nesting_depth }
@@ -78,7 +78,8 @@ impl Parser<'_> {
         }
     }
 
-    /// Reads the terms behind the first one, up to the end of the alternative, of which most need no look at the other rows.
+    /// Parses the terms after the first one, up to the end of the alternative. Most of them need no test of the other
+    /// productions.
     #[cycle(parser)]
     fn consume_terms(&mut self, first: Node, around: &Around) -> Result<Node, Fault>
         requires { around.now.depth ≤ max_nesting_depth }
@@ -101,7 +102,7 @@ impl Parser<'_> {
         Ok(make_cat(parts, around.backwards))
     }
 
-    /// Reads an item and the quantifier behind it (ECMA-262, Term).
+    /// Parses an item and the quantifier after it (ECMA-262, Term).
     #[cycle(parser)]
     fn consume_term(&mut self, around: &Around) -> Result<Node, Fault>
         requires { around.now.depth ≤ max_nesting_depth }
@@ -123,7 +124,8 @@ impl Parser<'_> {
         self.consume_times(item, allowed, first, around)
     }
 
-    /// Reads the quantifier behind an item, if one begins there. `first` is how many groups were counted before the item.
+    /// Parses the quantifier after an item, if there is one (ECMA-262, Quantifier). `first` is the number of groups
+    /// before the item.
     #[inline(always)]
     fn consume_times(
         &mut self,
@@ -150,7 +152,8 @@ impl Parser<'_> {
         Ok(make_loop(self.cursor.alloc, item, quantifier, first..self.group_count)?)
     }
 
-    /// Reads a group, behind what opens it. `opened` is how many code points were left before that.
+    /// Parses a group, after the code points that open it. `opened` is the number of code points that remained before
+    /// them.
     #[cycle(parser)]
     fn consume_group(&mut self, kind: Group, opened: usize, around: &Around) -> Result<Node, Fault>
         ensures value { Yields (item_part (table_in around.now) (names_around around.now)) (direction_of around.now) around.now.depth (counted self.old) self.new result

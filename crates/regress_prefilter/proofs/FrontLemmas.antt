@@ -1,4 +1,4 @@
--- What parts begin with, by what they are made of.
+-- The first bytes of nodes, from those of their children.
 use Rattle.std.proofs.Common.{◌≡◌, ◌⊎◌, inl, inr, ℕ, zero, suc, ◌+◌, ◌-◌, ◌≤◌, ◌<◌, ◌==◌, Bool, true, false, not, ◌&&◌, ◌||◌, List, [], ◌∷◌, ◌++◌, flat_map, length, drop, get_or, slice_index, slice_get, Option, Some, None, All, refl, sym, ap, subst, ◌∙◌, arith, append_assoc, if◌then◌else◌, nat_eq}
 use Rattle.std.specs.Prelude.{IsTrue, IfSome, nat_le}
 use Rattle.std.specs.Char.{IsScalar, encode_utf8}
@@ -51,7 +51,7 @@ begins_more set set' through through' bytes f more on begins =
     (begins s)
 
 module _ (set : ℕ → Bool) (bytes : List ℕ) where
-  -- from one outcome on
+  -- one part followed by another, for a single outcome
   begun_then : (through through' : Bool) (from mid to : ℕ) → IsBegun set through bytes from mid → IsBegun set through' bytes mid to →
       IsBegun set (through && through') bytes from to
   begun_then through through' from mid to (inl at) second = inl at
@@ -76,7 +76,7 @@ module _ (set : ℕ → Bool) (bytes : List ℕ) where
   always_begun from mid (inl at) (t ∷ ts) = All-cons (λ t. IsBegun set false bytes from t.place) t ts (inl at) (always_begun from mid (inl at) ts)
   always_begun from mid (inr both) ts = let bad : ⊥ = cc in absurd bad
 
-  -- What is never empty decides, whatever follows.
+  -- A part that is never empty determines the first bytes, whatever follows it.
   all_before : (g : Step) (from : ℕ) (states : List State) → All (λ t. IsBegun set false bytes from t.place) states →
       All (λ t. IsBegun set false bytes from t.place) (flat_map g states)
   all_before g from [] all = All-nil (λ t. IsBegun set false bytes from t.place)
@@ -175,7 +175,7 @@ module _ (set : ℕ → Bool) (bytes : List ℕ) where
   first_of_drop : (k : ℕ) → get_or (drop k bytes) 0 0 ≡ slice_index bytes k
   first_of_drop k = get_or-drop k bytes 0 0 ∙ ap (slice_index bytes) (omega arith)
 
-  -- the byte at a place, by what stands from there on
+  -- the byte at an offset is the first of the remaining bytes
   member_of : (k b : ℕ) (rest : List ℕ) → drop k bytes ≡ b ∷ rest → IsTrue (set b) → IsMemberAt set bytes k
   member_of k b rest here member =
       let first : slice_index bytes k ≡ b = sym (first_of_drop k) ∙ ap (λ bs. get_or bs 0 0) here in
@@ -232,14 +232,14 @@ module _ (set : ℕ → Bool) (bytes : List ℕ) where
       neither (inl at) = off at
       neither (inr both) = let bad : ⊥ = cc in bad
 
-  -- where no byte of the set stands it has no outcome
+  -- a part has no outcome at an offset without a byte of the set
   pub begins_nowhere : (f : Step) (s : State) → Begins set false bytes f → (IsMemberAt set bytes s.place → ⊥) → f s ≡ []
   begins_nowhere f s begins off = none_begun s.place (f s) (begins s) off
 
   pub begins-same : (through : Bool) (f g : Step) → ((s : State) → f s ≡ g s) → Begins set through bytes g → Begins set through bytes f
   begins-same through f g same begins = λ s. subst (λ states. All (λ t. IsBegun set through bytes s.place t.place) states) (sym (same s)) (begins s)
 
--- members of lists that are gone over
+-- a member of a list from an index on is the element there or is after it
 pub left_list : (set : ℕ → Bool) (xs : List ℕ) (i c : ℕ) → i < length xs → IsCovered set (get_or xs i 0) → lists (drop i xs) c ≡ true →
     (lists (drop (i + 1) xs) c ≡ true) ⊎ IsCovered set c
 left_list set xs i c lt covered is = first (get_or xs i 0) (get_or xs i 0 == c) refl covered (sym (ap (λ ys. lists ys c) (drop_more xs i 0 lt)) ∙ is)
@@ -257,7 +257,7 @@ left_member set xs i c x split covered is = first (is_within x c) covered (sym (
     first true here h = inr (here refl)
     first false here h = inl h
 
--- What is gone over of alternatives, and then what is left of them.
+-- The alternatives so far have the front, and they and the remaining ones make up the whole.
 abbrev pub IsSpine : Front → (whole rest : Tree) → Type 0
 IsSpine front whole rest = (setting : Setting) (bytes : List ℕ) →
     (f : Step) × IsFrontOf front bytes f × ((s : State) → steps setting bytes forwards whole s ≡ f s ++ steps setting bytes forwards rest s)
@@ -299,7 +299,7 @@ front_repeat set through through' bytes f q bound start end on first =
     begins_more set set (through || (q.min == 0)) through' bytes (repeat bound q start end f) (λ x h. h) on
     (begins-repeat set bytes through bound q start end f first)
 
--- single nodes
+-- a leaf that matches one character
 pub front-one : (set : ℕ → Bool) (setting : Setting) (bytes : List ℕ) (t : Tree) → takes_one t ≡ true →
     ((c : ℕ) → test_of t c ≡ true → IsCovered set c) → Begins set false bytes (steps setting bytes forwards t)
 front-one set setting bytes t takes covers =
@@ -313,7 +313,7 @@ is_still_leaf (anchor kind multiline) = true
 is_still_leaf (word_boundary invert icase) = true
 is_still_leaf l = false
 
--- a leaf that never moves
+-- a leaf that matches the empty string alone
 abbrev pub is_still : Tree → Bool
 is_still (leaf l) = is_still_leaf l
 is_still t = false
@@ -385,7 +385,7 @@ spine-last a b r whole rest or so_far front =
     begins-same (contains r.bytes) bytes r.through (steps setting bytes forwards whole) (before.0 or_ steps setting bytes forwards rest) before.2
     (or bytes before.0 (steps setting bytes forwards rest) before.1 (front setting bytes))
 
--- parts in a row
+-- a sequence with one more part
 pub row-next : (a b r : Front) (ts : Trees) (t : Tree) → ((bytes : List ℕ) (f g : Step) → IsFrontOf a bytes f → IsFrontOf b bytes g → IsFrontOf r bytes
     (f then_ g)) →
     IsFront a (cat ts) → IsFront b t → IsFront r (cat (row_append ts (more_trees t no_trees)))
@@ -414,7 +414,7 @@ needed front t is begins = λ setting bytes s off.
     (begins_nowhere (contains front.bytes) bytes (steps setting bytes forwards t) s
     (subst (λ (b : Bool). Begins (contains front.bytes) b bytes (steps setting bytes forwards t)) is (begins setting bytes)) off)
 
--- what a set keeps, and what it gets
+-- a character stays covered when the set grows
 pub covered_kept : (set set' : ℕ → Bool) (c : ℕ) → ((b : ℕ) → IsTrue (set b) → IsTrue (set' b)) → IsCovered set c → IsCovered set' c
 covered_kept set set' c kept covered = λ scalar b first. kept b (covered scalar b first)
 
@@ -429,7 +429,7 @@ pub none_left : (xs : List Bounds) (i c : ℕ) → length xs ≤ i → is_member
 unfolding is_member
 none_left xs i c le is = false≢true (ap (λ ys. is_member ys c) (sym (drop_all i xs le)) ∙ is)
 
--- places in what lies ahead
+-- a member after `from`, by its offset from there
 member_ahead : (set : ℕ → Bool) (bytes : List ℕ) (from j : ℕ) → IsMemberAt set bytes (from + j) → IsMemberAt set (drop from bytes) j
 member_ahead set bytes from j at = record {
   inside = omega (arith, at.inside, length-drop from bytes);
@@ -454,7 +454,7 @@ none_before set bytes from n none k le lt at =
     let there : from + (k - from) ≡ k = omega (arith, le) in
     none (k - from) (omega (arith, le, lt)) (member_ahead set bytes from (k - from) (subst (λ i. IsMemberAt set bytes i) (sym there) at))
 
--- what a search of what lies ahead finds
+-- a search of the bytes after `from` that finds no member
 pub none_in : (set : ℕ → Bool) (bytes ahead : List ℕ) (from : ℕ) → ahead ≡ drop from bytes → ((j : ℕ) → j ≤ length ahead → IsMemberAt set ahead j → ⊥) →
     (k : ℕ) → from ≤ k → IsMemberAt set bytes k → ⊥
 none_in set bytes ahead from is none =

@@ -1,4 +1,4 @@
--- What the matches of a part begin with.
+-- The first bytes of the matches of a part of a tree.
 use Rattle.std.specs.Prelude.{◌≡◌, ◌⊎◌, ◌≤◌, ◌<◌, ℕ, Bool, true, List, [], Some, IsTrue, MatchOption, slice_get, encode_utf8, All}
 use Rattle.std.specs.Char.{IsScalar}
 use Rattle.std.specs.Prelude.{Option}
@@ -12,31 +12,32 @@ use Rattle.regress_tree.specs.Steps.{State, Step}
 use Rattle.regress_tree.specs.Tree.{Tree}
 use Rattle.regress_prefilter.specs.declared.fronts.Front.{Front}
 
--- the first byte of the UTF-8 of the character is in the set
+-- the set contains the first byte of the UTF-8 encoding of the character
 abbrev pub IsCovered : (set : ℕ → Bool) → (c : ℕ) → Type 0
 IsCovered set c = IsScalar c → (b : ℕ) → slice_get (encode_utf8 c) 0 ≡ Some b → IsTrue (set b)
 
--- A byte of the set stands at the first place, or the two are the same and that may be.
+-- A byte of the set is at offset `from`, or `through` holds and the range from `from` to `to` is empty.
 abbrev pub IsBegun : (set : ℕ → Bool) → (through : Bool) → (bytes : List ℕ) → (from to : ℕ) → Type 0
 IsBegun set through bytes from to = IsMemberAt set bytes from ⊎ ((through ≡ true) × (to ≡ from))
 
--- so it is from each state to each outcome
+-- this holds from every state to every outcome
 abbrev pub Begins : (set : ℕ → Bool) → (through : Bool) → (bytes : List ℕ) → Step → Type 0
 Begins set through bytes f = (s : State) → All (λ t. IsBegun set through bytes s.place t.place) (f s)
 
+-- the same for the fields of a front
 abbrev pub IsFrontOf : Front → (bytes : List ℕ) → Step → Type 0
 IsFrontOf front bytes f = Begins (contains front.bytes) front.through bytes f
 
--- and for each setting and text
+-- this holds for every setting and every text
 abbrev pub IsFront : Front → Tree → Type 0
 IsFront front t = (setting : Setting) (bytes : List ℕ) → IsFrontOf front bytes (steps setting bytes forwards t)
 
--- The tree matches nowhere forwards but where a byte of the set stands.
+-- In the forward direction the tree has no match at an offset without a byte of the set.
 abbrev pub IsNeeded : ByteBitmap → Tree → Type 0
 IsNeeded set t = (setting : Setting) (bytes : List ℕ) (s : State) → (IsMemberAt (contains set) bytes s.place → ⊥) →
     matches setting bytes forwards t s ≡ []
 
--- the least place from `from` on with a byte of the set, and None where there is none
+-- the least offset, `from` or later, with a byte of the set, or None if there is none
 abbrev pub IsNextMember : ByteBitmap → (bytes : List ℕ) → (from : ℕ) → Option ℕ → Type 0
 IsNextMember set bytes from r =
     MatchOption r ((k : ℕ) → from ≤ k → IsMemberAt (contains set) bytes k → ⊥)

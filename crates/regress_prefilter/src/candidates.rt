@@ -1,4 +1,4 @@
-//! Where in a text matches can begin.
+//! The positions in a text at which matches can begin.
 ghost use Rattle.std.specs.Prelude.{◌≡◌, ◌≤◌, true, IfSome, length};
 ghost use Rattle.regress_tree.specs.Tree.{tree, trees, cat};
 ghost use Rattle.regress_prefilter.specs.Candidates.{AreCandidates, IsAnchored, Skips, is_start};
@@ -7,17 +7,23 @@ use crate::fronts::{first_bytes, next_candidate};
 use regress_base::bytesearch::ByteBitmap;
 use regress_tree::ir::{AnchorType, Node};
 
-/// Places at which matches forwards can begin, as far as is known of a tree.
+/// The byte offsets at which matches in the forward direction can begin, as far as a tree determines them.
 #[derive(Clone, Copy)]
 pub enum Candidates {
+    /// Every byte offset.
     Anywhere,
-    /// The start of the text alone: a `^` stands in front.
+    /// Only offset 0: each alternative of the tree begins with a `^` that is not multiline.
     Start,
-    /// Where one of these bytes stands.
+    /// Each offset with one of these bytes.
     Bytes(ByteBitmap),
 }
 
-/// Those of a tree. It takes two passes over the tree at most.
+/// Returns the candidates of a tree: a match of `node` in the forward direction begins at one of them, for any flags
+/// and any text.
+///
+/// # Complexity
+/// At most two passes over the tree, without allocations. The depth of recursion is the depth of the tree, where the
+/// right sides of alternations do not count.
 pub fn candidates_of(node: &Node) -> Candidates
     ensures { AreCandidates result (tree node.now) }
 {
@@ -30,7 +36,16 @@ pub fn candidates_of(node: &Node) -> Candidates
     }
 }
 
-/// The least candidate from `from` on.
+/// Returns the least candidate of `text` that is at byte offset `from` or later, or `None`.
+///
+/// No match of the tree begins from `from` up to the result, exclusive. If the result is `None`, no match begins at
+/// `from` or later.
+///
+/// # Preconditions
+/// `from` is at most the length of `text`.
+///
+/// # Complexity
+/// Linear in the number of bytes from `from` to the result.
 pub fn next_place(candidates: &Candidates, text: &str, from: usize) -> Option<usize>
     requires { from ≤ length text.now }
     ensures skips { Skips candidates.now text.now from result }
@@ -43,8 +58,8 @@ pub fn next_place(candidates: &Candidates, text: &str, from: usize) -> Option<us
     }
 }
 
-/// Whether each alternative has a `^` in front that looks at no line. It goes down the right sides of alternatives in a
-/// loop: there may be as many levels as alternatives.
+/// Returns whether each alternative begins with a `^` that is not multiline. Iterates over the right sides of
+/// alternations, whose depth can be the number of alternatives.
 #[cycle(is_anchored)]
 fn is_anchored(node: &Node) -> bool
     ensures { result ≡ true → IsAnchored (tree node.now) }
@@ -59,7 +74,7 @@ fn is_anchored(node: &Node) -> bool
     is_anchored_other(node)
 }
 
-/// That of a part that is no `Alt`.
+/// Returns the same for a node that is no `Alt`.
 #[cycle(is_anchored)]
 fn is_anchored_other(node: &Node) -> bool
     ensures { result ≡ true → IsAnchored (tree node.now) }

@@ -1,4 +1,4 @@
-//! The bytes with which the matches of a tree begin.
+//! The first bytes of the matches of a tree.
 ghost use Rattle.std.specs.Prelude.{◌≡◌, ℕ, List, IfSome, IsTrue, false, true};
 ghost use Rattle.regress_base.specs.ByteBitmap.{contains};
 ghost use Rattle.regress_base.specs.Intervals.{is_member};
@@ -15,8 +15,12 @@ use regress_base::codepointset::{CODE_POINT_MAX, Interval};
 use regress_base::util::add_utf8_first_bytes_to_bitmap;
 use regress_tree::ir::Node;
 
-/// Bytes, one of which stands where a match forwards begins. None where a match may be empty, or where not enough is
-/// known of the tree. It takes one pass over the tree at most, and no memory.
+/// Returns the first set of a tree: bytes, one of which is at the start of every match in the forward direction.
+/// Returns `None` if a match can be empty, or if the tree does not determine the bytes.
+///
+/// # Complexity
+/// At most one pass over the tree, without allocations. The depth of recursion is the depth of the tree, where the
+/// right sides of alternations do not count.
 pub fn first_bytes(node: &Node) -> Option<ByteBitmap>
     ensures { IfSome result (λ set. IsNeeded set (tree node.now)) }
 {
@@ -28,7 +32,10 @@ pub fn first_bytes(node: &Node) -> Option<ByteBitmap>
     }
 }
 
-/// The least place from `from` on with a byte of the set, and None where there is none.
+/// Returns the least byte offset, `from` or later, with a byte of `set`, or `None`.
+///
+/// # Complexity
+/// Linear in the number of bytes from `from` to the result.
 pub fn next_candidate(set: &ByteBitmap, bytes: &[u8], from: usize) -> Option<usize>
     ensures { IsNextMember set.now bytes.now from result }
 {
@@ -39,15 +46,18 @@ pub fn next_candidate(set: &ByteBitmap, bytes: &[u8], from: usize) -> Option<usi
     Some(from + ahead)
 }
 
-/// Bytes, one of which stands where a match begins, but that with `through` it may be empty.
+/// The first set of a part of a tree. Every match begins with one of `bytes`, except that it can be empty if `through`
+/// holds.
 #[derive(Clone, Copy)]
 pub struct Front {
+    /// Bytes, one of which is at the start of every nonempty match.
     pub bytes: ByteBitmap,
+    /// Whether a match can be empty at an offset without one of these bytes.
     pub through: bool,
 }
 
 impl Front {
-    /// That of what matches the empty text alone.
+    /// Returns the front of a part that matches the empty string alone.
     fn empty() -> Front
         ensures bytes { (b : ℕ) → contains result.bytes b ≡ false }
         ensures through { result.through ≡ true }
@@ -58,7 +68,7 @@ impl Front {
         }
     }
 
-    /// That of what matches nothing.
+    /// Returns the front of a part that matches nowhere.
     fn nowhere() -> Front
         ensures bytes { (b : ℕ) → contains result.bytes b ≡ false }
         ensures through { result.through ≡ false }
@@ -69,7 +79,7 @@ impl Front {
         }
     }
 
-    /// That of one part after another.
+    /// Returns the front of one part followed by another.
     fn then(self, next: Front) -> Front
         ensures { (bytes : List ℕ) (f g : Step) → IsFrontOf self bytes f → IsFrontOf next bytes g → IsFrontOf result bytes (f then_ g) }
     {
@@ -81,7 +91,7 @@ impl Front {
         }
     }
 
-    /// That of one part or another.
+    /// Returns the front of one part or another.
     fn or(self, other: Front) -> Front
         ensures { (bytes : List ℕ) (f g : Step) → IsFrontOf self bytes f → IsFrontOf other bytes g → IsFrontOf result bytes (f or_ g) }
     {
@@ -93,7 +103,7 @@ impl Front {
         }
     }
 
-    /// That of so many turns at least.
+    /// Returns the front of at least `least` iterations.
     fn repeated(self, least: usize) -> Front
         ensures { (bytes : List ℕ) (f : Step) (q : Quantifier) (bound start end : ℕ) → q.min ≡ least → IsFrontOf self bytes f →
             IsFrontOf result bytes (repeat bound q start end f) }
@@ -105,7 +115,8 @@ impl Front {
     }
 }
 
-/// It goes down the right sides of alternatives in a loop: there may be as many levels as alternatives.
+/// Returns the front of a node, or `None` if it is not determined. Iterates over the right sides of alternations, whose
+/// depth can be the number of alternatives.
 #[cycle(front_of)]
 fn front_of(node: &Node) -> Option<Front>
     ensures { IfSome result (λ front. IsFront front (tree node.now)) }
@@ -119,7 +130,7 @@ fn front_of(node: &Node) -> Option<Front>
     Some(all.or(front_of_other(node)?))
 }
 
-/// It goes over parts up to the first that is never empty.
+/// Returns the front of a sequence of parts. Stops after the first part that is never empty.
 #[cycle(front_of)]
 fn front_of_row(parts: &[Node]) -> Option<Front>
     ensures { IfSome result (λ front. IsFront front (cat (trees parts.now))) }
@@ -134,7 +145,7 @@ fn front_of_row(parts: &[Node]) -> Option<Front>
     Some(all)
 }
 
-/// That of a part that is no `Alt`.
+/// Returns the front of a node that is no `Alt`.
 #[cycle(front_of)]
 fn front_of_other(node: &Node) -> Option<Front>
     ensures { IfSome result (λ front. IsFront front (tree node.now)) }
@@ -149,7 +160,7 @@ fn front_of_other(node: &Node) -> Option<Front>
     }
 }
 
-/// That of a part that holds no node.
+/// Returns the front of a node without children.
 fn front_of_leaf(node: &Node) -> Option<Front>
     ensures { IfSome result (λ front. IsFront front (tree node.now)) }
 {
@@ -168,7 +179,7 @@ fn front_of_leaf(node: &Node) -> Option<Front>
     }
 }
 
-/// That of these bytes as they stand.
+/// Returns the front of a sequence of bytes.
 fn front_of_bytes(written: &[u8]) -> Option<Front>
     ensures { IfSome result (λ front. IsFront front (leaf (byte_sequence written.now))) }
 {
@@ -183,7 +194,7 @@ fn front_of_bytes(written: &[u8]) -> Option<Front>
     })
 }
 
-/// The first bytes of a leaf that takes one character, if it is a list of some.
+/// Returns the first bytes of a leaf that matches one character, if the leaf lists its characters.
 fn set_of(node: &Node) -> Option<ByteBitmap>
     ensures { IfSome result (λ set. (takes_one (tree node.now) ≡ true) × ((c : ℕ) → test_of (tree node.now) c ≡ true → IsCovered (contains set) c)) }
 {
@@ -200,7 +211,7 @@ fn set_of(node: &Node) -> Option<ByteBitmap>
     Some(set)
 }
 
-/// Adds the first byte of the UTF-8 of a character, where it has one.
+/// Adds the first byte of the UTF-8 encoding of `c`, if `c` is a code point.
 fn add_character(c: u32, set: &mut ByteBitmap)
     ensures kept { (b : ℕ) → IsTrue (contains set.old b) → IsTrue (contains set.new b) }
     ensures covered { IsCovered (contains set.new) c }

@@ -1,4 +1,4 @@
-//! Where in a text the matches of a tree can begin, told without matching.
+//! The positions in a text at which a match of a tree can begin, determined without matching.
 #![tactic(auto)]
 
 pub mod candidates;

@@ -1,4 +1,4 @@
--- What is left of a budget, part by part.
+-- The remaining budget after each node.
 use Rattle.std.proofs.Common.{◌≡◌, ℕ, ◌+◌, ◌≤◌, ◌||◌, Bool, true, false, max, Some, None, refl, ◌∙◌, arith}
 use Rattle.std.proofs.lemmas.Bool.Decides.{nat_tests}
 use Rattle.regress_tree.specs.Measures.{levels}
@@ -17,7 +17,7 @@ left_of_budget-then most budget left false true false strings' charge charge' le
 left_of_budget-then most budget left false false false true charge charge' levels levels' is = refl
 left_of_budget-then most budget left false false false false charge charge' levels levels' is = grind (arith, nat_tests)
 
--- the parts behind the first one have what it leaves
+-- the parts after the first one have the budget that it leaves
 pub after_charge-more : (most budget left : ℕ) (t : Tree) (ts : Trees) → Some left ≡ after_charge most budget t →
     after_charge_row most left ts ≡ after_charge_row most budget (more_trees t ts)
 after_charge-more most budget left t ts is = left_of_budget-then most budget left _ _ _ _ _ _ _ _ is
@@ -31,14 +31,14 @@ none-then most budget false false true strings' charge charge' levels levels' is
 none-then most budget false false false true charge charge' levels levels' is = refl
 none-then most budget false false false false charge charge' levels levels' is = grind (arith, nat_tests)
 
--- where no level is left, or nothing of the budget
+-- no budget remains if no nesting depth or no budget is given
 none_of : (most budget : ℕ) (loops strings : Bool) (charge levels : ℕ) → 1 ≤ charge → 1 ≤ levels → (1 ≤ most → 1 ≤ budget → ⊥) →
     None ≡ left_of_budget most budget loops strings charge levels
 none_of most budget true strings charge levels some deep none = refl
 none_of most budget false true charge levels some deep none = refl
 none_of most budget false false charge levels some deep none = grind (arith, nat_tests)
 
--- One node and one level are charged, and what lies inside by what they leave.
+-- One node and one level of nesting are charged, and its children get what remains.
 module _ (most budget inside left : ℕ) (level : most ≡ inside + 1) (one : budget ≡ left + 1) where
   one_more : (loops strings : Bool) (charge levels : ℕ) →
       left_of_budget inside left loops strings charge levels ≡ left_of_budget most budget loops strings (1 + charge) (1 + levels)
@@ -66,7 +66,7 @@ levels-positive (cat parts) = omega arith
 levels-positive (alt left right) = omega arith
 levels-positive (wrapped w body) = omega arith
 
--- a tree has a node and a level
+-- a tree has at least one node and one level
 pub charged-none : (most budget : ℕ) (t : Tree) → (1 ≤ most → 1 ≤ budget → ⊥) → None ≡ after_charge most budget t
 charged-none most budget t none = none_of most budget (has_loop t) (has_string_set t) (charge t) (levels t)
     (total-positive charges charge_of_leaf-positive (omega arith) (omega arith) (λ w. omega arith) t) (levels-positive t) none

@@ -1,4 +1,4 @@
--- What matches the empty text alone becomes `Empty`, and a `Cat` loses its `Empty` parts.
+-- A node that matches only the empty text becomes `Empty`, and a `Cat` loses its `Empty` parts.
 use Rattle.std.proofs.Common.{◌≡◌, ℕ, ◌+◌, ◌≤◌, Bool, true, false, not, ◌&&◌, ◌||◌, cond, inl, inr, List, [], ◌∷◌, length, Option, Some, None, refl, sym, ap, ap₂, subst, ◌∙◌, eqb-true, arith}
 use Rattle.std.specs.Prelude.{encode_utf8_all, nat_le}
 use Rattle.std.proofs.lemmas.Bool.{cases_Bool, true≢false, false≢true, and_parts, leb-true}
@@ -28,20 +28,20 @@ use Rattle.regress_rewrite.proofs.LawfulLemmas.{remove_lawful, cat_lawful}
 use Rattle.regress_rewrite.proofs.TakenLemmas.{without_keeps, without-less}
 use Rattle.regress_rewrite.proofs.laws.Segments.{is_empty-leaf}
 
--- What tests tell.
+-- What the tests on nodes imply.
 
 is_zero-Some : (max : Option ℕ) → is_zero max ≡ true → max ≡ Some 0
 is_zero-Some None is = absurd (false≢true is)
 is_zero-Some (Some n) is = ap (λ (m : ℕ). Some m) (eqb-true n 0 is)
 
--- no byte is the UTF-8 of no character
+-- an empty `ByteSequence` is no single character
 no_byte-free : (p : Position) → AreUtf8 [] p → NotAsOneCharacter p
 no_byte-free one_character m = absurd (omega (arith, m.one, ap length m.encoded, length-le-encodes m.characters))
 no_byte-free inside m = tt
 no_byte-free last m = tt
 no_byte-free root m = tt
 
--- What becomes `Empty`.
+-- Nodes that become `Empty`.
 
 module _ (d : Direction) where
   record Vanishes (t : Tree) : Type 0 where
@@ -67,7 +67,7 @@ module _ (d : Direction) where
       (λ n p m. no_byte-free p m) refl (IsLess-lighter (leaf empty) (leaf (byte_sequence [])) (omega arith) (omega arith))
   leaf_vanishes l is = absurd (false≢true is)
 
-  -- the second side finds what the first one does
+  -- the right side of an alternation of two `Empty`s has the outcome of the left one
   sides_vanish : Vanishes (alt (leaf empty) (leaf empty))
   sides_vanish =
       vanishes (alt (leaf empty) (leaf empty))

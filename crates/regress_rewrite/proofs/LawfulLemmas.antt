@@ -1,4 +1,4 @@
--- The law, for whatever is removed: what a rewrite has to show of each action.
+-- The law, for any shape that is removed: what each action of a rewrite has to show.
 use Rattle.std.proofs.Common.{◌≡◌, ◌≢◌, Bool, true, false, inl, inr, refl, sym, subst, ◌∙◌, arith}
 use Rattle.std.proofs.lemmas.Bool.{false≢true}
 use Rattle.regress_tree.specs.declared.ir.node.Node.{Node}
@@ -15,7 +15,7 @@ use Rattle.regress_rewrite.proofs.laws.Keeps.{Keeps-refl, Keeps-trans, Keeps-no_
 use Rattle.regress_tree.proofs.laws.Falling.{IsLess-trans}
 
 module _ (removes : Tree → Bool) (exact : Bool) (d : Direction) where
-  -- what stands for a `Cat` of fewer than two parts is less
+  -- what replaces a `Cat` of fewer than two parts is less
   pub alone_keeps : (t : Tree) (ts : Trees) → StandsAlone t ts → Keeps d (cat ts) t × IsLess t (cat ts)
   alone_keeps t ts (inl none) =
       subst (λ (us : Trees). Keeps d (cat us) t × IsLess t (cat us)) (sym none.0)
@@ -25,7 +25,7 @@ module _ (removes : Tree → Bool) (exact : Bool) (d : Direction) where
       subst (λ (us : Trees). Keeps d (cat us) t × IsLess t (cat us)) (sym one)
       (Keeps-one_part d t, IsLess-part (among no_trees no_trees) t)
 
-  -- a node with nothing to remove is kept
+  -- a node with nothing to remove may be kept
   pub keep_lawful : (t : Tree) → removes t ≡ false → ObeysLaw removes exact d t t Keep
   keep_lawful t none = record {
     keeps = Keeps-refl d t;
@@ -46,7 +46,8 @@ module _ (removes : Tree → Bool) (exact : Bool) (d : Direction) where
       exact = λ is_exact none. absurd (false≢true (sym none ∙ some));
     }
 
-    -- one with a shape to remove may be changed, removed or replaced, by what stands for it and is less
+    -- a node with a shape to remove may be modified, removed or replaced, if the result keeps what the law requires and
+    -- is less
     pub modified_lawful : (new : Tree) → Keeps d old new → IsLess new old → ObeysLaw removes exact d old new Modified
     modified_lawful new = changed new Modified (λ same. cc)
 
@@ -57,7 +58,7 @@ module _ (removes : Tree → Bool) (exact : Bool) (d : Direction) where
         ObeysLaw removes exact d old left (Replace node)
     replace_lawful left node = changed left (Replace node) (λ same. cc)
 
-    -- what is left of a `Cat` may stand in it, or for it where it is one part or none
+    -- the remaining parts of a `Cat` may be its parts, or replace it if there are fewer than two
     pub cat_lawful : (action : PassAction) (parts left : Trees) → Keeps d old (cat parts) → IsLess (cat parts) old →
         StandsForCat action parts left → ObeysLaw removes exact d old (cat left) action
     cat_lawful Keep parts left keeps is_less stands = absurd stands

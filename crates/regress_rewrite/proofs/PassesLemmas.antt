@@ -1,4 +1,4 @@
--- What a rewrite is shown, put together.
+-- The calls of a rewrite, composed over a tree.
 use Rattle.std.proofs.Common.{◌≡◌, ◌≢◌, ℕ, Bool, true, false, ◌||◌, Result, Ok, Err, List, take, drop, inl, inr, arith, refl, sym, ap, ap₂, subst, ◌∙◌}
 use Rattle.std.specs.declared.alloc.AllocError.{AllocError}
 use Rattle.std.specs.Result.{IsErr}
@@ -24,7 +24,7 @@ use Rattle.regress_tree.proofs.laws.Measures.{LacksShape-here, LacksShape-inside
 use Rattle.std.proofs.lemmas.Bool.{or_parts}
 
 module _ {R : Type 0} (step : R → Tree → Walk → Result PassAction AllocError → Tree → R → Type 0) (unicode : Bool) where
-  -- After an error a walk comes by and changes nothing.
+  -- After an error the rest of a traversal changes nothing.
   after : (t : Tree) (d : ℕ) (behind : Bool) (a : R) → Inside (Applied step unicode) true d behind t t (a, false) (a, false) →
       Visited (Applied step unicode) true d behind t t (a, false) (a, false)
   after t d behind a inside = after_children {skip = false} inside (refl, refl, refl)
@@ -44,7 +44,7 @@ module _ {R : Type 0} (step : R → Tree → Walk → Result PassAction AllocErr
   pub stays : (t : Tree) (d : ℕ) (behind : Bool) (a : R) → Visited (Applied step unicode) true d behind t t (a, false) (a, false)
   stays t d behind a = after t d behind a (inside_stays t d behind a)
 
-  -- and so do the calls on the way up
+  -- after an error no node above is rewritten either
   pub way_stays : (above t : Tree) (depth : ℕ) (behind : Bool) (a : R) →
       ClimbedMut (Applied step unicode) above depth behind t (reattach above t) (a, false) (a, false)
   way_stays (leaf l) t depth behind a = (refl, refl)
@@ -63,7 +63,7 @@ less_differs t u less same =
       | inr lighter ↦ omega (arith, ap weight same, lighter.1)
     ]
 
--- what was swept of a row, and the rest as it was
+-- a list of parts is those that were traversed, and the others unchanged
 pub row_whole : (now old : List Node) (i : ℕ) → drop i now ≡ drop i old → trees now ≡ row_append (trees (take i now)) (trees (drop i old))
 row_whole now old i same =
     ap trees (sym (take-append-drop i now)) ∙ trees-append (take i now) (drop i now)
@@ -92,7 +92,7 @@ module _ (exact : Bool) (d : Direction) (shape : Tree → Bool) (left left' righ
       Swept-then exact d (left_swept first) (Swept-put exact (right_of left') d second) (λ lacks same. (sides_lack lacks).1)
       (λ a b. ap₂ ◌||◌ a b)
 
--- What lies inside is swept, and then the node is rewritten.
+-- The children are traversed, and then the node is rewritten.
 module _ (exact : Bool) (d : Direction) (shape : Tree → Bool) (t u v : Tree) (changed : Bool) where
   inside_swept : SweptOf (LacksInside shape) exact d t u (Ok changed) →
       Swept (LacksShape shape t) (LacksInside shape u) exact d t u (Ok changed)

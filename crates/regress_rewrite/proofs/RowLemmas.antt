@@ -1,4 +1,4 @@
--- Rows of nodes that do not pass a test.
+-- Lists of nodes that fail a test.
 use Rattle.std.proofs.Common.{◌≡◌, Bool, not, List, [], ◌∷◌, inl, inr, refl, ap}
 use Rattle.std.specs.List.{filter}
 use Rattle.std.proofs.lemmas.Bool.{cases_Bool}

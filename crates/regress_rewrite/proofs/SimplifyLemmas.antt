@@ -1,4 +1,4 @@
--- Simplifying brackets keeps what a rewrite must keep, and makes the bracket less.
+-- Simplifying brackets obeys the law, and the bracket becomes less.
 use Rattle.std.proofs.Common.{◌≡◌, ◌≢◌, ℕ, ◌+◌, ◌-◌, ◌≤◌, Bool, true, false, not, All, List, [], ◌∷◌, length, sum_by, Result, Ok, Err, refl, sym, ap, ap₂, ◌∙◌, arith}
 use Rattle.std.specs.Prelude.{encode_utf8_all, IfOk}
 use Rattle.std.specs.declared.alloc.AllocError.{AllocError}
@@ -42,7 +42,7 @@ length-code_points (iv ∷ ivs) =
     length-append (code_points iv) (flat_map code_points ivs)
     ∙ ap₂ ◌+◌ (length-range_with_len iv.first (iv.last + 1 - iv.first)) (length-code_points ivs)
 
--- the count as a sum
+-- the number of code points of an interval, as a sum
 abbrev pub size : Bounds → ℕ
 size iv = iv.last + 1 - iv.first
 
@@ -80,7 +80,7 @@ module _ (ivs : List Bounds) (canonical : IsCanonical ivs) where
 
 -- ---- the complement
 
--- what the complement accepts the other way
+-- a bracket of the complement with `invert` flipped accepts the same characters
 accepted-flipped : (invert : Bool) (ivs others : List Bounds) → IsComplement ivs others → (c : ℕ) → c ≤ code_point_max →
     is_accepted (not invert) others c ≡ is_accepted invert ivs c
 accepted-flipped false ivs others complement c within = ap not (complement c within) ∙ not-not (is_member ivs c)
@@ -146,7 +146,7 @@ pub simplify_lawful : (d : Direction) (r : Result PassAction AllocError) (old ne
 simplify_lawful d (Ok action) old new part simplifies = simplifies_lawful d action old new part.2.canonical simplifies
 simplify_lawful d (Err e) old new part simplifies = tt
 
--- what stands in the bracket's place holds no node
+-- what replaces the bracket is a leaf
 simplifies_leaf : (action : PassAction) (old new : BracketContents) → Simplifies action old new →
     is_leaf (after action (leaf (bracket_of new))) ≡ true
 simplifies_leaf Keep old new simplifies = refl

@@ -1,4 +1,4 @@
--- Rows of nodes, and what splicing makes of them.
+-- Lists of nodes, and splicing the parts of nested `Cat`s.
 use Rattle.std.proofs.Common.{◌≡◌, ℕ, ◌+◌, ◌<◌, ◌≤◌, List, [], ◌∷◌, ◌++◌, length, get_or, take, drop, Vec, Global, vec_len, sym, ap, ap₂, ◌∙◌, arith}
 use Rattle.std.proofs.lemmas.List.{take_more, length_push, take-append-drop}
 use Rattle.regress_tree.specs.declared.ir.node.Node.{Node}
@@ -9,7 +9,7 @@ use Rattle.regress_tree.proofs.laws.Rows.{row_append-none, trees-append}
 use Rattle.regress_rewrite.specs.Splice.{parts_of, spliced, row_length}
 use Rattle.regress_rewrite.proofs.laws.Splicing.{spliced-append, row_length-append, row_length-trees}
 
--- How many parts stand for a node, and for the nodes of a row.
+-- The number of parts that replace a node, and the nodes of a list.
 
 abbrev pub part_len : Node → ℕ
 part_len node = row_length (parts_of (tree node))
@@ -20,7 +20,7 @@ flat_len nodes = row_length (spliced (trees nodes))
 flat-append : (xs ys : List Node) → spliced (trees (xs ++ ys)) ≡ row_append (spliced (trees xs)) (spliced (trees ys))
 flat-append xs ys = ap spliced (trees-append xs ys) ∙ spliced-append (trees xs) (trees ys)
 
--- one node more
+-- splicing one more node
 flat-push : (xs : List Node) (x : Node) → spliced (trees (xs ++ x ∷ [])) ≡ row_append (spliced (trees xs)) (parts_of (tree x))
 flat-push xs x = flat-append xs (x ∷ []) ∙ ap (row_append (spliced (trees xs))) (row_append-none (parts_of (tree x)))
 
@@ -32,7 +32,7 @@ pub flat_len-more : (xs : List Node) (i : ℕ) (x : Node) → i < length xs → 
 flat_len-more xs i x in_row at =
     ap flat_len (take_more xs i x in_row ∙ ap (λ y. take i xs ++ y ∷ []) (sym at)) ∙ flat_len-push (take i xs) x
 
--- A `Cat` has its parts stand for it, and any other node itself.
+-- A `Cat` is replaced by its parts, and any other node by itself.
 
 pub parts_of-Cat : (node : Node) (inner : Vec Node Global) → node ≡ Cat inner → parts_of (tree node) ≡ trees inner.items
 parts_of-Cat node inner is = ap (λ n. parts_of (tree n)) is ∙ ap parts_of (tree-Cat inner)
@@ -40,7 +40,7 @@ parts_of-Cat node inner is = ap (λ n. parts_of (tree n)) is ∙ ap parts_of (tr
 pub parts_len-Cat : (node : Node) (inner : Vec Node Global) → node ≡ Cat inner → part_len node ≡ vec_len inner
 parts_len-Cat node inner is = ap row_length (parts_of-Cat node inner is) ∙ row_length-trees inner.items ∙ sym inner.ok.0
 
--- Moving the nodes of a row, with `moved` of them behind, and x the next.
+-- Moving the nodes of a list, where `moved` are done and x is the next.
 
 module _ (all moved : List Node) (x : Node) (before : moved ≡ take (length moved) all)
     (in_row : length moved < length all) (at : x ≡ get_or all (length moved) x) where
@@ -57,7 +57,7 @@ module _ (all moved : List Node) (x : Node) (before : moved ≡ take (length mov
       let whole = ap flat_len cut ∙ ap row_length (flat-append (moved ++ x ∷ []) rest) in
       omega (arith, whole, flat_len-push moved x, row_length-append (spliced (trees (moved ++ x ∷ []))) (spliced (trees rest)))
 
--- the new row so far: how long it is, and with the next node's parts
+-- the new list so far: its length, and with the parts of the next node
 module _ (flat moved : List Node) (items : trees flat ≡ spliced (trees moved)) where
   pub moved_len : length flat ≡ flat_len moved
   moved_len = sym (row_length-trees flat) ∙ ap row_length items

@@ -1,4 +1,4 @@
--- What a sweep answers, composed: of a part in the whole, and one after another.
+-- Results of a traversal, composed: of a part in the whole, and of one after another.
 use Rattle.std.proofs.Common.{◌≡◌, Bool, true, false, Result, Ok, Err, refl, sym, ap, subst, ◌∙◌}
 use Rattle.std.specs.declared.alloc.AllocError.{AllocError}
 use Rattle.std.specs.Result.{IsErr}
@@ -19,7 +19,7 @@ use Rattle.regress_rewrite.specs.Sweep.{TellsChange, Swept, SweptOf}
 use Rattle.regress_rewrite.proofs.laws.Changes.{joined, joined-false, TellsChange-then}
 use Rattle.regress_rewrite.proofs.laws.Keeps.{Keeps-refl, Keeps-trans, Keeps-put}
 
--- What is told of changes.
+-- What a result states about changes.
 
 TellsChange-put : (p : Place) (answer : Result Bool AllocError) (t u : Tree) → TellsChange answer t u →
     TellsChange answer (put p t) (put p u)
@@ -27,7 +27,7 @@ TellsChange-put p (Ok true) t u tells = IsLess-put p t u tells
 TellsChange-put p (Ok false) t u tells = ap (put p) tells
 TellsChange-put p (Err e) t u tells = tt
 
--- Sweeps.
+-- Traversals.
 
 module _ (exact : Bool) where
   pub Swept-put : (p : Place) (d : Direction) {before clean : Type 0} {t u : Tree} {answer : Result Bool AllocError} →
@@ -53,7 +53,7 @@ module _ (exact : Bool) where
         second.left is_exact (on lacks same) ∙ same;
   }
 
-  -- in a leaf there is nothing to sweep
+  -- a leaf has no children to traverse
   pub Swept-leaf : (shape : Tree → Bool) (d : Direction) (t : Tree) → is_leaf t ≡ true → SweptOf (LacksInside shape) exact d t t (Ok false)
   Swept-leaf shape d (leaf l) is = record {
     keeps = Keeps-refl d (leaf l);
@@ -63,7 +63,7 @@ module _ (exact : Bool) where
   }
   Swept-leaf shape d t is = absurd (false≢true is)
 
-  -- where nothing changed the tree is what it was
+  -- if nothing changed the tree is the same
   pub Swept-same : (d : Direction) {before clean : Type 0} {t u : Tree} {answer : Result Bool AllocError} →
       Swept before clean exact d t u answer → Swept before (clean × (u ≡ t)) exact d t u answer
   Swept-same d {t = t} {u = u} {answer = answer} swept = record {
@@ -73,7 +73,7 @@ module _ (exact : Bool) where
     left = swept.left;
   }
 
-  -- after an error nothing is said of what is removed
+  -- after an error nothing is stated about removed shapes
   pub Swept-error : (d : Direction) {before clean clean' : Type 0} {t u u' : Tree} {r : Result Bool AllocError}
       (answer : Result Bool AllocError) → IsErr answer →
       u' ≡ u → Swept before clean exact d t u r → Swept before clean' exact d t u' answer
@@ -85,13 +85,13 @@ module _ (exact : Bool) where
     left = λ is_exact lacks. same ∙ swept.left is_exact lacks;
   }
 
-  -- in the walk of what lies inside
+  -- a traversal of the children has the direction of the node
   pub Swept-walk : (walk inner : Walk) {before clean : Type 0} {t u : Tree} {answer : Result Bool AllocError} →
       inner.in_lookbehind ≡ walk.in_lookbehind → Swept before clean exact (direction_of inner) t u answer →
       Swept before clean exact (direction_of walk) t u answer
   Swept-walk walk inner same swept = rw (← same) swept
 
--- Of one node: what the rewrite answered is done to it.
+-- Of one node: the action that the rewrite returned is carried out.
 pub Swept-carried : (removes : Tree → Bool) (exact : Bool) (d : Direction) (old left new : Tree) (action : PassAction) (changed : Bool) →
     ObeysLaw removes exact d old left action → new ≡ after action left → MatchBool changed (action ≢ Keep) (action ≡ Keep) →
     SweptOf (λ t. removes t ≡ false) exact d old new (Ok changed)

@@ -1,4 +1,4 @@
--- A row keeps what rewriting must keep where trees are taken out that match the empty text alone and capture nothing.
+-- A list of parts keeps what the law requires when parts are removed that match only the empty text and have no group.
 use Rattle.std.proofs.Common.{◌≡◌, ℕ, ◌<◌, ◌≤◌, Bool, true, false, ◌||◌, ◌++◌, List, [], inl, inr, refl, sym, ap, ap₂, ◌∙◌, append-nil, le_refl, arith}
 use Rattle.std.specs.Prelude.{encode_utf8_all}
 use Rattle.std.specs.List.{flat_map}
@@ -20,7 +20,7 @@ use Rattle.regress_rewrite.specs.Law.{Keeps}
 use Rattle.regress_rewrite.specs.Taken.{row_without}
 
 module _ (test : Tree → Bool) where
-  -- the row with one tree more, whether it is taken out or not
+  -- what holds of a list with one more tree, removed or not
   with_first : (P : Trees → Type 0) (t : Tree) (ts : Trees) → (test t ≡ true → P (row_without test ts)) →
       (test t ≡ false → P (more_trees t (row_without test ts))) → P (row_without test (more_trees t ts))
   with_first P t ts out stays = elim (cases_Bool (test t)) [
@@ -43,7 +43,7 @@ module _ (test : Tree → Bool) where
       let later = without-total m ts in
       with_first (λ us. total_in_row m us ≤ total_in_row m (more_trees t ts)) t ts (λ is. omega arith) (λ is_not. omega arith)
 
-  -- what has lost a tree is lighter
+  -- a list that lost a tree has less weight
   without-lighter : (ts : Trees) → some_in_row test ts ≡ true → total_in_row weights (row_without test ts) < total_in_row weights ts
   without-lighter no_trees some = absurd (false≢true some)
   without-lighter (more_trees t ts) some =

@@ -1,4 +1,4 @@
--- Laws of this crate's definitions, which the crates above may cite.
+-- Lemmas about this crate's definitions, for the crates that use it.
 pub mod Changes
 pub mod Checked
 pub mod Keeps

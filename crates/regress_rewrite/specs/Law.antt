@@ -1,4 +1,4 @@
--- What a rewrite may do to a part of a tree.
+-- The law: how a rewrite may change a part of a tree.
 use Rattle.std.specs.Prelude.{◌≡◌, ◌≢◌, ℕ, ◌≤◌, Bool, false, IsTrue, List, encode_utf8_all}
 use Rattle.regress_tree.specs.Reading.{Direction, IsText}
 use Rattle.regress_tree.specs.Steps.{Alike}
@@ -11,48 +11,48 @@ use Rattle.regress_tree.specs.Shapes.{LacksShape, is_simplified_away}
 use Rattle.regress_rewrite.specs.declared.rewrite.PassAction.{PassAction}
 use Rattle.regress_rewrite.specs.declared.rewrite.PassAction.TheVariants.{Keep, Modified, Remove, Replace}
 
--- it may stand somewhere in a well formed tree
+-- the tree may appear somewhere in a well-formed tree
 abbrev pub IsPart : Tree → Type 0
 IsPart t = (n : ℕ) × (p : Position) × MayStand n t p
 
--- On every UTF-8 text, with whatever flags and table, the two trees cannot be told apart, from any state.
+-- The two trees have the same distinct outcomes from any state, on every UTF-8 text, with any flags and case mappings.
 abbrev pub MeansTheSame : Direction → Tree → Tree → Type 0
 MeansTheSame d old new = (setting : Setting) (text : List ℕ) → IsText text →
     Alike (steps setting (encode_utf8_all text) d old) (steps setting (encode_utf8_all text) d new)
 
--- wherever the old part may stand, the new one may
+-- the new tree may appear wherever the old one may
 abbrev pub StandsWhere : Tree → Tree → Type 0
 StandsWhere old new = (n : ℕ) (p : Position) → MayStand n old p → MayStand n new p
 
--- what rewriting keeps, in a direction
+-- what the law requires that a rewrite keeps, in a direction of matching
 pub record Keeps (d : Direction) (old new : Tree) : Type 0 where
-  -- the new tree means what the old one does,
+  -- the new tree has the same meaning
   pub meaning : MeansTheSame d old new
-  -- may stand wherever it may,
+  -- it may appear wherever the old one may
   pub stands : StandsWhere old new
-  -- has its capture groups, with their ids and names,
+  -- it has the same capture groups, with their ids and names
   pub captures : captures new ≡ captures old
-  -- is no larger, the loops counted as if they were unrolled,
+  -- it is no larger, with loops counted as if they were unrolled
   pub account : account new ≤ account old
-  -- and has no bracket to be simplified if the old one has none
+  -- it has no bracket to be simplified if the old one has none
   pub brackets : LacksShape is_simplified_away old → LacksShape is_simplified_away new
 
--- the tree in the node's place after the action, where the call left `left` there
+-- the tree after the action, where the call left `left` in the node
 abbrev pub after : PassAction → Tree → Tree
 after Keep left = left
 after Modified left = left
 after Remove left = leaf empty
 after (Replace node) left = tree node
 
--- What a rewrite that removes these shapes may do to the node `old`: to leave `left` in its place, and to answer the action.
+-- The law of a rewrite that removes these shapes: it may leave `left` in the node `old`, and return the action.
 pub record ObeysLaw (removes : Tree → Bool) (is_exact : Bool) (d : Direction) (old left : Tree) (action : PassAction) : Type 0 where
-  -- what the action makes of the node stands for it,
+  -- the result keeps what the law requires
   pub keeps : Keeps d old (after action left)
-  -- and is less, unless the action is `Keep`,
+  -- the result is less, which ensures that passes end, unless the action is `Keep`
   pub less : action ≢ Keep → IsLess (after action left) old
-  -- which leaves the node as it was
+  -- `Keep` leaves the node unchanged
   pub kept : action ≡ Keep → left ≡ old
-  -- and comes only where there is nothing to remove,
+  -- `Keep` is returned only if there is nothing to remove
   pub clean : action ≡ Keep → removes old ≡ false
-  -- and always there, if the rewrite is exact.
+  -- an exact rewrite returns `Keep` whenever there is nothing to remove
   pub exact : IsTrue is_exact → removes old ≡ false → action ≡ Keep

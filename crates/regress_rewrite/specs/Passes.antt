@@ -1,4 +1,4 @@
--- What a pass shows to a rewrite, and what becomes of the answers.
+-- The calls that a pass makes of a rewrite, and how their results are carried out.
 use Rattle.std.specs.Prelude.{◌≡◌, ◌≢◌, ℕ, Bool, true, false, Result, Ok, Err}
 use Rattle.std.specs.declared.alloc.AllocError.{AllocError}
 use Rattle.regress_tree.specs.declared.ir.walker.Walk.{Walk}
@@ -7,7 +7,7 @@ use Rattle.regress_tree.specs.Visits.{Visited}
 use Rattle.regress_rewrite.specs.declared.rewrite.PassAction.{PassAction}
 use Rattle.regress_rewrite.specs.Law.{after}
 
--- the tree in the node's place after the answer, where the call left `left` there
+-- the tree after a call, where the call left `left` in the node
 abbrev pub made : Result PassAction AllocError → Tree → Tree
 made (Ok action) left = after action left
 made (Err e) left = left
@@ -17,8 +17,8 @@ is_answered (Ok x) = true
 is_answered (Err e) = false
 
 module _ {R : Type 0} (step : R → Tree → Walk → Result PassAction AllocError → Tree → R → Type 0) (unicode : Bool) where
-  -- A call on a node of the tree t, at that depth and in a lookbehind or not. It takes the rewrite from the state a to
-  -- b, and what it answers is done, which leaves the tree u. After an error there are no calls, and the tree stays.
+  -- A call on the node t, at this depth, in a lookbehind or not. It takes the rewrite from the state a to b, and its
+  -- action is carried out, with the tree u. After an error there is no call, and the tree is unchanged.
   abbrev pub Applied : R × Bool → Tree → ℕ → Bool → R × Bool → Tree → Bool → Type 0
   Applied (a, true) t depth behind (b, going) u skip =
       (answer : Result PassAction AllocError) × (left : Tree)
@@ -26,11 +26,11 @@ module _ {R : Type 0} (step : R → Tree → Walk → Result PassAction AllocErr
       × (u ≡ made answer left) × (going ≡ is_answered answer)
   Applied (a, false) t depth behind (b, going) u skip = (b ≡ a) × (going ≡ false) × (u ≡ t)
 
-  -- A sweep is a walk with such calls, children before parents. It tells whether each call answered an action.
+  -- A traversal with such calls, children before parents. `going` states whether no call returned an error.
   abbrev pub SweptFrom : (a : R) (t u : Tree) (b : R) (going : Bool) → Type 0
   SweptFrom a t u b going = Visited Applied true 0 false t u (a, true) (b, going)
 
-  -- Sweeps, until one leaves the tree as it was or meets an error.
+  -- Traversals, until one leaves the tree unchanged or meets an error.
   pub data Passed : (a : R) (t u : Tree) (b : R) (going : Bool) → Type 0 where
     unchanged : {a b : R} {t : Tree} → SweptFrom a t t b true → Passed a t t b true
     stopped : {a b : R} {t u : Tree} → SweptFrom a t u b false → Passed a t u b false

@@ -6,7 +6,7 @@ use Rattle.regress_tree.specs.Tree.{Tree, wrapped, loop_one, tree}
 use Rattle.regress_rewrite.specs.declared.rewrite.PassAction.{PassAction}
 use Rattle.regress_rewrite.specs.declared.rewrite.PassAction.TheVariants.{Keep, Modified, Remove, Replace}
 
--- The action promotes a loop of these turns and the old body, where the call left the new one.
+-- The action promotes a loop with this quantifier, where `old` is the body before the call, and `new` after it.
 abbrev pub Promotes : PassAction → Quantifier → Tree → Tree → Type 0
 Promotes Keep q old new = (matches_exactly_one_char old ≡ false) × (new ≡ old)
 Promotes Modified q old new = ⊥

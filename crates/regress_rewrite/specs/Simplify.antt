@@ -1,4 +1,4 @@
--- Brackets, simplified.
+-- Simplified brackets.
 use Rattle.std.specs.Prelude.{◌≡◌, true, false, not, flat_map}
 use Rattle.regress_base.specs.Intervals.{IsCanonical, IsComplement}
 use Rattle.regress_base.specs.declared.types.bracket.BracketContents.{BracketContents}
@@ -8,23 +8,23 @@ use Rattle.regress_tree.specs.Shapes.{is_small_bracket, is_long_bracket, is_simp
 use Rattle.regress_rewrite.specs.declared.rewrite.PassAction.{PassAction}
 use Rattle.regress_rewrite.specs.declared.rewrite.PassAction.TheVariants.{Keep, Modified, Remove, Replace}
 
--- the bracket of these contents
+-- the bracket with these contents
 abbrev pub bracket_of : BracketContents → Leaf
 bracket_of contents = bracket contents.invert contents.cps
 
--- The bracket is long, and the new one takes the complement of its intervals the other way.
+-- The bracket has more intervals than its complement, and is replaced by the complement with `invert` flipped.
 pub record IsFlipped (old new : BracketContents) : Type 0 where
   pub long : is_long_bracket (bracket_of old) ≡ true
   pub canonical : IsCanonical new.cps
   pub complement : IsComplement old.cps new.cps
   pub invert : new.invert ≡ not old.invert
 
--- The bracket is small, and this is the set of its code points, ascending.
+-- The bracket is small, and the tree is the set of its code points in ascending order.
 pub record IsListed (old : BracketContents) (new : Tree) : Type 0 where
   pub small : is_small_bracket (bracket_of old) ≡ true
   pub set : new ≡ leaf (char_set (flat_map code_points old.cps))
 
--- The action simplifies a bracket, where the call left the new one.
+-- The action simplifies a bracket, where `old` are its contents before the call, and `new` after it.
 abbrev pub Simplifies : PassAction → BracketContents → BracketContents → Type 0
 Simplifies Keep old new = (is_simplified_away (leaf (bracket_of old)) ≡ false) × (new ≡ old)
 Simplifies Modified old new = IsFlipped old new

@@ -1,4 +1,4 @@
--- Rows of trees, spliced.
+-- Splicing the parts of nested `Cat`s.
 use Rattle.std.specs.Prelude.{◌≡◌, ℕ, ◌+◌, true, false}
 use Rattle.regress_tree.specs.Tree.{Tree, Trees, leaf, cat, alt, wrapped, no_trees, more_trees, row_append, tree}
 use Rattle.regress_tree.specs.Shapes.{has_cat, is_flattened_away}
@@ -6,24 +6,24 @@ use Rattle.regress_rewrite.specs.Taken.{StandsAlone}
 use Rattle.regress_rewrite.specs.declared.rewrite.PassAction.{PassAction}
 use Rattle.regress_rewrite.specs.declared.rewrite.PassAction.TheVariants.{Keep, Modified, Remove, Replace}
 
--- what stands for a tree in a row: the parts of a `Cat`, and any other tree itself
+-- the parts that replace a tree in a list: those of a `Cat`, and any other tree itself
 abbrev pub parts_of : Tree → Trees
 parts_of (leaf l) = more_trees (leaf l) no_trees
 parts_of (cat parts) = parts
 parts_of (alt left right) = more_trees (alt left right) no_trees
 parts_of (wrapped w body) = more_trees (wrapped w body) no_trees
 
--- the row with the parts of each `Cat` in its place
+-- the list with each `Cat` replaced by its parts
 abbrev pub spliced : Trees → Trees
 spliced no_trees = no_trees
 spliced (more_trees t ts) = row_append (parts_of t) (spliced ts)
 
--- how many trees there are
+-- the number of trees
 abbrev pub row_length : Trees → ℕ
 row_length no_trees = 0
 row_length (more_trees t ts) = 1 + row_length ts
 
--- The action flattens a `Cat` of the old row, where the call left the new one.
+-- The action flattens a `Cat`, where `old` are its parts before the call, and `new` after it.
 abbrev pub Flattens : PassAction → Trees → Trees → Type 0
 Flattens Keep old new = (is_flattened_away (cat old) ≡ false) × (new ≡ old)
 Flattens Modified old new = (has_cat old ≡ true) × (new ≡ spliced old)

@@ -1,20 +1,19 @@
--- Rows of trees, with some taken out.
+-- Lists of trees with some removed.
 use Rattle.std.specs.Prelude.{◌≡◌, ◌⊎◌, Bool, if◌then◌else◌}
 use Rattle.regress_tree.specs.Tree.{Tree, Trees, leaf, empty, no_trees, more_trees, tree}
 use Rattle.regress_rewrite.specs.declared.rewrite.PassAction.{PassAction}
 use Rattle.regress_rewrite.specs.declared.rewrite.PassAction.TheVariants.{Modified, Replace}
 
--- the row without the trees that pass the test
+-- the list without the trees that pass the test
 abbrev pub row_without : (Tree → Bool) → Trees → Trees
 row_without test no_trees = no_trees
 row_without test (more_trees t ts) = if test t then row_without test ts else more_trees t (row_without test ts)
 
--- the tree stands for a `Cat` of these parts: it is the only one, or `Empty` where there is none
+-- the tree replaces a `Cat` of these parts: it is the only one, or `Empty` if there is none
 abbrev pub StandsAlone : Tree → Trees → Type 0
 StandsAlone t parts = ((parts ≡ no_trees) × (t ≡ leaf empty)) ⊎ (parts ≡ more_trees t no_trees)
 
--- What the action makes of a `Cat` that keeps these parts alone, where the call left a row in it: the parts are in the row, or
--- what stands for them takes its place.
+-- The effect of the action on a `Cat` that keeps just these parts: they remain its parts, or a node replaces it.
 abbrev pub StandsForCat : PassAction → (parts left : Trees) → Type 0
 StandsForCat Modified parts left = left ≡ parts
 StandsForCat (Replace node) parts left = StandsAlone (tree node) parts

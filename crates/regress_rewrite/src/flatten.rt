@@ -12,8 +12,14 @@ use regress_tree::ir::{Node, NodeList};
 use std::alloc::{AllocError, Global};
 use std::mem;
 
-/// Removes a `Cat` of no part, puts the one part in the place of a `Cat` of one, and splices the
-/// parts of a part that is a `Cat` in at its place. The time for a `Cat` grows as its parts do.
+/// Flattens a `Cat`: replaces one with no part by `Empty`, and one with a single part by that part, and splices in the
+/// parts of each part that is a `Cat`. Keeps any other node.
+///
+/// # Complexity
+/// Linear in the number of parts, including those of the nested `Cat`s.
+///
+/// # Errors
+/// Returns [`AllocError`] if an allocation fails. The node is unchanged.
 pub fn flatten(alloc: Global, node: &mut Node) -> Result<PassAction, AllocError>
     ensures lawful { (d : Direction) → IfOk result (ObeysLaw is_flattened_away true d (tree node.old) (tree node.new)) }
     ensures err { OnErr result (tree node.new ≡ tree node.old) }
@@ -24,7 +30,7 @@ pub fn flatten(alloc: Global, node: &mut Node) -> Result<PassAction, AllocError>
     }
 }
 
-/// Flattens a `Cat` of these parts, or tells what is to stand in its place.
+/// Flattens a `Cat` with these parts, or returns the node that replaces it.
 fn flatten_cat(alloc: Global, parts: &mut NodeList) -> Result<PassAction, AllocError>
     ensures action { IfOk result (λ action. Flattens action (trees parts.old.items) (trees parts.new.items)) }
     ensures err { OnErr result (trees parts.new.items ≡ trees parts.old.items) }
@@ -45,13 +51,16 @@ fn is_cat(node: &Node) -> bool
     matches!(node, Node::Cat(_))
 }
 
-/// Puts the parts of each `Cat` in its place. Each part is moved once.
+/// Replaces each `Cat` in a list by its parts. Each part is moved once.
+///
+/// # Errors
+/// Returns [`AllocError`] if an allocation fails. The list is unchanged.
 pub fn splice(alloc: Global, parts: &mut NodeList) -> Result<(), AllocError>
     ensures ok { OnOk result (trees parts.new.items ≡ spliced (trees parts.old.items)) }
     ensures err { OnErr result (trees parts.new.items ≡ trees parts.old.items) }
 {
     let mut flat = Vec::with_capacity(alloc, spliced_len(parts)?)?;
-    // There is room: nothing fails from here on.
+    // The capacity suffices, so nothing fails from here on.
     for part in mem::replace(parts, Vec::new(alloc)) {
         append_parts(&mut flat, part)?;
     }
@@ -59,7 +68,7 @@ pub fn splice(alloc: Global, parts: &mut NodeList) -> Result<(), AllocError>
     Ok(())
 }
 
-/// Puts what stands for a part behind the others, which does not fail where there is room.
+/// Appends a part, or the parts of a `Cat`. It does not fail if the capacity suffices.
 fn append_parts(flat: &mut NodeList, part: Node) -> Result<(), AllocError>
     ensures ok { OnOk result (trees flat.new.items ≡ row_append (trees flat.old.items) (parts_of (tree part))) }
     ensures capacity { OnOk result (vec_capacity flat.old ≤ vec_capacity flat.new) }
@@ -73,8 +82,8 @@ fn append_parts(flat: &mut NodeList, part: Node) -> Result<(), AllocError>
     Ok(())
 }
 
-/// How many parts there are once the parts of each `Cat` stand in its place. The error comes where
-/// they are more than `usize::MAX`: no memory holds them.
+/// Returns the number of parts after each `Cat` is replaced by its parts. It fails if the number exceeds `usize::MAX`,
+/// for which there is no memory.
 fn spliced_len(parts: &[Node]) -> Result<usize, AllocError>
     ensures { IfOk result (λ len. len ≡ row_length (spliced (trees parts.now))) }
 {
@@ -85,7 +94,7 @@ fn spliced_len(parts: &[Node]) -> Result<usize, AllocError>
     Ok(len)
 }
 
-/// How many parts stand for a part.
+/// Returns the number of parts that replace a part.
 fn parts_len(part: &Node) -> usize
     ensures { result ≡ row_length (parts_of (tree part.now)) }
 {

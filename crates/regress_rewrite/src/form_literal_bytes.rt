@@ -14,12 +14,17 @@ use regress_tree::small_sets::ascii;
 use std::alloc::{AllocError, Global};
 use std::mem;
 
-/// Makes a character the `ByteSequence` of its UTF-8, makes a set of ASCII a `ByteSet`, and joins the bytes
-/// of neighbours in a `Cat`: the last part of each run takes all. The time for a `Cat` grows as its parts
-/// and their bytes do.
+/// Replaces a character by the `ByteSequence` of its UTF-8 and a set of ASCII characters by a `ByteSet`, and joins the
+/// bytes of neighbours in a `Cat`, where the last part of each run gets all bytes. Keeps any other node.
 ///
-/// An error comes only where nothing was changed. Where memory is refused later, what was joined so far is
-/// answered as `Modified`: the next sweep tries again.
+/// If an allocation fails after some neighbours were joined, the result is `Modified`, and the next traversal tries
+/// again.
+///
+/// # Complexity
+/// Linear in the parts of a `Cat` and their bytes.
+///
+/// # Errors
+/// Returns [`AllocError`] if an allocation fails before anything was changed. The node is unchanged.
 pub fn form_literal_bytes(
     alloc: Global,
     node: &mut Node,
@@ -36,7 +41,10 @@ pub fn form_literal_bytes(
     }
 }
 
-/// The UTF-8 of a code point, if it is a character.
+/// Returns the action that replaces a code point by its UTF-8, or `Keep` if it is no character.
+///
+/// # Errors
+/// Returns [`AllocError`] if an allocation fails.
 pub fn form_character(alloc: Global, c: u32) -> Result<PassAction, AllocError>
     ensures lawful { (d : Direction) → IfOk result (ObeysLaw is_formed_away true d (leaf (char c)) (leaf (char c))) }
     ensures formed { IfOk result (λ action. after action (leaf (char c)) ≡ leaf (formed_character c)) }
@@ -49,7 +57,10 @@ pub fn form_character(alloc: Global, c: u32) -> Result<PassAction, AllocError>
     Ok(PassAction::Replace(Node::ByteSequence(text.into_bytes())))
 }
 
-/// The set of the same members as bytes, if all are ASCII.
+/// Returns the action that replaces a set by one of bytes, or `Keep` if a member is not ASCII.
+///
+/// # Errors
+/// Returns [`AllocError`] if an allocation fails.
 pub fn form_set(alloc: Global, characters: &[u32]) -> Result<PassAction, AllocError>
     ensures lawful { (d : Direction) → IfOk result (ObeysLaw is_formed_away true d (leaf (char_set characters.now)) (leaf (char_set characters.now))) }
     ensures formed { IfOk result (λ action. after action (leaf (char_set characters.now)) ≡ leaf (set_of characters.now)) }
@@ -77,8 +88,8 @@ fn join_parts(parts: &mut [Node], walk: &Walk) -> Result<PassAction, AllocError>
     })
 }
 
-/// Joins neighbours from left to right, where the bytes of the earlier part come first, and answers
-/// whether there were any.
+/// Joins neighbours from left to right, where the bytes of the earlier part come first, and returns whether there were
+/// any.
 fn join_forwards(parts: &mut [Node]) -> Result<bool, AllocError>
     ensures joins { IfOk result (λ joined. JoinsBytes forwards joined (trees parts.old) (trees parts.new)) }
     ensures err { OnErr result (trees parts.new ≡ trees parts.old) }
@@ -95,14 +106,14 @@ fn join_forwards(parts: &mut [Node]) -> Result<bool, AllocError>
     Ok(joined)
 }
 
-/// Joins neighbours from right to left, where the bytes of the later part come first, and answers whether
-/// there were any.
+/// Joins neighbours from right to left, where the bytes of the later part come first, and returns whether there were
+/// any.
 fn join_backwards(parts: &mut [Node]) -> Result<bool, AllocError>
     ensures joins { IfOk result (λ joined. JoinsBytes backwards joined (trees parts.old) (trees parts.new)) }
     ensures err { OnErr result (trees parts.new ≡ trees parts.old) }
 {
     let mut joined = false;
-    // The part that takes the bytes: those before it, as far as here, have given it theirs.
+    // The part that gets the bytes of those before it, down to the current one.
     let mut last = parts.len().saturating_sub(1);
     for earlier in (0..last).rev() {
         if have_bytes(parts, earlier, last) {
@@ -117,7 +128,7 @@ fn join_backwards(parts: &mut [Node]) -> Result<bool, AllocError>
     Ok(joined)
 }
 
-/// Whether each of the two parts is a `ByteSequence` with a byte.
+/// Returns whether both parts are a `ByteSequence` with at least one byte.
 fn have_bytes(parts: &[Node], earlier: usize, later: usize) -> bool
     requires earlier { earlier < length parts.now }
     requires later { later < length parts.now }
@@ -132,8 +143,7 @@ pub fn has_bytes(node: &Node) -> bool
     matches!(node, Node::ByteSequence(bytes) if !bytes.is_empty())
 }
 
-/// Gives a part the bytes of the part before it, which come first: they get its own behind them, and are
-/// handed on with their buffer.
+/// Gives a part the bytes of the part before it, which come first. The buffer of the earlier part is reused.
 fn join_after(parts: &mut [Node], later: usize) -> Result<(), AllocError>
     requires { HaveBytes (later - 1) later (map tree parts.old) }
     ensures ok { OnOk result (map tree parts.new ≡ joined_at forwards (later - 1) later (map tree parts.old)) }
@@ -156,7 +166,13 @@ fn join_before(parts: &mut [Node], earlier: usize, later: usize) -> Result<(), A
     append(&mut back[0], &mut front[earlier])
 }
 
-/// Moves the bytes of one part behind those of another. Where memory is refused both keep theirs.
+/// Moves the bytes of `other` to the end of those of `part`.
+///
+/// # Preconditions
+/// Both are a `ByteSequence` with at least one byte.
+///
+/// # Errors
+/// Returns [`AllocError`] if an allocation fails. Both nodes are unchanged.
 pub fn append(part: &mut Node, other: &mut Node) -> Result<(), AllocError>
     requires part { has_bytes (tree part.old) ≡ true }
     requires other { has_bytes (tree other.old) ≡ true }

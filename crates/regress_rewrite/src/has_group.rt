@@ -1,4 +1,4 @@
-//! Whether a capture group lies in a node.
+//! Tests whether a node contains a capture group.
 ghost use Rattle.std.specs.Prelude.{◌≡◌, false};
 ghost use Rattle.regress_tree.specs.Tree.{tree, trees};
 ghost use Rattle.regress_tree.specs.Spine.{is_alt};
@@ -7,8 +7,11 @@ ghost use Rattle.regress_tree.specs.Shapes.{has_group, on_wrapper, is_group, som
 use regress_tree::ir::Node;
 use regress_tree::ir::held::body;
 
-/// Whether the node is a capture group, or one lies in it. The search stops at the first one. It goes down the
-/// right sides of alternatives in a loop: there may be as many levels as alternatives.
+/// Returns whether the node is a capture group or contains one. The search stops at the first one.
+///
+/// # Complexity
+/// Linear in the nodes. The right sides of alternatives are traversed in a loop, so recursion is not as deep as an
+/// alternation is long.
 #[cycle(search)]
 pub fn has_group(node: &Node) -> bool
     ensures { result ≡ has_group (tree node.now) }
@@ -23,7 +26,7 @@ pub fn has_group(node: &Node) -> bool
     other_has_group(node)
 }
 
-/// The same of a node that is no `Alt`.
+/// The same for a node that is no `Alt`.
 #[cycle(search)]
 fn other_has_group(node: &Node) -> bool
     requires { is_alt (tree node.now) ≡ false }
@@ -39,7 +42,7 @@ fn other_has_group(node: &Node) -> bool
     }
 }
 
-/// Whether a capture group lies in some of the nodes.
+/// Returns whether one of the nodes contains a capture group.
 #[cycle(search)]
 fn some_has_group(nodes: &[Node]) -> bool
     ensures { result ≡ some_node_in_row (on_wrapper is_group) (trees nodes.now) }

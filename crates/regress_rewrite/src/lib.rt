@@ -1,4 +1,4 @@
-//! The law of a rewrite, the passes that run one over a tree, and the rewrites.
+//! The contract of a rewrite (its law), the pass that applies one to a tree, and the rewrites.
 #![tactic(auto)]
 
 pub mod flatten;

@@ -1,4 +1,4 @@
-//! Running a rewrite over a tree.
+//! Applying a rewrite to all nodes of a tree.
 ghost use Rattle.std.specs.Prelude.{◌≡◌, ◌≢◌, ◌≤◌, ℕ, Bool, true, false, IsTrue, IfOk, OnOk, OnErr, MatchBool};
 ghost use Rattle.regress_tree.specs.Reading.{forwards};
 ghost use Rattle.regress_tree.specs.Tree.{Tree, tree, trees, leaf, empty, cat, alt};
@@ -19,14 +19,26 @@ use regress_tree::ir::spine::{left_mut, relink, shift};
 use regress_tree::ir::{Node, NodeList, Regex, Walk};
 use std::alloc::AllocError;
 
-/// Sweeps the tree, children before parents, until a sweep changes nothing, and answers whether the
-/// tree changed, which has made it less. After an error some nodes are rewritten and others not.
+/// Applies a rewrite to every node, children before parents, in repeated traversals until one changes nothing. Returns
+/// whether the tree changed.
 ///
-/// A sweep is one walk over the tree, with one call of the rewrite for each node.
+/// The new tree has the same meaning and the same capture groups, and is no larger with loops counted as if they were
+/// unrolled. It has none of the shapes that the rewrite removes.
+///
+/// # Preconditions
+/// The tree is well formed.
+///
+/// # Complexity
+/// Each traversal calls the rewrite once for each node. All traversals but the last change the tree, and make it less.
+/// Recursion is as deep as nodes are nested, where the right sides of alternatives don't count.
+///
+/// # Errors
+/// Returns the error of the rewrite. Some nodes are rewritten then and others not; the tree has the same meaning and is
+/// well formed.
 pub fn run_pass<R: Rewrite>(r: &mut Regex, pass: &mut R) -> Result<bool, AllocError>
     requires { IsWellFormed (tree r.old.node) }
 
-    // Whatever it answers.
+    // Whatever the result is.
     ensures meaning { MeansTheSame forwards (tree r.old.node) (tree r.new.node) }
     ensures well_formed { IsWellFormed (tree r.new.node) }
     ensures captures { captures (tree r.new.node) ≡ captures (tree r.old.node) }
@@ -34,10 +46,10 @@ pub fn run_pass<R: Rewrite>(r: &mut Regex, pass: &mut R) -> Result<bool, AllocEr
     ensures brackets { LacksShape is_simplified_away (tree r.old.node) → LacksShape is_simplified_away (tree r.new.node) }
     ensures flags { r.new.flags ≡ r.old.flags }
 
-    // What the rewrite is shown, and in which order. An error is the rewrite's own.
+    // The calls of the rewrite, in order. An error is that of the rewrite.
     ensures passed { Passed R.step r.old.flags.unicode pass.old (tree r.old.node) (tree r.new.node) pass.new (is_answered result) }
 
-    // What is removed, and what is left as it was.
+    // What is removed, and what is unchanged.
     ensures changed { IfOk result (λ changed. MatchBool changed (tree r.new.node ≢ tree r.old.node) (tree r.new.node ≡ tree r.old.node)) }
     ensures less { IfOk result (λ changed. IsTrue changed → IsLess (tree r.new.node) (tree r.old.node)) }
     ensures removed { OnOk result (LacksShape R.removes (tree r.new.node)) }
@@ -51,7 +63,7 @@ pub fn run_pass<R: Rewrite>(r: &mut Regex, pass: &mut R) -> Result<bool, AllocEr
     Ok(changed)
 }
 
-/// Rewrites the nodes inside a node and then the node, and answers whether that changed anything.
+/// Rewrites the children of a node and then the node, and returns whether anything changed.
 #[cycle(sweep)]
 fn sweep<R: Rewrite>(node: &mut Node, pass: &mut R, walk: &Walk) -> Result<bool, AllocError>
     requires { IsPart (tree node.old) }
@@ -70,8 +82,8 @@ fn sweep<R: Rewrite>(node: &mut Node, pass: &mut R, walk: &Walk) -> Result<bool,
     }
 }
 
-/// Goes down the right sides of alternatives and sweeps the left ones, and then the last alternative.
-/// What it has gone down is `above`, the last one first, with so many levels.
+/// Descends the right sides of alternatives and traverses the left ones, and then the last alternative. The nodes of
+/// the descent are in `above`, the last one first, and `levels` is their number.
 #[cycle(sweep)]
 fn sweep_down<R: Rewrite>(
     node: &mut Node,
@@ -101,7 +113,7 @@ fn sweep_down<R: Rewrite>(
     Ok(changed | sweep_one(node, pass, &walk.inside(*levels))?)
 }
 
-/// Rewrites the alternatives above a node, the last one first, which have it as their right side.
+/// Rewrites the alternatives above a node, the last one first, each of which has the node as its right side.
 fn rewrite_up<R: Rewrite>(
     node: &mut Node,
     above: Node,
@@ -133,7 +145,7 @@ fn rewrite_up<R: Rewrite>(
     Ok(changed)
 }
 
-/// Sweeps what lies inside a node, and rewrites the node.
+/// Traverses the children of a node, and rewrites the node.
 #[cycle(sweep)]
 fn sweep_one<R: Rewrite>(node: &mut Node, pass: &mut R, walk: &Walk) -> Result<bool, AllocError>
     requires part { IsPart (tree node.old) }
@@ -146,7 +158,7 @@ fn sweep_one<R: Rewrite>(node: &mut Node, pass: &mut R, walk: &Walk) -> Result<b
     Ok(changed | rewrite(node, pass, walk)?)
 }
 
-/// Sweeps what lies inside a node.
+/// Traverses the children of a node.
 #[cycle(sweep)]
 fn sweep_inside<R: Rewrite>(node: &mut Node, pass: &mut R, walk: &Walk) -> Result<bool, AllocError>
     requires { IsPart (tree node.old) }
@@ -165,7 +177,7 @@ fn sweep_inside<R: Rewrite>(node: &mut Node, pass: &mut R, walk: &Walk) -> Resul
     }
 }
 
-/// Sweeps the sides of an `Alt`.
+/// Traverses the sides of an `Alt`.
 #[cycle(sweep)]
 fn sweep_sides<R: Rewrite>(
     left: &mut Node,
@@ -184,7 +196,7 @@ fn sweep_sides<R: Rewrite>(
     Ok(changed | sweep(right, pass, walk)?)
 }
 
-/// Sweeps the parts of a `Cat`.
+/// Traverses the parts of a `Cat`.
 #[cycle(sweep)]
 fn sweep_parts<R: Rewrite>(
     parts: &mut NodeList,
@@ -204,7 +216,7 @@ fn sweep_parts<R: Rewrite>(
     Ok(changed)
 }
 
-/// Applies the rewrite to one node, and does what it answers.
+/// Applies the rewrite to one node, and carries out its action.
 fn rewrite<R: Rewrite>(node: &mut Node, pass: &mut R, walk: &Walk) -> Result<bool, AllocError>
     requires part { IsPart (tree node.old) }
     requires fresh { walk.now.skip_children ≡ false }

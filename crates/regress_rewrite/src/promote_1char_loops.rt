@@ -11,8 +11,14 @@ use regress_tree::ir::{Node, Quantifier};
 use std::alloc::{AllocError, Global};
 use std::mem;
 
-/// Makes a `Loop` whose body passes [`Node::matches_exactly_one_char`] a `Loop1CharBody` of the same
-/// turns. The error comes where there is no memory for a node. Constant.
+/// Replaces a `Loop` whose body passes [`Node::matches_exactly_one_char`] by a `Loop1CharBody` with the same
+/// quantifier. Keeps any other node. Takes constant time.
+///
+/// # Preconditions
+/// The node is part of a well-formed tree.
+///
+/// # Errors
+/// Returns [`AllocError`] if an allocation fails. The node is unchanged.
 pub fn promote_1char_loops(alloc: Global, node: &mut Node) -> Result<PassAction, AllocError>
     requires { IsPart (tree node.old) }
     ensures lawful { (d : Direction) → IfOk result (ObeysLaw is_promoted_away true d (tree node.old) (tree node.new)) }
@@ -24,7 +30,7 @@ pub fn promote_1char_loops(alloc: Global, node: &mut Node) -> Result<PassAction,
     }
 }
 
-/// Promotes a loop of this body, or tells that it stays as it is.
+/// Returns the action that promotes a loop with this body, or `Keep`.
 fn promote_loop(
     alloc: Global,
     body: &mut Box<Node>,
@@ -40,7 +46,8 @@ fn promote_loop(
     Ok(PassAction::Replace(promoted(body, quant, room)))
 }
 
-/// The loop over one character in the place of a loop of this body, which is moved to where there is room.
+/// Returns a `Loop1CharBody` with this body, which is moved into the box `room`; the content of `room` is left in
+/// `body`.
 pub fn promoted(body: &mut Box<Node>, quant: Quantifier, room: Box<Node>) -> Node
     ensures { tree result ≡ wrapped (loop_one quant) (tree body.old.value) }
 {

@@ -1,4 +1,5 @@
-//! A node that never matches, since a part of it does not, becomes one that says so.
+//! Propagation of early failure: a node that always fails because a part of it does is replaced by one that fails at
+//! once.
 ghost use Rattle.std.specs.Prelude.{◌≡◌, true, false, [], ◌||◌};
 ghost use Rattle.regress_tree.specs.Reading.{Direction};
 ghost use Rattle.regress_tree.specs.Tree.{tree, leaf, char_set};
@@ -11,8 +12,8 @@ use regress_tree::ir::Node;
 use std::alloc::Global;
 use std::mem;
 
-/// Whether it is a `Cat` with a part that always fails, an `Alt` with such a side, or a `Loop` of at least one
-/// turn with such a body. The time for a `Cat` grows as its parts do.
+/// Returns whether a node is a `Cat` with a part that always fails, an `Alt` with such a side, or a `Loop` of at least
+/// one iteration with such a body. Takes time linear in the parts of a `Cat`.
 pub fn fails_by_part(node: &Node) -> bool
     ensures { result ≡ fails_by_part (tree node.now) }
 {
@@ -24,8 +25,11 @@ pub fn fails_by_part(node: &Node) -> bool
     }
 }
 
-/// Puts the other side in the place of an `Alt` with a side that always fails, and a node that always fails in
-/// that of another node which does by a part. The caller knows that no capture group is inside. It takes no memory.
+/// Replaces an `Alt` with a side that always fails by the other side, and any other node that fails by a part by an
+/// empty set. Keeps any other node. It allocates no memory.
+///
+/// # Preconditions
+/// The node is part of a well-formed tree, and contains no capture group.
 pub fn propagate_early_fails(alloc: Global, node: &mut Node) -> PassAction
     requires part { IsPart (tree node.old) }
     requires free { has_group (tree node.old) ≡ false }
@@ -40,7 +44,7 @@ pub fn propagate_early_fails(alloc: Global, node: &mut Node) -> PassAction
     }
 }
 
-/// Takes out a side that does not always fail, the left one first, else makes a node that always fails.
+/// Takes out a side that does not always fail, the left one first, or returns a node that always fails.
 fn take_side(alloc: Global, left: &mut Node, right: &mut Node) -> Node
     ensures left { match_always_fails (tree left.old) ≡ false → tree result ≡ tree left.old }
     ensures right { match_always_fails (tree left.old) ≡ true → match_always_fails (tree right.old) ≡ false →

@@ -1,4 +1,4 @@
-//! What matches the empty text alone is removed.
+//! Removal of nodes that match only the empty text.
 ghost use Rattle.std.specs.Prelude.{◌≡◌, true, false, IfSome, None};
 ghost use Rattle.regress_tree.specs.Reading.{Direction};
 ghost use Rattle.regress_tree.specs.Tree.{tree, trees};
@@ -10,8 +10,14 @@ ghost use Rattle.regress_rewrite.specs.Taken.{row_without, StandsAlone, StandsFo
 use crate::rewrite::PassAction;
 use regress_tree::ir::{Node, NodeList};
 
-/// Removes a node that matches the empty text alone, as far as is looked at, and takes the `Empty` parts out of
-/// a `Cat`: what is left of it is the `Cat`, its one part or `Empty`. The time for a `Cat` grows as its parts do.
+/// Removes a node that is seen to match only the empty text, and the `Empty` parts of a `Cat`. A `Cat` with one part
+/// remaining becomes that part, and one with none becomes `Empty`. Keeps any other node.
+///
+/// # Preconditions
+/// The node is part of a well-formed tree.
+///
+/// # Complexity
+/// Linear in the parts of a `Cat`.
 pub fn remove_empties(node: &mut Node) -> PassAction
     requires { IsPart (tree node.old) }
     ensures { (d : Direction) → ObeysLaw is_emptied_away true d (tree node.old) (tree node.new) result }
@@ -25,7 +31,7 @@ pub fn remove_empties(node: &mut Node) -> PassAction
     }
 }
 
-/// Whether there is something to remove. An empty set is not `Empty`: it matches nothing.
+/// Returns whether there is something to remove. An empty set is not `Empty`: it matches nothing.
 fn has_empties(node: &Node) -> bool
     ensures { result ≡ is_emptied_away (tree node.now) }
 {
@@ -47,7 +53,7 @@ fn has_empties(node: &Node) -> bool
     }
 }
 
-/// Takes the `Empty` parts out of a `Cat` of these, and tells what is to stand in its place.
+/// Removes the `Empty` parts of a `Cat`, and returns the action, which may replace the `Cat`.
 fn remove_empty_parts(parts: &mut NodeList) -> PassAction
     ensures { StandsForCat result (row_without is_empty (trees parts.old.items)) (trees parts.new.items) }
 {
@@ -58,7 +64,8 @@ fn remove_empty_parts(parts: &mut NodeList) -> PassAction
     }
 }
 
-/// Takes out what is to stand in the place of a `Cat` of fewer than two parts: the one part, or `Empty`.
+/// Takes out the node that replaces a `Cat` of fewer than two parts: its one part, or `Empty`. Returns `None`, with the
+/// parts unchanged, if there are two or more.
 pub fn stand_in(parts: &mut NodeList) -> Option<Node>
     ensures some { IfSome result (λ node. StandsAlone (tree node) (trees parts.old.items)) }
     ensures none { result ≡ None → ((trees parts.new.items ≡ trees parts.old.items) × (is_short (trees parts.old.items) ≡ false)) }
@@ -69,7 +76,7 @@ pub fn stand_in(parts: &mut NodeList) -> Option<Node>
     Some(parts.pop().unwrap_or(Node::Empty))
 }
 
-/// Leaves out each `Empty`. Linear in the parts.
+/// Removes each part that is `Empty`. Linear in the parts.
 pub fn leave_out_empties(parts: &mut NodeList)
     ensures { trees parts.new.items ≡ row_without is_empty (trees parts.old.items) }
 {

@@ -13,13 +13,13 @@ use std::alloc::AllocError;
 /// What a rewrite did to a node.
 #[derive(Debug, Drop)]
 pub enum PassAction {
-    /// Nothing: the node is as it was.
+    /// The node is unchanged.
     Keep,
-    /// It was changed in its place.
+    /// The node was changed in place.
     Modified,
-    /// It is to become `Empty`.
+    /// The node is to be replaced by `Empty`.
     Remove,
-    /// This node is to stand in its place.
+    /// The node is to be replaced by this one.
     Replace(Node),
 }
 
@@ -29,7 +29,7 @@ impl PassAction {
     ghost use Rattle.regress_rewrite.specs.Law.{after};
     ghost use Rattle.regress_rewrite.specs.declared.rewrite.PassAction.TheVariants.{Keep};
 
-    /// Does the rest of it to the node that it was answered for, and tells whether it is something.
+    /// Carries out an action on the node for which it was returned, and returns whether it is other than `Keep`.
     pub fn carry_out(self, node: &mut Node) -> bool
         ensures made { tree node.new ≡ after self (tree node.old) }
         ensures some { MatchBool result (self ≢ Keep) (self ≡ Keep) }
@@ -44,29 +44,37 @@ impl PassAction {
     }
 }
 
-/// A rewrite of single nodes. Its law says what it may do to one, wherever in a tree and in whichever
-/// direction the node is matched; `run_pass` applies it to every node of a tree.
+/// A rewrite of single nodes, which `run_pass` applies to every node of a tree.
+///
+/// Its contract, the law, states how it may change a node, anywhere in a tree and in either direction of matching.
 pub trait Rewrite {
-    /// The shapes that it removes, as a test on a node.
+    /// The shapes that the rewrite removes, as a test on a node.
     ghost removes: { Tree → Bool };
 
-    /// Whether it leaves each node as it is that has none of these shapes.
+    /// Whether the rewrite leaves each node unchanged that has none of these shapes.
     ghost is_exact: { Bool };
 
-    /// What it says of a call, which `run_pass` then says of all that it makes: the rewrite before, the tree of
-    /// the node, the walk, the answer, the tree that the call left, the rewrite after it. It may say nothing.
+    /// A relation of the rewrite's own that holds of each call, and that `run_pass` then states of all its calls: the
+    /// rewrite before the call, the tree of the node, the walk, the result, the tree that the call left, and the
+    /// rewrite after it. By default it states nothing.
     ghost step: { Self → Tree → Walk → Result PassAction AllocError → Tree → Self → Type 0 } = { λ before t walk answer left after. Unit {0} };
 
-    /// Looks at a node, whose children have been looked at before.
+    /// Rewrites a node whose children are already rewritten, and returns what it did.
+    ///
+    /// # Preconditions
+    /// The node is part of a well-formed tree.
+    ///
+    /// # Errors
+    /// Returns [`AllocError`] if an allocation fails. The node is unchanged.
     fn apply(&mut self, node: &mut Node, walk: &Walk) -> Result<PassAction, AllocError>
         requires { IsPart (tree node.old) }
 
-        // What the action makes of the node cannot be told apart from it, stands where it stood, has
-        // its groups, is no larger, brings in no bracket to be simplified and, unless it is `Keep`, is
-        // less. `Keep` leaves the node, and comes only where there is nothing to remove.
+        // The result of the action has the same meaning as the node, may appear wherever it may, has its groups, is no
+        // larger, adds no bracket to be simplified and, unless the action is `Keep`, is less. `Keep` leaves the node
+        // unchanged, and is returned only if there is nothing to remove.
         ensures lawful { IfOk result (ObeysLaw removes is_exact (direction_of walk.now) (tree node.old) (tree node.new)) }
 
-        // Want of memory leaves the node.
+        // A failed allocation leaves the node unchanged.
         ensures err { OnErr result (tree node.new ≡ tree node.old) }
 
         ensures step { step self.old (tree node.old) walk.now result (tree node.new) self.new };

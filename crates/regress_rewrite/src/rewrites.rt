@@ -1,4 +1,4 @@
-//! The rewrites, as what a pass runs: each finds what is to be known of a node, and rewrites it.
+//! The rewrites, as implementations of [`Rewrite`].
 
 use crate::flatten::flatten;
 use crate::form_literal_bytes::form_literal_bytes;
@@ -12,7 +12,7 @@ use crate::unroll_loops::unroll_loops;
 use regress_tree::ir::{Node, Walk};
 use std::alloc::{AllocError, Global};
 
-/// Simplification of brackets, which looks at nothing but the node.
+/// Simplification of brackets. A call looks only at the node.
 #[derive(Drop)]
 pub struct SimplifyBrackets {
     pub alloc: Global,
@@ -31,7 +31,7 @@ impl Rewrite for SimplifyBrackets {
     }
 }
 
-/// Flattening, which looks at nothing but the node.
+/// Flattening of nested `Cat`s. A call looks only at the node.
 #[derive(Drop)]
 pub struct Flatten {
     pub alloc: Global,
@@ -50,7 +50,7 @@ impl Rewrite for Flatten {
     }
 }
 
-/// Unrolling of loops, which looks at no more of each than 257 nodes of its body.
+/// Unrolling of loops. A call looks at no more than 257 nodes of a loop's body.
 #[derive(Drop)]
 pub struct UnrollLoops {
     pub alloc: Global,
@@ -69,7 +69,7 @@ impl Rewrite for UnrollLoops {
     }
 }
 
-/// Promotion of loops over one character, which looks at nothing but the node.
+/// Promotion of loops over one character. A call looks only at the node.
 #[derive(Drop)]
 pub struct Promote1CharLoops {
     pub alloc: Global,
@@ -88,7 +88,7 @@ impl Rewrite for Promote1CharLoops {
     }
 }
 
-/// Forming of literal bytes, which looks at the node and at the direction.
+/// Forming of literal bytes. A call looks only at the node and the direction.
 #[derive(Drop)]
 pub struct FormLiteralBytes {
     pub alloc: Global,
@@ -107,7 +107,7 @@ impl Rewrite for FormLiteralBytes {
     }
 }
 
-/// Removing empties, which looks at nothing but the node.
+/// Removal of nodes that match only the empty text. A call looks only at the node.
 #[derive(Drop)]
 pub struct RemoveEmpties;
 
@@ -124,8 +124,10 @@ impl Rewrite for RemoveEmpties {
     }
 }
 
-/// Propagating early failure. It looks for a capture group only where a part fails: at each alternative that
-/// does through those behind it, so for an alternation the time may grow with the square of its length.
+/// Propagation of early failure.
+///
+/// A call searches a node for capture groups only if one of its parts always fails. Each alternative that fails is
+/// searched with all after it, so the time for an alternation may be quadratic in its length.
 #[derive(Drop)]
 pub struct PropagateEarlyFails {
     pub alloc: Global,

@@ -15,10 +15,18 @@ use regress_base::types::{BracketContents, MAX_CHAR_SET_LENGTH};
 use regress_tree::ir::Node;
 use std::alloc::{AllocError, Global};
 
-/// Makes a bracket of at most four code points a `CharSet` of them, ascending, unless it is inverted.
-/// Any other bracket with more intervals than its complement takes the complement and flips `invert`.
-/// The error comes where there is no memory for the set or the complement. Linear in the intervals where
-/// it takes the complement, else constant.
+/// Replaces a bracket of at most four code points that is not inverted by a `CharSet` of these, in ascending order. Any
+/// other bracket with more intervals than its complement gets the complement, with `invert` flipped. Keeps any other
+/// node.
+///
+/// # Preconditions
+/// The node is part of a well-formed tree.
+///
+/// # Complexity
+/// Linear in the intervals if the complement is taken, else constant.
+///
+/// # Errors
+/// Returns [`AllocError`] if an allocation fails. The node is unchanged.
 pub fn simplify_brackets(alloc: Global, node: &mut Node) -> Result<PassAction, AllocError>
     requires { IsPart (tree node.old) }
     ensures lawful { (d : Direction) → IfOk result (ObeysLaw is_simplified_away true d (tree node.old) (tree node.new)) }
@@ -31,7 +39,7 @@ pub fn simplify_brackets(alloc: Global, node: &mut Node) -> Result<PassAction, A
     }
 }
 
-/// Simplifies a bracket of these contents, or tells what is to stand in its place.
+/// Simplifies a bracket with these contents, or returns the node that replaces it.
 fn simplify_bracket(alloc: Global, contents: &mut BracketContents) -> Result<PassAction, AllocError>
     ensures action { IfOk result (λ action. Simplifies action contents.old contents.new) }
     ensures err { OnErr result (contents.new ≡ contents.old) }
@@ -48,7 +56,7 @@ fn simplify_bracket(alloc: Global, contents: &mut BracketContents) -> Result<Pas
     Ok(PassAction::Keep)
 }
 
-/// Whether a small set has room for the code points. It looks at five intervals at most.
+/// Returns whether a `CharSet` can hold the code points. It looks at no more than five intervals.
 fn is_small(intervals: &[Interval]) -> bool
     ensures { result ≡ nat_le (code_point_count intervals.now) max_char_set_length }
 {
@@ -63,14 +71,14 @@ fn is_small(intervals: &[Interval]) -> bool
     true
 }
 
-/// Whether the complement has fewer intervals. Constant.
+/// Returns whether the complement has fewer intervals. Constant.
 fn is_long(set: &CodePointSet) -> bool
     ensures { result ≡ nat_lt (gap_count 0 set.now) (length set.now) }
 {
     set.inverted_interval_count() < set.intervals().len()
 }
 
-/// The code points of the intervals, in their order.
+/// Returns the code points of the intervals in order.
 fn code_points(alloc: Global, intervals: &[Interval]) -> Result<Vec<u32>, AllocError>
     ensures { IfOk result (λ list. list.items ≡ flat_map code_points intervals.now) }
 {

@@ -1,4 +1,4 @@
-//! Unrolling of loops: the turns that must be taken are written out.
+//! Unrolling of loops: the required iterations become copies of the body.
 ghost use Rattle.std.specs.Prelude.{◌≡◌, ◌<◌, ◌≤◌, true, false, IfOk, OnOk, OnErr, vec_len, vec_capacity};
 ghost use Rattle.regress_tree.specs.Copies.{HasNoGroup};
 ghost use Rattle.regress_tree.specs.Measures.{levels};
@@ -15,13 +15,19 @@ use std::alloc::{AllocError, Global};
 use std::mem;
 use std::ops::Range;
 
-/// What a body that is copied is charged at most.
+/// The maximal size of a body that is copied: one for each node, and one more for each byte of a `ByteSequence`.
 pub const MAX_CHARGE: usize = 256;
 
-/// How many levels a body that is copied has at most.
+/// The maximal nesting depth of a body that is copied, where a leaf has depth 1.
 pub const MAX_LEVELS: usize = 101;
 
-/// Unrolls a loop that `may_unroll` finds, as `unroll` does, and keeps any other node.
+/// Unrolls a loop that [`may_unroll`] accepts, as [`unroll`] does, and keeps any other node.
+///
+/// # Preconditions
+/// The node is part of a well-formed tree.
+///
+/// # Errors
+/// Returns [`AllocError`] if an allocation fails. The node is unchanged.
 pub fn unroll_loops(alloc: Global, node: &mut Node) -> Result<PassAction, AllocError>
     requires { IsPart (tree node.old) }
     ensures lawful { (d : Direction) → IfOk result (ObeysLaw is_unrolled_away true d (tree node.old) (tree node.new)) }
@@ -34,7 +40,7 @@ pub fn unroll_loops(alloc: Global, node: &mut Node) -> Result<PassAction, AllocE
     Ok(PassAction::Modified)
 }
 
-/// Whether it is a `Loop` to be unrolled. It looks at no more than 257 nodes of its body.
+/// Returns whether a node is a `Loop` to be unrolled. It looks at no more than 257 nodes of the body.
 pub fn may_unroll(node: &Node) -> bool
     ensures { result ≡ is_unrolled_away (tree node.now) }
 {
@@ -51,17 +57,22 @@ pub fn may_unroll(node: &Node) -> bool
     }
 }
 
-/// Whether a loop without groups must take one to five turns: it is unrolled if its body is small enough to be copied
-/// for each of them.
+/// Returns whether a loop contains no group and has a minimum of one to five iterations. It is unrolled if its body is
+/// small enough to be copied for each of them.
 pub fn has_few_turns(quant: &Quantifier, groups: &Range<u16>) -> bool
     ensures { result ≡ has_few_turns quant.now groups.now.start groups.now.end }
 {
     groups.is_empty() && matches!(quant.min, 1..=5)
 }
 
-/// Makes a loop that `may_unroll` finds a `Cat`: a copy of the body for each turn that must be taken,
-/// and the loop of the turns that may follow, unless there are none. All memory is taken before the
-/// loop is changed.
+/// Replaces a loop that [`may_unroll`] accepts by a `Cat` of a copy of the body for each required iteration and, unless
+/// there are no further ones, a loop of these. All memory is allocated before the loop is changed.
+///
+/// # Preconditions
+/// The node is part of a well-formed tree, and [`may_unroll`] accepts it.
+///
+/// # Errors
+/// Returns [`AllocError`] if an allocation fails. The node is unchanged.
 pub fn unroll(alloc: Global, node: &mut Node) -> Result<(), AllocError>
     requires part { IsPart (tree node.old) }
     requires shape { is_unrolled_away (tree node.old) ≡ true }
@@ -72,7 +83,7 @@ pub fn unroll(alloc: Global, node: &mut Node) -> Result<(), AllocError>
         unreachable!()
     };
     let mut parts = copy_times(alloc, loopee, quant.min)?;
-    // There is room for the loop: nothing fails from here on.
+    // The capacity suffices for the loop, so nothing fails from here on.
     *quant = further_turns(quant);
     if quant.max != Some(0) {
         parts.push(mem::replace(node, Node::Empty))?;
@@ -81,7 +92,14 @@ pub fn unroll(alloc: Global, node: &mut Node) -> Result<(), AllocError>
     Ok(())
 }
 
-/// So many copies of a body, with room for one node more.
+/// Returns `times` copies of a body, in a list with capacity for at least one node more.
+///
+/// # Preconditions
+/// `times` is at most 5. The body contains no capture group and no `StringSet`, and its nesting depth is at most
+/// [`MAX_LEVELS`].
+///
+/// # Errors
+/// Returns [`AllocError`] if an allocation fails.
 pub fn copy_times(alloc: Global, body: &Node, times: usize) -> Result<NodeList, AllocError>
     requires times { times ≤ 5 }
     requires groups { HasNoGroup (tree body.now) }
@@ -100,7 +118,10 @@ pub fn copy_times(alloc: Global, body: &Node, times: usize) -> Result<NodeList, 
     Ok(parts)
 }
 
-/// How many turns may follow those that must be taken.
+/// Returns the quantifier of the iterations that may follow the required ones.
+///
+/// # Preconditions
+/// The minimum of `quant` is at most its maximum.
 pub fn further_turns(quant: &Quantifier) -> Quantifier
     requires { IsQuantifier quant.now }
     ensures { result ≡ further_turns quant.now }
@@ -112,11 +133,11 @@ pub fn further_turns(quant: &Quantifier) -> Quantifier
     }
 }
 
-/// What is left of a budget once a copy of the node is charged to it: one for each node, and one
-/// more for each byte of a `ByteSequence`. It is None where the budget is too small, the node has more
-/// than so many levels, or a loop or a `StringSet` is inside.
+/// Returns the budget that remains after a copy of the node is charged: one for each node, and one more for each byte
+/// of a `ByteSequence`. It is `None` if the budget is too small, the nesting is deeper than `levels`, or the node
+/// contains a loop or a `StringSet`.
 ///
-/// The budget is charged on the way down, so it looks at one node more than the budget at most.
+/// The budget is charged from the root down, so at most one node more than the budget is looked at.
 #[cycle(after_charge)]
 fn after_charge(node: &Node, levels: usize, budget: usize) -> Option<usize>
     ensures { result ≡ after_charge levels budget (tree node.now) }
@@ -139,7 +160,7 @@ fn after_charge(node: &Node, levels: usize, budget: usize) -> Option<usize>
     }
 }
 
-/// What is left once copies of all parts are charged.
+/// Returns the budget that remains after copies of all parts are charged.
 #[cycle(after_charge)]
 fn after_charge_row(parts: &[Node], levels: usize, budget: usize) -> Option<usize>
     ensures { result ≡ after_charge_row levels budget (trees parts.now) }

@@ -1,4 +1,4 @@
-//! What a line comes to.
+//! The result of a test case.
 
 use crate::generated::parts_of_large;
 use crate::matching::match_difference;
@@ -13,8 +13,8 @@ use regress_unicode::{Tables, TablesError};
 use std::alloc::{AllocError, Global};
 use std::hash::{DefaultHasher, Hash, Hasher};
 
-/// What a line comes to over a table, if it should come to something else. A line that begins with flags is a row, and
-/// one that begins with `match` is for the matcher.
+/// Returns the result of a test case over these tables, if it is not the expected one. A test case that begins with
+/// flags is about a pattern's trees, and one that begins with `match` is about the matcher.
 pub(crate) fn difference_over(
     alloc: Global,
     line: &str,
@@ -47,7 +47,7 @@ fn row_difference(
     }
 }
 
-/// What is told of a pattern that should have a tree, if it has none.
+/// Returns the syntax error of a pattern that should be accepted, if it is rejected.
 fn refused(call: Call) -> Result<Option<String>, Fault> {
     let found = call.finish()?;
     Ok(if found.starts_with("error: ") {
@@ -67,14 +67,14 @@ fn call_difference(alloc: Global, line: &str, tables: &Tables) -> Result<Option<
     call.difference(expected)
 }
 
-/// Makes the call of this name: one of the crates below, or else one of this.
+/// Makes the call with this name: one of the crates below, or else one of this crate.
 fn make(call: &mut Call, name: &str, tables: &Tables) {
     if regress_base_rows::answer(call, name, tables) || regress_tree_rows::answer(call, name) {
         return;
     }
     match name {
-        "want" => want(call),
-        "tear" => parse_all_torn(call, tables),
+        "out_of_memory" => want(call),
+        "mutate" => parse_all_torn(call, tables),
         "errors" => errors(call),
         _ => make_under_flags(call, name, tables),
     }
@@ -88,14 +88,14 @@ fn make_under_flags(call: &mut Call, name: &str, tables: &Tables) {
         "pieces" => copy_pieces(call, flags, tables),
         "ascend" | "descend" | "named" => parts_of_large(call, name, flags, tables),
         "whole" => whole(call, flags, tables),
-        "place" => find_fault(call, flags, tables),
+        "position" => find_fault(call, flags, tables),
         "spans" => tell_spans(call, flags, tables),
         "bound" => tell_bound(call, flags),
         _ => make_on_tree(call, name, flags, tables),
     }
 }
 
-/// How the error of one text lies to that of another, whether they are equal, and whether their hashes are.
+/// Reports how one error compares to another, whether they are equal, and whether their hashes are.
 fn errors(call: &mut Call) {
     let one = read_error(call);
     let other = read_error(call);
@@ -118,7 +118,7 @@ fn hash_of(error: &Error) -> u64 {
     hasher.finish()
 }
 
-/// How want of memory prints, as a fault of parsing or as a refusal of a table.
+/// Reports how an allocation failure prints, as an error of parsing or of making a table.
 fn want(call: &mut Call) {
     match call.field() {
         "parsing" => call.tell(&ParseFault::from(AllocError)),

@@ -1,4 +1,4 @@
-//! Patterns that are made by rule.
+//! Generated patterns.
 
 use crate::trees::optimize_watched;
 use regress_base::types::Flags;
@@ -8,7 +8,7 @@ use regress_tree_rows::parts;
 use regress_unicode::Tables;
 use std::alloc::{AllocError, Global};
 
-/// The parts of the optimized tree of a large pattern, and the size of the first.
+/// Reports the number of parts of the optimized tree of a large pattern, and the size of the first.
 pub(crate) fn parts_of_large(call: &mut Call, name: &str, flags: Flags, tables: &Tables) {
     let alloc = call.alloc();
     let number = call.number();
@@ -25,7 +25,7 @@ pub(crate) fn parts_of_large(call: &mut Call, name: &str, flags: Flags, tables: 
     }
 }
 
-/// A class of so many ranges of two, ascending or descending, or so many groups with names in a row.
+/// Returns a class of `number` ranges of two, ascending or descending, or `number` named groups in sequence.
 fn generated(alloc: Global, name: &str, number: u32) -> Result<Vec<u32>, AllocError> {
     match name {
         "ascend" => class(alloc, number, false),

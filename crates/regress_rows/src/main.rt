@@ -1,14 +1,14 @@
-//! Lines of data, read from standard input, that say what a pattern or a call comes to, or what a pattern finds in a
-//! text, compared with the answers of the library and of the matcher over the small table, or over that of all of
-//! Unicode. So that a line costs no proof, a program reads them. The head of the file `stdin` tells the forms of lines.
+//! Runs test cases from standard input: the result of a pattern, of a call, or of a match in a text is compared with
+//! that of the library over the small table, or over that of all of Unicode. Test cases are data since code that is
+//! compiled would have to be proved. The head of the file `stdin` specifies their notation.
 //!
-//! Where memory is wanting, in any of them, the program looks whether the call has kept what it promises then;
-//! `tools/refuse_growth` refuses each growth of each call in turn, and of some searches.
+//! If an allocation fails in any of them, the program checks whether the call keeps what it promises for that case;
+//! `tools/refuse_growth` makes each allocation of each call fail in order, and those of some searches.
 //!
-//! A line that comes to something else is told with its number, and so is a promise that is broken, and behind the last
-//! line stands how many hold. The status is 0 if all lines hold, 1 if one doesn't, 2 at a line of no form, 3 if memory
-//! was wanting and all was kept, 4 if standard input can't be read or isn't UTF-8, 5 if standard output can't be
-//! written, and 6 if no line was read. From 2 on a line on standard error says so, but for 5.
+//! A test case that fails is reported with its line number, as is a broken promise; the number of test cases that pass
+//! is reported at the end. The exit status is 0 if all pass, 1 if one fails, 2 at a malformed line, 3 if an allocation
+//! failed and all promises held, 4 if standard input cannot be read or is not UTF-8, 5 if standard output cannot be
+//! written, and 6 if there is no test case. For 2 and above, except 5, a line on standard error says so.
 #![tactic(auto)]
 
 mod answer;
@@ -36,7 +36,7 @@ fn main(rt: HostRuntime) -> ExitCode {
     })
 }
 
-/// Hands standard input and output to `run_lines`. Only want of memory keeps a buffer or a table from being made.
+/// Passes standard input and output to `run_lines`. Making a buffer or a table fails only if an allocation does.
 fn run(rt: &HostRuntime) -> Result<u8, Failure> {
     let Ok(input) = BufReader::new(rt.alloc(), rt.stdin()) else {
         return Err(Failure::Memory);
@@ -50,13 +50,13 @@ fn run(rt: &HostRuntime) -> Result<u8, Failure> {
     run_lines(rt.alloc(), input, &mut out, &mut tables)
 }
 
-/// Writes what a failure has to say to `err`. A failing write changes nothing.
+/// Writes the message of a failure to `err`. An error of that write is ignored.
 fn tell<E: Write>(failure: Failure, err: &mut E) {
     let _ = match failure {
-        Failure::Line(number) => writeln!(err, "line {number} has no form of a line"),
+        Failure::Line(number) => writeln!(err, "line {number} is not a test case"),
         Failure::Memory => err.write_all(b"out of memory\n"),
-        Failure::Input => err.write_all(b"the lines can't be read\n"),
+        Failure::Input => err.write_all(b"the test cases can't be read\n"),
         Failure::Output => Ok(()),
-        Failure::NoLine => err.write_all(b"no line was read\n"),
+        Failure::NoLine => err.write_all(b"there is no test case\n"),
     };
 }

@@ -1,4 +1,4 @@
-//! What a line for the matcher comes to.
+//! The result of a test case for the matcher.
 
 use crate::outcome::{answer_question, read_question};
 use crate::parsing::read_tree;
@@ -7,7 +7,7 @@ use regress_notation::{Call, Fault};
 use regress_unicode::Tables;
 use std::alloc::Global;
 
-/// What a line comes to by the tree as it is parsed or by the optimized one, if it should come to something else.
+/// Returns the result with the parsed tree or with the optimized one, if it is not the expected one.
 pub(crate) fn match_difference(
     alloc: Global,
     line: &str,
@@ -29,7 +29,7 @@ pub(crate) fn match_difference(
     }
 }
 
-/// What the parsed tree of a line's pattern answers, or the optimized one, or the pattern's fault.
+/// Returns the call of a test case, with the parsed tree of its pattern or with the optimized one.
 fn answer<'a>(alloc: Global, fields: &'a str, tables: &Tables, is_optimized: bool) -> Call<'a> {
     let mut call = Call::new(alloc, fields);
     let question = read_question(&mut call);
@@ -46,7 +46,7 @@ fn answer<'a>(alloc: Global, fields: &'a str, tables: &Tables, is_optimized: boo
     call
 }
 
-/// A text as a line writes it.
+/// Parses the next field as a text.
 fn read_text(call: &mut Call) -> String {
     let mut text = String::new(call.alloc());
     for point in &call.pattern() {

@@ -1,4 +1,4 @@
-//! What is asked of a text, and how lines write what is found.
+//! The question that a test case asks about a text, and the notation of its outcome.
 
 use crate::places::{byte_place, characters_before};
 use regress_match::{Match, Matches, Outcome, find, match_at};
@@ -6,15 +6,15 @@ use regress_notation::{Call, Fault, read_number};
 use regress_tree::ir::Regex;
 use regress_unicode::Tables;
 
-/// How many steps a line takes that says nothing else.
+/// The step limit of a test case that states none.
 const STEPS: u64 = 10_000_000;
 
-/// What is asked of a text.
+/// The question about a text.
 #[derive(Clone, Copy)]
 pub(crate) enum Question {
-    /// The first match, in so many steps.
+    /// The first match, with this step limit.
     First(u64),
-    /// What matches from the place behind so many characters.
+    /// The match that starts after this number of characters.
     At(u32),
     /// All matches.
     All,
@@ -40,7 +40,7 @@ pub(crate) fn read_question(call: &mut Call) -> Question {
     }
 }
 
-/// Adds what a tree answers.
+/// Appends the outcome for a tree.
 pub(crate) fn answer_question(
     call: &mut Call,
     question: Question,
@@ -64,7 +64,7 @@ pub(crate) fn answer_question(
     }
 }
 
-/// Adds all matches, with ` | ` between them. There are a hundred at most.
+/// Appends all matches, separated by ` | `, at most a hundred.
 fn tell_all(call: &mut Call, regex: &Regex, tables: &Tables, text: &str) {
     let mut matches = Matches::new(regex, tables, text, 0, STEPS);
     for number in 0..100 {
@@ -84,7 +84,7 @@ fn tell_all(call: &mut Call, regex: &Regex, tables: &Tables, text: &str) {
     }
 }
 
-/// Adds an outcome as lines write it.
+/// Appends an outcome in the notation of test cases.
 fn tell(call: &mut Call, text: &str, outcome: &Outcome) {
     match outcome {
         Outcome::Matched(found) => tell_spans(call, text, found),
@@ -93,7 +93,7 @@ fn tell(call: &mut Call, text: &str, outcome: &Outcome) {
     }
 }
 
-/// Adds the spans of a match and of its groups, in characters.
+/// Appends the spans of a match and of its groups, counted in characters.
 fn tell_spans(call: &mut Call, text: &str, found: &Match) {
     tell_span(call, text, found.start(), found.end());
     for id in 0..found.group_count() {

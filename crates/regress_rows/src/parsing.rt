@@ -1,4 +1,4 @@
-//! From what a line writes to a tree.
+//! Parses the patterns of test cases.
 ghost use Rattle.std.specs.Prelude.{IfSome};
 ghost use Rattle.regress_tree.specs.Tree.{tree};
 ghost use Rattle.regress_tree.specs.WellFormed.{IsWellFormed};
@@ -11,7 +11,7 @@ use regress_spans::{Span, try_parse_with_spans};
 use regress_tree::ir::Regex;
 use regress_unicode::Tables;
 
-/// The tree of a pattern; where it has none, its fault is told.
+/// Returns the tree of a pattern, or reports its syntax error.
 pub(crate) fn read_tree(call: &mut Call, flags: Flags, tables: &Tables) -> Option<Regex>
     ensures { IfSome result (λ regex. IsWellFormed (tree regex.node)) }
 {
@@ -25,7 +25,7 @@ pub(crate) fn read_tree(call: &mut Call, flags: Flags, tables: &Tables) -> Optio
     }
 }
 
-/// Adds a fault as lines write it, by a copy of its text.
+/// Appends a syntax error in the notation of test cases, from a copy of it.
 pub(crate) fn tell_fault(call: &mut Call, fault: ParseFault) {
     match fault {
         ParseFault::Syntax(error) => {
@@ -46,7 +46,7 @@ fn copy_of(call: &mut Call, error: &Error) -> Error {
     call.made(error.try_clone(alloc), nothing)
 }
 
-/// Where a pattern's fault is, and its text.
+/// Reports the position and the text of a pattern's syntax error.
 pub(crate) fn find_fault(call: &mut Call, flags: Flags, tables: &Tables) {
     let points = call.pattern();
     match try_parse_with_place(call.alloc(), &points, flags, tables) {
@@ -59,7 +59,7 @@ pub(crate) fn find_fault(call: &mut Call, flags: Flags, tables: &Tables) {
     }
 }
 
-/// Where each node of a pattern's tree stands; where it has none, its fault is told.
+/// Reports the span of each node of a pattern's tree, or its syntax error.
 pub(crate) fn tell_spans(call: &mut Call, flags: Flags, tables: &Tables) {
     let points = call.pattern();
     match try_parse_with_spans(call.alloc(), &points, flags, tables) {
@@ -78,7 +78,7 @@ fn tell_span(call: &mut Call, span: Span) {
     call.add(&span.end);
 }
 
-/// How many nodes the tree of a pattern has at most.
+/// Reports the bound of the number of nodes in the tree of a pattern.
 pub(crate) fn tell_bound(call: &mut Call, flags: Flags) {
     let points = call.pattern();
     call.tell(&node_bound(&points, flags));

@@ -1,6 +1,6 @@
-//! Places in bytes and in characters.
+//! Positions in bytes and in characters.
 
-/// The byte place behind so many characters.
+/// Returns the byte offset after `characters` characters.
 pub(crate) fn byte_place(text: &str, characters: u32) -> Option<usize> {
     let characters = characters as usize;
     match text.char_indices().nth(characters) {
@@ -10,7 +10,7 @@ pub(crate) fn byte_place(text: &str, characters: u32) -> Option<usize> {
     }
 }
 
-/// How many characters stand before a byte place.
+/// Returns the number of characters before a byte offset.
 pub(crate) fn characters_before(text: &str, place: usize) -> usize {
     match text.split_at_checked(place) {
         Some((before, _)) => before.chars().count(),

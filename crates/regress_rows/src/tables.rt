@@ -1,4 +1,4 @@
-//! The tables that lines ask for.
+//! The tables that test cases use.
 
 use crate::answer::difference_over;
 use regress_notation::{Fault, Lines};
@@ -6,7 +6,7 @@ use regress_ucd::unicode_tables;
 use regress_unicode::Tables;
 use std::alloc::{AllocError, Global};
 
-/// The small table, and that of all of Unicode once a line has asked for it.
+/// The small table, and the one of all of Unicode once a test case has used it.
 #[derive(Drop)]
 pub(crate) struct TablesOfLines {
     small: Tables,
@@ -14,7 +14,7 @@ pub(crate) struct TablesOfLines {
 }
 
 impl TablesOfLines {
-    /// The small table alone.
+    /// Returns the small table only.
     pub(crate) fn new(alloc: Global) -> Result<TablesOfLines, AllocError> {
         Ok(TablesOfLines {
             small: Tables::small(alloc)?,
@@ -22,7 +22,7 @@ impl TablesOfLines {
         })
     }
 
-    /// The table of all of Unicode, made if no line has asked for it before.
+    /// Returns the table of all of Unicode, which is made at its first use.
     fn unicode(&mut self, alloc: Global) -> Result<&Tables, AllocError> {
         let made = match self.unicode.take() {
             Some(made) => made,
@@ -32,7 +32,7 @@ impl TablesOfLines {
     }
 }
 
-/// A line is over the table of all of Unicode behind `unicode`, else over the small one.
+/// A test case that begins with `unicode` uses the table of all of Unicode, any other the small one.
 impl Lines for TablesOfLines {
     fn difference(&mut self, alloc: Global, line: &str) -> Result<Option<String>, Fault> {
         let Some(rest) = line.strip_prefix("unicode\t") else {

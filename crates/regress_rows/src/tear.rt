@@ -1,4 +1,4 @@
-//! Patterns that are torn: cut, with a code point twice, with two swapped.
+//! Mutated patterns: cut off, with a code point doubled, with two swapped.
 ghost use Rattle.std.specs.Prelude.{◌≤◌, All};
 
 use regress_base::codepointset::CODE_POINT_MAX;
@@ -9,18 +9,18 @@ use regress_parse::ParseFault;
 use regress_unicode::Tables;
 use std::alloc::{AllocError, Global};
 
-/// How a pattern is torn at a place.
+/// How a pattern is mutated at a position.
 #[derive(Clone, Copy)]
 enum Tear {
-    /// What stands behind the place is cut off.
+    /// The code points after the position are cut off.
     Cut,
-    /// The code point at the place comes twice.
+    /// The code point at the position is doubled.
     Double,
-    /// The code point at the place changes places with the next one.
+    /// The code point at the position and the next one are swapped.
     Swap,
 }
 
-/// Says that each pattern that comes of tearing one, under all flags, has a tree or a fault.
+/// Checks that each mutation of a pattern, under all flags, has a tree or a syntax error.
 pub(crate) fn parse_all_torn(call: &mut Call, tables: &Tables) {
     let points = call.pattern();
     for place in 0..points.len() {
@@ -28,7 +28,7 @@ pub(crate) fn parse_all_torn(call: &mut Call, tables: &Tables) {
         parse_torn(call, tables, &points, Tear::Double, place);
         parse_torn(call, tables, &points, Tear::Swap, place);
     }
-    call.say("a tree or a fault");
+    call.say("a tree or a syntax error");
 }
 
 fn parse_torn(call: &mut Call, tables: &Tables, points: &[u32], tear: Tear, place: usize) {
@@ -40,7 +40,7 @@ fn parse_torn(call: &mut Call, tables: &Tables, points: &[u32], tear: Tear, plac
     }
 }
 
-/// The pattern, torn at a place.
+/// Returns the pattern mutated at a position.
 fn torn_at(
     alloc: Global,
     points: &[u32],
@@ -65,7 +65,7 @@ fn torn_at(
     Ok(torn)
 }
 
-/// Says that the pattern has an optimized tree, which is well formed, or a fault.
+/// Checks that the pattern has a well-formed optimized tree or a syntax error.
 fn parse_under(call: &mut Call, points: &[u32], flags: Flags, tables: &Tables)
     requires { All (λ c. c ≤ CODE_POINT_MAX) points.now }
 {
@@ -81,7 +81,7 @@ fn parse_under(call: &mut Call, points: &[u32], flags: Flags, tables: &Tables)
     }
 }
 
-/// The flags whose bits are set, in the order of `imsuv`.
+/// Returns the flags whose bits are set, in the order of `imsuv`.
 fn flags_of(number: u8) -> Flags {
     Flags {
         icase: number & 1 != 0,

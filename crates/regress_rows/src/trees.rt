@@ -13,8 +13,8 @@ use regress_tree_rows::{
 };
 use regress_unicode::Tables;
 
-/// The parsed tree of a row's pattern or its fault and, if it is asked for, a tab and the optimized tree, which each
-/// rewrite leaves as it is.
+/// Reports the parsed tree of a pattern or its syntax error and, if `with_second`, a tab and the optimized tree, which
+/// has to be unchanged by further rewrites.
 pub(crate) fn tell_trees(call: &mut Call, flags: Flags, with_second: bool, tables: &Tables) {
     let Some(regex) = read_tree(call, flags, tables) else {
         return;
@@ -35,7 +35,7 @@ fn tell_settled(call: &mut Call, regex: Regex)
     check_settled(call, &mut regex);
 }
 
-/// Makes a call on the parsed tree of a pattern, or tells its fault.
+/// Makes a call on the parsed tree of a pattern, or reports its syntax error.
 pub(crate) fn make_on_tree(call: &mut Call, name: &str, flags: Flags, tables: &Tables) {
     if let Some(regex) = read_tree(call, flags, tables) {
         let mut regex = regex;
@@ -46,7 +46,7 @@ pub(crate) fn make_on_tree(call: &mut Call, name: &str, flags: Flags, tables: &T
     }
 }
 
-/// Makes a call on a tree that stays as it is, and answers whether there is one.
+/// Makes a call that leaves the tree unchanged, and returns whether there is one.
 fn make_on_parsed(call: &mut Call, name: &str, regex: &Regex) -> bool
     requires { IsWellFormed (tree regex.now.node) }
 {
@@ -57,7 +57,7 @@ fn make_on_parsed(call: &mut Call, name: &str, regex: &Regex) -> bool
         "pass" => pass(call, regex),
         "first" => call.show(first_part(first_part(&regex.node))),
         "ask" => ask(call, first_part(&regex.node)),
-        "turn" => turn(call, regex),
+        "reverse" => turn(call, regex),
         _ => return false,
     }
     true
@@ -75,7 +75,7 @@ fn make_on_changed(call: &mut Call, name: &str, regex: &mut Regex)
         "settled" => {
             optimize_watched(call, regex);
             check_settled(call, regex);
-            call.say("so it is");
+            call.say("holds");
         }
         "parts" => {
             optimize_watched(call, regex);
@@ -95,7 +95,7 @@ fn copy(call: &mut Call, regex: &Regex) {
     }
 }
 
-/// The units of a copy.
+/// Reports the units of a copy.
 fn units(call: &mut Call, regex: &Regex) {
     match regex.try_clone(call.alloc()) {
         Ok(copy) => {
@@ -106,7 +106,7 @@ fn units(call: &mut Call, regex: &Regex) {
     }
 }
 
-/// The units of the parsed tree, those of the optimized one, and the loops in that.
+/// Reports the units of the parsed tree and of the optimized tree, and the loops of the latter.
 fn count(call: &mut Call, regex: &mut Regex)
     requires { IsWellFormed (tree regex.old.node) }
 {
@@ -118,7 +118,8 @@ fn count(call: &mut Call, regex: &mut Regex)
     call.tell(&after.loops);
 }
 
-/// Optimizes a tree. Where memory is wanting, all but the normal form is kept, and a second call reaches that too.
+/// Optimizes a tree. If an allocation fails, the tree keeps everything but the normal form, and a second call
+/// establishes that too.
 pub(crate) fn optimize_watched(call: &mut Call, regex: &mut Regex)
     requires { IsWellFormed (tree regex.old.node) }
     ensures { IsWellFormed (tree regex.new.node) }
@@ -135,7 +136,7 @@ pub(crate) fn optimize_watched(call: &mut Call, regex: &mut Regex)
     call.done(answer);
 }
 
-/// The optimized tree of a pattern, or its fault, by one call.
+/// Reports the optimized tree of a pattern or its syntax error, by one call.
 pub(crate) fn whole(call: &mut Call, flags: Flags, tables: &Tables) {
     let points = call.pattern();
     match parse_and_optimize(call.alloc(), &points, flags, tables) {
@@ -149,7 +150,7 @@ pub(crate) fn whole(call: &mut Call, flags: Flags, tables: &Tables) {
     }
 }
 
-/// Says that each of the rewrites answers that it changes nothing, and neither they nor `optimize` change a node.
+/// Checks that each rewrite reports no change, and that neither they nor `optimize` change a node.
 fn check_settled(call: &mut Call, regex: &mut Regex)
     requires { IsWellFormed (tree regex.old.node) }
 {

@@ -1,4 +1,4 @@
--- What is written behind what was written.
+-- Appending JSON text to what a formatter has written.
 use Rattle.std.proofs.Common.{◌≡◌, ◌∙◌, ℕ, zero, suc, ◌+◌, ◌<◌, true, false, List, [], ◌∷◌, ◌++◌, length, get_or, take, drop, map, flat_map, refl, sym, ap, add-one, append_assoc, append-nil, codes, Option, Some, None, Bor, Vec, Box, Global, rules, arith}
 use denote.Text.{Utf8}
 use denote.Shadow.{shadow}
@@ -22,12 +22,12 @@ use Rattle.regress_tree.specs.declared.ir.node.Node.TheVariants.{Cat, Alt}
 use Rattle.regress_show.specs.Json.{pair, opening, ending, node_json, further_json, row_json, span_or_none, span_mark}
 use Rattle.regress_show.specs.Passed.{alternations}
 
--- what is neither a `Cat` nor an `Alt` and holds no node is a leaf
+-- a node that is neither a `Cat` nor an `Alt` and that contains no node is a leaf
 pub leaf_of : (node : Node) → ((parts : Vec Node Global) → node ≡ Cat parts → ⊥) → ((left right : Box Node Global) → node ≡ Alt left right → ⊥) →
     is_wrapper (tree node) ≡ false → is_leaf (tree node) ≡ true
 leaf_of node not_cat not_alt no_wrapper = first_of (search (rules, the_lemmas), grind (arith, the_lemmas))
 
--- the text of a node up to its mark, of the numbers from `at` on
+-- the text of a node up to its mark; the first node is numbered `at`
 module _ (mark : ℕ → List ℕ) (at : ℕ) where
   abbrev pub unended : Tree → List ℕ
   unended (leaf l) = opening (leaf l)
@@ -44,7 +44,7 @@ module _ (mark : ℕ → List ℕ) (at : ℕ) where
   pub unended-around : (t body : Tree) → IsAround t body → opening t ++ node_json mark at body ≡ unended t
   unended-around t body around = ap (λ u. opening u ++ node_json mark at body) around.is ∙ sym (ap unended around.is)
 
--- how many nodes are inside of a node
+-- the number of nodes inside a node
 abbrev pub within : Tree → ℕ
 within (leaf l) = 0
 within (cat parts) = nodes_in_row parts
@@ -72,7 +72,7 @@ unended-ended mark at (cat parts) = simp append_assoc
 unended-ended mark at (alt left right) = simp append_assoc
 unended-ended mark at (wrapped w body) = simp append_assoc
 
--- of a right side the nodes that have objects of their own
+-- the number of nodes of a right side that have an object of their own
 abbrev pub shown : Tree → ℕ
 shown (leaf l) = 1
 shown (cat parts) = nodes (cat parts)
@@ -91,14 +91,14 @@ nodes-shown (cat parts) = omega arith
 nodes-shown (alt left right) = let below = nodes-shown right in omega (arith, below)
 nodes-shown (wrapped w body) = omega arith
 
--- the last one of the alternatives
+-- the last alternative
 pub further_last : (mark : ℕ → List ℕ) (at : ℕ) (t : Tree) → is_alt t ≡ false → codes "," ++ node_json mark at t ≡ further_json mark at t
 further_last mark at (leaf l) not_alt = refl
 further_last mark at (cat parts) not_alt = refl
 further_last mark at (alt left right) not_alt = cc
 further_last mark at (wrapped w body) not_alt = refl
 
--- some are passed, and then others
+-- skipping m spans and then n spans skips m + n
 pub passed-more : (all left behind : List Span) (m n : ℕ) → left ≡ drop m all → behind ≡ drop n left → behind ≡ drop (m + n) all
 passed-more all left behind m n before then = then ∙ ap (drop n) before ∙ drop-drop n m all
 
@@ -107,7 +107,7 @@ slice_get-drop all zero = refl
 slice_get-drop [] (suc number) = refl
 slice_get-drop (s ∷ spans) (suc number) = slice_get-drop spans number
 
--- the mark of the first node that is left
+-- the mark of the first remaining node
 pub mark-first : (all left : List Span) (number : ℕ) → left ≡ drop number all → ending (span_mark left) 0 ≡ ending (span_mark all) number
 mark-first all left number is =
     ap (λ s. span_or_none s ++ codes "}") (ap (λ spans. slice_get spans 0) is ∙ slice_get-drop all number)
@@ -116,12 +116,12 @@ drop-none : (spans : List Span) → length spans ≡ 0 → drop 1 spans ≡ span
 drop-none [] none = refl
 drop-none (s ∷ spans) none = cc
 
--- the next one is passed, if there is one
+-- the next span is consumed, if there is one
 pub next-passed : (before after : Iter Span) (r : Option (Bor Span)) → iter_steps before r after → iter_rest after ≡ drop 1 (iter_rest before)
 next-passed before after None (none, same) = ap iter_rest same ∙ sym (drop-none (iter_rest before) none)
 next-passed before after (Some s) is = ap (drop 1) (sym is)
 
--- What is written from the node `now` on, whose span is the next one, completes all that is written from the node `at` on.
+-- Text written from the node `now` on, whose span is the next one, completes the whole text from the node `at` on.
 pub record Completes {W : Type 0} (took : W → List ℕ → W → Type 0) (from to : Formatter W) (all left : List Span) (whole rest : ℕ → List ℕ)
     (at : ℕ) : Type 0 where
   pub now : ℕ
@@ -129,7 +129,7 @@ pub record Completes {W : Type 0} (took : W → List ℕ → W → Type 0) (from
   pub spans : left ≡ drop now all
   pub completes : (last : Formatter W) → HasWritten took to (rest now) last → HasWritten took from (whole at) last
 
--- what stands before the item with that index
+-- the text before the item with that index
 abbrev pub separator : ℕ → List ℕ
 separator zero = []
 separator (suc i) = codes ","
@@ -144,7 +144,7 @@ pub comma-is_text : shadow (Utf8 (codes ","))
 unfolding encode
 comma-is_text = (codes ",", (refl, refl))
 
--- one more item behind those so far
+-- one more item after those so far
 pub join-more : {X : Type 0} (f : X → List ℕ) (xs : List X) (i : ℕ) (x : X) (comma : List ℕ) → i < length xs → comma ≡ separator i →
     x ≡ get_or xs i x → join_by f (codes ",") (take i xs) ++ (comma ++ f x) ≡ join_by f (codes ",") (take (i + 1) xs)
 join-more f [] i x comma inside is here = absurd (omega arith)

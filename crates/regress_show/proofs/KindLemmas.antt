@@ -1,4 +1,4 @@
--- The text of a node begins with its kind, and tells what it has.
+-- The text of a node begins with its kind and determines the node's members.
 use Rattle.std.proofs.Common.{◌≡◌, ◌∙◌, ℕ, ◌+◌, ◌*◌, ◌==◌, true, false, List, [], ◌∷◌, ◌++◌, refl, sym, ap, append_assoc, codes}
 use Rattle.std.proofs.lemmas.Bool.{eq-eqb}
 use Rattle.std.proofs.lemmas.List.{append_cancel_left}
@@ -16,7 +16,7 @@ pub record HasKind (text kind : List ℕ) : Type 0 where
 pub begun : (kind rest : List ℕ) → is_word kind ≡ true → HasKind (codes "{\"kind\":\"" ++ (kind ++ (codes "\"" ++ rest))) kind
 begun kind rest h = record { letters = h; rest = rest; begins = refl }
 
--- more behind the text
+-- text appended at the end keeps the kind
 pub begun_more : {p kind : List ℕ} → HasKind p kind → (s : List ℕ) → HasKind (p ++ s) kind
 begun_more {p} {kind} h s = record {
   letters = h.letters;
@@ -24,7 +24,7 @@ begun_more {p} {kind} h s = record {
   begins = ap (λ xs. xs ++ s) h.begins ∙ ap (λ xs. codes "{\"kind\":\"" ++ xs) (append_assoc kind (codes "\"" ++ h.rest) s);
 }
 
--- other kinds, which f tells apart
+-- two kinds that f distinguishes
 pub kinds-apart : (f : List ℕ → ℕ) {p q k l : List ℕ} {E : Type 0} → HasKind p k → HasKind q l → (f k == f l) ≡ false → Tells p q E
 kinds-apart f {p} {q} {k} {l} hp hq differ = record { told = λ a b e. absurd (none a b e) }
   where

@@ -1,4 +1,4 @@
--- The pieces of a node's text tell what they were written of.
+-- The pieces of a node's text determine what they were written from.
 use Rattle.std.proofs.Common.{◌≡◌, ◌≢◌, ◌∙◌, ℕ, ◌<◌, ◌==◌, Bool, true, false, if◌then◌else◌, List, [], ◌∷◌, ◌++◌, length, Option, Some, None, refl, ap, arith, codes}
 use Rattle.std.specs.Prelude.{IfSome}
 use Rattle.std.specs.Fmt.{decimal}
@@ -102,7 +102,7 @@ flags-tell x y = gives (λ e. λ i. record {
     (truth-tells x.unicode y.unicode) (codes ",\"unicode_sets\":") refl)
     (truth-tells x.unicode_sets y.unicode_sets) (codes "}") refl)
 
--- A name is `null`, a word in quotes or a list. Its first byte tells which.
+-- A name is `null`, a quoted word or a list. Its first byte determines which.
 data IsName : Option (List ℕ) → List ℕ → Type 0 where
   null : IsName None (codes "null")
   quoted : (bytes : List ℕ) → is_word bytes ≡ true → IsName (Some bytes) (codes "\"" ++ bytes ++ codes "\"")

@@ -1,4 +1,4 @@
--- Texts that tell what they were written of, read from the front.
+-- Texts that, parsed from the start, determine what they were written from.
 use Rattle.std.proofs.Common.{◌≡◌, ◌≢◌, ◌∙◌, ℕ, ◌<◌, ◌≤◌, ◌==◌, Bool, true, false, not, List, [], ◌∷◌, ◌++◌, length, flat_map, refl, sym, ap, arith, append_assoc, codes}
 use Rattle.std.specs.Fmt.{decimal}
 use Rattle.std.specs.List.{All, join_by}
@@ -11,20 +11,20 @@ use Rattle.std.proofs.lemmas.Str.Parse.{digit_from_value}
 use Rattle.regress_show.specs.Json.{is_word_byte, is_word}
 use Rattle.regress_show.specs.Numbers.{Fits}
 
--- The texts tell E, and where they end, whatever stands behind them.
+-- Whatever follows them, equal texts imply E, and the two end at the same position.
 pub record Tells (p q : List ℕ) (E : Type 0) : Type 0 where
   pub told : (a b : List ℕ) → p ++ a ≡ q ++ b → E × (a ≡ b)
 
--- whether the text begins with a byte of no word
+-- whether the text begins with a byte that is not a word byte
 abbrev pub punctuated : List ℕ → Bool
 punctuated [] = false
 punctuated (b ∷ bs) = not (is_word_byte b)
 
--- They do so where a byte of no word stands behind each, as numbers do.
+-- This holds if each is followed by a byte that is not a word byte, as for numbers.
 pub record TellsIfEnded (p q : List ℕ) (E : Type 0) : Type 0 where
   pub told : (a b : List ℕ) → punctuated a ≡ true → punctuated b ≡ true → p ++ a ≡ q ++ b → E × (a ≡ b)
 
--- They do so where `]` stands behind each, as items do.
+-- This holds if each is followed by `]`, as for list items.
 pub record TellsIfClosed (p q : List ℕ) (E : Type 0) : Type 0 where
   pub told : (a b : List ℕ) → p ++ (93 ∷ a) ≡ q ++ (93 ∷ b) → E × (a ≡ b)
 
@@ -48,7 +48,7 @@ module _ {p q : List ℕ} {E : Type 0} where
         (found.0, append_cancel_left (codes "]") a b found.1);
   }
 
-  -- the same text behind both
+  -- the same text appended to both
   pub then : Tells p q E → (s : List ℕ) → Tells (p ++ s) (q ++ s) E
   then t s = record {
     told = λ a b e.
@@ -56,18 +56,18 @@ module _ {p q : List ℕ} {E : Type 0} where
         (found.0, append_cancel_left s a b found.1);
   }
 
-  -- the same text before both
+  -- the same text prepended to both
   pub after : (s : List ℕ) → TellsIfClosed p q E → TellsIfClosed (s ++ p) (s ++ q) E
   after s t = record {
     told = λ a b e. t.told a b
         (append_cancel_left s (p ++ (93 ∷ a)) (q ++ (93 ∷ b)) (sym (append_assoc s p (93 ∷ a)) ∙ e ∙ append_assoc s q (93 ∷ b)));
   }
 
--- the same text
+-- the same text on both sides
 pub start : (s : List ℕ) → Tells s s (Unit {0})
 start s = record { told = λ a b e. (tt, append_cancel_left s a b e) }
 
--- other first bytes
+-- different first bytes
 pub apart : {c d : ℕ} {xs ys : List ℕ} {E : Type 0} → (c == d) ≡ false → Tells (c ∷ xs) (d ∷ ys) E
 apart {c} {d} differ = record { told = λ a b e. absurd (no_bytes e) }
   where
@@ -85,7 +85,7 @@ punctuated-append [] a h = let bad : ⊥ = cc in absurd bad
 punctuated-append (b ∷ bs) a h = h
 
 module _ {p q p' q' : List ℕ} {E F : Type 0} where
-  -- then a piece, and the same text behind it
+  -- then a piece, and the same text after it
   pub more : Tells p q E → TellsIfEnded p' q' F → (s : List ℕ) → punctuated s ≡ true →
       Tells ((p ++ p') ++ s) ((q ++ q') ++ s) (E × F)
   more first piece s h = record {
@@ -95,7 +95,7 @@ module _ {p q p' q' : List ℕ} {E F : Type 0} where
         ((one.0, two.0), append_cancel_left s a b two.1);
   }
 
-  -- then items, and the same text behind their `]`
+  -- then items, and the same text after their `]`
   pub more_items : Tells p q E → TellsIfClosed p' q' F → (s : List ℕ) →
       Tells ((p ++ p') ++ (93 ∷ s)) ((q ++ q') ++ (93 ∷ s)) (E × F)
   more_items first items s = record {
@@ -125,7 +125,7 @@ module _ {p q p' q' : List ℕ} {E F : Type 0} where
         ((one.0, rest.0), rest.1);
   }
 
--- whether there is a byte, and it isn't `]`
+-- whether there is a first byte and it is not `]`
 abbrev pub goes_on : List ℕ → Bool
 goes_on [] = false
 goes_on (b ∷ bs) = not (b == 93)
@@ -136,14 +136,14 @@ closes-not h e = let bad : true ≡ false = sym h ∙ ap goes_on e in cc
 pub none : TellsIfClosed [] [] (Unit {0})
 none = record { told = λ a b e. (tt, append_cancel_left (codes "]") a b e) }
 
--- items on one side alone
+-- items on one side only
 pub none_some : {r : List ℕ} {E : Type 0} → ((c : List ℕ) → goes_on (r ++ c) ≡ true) → TellsIfClosed [] r E
 none_some there = record { told = λ a b e. absurd (closes-not (there (93 ∷ b)) (sym e)) }
 
 pub some_none : {r : List ℕ} {E : Type 0} → ((c : List ℕ) → goes_on (r ++ c) ≡ true) → TellsIfClosed r [] E
 some_none there = record { told = λ a b e. absurd (closes-not (there (93 ∷ a)) e) }
 
--- further items on one side alone
+-- further items on one side only
 pub right_longer : {p q : List ℕ} {E F : Type 0} → Tells p q E → (r : List ℕ) → ((c : List ℕ) → goes_on (r ++ c) ≡ true) →
     TellsIfClosed p (q ++ r) F
 right_longer {p} {q} t r there = record {
@@ -158,7 +158,7 @@ left_longer {p} {q} t r there = record {
       absurd (closes-not (there (93 ∷ a)) (t.told (r ++ (93 ∷ a)) (93 ∷ b) (sym (append_assoc p r (93 ∷ a)) ∙ e)).1);
 }
 
--- lists of items with commas between
+-- lists of items, separated by commas
 module _ {X : Type 0} (f : X → List ℕ) (P : X → Type 0) (each : (x y : X) → P x → P y → TellsIfEnded (f x) (f y) (x ≡ y)) where
   abbrev further : List X → List ℕ
   further xs = flat_map (λ x. codes "," ++ f x) xs
@@ -214,7 +214,7 @@ words-tell xs ys wx wy = record { told = λ a b pa pb e. from xs ys wx wy a b pa
         let first : x ≡ y = head_is e in
         ((λ i. first i ∷ behind.0 i), behind.1)
 
--- words that can be read back
+-- words with an inverse parser
 pub read-tells : {X : Type 0} (f : X → List ℕ) (P : X → Type 0) (read : List ℕ → X) → ((x : X) → P x → is_word (f x) ≡ true) →
     ((x : X) → P x → read (f x) ≡ x) → (x y : X) → P x → P y → TellsIfEnded (f x) (f y) (x ≡ y)
 read-tells f P read letters back x y px py =

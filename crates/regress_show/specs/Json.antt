@@ -1,4 +1,4 @@
--- A tree as JSON (RFC 8259): an object for each node, whose `kind` and members are named as in `Node`.
+-- A tree as JSON (RFC 8259): one object for each node, whose `kind` and members are named as in `Node`.
 use Rattle.std.specs.Prelude.{ℕ, ◌+◌, Bool, true, false, List, [], ◌∷◌, ◌++◌, codes, Option, Some, None, if◌then◌else◌, nat_le, ◌==◌, ◌||◌, ◌&&◌}
 use Rattle.std.specs.List.{join_by, slice_get}
 use Rattle.std.specs.Fmt.{decimal}
@@ -39,7 +39,8 @@ abbrev pub is_word : List ℕ → Bool
 is_word [] = true
 is_word (b ∷ bs) = is_word_byte b && is_word bs
 
--- A name as it stands, as each name of a pattern can. Any other one as its bytes: `null` where there is none.
+-- a name: a string if each of its bytes is a word byte, as for every name of a pattern, else a list of its bytes;
+-- `null` if there is none
 abbrev pub name : Option (List ℕ) → List ℕ
 name None = codes "null"
 name (Some bytes) = if is_word bytes then codes "\"" ++ bytes ++ codes "\"" else numbers bytes
@@ -47,7 +48,7 @@ name (Some bytes) = if is_word bytes then codes "\"" ++ bytes ++ codes "\"" else
 abbrev pub node_of_bytes : List ℕ → List ℕ → List ℕ
 node_of_bytes kind bytes = codes "{\"kind\":\"" ++ kind ++ codes "\",\"bytes\":" ++ numbers bytes
 
--- the members of a node that holds no node
+-- the object of a leaf, without its end
 abbrev pub leaf_json : Leaf → List ℕ
 leaf_json empty = codes "{\"kind\":\"Empty\""
 leaf_json goal = codes "{\"kind\":\"Goal\""
@@ -66,7 +67,7 @@ leaf_json (back_ref group icase) = codes "{\"kind\":\"BackRef\",\"group\":" ++ d
 leaf_json (string_set strings icase) =
     codes "{\"kind\":\"StringSet\",\"alternatives\":[" ++ join_by numbers (codes ",") strings ++ codes "],\"icase\":" ++ truth icase
 
--- what stands in front of the node inside
+-- the text before the node inside
 abbrev pub front : Wrapper → List ℕ
 front (capture_group id n) = codes "{\"kind\":\"CaptureGroup\",\"id\":" ++ decimal id ++ codes ",\"name\":" ++ name n ++ codes ",\"contents\":"
 front (loop q start end) =
@@ -76,26 +77,26 @@ front (lookaround negate backwards start end) = codes "{\"kind\":\"LookaroundAss
     ++ codes ",\"backwards\":" ++ truth backwards ++ codes ",\"start_group\":" ++ decimal start
     ++ codes ",\"end_group\":" ++ decimal end ++ codes ",\"contents\":"
 
--- What stands in front of the nodes inside: all members, where there are none.
+-- the text before the nodes inside; all members, if there are none
 abbrev pub opening : Tree → List ℕ
 opening (leaf l) = leaf_json l
 opening (cat parts) = codes "{\"kind\":\"Cat\",\"parts\":["
 opening (alt left right) = codes "{\"kind\":\"Alt\",\"alternatives\":["
 opening (wrapped w body) = front w
 
--- what stands before a part
+-- the text before a part
 abbrev pub comma : Bool → List ℕ
 comma first = if first then [] else codes ","
 
--- Objects whose nodes are numbered in postorder: what the mark of its number says stands at the end of each.
+-- Objects whose nodes are numbered in postorder. The mark of a node's number is written at the end of its object.
 module _ (mark : ℕ → List ℕ) where
   abbrev pub ending : ℕ → List ℕ
   ending number = mark number ++ codes "}"
 
   -- `at` is the number of the first node
   abbrev mutual
-    -- An `Alt` whose right side is another one is one object with the alternatives of both, and the number of the right one is
-    -- passed over.
+    -- An `Alt` whose right side is another `Alt` is one object with the alternatives of both; the number of the right
+    -- one is skipped.
     pub node_json : (at : ℕ) → Tree → List ℕ
     node_json at (leaf l) = opening (leaf l) ++ ending at
     node_json at (cat parts) = opening (cat parts) ++ row_json at true parts ++ (codes "]" ++ ending (at + nodes_in_row parts))
@@ -104,14 +105,14 @@ module _ (mark : ℕ → List ℕ) where
         ++ (codes "]" ++ ending (at + (nodes left + nodes right)))
     node_json at (wrapped w body) = opening (wrapped w body) ++ node_json at body ++ ending (at + nodes body)
 
-    -- the alternatives behind the first one
+    -- the alternatives after the first one
     pub further_json : (at : ℕ) → Tree → List ℕ
     further_json at (leaf l) = codes "," ++ (opening (leaf l) ++ ending at)
     further_json at (cat parts) = codes "," ++ (opening (cat parts) ++ row_json at true parts ++ (codes "]" ++ ending (at + nodes_in_row parts)))
     further_json at (alt left right) = codes "," ++ (node_json at left ++ further_json (at + nodes left) right)
     further_json at (wrapped w body) = codes "," ++ (opening (wrapped w body) ++ node_json at body ++ ending (at + nodes body))
 
-    -- parts with commas between, where the row begins with the first part or goes on
+    -- parts, separated by commas; the flag is true for the first part of a `Cat`
     pub row_json : (at : ℕ) → Bool → Trees → List ℕ
     row_json at first no_trees = []
     row_json at first (more_trees t ts) = comma first ++ (node_json at t ++ row_json (at + nodes t) false ts)
@@ -120,7 +121,7 @@ abbrev pub flags_json : Flags → List ℕ
 flags_json f = codes "{\"icase\":" ++ truth f.icase ++ codes ",\"multiline\":" ++ truth f.multiline ++ codes ",\"dot_all\":" ++ truth f.dot_all
     ++ codes ",\"unicode\":" ++ truth f.unicode ++ codes ",\"unicode_sets\":" ++ truth f.unicode_sets ++ codes "}"
 
--- where a node stands in its pattern, if that is told
+-- the span of a node, if it is known
 abbrev pub span_or_none : Option Span → List ℕ
 span_or_none None = []
 span_or_none (Some s) = codes ",\"span\":[" ++ decimal s.start ++ codes "," ++ decimal s.end ++ codes "]"
@@ -133,6 +134,6 @@ span_mark spans number = span_or_none (slice_get spans number)
 abbrev pub spanned_json_of : Flags → Tree → List Span → List ℕ
 spanned_json_of f t spans = codes "{\"flags\":" ++ flags_json f ++ codes ",\"node\":" ++ node_json (span_mark spans) 0 t ++ codes "}"
 
--- without spans
+-- a pattern without spans
 abbrev pub json_of : Flags → Tree → List ℕ
 json_of f t = spanned_json_of f t []

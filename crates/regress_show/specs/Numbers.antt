@@ -1,4 +1,4 @@
--- Trees whose numbers are of 64 bits at most, as those of each `Node` are.
+-- Trees whose numbers fit in 64 bits, as those of every `Node` do.
 use Rattle.std.specs.Prelude.{ℕ, ◌<◌, ◌^◌, List, IfSome, All}
 use Rattle.regress_base.specs.Intervals.{Bounds}
 use Rattle.regress_base.specs.declared.types.Quantifier.{Quantifier}

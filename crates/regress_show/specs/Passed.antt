@@ -1,8 +1,8 @@
--- What a writer passes over without an object. No public contract cites this.
+-- The nodes that have no object of their own in the JSON. No public contract cites this.
 use Rattle.std.specs.Prelude.{ℕ, ◌+◌}
 use Rattle.regress_tree.specs.Tree.{Tree, alt}
 
--- how many `Alt`s a right side is, with its own right side, and so on
+-- the number of `Alt`s on the right spine of a right side
 abbrev pub alternations : Tree → ℕ
 alternations (alt left right) = 1 + alternations right
 alternations other = 0

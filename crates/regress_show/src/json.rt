@@ -1,4 +1,4 @@
-//! The tree as JSON: an object for each node, with everything that the node has.
+//! Trees as JSON: one object for each node, with all of its fields.
 ghost use Rattle.std.specs.Prelude.{◌≡◌, ◌++◌, ℕ, List, OnOk, Some, true, codes, drop, flat_map, option_map, string_bytes, map};
 ghost use Rattle.std.specs.Box.{boxed_slice_items};
 ghost use Rattle.std.specs.List.{join_by};
@@ -22,10 +22,16 @@ use std::boxed::BoxedSlice;
 use std::fmt;
 use std::fmt::{Formatter, Write};
 
-/// A pattern that is displayed as JSON (RFC 8259), in one line without spaces: `{"flags":{..},"node":{..}}`. Each node is
-/// an object with its `kind` and its fields, named as in `Node`; `Cat` has its `parts`, and `Alt` its `alternatives`,
-/// where those of a right side that is an `Alt` stand in the same list. Characters and bytes are numbers, an interval is a
-/// pair, and a name is a text.
+/// A pattern that displays as JSON (RFC 8259), on one line without spaces: `{"flags":{..},"node":{..}}`.
+///
+/// Each node is an object with its `kind` and its fields, named as in `Node`. A `Cat` has `parts`, in reverse order
+/// inside a lookbehind. An `Alt` has `alternatives`; those of a right side that is an `Alt` are in the same list. Code
+/// points and bytes are numbers, an interval is a pair `[first,last]`, both inclusive, and a name is a string.
+/// docs/tree.schema.json is the schema.
+///
+/// # Complexity
+/// Linear in the size of the tree. The depth of recursion is the nesting depth of the tree; right sides of alternatives
+/// take no stack.
 #[derive(Clone, Copy)]
 pub struct Json<'a>(pub &'a Regex);
 
@@ -41,13 +47,14 @@ impl fmt::Display for Json<'_> {
     }
 }
 
-/// `Json` with the last member `"span":[first,end]` in the object of each node that has a span. An `Alt` that is the right
-/// side of another one has no object, so that its span isn't shown: it begins where the first alternative in it does.
+/// [`Json`] with a last member `"span":[start,end]` in the object of each node that has a span: half-open, in
+/// code-point indices of the pattern. An `Alt` that is the right side of another one has no object, so its span is not
+/// shown: it starts where its first alternative does.
 #[derive(Clone, Copy)]
 pub struct SpannedJson<'a> {
     pub regex: &'a Regex,
-    /// A span for each node, in the order in which a walk in postorder comes to them, as `try_parse_with_spans` answers
-    /// them. Where there are fewer, the further nodes have none.
+    /// A span for each node in postorder, as `try_parse_with_spans` returns them. If there are fewer spans than nodes,
+    /// the remaining nodes have none.
     pub spans: &'a [Span],
 }
 
@@ -71,7 +78,7 @@ fn write_pattern<W: Write>(regex: &Regex, spans: &[Span], f: &mut Formatter<W>) 
     f.write_str("}")
 }
 
-/// Writes what stands in front of the tree.
+/// Writes the text before the tree.
 fn write_flags<W: Write>(flags: Flags, f: &mut Formatter<W>) -> fmt::Result
     ensures { WritesOnOk W.write_str_gives f.old result (codes "{\"flags\":" ++ text.flags_json flags ++ codes ",\"node\":") f.new }
 {
@@ -88,7 +95,7 @@ fn write_flags<W: Write>(flags: Flags, f: &mut Formatter<W>) -> fmt::Result
     )
 }
 
-/// Writes a node, with the marks of all nodes in it.
+/// Writes a node, with the marks of all nodes inside it.
 #[cycle(write_node)]
 fn write_node<W: Write>(node: &Node, marks: &mut Marks<'_>, f: &mut Formatter<W>) -> fmt::Result
     ensures written { (all : List Span) (at : ℕ) → iter_rest marks.old ≡ drop at all →
@@ -113,8 +120,8 @@ fn write_node<W: Write>(node: &Node, marks: &mut Marks<'_>, f: &mut Formatter<W>
     write_ending(marks, f)
 }
 
-/// Writes the alternatives of a right side, up to the end of the list, and passes the `Alt`s that it is. They take no stack:
-/// there may be as many levels as alternatives.
+/// Writes the alternatives of a right side, up to the end of the list, and skips the marks of its inner `Alt`s. It is a
+/// loop: there may be as many nested right sides as alternatives.
 #[cycle(write_node)]
 fn write_further<W: Write>(right: &Node, marks: &mut Marks<'_>, f: &mut Formatter<W>) -> fmt::Result
     ensures written { (all : List Span) (at : ℕ) → iter_rest marks.old ≡ drop at all →
@@ -133,7 +140,7 @@ fn write_further<W: Write>(right: &Node, marks: &mut Marks<'_>, f: &mut Formatte
     f.write_str("]")
 }
 
-/// Writes the parts of a row, up to the end of the list.
+/// Writes the parts of a `Cat`, up to the end of the list.
 #[cycle(write_node)]
 fn write_row<W: Write>(parts: &[Node], marks: &mut Marks<'_>, f: &mut Formatter<W>) -> fmt::Result
     ensures written { (all : List Span) (at : ℕ) → iter_rest marks.old ≡ drop at all →
@@ -149,14 +156,14 @@ fn write_row<W: Write>(parts: &[Node], marks: &mut Marks<'_>, f: &mut Formatter<
     f.write_str("]")
 }
 
-/// Writes what stands before a part.
+/// Writes the text before a part.
 fn write_comma<W: Write>(first: bool, f: &mut Formatter<W>) -> fmt::Result
     ensures { WritesOnOk W.write_str_gives f.old result (text.comma first) f.new }
 {
     if first { Ok(()) } else { f.write_str(",") }
 }
 
-/// Writes what stands in front of the nodes inside: all members, where there are none.
+/// Writes the text before the nodes inside; all members, if there are none.
 fn write_opening<W: Write>(node: &Node, f: &mut Formatter<W>) -> fmt::Result
     ensures { WritesOnOk W.write_str_gives f.old result (text.opening (tree node.now)) f.new }
 {
@@ -261,7 +268,8 @@ fn write_name<W: Write>(name: &Option<CaptureGroupName>, f: &mut Formatter<W>) -
     }
 }
 
-/// Whether a JSON text of these bytes needs no escape, and more: whether they may stand in a name of a pattern.
+/// Returns whether these bytes need no escape in a JSON string. The test is stricter than that: it holds for each name
+/// of a pattern.
 fn is_word(bytes: &[u8]) -> bool
     ensures { result ≡ text.is_word bytes.now }
 {
@@ -313,7 +321,7 @@ fn write_lookaround<W: Write>(
     )
 }
 
-/// Writes how often a body is matched, up to that body.
+/// Writes a quantifier, up to the loop's body.
 fn write_repeat<W: Write>(quant: &Quantifier, f: &mut Formatter<W>) -> fmt::Result
     ensures { WritesOnOk W.write_str_gives f.old result (codes ",\"quant\":" ++ text.quantifier quant.now ++ codes ",\"loopee\":") f.new }
 {
@@ -389,7 +397,7 @@ fn write_bytes<W: Write>(kind: &str, bytes: &[u8], f: &mut Formatter<W>) -> fmt:
     write_list(bytes, f)
 }
 
-/// Writes values in brackets, with commas between.
+/// Writes values in brackets, separated by commas.
 fn write_list<T: fmt::Display, W: Write>(values: &[T], f: &mut Formatter<W>) -> fmt::Result
     ensures { (shown : T → List ℕ) → ((x : T) → T.output x ≡ Some (shown x)) →
         WritesOnOk W.write_str_gives f.old result (codes "[" ++ join_by shown (codes ",") values.now ++ codes "]") f.new }

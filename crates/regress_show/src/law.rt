@@ -1,12 +1,14 @@
-//! What the JSON of a pattern tells.
+//! The JSON of a pattern determines the pattern.
 ghost use Rattle.std.specs.Prelude.{◌≡◌};
 ghost use Rattle.regress_base.specs.declared.types.Flags.{Flags};
 ghost use Rattle.regress_tree.specs.Tree.{Tree};
 ghost use Rattle.regress_show.specs.Json.{json_of};
 ghost use Rattle.regress_show.specs.Numbers.{NumbersFit};
 
-/// A law of the JSON: it tells the flags and the tree, so no two patterns have the same. Numbers in the trees are of 64
-/// bits at most, as those of each `Node` are. It does nothing; a function whose proof needs the law calls it.
+/// States that the JSON of a pattern determines its flags and its tree, so that no two patterns have the same JSON.
+///
+/// Numbers in the trees fit in 64 bits, as those of every `Node` do. The function does nothing at run time; call it
+/// where a proof needs the theorem.
 pub fn json_tells_the_pattern()
     ensures { (f g : Flags) (t u : Tree) → NumbersFit t → NumbersFit u →
         json_of f t ≡ json_of g u → (f ≡ g) × (t ≡ u) }

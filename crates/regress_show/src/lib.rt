@@ -1,4 +1,4 @@
-//! The tree of a pattern for tools and for eyes.
+//! The tree of a pattern as JSON.
 #![tactic(auto)]
 
 mod json;

@@ -1,4 +1,4 @@
-//! Where the nodes of a tree stand, told at the end of the object of each.
+//! The span of a node, written at the end of its object.
 ghost use Rattle.std.specs.Prelude.{◌≡◌, drop};
 ghost use Rattle.std.specs.Fmt.{WritesOnOk};
 ghost use Rattle.std.specs.Slice.Iter.{iter_rest};
@@ -12,10 +12,10 @@ use regress_tree::ir::Node;
 use std::fmt::{Formatter, Write};
 use std::{fmt, slice};
 
-/// The spans of the nodes whose objects haven't ended yet, in postorder. None are left where none are told.
+/// The spans of the nodes whose objects have not ended yet, in postorder. It is empty if no spans are given.
 pub(crate) type Marks<'a> = slice::Iter<'a, Span>;
 
-/// Ends the object of the next node.
+/// Ends the object of the next node, with its span, if it has one.
 pub(crate) fn write_ending<W: Write>(marks: &mut Marks<'_>, f: &mut Formatter<W>) -> fmt::Result
     ensures written { WritesOnOk W.write_str_gives f.old result (text.ending (text.span_mark (iter_rest marks.old)) 0) f.new }
     ensures passed { iter_rest marks.new ≡ drop 1 (iter_rest marks.old) }
@@ -26,7 +26,7 @@ pub(crate) fn write_ending<W: Write>(marks: &mut Marks<'_>, f: &mut Formatter<W>
     }
 }
 
-/// Passes over each `Alt` that a right side is or that is its right side, and so on: it has no object of its own.
+/// Skips the marks of the `Alt`s on the right spine of a right side: they have no objects of their own.
 pub(crate) fn pass_alternations(marks: &mut Marks<'_>, right: &Node)
     ensures { iter_rest marks.new ≡ drop (alternations (tree right.now)) (iter_rest marks.old) }
 {

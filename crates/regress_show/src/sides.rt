@@ -1,4 +1,4 @@
-//! The sides of alternatives.
+//! The sides of alternations.
 ghost use Rattle.std.specs.Prelude.{◌≡◌, ◌<◌, false, IfSome, MatchOption};
 ghost use Rattle.regress_tree.specs.Tree.{tree, alt};
 ghost use Rattle.regress_tree.specs.Spine.{is_alt};
@@ -6,7 +6,7 @@ ghost use Rattle.regress_tree.specs.declared.ir.node.Node.{size-Node};
 
 use regress_tree::ir::Node;
 
-/// Both sides of an `Alt`.
+/// Returns both sides of an `Alt`, or `None` for another node.
 pub(crate) fn sides(node: &Node) -> Option<(&Node, &Node)>
     ensures sides { MatchOption result (is_alt (tree node.now) ≡ false)
         (λ sides. tree node.now ≡ alt (tree sides.0.now) (tree sides.1.now)) }

@@ -1,4 +1,4 @@
--- What the loop over alternatives has read so far, and what is left of the derivation.
+-- The loop over alternatives: the spans so far, and the derivation of the remaining alternatives.
 use Rattle.std.proofs.Common.{◌≡◌, ℕ, ◌≤◌, true, false, List, [], ◌∷◌, ◌++◌, drop, length, Ok, Err, refl, sym, ap, ◌∙◌, subst, arith}
 use Rattle.std.proofs.lemmas.List.{append_assoc, append-nil}
 use Rattle.std.proofs.lemmas.Bool.{false≢true}
@@ -16,7 +16,7 @@ use Rattle.regress_spans.specs.Reading.{alternations, Adds, ReadsPattern, ReadsA
 use Rattle.regress_spans.proofs.ListLemmas.{alternations-push, alternative_joined}
 
 module _ (whole : ℕ) (ctx : Context) (d : Direction) where
-  -- Alternatives that are still to read, with these spans.
+  -- The remaining alternatives have these spans.
   pub record PatternLeft (rest t : Source) (left : List Span) : Type 0 where
     pub pattern : Pattern
     pub derived : IsPattern ctx pattern t rest
@@ -24,7 +24,7 @@ module _ (whole : ℕ) (ctx : Context) (d : Direction) where
     pub spans : left ≡ spans_of_pattern whole ctx d pattern t rest derived
 
   module _ (t0 : Source) (before : List Span) where
-    -- from these places on, alternatives were read that others follow
+    -- The loop's invariant: `starts` has the starts of the alternatives so far, each of which another one follows.
     pub AlternativesSoFar : (t : Source) (now : List Span) (starts : List ℕ) → Type 0
     AlternativesSoFar t now starts =
         (p : Pattern) (rest : Source) (h : IsPattern ctx p t0 rest) → levels p ≤ max_nesting_depth →
@@ -39,7 +39,7 @@ module _ (whole : ℕ) (ctx : Context) (d : Direction) where
       ap (λ (ss : List Span). before ++ ss) (sym (append-nil (spans_of_pattern whole ctx d p t0 rest h))),
     )
 
-    -- an alternative and the bar behind it
+    -- The invariant holds after an alternative and its `|`.
     pub alternatives-step : (x : Unit {0}) (t : Source) (now : List Span) (starts : List ℕ) (mid new : Source) (now' : List Span) (start : ℕ) →
         AlternativesSoFar t now starts → ReadsAlternative whole ctx d t now mid now' (Ok x) → is_at bar mid ≡ true → new ≡ drop 1 mid →
         start ≡ length t → AlternativesSoFar new now' (starts ++ start ∷ [])
@@ -74,7 +74,7 @@ module _ (whole : ℕ) (ctx : Context) (d : Direction) where
                   ∙ ap (λ n. alternations whole (starts ++ n ∷ []) rest) (sym is)),
             )
 
-    -- the last alternative, and the spans of all
+    -- The last alternative completes the spans of the pattern.
     pub alternatives-end : (x y : Unit {0}) (t : Source) (now : List Span) (starts : List ℕ) (mid new : Source) (now' now'' : List Span) →
         AlternativesSoFar t now starts → ReadsAlternative whole ctx d t now mid now' (Ok x) → is_at bar mid ≡ false → new ≡ mid →
         now'' ≡ now' ++ alternations whole starts new → ReadsPattern whole ctx d t0 before new now'' (Ok y)
@@ -104,7 +104,7 @@ module _ (whole : ℕ) (ctx : Context) (d : Direction) where
                   ∙ sym so_far;
             }
 
-    -- a fault that comes with no pattern
+    -- An alternative fails only if an allocation fails, and then so does the pattern.
     pub alternatives-fail : (fault : Fault) (t : Source) (now : List Span) (starts : List ℕ) (mid new : Source) (now' now'' : List Span) →
         AlternativesSoFar t now starts → ReadsAlternative whole ctx d t now mid now' (Err fault) → ReadsPattern whole ctx d t0 before new now'' (Err fault)
     unfolding AlternativesSoFar

@@ -1,4 +1,4 @@
--- An item and its quantifier, by what the calls have read of them.
+-- The spans of an item and of its quantifier, by what the calls have parsed.
 use Rattle.std.proofs.Common.{◌≡◌, ℕ, ◌<◌, ◌≤◌, Bool, true, false, ◌==◌, List, [], ◌∷◌, ◌++◌, drop, length, replicate, Option, Some, None, Result, Ok, Err, refl, sym, ap, ◌∙◌, subst, arith}
 use Rattle.std.proofs.lemmas.List.{append_assoc}
 use Rattle.std.proofs.lemmas.Bool.{false≢true, cond-true, cond-false}
@@ -25,7 +25,7 @@ use Rattle.regress_spans.specs.Spans.{span_of_times, span_of_group, between, spa
 use Rattle.regress_spans.specs.Reading.{IsFlat, Adds, ReadsPattern, ReadsTerm, ReadsItem}
 use Rattle.regress_spans.proofs.TreeLemmas.{atom-flat}
 
--- which group is opened, if one is
+-- the group that the start of an item opens; a placeholder for other items
 opened : Head → Group
 opened (single a) = grouping
 opened (opens kind) = kind
@@ -54,7 +54,7 @@ behind-is : {A : Type 0} (x y : A × Source) → Some x ≡ Some y → x.1 ≡ y
 behind-is {A} x y e = ap (λ (z : A × Source). z.1) (same_Some x y e)
 
 module _ (ctx : Context) where
-  -- what a parenthesis opens, and any other item
+  -- The start of an item is a group if the source starts with `(`, and otherwise a single item.
   pub opening_head : (t : Source) → is_at opening t ≡ true → head_at ctx t ≡ group_at ctx.setting.table (drop 1 t)
   unfolding head_at
   opening_head [] e = cc
@@ -65,7 +65,7 @@ module _ (ctx : Context) where
   atom_head [] none = refl
   atom_head (c ∷ t) none = cond-false (c == opening) _ _ none
 
-  -- no head, no item
+  -- Without a start there is no item.
   no_head : (x : Item) (t rest : Source) → IsItem ctx x t rest → head_at ctx t ≡ None → ⊥
   no_head (atom a) t rest h none = none-some (single a, rest) (sym none ∙ h)
   no_head (group kind p) t rest h none = none-some (opens kind, h.0) (sym none ∙ h.1)
@@ -86,9 +86,9 @@ module _ (ctx : Context) where
       no_group-fails fault new now none x rest h within =
           on_refused_then fault (λ e. no_head x t rest h (opening_head t at ∙ e)) none
 
-      -- the group that is derived is the one that was opened
+      -- The derived group is the one that was parsed.
       module _ (kind : Group) (there : Source) (found : group_at ctx.setting.table (drop 1 t) ≡ Some (opens kind, there)) where
-        -- so what holds of each group that is opened so holds of the item
+        -- What holds of each group of this kind holds of the item.
         each_group : (P : (x : Item) (rest : Source) → IsItem ctx x t rest → Type 0) →
             ((p : Pattern) (rest : Source) (head : head_at ctx t ≡ Some (opens kind, there)) (body : IsPattern (context_inside kind ctx) p there
             (closing ∷ rest)) →
@@ -146,7 +146,7 @@ module _ (ctx : Context) where
                   },
                 ))
 
-    -- ---- items that hold no pattern
+    -- ---- items without a body
 
     module _ (none : is_at opening t ≡ false) where
       pub atom-fails : (fault : Fault) (new : Source) (now : List Span) (allowed : Bool) →
@@ -221,7 +221,7 @@ module _ (ctx : Context) where
                 ∙ ap (λ r. before ++ (spans_of_item whole ctx d x t behind h ++ span_of_times r (between whole t rest))) same;
           }
 
--- the same where whole, context and direction are told otherwise
+-- The same for an equal length, context and direction.
 pub reads_inside : (whole other : ℕ) (ctx inner : Context) (d e : Direction) (t : Source) (before : List Span) (new : Source) (now : List Span)
     (result : Result (Unit {0}) Fault) → other ≡ whole → inner ≡ ctx → e ≡ d → ReadsPattern other inner e t before new now result →
     ReadsPattern whole ctx d t before new now result

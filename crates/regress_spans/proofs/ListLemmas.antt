@@ -1,4 +1,4 @@
--- Lists of spans that are added the last one first.
+-- Lists of spans that are appended in reverse order.
 use Rattle.std.proofs.Common.{◌≡◌, ℕ, ◌-◌, ◌==◌, Bool, true, false, not, cond, List, [], ◌∷◌, ◌++◌, length, Option, Some, None, is_some, Vec, refl, sym, ap, ◌∙◌}
 use Rattle.std.specs.declared.alloc.Global.{Global}
 use Rattle.std.proofs.lemmas.List.{append_assoc, append-nil}
@@ -20,14 +20,14 @@ turned-push [] part = sym (append-nil part.items)
 turned-push (p ∷ parts) part =
     ap (λ (ss : List Span). ss ++ p.items) (turned-push parts part) ∙ append_assoc part.items (turned parts) p.items
 
--- an alternative, the alternatives behind it and the span of all of them
+-- An alternative, the alternatives after it and the span of all of them, regrouped.
 pub alternative_joined : (now first others : List Span) (all : Span) (around : List Span) →
     now ++ (first ++ others ++ all ∷ [] ++ around) ≡ (now ++ first) ++ (others ++ (all ∷ [] ++ around))
 alternative_joined now first others all around =
     ap (λ (ss : List Span). now ++ ss) (append_assoc (first ++ others) (all ∷ []) around ∙ append_assoc first others (all ∷ [] ++ around))
     ∙ sym (append_assoc now first (others ++ (all ∷ [] ++ around)))
 
--- one more for an alternative of none or several terms, for an item with a quantifier
+-- The conditional span of an alternative is the one of the definition, and so is that of a quantifier.
 pub row_if : (n : ℕ) (s : Span) → cond (not (n == 1)) (s ∷ []) [] ≡ span_of_row n s
 row_if n s = by (n == 1)
   where

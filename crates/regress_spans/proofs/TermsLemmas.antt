@@ -1,4 +1,4 @@
--- What the loops over terms have read so far, and what is left of the derivation.
+-- The loops over terms: the spans so far, and the derivation of the remaining terms.
 use Rattle.std.proofs.Common.{◌≡◌, ℕ, ◌+◌, ◌≤◌, true, false, List, [], ◌∷◌, ◌++◌, length, Some, Vec, Result, Ok, Err, refl, sym, ap, ◌∙◌, subst, arith}
 use Rattle.std.specs.declared.alloc.Global.{Global}
 use Rattle.std.proofs.lemmas.List.{append_assoc, append-nil, length_push}
@@ -17,7 +17,7 @@ use Rattle.regress_spans.specs.Spans.{in_order, how_many, span_of_times, span_of
 use Rattle.regress_spans.specs.Reading.{turned, Does, ReadsAlternative, ReadsTerms, ReadsTerm}
 use Rattle.regress_spans.proofs.ListLemmas.{turned-push}
 
--- no item begins where the alternative ends
+-- No item begins where the alternative ends.
 none_at_end : (ctx : Context) (t : Source) (x : Head × Source) → head_at ctx t ≡ Some x → ends_alternative t ≡ true → ⊥
 none_at_end ctx t x front ends = none-some x (sym (no_head_at_end ctx t ends) ∙ front)
 
@@ -25,13 +25,13 @@ no_item : (ctx : Context) (x : Item) (t rest : Source) → IsItem ctx x t rest �
 no_item ctx (atom a) t rest h = none_at_end ctx t (single a, rest) h
 no_item ctx (group kind p) t rest h = none_at_end ctx t (opens kind, h.0) h.1
 
--- what a call has done leads to more
+-- A weaker property holds of a call that does what a stronger one states.
 does_then : {X : Type 0} {P Q : X → Type 0} (result : Result X Fault) → ((x : X) → P x → Q x) → Does result P → Does result Q
 does_then (Ok x) f h = f x h
 does_then (Err fault) f h = h
 
 module _ (whole : ℕ) (ctx : Context) where
-  -- Terms that are still to read, with these spans, behind the first ones of so many.
+  -- The remaining terms of the alternative, after the first `count` of `many`, have these spans.
   pub record TermsLeft (d : Direction) (rest : Source) (many : ℕ) (t : Source) (left : List Span) (count : ℕ) : Type 0 where
     pub terms : Terms
     pub derived : AreTerms ctx terms t rest
@@ -39,7 +39,7 @@ module _ (whole : ℕ) (ctx : Context) where
     pub spans : left ≡ spans_of_terms whole ctx d terms t rest derived
     pub all : many ≡ count + how_many terms
 
-  -- The first of them was read, which has added its spans to a list.
+  -- The next term was parsed, and its spans were appended to the list.
   pub record TermRead (d : Direction) (rest : Source) (many : ℕ) (left : List Span) (count : ℕ) (before : List Span) (new : Source) (now : List Span)
       : Type 0 where
     pub part : List Span
@@ -91,7 +91,7 @@ module _ (whole : ℕ) (ctx : Context) where
         TermsLeft d rest (how_many ts) t0 (spans_of_terms whole ctx d ts t0 rest h) 0
     terms-start d ts rest h within = record { terms = ts; derived = h; within = within; spans = refl; all = omega arith }
 
-    -- ---- forwards: the spans go to one list
+    -- ---- forwards: all spans are in one list
 
     pub ForwardsSoFar : (before : List Span) (t : Source) (now : List Span) (count : ℕ) → Type 0
     ForwardsSoFar before t now count =
@@ -140,7 +140,7 @@ module _ (whole : ℕ) (ctx : Context) where
           },
         )
 
-    -- ---- backwards: those of each term have a list of their own
+    -- ---- backwards: the spans of each term are in a list of their own
 
     pub BackwardsSoFar : (t : Source) (parts : List (Vec Span Global)) → Type 0
     BackwardsSoFar t parts =
@@ -195,7 +195,7 @@ module _ (whole : ℕ) (ctx : Context) where
           },
         )
 
-    -- ---- an alternative: behind its terms its own node
+    -- ---- an alternative: its terms, then its own node
 
     pub alternative-reads : (d : Direction) (before : List Span) (new : Source) (now now' : List Span) (count : ℕ) →
         ReadsTerms whole ctx d t0 before new now (Ok count) → now' ≡ now ++ span_of_row count (between whole t0 new) →

@@ -1,4 +1,4 @@
--- The tree of an item that holds no pattern is flat, and counting its nodes.
+-- The tree of an item without a body is flat; its number of nodes.
 use Rattle.std.proofs.Common.{◌≡◌, ℕ, suc, ◌+◌, Bool, true, false, cond, List, [], ◌∷◌, ◌++◌, replicate, Option, sym, ap, ◌∙◌, arith}
 use Rattle.std.proofs.lemmas.List.{append_assoc}
 use Rattle.regress_base.specs.Table.{Table}
@@ -41,7 +41,7 @@ atom-flat table names (class_set flags negated value) = class-flat _ _ value.has
 atom-flat table names (string_property flags written) = tt
 atom-flat table names (back_reference flags to) = references-flat flags.icase (referred names to)
 
--- the left side and the `Alt` itself
+-- The nodes of a flat `Alt`: itself, its left side, and the nodes of its right side.
 pub flat-alt : (left right : Tree) (now : List Span) (s : Span) → IsFlat (alt left right) →
     IsFlat right × (now ++ replicate (nodes (alt left right)) s ≡ now ++ s ∷ [] ++ s ∷ [] ++ replicate (nodes right) s)
 flat-alt (leaf l) right now s flat =

@@ -1,4 +1,4 @@
--- The spans of a whole pattern, and that a second reading refuses nothing.
+-- The spans of a whole pattern. A second parse never rejects it.
 use Rattle.std.proofs.Common.{◌≡◌, ℕ, ◌-◌, List, [], ◌∷◌, ◌++◌, length, Ok, Err, ap, ◌∙◌, subst}
 use Rattle.std.proofs.lemmas.List.{append_assoc}
 use Rattle.regress_tree.specs.Reading.{forwards}
@@ -15,7 +15,7 @@ use Rattle.regress_spans.specs.declared.span.Span.{Span}
 use Rattle.regress_spans.specs.Spans.{spans_of_pattern, spans_of}
 use Rattle.regress_spans.specs.Reading.{ReadsPattern}
 
--- a fault of a kind that no accepted source has
+-- An accepted source has no error of any kind that its contract allows.
 pub kind_refuses : {Q : FaultKind → Type 0} {P : Type 0} (fault : Fault) → ((kind : FaultKind) → Q kind → P) → OnKind fault Q → OnRefused fault P
 kind_refuses (Refused r) f h = f r.kind h
 kind_refuses (Memory e) f h = tt

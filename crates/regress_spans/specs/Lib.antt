@@ -1,6 +1,6 @@
 pub mod Spans
 pub mod Reading
--- what the public contracts cite of the crates below, passed on, so that a caller names one library
+-- re-exports what the public contracts cite from other crates, so that a caller names one library
 pub use Rattle.regress_syntax.specs.SettingOf
 pub use Rattle.regress_parse.specs.Accepted
 pub use Rattle.regress_parse.specs.Fault

@@ -1,4 +1,4 @@
--- What the calls of the second reading answer. No public contract cites this.
+-- What the functions of the second parse do. No public contract cites this.
 use Rattle.std.specs.Prelude.{◌≡◌, ℕ, ◌-◌, ◌≤◌, Bool, List, [], ◌∷◌, ◌++◌, length, Option, Some, Result, Ok, Err, Vec}
 use Rattle.std.specs.declared.alloc.Global.{Global}
 use Rattle.regress_base.specs.Limits.{max_nesting_depth}
@@ -16,42 +16,44 @@ use Rattle.regress_spans.specs.declared.around.Around.{Around}
 use Rattle.regress_spans.specs.declared.span.Span.{Span}
 use Rattle.regress_spans.specs.Spans.{span_of_times, span_of_row, how_many, between, spans_of_pattern, spans_of_terms, spans_of_item}
 
--- what the rows look at there
+-- the context of the productions
 abbrev pub context_in : Around → Context
 context_in around = context_of around.scope
 
--- the direction in which a part is matched that lies inside there
+-- the direction in which the part is matched
 abbrev pub direction_of : Around → Direction
 direction_of around = direction_if around.backwards
 
--- one node, or alternatives that hold no further node
+-- one node, or a chain of `Alt` nodes whose alternatives are leaves
 abbrev pub IsFlat : Tree → Type 0
 IsFlat (leaf l) = Unit {0}
 IsFlat (alt (leaf l) right) = IsFlat right
 IsFlat other = ⊥
 
--- the spans of parts, those of the last part first
+-- the spans of parts in reverse order
 abbrev pub turned : List (Vec Span Global) → List Span
 turned [] = []
 turned (part ∷ parts) = turned parts ++ part.items
 
--- a span for each of these, which say how many code points are left where it begins, up to `rest`: the last one first
+-- the spans of nested `Alt` nodes that end at `rest`, innermost first; each is given by the number of code points that
+-- remain from its start on
 abbrev pub alternations : (whole : ℕ) → List ℕ → (rest : Source) → List Span
 alternations whole [] rest = []
 alternations whole (left ∷ lefts) rest =
     alternations whole lefts rest ++ record { start = whole - left; end = whole - length rest } ∷ []
 
--- The call has done this, or memory was wanting: it refuses nothing.
+-- The call succeeds with this property, or an allocation fails. It never rejects the pattern.
 abbrev pub Does : {X : Type 0} → Result X Fault → (X → Type 0) → Type 0
 Does (Ok x) P = P x
 Does (Err fault) P = OnRefused fault ⊥
 
--- it has read up to there, and added these spans
+-- The cursor is after the part, and the part's spans are appended.
 pub record Adds (before : List Span) (new : Source) (now : List Span) (behind : Source) (part : List Span) : Type 0 where
   pub rest : new ≡ behind
   pub spans : now ≡ before ++ part
 
--- What a call does at whose front a pattern within the limit of levels is derived, and so on.
+-- What a call does if the grammar derives a pattern at its position, within the limit of the nesting depth; then the
+-- same for the other symbols of the grammar.
 module _ (whole : ℕ) (ctx : Context) where
   abbrev pub ReadsPattern : Direction → Source → List Span → Source → List Span → Result (Unit {0}) Fault → Type 0
   ReadsPattern d t before new now result =
@@ -63,7 +65,7 @@ module _ (whole : ℕ) (ctx : Context) where
       (ts : Terms) (rest : Source) (h : AreTerms ctx ts t rest) → levels_of_terms ts ≤ max_nesting_depth →
       Does result (λ _. Adds before new now rest (spans_of_terms whole ctx d ts t rest h ++ span_of_row (how_many ts) (between whole t rest)))
 
-  -- and it answers how many there are
+  -- also returns the number of terms
   abbrev pub ReadsTerms : Direction → Source → List Span → Source → List Span → Result ℕ Fault → Type 0
   ReadsTerms d t before new now result =
       (ts : Terms) (rest : Source) (h : AreTerms ctx ts t rest) → levels_of_terms ts ≤ max_nesting_depth →
@@ -75,7 +77,7 @@ module _ (whole : ℕ) (ctx : Context) where
       times_at ctx (allows ctx.setting.flags.unicode (head_of_item x)) mid ≡ Some (q, rest) → levels_of_item x ≤ max_nesting_depth →
       Does result (λ _. Adds before new now rest (spans_of_item whole ctx d x t mid h ++ span_of_times q (between whole t rest)))
 
-  -- and it answers whether a quantifier may stand behind it
+  -- also returns whether a quantifier may follow the item
   abbrev pub ReadsItem : Direction → Source → List Span → Source → List Span → Result Bool Fault → Type 0
   ReadsItem d t before new now result =
       (x : Item) (rest : Source) (h : IsItem ctx x t rest) → levels_of_item x ≤ max_nesting_depth →

@@ -1,5 +1,5 @@
--- Where the nodes of a pattern's tree stand in its source: a span for each, in the order in which a walk in postorder comes to
--- them, along the grammar by which the source stands for the pattern.
+-- The position of each node of a tree in its pattern: one span for each node, in postorder, defined along the grammar's
+-- derivation of the pattern.
 use Rattle.std.specs.Prelude.{ℕ, ◌+◌, ◌-◌, ◌≤◌, Bool, true, false, List, [], ◌∷◌, ◌++◌, length, replicate, Option, Some, None, if◌then◌else◌, ◌==◌}
 use Rattle.regress_base.specs.declared.types.Quantifier.{Quantifier}
 use Rattle.regress_tree.specs.Reading.{Direction, forwards, backwards}
@@ -14,24 +14,24 @@ use Rattle.regress_parse.specs.Accepted.{own_context, IsDerived}
 use Rattle.regress_parse.specs.TreeOf.{tree_of_atom}
 use Rattle.regress_spans.specs.declared.span.Span.{Span}
 
--- it stands inside the other, and does not end before it begins
+-- the span is inside the other one, and its start is at most its end
 pub record IsWithin (outer s : Span) : Type 0 where
   pub start : outer.start ≤ s.start
   pub ordered : s.start ≤ s.end
   pub end : s.end ≤ outer.end
 
--- of two parts: the one stands inside the other, or they share no code point
+-- one span is inside the other, or they share no code point
 pub data IsInsideOrApart (s outer : Span) : Type 0 where
   lies_inside : IsWithin outer s → IsInsideOrApart s outer
   ends_before : s.end ≤ outer.start → IsInsideOrApart s outer
   begins_behind : outer.end ≤ s.start → IsInsideOrApart s outer
 
--- a loop around an item, if a quantifier stands behind it
+-- the span of the loop around an item, if a quantifier follows it
 abbrev pub span_of_times : Option Quantifier → Span → List Span
 span_of_times None s = []
 span_of_times (Some q) s = s ∷ []
 
--- whether a group is a node of its own
+-- A group has a node of its own.
 abbrev pub has_node : Group → Bool
 has_node grouping = false
 has_node (modified change) = false
@@ -45,22 +45,22 @@ abbrev pub how_many : Terms → ℕ
 how_many no_terms = 0
 how_many (more_terms x q xs) = 1 + how_many xs
 
--- one term alone is a node already; of none there is an `Empty`, of several the `Cat` around them
+-- A single term needs no further node. For no terms there is an `Empty`, for several a `Cat` around them.
 abbrev pub span_of_row : ℕ → Span → List Span
 span_of_row terms s = if terms == 1 then [] else s ∷ []
 
--- The first one's and then the others', or the other way round where matching runs backwards: so stand the nodes.
+-- The spans of the first part and of the others, in the order of the tree: reversed where matching runs backwards.
 abbrev pub in_order : Direction → List Span → List Span → List Span
 in_order forwards first others = first ++ others
 in_order backwards first others = others ++ first
 
--- the whole source has so many code points
+-- the length of the whole source, in code points
 module _ (whole : ℕ) where
-  -- from where this is left to where only `rest` is
+  -- the span from the position where `t` remains to the one where `rest` remains
   abbrev pub between : Source → Source → Span
   between t rest = record { start = whole - length t; end = whole - length rest }
 
-  -- what stands between `t` and `rest`, as the grammar derives it there
+  -- the spans of what the grammar derives between `t` and `rest`
   abbrev mutual
     pub spans_of_pattern : (ctx : Context) → Direction → (p : Pattern) (t rest : Source) → IsPattern ctx p t rest → List Span
     spans_of_pattern ctx d (one ts) t rest (terms, last) =
@@ -70,20 +70,21 @@ module _ (whole : ℕ) where
         ++ spans_of_pattern ctx d p mid rest others
         ++ between t rest ∷ []
 
-    -- an item, and with its quantifier
+    -- each item with its quantifier
     pub spans_of_terms : (ctx : Context) → Direction → (ts : Terms) (t rest : Source) → AreTerms ctx ts t rest → List Span
     spans_of_terms ctx d no_terms t rest ends = []
     spans_of_terms ctx d (more_terms x q xs) t rest (mid, behind, item, times, others) =
         in_order d (spans_of_item ctx d x t mid item ++ span_of_times q (between t behind)) (spans_of_terms ctx d xs behind rest others)
 
-    -- each node of an item that holds no pattern has all of it
+    -- Each node of an item without a body has the span of the item.
     pub spans_of_item : (ctx : Context) → Direction → (x : Item) (t rest : Source) → IsItem ctx x t rest → List Span
     spans_of_item ctx d (atom a) t rest head = replicate (nodes (tree_of_atom ctx.setting.table ctx.names a)) (between t rest)
     spans_of_item ctx d (group kind p) t rest (mid, head, body) =
         spans_of_pattern (context_inside kind ctx) (direction_of_group kind d) p mid (closing ∷ rest) body
         ++ span_of_group kind (between t rest)
 
--- of the tree of a whole pattern: behind those of the pattern the final `Goal`, at the end, and the root, which has all
+-- The spans of the tree of a whole pattern. After those of its nodes come the final `Goal`, empty and at the end, and
+-- the root, which has all of the pattern.
 abbrev pub spans_of : (setting : Setting) (source : Source) (p : Pattern) → IsDerived setting source p → List Span
 spans_of setting source p derived =
     spans_of_pattern (length source) (own_context setting p) forwards p source [] derived

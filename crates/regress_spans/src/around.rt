@@ -1,16 +1,16 @@
-//! What lies around a part of the pattern.
+//! The context of a part of the pattern.
 
 use crate::span::Span;
 use regress_lexical::cursor::Cursor;
 use regress_syntax::{Group, Scope};
 
-/// What lies around a part of the pattern.
+/// The context of a part of the pattern.
 #[derive(Clone, Copy)]
 pub(crate) struct Around<'a> {
     pub(crate) scope: Scope<'a>,
-    /// Whether the part is matched backwards: parts in a row stand turned in the tree.
+    /// Whether the part is matched backwards: the parts of a `Cat` are reversed in the tree then.
     pub(crate) backwards: bool,
-    /// How many code points the whole pattern has.
+    /// The length of the whole pattern, in code points.
     pub(crate) whole: usize,
 }
 
@@ -22,7 +22,7 @@ impl<'a> Around<'a> {
     ghost use Rattle.regress_syntax.specs.Views.{group_of};
     ghost use Rattle.regress_spans.specs.Reading.{context_in, direction_of};
 
-    /// What lies around the parts inside a group.
+    /// Returns the context inside a group of this kind.
     pub(crate) fn inside(&self, kind: &Group) -> Around<'a>
         ensures context { context_in result ≡ context_inside (group_of kind.now) (context_in self.now) }
         ensures direction { direction_of result ≡ direction_of_group (group_of kind.now) (direction_of self.now) }
@@ -44,7 +44,7 @@ impl<'a> Around<'a> {
         }
     }
 
-    /// The span from where `left` code points were left up to the cursor.
+    /// Returns the span from the position where `left` code points remained to the cursor.
     pub(crate) fn span(&self, left: usize, cursor: &Cursor) -> Span
         ensures { result ≡ record { start = self.now.whole - left; end = self.now.whole - length (source cursor.now) } }
     {

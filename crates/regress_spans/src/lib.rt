@@ -1,4 +1,4 @@
-//! Where the nodes of a parsed tree stand in their pattern.
+//! Parses patterns with source positions: a span for each node of the tree.
 #![tactic(auto)]
 
 mod around;

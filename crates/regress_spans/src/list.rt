@@ -1,4 +1,4 @@
-//! Spans behind the others of a list.
+//! Appends spans to a list.
 ghost use Rattle.std.specs.Prelude.{◌≡◌, [], ◌∷◌, ◌++◌, OnOk, length, replicate, if◌then◌else◌};
 ghost use Rattle.regress_lexical.specs.Views.{source};
 ghost use Rattle.regress_tree.specs.Tree.{tree};
@@ -11,7 +11,7 @@ use regress_lexical::cursor::Cursor;
 use regress_tree::ir::Node;
 use std::alloc::AllocError;
 
-/// Adds the span, if the condition holds.
+/// Appends the span if the condition is `true`.
 pub(crate) fn push_if(spans: &mut Vec<Span>, condition: bool, span: Span) -> Result<(), AllocError>
     ensures { OnOk result (spans.new.items ≡ spans.old.items ++ (if condition then span ∷ [] else [])) }
 {
@@ -22,7 +22,8 @@ pub(crate) fn push_if(spans: &mut Vec<Span>, condition: bool, span: Span) -> Res
     Ok(())
 }
 
-/// Adds the span of an item for each node that it has: one, or alternatives that hold no further node.
+/// Appends the span of an item once for each node of the item: one node, or a chain of `Alt` nodes whose alternatives
+/// are leaves.
 pub(crate) fn push_nodes(spans: &mut Vec<Span>, item: &Node, span: Span) -> Result<(), AllocError>
     ensures { IsFlat (tree item.now) → OnOk result (spans.new.items ≡ spans.old.items ++ replicate (nodes (tree item.now)) span) }
 {
@@ -36,8 +37,8 @@ pub(crate) fn push_nodes(spans: &mut Vec<Span>, item: &Node, span: Span) -> Resu
     Ok(())
 }
 
-/// Adds a span for each `Alt` of alternatives that end at the cursor, the innermost one first: the last one begins
-/// innermost. Each is told by how many code points were left where it begins.
+/// Appends a span for each `Alt` of alternatives that end at the cursor, innermost first. `starts` has the number of
+/// code points that remained at the start of each, outermost first.
 pub(crate) fn push_alternations(
     spans: &mut Vec<Span>,
     mut starts: Vec<usize>,
@@ -53,7 +54,7 @@ pub(crate) fn push_alternations(
     Ok(())
 }
 
-/// Adds the spans of parts, those of the last part first.
+/// Appends the spans of the parts in reverse order of the parts.
 pub(crate) fn push_turned(
     spans: &mut Vec<Span>,
     mut parts: Vec<Vec<Span>>,

@@ -1,4 +1,4 @@
-//! The parser with spans.
+//! Parses a pattern, with spans.
 ghost use Rattle.std.specs.Prelude.{◌≡◌, length, All, AllPairs, IfOk};
 ghost use Rattle.regress_unicode.specs.TableOf.{table_of};
 ghost use Rattle.regress_tree.specs.Tree.{tree};
@@ -26,26 +26,40 @@ use regress_tree::ir::Regex;
 use regress_unicode::Tables;
 use std::alloc::{AllocError, Global};
 
-/// What a pattern is parsed to, and where the nodes of its tree stand in it.
+/// The tree of a pattern, with the position of each of its nodes in the pattern.
 #[derive(Drop)]
 pub struct SpannedRegex {
     pub regex: Regex,
-    /// A span for each node, in the order in which a walk in postorder comes to them. `try_parse_with_spans` tells each.
+    /// One span for each node, in postorder. [`try_parse_with_spans`] specifies each.
     pub spans: Vec<Span>,
 }
 
-/// Answers what `try_parse_with_place` does, and with a tree the span of each of its nodes:
+/// Parses a pattern as [`try_parse_with_place`] does, and returns a span for each node of the tree.
 ///
-/// - a node of an item has the code points of the item. All nodes of a reference by name, or of a class with the flag v,
-///   have the span of the whole item;
-/// - a loop has the item and its quantifier, a capture group or a lookaround all from its `(` to its `)`. `(?:..)` and
-///   modifiers make no node: what stands inside has a span of its own;
-/// - a `Cat` has its alternative, and an `Empty` is empty, where the alternative would begin;
-/// - an `Alt` has all from the beginning of its left side to the end of the last alternative;
-/// - the final `Goal` is empty, at the end of the pattern, and the root has all of it.
+/// Spans are half-open ranges of 0-based code-point indices:
 ///
-/// In a lookbehind the spans stand turned, as the parts of its tree do. The pattern is read a second time for them, which
-/// takes no longer than the first time.
+/// - The nodes of an item have the span of the item. All nodes of a reference by name, or of a class under the flag v,
+///   have the span of the whole item.
+/// - A loop has the span of its item and quantifier. A capture group or a lookaround has the span from its `(` to its
+///   `)`. `(?:..)` and modifiers have no node: their contents have their own spans.
+/// - A `Cat` has the span of its alternative. An `Empty` has an empty span, where its alternative would begin.
+/// - An `Alt` has the span from the start of its left side to the end of the last alternative.
+/// - The final `Goal` has an empty span at the end of the pattern, and the root has the whole pattern.
+///
+/// In a lookbehind the order of the spans is reversed, as that of the parts of the tree is. Of any two spans one is
+/// inside the other, or they share no code point.
+///
+/// # Preconditions
+/// Each element of `pattern` is a code point, at most U+10FFFF.
+///
+/// # Errors
+/// - [`PlacedFault::Syntax`] if the pattern is rejected, with the text and the position that [`try_parse_with_place`]
+///   reports.
+/// - [`PlacedFault::Memory`] if an allocation fails.
+///
+/// # Complexity
+/// The pattern is parsed twice. A span is copied once for each lookbehind around it. The depth of recursion is at most
+/// `MAX_NESTING_DEPTH`.
 pub fn try_parse_with_spans(
     alloc: Global,
     pattern: &[u32],
@@ -54,17 +68,17 @@ pub fn try_parse_with_spans(
 ) -> Result<SpannedRegex, PlacedFault>
     requires { All IsCodePoint pattern.now }
 
-    // The tree of the pattern that the source stands for, and where its nodes stand in the source.
+    // The tree of the pattern that the grammar derives, and the spans of its nodes.
     ensures spanned { IfOk result (λ r. (p : Pattern) × (accepted : IsAccepted (setting_of flags tables.now) pattern.now p)
         × (tree r.regex.node ≡ tree_of (table_of tables.now) p)
         × (r.spans.items ≡ spans_of (setting_of flags tables.now) pattern.now p accepted.derived)) }
     ensures each { IfOk result (λ r. length r.spans.items ≡ nodes (tree r.regex.node)) }
 
     ensures within { IfOk result (λ r. All (IsWithin (record { start = 0; end = length pattern.now })) r.spans.items) }
-    // Spans nest as parts do, and neighbours share no code point.
+    // Spans nest as the parts of the pattern do, and disjoint parts share no code point.
     ensures nested { IfOk result (λ r. AllPairs IsInsideOrApart r.spans.items) }
 
-    // What `try_parse_with_place` says.
+    // The contract of `try_parse_with_place`.
     ensures refused { RefusedOnlyIf (unplaced result) (NoneIsAccepted (setting_of flags tables.now) pattern.now) }
     ensures told { Tells (unplaced result) (IsTrueOf (setting_of flags tables.now) pattern.now) }
     ensures limits { Tells (unplaced result) (MayExceed pattern.now) }
@@ -85,7 +99,7 @@ pub fn try_parse_with_spans(
     }
 }
 
-/// The spans in a pattern that is accepted. The error stands for want of memory.
+/// Returns the spans of an accepted pattern. The error is an allocation failure.
 fn find_spans(
     alloc: Global,
     pattern: &[u32],
@@ -99,12 +113,12 @@ fn find_spans(
     match read_again(alloc, pattern, flags, tables) {
         Ok(spans) => Ok(spans),
         Err(Fault::Memory(fault)) => Err(fault),
-        // This doesn't come with a pattern that is accepted.
+        // An accepted pattern has no syntax error.
         Err(Fault::Refused(_)) => Err(AllocError),
     }
 }
 
-/// The spans in a pattern, or a fault where it isn't accepted.
+/// Returns the spans of a pattern, or an error if it is rejected or an allocation fails.
 fn read_again(
     alloc: Global,
     pattern: &[u32],
@@ -132,7 +146,7 @@ fn read_again(
     };
     let mut spans = Vec::new(alloc);
     read_disjunction(&mut cursor, &around, &mut spans)?;
-    // The final `Goal` and the root.
+    // The final `Goal`, and the root.
     spans.push(around.span(0, &cursor))?;
     spans.push(around.span(pattern.len(), &cursor))?;
     Ok(spans)

@@ -1,4 +1,4 @@
-//! A second reading of a pattern that was parsed, form by form, which notes where each node stands.
+//! The second parse of a pattern, by recursive descent, which records the span of each node.
 ghost use Rattle.std.specs.Prelude.{◌≡◌, ◌≤◌, ◌<◌, true, false, length, OnOk};
 ghost use Rattle.regress_lexical.specs.Views.{source};
 ghost use Rattle.regress_spans.specs.Reading.{context_in, direction_of, ReadsPattern, ReadsAlternative, ReadsTerms, ReadsTerm, ReadsItem};
@@ -15,8 +15,8 @@ use regress_lexical::cursor::Cursor;
 use regress_parse::{begins_anchor, read_atom};
 use regress_syntax::{Fault, Group, read_group, read_times};
 
-/// Reads alternatives up to a `)` or the end (ECMA-262, Disjunction). A pattern that was parsed has at most
-/// `MAX_NESTING_DEPTH` levels, so calls go no deeper.
+/// Parses alternatives up to a `)` or the end (ECMA-262, Disjunction). The pattern was parsed before, so the depth of
+/// recursion is at most `MAX_NESTING_DEPTH`.
 #[cycle(reading)]
 pub(crate) fn read_disjunction(
     cursor: &mut Cursor,
@@ -27,7 +27,7 @@ pub(crate) fn read_disjunction(
         (source cursor.new) spans.new.items result }
     ensures shorter { OnOk result (length (source cursor.new) ≤ length (source cursor.old)) }
 {
-    // How many code points were left where each alternative begins that another one follows.
+    // The number of code points that remained at the start of each alternative but the last.
     let mut starts = Vec::new(cursor.alloc);
     loop {
         let start = cursor.rest.len();
@@ -41,7 +41,7 @@ pub(crate) fn read_disjunction(
     Ok(())
 }
 
-/// Reads terms up to the end of the alternative (ECMA-262, Alternative). One term alone is its node.
+/// Parses the terms of an alternative (ECMA-262, Alternative). A single term has no further node.
 #[cycle(reading)]
 fn read_alternative(
     cursor: &mut Cursor,
@@ -58,7 +58,7 @@ fn read_alternative(
     Ok(())
 }
 
-/// Reads terms up to the end of the alternative, and answers how many.
+/// Parses terms up to the end of the alternative, and returns their number.
 #[cycle(reading)]
 fn read_terms(cursor: &mut Cursor, around: &Around, spans: &mut Vec<Span>) -> Result<usize, Fault>
     ensures value { ReadsTerms around.now.whole (context_in around.now) (direction_of around.now) (source cursor.old) spans.old.items
@@ -72,7 +72,7 @@ fn read_terms(cursor: &mut Cursor, around: &Around, spans: &mut Vec<Span>) -> Re
     }
 }
 
-/// Reads terms that stand in the tree as they are written, and answers how many.
+/// Parses terms that are in the tree in the order of the pattern, and returns their number.
 #[cycle(reading)]
 fn read_forwards(
     cursor: &mut Cursor,
@@ -92,8 +92,8 @@ fn read_forwards(
     Ok(count)
 }
 
-/// Reads terms that stand turned in the tree, and answers how many. The spans of each have a list of their own, and are
-/// moved once more for each lookbehind around it: `MAX_NESTING_DEPTH` times at most.
+/// Parses terms that are in the tree in reverse order, and returns their number. The spans of each term are in a list
+/// of their own, and are copied once for each lookbehind around it, at most `MAX_NESTING_DEPTH` times.
 #[cycle(reading)]
 fn read_backwards(
     cursor: &mut Cursor,
@@ -116,7 +116,7 @@ fn read_backwards(
     Ok(count)
 }
 
-/// Reads an item and the quantifier behind it (ECMA-262, Term).
+/// Parses an item and the quantifier after it (ECMA-262, Term).
 #[cycle(reading)]
 fn read_term(cursor: &mut Cursor, around: &Around, spans: &mut Vec<Span>) -> Result<(), Fault>
     ensures value { ReadsTerm around.now.whole (context_in around.now) (direction_of around.now) (source cursor.old) spans.old.items
@@ -130,7 +130,7 @@ fn read_term(cursor: &mut Cursor, around: &Around, spans: &mut Vec<Span>) -> Res
     Ok(())
 }
 
-/// Reads an item, and answers whether a quantifier may stand behind it.
+/// Parses an item, and returns whether a quantifier may follow it.
 #[cycle(reading)]
 fn read_item(cursor: &mut Cursor, around: &Around, spans: &mut Vec<Span>) -> Result<bool, Fault>
     ensures value { ReadsItem around.now.whole (context_in around.now) (direction_of around.now) (source cursor.old) spans.old.items
@@ -144,7 +144,7 @@ fn read_item(cursor: &mut Cursor, around: &Around, spans: &mut Vec<Span>) -> Res
     }
 }
 
-/// Reads a group or a lookaround, and answers whether a quantifier may stand behind it.
+/// Parses a group or a lookaround, and returns whether a quantifier may follow it.
 #[cycle(reading)]
 fn read_parenthesis(
     cursor: &mut Cursor,
@@ -165,7 +165,8 @@ fn read_parenthesis(
     Ok(kind.allows_quantifier(around.scope.flags.unicode))
 }
 
-/// Whether a group is a node of its own: one that only groups, or switches flags, is what it holds.
+/// Returns whether a group has a node of its own. A group that captures nothing or changes flags is replaced by its
+/// contents.
 fn has_node(kind: &Group) -> bool
     ensures { result ≡ has_node (group_of kind.now) }
 {
@@ -175,7 +176,7 @@ fn has_node(kind: &Group) -> bool
     }
 }
 
-/// Reads an item that holds no pattern, and answers whether a quantifier may stand behind it.
+/// Parses an item without a body, and returns whether a quantifier may follow it.
 fn read_single(cursor: &mut Cursor, around: &Around, spans: &mut Vec<Span>) -> Result<bool, Fault>
     requires { is_at opening (source cursor.now) ≡ false }
     ensures value { ReadsItem around.now.whole (context_in around.now) (direction_of around.now) (source cursor.old) spans.old.items

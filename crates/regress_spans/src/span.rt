@@ -1,6 +1,6 @@
-//! A part of a pattern, by where it stands.
+//! A range of the pattern.
 
-/// A part of a pattern, by indices of code points from 0: from the one at `start` to the one before `end`. It is empty where
+/// A half-open range of code-point indices of a pattern, from 0: `start` is included and `end` is not. It is empty if
 /// the two are equal.
 #[derive(Clone, Copy, Debug, PartialEq, Eq)]
 pub struct Span {

@@ -1,4 +1,4 @@
--- Groups that conflict, in a list that is sorted by names and then by paths.
+-- Conflicts between groups in a list that is sorted by name and then by path.
 use Rattle.std.proofs.Common.{◌≡◌, ◌≢◌, ℕ, zero, suc, ◌+◌, ◌-◌, ◌<◌, ◌≤◌, ◌⊎◌, inl, inr, ⊎_elim, ◌==◌, Bool, true, false, not, ◌&&◌, ◌||◌, List, [], ◌∷◌, map, reverse, length, get_or, Option, Some, None, IsPermutation, IsSorted, IsSortedBy, swap, ap₂, bytes_eq, refl, sym, ap, subst, ◌∙◌, arith}
 use Rattle.std.proofs.lemmas.Bool.{false≢true, true≢false, and_parts, and_from, cases_eq, cases_lt, not_from_false, not_from_true, false_from_ne_true, true_from_ne_false}
 use Rattle.std.proofs.lemmas.Bool.Decides.{nat_tests}
@@ -22,16 +22,16 @@ use Rattle.regress_syntax.specs.Scanning.{capture_of, level_of}
 use Rattle.regress_syntax.specs.declared.scan.path.Level.{Level as CodeLevel}
 use Rattle.regress_syntax.specs.declared.scan.scanner.NamedGroup.{NamedGroup}
 
--- ---- paths and names in order
+-- ---- the order of paths and names
 
--- what is neither below nor above something ties with it
+-- If neither of two lexicographic comparisons is less, their first keys are equal and their second keys are not less.
 tied : (r o o' : Ordering) → is_lt (ordering_then r o) ≡ false → is_lt (ordering_then (ordering_reverse r) o') ≡ false →
     (is_eq r ≡ true) × (is_lt o ≡ false) × (is_lt o' ≡ false)
 tied Less o o' h k = absurd (true≢false h)
 tied Equal o o' h k = (refl, h, k)
 tied Greater o o' h k = absurd (true≢false k)
 
--- so is what is compared before something else
+-- If a lexicographic comparison is not less, its first key is not less.
 first_not_less : (r o : Ordering) → is_lt (ordering_then r o) ≡ false → is_lt r ≡ false
 first_not_less Less o h = absurd (true≢false h)
 first_not_less Equal o h = refl
@@ -44,7 +44,7 @@ names_tied a b o o' h h' =
     (subst (λ (r : Ordering). is_lt (ordering_then r o') ≡ false) (nat_list_cmp_total.antisymm a b) h') in
     (sym (is_eq-slice_cmp b a) ∙ both.0, both.1, both.2)
 
--- how levels are sorted
+-- the order by which levels are sorted
 abbrev by_numbers : CodeLevel → CodeLevel → Ordering
 by_numbers = then_cmp (on (λ (l : CodeLevel). l.opening) nat_cmp) (on (λ (l : CodeLevel). l.alternative) nat_cmp)
 
@@ -57,11 +57,11 @@ by_levels = slice_cmp by_numbers
 by_levels_total : IsTotalOrder by_levels
 by_levels_total = lists_total by_numbers_total
 
--- no disjunction holds both in different alternatives
+-- no disjunction has the two paths in different alternatives
 abbrev are_together : List CodeLevel → List CodeLevel → Bool
 are_together p q = not (are_alternatives (map level_of p) (map level_of q))
 
--- one number between two others
+-- A number between two equal numbers is equal to them.
 numbers_between : (k m j : ℕ) (o o' : Ordering) → is_lt (ordering_then (nat_cmp m k) o) ≡ false → is_lt (ordering_then (nat_cmp j m) o') ≡ false →
     (k == j) ≡ true → ((k == m) ≡ true) × (is_lt o ≡ false) × (is_lt o' ≡ false)
 numbers_between k m j o o' h h' e =
@@ -75,7 +75,7 @@ then_assoc Less o o' = refl
 then_assoc Equal o o' = refl
 then_assoc Greater o o' = refl
 
--- of a level and what lies further inside
+-- the same for levels with equal numbers, and the remaining levels
 levels_between : (k m j : CodeLevel) (o o' : Ordering) → is_lt (ordering_then (by_numbers m k) o) ≡ false →
     is_lt (ordering_then (by_numbers j m) o') ≡ false → (k.opening == j.opening) ≡ true → (k.alternative == j.alternative) ≡ true →
     ((k.alternative == m.alternative) ≡ true) × (is_lt o ≡ false) × (is_lt o' ≡ false)
@@ -89,7 +89,7 @@ neither : (a b : Bool) → not (not a || b) ≡ true → (a ≡ true) × (not b 
 neither true b e = (refl, e)
 neither false b e = absurd (false≢true e)
 
--- A path between two that no disjunction holds in different alternatives stands so with one of them.
+-- If no disjunction has two paths in different alternatives, the same holds of a path between them and one of the two.
 paths_between : (p q s : List CodeLevel) → is_lt (by_levels q p) ≡ false → is_lt (by_levels s q) ≡ false →
     are_together p s ≡ true → (are_together p q ≡ true) ⊎ (are_together q s ≡ true)
 paths_between [] q s h h' e = inl refl
@@ -133,7 +133,7 @@ conflict-sym a b e =
     let parts = and_parts (same_name a.name b.name) _ e in
     and_from _ _ (same_name-sym a.name b.name parts.0) (ap not (are_alternatives-sym (reverse b.path) (reverse a.path)) ∙ parts.1)
 
--- ---- lists in which no two conflict
+-- ---- lists in which no two elements conflict
 
 abbrev NoTwo : {X : Type 0} → (X → X → Bool) → List X → Type 0
 NoTwo {X} r xs = (i j : ℕ) (d : X) → i ≢ j → i < length xs → j < length xs → r (get_or xs i d) (get_or xs j d) ≡ false
@@ -166,7 +166,7 @@ module _ {X : Type 0} (r : X → X → Bool) (both_ways : (x y : X) → r x y �
   no_two_from_apart (x ∷ xs) e (suc i) (suc j) d ne l m =
       no_two_from_apart xs (and_parts _ _ e).1 i j d (λ same. ne (ap suc same)) (omega arith) (omega arith)
 
-  -- where an element stood before two changed places
+  -- the index of an element before a swap
   came_from : (f g : ℕ → X) (a b i : ℕ) → Swapped f g a b →
       ((i ≡ a) × (g i ≡ f b)) ⊎ (((i ≡ b) × (g i ≡ f a)) ⊎ ((i ≢ a) × (i ≢ b) × (g i ≡ f i)))
   came_from f g a b i s =
@@ -211,10 +211,11 @@ module _ {X : Type 0} (r : X → X → Bool) (both_ways : (x y : X) → r x y �
   apart_shuffled xs ys s e =
       apart_from_no_two ys (IsPermutation-keeps xs (NoTwo r) (no_two_from_apart xs e) (λ l a b la lb h. no_two_swapped l a b la lb h) ys s)
 
-  -- In a sorted list two conflict only if two neighbours do: of those that conflict one is nearer to the one between.
+  -- In a sorted list two elements conflict only if two adjacent ones do: an element between two that conflict conflicts
+  -- with one of them.
   module _ (lt : X → X → Bool) (order : IsStrictWeakOrder lt)
       (between : (x y z : X) → lt y x ≡ false → lt z y ≡ false → r x z ≡ true → (r x y ≡ true) ⊎ (r y z ≡ true)) where
-    -- with so many between them
+    -- by induction on the number of elements between them
     far : (xs : List X) → IsSortedBy lt xs → AllAdjacentBelow (λ x y. r x y ≡ false) xs (length xs) →
         (between i j : ℕ) (d : X) → j ≡ i + 1 + between → j < length xs → r (get_or xs i d) (get_or xs j d) ≡ false
     far xs up near zero i j d e m = subst (λ k. r (get_or xs i d) (get_or xs k d) ≡ false) (omega (arith, e)) (near i d (omega (arith, e, m)))
@@ -236,14 +237,14 @@ module _ {X : Type 0} (r : X → X → Bool) (both_ways : (x y : X) → r x y �
   not_apart xs k d l e =
       false_from_ne_true _ (λ h. true≢false (sym e ∙ no_two_from_apart xs h k (k + 1) d (omega arith) (omega arith) l))
 
--- ---- groups as the code keeps them
+-- ---- groups as values of the code
 
 pub conflict-captures : (a b : NamedGroup) → bytes_eq a.name.items b.name.items ≡ true →
     are_together a.path.levels.items b.path.levels.items ≡ conflict (capture_of a) (capture_of b)
 conflict-captures a b e =
     rw (bytes_eq-sym a.name.items b.name.items e, reverse-reverse (map level_of a.path.levels.items), reverse-reverse (map level_of b.path.levels.items)) refl
 
--- how groups are sorted
+-- the order by which groups are sorted
 abbrev by_name_and_path : NamedGroup → NamedGroup → Ordering
 by_name_and_path =
     then_cmp (on (λ (g : NamedGroup). g.name.items) (slice_cmp nat_cmp))
@@ -279,7 +280,7 @@ are_apart-map : (gs : List NamedGroup) → are_apart (map capture_of gs) ≡ apa
 are_apart-map [] = refl
 are_apart-map (g ∷ gs) = ap₂ (λ a b. a && b) (list_all-map (λ other. not (conflict (capture_of g) other)) capture_of gs) (are_apart-map gs)
 
--- Groups in any order are apart if the sorted ones have no neighbours that conflict, and else they are not.
+-- If no two adjacent groups conflict in sorted order, then no two groups conflict in any order.
 pub apart_in_any_order : (found in_order : List NamedGroup) → IsPermutation found in_order → IsSorted by_name_and_path in_order →
     AllAdjacentBelow (λ x y. true ≡ not (conflict (capture_of x) (capture_of y))) in_order (length in_order) → are_apart (map capture_of found) ≡ true
 apart_in_any_order found in_order moved sorted near =

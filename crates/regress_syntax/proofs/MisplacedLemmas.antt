@@ -1,4 +1,4 @@
--- What a scan passes before the first parenthesis that closes nothing, or that opens a level too many.
+-- The scan's notes on misplaced code points, from one code point to the next.
 use Rattle.std.proofs.Common.{◌≡◌, ℕ, ◌+◌, ◌-◌, max, Bool, true, false, cond, ◌==◌, ◌&&◌, [], ◌∷◌, drop, length, Option, Some, None, refl, sym, ap, ◌∙◌, subst, arith}
 use Rattle.std.specs.Option.{option_or}
 use Rattle.std.proofs.lemmas.Option.{none-some, same_Some}
@@ -28,7 +28,7 @@ left_quiet too_deep true (in_class depth deepest) n c t e =
 left_quiet too_deep false (in_class depth deepest) n c t e =
     let no = unquiet (c == 92) (c == 91) (c == 93) (c == opening) (c == closing) (c == bar) e in rw (no.0, no.1, no.2) refl
 
--- behind a backslash
+-- An escape has no misplaced code point.
 pub left_escape : (flaw : Flaw) (sets : Bool) (w : Home) (n : ℕ) (t : Source) →
     left_at flaw sets (home w) n (92 ∷ t) ≡ left_at flaw sets (home w) n (drop 1 t)
 unfolding left_at
@@ -43,7 +43,7 @@ left_escape too_deep true (in_class depth deepest) n (d ∷ t) = refl
 left_escape too_deep false (in_class depth deepest) n [] = refl
 left_escape too_deep false (in_class depth deepest) n (d ∷ t) = refl
 
--- the code point itself, or else what is behind it
+-- The first flaw is the first code point, or else the first flaw after it.
 left_step : (flaw : Flaw) (sets : Bool) (mode : Mode) (n c : ℕ) (t : Source) →
     left_at flaw sets mode n (c ∷ t)
     ≡ option_or (cond (is_flaw flaw sets mode n c) (Some (length t + 1)) None) (left_at flaw sets (mode_behind sets mode c) (levels_behind mode n c) t)
@@ -65,7 +65,7 @@ or_none : (a : Option ℕ) → option_or a None ≡ a
 or_none None = refl
 or_none (Some x) = refl
 
--- what was noted before, at a code point, and what is behind it
+-- The invariant of the notes holds after one more code point.
 pub noted_behind : (flaw : Flaw) (sets : Bool) (mode : Mode) (n m c left : ℕ) (rest t : Source) (whole : Option ℕ) (old new : Option ℕ) →
     rest ≡ c ∷ t → left ≡ length t + 1 → m ≡ levels_behind mode n c →
     new ≡ option_or old (cond (is_flaw flaw sets mode n c) (Some left) None) →
@@ -78,14 +78,14 @@ noted_behind flaw sets mode n m c left rest t whole old new split here levels no
     ∙ ap (λ (a : Option ℕ). option_or a behind) (sym note)
     ∙ ap (λ (k : ℕ). option_or new (left_at flaw sets (mode_behind sets mode c) k t)) (sym levels)
 
--- nothing is left
+-- At the end of the source the notes are complete.
 pub all_noted : (flaw : Flaw) (sets : Bool) (mode : Mode) (n : ℕ) (rest : Source) (whole old : Option ℕ) → length rest ≡ 0 →
     whole ≡ option_or old (left_at flaw sets mode n rest) → whole ≡ old
 unfolding left_at
 all_noted flaw sets mode n [] whole old e before = before ∙ or_none old
 all_noted flaw sets mode n (c ∷ t) whole old e before = absurd (omega arith)
 
--- ---- levels
+-- ---- open groups
 
 after_opened : (n : ℕ) (table : Table) (t : Source) → levels_after (opened_at table t) n ≡ n + 1
 after_opened n table t = by (is_at question_mark t) (group_name_at table (drop 1 t))
@@ -96,7 +96,7 @@ after_opened n table t = by (is_at question_mark t) (group_name_at table (drop 1
     by true (Some x) = refl
     by false found = refl
 
--- a mark, or none, tells how many levels are open behind it
+-- A mark changes the number of open groups as its code point does.
 pub levels_at_mark : (sets : Bool) (table : Table) (mode : Mode) (n c : ℕ) (t : Source) (mark : Mark) → mark_at sets table mode c t ≡ Some mark →
     levels_after mark n ≡ levels_behind mode n c
 levels_at_mark sets table plain n c t mark e = by (c == opening) (c == closing) (c == bar) e

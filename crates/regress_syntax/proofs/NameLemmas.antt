@@ -1,4 +1,4 @@
--- What is left to read of a name.
+-- The rest of a name, while it is parsed.
 use Rattle.std.proofs.Common.{◌≡◌, ℕ, zero, suc, ◌+◌, ◌<◌, Bool, true, false, cond, [], ◌∷◌, ◌++◌, length, drop, Some, None, refl, sym, ap, ◌∙◌, append_assoc, append-nil, add-one, arith}
 use Rattle.std.proofs.lemmas.Bool.{cond-true, cond-false}
 use Rattle.regress_base.specs.Table.{Table}
@@ -8,7 +8,7 @@ use Rattle.regress_syntax.specs.Names.{continues_name, name_character_at, rest_o
 use Rattle.regress_lexical.proofs.laws.Sources.{then_same, cond_same}
 use Rattle.regress_syntax.proofs.laws.NameEnds.{name_character_at-shortens}
 
--- a longer bound changes nothing
+-- A longer bound does not change the result.
 rest_of_name_by-same : (n m : ℕ) (table : Table) (t : Source) → length t < n → length t < m →
     rest_of_name_by n table t ≡ rest_of_name_by m table t
 unfolding rest_of_name_by
@@ -21,11 +21,11 @@ rest_of_name_by-same (suc n) (suc m) table t h k =
     (let shorter = name_character_at-shortens (continues_name table) t x found in
     rest_of_name_by-same n m table x.1 (omega arith) (omega arith))))
 
--- what is left, with a bound that is enough
+-- the rest of a name, with a sufficient bound
 abbrev pub left_of_name : Table → Source → Found Name
 left_of_name table t = rest_of_name_by (length t + 1) table t
 
--- the same, behind characters that were read
+-- a result whose name is prefixed with the characters parsed so far
 abbrev pub behind_read : Name → Found Name → Found Name
 behind_read read left = found_map (λ cs. read ++ cs) left
 
@@ -50,7 +50,7 @@ behind_one_more : (read : Name) (c : ℕ) (left : Found Name) →
 behind_one_more read c None = refl
 behind_one_more read c (Some x) = ap (λ (cs : Name). Some (cs, x.1)) (sym (append_assoc read (c ∷ []) x.0))
 
--- the next character, and what is left behind it
+-- The rest of a name is its next character and the rest after it.
 next_left : (table : Table) (t : Source) (read : Name) (next : Found ℕ) → is_at 62 t ≡ false →
     next ≡ name_character_at (continues_name table) t →
     behind_read read (left_of_name table t)
@@ -68,7 +68,7 @@ none_closes : (b : Bool) (x : Source) → None ≡ cond b (Some x) None → b �
 none_closes true x e = absurd cc
 none_closes false x e = refl
 
--- The turns of the loop, by what the code knows of each: what stands behind a `>` here, if it stands here.
+-- The loop's result is the whole name: by what follows the `>` if one is here.
 pub all_of_name : (table : Table) (t rest : Source) (read : Name) → Some rest ≡ cond (is_at 62 t) (Some (drop 1 t)) None →
     behind_read read (left_of_name table t) ≡ Some (read, rest)
 all_of_name table t rest read e =

@@ -1,4 +1,4 @@
--- The names of groups, and the numbers of those that have one.
+-- The numbers of the named groups, and their order by name.
 use Rattle.std.proofs.Common.{◌≡◌, ℕ, suc, ◌+◌, ◌-◌, ◌<◌, ◌≤◌, ◌⊎◌, inl, inr, ⊎_elim, Bool, true, false, cond, not, ◌&&◌, List, [], ◌∷◌, ◌++◌, map, filter, length, get_or, take, drop, Option, Some, None, is_some, option_map, Vec, All, IsPermutation, IsSortedBy, bytes_eq, refl, sym, ap, ap₂, ◌∙◌, subst, arith, true≢false, length-drop, append-nil}
 use Rattle.std.proofs.lemmas.Bool.{cases_Bool, cond-false}
 use Rattle.std.proofs.lemmas.Cmp.{nat_list_cmp_total}
@@ -29,9 +29,9 @@ pub has_names_in : (names : List (Option (Vec ℕ Global))) → list_any is_some
 has_names_in [] = refl
 has_names_in (name ∷ names) = rw (is_some-map name, has_names_in names) refl
 
--- ---- the groups that have names, in the order of all groups
+-- ---- the named groups, in the order of all groups
 
--- one group more, behind those of a list
+-- Appending a group appends its number to the list.
 pub numbered-push : (n : ℕ) (names : List (Option Name)) (other : Option Name) →
     numbered n (names ++ other ∷ []) ≡ numbered n names ++ numbered (n + length names) (other ∷ [])
 numbered-push n [] other = let e : n ≡ n + 0 = omega arith in ap (λ (k : ℕ). numbered k (other ∷ [])) e
@@ -43,7 +43,7 @@ numbered-push n (Some name ∷ names) other =
     ap (λ (rest : List (Name × ℕ)). (name, n) ∷ rest)
     (numbered-push (n + 1) names other ∙ ap (λ (k : ℕ). numbered (n + 1) names ++ numbered k (other ∷ [])) e)
 
--- those of a name
+-- The numbers of the groups of a name are those that `groups_named` finds.
 numbers_named : (name : Name) (n : ℕ) (names : List (Option Name)) →
     map (λ (p : Name × ℕ). p.1) (filter (λ (p : Name × ℕ). bytes_eq p.0 name) (numbered n names)) ≡ groups_named name n names
 numbers_named name n [] = refl
@@ -60,7 +60,7 @@ numbers_named name n (Some other ∷ names) = by (bytes_eq other name) (numbers_
     by true e = ap (λ (ks : List ℕ). n ∷ ks) e
     by false e = e
 
--- it stands where its number says
+-- the name of the group with this number is the name in the pair
 abbrev Stands : ℕ → List (Option Name) → Name × ℕ → Type 0
 Stands n names p = (j : ℕ) × (p.1 ≡ n + j) × (get_or names j None ≡ Some p.0)
 
@@ -123,7 +123,7 @@ neither_less Less = refl
 neither_less Equal = refl
 neither_less Greater = refl
 
--- what ties with a group has its name
+-- Two groups tie exactly if they have the same name.
 ties_by_name : (x y : NamedGroup) → ties is_before x y ≡ bytes_eq y.name.items x.name.items
 ties_by_name x y =
     let a = x.name.items in
@@ -133,7 +133,7 @@ ties_by_name x y =
 
 module _ (names : List (Option Name)) (text sorted : List NamedGroup) (moved : IsPermutation text sorted)
     (are : map name_and_number text ≡ numbered 1 names) where
-  -- each group stands where its number says
+  -- Each group's number leads to its name.
   all_found : All (λ (g : NamedGroup). IsFound names (name_and_number g)) sorted
   all_found =
       All-permutation (λ (g : NamedGroup). IsFound names (name_and_number g)) text sorted moved
@@ -167,7 +167,7 @@ module _ (names : List (Option Name)) (text sorted : List NamedGroup) (moved : I
                 l,
           ) (up i j g le l)
 
-  -- those of a name stand as they did
+  -- A stable sort keeps the order of the groups of a name.
   name_kept : IsStableBy is_before text sorted → (name : Name) →
       filter (λ (g : NamedGroup). bytes_eq g.name.items name) sorted ≡ filter (λ (g : NamedGroup). bytes_eq g.name.items name) text
   name_kept stable name =
@@ -207,7 +207,7 @@ module _ (names : List (Option Name)) (text sorted : List NamedGroup) (moved : I
 
 -- ---- one group more
 
--- the group behind others
+-- A group with a name is appended with its number.
 pub number_added : (old new : List NamedGroup) (group : NamedGroup) (name : Vec ℕ Global) (given : Option (Vec ℕ Global))
     (names names' : List (Option (Vec ℕ Global))) →
     given ≡ Some name → group.name.items ≡ name.items → group.number ≡ length names + 1 → new ≡ old ++ group ∷ [] → names' ≡ names ++ given ∷ [] →
@@ -228,7 +228,7 @@ number_added old new group name given names names' e same number pushed more h =
     ∙ ap (λ (ns : List (Option Name)). numbered 1 (names_of names ++ ns)) (sym known)
     ∙ ap (numbered 1) (sym (ap names_of more ∙ map-append (option_map (λ name. name.items)) names (given ∷ [])))
 
--- one without a name
+-- A group without a name changes nothing.
 pub none_numbered : (old new : List NamedGroup) (given : Option (Vec ℕ Global)) (names names' : List (Option (Vec ℕ Global))) →
     given ≡ None → new ≡ old → names' ≡ names ++ given ∷ [] →
     map name_and_number old ≡ numbered 1 (names_of names) → map name_and_number new ≡ numbered 1 (names_of names')
@@ -238,7 +238,7 @@ none_numbered old new given names names' e same more h =
     ∙ ap (λ (x : Option (Vec ℕ Global)). numbered 1 (names_of names ++ names_of (x ∷ []))) (sym e)
     ∙ ap (numbered 1) (sym (ap names_of more ∙ map-append (option_map (λ name. name.items)) names (given ∷ [])))
 
--- ---- what a search finds
+-- ---- the result of a binary search
 
 no_higher : (r s : Ordering) → ordering_index r ≤ ordering_index s → is_lt s ≡ true → is_lt r ≡ true
 no_higher Less s h e = refl
@@ -263,7 +263,7 @@ module _ (order : ℕ → Ordering) where
   pub parted : (xs : List ℕ) → IsNonDecreasingBy (λ k. ordering_index (order k)) xs → IsPartitionedBy (λ k. is_lt (order k)) xs
   parted xs up i j d le lt e = no_higher _ _ (up i j d le lt) e
 
-  -- behind what is lower those that tie come first
+  -- If no element is less, the equal ones come first.
   equal_first : (xs : List ℕ) → IsNonDecreasingBy (λ k. ordering_index (order k)) xs → All (λ k. is_lt (order k) ≡ false) xs →
       take (prefix_len (λ k. is_eq (order k)) xs) xs ≡ filter (λ k. is_eq (order k)) xs
   equal_first [] up none = refl
@@ -282,7 +282,7 @@ module _ (order : ℕ → Ordering) where
           one_more = omega arith
       by Greater e high more = sym (filter_none (λ k. is_eq (order k)) xs (λ i d lt. above (order (get_or xs i d)) (high i d lt)))
 
-  -- the first place that is no lower, and what ties from there on
+  -- From the partition point on, the leading equal elements are all equal elements of the list.
   pub found_by_order : (xs : List ℕ) (place : ℕ) → IsNonDecreasingBy (λ k. ordering_index (order k)) xs → place ≤ length xs →
       IsPartitionPoint (λ k. is_lt (order k) ≡ true) (λ k. is_lt (order k) ≡ false) xs place →
       take (prefix_len (λ k. is_eq (order k)) (drop place xs)) (drop place xs) ≡ filter (λ k. is_eq (order k)) xs

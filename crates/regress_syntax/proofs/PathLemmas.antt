@@ -1,4 +1,4 @@
--- Paths as the code keeps them.
+-- Paths as values of the code.
 use Rattle.std.proofs.Common.{◌≡◌, ℕ, zero, suc, ◌+◌, Bool, true, false, not, ◌==◌, ◌&&◌, List, [], ◌∷◌, ◌++◌, map, reverse, length, get_or, slice_set, Option, Some, None, option_map, refl, sym, ap, ◌∙◌, arith}
 use Rattle.std.specs.List.{zip, find}
 use Rattle.std.specs.Option.{MatchOption}
@@ -10,7 +10,7 @@ use Rattle.regress_syntax.specs.declared.scan.path.Path.{Path as CodePath}
 
 -- ---- the first difference
 
--- The first level at which two paths differ tells whether they are alternatives.
+-- The first level at which two paths differ decides whether they are alternatives.
 abbrev pub differ : CodeLevel × CodeLevel → Bool
 differ pair = not (pair.0.opening == pair.1.opening && pair.0.alternative == pair.1.alternative)
 
@@ -18,7 +18,7 @@ abbrev pub tells : Option (CodeLevel × CodeLevel) → Bool
 tells None = false
 tells (Some pair) = pair.0.opening == pair.1.opening
 
--- where a test of what was found was called
+-- The result of a closure that is called on what was found.
 pub told_by_call : {A : Type 0} (v : A → CodeLevel × CodeLevel) (found : Option A) (result : Bool) (Post : A → Type 0) →
     MatchOption found (result ≡ false) Post → ((x : A) → Post x → result ≡ tells (Some (v x))) → result ≡ tells (option_map v found)
 told_by_call v None result Post e post = e
@@ -46,7 +46,7 @@ told_by_paths path other =
 
 -- ---- the innermost level
 
--- a list up to its last element, and with another one there
+-- A list is its elements up to the last one and that one, which an update replaces.
 up_to_last : {X : Type 0} (n : ℕ) (xs : List X) (last new d : X) → length xs ≡ n + 1 → last ≡ get_or xs n d →
     (others : List X) × (xs ≡ others ++ last ∷ []) × (slice_set xs n new ≡ others ++ new ∷ [])
 up_to_last n [] last new d l e = absurd (omega (arith, l))

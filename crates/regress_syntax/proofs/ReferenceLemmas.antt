@@ -1,4 +1,4 @@
--- References by number and by name.
+-- Backreferences by number and by name.
 use Rattle.std.proofs.Common.{⊎_elim, ◌≡◌, ◌≢◌, ℕ, ◌+◌, ◌-◌, ◌^◌, min, Bool, true, false, cond, ◌||◌, List, [], ◌∷◌, length, Option, Some, None, refl, sym, ap, ◌∙◌, arith}
 use Rattle.std.proofs.lemmas.Bool.{cond-true, cond-false, cases_Bool, false≢true, ne_eqb}
 use Rattle.regress_lexical.specs.Source.{Source, ◌>>=◌}
@@ -11,7 +11,7 @@ use Rattle.regress_syntax.specs.Names.{group_name_at}
 use Rattle.regress_syntax.specs.Rows.{Context, has_name, named_at}
 use Rattle.regress_syntax.specs.Syntax.{Name, is_named, by_name, back_reference}
 
--- a count that saturates tells it
+-- A saturating count decides whether a number is at most the number of groups.
 pub count-is : (t : Source) → begins_with_digit t ≡ true →
     count_at t ≡ Some (min (number 10 (front is_decimal t)) (2 ^ 64 - 1), behind is_decimal t)
 count-is [] e = absurd (false≢true e)
@@ -23,7 +23,7 @@ abbrev is_empty : List ℕ → Bool
 is_empty [] = true
 is_empty (x ∷ xs) = false
 
--- some group has the name exactly where groups are found by it
+-- Some group has a name exactly if a group is found by that name.
 pub has_name-groups : (name : Name) (n : ℕ) (names : List (Option Name)) →
     (has_name name names ≡ true → groups_named name n names ≢ []) × (has_name name names ≡ false → groups_named name n names ≡ [])
 has_name-groups name n [] = (λ e. absurd (false≢true e), λ e. refl)
@@ -38,7 +38,7 @@ has_name-groups name n (other ∷ names) = by (is_named name other) (has_name-gr
     by false h = h
 
 module _ (ctx : Context) where
-  -- what stands behind `\k`, where a name is read
+  -- The result after `\k`, once a name is parsed.
   pub named-some : (t : Source) (name : Name) (rest : Source) → group_name_at ctx.setting.table t ≡ Some (name, rest) →
       groups_named name 1 ctx.names ≢ [] → named_at ctx t ≡ Some (back_reference ctx.setting.flags (by_name name), rest)
   named-some t name rest found some =

@@ -1,4 +1,4 @@
--- A scan passes properties, and classes without the flag v.
+-- The scan passes over properties, and over classes without the flag v.
 use Rattle.std.proofs.Common.{◌≡◌, ℕ, zero, suc, ◌+◌, Bool, true, false, cond, ◌&&◌, ◌||◌, ◌==◌, List, [], ◌∷◌, length, drop, Option, Some, None, refl, sym, subst, arith, eqb-true}
 use Rattle.std.proofs.lemmas.Bool.{false≢true}
 use Rattle.std.proofs.lemmas.Bool.Decides.{nat_tests}
@@ -15,7 +15,7 @@ use Rattle.regress_lexical.proofs.laws.Digits.{and_both}
 use Rattle.regress_syntax.proofs.ScanLemmas.{Passes, Leads, Home, in_class, home, passes_same, passes_then, leads_none, leads_some, leads_behind, leads_then, leads_map, leads_cond, pass_quiet, pass_at, pass_backslash, pass_escaped, pass_behind, lead_escape_at}
 use Rattle.regress_lexical.proofs.laws.Sources.{EachRow, no_more, ◌also◌, first_row-has}
 
--- a class may hold anything, or nothing
+-- The scan passes over a class, whether its members are valid or not.
 lead_made : {A : Type 0} {sets : Bool} {table : Table} (w : Home) (f : List Bounds → A) (made : Option (List Bounds)) (t : Source) →
     Leads sets table (home w) t (home w) (elim made as (λ _. Found A) [ None ↦ None | Some members ↦ Some (f members, t) ])
 lead_made w f None t = leads_none
@@ -52,7 +52,7 @@ module _ {sets : Bool} {table : Table} (w : Home) where
 -- ---- classes
 
 module _ {table : Table} where
-  -- the backslash alone leaves the `c`
+  -- A literal backslash leaves the `c` in the source.
   lead_class_control_at : (t : Source) → Leads false table (class_escape 0 0) (99 ∷ t) (class 0 0) (class_control_at t)
   unfolding marks
   lead_class_control_at [] = leads_some (point 92, 99 ∷ []) (record { same = refl })
@@ -99,7 +99,7 @@ module _ {table : Table} where
   lead_class_escape_at unicode [] = leads_none
   lead_class_escape_at unicode (c ∷ t) = lead_class_escape_by unicode c t
 
-  -- a `[` opens no class here
+  -- Here a `[` opens no class.
   pass_member : (c : ℕ) (t : Source) → (c == 93) ≡ false → (c == 92) ≡ false → Passes false table (class 0 0) (c ∷ t) (class 0 0) t
   unfolding marks
   pass_member c t goes_on e = record { same = rw (e, goes_on) (by (c == 91)) }
@@ -123,7 +123,7 @@ module _ {table : Table} where
       leads_then (class_atom_at table unicode t) _ (lead_class_atom_at unicode t)
       (λ x. lead_made (in_class 0 0) (λ members. members) (range_of unicode first x.0) x.1)
 
-  -- behind a hyphen that begins a range
+  -- A hyphen that begins a range is passed.
   pass_hyphen : (t : Source) → begins_range t ≡ true → Passes false table (class 0 0) t (class 0 0) (drop 1 t)
   pass_hyphen t e = pass_at (in_class 0 0) 45 t refl (and_both _ _ e).0
 
@@ -148,7 +148,7 @@ module _ {table : Table} where
       (λ x. leads_then (class_parts_by table unicode n x.1) _ (lead_class_parts_by n unicode x.1)
       (λ y. leads_some (_, y.1) passes_same)))
 
--- a `^` that may stand at the front of a class
+-- An optional `^` at the start of a class is passed.
 pub pass_caret : {sets : Bool} {table : Table} (w : Home) (t : Source) → Passes sets table (home w) t (home w) (cond (is_at 94 t) (drop 1 t) t)
 pass_caret {sets} {table} w t = by (is_at 94 t) refl
   where

@@ -1,4 +1,4 @@
--- A scan passes what the rows without recursion read.
+-- The scan passes over what the productions without recursion parse.
 use Rattle.std.proofs.Common.{◌≡◌, ℕ, zero, suc, Bool, true, false, not, cond, ◌&&◌, ◌||◌, ◌==◌, nat_le, List, [], ◌∷◌, length, take, drop, Option, Some, None, refl, sym, ◌∙◌, subst, arith, eqb-true}
 use Rattle.std.proofs.lemmas.Bool.{false≢true}
 use Rattle.std.proofs.lemmas.Bool.Decides.{nat_tests}
@@ -14,7 +14,7 @@ use Rattle.regress_syntax.specs.Marks.{Mark}
 use Rattle.regress_syntax.specs.Scan.{Mode, plain, escape, class, class_escape, is_quiet, marks}
 use Rattle.regress_lexical.proofs.laws.Digits.{and_both}
 
--- ---- code points that a scan takes no notice of
+-- ---- code points that the scan ignores
 
 pub quiet_hex : (c : ℕ) → is_hex c ≡ true → is_quiet c ≡ true
 quiet_hex c e = grind (arith, nat_tests)
@@ -41,21 +41,21 @@ unquiet false false false true d e h = absurd (false≢true h)
 unquiet false false false false true e h = absurd (false≢true h)
 unquiet false false false false false true h = absurd (false≢true h)
 
--- ---- from one place to another
+-- ---- from one position to another
 
--- The scan from one place and mode on gives what it gives from another.
+-- The scan finds the same marks from one position and mode as from another.
 pub record Passes (sets : Bool) (table : Table) (m : Mode) (t : Source) (n : Mode) (rest : Source) : Type 0 where
   pub same : marks sets table m t ≡ marks sets table n rest
 
--- Whatever is found, the scan gives the same behind it.
+-- If something is found, the scan finds the same marks from the source after it.
 pub record Leads {A : Type 0} (sets : Bool) (table : Table) (m : Mode) (t : Source) (n : Mode) (found : Found A) : Type 0 where
   pub each : (x : A × Source) → found ≡ Some x → Passes sets table m t n x.1
 
--- Whatever is found, the marks are what is said of it and of the source behind.
+-- If something is found, these are its marks and those of the source after it.
 pub record Gives {A : Type 0} (ms : List Mark) (of : A → Source → List Mark) (found : Found A) : Type 0 where
   pub each : (x : A × Source) → found ≡ Some x → ms ≡ of x.0 x.1
 
--- where a row is read: outside of classes or in one
+-- where a production is parsed: outside of classes, or inside one
 pub data Home : Type 0 where
   in_text : Home
   in_class : (depth deepest : ℕ) → Home
@@ -64,7 +64,7 @@ abbrev pub home : Home → Mode
 home in_text = plain
 home (in_class depth deepest) = class depth deepest
 
--- behind a backslash there
+-- the mode after a backslash there
 abbrev pub behind_backslash : Home → Mode
 behind_backslash in_text = escape
 behind_backslash (in_class depth deepest) = class_escape depth deepest
@@ -75,7 +75,7 @@ gives_none = record { each = λ x e. absurd (none-some x e) }
 pub gives_some : {A : Type 0} {ms : List Mark} {of : A → Source → List Mark} (x : A × Source) → ms ≡ of x.0 x.1 → Gives ms of (Some x)
 gives_some {A} {ms} {of} x h = record { each = λ y e. subst (λ (z : A × Source). ms ≡ of z.0 z.1) (same_Some x y e) h }
 
--- the same, from other marks on
+-- The same holds of equal lists of marks.
 pub gives_after : {A : Type 0} {ms ns : List Mark} {of : A → Source → List Mark} {found : Found A} → ms ≡ ns → Gives ns of found → Gives ms of found
 gives_after e h = record { each = λ x found. e ∙ h.each x found }
 
@@ -155,7 +155,7 @@ module _ {sets : Bool} {table : Table} where
   pass_escaped in_text c t = record { same = refl }
   pass_escaped (in_class depth deepest) c t = record { same = refl }
 
-  -- ---- runs
+  -- ---- runs of code points
 
   pub pass_taken : (w : Home) (p : ℕ → Bool) → ((c : ℕ) → p c ≡ true → is_quiet c ≡ true) → (n : ℕ) (t : Source) →
       list_all p (take n t) ≡ true → Passes sets table (home w) t (home w) (drop n t)
@@ -176,7 +176,7 @@ module _ {sets : Bool} {table : Table} where
       by true e more = passes_then (pass_quiet w c t (quiet c e)) more
       by false e more = passes_same
 
-  -- those of the first n that pass
+  -- The code points among the first n that pass a test are passed.
   pub pass_front : (w : Home) (p : ℕ → Bool) → ((c : ℕ) → p c ≡ true → is_quiet c ≡ true) → (n : ℕ) (t : Source) →
       Passes sets table (home w) t (home w) (drop (length (front p (take n t))) t)
   unfolding front
@@ -204,7 +204,7 @@ module _ {sets : Bool} {table : Table} where
       (passes_then (pass_behind w is_hex quiet_hex t) (pass_at w 125 (behind is_hex t) refl (and_both _ _ (and_both _ _ e).0).1)))
       (λ _. leads_none)
 
-  -- `\u`
+  -- The start of an escape with `\u` is passed.
   pass_unicode : (w : Home) (t : Source) → is_at 92 t ≡ true → is_at 117 (drop 1 t) ≡ true → Passes sets table (home w) t (home w) (drop 2 t)
   pass_unicode w [] e k = absurd (false≢true e)
   pass_unicode w (c ∷ []) e k = absurd (false≢true k)
@@ -261,7 +261,7 @@ module _ {sets : Bool} {table : Table} where
       by true = rw octal (pass_front w is_octal quiet_octal 2 t)
       by false = rw octal (pass_front w is_octal quiet_octal 1 t)
 
-  -- behind the first code point
+  -- An escape is passed, after its first code point.
   lead_other_escape : (w : Home) (unicode : Bool) (c : ℕ) (t : Source) → Leads sets table (home w) t (home w) (other_escape unicode c t)
   lead_other_escape w unicode c t =
       leads_cond (c == 99) _ _ (λ _. lead_control_at w t)
@@ -283,7 +283,7 @@ module _ {sets : Bool} {table : Table} where
   lead_escape_at w unicode [] = leads_none
   lead_escape_at w unicode (c ∷ t) = leads_behind (pass_escaped w c t) (lead_escape_by w unicode c t (letter_escape c))
 
-  -- ---- quantifiers, outside a class
+  -- ---- quantifiers, outside of classes
 
   lead_count_at : (t : Source) → Leads sets table plain t plain (count_at t)
   lead_count_at t =

@@ -1,4 +1,4 @@
--- What a scan gives of the rows of the grammar.
+-- The marks that the scan finds in the productions of the grammar.
 use Rattle.std.proofs.Common.{◌≡◌, ℕ, zero, suc, ◌+◌, ◌<◌, ◌≤◌, Bool, true, false, not, cond, ◌&&◌, ◌||◌, ◌==◌, nat_le, List, [], ◌∷◌, ◌++◌, length, drop, Option, Some, None, is_some, ⊎_elim, refl, sym, ap, ap₂, ◌∙◌, subst, arith, eqb-true}
 use Rattle.std.proofs.lemmas.Bool.{cases_lt, cond-false, false≢true}
 use Rattle.std.proofs.lemmas.Bool.Decides.{nat_tests}
@@ -29,9 +29,9 @@ use Rattle.regress_syntax.proofs.ScanClasses.{lead_property_at, lead_class_at}
 use Rattle.regress_syntax.proofs.ScanSets.{gives_class_set_at}
 use Rattle.regress_lexical.proofs.laws.Sources.{EachRow, no_more, ◌also◌, first_row-has}
 
--- ---- names
+-- ---- characters of names
 
--- A character that a set of the table gives to names is quiet.
+-- The scan ignores the characters of names.
 quiet_member : (set : List Bounds) (c : ℕ) → HasWordAscii set → is_member set c ≡ true → is_quiet c ≡ true
 unfolding is_member is_within
 quiet_member set c ascii e =
@@ -130,18 +130,18 @@ module _ {sets : Bool} {table : Table} where
       (passes_then (pass_letters_off rest) (pass_at in_text colon (behind_letters_off rest) refl (and_both _ _ e).1))))
       (λ _. leads_none)
 
--- ---- items that hold no pattern
+-- ---- items without a body
 
--- the marks from a place of the pattern on
+-- the marks of the source from a position on
 abbrev marks_in : Context → Mode → Source → List Mark
 marks_in ctx m t = marks ctx.setting.flags.unicode_sets ctx.setting.table m t
 
--- an atom's marks, and those behind it
+-- an item's marks and those of the source after it
 abbrev behind_atom : Context → Atom → Source → List Mark
 behind_atom ctx a t = marks_of_atom a ++ marks_in ctx plain t
 
 module _ (ctx : Context) (lawful : IsLawful ctx.setting.table) where
-  -- an atom that has no mark
+  -- An item without marks leads to the marks after it.
   gives_unmarked : {A : Type 0} {m : Mode} {t : Source} (f : A → Atom) (found : Found A) → ((x : A) → marks_of_atom (f x) ≡ []) →
       Leads ctx.setting.flags.unicode_sets ctx.setting.table m t plain found → Gives (marks_in ctx m t) (behind_atom ctx) (found_map f found)
   gives_unmarked f found unmarked h =
@@ -189,7 +189,7 @@ module _ (ctx : Context) (lawful : IsLawful ctx.setting.table) where
       (λ _. gives_some (_, x.1) refl)
       (λ _. gives_none))
 
-  -- The backslash alone leaves the `c`, which is quiet.
+  -- A literal backslash leaves the `c` in the source, which the scan ignores.
   same_lone_backslash : (c : ℕ) (t : Source) → marks_in ctx escape (c ∷ t) ≡ marks_in ctx plain (99 ∷ t)
   unfolding marks
   same_lone_backslash c t = refl
@@ -221,7 +221,7 @@ module _ (ctx : Context) (lawful : IsLawful ctx.setting.table) where
   gives_escaped_at [] = gives_none
   gives_escaped_at (c ∷ t) = gives_escaped_by c t
 
-  -- outside a class a `]` is quiet too
+  -- Outside of classes the scan ignores `]` too.
   same_brace : (c : ℕ) (t : Source) → is_one_of "{]}" c ≡ true → marks_in ctx plain (c ∷ t) ≡ marks_in ctx plain t
   unfolding marks
   same_brace c t e =
@@ -283,19 +283,19 @@ module _ (ctx : Context) (lawful : IsLawful ctx.setting.table) where
       by None h = leads_cond (ctx.setting.flags.unicode && is_at 123 t) _ _ (λ _. leads_none) (λ _. leads_some (None, t) passes_same)
       by (Some x) h = leads_cond (allowed && is_ordered x.0) _ _ (λ _. leads_some (Some x.0, x.1) (h.each x refl)) (λ _. leads_none)
 
--- ---- what opens a group
+-- ---- the opening of a group
 
--- what an item begins with has these marks
+-- the marks of the start of an item
 abbrev pub marks_of_head : Head → List Mark
 marks_of_head (single a) = marks_of_atom a
 marks_of_head (opens kind) = mark_of_group kind ∷ []
 
 module _ (table : Table) where
-  -- no name, where no `<` stands
+  -- Without a `<` there is no name.
   no_angle : (t : Source) → is_at 60 t ≡ false → group_name_at table t ≡ None
   no_angle t e = cond-false _ _ _ e
 
-  -- a code point that begins no name
+  -- A code point that cannot begin a name begins none.
   no_name_at : (k : ℕ) (t : Source) → (k == 92) ≡ false → begins_name table k ≡ false → is_at k t ≡ true → name_at table t ≡ None
   unfolding name_at
   no_name_at k [] backslash begins e = refl
@@ -311,7 +311,7 @@ module _ (table : Table) where
       by false = refl
 
 module _ {table : Table} (lawful : IsLawful table) where
-  -- what is no word character begins no name
+  -- An ASCII character that is no word character, `$` or `_` cannot begin a name.
   begins_none : (c : ℕ) → c < 0x80 → is_member word_characters c ≡ false → is_sign c ≡ false → begins_name table c ≡ false
   begins_none c low no_word no_sign = by (is_member table.id_start c) refl
     where
@@ -327,34 +327,34 @@ module _ {table : Table} (lawful : IsLawful table) where
   unfolding is_member is_within
   exclamation_begins_none = begins_none 33 (omega arith) refl refl
 
--- the marks of what an item begins with, and those behind it
+-- the marks of the start of an item and of the source after it
 abbrev pub behind_head : (sets : Bool) (table : Table) → Head → Source → List Mark
 behind_head sets table head t = marks_of_head head ++ marks sets table plain t
 
--- the mark of a parenthesis with `?`, as a name is found behind that
+-- the mark of a parenthesis with `?`, by the name that follows
 abbrev named_mark : Found Name → Mark
 named_mark found = elim found as (λ _. Mark) [ None ↦ Marks.opens | Some x ↦ captures (Some x.0) ]
 
--- another code point stands at the front
+-- Only one code point is at the start.
 other_at : (k j : ℕ) (t : Source) → (k == j) ≡ false → is_at k t ≡ true → is_at j t ≡ false
 other_at k j [] other e = refl
 other_at k j (c ∷ t) other e = subst (λ d. (d == j) ≡ false) (sym (eqb-true c k e)) other
 
 module _ {sets : Bool} {table : Table} where
-  -- what was read has this mark
+  -- What is found has this mark.
   gives_marked : {A : Type 0} {t : Source} (m : Mark) (f : A → Head) (found : Found A) → Leads sets table plain t plain found →
       ((x : A) → marks_of_head (f x) ≡ m ∷ []) → Gives (m ∷ marks sets table plain t) (behind_head sets table) (found_map f found)
   gives_marked m f None h same = gives_none
   gives_marked m f (Some x) h same =
       gives_some (f x.0, x.1) (ap (λ ms. m ∷ ms) (h.each x refl).same ∙ ap (λ ms. ms ++ marks sets table plain x.1) (sym (same x.0)))
 
-  -- a name has its mark
+  -- A named group has its mark.
   gives_named : {t : Source} (found : Found Name) → Leads sets table plain t plain found →
       Gives (named_mark found ∷ marks sets table plain t) (behind_head sets table) (found_map (λ name. opens (capture (Some name))) found)
   gives_named None h = gives_none
   gives_named (Some x) h = gives_some (opens (capture (Some x.0)), x.1) (ap (λ ms. captures (Some x.0) ∷ ms) (h.each x refl).same)
 
-  -- a group without a name
+  -- A group without a name has the mark of a group that captures nothing.
   nameless : (kind : Group) (t rest : Source) → mark_of_group kind ≡ Marks.opens → group_name_at table t ≡ None →
       Passes sets table plain t plain rest → Gives (named_mark (group_name_at table t) ∷ marks sets table plain t) (behind_head sets table)
       (Some (opens kind, rest))
@@ -375,7 +375,7 @@ module _ (sets : Bool) {table : Table} (lawful : IsLawful table) where
       (λ mark. nameless _ t (drop 2 t) refl (no_group_name_at table 33 t refl (exclamation_begins_none lawful) mark) (pass_two 33 t refl e mark))
       (λ _. gives_named (group_name_at table t) (lead_group_name_at lawful t)))
 
-  -- a sign that opens no capture group
+  -- A character after `(?` that begins no name leads to the mark of a group that captures nothing.
   gives_sign : (kind : Group) (k : ℕ) (t : Source) → mark_of_group kind ≡ Marks.opens → is_quiet k ≡ true → (k == 60) ≡ false → is_at k t ≡ true →
       Gives (named_mark (group_name_at table t) ∷ marks sets table plain t) (behind_head sets table) (Some (opens kind, drop 1 t))
   gives_sign kind k t same quiet other e = nameless kind t (drop 1 t) same (no_angle table t (other_at k 60 t other e)) (pass_at in_text k t quiet e)

@@ -1,4 +1,4 @@
--- What a scan gives of classes with the flag v.
+-- The marks that the scan finds in classes with the flag v.
 use Rattle.std.proofs.Common.{◌≡◌, ℕ, zero, suc, ◌+◌, ◌-◌, max, Bool, true, false, cond, ◌&&◌, ◌||◌, ◌==◌, List, [], ◌∷◌, ◌++◌, length, drop, Option, Some, None, refl, sym, ap, ◌∙◌, subst, ap₂, arith, eqb-true, add-one}
 use Rattle.std.proofs.lemmas.Bool.{false≢true}
 use Rattle.std.proofs.lemmas.Bool.Decides.{nat_tests}
@@ -43,7 +43,7 @@ module _ {table : Table} (unicode : Bool) where
       quiet_member : (c : ℕ) (other : Bool) → (is_set_syntax c || other) ≡ false → is_quiet c ≡ true
       quiet_member c other e = grind (arith, nat_tests)
 
-  -- in a class a `|` is quiet too
+  -- Inside a class the scan ignores `|` too.
   pass_bar : (depth deepest : ℕ) (t : Source) → is_at 124 t ≡ true → Passes true table (class depth deepest) t (class depth deepest) (drop 1 t)
   unfolding marks
   pass_bar depth deepest [] e = absurd (false≢true e)
@@ -62,23 +62,23 @@ module _ {table : Table} (unicode : Bool) where
       (λ _. leads_then (set_character_at unicode t) _ (lead_set_character_at (in_class depth deepest) t)
       (λ x. lead_strings_by n depth deepest (s ++ x.0 ∷ []) x.1)))
 
--- ---- how deep classes lie
+-- ---- the nesting depth of classes
 
--- The marks from inside a class at this depth, in which so many levels lie so far. Classes in front of it went as deep as
--- `before`.
+-- The marks from a position inside a class that is open at `depth`. The classes inside it are nested `levels` deep so
+-- far, and earlier ones reached the depth `before`.
 abbrev within : (table : Table) (depth before levels : ℕ) → Source → List Mark
 within table depth before levels t = marks true table (class depth (max before (depth + levels))) t
 
--- behind its `]`
+-- the marks after the `]` of such a class
 abbrev closed : (table : Table) (depth before levels : ℕ) → Source → List Mark
 closed table zero before levels t = nests (max before (zero + levels)) ∷ marks true table plain t
 closed table (suc depth) before levels t = marks true table (class depth (max before (suc depth + levels))) t
 
--- What stands behind the `[` of a class gives this, wherever the class lies.
+-- The contents of a class have these marks at every depth.
 pub record GivesInner (table : Table) (inner : Source → Found (Bool × Value)) : Type 0 where
   pub each : (depth before : ℕ) (t : Source) → Gives (within table depth before 0 t) (λ x. closed table depth before x.1.levels) (inner t)
 
--- Where so many levels lie in a class, and then an operand with these.
+-- the marks after an operand, whose classes count towards `levels`
 abbrev behind_operand : (table : Table) (depth before levels : ℕ) → Operand → Source → List Mark
 behind_operand table depth before levels o t = within table depth before (max levels (value_of o).levels) t
 
@@ -111,11 +111,11 @@ module _ (table : Table) where
       same : max (max before (depth + levels)) (depth + 1) ≡ max (max before (depth + levels)) (suc depth + 0)
       same = omega arith
 
-  -- levels that come to the same
+  -- Equal nesting depths lead to equal marks.
   same_within : (depth before levels more : ℕ) (t : Source) → levels ≡ more → within table depth before levels t ≡ within table depth before more t
   same_within depth before levels more t e = ap (λ n. within table depth before n t) e
 
-  -- an operand that holds no class
+  -- An operand without classes does not change the depth.
   gives_flat : {A : Type 0} (depth before levels : ℕ) (m : List Mark) (f : A → Operand) (found : Found A) → ((x : A) → (value_of (f x)).levels ≡ 0) →
       Gives m (λ _. within table depth before levels) found → Gives m (behind_operand table depth before levels) (found_map f found)
   gives_flat depth before levels m f found flat h =
@@ -123,7 +123,7 @@ module _ (table : Table) where
       (λ x t. same_within depth before levels (max levels (value_of (f x)).levels) t (omega (arith, flat x)))
 
   module _ (unicode : Bool) where
-    -- the class in which so many levels lie
+    -- the mode inside such a class
     abbrev at_levels : (depth before levels : ℕ) → Home
     at_levels depth before levels = in_class depth (max before (depth + levels))
 
@@ -171,7 +171,7 @@ module _ (table : Table) where
         first_row-has (Gives (marks true table (behind_backslash (at_levels depth before levels)) (c ∷ t)) (behind_operand table depth before levels))
         (operand_rows table unicode in_negated c t) gives_none (operand_rows_give depth before levels in_negated c t)
 
-    -- behind a backslash
+    -- The marks of an operand, after its backslash.
     gives_escaped_operand_at : (depth before levels : ℕ) (in_negated : Bool) (t : Source) →
         Gives (marks true table (behind_backslash (at_levels depth before levels)) t) (behind_operand table depth before levels)
         (escaped_operand_at table unicode in_negated t)
@@ -179,7 +179,7 @@ module _ (table : Table) where
     gives_escaped_operand_at depth before levels in_negated (c ∷ t) =
         gives_escaped_by depth before levels in_negated c t (class_letter c)
 
-    -- a backslash at the front
+    -- A backslash at the start is passed.
     pass_backslash_at : (w : Home) (t : Source) → is_at 92 t ≡ true → Passes true table (home w) t (behind_backslash w) (drop 1 t)
     pass_backslash_at w [] e = absurd (false≢true e)
     pass_backslash_at w (c ∷ t) e =
@@ -201,7 +201,7 @@ module _ (table : Table) where
           (λ _. gives_flat depth before levels _ character (set_character_at unicode t) (λ x. refl)
           (gives_leads (lead_set_character_at unicode (at_levels depth before levels) t))))
 
-      -- ---- parts
+      -- ---- parts of a class
 
       gives_points : (depth before levels : ℕ) (made : Option (List Bounds)) (t : Source) →
           Gives (within table depth before (max (max levels 0) 0) t) (behind_part table depth before levels)
@@ -218,7 +218,7 @@ module _ (table : Table) where
       gives_range depth before levels (character a) (ClassSets.class others) t = gives_none
       gives_range depth before levels (ClassSets.class value) last t = gives_none
 
-      -- the quiet code point at the front
+      -- An ignored code point at the start is passed.
       pass_sign : (depth before levels k : ℕ) (t : Source) → is_quiet k ≡ true → is_at k t ≡ true →
           within table depth before levels t ≡ within table depth before levels (drop 1 t)
       pass_sign depth before levels k t quiet e = (pass_at (at_levels depth before levels) k t quiet e).same
@@ -251,7 +251,7 @@ module _ (table : Table) where
 
       -- ---- operators
 
-      -- the same sign twice
+      -- The two code points of an operator are passed.
       pass_signs : (depth before levels k : ℕ) (t : Source) → is_quiet k ≡ true → are_at k t ≡ true →
           within table depth before levels t ≡ within table depth before levels (drop 2 t)
       pass_signs depth before levels k t quiet e =
@@ -321,7 +321,7 @@ module _ (table : Table) where
           (gives_unless_of_strings depth before (is_at 94 t)));
     }
 
-    -- the outermost class has the mark that says how many levels lie in it
+    -- The mark of an outermost class has the nesting depth of the classes inside it.
     pub gives_class_set_at : (t : Source) →
         Gives (marks true table (class 0 0) t) (λ x rest. nests x.1.levels ∷ marks true table plain rest) (class_set_at table unicode t)
     gives_class_set_at t = record {

@@ -1,4 +1,4 @@
--- The state of a scan, and the marks that it passes.
+-- The state of a scan, and the marks that it has passed.
 use Rattle.std.proofs.Common.{◌≡◌, ℕ, ◌+◌, ◌-◌, ◌^◌, min, max, ◌≤◌, ◌<◌, inl, inr, ⊎_elim, append_assoc, Bool, true, false, cond, not, ◌==◌, ◌&&◌, List, [], ◌∷◌, ◌++◌, map, length, Option, Some, None, option_map, Vec, filter, is_some, ap₂, true≢false, refl, sym, ap, ◌∙◌, subst, arith, option_to_list, append-nil}
 use Rattle.std.specs.List.{list_all}
 use Rattle.std.specs.declared.alloc.Global.{Global}
@@ -18,7 +18,7 @@ use Rattle.regress_syntax.specs.Scanning.{depth_of, bears_name, capture_of, path
 use Rattle.regress_syntax.specs.declared.scan.scanner.Scanner.{Scanner}
 use Rattle.regress_syntax.specs.declared.scan.scanner.NamedGroup.{NamedGroup}
 
--- ---- groups without names conflict with none
+-- ---- groups without names do not conflict
 
 same_name-none : (a b : Option (List ℕ)) → is_some b ≡ false → same_name a b ≡ false
 same_name-none None b e = refl
@@ -72,9 +72,9 @@ pub none_added : (old new : List NamedGroup) (path : Path) (given : Option (Vec 
     map capture_of new ≡ map capture_of old ++ filter bears_name (record { path = path; name = option_map (λ name. name.items) given } ∷ [])
 none_added old new path given e same = rw (e, same) (sym (append-nil (map capture_of old)))
 
--- ---- levels
+-- ---- nesting depth
 
--- as many levels are open at least as before
+-- The greatest depth is at least the current one.
 pub deepest_above : (n : ℕ) (ms : List Mark) → n ≤ deepest n ms
 deepest_above n [] = omega arith
 deepest_above n (opens ∷ ms) = omega arith
@@ -83,7 +83,7 @@ deepest_above n (closes ∷ ms) = omega arith
 deepest_above n (next ∷ ms) = omega arith
 deepest_above n (nests levels ∷ ms) = omega (arith, deepest_above n ms)
 
--- ---- behind a mark
+-- ---- after a mark
 
 pub behind_opens : (all rest : List Mark) (old new : Scanner) →
     new ≡ record old { path = new.path; opened = new.opened; deepest = new.deepest } →
@@ -100,7 +100,7 @@ behind_opens all rest old new same place counted behind =
       levels = omega (arith, more, counted, behind.levels, ap (λ n. deepest n rest) more, deepest_above (length (path_of old.path) + 1) rest);
     }
 
--- the group stands in front of its parenthesis
+-- A group's path is that of the position before its parenthesis.
 pub behind_captures : (all rest : List Mark) (given : Option (Vec ℕ Global)) (old mid new : Scanner) →
     mid ≡ record old { names = mid.names; named = mid.named } → names_of mid.names.items ≡ names_of old.names.items ++ names_of (given ∷ []) →
     (length (path_of old.path) ≤ max_nesting_depth → map capture_of mid.named.items ≡ map capture_of old.named.items
@@ -134,7 +134,7 @@ behind_captures all rest given old mid new added names named same place counted 
 
 -- ---- at the end of a pattern
 
--- as many levels as were counted, unless there are more than can be
+-- The saturated depth is past the limit exactly if the depth is.
 counted : (n d : ℕ) → min n (2 ^ 64 - 1) ≡ min d (2 ^ 64 - 1) → (d ≤ max_nesting_depth → n ≤ max_nesting_depth) ×
     (max_nesting_depth < d → max_nesting_depth < n)
 counted n d same = (λ few. omega (arith, same), λ many. omega (arith, same))
@@ -147,7 +147,7 @@ pub apart_behind : (all : List Mark) (scanner : Scanner) → Behind all [] scann
 apart_behind all scanner behind few =
     are_apart-named (groups_by at_the_start all) ∙ ap are_apart (behind.named few ∙ append-nil (map capture_of scanner.named.items))
 
--- two groups that conflict, or seem to past the limit
+-- A conflict that the code finds is one, or the pattern is nested too deeply.
 pub refused_behind : (all : List Mark) (scanner : Scanner) → Behind all [] scanner → are_apart (map capture_of scanner.named.items) ≡ false →
     MarksShow all DuplicateName
 refused_behind all scanner behind conflicts =
@@ -158,7 +158,7 @@ refused_behind all scanner behind conflicts =
           (cases_lt max_nesting_depth (deepest 1 all)),
     )
 
--- more groups than 32 bits have numbers for
+-- There are more groups than 32 bits can number.
 pub many_behind : (all : List Mark) (scanner : Scanner) → Behind all [] scanner → 2 ^ 32 - 1 < length scanner.names.items → MarksShow all TooManyGroups
 many_behind all scanner behind many =
     let same : length (named_by all) ≡ length scanner.names.items =
@@ -167,7 +167,7 @@ many_behind all scanner behind many =
 
 -- ---- from one code point to the next
 
--- a code point opens one class at most
+-- A code point opens at most one class.
 pub depth-mode_behind : (sets : Bool) (mode : Mode) (c : ℕ) → depth_of (mode_behind sets mode c) ≤ depth_of mode + 1
 depth-mode_behind sets plain c = by (c == 92) (c == 91)
   where
@@ -188,7 +188,7 @@ depth-mode_behind sets (class depth deepest) c = by (c == 92) (c == 91 && sets) 
     by false false false false = omega arith
 depth-mode_behind sets (class_escape depth deepest) c = omega arith
 
--- what stands at a mark
+-- The invariant holds after a mark.
 pub at_mark : (sets : Bool) (table : Table) (mode : Mode) (c : ℕ) (rest t : Source) (all : List Mark) (mark : Mark) (scanner : Scanner) →
     rest ≡ c ∷ t → mark_at sets table mode c t ≡ Some mark →
     Behind all (marks sets table mode rest) scanner → Behind all (mark ∷ marks sets table (mode_behind sets mode c) t) scanner
@@ -199,7 +199,7 @@ at_mark sets table mode c rest t all mark scanner split marked behind =
     ∙ ap (λ (found : Option Mark). option_to_list found ++ marks sets table (mode_behind sets mode c) t) marked in
     subst (λ (ms : List Mark). Behind all ms scanner) whole behind
 
--- what stands at a code point that is no mark
+-- The invariant holds after a code point that is no mark.
 pub at_no_mark : (sets : Bool) (table : Table) (mode : Mode) (c : ℕ) (rest t : Source) (all : List Mark) (scanner : Scanner) →
     rest ≡ c ∷ t → mark_at sets table mode c t ≡ None →
     Behind all (marks sets table mode rest) scanner → Behind all (marks sets table (mode_behind sets mode c) t) scanner
@@ -210,7 +210,7 @@ at_no_mark sets table mode c rest t all scanner split marked behind =
     ∙ ap (λ (found : Option Mark). option_to_list found ++ marks sets table (mode_behind sets mode c) t) marked in
     subst (λ (ms : List Mark). Behind all ms scanner) whole behind
 
--- nothing is left
+-- At the end of the source all marks are passed.
 pub all_passed : (sets : Bool) (table : Table) (mode : Mode) (rest : Source) (all : List Mark) (scanner : Scanner) → length rest ≡ 0 →
     Behind all (marks sets table mode rest) scanner → Behind all [] scanner
 unfolding marks

@@ -1,24 +1,24 @@
--- The parentheses, bars and classes of a syntax tree: what a scan that knows no grammar can tell of a pattern.
+-- The marks of a syntax tree: its parentheses, bars and classes, which a scan without the grammar can find.
 use Rattle.std.specs.Prelude.{ℕ, List, [], ◌∷◌, ◌++◌, Option}
 use Rattle.regress_syntax.specs.Syntax.{Name, Atom, class_set, Group, capture, Pattern, Terms, Item, one, either, no_terms, more_terms, atom, group}
 
--- what tells the groups of a pattern apart
+-- what determines the groups of a pattern and its nesting depth
 pub data Mark : Type 0 where
   -- a parenthesis that opens no capture group
   opens : Mark
-  -- one that opens a capture group
+  -- a parenthesis that opens a capture group, with its name
   captures : (name : Option Name) → Mark
   closes : Mark
   -- `|`
   next : Mark
-  -- a class in which so many levels of classes lie
+  -- a class, with the nesting depth of the classes inside it
   nests : (levels : ℕ) → Mark
 
 abbrev pub mark_of_group : Group → Mark
 mark_of_group (capture name) = captures name
 mark_of_group kind = opens
 
--- only a class with the flag v tells how deep it is
+-- Only a class under the flag v has a mark, with its nesting depth.
 abbrev pub marks_of_atom : Atom → List Mark
 marks_of_atom (class_set flags negated value) = nests value.levels ∷ []
 marks_of_atom a = []

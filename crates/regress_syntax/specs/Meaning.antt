@@ -17,78 +17,81 @@ use Rattle.regress_tree.specs.Repetition.{repeat}
 use Rattle.regress_classes.specs.ClassRows.{members_of}
 use Rattle.regress_syntax.specs.Syntax.{Name, is_named, Target, by_number, by_name, Atom, literal, dot, anchor, boundary, class_escape, class, class_set, string_property, back_reference, Group, grouping, modified, capture, look, Pattern, Terms, Item, one, either, no_terms, more_terms, atom, group, opened_by, counts_of_item, counts_of_terms, counts_of_term, names}
 
--- a character matches the literal c: with the flag i where both have one image (ECMA-262, Canonicalize)
+-- A character matches the literal c: it is equal to c or, with the flag i, has the same canonical form (ECMA-262,
+-- Canonicalize).
 abbrev pub is_literal : Table → Flags → ℕ → ℕ → Bool
 is_literal table flags = stands_for table flags.icase flags.unicode
 
--- `.` stands for the character: a line terminator only with the flag s
+-- A character matches `.`: any but a line terminator, and with the flag s any at all (ECMA-262, CompileAtom).
 abbrev pub is_any : Flags → ℕ → Bool
 is_any flags x = flags.dot_all || not (is_line_terminator x)
 
--- the word set of `\b`, which the flags u and i together close (ECMA-262, WordCharacters)
+-- the word characters of `\b`, closed under case folding if both flags u and i are set (ECMA-262, WordCharacters)
 abbrev pub is_in_word : Table → Flags → ℕ → Bool
 is_in_word table flags = is_word_character table (flags.unicode && flags.icase)
 
--- A class holds these members, which the flag i closes, also without the flag u (this project's profile). Inversion comes
--- last.
+-- A character matches a class with these members: with the flag i it is in the closure of the members, also without the
+-- flag u (dialect). The class is inverted last (ECMA-262, CharacterSetMatcher).
 abbrev pub is_in_class : Table → Flags → (inverted : Bool) → List Bounds → ℕ → Bool
 is_in_class table flags inverted members x =
     differ inverted (if flags.icase then is_in_closure table members x else is_member members x)
 
--- the first part and then the others, or the other way round where matching runs backwards
+-- a sequence of two steps, in reverse order where matching runs backwards (ECMA-262, CompileSubpattern of Alternative)
 abbrev pub along : Direction → Step → Step → Step
 along forwards f g = f then_ g
 along backwards f g = g then_ f
 
--- the direction in which what a group holds is matched
+-- the direction in which the body of a group is matched
 abbrev pub direction_of_group : Group → Direction → Direction
 direction_of_group grouping d = d
 direction_of_group (modified change) d = d
 direction_of_group (capture name) d = d
 direction_of_group (look negate direction) d = direction
 
--- a group behind n opened ones, around what has these outcomes
+-- a group around a body, where n capture groups were opened before it
 abbrev pub group_steps : ℕ → Group → Step → Step
 group_steps n grouping body = body
 group_steps n (modified change) body = body
 group_steps n (capture name) body = Steps.capture n body
 group_steps n (look negate direction) body = Lookaround.look negate body
 
--- the groups with this name, of those of a list whose first one has number n
+-- the numbers of the groups with this name, in a list whose first group has number n
 abbrev pub groups_named : Name → ℕ → List (Option Name) → List ℕ
 groups_named name n [] = []
 groups_named name n (other ∷ names) =
     if is_named name other then n ∷ groups_named name (n + 1) names else groups_named name (n + 1) names
 
--- the groups that a reference stands for, in their order, where these are the names of all groups; groups are numbered from 1
+-- The numbers, from 1, of the groups that a reference names, in ascending order. The list has the names of all groups
+-- of the pattern.
 abbrev pub referred : List (Option Name) → Target → List ℕ
 referred all (by_number k) = k ∷ []
 referred all (by_name name) = groups_named name 1 all
 
--- references to these groups, one after the other as alternatives are
+-- references to these groups, tried in order as alternatives are
 abbrev pub any_reference : (ℕ → Step) → List ℕ → Step
 any_reference refer [] = fail
 any_reference refer (k ∷ []) = refer k
 any_reference refer (k ∷ next ∷ ks) = refer k or_ any_reference refer (next ∷ ks)
 
--- An item of the groups start to end - 1, as often as the quantifier says. In a text of this length no more turns can move.
+-- A quantified item, whose captures are those of the groups start to end - 1 (ECMA-262, RepeatMatcher). Length + 1
+-- iterations suffice, since no more can each consume something in a text of this length.
 abbrev pub times_steps : (length : ℕ) → Option Quantifier → (start end : ℕ) → Step → Step
 times_steps length None start end body = body
 times_steps length (Some q) start end body = repeat (length + 1) q start end body
 
--- those of fewer code points than n: the strings of n - 1, and then the shorter ones
+-- the strings of fewer than n code points: those of n - 1 first, then the shorter ones
 abbrev pub shorter_than : ℕ → List (List ℕ) → List (List ℕ)
 shorter_than zero ss = []
 shorter_than (suc n) ss = filter (λ s. length s == n) ss ++ shorter_than n ss
 
--- The strings of a class in the order in which they are tried: longest first, equal lengths as they were read. None is
--- longer than all together.
+-- The strings of a class in the order in which they are tried: the longest first, and strings of equal length in the
+-- order of the pattern. None is longer than all of them concatenated.
 abbrev pub longest_first : List (List ℕ) → List (List ℕ)
 longest_first ss = shorter_than (length (concat ss) + 1) ss
 
--- the names are those of all groups of the whole pattern
+-- The names are those of all groups of the whole pattern.
 module _ (setting : Setting) (names : List (Option Name)) (text : List ℕ) where
-  -- the first of the strings that matches, and so on, character by character as a reference does
+  -- the strings tried in order, each matched character by character as a backreference is
   abbrev pub one_of_strings : Direction → Flags → List (List ℕ) → Step
   one_of_strings d flags =
       any_string d (of_characters text) (stands_for setting.table flags.icase setting.flags.unicode)
@@ -102,18 +105,18 @@ module _ (setting : Setting) (names : List (Option Name)) (text : List ℕ) wher
       one_character d (of_characters text) (is_in_class setting.table flags negated (members_of kind))
   atom_steps d (class flags inverted members) =
       one_character d (of_characters text) (is_in_class setting.table flags inverted members)
-  -- first the strings of two or more, then one of the code points, and last the empty string
+  -- first the strings of two or more code points, then one code point of the set, last the empty string
   atom_steps d (class_set flags negated value) =
       one_of_strings d flags (longest_first value.strings)
       or_ one_character d (of_characters text) (is_in_class setting.table flags negated value.members)
       or_ (if value.has_empty then stay else fail)
   atom_steps d (string_property flags written) = one_of_strings d flags written
-  -- no group switches the flag u, which is the setting's
+  -- No group changes the flag u, so the flag is that of the setting.
   atom_steps d (back_reference flags to) =
       any_reference (λ k. References.back_reference d (of_characters text) (stands_for setting.table flags.icase setting.flags.unicode) (k - 1))
       (referred names to)
 
-  -- the outcomes, with repeats, of what stands behind n opened groups
+  -- the outcomes, with duplicates, of a part of the pattern that follows n opened capture groups
   abbrev mutual
     pub pattern_steps : Direction → ℕ → Pattern → Step
     pattern_steps d n (one ts) = terms_steps d n ts
@@ -129,6 +132,6 @@ module _ (setting : Setting) (names : List (Option Name)) (text : List ℕ) wher
     item_steps d n (atom a) = atom_steps d a
     item_steps d n (group kind p) = group_steps n kind (pattern_steps (direction_of_group kind d) (n + opened_by kind) p)
 
--- what a pattern matches: its distinct outcomes in their order
+-- what a pattern matches: its distinct outcomes in order of preference (ECMA-262, CompilePattern)
 abbrev pub meaning : Setting → List ℕ → Direction → Pattern → Step
 meaning setting text d p s = distinct (pattern_steps setting (names p) text d 0 p s)

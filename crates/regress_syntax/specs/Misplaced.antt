@@ -1,4 +1,4 @@
--- Parentheses that close nothing, and levels past the limit, as a scan finds them.
+-- The first unmatched `)` of a pattern, and the first position at which it is nested too deeply, as a scan finds them.
 use Rattle.std.specs.Prelude.{ℕ, ◌+◌, ◌-◌, max, nat_le, Bool, false, ◌&&◌, [], ◌∷◌, length, Option, Some, None, if◌then◌else◌, ◌==◌}
 use Rattle.regress_base.specs.Limits.{max_nesting_depth}
 use Rattle.regress_lexical.specs.declared.fault.FaultKind.{FaultKind}
@@ -7,17 +7,17 @@ use Rattle.regress_lexical.specs.Source.{Source, char, opening, closing}
 use Rattle.regress_syntax.specs.Scan.{Mode, plain, escape, class, class_escape, mode_behind}
 
 pub data Flaw : Type 0 where
-  -- a parenthesis that closes nothing
+  -- a `)` that closes nothing
   unopened : Flaw
-  -- a parenthesis, or with the flag v a bracket in a class, that opens a level past the limit
+  -- a parenthesis or, with the flag v, a bracket in a class that nests deeper than the limit
   too_deep : Flaw
 
--- the kind of fault that is told of it
+-- the kind of the syntax error for it
 abbrev pub kind_of : Flaw → FaultKind
 kind_of unopened = UnbalancedParenthesis
 kind_of too_deep = TooDeep
 
--- whether a code point is one, where n levels of groups are open, the whole pattern among them
+-- A code point is such a flaw, where n groups are open, the whole pattern included.
 abbrev pub is_flaw : Flaw → (sets : Bool) → Mode → (n : ℕ) → ℕ → Bool
 is_flaw unopened sets plain n c = c == closing && n == 1
 is_flaw unopened sets escape n c = false
@@ -28,14 +28,14 @@ is_flaw too_deep sets escape n c = false
 is_flaw too_deep sets (class depth deepest) n c = sets && c == char "[" && nat_le max_nesting_depth (n + depth)
 is_flaw too_deep sets (class_escape depth deepest) n c = false
 
--- how many levels of groups are open behind a code point; the whole pattern is never closed
+-- the number of open groups after a code point; the whole pattern is never closed
 abbrev pub levels_behind : Mode → (n : ℕ) → ℕ → ℕ
 levels_behind plain n c = if c == opening then n + 1 else if c == closing then max 1 (n - 1) else n
 levels_behind escape n c = n
 levels_behind (class depth deepest) n c = n
 levels_behind (class_escape depth deepest) n c = n
 
--- how many code points are left from the first one on
+-- the number of code points that remain from the first such flaw on
 unfoldable pub left_at : Flaw → (sets : Bool) → Mode → (n : ℕ) → Source → Option ℕ
 left_at flaw sets mode n [] = None
 left_at flaw sets mode n (c ∷ t) =

@@ -1,37 +1,37 @@
--- Where capture groups stand, by the parentheses and bars of a pattern, and which of one name conflict there.
+-- The paths of capture groups, by the marks of a pattern, and which groups of one name conflict.
 use Rattle.std.specs.Prelude.{ℕ, ◌+◌, Bool, true, false, not, ◌&&◌, ◌||◌, List, [], ◌∷◌, reverse, Option, ◌==◌, IsTrue}
 use Rattle.std.specs.List.{list_all}
 use Rattle.regress_syntax.specs.Syntax.{Name}
 use Rattle.regress_syntax.specs.Marks.{Mark, opens, captures, closes, next, nests}
 use Rattle.regress_syntax.specs.SameNames.{same_name}
 
--- ---- where groups stand
+-- ---- the paths of groups
 
--- A disjunction that holds a place: the whole pattern, or what stands in parentheses of any form.
+-- a disjunction that contains a position: that of the whole pattern, or that inside a pair of parentheses
 pub record Level : Type 0 where
-  -- its parenthesis, counted in order from 1; 0 for the whole pattern
+  -- the number of its opening parenthesis, from 1; 0 for the whole pattern
   pub opening : ℕ
-  -- the number of its alternative in which the place stands, from 0
+  -- the index, from 0, of its alternative that contains the position
   pub alternative : ℕ
 
--- the disjunctions that hold a place, the innermost first
+-- the disjunctions that contain a position, innermost first
 abbrev pub Path : Type 0
 Path = List Level
 
--- a place of a pattern, and how many parentheses were opened in front of it
+-- a position in a pattern, with the number of parentheses opened before it
 pub record Place : Type 0 where
   pub path : Path
   pub opened : ℕ
 
--- in the first alternative of the whole pattern
+-- the start of the pattern, in the first alternative of its disjunction
 abbrev pub at_the_start : Place
 at_the_start = record { path = record { opening = 0; alternative = 0 } ∷ []; opened = 0 }
 
--- behind a parenthesis that opens
+-- the position after an opening parenthesis
 abbrev pub enter : Place → Place
 enter place = record { path = record { opening = place.opened + 1; alternative = 0 } ∷ place.path; opened = place.opened + 1 }
 
--- the path outside the innermost disjunction; the whole pattern is never left
+-- the path without its innermost disjunction; the whole pattern is never left
 abbrev pub outside : Path → Path
 outside [] = []
 outside (level ∷ []) = level ∷ []
@@ -42,12 +42,12 @@ abbrev pub next_alternative : Path → Path
 next_alternative [] = []
 next_alternative (level ∷ path) = record level { alternative = level.alternative + 1 } ∷ path
 
--- a capture group: the path of the place before its parenthesis, and its name
+-- a capture group: the path of the position before its parenthesis, and its name
 pub record CaptureAt : Type 0 where
   pub path : Path
   pub name : Option Name
 
--- the capture groups, in order
+-- the capture groups of the marks, in order, from a position on
 abbrev pub groups_by : Place → List Mark → List CaptureAt
 groups_by place [] = []
 groups_by place (opens ∷ ms) = groups_by (enter place) ms
@@ -58,24 +58,26 @@ groups_by place (nests levels ∷ ms) = groups_by place ms
 
 -- ---- groups of one name
 
--- Whether some disjunction holds both places, in different alternatives. Here the outermost comes first: the disjunctions
--- that hold both stand in front, in both paths, and inside different alternatives there is none.
+-- Some disjunction has the two positions in different alternatives. The paths start with the outermost disjunction
+-- here: a common prefix has the disjunctions that contain both positions, since different alternatives contain none in
+-- common.
 abbrev pub are_alternatives : Path → Path → Bool
 are_alternatives [] other = false
 are_alternatives (level ∷ path) [] = false
 are_alternatives (level ∷ path) (beside ∷ other) =
     level.opening == beside.opening && (not (level.alternative == beside.alternative) || are_alternatives path other)
 
--- Two groups of one name conflict unless some disjunction holds both in different alternatives.
+-- Two groups of one name conflict unless some disjunction has them in different alternatives (ECMA-262,
+-- MightBothParticipate).
 abbrev pub conflict : CaptureAt → CaptureAt → Bool
 conflict a b = same_name a.name b.name && not (are_alternatives (reverse a.path) (reverse b.path))
 
--- no two of them conflict
+-- no two of the groups conflict
 abbrev pub are_apart : List CaptureAt → Bool
 are_apart [] = true
 are_apart (g ∷ gs) = list_all (λ other. not (conflict g other)) gs && are_apart gs
 
--- no two of these marks' groups conflict
+-- no two groups of the marks conflict
 abbrev pub are_marks_apart : List Mark → Bool
 are_marks_apart ms = are_apart (groups_by at_the_start ms)
 

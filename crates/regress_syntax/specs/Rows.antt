@@ -1,5 +1,5 @@
--- The rows of the grammar that need no recursion, as functions of the source: where two could apply, the earlier one is
--- the one (ECMA-262, Patterns).
+-- The productions of the grammar without recursion, as functions of the source (ECMA-262, Patterns). Of two productions
+-- that apply, the first in the list is used.
 use Rattle.std.specs.Prelude.{ℕ, Bool, true, false, not, ◌&&◌, ◌||◌, [], ◌∷◌, drop, List, Option, Some, None, is_some, if◌then◌else◌, nat_le, ◌==◌}
 use Rattle.std.specs.List.{list_any}
 use Rattle.regress_base.specs.Intervals.{Bounds}
@@ -19,21 +19,21 @@ use Rattle.regress_lexical.specs.Modifiers.{changed, modifiers_at}
 use Rattle.regress_syntax.specs.Names.{group_name_at}
 use Rattle.regress_syntax.specs.Syntax.{Name, is_named, by_number, by_name, Atom, literal, dot, anchor, boundary, class_escape, class, class_set, string_property, back_reference, Group, grouping, modified, capture, look, Item, atom, group}
 
--- What the rows look at beside the source: the flags in force and the table, and how many capture groups the whole
--- pattern has and which names, `None` where a group has none.
+-- The context on which the productions depend besides the source: the flags in force and the Unicode table, and the
+-- number of capture groups of the whole pattern with their names, `None` for a group without a name.
 pub record Context : Type 0 where
   pub setting : Setting
   pub groups : ℕ
   pub names : List (Option Name)
 
--- the context of what stands inside a group
+-- the context of a group's body
 abbrev pub context_inside : Group → Context → Context
 context_inside grouping ctx = ctx
 context_inside (modified change) ctx = record ctx { setting = record ctx.setting { flags = changed change ctx.setting.flags } }
 context_inside (capture name) ctx = ctx
 context_inside (look negate direction) ctx = ctx
 
--- what an item begins with: all of it, or what its parenthesis opens
+-- the start of an item: a whole item without a body, or the opening of a group
 pub data Head : Type 0 where
   single : (a : Atom) → Head
   opens : (kind : Group) → Head
@@ -42,11 +42,11 @@ abbrev pub head_of_item : Item → Head
 head_of_item (atom a) = single a
 head_of_item (group kind p) = opens kind
 
--- a named group, from its `<` on
+-- a named group, starting at its `<`
 abbrev pub named_group_at : Table → Source → Found Head
 named_group_at table t = found_map (λ name. opens (capture (Some name))) (group_name_at table t)
 
--- from `<` on: a lookbehind, or a named group
+-- a lookbehind or a named group, starting at its `<`
 abbrev pub angle_at : Table → Source → Found Head
 angle_at table t =
     if is_at (char "=") (drop 1 t) then Some (opens (look false backwards), drop 2 t)
@@ -56,7 +56,7 @@ angle_at table t =
 abbrev pub modified_at : Source → Found Head
 modified_at t = found_map (λ change. opens (modified change)) (modifiers_at t)
 
--- behind `(?`
+-- what follows `(?`
 abbrev pub behind_mark_at : Table → Source → Found Head
 behind_mark_at table t =
     if is_at colon t then Some (opens grouping, drop 1 t)
@@ -65,11 +65,11 @@ behind_mark_at table t =
     else if is_at (char "<") t then angle_at table t
     else modified_at t
 
--- what a parenthesis opens, behind it: without `?` a group that captures and has no name
+-- What follows an opening parenthesis. Without `?` it opens a capture group without a name.
 abbrev pub group_at : Table → Source → Found Head
 group_at table t = if is_at question_mark t then behind_mark_at table (drop 1 t) else Some (opens (capture None), t)
 
--- a quantifier may stand behind all but `^` and `$`
+-- A quantifier may follow every item but `^` and `$`.
 abbrev pub atom_allows : Atom → Bool
 atom_allows (literal flags c) = true
 atom_allows (dot flags) = true
@@ -81,7 +81,7 @@ atom_allows (class_set flags negated value) = true
 atom_allows (string_property flags written) = true
 atom_allows (back_reference flags to) = true
 
--- behind a lookahead without the flag u, and behind no lookbehind
+-- A quantifier may follow a lookahead only without the flag u, and no lookbehind (ECMA-262, QuantifiableAssertion).
 abbrev pub group_allows : (unicode : Bool) → Group → Bool
 group_allows unicode grouping = true
 group_allows unicode (modified change) = true
@@ -89,7 +89,7 @@ group_allows unicode (capture name) = true
 group_allows unicode (look negate forwards) = not unicode
 group_allows unicode (look negate backwards) = false
 
--- whether a quantifier may stand behind an item that begins so
+-- A quantifier may follow an item that starts with this.
 abbrev pub allows : (unicode : Bool) → Head → Bool
 allows unicode (single a) = atom_allows a
 allows unicode (opens kind) = group_allows unicode kind
@@ -98,14 +98,15 @@ allows unicode (opens kind) = group_allows unicode kind
 abbrev pub begins_number : ℕ → Bool
 begins_number = is_between (char "1") (char "9")
 
--- whether some group has a name, and whether one has this name
+-- some group has a name, and some group has this name
 abbrev pub has_names : List (Option Name) → Bool
 has_names names = list_any is_some names
 
 abbrev pub has_name : Name → List (Option Name) → Bool
 has_name name names = list_any (is_named name) names
 
--- without the flag u, before `c` and no letter, the backslash stands alone, and the `c` is read next
+-- Without the flag u a backslash before a `c` that no letter follows is a literal, and the `c` is parsed next
+-- (ECMA-262, B.1.2).
 abbrev pub is_lone_backslash : (unicode : Bool) → ℕ → Source → Bool
 is_lone_backslash unicode c t = c == char "c" && not unicode && not (begins_with_letter t)
 
@@ -114,25 +115,25 @@ module _ (ctx : Context) where
   abbrev pub character_at : ℕ → Source → Found Atom
   character_at c t = found_map (literal ctx.setting.flags) (escape_at ctx.setting.flags.unicode (c ∷ t))
 
-  -- a property of code points, whose complement is closed with the flag i
+  -- A property of code points. With the flag i the complement of a negated one is taken before the closure.
   abbrev pub point_property : (negated : Bool) → List Bounds → Atom
   point_property negated members =
       if negated && ctx.setting.flags.icase
       then class ctx.setting.flags false (complement members)
       else class ctx.setting.flags negated members
 
-  -- A property. One of strings has no complement.
+  -- A property. A property of strings has no complement.
   abbrev pub property_atom : (negated : Bool) → Property × Source → Found Atom
   property_atom negated (of_points members, t) = Some (point_property negated members, t)
   property_atom negated (of_strings written, t) = if negated then None else Some (string_property ctx.setting.flags written, t)
 
-  -- behind `\p` or `\P`
+  -- what follows `\p` or `\P`
   abbrev pub property_atom_at : (negated : Bool) → Source → Found Atom
   property_atom_at negated t =
       property_at ctx.setting.flags.unicode_sets ctx.setting.table t >>= property_atom negated
 
-  -- A number, by the whole run of its digits: a reference where there are so many groups. Else it is refused with the flag
-  -- u, and without it the escape of a character.
+  -- A decimal number, the longest run of digits: a backreference if it is at most the number of groups. Otherwise it is
+  -- a syntax error with the flag u, and the escape of a character without it (ECMA-262, B.1.2).
   abbrev pub numbered_at : ℕ → Source → Found Atom
   numbered_at c t =
       let group = number 10 (front is_decimal (c ∷ t)) in
@@ -141,13 +142,13 @@ module _ (ctx : Context) where
       else if ctx.setting.flags.unicode then None
       else character_at c t
 
-  -- behind `\k`: a name that some group has
+  -- what follows `\k`: a name that some group has
   abbrev pub named_at : Source → Found Atom
   named_at t =
       group_name_at ctx.setting.table t >>= λ (name, rest).
       if has_name name ctx.names then Some (back_reference ctx.setting.flags (by_name name), rest) else None
 
-  -- the rows of an escape that begins with c and is no class, behind its backslash
+  -- the productions of an escape that is no class and begins with c, after its backslash
   abbrev pub escape_rows : ℕ → Source → List (Row Atom)
   escape_rows c t =
       when (c == char "b") (Some (boundary ctx.setting.flags false, t))
@@ -155,11 +156,11 @@ module _ (ctx : Context) where
       ∷ when (is_lone_backslash ctx.setting.flags.unicode c t) (Some (literal ctx.setting.flags (char "\\"), char "c" ∷ t))
       ∷ when (is_one_of "pP" c && (ctx.setting.flags.unicode || ctx.setting.flags.unicode_sets)) (property_atom_at (c == char "P") t)
       ∷ when (begins_number c) (numbered_at c t)
-      -- without the flag u and without names, `\k` is the escape of a character
+      -- Without the flag u and without named groups, `\k` is the escape of a character.
       ∷ when (c == char "k" && (ctx.setting.flags.unicode || has_names ctx.names)) (named_at t)
       ∷ otherwise (character_at c t) ∷ []
 
-  -- an escape that begins with c, behind its backslash
+  -- an escape that begins with c, after its backslash
   abbrev pub escaped_by : ℕ → Source → Found Atom
   escaped_by c t =
       elim (class_letter c) [
@@ -171,12 +172,13 @@ module _ (ctx : Context) where
   escaped_at [] = None
   escaped_at (c ∷ t) = escaped_by c t
 
-  -- `{`, `]` and `}` stand for themselves without the flag u, and `{` only where it begins no quantifier
+  -- Without the flag u, `{`, `]` and `}` are literals, and a `{` only where it begins no quantifier (ECMA-262,
+  -- ExtendedPatternCharacter).
   abbrev pub brace_by : ℕ → Source → Found Atom
   brace_by c t =
       if ctx.setting.flags.unicode || is_some (quantifier_at (c ∷ t)) then None else Some (literal ctx.setting.flags c, t)
 
-  -- what stands behind `[`
+  -- what follows `[`
   abbrev pub brackets_at : Source → Found Atom
   brackets_at t =
       if ctx.setting.flags.unicode_sets
@@ -185,7 +187,7 @@ module _ (ctx : Context) where
       else found_map (λ (inverted, members). class ctx.setting.flags inverted members)
       (class_at ctx.setting.table ctx.setting.flags.unicode t)
 
-  -- the rows of an item whose first code point is c and which holds no pattern
+  -- the productions of an item without a body whose first code point is c
   abbrev pub atom_rows : ℕ → Source → List (Row Atom)
   atom_rows c t =
       when (c == full_stop) (Some (dot ctx.setting.flags, t))
@@ -196,27 +198,27 @@ module _ (ctx : Context) where
       ∷ when (is_one_of "{]}" c) (brace_by c t)
       ∷ when (is_plain c) (Some (literal ctx.setting.flags c, t)) ∷ []
 
-  -- an item whose first code point is c and which holds no pattern
+  -- an item without a body whose first code point is c
   abbrev pub atom_by : ℕ → Source → Found Atom
   atom_by c t = first_row (atom_rows c t)
 
-  -- what an item begins with whose first code point is c
+  -- the start of an item whose first code point is c
   abbrev pub head_by : ℕ → Source → Found Head
   head_by c t = if c == opening then group_at ctx.setting.table t else found_map single (atom_by c t)
 
-  -- what the item at the front begins with
+  -- the start of the item at the start of the source
   unfoldable pub head_at : Source → Found Head
   head_at [] = None
   head_at (c ∷ t) = head_by c t
 
-  -- no quantifier, where none begins. With the flag u a `{` must begin one.
+  -- No quantifier begins here. With the flag u a `{` has to begin one.
   abbrev pub no_quantifier_at : Source → Found (Option Quantifier)
   no_quantifier_at t = if ctx.setting.flags.unicode && is_at (char "{") t then None else Some (None, t)
 
-  -- a quantifier, where one may stand. It asks for no more turns at least than at most.
+  -- A quantifier that is allowed, with a minimum that is at most its maximum.
   abbrev pub this_quantifier : Bool → Quantifier × Source → Found (Option Quantifier)
   this_quantifier allowed (q, t) = if allowed && is_ordered q then Some (Some q, t) else None
 
-  -- the quantifier behind an item, or none where none begins
+  -- the quantifier after an item, or `None` if none begins here
   unfoldable pub times_at : (allowed : Bool) → Source → Found (Option Quantifier)
   times_at allowed t = elim (quantifier_at t) [ None ↦ no_quantifier_at t | Some found ↦ this_quantifier allowed found ]

@@ -7,11 +7,11 @@ abbrev pub same_name : Option Name → Option Name → Bool
 same_name None other = false
 same_name (Some name) other = is_named name other
 
--- some name is one of both
+-- some name is in both lists
 abbrev pub share_name : List (Option Name) → List (Option Name) → Bool
 share_name here there = list_any (λ name. list_any (same_name name) there) here
 
--- Alternatives may share names. Terms in a row may not, nor a group and what lies in it.
+-- Alternatives may share names. Terms of one alternative may not, and neither may a group and its body.
 abbrev mutual
   pub are_names_apart : Pattern → Bool
   are_names_apart (one ts) = are_names_apart_in_terms ts

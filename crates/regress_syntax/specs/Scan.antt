@@ -1,4 +1,4 @@
--- The parentheses and bars of a pattern, by a scan of its code points that knows no grammar.
+-- The scan: the marks of a pattern, found in its code points without the grammar.
 use Rattle.std.specs.Prelude.{◌≡◌, ◌⊎◌, ◌<◌, ℕ, ◌+◌, ◌-◌, max, Bool, false, not, ◌&&◌, ◌||◌, List, [], ◌∷◌, ◌++◌, drop, length, Option, Some, None, if◌then◌else◌, ◌==◌}
 use Rattle.std.specs.Option.{option_to_list}
 use Rattle.regress_base.specs.Limits.{max_capture_groups, max_nesting_depth}
@@ -13,22 +13,22 @@ use Rattle.regress_syntax.specs.Paths.{are_marks_apart}
 use Rattle.regress_syntax.specs.Rows.{Context}
 use Rattle.regress_syntax.specs.Grammar.{IsPattern}
 
--- What a scan stands in: plain text, a class, or behind the backslash of an escape in one of these. In a class it knows how
--- many more are open inside the outermost, and how many were at most.
+-- The mode of a scan: plain text, a class, or after the backslash of an escape in one of these. In a class it has the
+-- number of classes that are open inside the outermost one, and the greatest such number so far.
 pub data Mode : Type 0 where
   plain : Mode
   escape : Mode
   class : (depth deepest : ℕ) → Mode
   class_escape : (depth deepest : ℕ) → Mode
 
--- behind a parenthesis that opens: a capture group has no `?`, or a name
+-- The mark of a parenthesis, by the source after it: it opens a capture group if no `?` follows, or `?` and a name.
 abbrev pub opened_at : Table → Source → Mark
 opened_at table t =
     if is_at question_mark t
     then elim (group_name_at table (drop 1 t)) [ None ↦ opens | Some found ↦ captures (Some found.0) ]
     else captures None
 
--- the mode behind a code point; `sets` is the flag v, with which classes nest
+-- the mode after a code point; `sets` is the flag v, with which classes nest
 abbrev pub mode_behind : (sets : Bool) → Mode → ℕ → Mode
 mode_behind sets plain c = if c == char "\\" then escape else if c == char "[" then class 0 0 else plain
 mode_behind sets escape c = plain
@@ -40,11 +40,11 @@ mode_behind sets (class depth deepest) c =
     else class depth deepest
 mode_behind sets (class_escape depth deepest) c = class depth deepest
 
--- a code point that is no mark, and leaves the mode as it is, in plain text and in a class
+-- a code point that is no mark and never changes the mode, in plain text or in a class
 abbrev pub is_quiet : ℕ → Bool
 is_quiet c = not (c == char "\\" || c == char "[" || c == char "]" || c == opening || c == closing || c == bar)
 
--- the mark that a code point is, if any, with the source behind it
+-- the mark that a code point is, if any; the source is what follows it
 abbrev pub mark_at : (sets : Bool) → Table → Mode → ℕ → Source → Option Mark
 mark_at sets table plain c t =
     if c == opening then Some (opened_at table t)
@@ -55,19 +55,19 @@ mark_at sets table escape c t = None
 mark_at sets table (class depth deepest) c t = if c == char "]" && depth == 0 && sets then Some (nests deepest) else None
 mark_at sets table (class_escape depth deepest) c t = None
 
--- the marks of a source, from a mode on: one where the first code point is one, and those from the mode behind it on
+-- the marks of a source, scanned from a mode on
 unfoldable pub marks : (sets : Bool) → Table → Mode → Source → List Mark
 marks sets table mode [] = []
 marks sets table mode (c ∷ t) = option_to_list (mark_at sets table mode c t) ++ marks sets table (mode_behind sets mode c) t
 
--- What a scan is good for: whatever the rows were told of groups and names, a syntax tree that the grammar derives has
--- the source's marks.
+-- What the scan guarantees: in whatever context of groups and names, every syntax tree that the grammar derives from
+-- the source has the marks that the scan finds.
 abbrev pub GivesMarks : (sets : Bool) → Table → Source → Type 0
 GivesMarks sets table t =
     (ctx : Context) (p : Pattern) → ctx.setting.flags.unicode_sets ≡ sets → ctx.setting.table ≡ table → IsPattern ctx p t [] →
     marks_of p ≡ marks sets table plain t
 
--- ---- what the marks say
+-- ---- what the marks determine
 
 -- the name of each capture group, in order
 abbrev pub named_by : List Mark → List (Option Name)
@@ -78,7 +78,7 @@ named_by (closes ∷ ms) = named_by ms
 named_by (next ∷ ms) = named_by ms
 named_by (nests levels ∷ ms) = named_by ms
 
--- how many levels are open at most, where so many are open before; the pattern's own is never closed
+-- The greatest nesting depth that the marks reach, from depth n on. The whole pattern counts one and is never closed.
 abbrev pub deepest : ℕ → List Mark → ℕ
 deepest n [] = n
 deepest n (opens ∷ ms) = max n (deepest (n + 1) ms)
@@ -87,7 +87,8 @@ deepest n (closes ∷ ms) = max n (deepest (max 1 (n - 1)) ms)
 deepest n (next ∷ ms) = max n (deepest n ms)
 deepest n (nests levels ∷ ms) = max (n + levels) (deepest n ms)
 
--- What a fault of this kind says of the marks. Past the limit of levels, groups that are apart may seem to conflict.
+-- What an error of this kind implies for the marks. In a pattern that is nested too deeply, groups that do not conflict
+-- may be reported.
 abbrev pub MarksShow : List Mark → FaultKind → Type 0
 MarksShow ms kind =
     ((kind ≡ DuplicateName) × ((are_marks_apart ms ≡ false) ⊎ (max_nesting_depth < deepest 1 ms)))

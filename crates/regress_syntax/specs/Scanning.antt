@@ -1,4 +1,4 @@
--- What the state of the scan stands for.
+-- What the values of the scanning code represent.
 use Rattle.std.specs.Prelude.{◌≡◌, ℕ, ◌+◌, ◌-◌, ◌^◌, min, max, ◌≤◌, ◌<◌, Bool, List, [], ◌∷◌, ◌++◌, map, length, reverse, Option, Some, None, option_map, is_some, filter, unwrap_or, Result, Ok, Err}
 use Rattle.std.specs.Cmp.Lexicographic.{slice_cmp}
 use Rattle.std.specs.Ordering.{nat_cmp, is_lt}
@@ -38,35 +38,35 @@ mark_of code_marks.Closes = closes
 mark_of code_marks.Next = next
 mark_of (code_marks.Nests levels) = nests levels
 
--- how many classes are open inside the outermost
+-- the number of classes that are open inside the outermost one
 abbrev pub depth_of : Mode → ℕ
 depth_of plain = 0
 depth_of escape = 0
 depth_of (class depth deepest) = depth
 depth_of (class_escape depth deepest) = depth
 
--- ---- where groups stand
+-- ---- paths and positions
 
 abbrev pub level_of : CodeLevel → Level
 level_of level = record { opening = level.opening; alternative = level.alternative }
 
--- the innermost level first
+-- innermost first
 abbrev pub path_of : CodePath → Path
 path_of path = reverse (map level_of path.levels.items)
 
 abbrev pub place_of : Scanner → Place
 place_of scanner = record { path = path_of scanner.path; opened = scanner.opened }
 
--- the highest number of an alternative
+-- the greatest index of an alternative
 abbrev pub highest : Path → ℕ
 highest [] = 0
 highest (level ∷ path) = max level.alternative (highest path)
 
--- the highest number that a place has
+-- the greatest number in a position
 abbrev pub highest_at : Place → ℕ
 highest_at place = max place.opened (highest place.path)
 
--- how many levels of groups are open behind a mark
+-- the number of open groups after a mark, the whole pattern included
 abbrev pub levels_after : Mark → ℕ → ℕ
 levels_after opens n = n + 1
 levels_after (captures name) n = n + 1
@@ -87,7 +87,7 @@ name_and_number group = (group.name.items, group.number)
 abbrev pub is_before : NamedGroup → NamedGroup → Bool
 is_before group other = is_lt (slice_cmp nat_cmp group.name.items other.name.items)
 
--- The groups that have names are those of all groups, unless 32 bits have no numbers for them.
+-- The named groups are those among all groups, with their numbers, as long as 32 bits suffice for the numbers.
 abbrev pub HasNumbers : Scanner → Type 0
 HasNumbers scanner =
     length scanner.names.items < 2 ^ 32 → map name_and_number scanner.named.items ≡ numbered 1 (names_of scanner.names.items)
@@ -95,33 +95,33 @@ HasNumbers scanner =
 abbrev pub bears_name : CaptureAt → Bool
 bears_name group = is_some group.name
 
--- What was found, and what the rest gives, is what all marks give.
+-- The scanner's invariant: what it has found, with what the remaining marks add, is what all marks determine.
 pub record Behind (all rest : List Mark) (scanner : Scanner) : Type 0 where
   pub names : named_by all ≡ names_of scanner.names.items ++ named_by rest
-  -- past the limit of levels paths are cut short
+  -- Past the limit of the nesting depth, paths are cut short.
   pub named : deepest 1 all ≤ max_nesting_depth → filter bears_name (groups_by at_the_start all)
       ≡ map capture_of scanner.named.items ++ filter bears_name (groups_by (place_of scanner) rest)
   pub some : 1 ≤ length (path_of scanner.path)
   pub opened : length (path_of scanner.path) ≤ scanner.deepest
-  -- no more are counted than a `usize` has numbers for
+  -- The depth saturates at `usize::MAX`.
   pub levels : min (deepest 1 all) (2 ^ 64 - 1) ≡ min (max scanner.deepest (deepest (length (path_of scanner.path)) rest)) (2 ^ 64 - 1)
 
--- ---- what is misplaced
+-- ---- misplaced positions
 
--- how many code points are left from the one on that was noted
+-- the position that was noted for a flaw, as the number of code points that remain from it on
 abbrev pub noted : Flaw → Misplaced → Option ℕ
 noted unopened misplaced = misplaced.unopened
 noted too_deep misplaced = misplaced.too_deep
 
--- The first of each in the source was noted, and nothing else.
+-- The first flaw of each kind in the source was noted, and nothing else.
 abbrev pub NotesFirst : (sets : Bool) → Source → Misplaced → Type 0
 NotesFirst sets t misplaced = (flaw : Flaw) → left_at flaw sets plain 1 t ≡ noted flaw misplaced
 
--- Where a fault is of such a kind and the source has such a place, that is the fault's.
+-- An error for one of the flaws is at the first such flaw of the source, if there is one.
 abbrev pub IsLocated : (sets : Bool) → Source → Refusal → Type 0
 IsLocated sets t r = (flaw : Flaw) (left : ℕ) → r.kind ≡ kind_of flaw → left_at flaw sets plain 1 t ≡ Some left → r.left ≡ left
 
--- a fault of the pattern is of a kind and at a place of which this holds
+-- the property holds of a syntax error; running out of memory is no syntax error
 abbrev pub OnRefusal : Fault → (Refusal → Type 0) → Type 0
 OnRefusal (Refused r) P = P r
 OnRefusal (Memory e) P = Unit {0}
@@ -130,13 +130,13 @@ abbrev pub FailsAt : {X : Type 0} → Result X Fault → (Refusal → Type 0) �
 FailsAt (Ok x) P = Unit {0}
 FailsAt (Err fault) P = OnRefusal fault P
 
--- what is noted for a fault of this kind
+-- the position that was noted for errors of this kind
 abbrev pub noted_for : Misplaced → FaultKind → Option ℕ
 noted_for misplaced UnbalancedParenthesis = misplaced.unopened
 noted_for misplaced TooDeep = misplaced.too_deep
 noted_for misplaced other = None
 
--- the fault, at the place that is noted for it
+-- the error, at the position that was noted for its kind
 abbrev pub located : Misplaced → Fault → Fault
 located misplaced (Refused r) = Refused (record r { left = unwrap_or (noted_for misplaced r.kind) r.left })
 located misplaced (Memory e) = Memory e

@@ -10,42 +10,42 @@ use Rattle.regress_tree.specs.Reading.{Direction}
 use Rattle.regress_classes.specs.ClassSets.{Value}
 use Rattle.regress_lexical.specs.Modifiers.{Change}
 
--- a name, by its characters
+-- the name of a group, as a list of characters
 abbrev pub Name : Type 0
 Name = List ℕ
 
--- whether a group has this name
+-- a group has this name
 abbrev pub is_named : Name → Option Name → Bool
 is_named name None = false
 is_named name (Some other) = bytes_eq other name
 
--- what a reference names: a group by its number, from 1, or all groups of a name
+-- the groups that a backreference names: one group by its number, from 1, or all groups of a name
 pub data Target : Type 0 where
   by_number : (number : ℕ) → Target
   by_name : (name : Name) → Target
 
--- An item that holds no pattern. Each keeps the flags that are in force where it stands.
+-- An item without a body. Each has the flags in force at its position.
 pub data Atom : Type 0 where
   literal : (flags : Flags) (c : ℕ) → Atom
   dot : (flags : Flags) → Atom
   anchor : (flags : Flags) (kind : AnchorType) → Atom
   boundary : (flags : Flags) (inverted : Bool) → Atom
-  -- a class by an escape, or the complement of one
+  -- a class escape such as `\d`, or its complement
   class_escape : (flags : Flags) (kind : CharacterClassType) (negated : Bool) → Atom
-  -- What stands between brackets, of which some may overlap. A property of code points is one too.
+  -- a class as a list of intervals, which may overlap; a property of code points is one too
   class : (flags : Flags) (inverted : Bool) (members : List Bounds) → Atom
-  -- with the flag v
+  -- a class set, under the flag v
   class_set : (flags : Flags) (negated : Bool) (value : Value) → Atom
   -- a property of strings
   string_property : (flags : Flags) (written : List (List ℕ)) → Atom
   back_reference : (flags : Flags) (to : Target) → Atom
 
--- What a parenthesis opens. A group has no number: that counts the parentheses opened before it.
+-- What an opening parenthesis begins. A group has no number: that is the number of capture groups opened before it.
 pub data Group : Type 0 where
   grouping : Group
   modified : (change : Change) → Group
   capture : (name : Option Name) → Group
-  -- a lookahead matches forwards and a lookbehind backwards
+  -- A lookahead matches forwards and a lookbehind backwards.
   look : (negate : Bool) (direction : Direction) → Group
 
 mutual
@@ -54,8 +54,7 @@ mutual
     one : (terms : Terms) → Pattern
     either : (terms : Terms) (others : Pattern) → Pattern
 
-  -- terms in a row, each an item and perhaps the quantifier behind it, which says how often (ECMA-262, Alternative and
-  -- Term)
+  -- a sequence of terms, each an item and the quantifier that follows it, if any (ECMA-262, Alternative and Term)
   pub data Terms : Type 0 where
     no_terms : Terms
     more_terms : (first : Item) (times : Option Quantifier) (rest : Terms) → Terms
@@ -64,7 +63,7 @@ mutual
     atom : (a : Atom) → Item
     group : (kind : Group) (body : Pattern) → Item
 
--- what is counted from the front of a pattern on: capture groups, and loops, which are items with a quantifier
+-- what is numbered from the start of a pattern: capture groups, and loops, which are items with a quantifier
 pub record Counts : Type 0 where
   pub groups : ℕ
   pub loops : ℕ
@@ -75,7 +74,7 @@ nothing_counted = record { groups = 0; loops = 0 }
 abbrev pub added : Counts → Counts → Counts
 added a b = record { groups = a.groups + b.groups; loops = a.loops + b.loops }
 
--- how many groups a parenthesis opens that capture
+-- the number of capture groups that a parenthesis opens
 abbrev pub opened_by : Group → ℕ
 opened_by grouping = 0
 opened_by (modified change) = 0
@@ -108,14 +107,14 @@ abbrev mutual
 abbrev pub counts_of_term : Item → Option Quantifier → Counts
 counts_of_term x q = added (counts_of_item x) (counts_of_times q)
 
--- the name of a capture group, or none; nothing for what captures nothing
+-- a list with the name of a capture group, `None` if it has no name; empty for other groups
 abbrev pub names_of_group : Group → List (Option Name)
 names_of_group grouping = []
 names_of_group (modified change) = []
 names_of_group (capture name) = name ∷ []
 names_of_group (look negate direction) = []
 
--- the name of each capture group, by the order of opening parentheses
+-- the name of each capture group, in the order of the opening parentheses (ECMA-262, CountLeftCapturingParensBefore)
 abbrev mutual
   pub names : Pattern → List (Option Name)
   names (one ts) = names_of_terms ts
@@ -129,7 +128,7 @@ abbrev mutual
   names_of_item (atom a) = []
   names_of_item (group kind p) = names_of_group kind ++ names p
 
--- how many levels of classes lie in an item
+-- the nesting depth of the classes in an item
 abbrev pub levels_of_atom : Atom → ℕ
 levels_of_atom (literal flags c) = 0
 levels_of_atom (dot flags) = 0
@@ -141,8 +140,8 @@ levels_of_atom (class_set flags negated value) = value.levels
 levels_of_atom (string_property flags written) = 0
 levels_of_atom (back_reference flags to) = 0
 
--- How many levels there are: the pattern is one, and so is each group around what lies deepest, and each class around that
--- but the outermost.
+-- The nesting depth: the whole pattern counts one, and so does each group around the innermost item, and each class
+-- around it but the outermost.
 abbrev mutual
   pub levels : Pattern → ℕ
   levels (one ts) = 1 + levels_of_terms ts

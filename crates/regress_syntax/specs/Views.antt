@@ -1,4 +1,4 @@
--- What the values of the code stand for: items, and what lies around them.
+-- What the values of the code represent: groups and the context.
 use Rattle.regress_lexical.specs.Views.{change_of}
 use Rattle.std.specs.Prelude.{◌≡◌, ℕ, List, map, Option, option_map}
 use Rattle.regress_tree.specs.Reading.{direction_if}
@@ -22,7 +22,7 @@ context_of scope = record {
   names = names_in scope.groups.now;
 }
 
--- references to these groups, and what they are there
+-- The numbers are those of the groups that this backreference names.
 abbrev pub AreReferences : Context → List ℕ → Atom → Type 0
 AreReferences ctx numbers a =
     (to : Target) × (a ≡ back_reference ctx.setting.flags to) × (numbers ≡ referred ctx.names to)

@@ -1,4 +1,4 @@
-//! What a parenthesis opens.
+//! What follows an opening parenthesis: the kind of group that it begins.
 ghost use Rattle.regress_lexical.specs.Fault.{FailsByNoLimit};
 ghost use Rattle.regress_lexical.specs.Reads.{Reads, AlwaysReads};
 ghost use Rattle.regress_syntax.specs.Rows.{opens, named_group_at, modified_at, angle_at, behind_mark_at, group_at};
@@ -12,16 +12,17 @@ use regress_lexical::fault::{Fault, FaultKind};
 use regress_lexical::modifiers::{Change, read_modifiers};
 use regress_unicode::Tables;
 
-/// What a parenthesis opens.
+/// The kind of group that an opening parenthesis begins.
 #[derive(Drop)]
 pub enum Group {
-    /// `(?:`.
+    /// `(?:`: a group that captures nothing.
     Grouping,
-    /// `(?`, modifiers and `:`: flags are switched on what stands inside.
+    /// `(?`, modifiers and `:`: a group that changes flags for its body.
     Modified(Change),
-    /// `(`, or `(?<` with a name: a capture group.
+    /// `(`, or `(?<`, a name and `>`: a capture group, with its name if it has one.
     Capture(Option<Name>),
-    /// `(?=`, `(?!`, `(?<=` or `(?<!`.
+    /// `(?=`, `(?!`, `(?<=` or `(?<!`: a lookaround. `negate` means that it is negated, `backwards` that it is a
+    /// lookbehind.
     Look { negate: bool, backwards: bool },
 }
 
@@ -30,7 +31,10 @@ impl Group {
     ghost use Rattle.regress_syntax.specs.Rows.{group_allows};
     ghost use Rattle.regress_syntax.specs.Views.{group_of};
 
-    /// Whether a quantifier may stand behind what is opened so.
+    /// Returns whether a quantifier may follow a group of this kind. `unicode` is the flag u.
+    ///
+    /// A lookahead takes a quantifier only without the flag u (ECMA-262, QuantifiableAssertion), a lookbehind takes
+    /// none, and every other group takes one.
     pub fn allows_quantifier(&self, unicode: bool) -> bool
         ensures { result ≡ group_allows unicode (group_of self.now) }
     {
@@ -41,7 +45,17 @@ impl Group {
     }
 }
 
-/// Reads what a parenthesis opens, behind it.
+/// Parses what follows an opening parenthesis, up to the group's body, and returns the kind of group.
+///
+/// `cursor` is just after the `(`; on success it ends at the start of the group's body.
+///
+/// # Errors
+/// After an error the position of `cursor` is unspecified.
+/// - [`FaultKind::InvalidGroupName`] if `(?` is at the end of the pattern, or if `(?<` begins neither a lookbehind nor
+///   a name.
+/// - [`FaultKind::InvalidModifier`] if what follows `(?` is neither `:`, `=`, `!`, `<`, a list of modifiers with its
+///   `:`, nor the end of the pattern.
+/// - [`Fault::Memory`] if an allocation fails.
 pub fn read_group(cursor: &mut Cursor, tables: &Tables) -> Result<Group, Fault>
     ensures value { Reads (λ kind. opens (group_of kind)) (source cursor.new) result (group_at (table_of tables.now) (source cursor.old)) }
     ensures kind { FailsByNoLimit result }
@@ -53,7 +67,7 @@ pub fn read_group(cursor: &mut Cursor, tables: &Tables) -> Result<Group, Fault>
     }
 }
 
-/// Reads what stands behind `(?`.
+/// Parses what follows `(?`.
 fn read_behind_mark(cursor: &mut Cursor, tables: &Tables) -> Result<Group, Fault>
     ensures value { Reads (λ kind. opens (group_of kind)) (source cursor.new) result (behind_mark_at (table_of tables.now) (source cursor.old)) }
     ensures kind { FailsByNoLimit result }
@@ -77,7 +91,7 @@ fn read_behind_mark(cursor: &mut Cursor, tables: &Tables) -> Result<Group, Fault
     }
 }
 
-/// Reads a lookbehind or a name, from its `<` on.
+/// Parses a lookbehind or a named group, starting at its `<`.
 fn read_behind_angle(cursor: &mut Cursor, tables: &Tables) -> Result<Group, Fault>
     ensures value { Reads (λ kind. opens (group_of kind)) (source cursor.new) result (angle_at (table_of tables.now) (source cursor.old)) }
     ensures kind { FailsByNoLimit result }
@@ -101,7 +115,7 @@ fn read_behind_angle(cursor: &mut Cursor, tables: &Tables) -> Result<Group, Faul
     }
 }
 
-/// Reads the name of a capture group.
+/// Parses the name of a capture group, starting at its `<`.
 fn read_named_group(cursor: &mut Cursor, tables: &Tables) -> Result<Group, Fault>
     ensures value { Reads (λ kind. opens (group_of kind)) (source cursor.new) result (named_group_at (table_of tables.now) (source cursor.old)) }
     ensures kind { FailsByNoLimit result }
@@ -115,7 +129,7 @@ fn read_named_group(cursor: &mut Cursor, tables: &Tables) -> Result<Group, Fault
     }
 }
 
-/// Reads modifiers. At the end of the pattern a name is wanting.
+/// Parses modifiers and their `:`. At the end of the pattern the error is that of a missing name.
 fn read_modified(cursor: &mut Cursor) -> Result<Group, Fault>
     ensures value { AlwaysReads (λ kind. opens (group_of kind)) (source cursor.new) result (modified_at (source cursor.old)) }
     ensures kind { FailsByNoLimit result }

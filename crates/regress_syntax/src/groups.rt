@@ -8,23 +8,23 @@ mod named;
 
 use crate::names::Name;
 
-/// The capture groups of a whole pattern.
+/// The capture groups of a whole pattern, with their names.
 #[derive(Drop)]
 pub struct Groups {
-    /// How many there are, and `u16::MAX` where there are more.
+    /// The number of groups; `u16::MAX` if there are more.
     pub(crate) count: u16,
-    /// The name of each, in the order of their parentheses.
+    /// The name of each group, in the order of the opening parentheses; `None` for a group without a name.
     pub(crate) names: Vec<Option<Name>>,
     /// Whether some group has a name.
     named: bool,
-    /// The groups that have names, by their numbers from 1: sorted by name, those of one name ascending.
+    /// The numbers, from 1, of the groups that have names: sorted by name, and ascending for equal names.
     sorted: Vec<u32>,
     ghost told: { named ≡ has_names (names_of names.items) } by { Prim.hlevel props },
     ghost by_name: { AreSortedByName (names_of names.items) sorted.items } by { Prim.hlevel props },
 }
 
 impl Groups {
-    /// How many there are, and `u16::MAX` where there are more.
+    /// Returns the number of capture groups, or `u16::MAX` if there are more.
     pub fn count(&self) -> u16
         ensures { result ≡ self.now.count }
     {

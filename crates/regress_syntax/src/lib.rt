@@ -1,5 +1,5 @@
-//! What a pattern is: its syntax tree and what that matches, the rows of the grammar that need no
-//! recursion, and the faults of a pattern that is none.
+//! The syntax of patterns: the syntax tree and what it matches (in `specs/`), the productions of the grammar that need
+//! no recursion, and the syntax errors of a pattern that the grammar rejects.
 #![tactic(auto)]
 
 mod group;

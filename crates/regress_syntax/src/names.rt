@@ -1,4 +1,4 @@
-//! Names of groups.
+//! Parses the names of groups.
 ghost use Rattle.std.specs.Prelude.{◌≡◌, ◌+◌, ◌++◌, length, Some, None, if◌then◌else◌, option_map, IfOk};
 ghost use Rattle.regress_lexical.specs.Source.{found_map};
 ghost use Rattle.regress_syntax.specs.Names.{is_sign, begins_name, continues_name, written_at, name_character_at, rest_of_name_by, name_at, group_name_at};
@@ -10,20 +10,20 @@ use regress_lexical::escape::read_unicode;
 use regress_unicode::Tables;
 use std::alloc::{AllocError, Global};
 
-/// A name of a group, by its characters.
+/// The name of a capture group, as a list of characters.
 pub type Name = Vec<char>;
 
-/// Most names are no longer: for so many characters memory is asked once.
+/// The initial capacity of a name, in characters: most names need one allocation.
 const USUAL_LENGTH: usize = 8;
 
-/// `$` and `_`.
+/// Whether `c` is `$` or `_`.
 fn is_sign(c: u32) -> bool
     ensures { result ≡ is_sign c }
 {
     c == u32::from('$') || c == u32::from('_')
 }
 
-/// The character, if it may begin a name.
+/// Returns `c` as a character if it may begin a name (ECMA-262, RegExpIdentifierStart).
 fn first_character(c: u32, tables: &Tables) -> Option<char>
     ensures { result ≡ (if begins_name (table_of tables.now) c then Some c else None) }
 {
@@ -34,7 +34,7 @@ fn first_character(c: u32, tables: &Tables) -> Option<char>
     }
 }
 
-/// The character, if it may go on in a name: the joiners U+200C and U+200D are among those.
+/// Returns `c` as a character if it may continue a name (ECMA-262, RegExpIdentifierPart). U+200C and U+200D may.
 fn further_character(c: u32, tables: &Tables) -> Option<char>
     ensures { result ≡ (if continues_name (table_of tables.now) c then Some c else None) }
 {
@@ -45,7 +45,7 @@ fn further_character(c: u32, tables: &Tables) -> Option<char>
     }
 }
 
-/// One character, as it is or by a form of `\u` that gives a value.
+/// Parses one character of a name: a literal one, or an escape with `\u` that has a value.
 fn read_written<'a>(source: &'a [u32]) -> Read<'a, u32>
     ensures { answered result ≡ written_at source.now }
 {
@@ -57,7 +57,7 @@ fn read_written<'a>(source: &'a [u32]) -> Read<'a, u32>
     }
 }
 
-/// Reads a character that may begin a name.
+/// Parses a character that may begin a name.
 fn read_first<'a>(source: &'a [u32], tables: &Tables) -> Read<'a, char>
     ensures { answered result ≡ name_character_at (begins_name (table_of tables.now)) source.now }
 {
@@ -65,7 +65,7 @@ fn read_first<'a>(source: &'a [u32], tables: &Tables) -> Read<'a, char>
     Some((first_character(c, tables)?, rest))
 }
 
-/// Reads a character that may go on in a name.
+/// Parses a character that may continue a name.
 fn read_further<'a>(source: &'a [u32], tables: &Tables) -> Read<'a, char>
     ensures { answered result ≡ name_character_at (continues_name (table_of tables.now)) source.now }
 {
@@ -73,7 +73,7 @@ fn read_further<'a>(source: &'a [u32], tables: &Tables) -> Read<'a, char>
     Some((further_character(c, tables)?, rest))
 }
 
-/// Reads on behind the characters of a name, up to a `>` that stands as it is.
+/// Parses the rest of a name, up to an unescaped `>`, and appends it to `name`.
 fn read_rest<'a>(
     source: &'a [u32],
     tables: &Tables,
@@ -95,7 +95,7 @@ fn read_rest<'a>(
     }
 }
 
-/// Reads a name in angle brackets (ECMA-262, GroupName).
+/// Parses a name in angle brackets (ECMA-262, GroupName). The result is `None` if there is no well-formed name.
 #[tactic(auto, unfolding(crate::specs::Names::name_at))]
 pub(crate) fn read_group_name<'a>(
     alloc: Global,

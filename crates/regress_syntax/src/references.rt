@@ -1,4 +1,4 @@
-//! References to groups.
+//! Backreferences, by number and by name.
 ghost use Rattle.std.specs.Prelude.{◌≡◌, ◌||◌, true, IfOk, string_bytes, encode_utf8_all};
 ghost use Rattle.regress_lexical.specs.Escapes.{begins_with_digit};
 ghost use Rattle.regress_lexical.specs.Fault.{FailsByNoLimit};
@@ -15,7 +15,13 @@ use regress_lexical::digits::{Read, read_count};
 use regress_lexical::fault::{Fault, FaultKind, refused};
 use std::alloc::{AllocError, Global};
 
-/// Reads the number of a group by the whole run of digits, where there are so many groups.
+/// Parses a decimal group number, which is the longest run of digits at the start of `source`.
+///
+/// Returns the number and the source after it, or `None` if the number exceeds `groups`, the number of capture groups
+/// (at most `u16::MAX`).
+///
+/// # Preconditions
+/// `source` begins with a decimal digit.
 pub fn read_group_number<'a>(source: &'a [u32], groups: u16) -> Read<'a, u32>
     requires { begins_with_digit source.now ≡ true }
     ensures { answered result ≡ group_number_at groups source.now }
@@ -27,15 +33,25 @@ pub fn read_group_number<'a>(source: &'a [u32], groups: u16) -> Read<'a, u32>
     Some((number as u32, rest))
 }
 
-/// Whether `\k` begins a reference: without the flag u, only where some group has a name.
+/// Returns whether `\k` begins a reference by name: always with the flag u, and otherwise if some group has a name
+/// (ECMA-262, B.1.2, NamedCaptureGroups).
 pub fn has_references_by_name(scope: &Scope) -> bool
     ensures { result ≡ (scope.now.flags.unicode || has_names (context_of scope.now).names) }
 {
     scope.flags.unicode || scope.groups.has_names()
 }
 
-/// Reads a reference by name, behind `\k`: the groups of that name, by their numbers from 1. `begin` is how many code
-/// points were left before the backslash.
+/// Parses the name of a reference, after its `\k`, and returns the numbers of the groups of that name.
+///
+/// The numbers start at 1 and are ascending; there is at least one. On success `cursor` ends after the name's `>`.
+/// `begin` is the number of code points that remained before the backslash; an invalid name is reported at that
+/// position.
+///
+/// # Errors
+/// After an error the position of `cursor` is unspecified.
+/// - [`FaultKind::InvalidReference`] if no well-formed name in angle brackets follows.
+/// - [`FaultKind::UnknownName`] if no group has the name; its position is that of the name.
+/// - [`Fault::Memory`] if an allocation fails.
 pub fn read_reference<'a>(
     cursor: &mut Cursor,
     scope: &Scope<'a>,
@@ -50,7 +66,7 @@ pub fn read_reference<'a>(
     let numbers = scope.groups.numbers_of(&name);
     if numbers.is_empty() {
         let name = name_text(cursor.alloc, &name)?;
-        // The name is behind its `<`.
+        // The position of the name itself, after its `<`.
         let left = cursor.rest.len().saturating_sub(1);
         return Err(refused(left, FaultKind::UnknownName(name)));
     }
@@ -58,7 +74,7 @@ pub fn read_reference<'a>(
     Ok(numbers)
 }
 
-/// The name in UTF-8.
+/// Returns the name in UTF-8.
 fn name_text(alloc: Global, name: &[char]) -> Result<String, AllocError>
     ensures { IfOk result (λ text. string_bytes text ≡ encode_utf8_all name.now) }
 {

@@ -1,4 +1,4 @@
-//! The scan of a pattern for its capture groups.
+//! Scans a pattern for its capture groups, before it is parsed.
 ghost use Rattle.std.specs.Prelude.{◌≡◌, ◌≤◌, min, length, IfOk};
 ghost use Rattle.regress_base.specs.Limits.{max_capture_groups, max_nesting_depth};
 ghost use Rattle.regress_unicode.specs.TableOf.{table_of};
@@ -21,18 +21,33 @@ use regress_unicode::Tables;
 use scanner::Scanner;
 use std::alloc::Global;
 
-/// What a scan finds in a pattern.
+/// What the scan of a pattern finds.
 #[derive(Drop)]
 pub struct Findings {
-    /// Its capture groups.
+    /// The capture groups of the pattern.
     pub groups: Groups,
-    /// Where it is past mending, if it is.
+    /// The positions at which the pattern has errors that no continuation can repair.
     pub misplaced: Misplaced,
 }
 
-/// Finds the capture groups of a pattern and their names, without parsing it; `sets` is the flag v, with which classes
-/// lie in one another. The fault comes where two groups of one name conflict, wherever they stand, else where there are
-/// more levels than `MAX_NESTING_DEPTH`, else where there are more groups than 32 bits number.
+/// Finds the capture groups of `pattern` and their names by a scan of its code points, without parsing it.
+///
+/// `sets` is the flag v, with which classes nest. If the grammar derives the pattern, its syntax tree has exactly these
+/// groups, in this order. References need them before the pattern is parsed, since they may come before their groups.
+///
+/// # Errors
+/// The first of these that applies:
+/// - [`FaultKind::DuplicateName`] if two groups of the same name conflict: no disjunction has them in different
+///   alternatives (ECMA-262, MightBothParticipate). Its position is that of the later name. In a pattern that is nested
+///   too deeply, groups that do not conflict may be reported.
+/// - [`FaultKind::TooDeep`] if the pattern is nested deeper than `MAX_NESTING_DEPTH`.
+/// - [`FaultKind::TooManyGroups`] if the pattern has more than `u32::MAX` capture groups.
+///
+/// Returns [`Fault::Memory`] if an allocation fails.
+///
+/// # Complexity
+/// Linear in the length of the pattern, apart from sorting the named groups by name and by path. The path of a named
+/// group has at most `MAX_NESTING_DEPTH` levels.
 pub fn scan(alloc: Global, pattern: &[u32], sets: bool, tables: &Tables) -> Result<Findings, Fault>
     ensures names { IfOk result (λ found. names_in found.groups ≡ named_by (marks sets (table_of tables.now) plain pattern.now)) }
     ensures count { IfOk result (λ found. found.groups.count ≡ min (length (names_in found.groups)) max_capture_groups) }
@@ -47,7 +62,7 @@ pub fn scan(alloc: Global, pattern: &[u32], sets: bool, tables: &Tables) -> Resu
     Ok(Findings { groups, misplaced })
 }
 
-/// The capture groups and what is misplaced, with the same faults.
+/// Returns the capture groups and the misplaced positions, with the errors of `scan`.
 fn find_groups(
     alloc: Global,
     pattern: &[u32],

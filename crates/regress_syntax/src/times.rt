@@ -1,4 +1,4 @@
-//! The quantifier behind an item.
+//! Parses the quantifier after an item.
 ghost use Rattle.regress_lexical.specs.Fault.{FailsByNoLimit};
 ghost use Rattle.regress_lexical.specs.Reads.{AlwaysReads};
 ghost use Rattle.regress_syntax.specs.Rows.{times_at};
@@ -11,8 +11,15 @@ use regress_lexical::fault::{Fault, FaultKind};
 use regress_lexical::quantifier::{is_ordered, may_begin, read_quantifier};
 use regress_tree::ir::Quantifier;
 
-/// Reads the quantifier behind an item, if one begins there. The fault comes where none may stand, where it asks
-/// for more turns at least than at most, and with the flag u at a `{` that begins none.
+/// Parses the quantifier after an item (ECMA-262, Quantifier), or returns `None` if none begins here.
+///
+/// `allowed` means that the item before it may take a quantifier. On success `cursor` ends after the quantifier.
+///
+/// # Errors
+/// After an error the position of `cursor` is unspecified.
+/// - [`FaultKind::QuantifierNotAllowed`] if a quantifier follows although `allowed` is `false`.
+/// - [`FaultKind::InvalidQuantifier`] if the quantifier's minimum exceeds its maximum, or, with the flag u, if a `{`
+///   begins no quantifier.
 #[tactic(auto, unfolding(crate::specs::Rows::times_at))]
 pub fn read_times(
     cursor: &mut Cursor,

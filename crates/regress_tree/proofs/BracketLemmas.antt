@@ -1,4 +1,4 @@
--- Where a bracket may be the body of a loop over one character.
+-- Brackets as the body of a `Loop1CharBody`.
 use Rattle.std.proofs.Common.{◌≡◌, Bool, true, false, not, List, IsTrue, ◌↔◌, refl, sym, ◌∙◌}
 use Rattle.std.proofs.lemmas.Bool.{false≢true}
 use Rattle.regress_base.specs.Intervals.{Bounds, IsCanonical}

@@ -1,4 +1,4 @@
--- Which trees are duplicated.
+-- Lemmas about the trees that `try_duplicate` copies.
 use Rattle.std.proofs.Common.{◌≡◌, ℕ, ◌+◌, ◌<◌, ◌≤◌, inl, inr, max, Bool, true, false, not, ◌&&◌, ◌||◌, nat_le, arith, List, length, get_or, drop, sym, ap, ◌∙◌}
 use Rattle.std.proofs.lemmas.Bool.{cases_lt}
 use Rattle.std.proofs.lemmas.Bool.Decides.{nat_tests}
@@ -30,7 +30,7 @@ too_deep : (depth more : ℕ) (strings rest : Bool) → 100 < depth →
 too_deep depth more true rest deep = grind (arith, nat_tests)
 too_deep depth more false rest deep = grind (arith, nat_tests)
 
--- those without a `StringSet` whose nodes all stand at a depth of at most 100
+-- They are the trees without a `StringSet` whose nodes are all at a depth of at most 100.
 mutual
   pub may_duplicate-is : (depth : ℕ) (t : Tree) → may_duplicate depth t ≡ (not (has_string_set t) && nat_le (depth + levels t) 101)
   may_duplicate-is depth (leaf l) = one_level depth (is_string_set l)
@@ -58,7 +58,7 @@ mutual
       rw (may_duplicate-is depth t, may_duplicate_row-is depth ts h)
       (both_inside depth (levels t) (levels_of_deepest ts) (has_string_set t) (some_node_in_row (on_leaf is_string_set) ts))
 
--- A row, of which a node is to be duplicated.
+-- A list with a node that is to be duplicated.
 module _ (nodes : List Node) (i : ℕ) (node : Node) (in_row : i < length nodes) (is : node ≡ get_or nodes i node) where
   left : trees (drop i nodes) ≡ more_trees (tree node) (trees (drop (i + 1) nodes))
   left = ap trees (left_is nodes i node in_row is)

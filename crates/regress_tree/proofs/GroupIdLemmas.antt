@@ -1,4 +1,4 @@
--- Sets of ids, page by page.
+-- Lemmas about sets of ids, page by page.
 use Rattle.std.proofs.Common.{◌≡◌, ◌≢◌, ℕ, ◌/◌, ◌%◌, ◌<◌, ◌==◌, ◌||◌, false, List, length, get_or, set, replicate, Some, sym, ap, ◌∙◌, inl, inr, length-set, get_or-set_same, get_or-set_other, arith}
 use Rattle.std.specs.Prelude.{slice_get}
 use Rattle.std.proofs.lemmas.Bool.{cases_eq, cases_lt, ne_eqb, eq-eqb}
@@ -54,7 +54,7 @@ module _ (ids : GroupIds) (id : ℕ) (d : ByteBitmap) (inside : id / 256 < lengt
             | inr ne ↦ ne_eqb (k % 256) (id % 256) (λ e. ne (omega (arith, same, e))) ∙ sym (ne_eqb k id ne)
           ]
 
--- no page holds an id
+-- Empty pages contain no id.
 pub holds-none : (page : ByteBitmap) → ((b : ℕ) → contains page b ≡ false) → (n k : ℕ) →
     holds (record { pages = replicate n page }) k ≡ false
 unfolding holds

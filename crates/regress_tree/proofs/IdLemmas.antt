@@ -1,4 +1,4 @@
--- Ids that differ, counted: they fill a range where none lies outside and they are as many as it holds.
+-- Counting of distinct ids: they fill a range if none is outside and their number is that of the range.
 use Rattle.std.proofs.Common.{◌≡◌, ◌≢◌, ℕ, zero, suc, ◌+◌, ◌-◌, ◌<◌, ◌≤◌, ◌==◌, ◌&&◌, nat_le, nat_lt, Bool, true, false, List, [], ◌∷◌, ◌++◌, length, refl, sym, ap, subst, ◌∙◌, ◌⊎◌, inl, inr, eqb-true, leb-true, le-leb, ltb-true, lt-ltb, arith}
 use Rattle.std.specs.Prelude.{if◌then◌else◌}
 use Rattle.std.proofs.lemmas.Bool.{cases_eq, cases_lt, cases_Bool, ne_eqb, eq-eqb, and_parts, and_from}
@@ -25,19 +25,19 @@ times-append k cs ds = sum_by-append (λ c. if c.id == k then 1 else 0) cs ds
 abbrev one_if : Bool → ℕ
 one_if b = if b then 1 else 0
 
--- the ids are start to end - 1, each once
+-- The ids are start to end - 1, each once.
 abbrev pub HasIds : (start end : ℕ) → List Capture → Type 0
 HasIds start end cs = (k : ℕ) → times k cs ≡ (if nat_le start k && nat_lt k end then 1 else 0)
 
 abbrev pub Differ : List Capture → Type 0
 Differ cs = (k : ℕ) → times k cs ≤ 1
 
--- all ids lie there
+-- All ids are in the range.
 abbrev Within : (start end : ℕ) → List Capture → Type 0
 Within start end [] = Unit {0}
 Within start end (c ∷ cs) = (start ≤ c.id) × (c.id < end) × Within start end cs
 
--- how many groups have one of the n ids from start on
+-- the number of groups that have one of the n ids from start on
 abbrev total : (start n : ℕ) → List Capture → ℕ
 total start zero cs = 0
 total start (suc n) cs = times start cs + total (start + 1) n cs
@@ -96,7 +96,7 @@ times-outside start end (c ∷ cs) within k out =
     times-other k c cs (λ e. out (omega (arith, within.0, e)) (omega (arith, within.1, e)))
     ∙ times-outside start end cs within.2 k out
 
--- What is told of them.
+-- ---- the summary of the ids
 
 within-told : (start end : ℕ) (cs : List Capture) → start ≤ least_id cs → past_ids cs ≤ end → Within start end cs
 within-told start end [] low high = tt
@@ -116,7 +116,7 @@ within-from start end (c ∷ cs) tells =
     (here.0, here.1, within-from start end cs (λ k some. tells k (λ none. some (omega (arith, none, times-cons k c cs)))))
 
 module _ (cs : List Capture) (differ : Differ cs) where
-  -- the ids that differ are no more than they can be
+  -- There are at most as many distinct ids as values below the end.
   pub differ-length : (end : ℕ) → past_ids cs ≤ end → length cs ≤ end
   differ-length end high =
       let within : Within 0 (0 + end) cs = within-told 0 (0 + end) cs (omega arith) (omega arith) in
@@ -171,7 +171,7 @@ has-length start end cs has =
     empty [] none within = omega arith
     empty (d ∷ ds) none within = absurd (omega (arith, within.0, within.1))
 
--- The test of a range is right, where the ids differ.
+-- ---- the test of a range is correct, for distinct ids
 
 module _ (g : Tally) (cs : List Capture) (referred : ℕ) (tells : IsTally g cs referred) where
   pub fill-has : Differ cs → (start end : ℕ) → end ≤ 65536 → fill start end g ≡ true → HasIds start end cs
@@ -192,7 +192,7 @@ module _ (g : Tally) (cs : List Capture) (referred : ℕ) (tells : IsTally g cs 
       (and_from (nat_le g.past end) _ (le-leb g.past end (omega (arith, told.1, tells.past)))
       (eq-eqb g.count (end - start) (omega (arith, many, tells.count))))
 
-  -- all ids are below the number of groups
+  -- All ids are less than the number of groups.
   pub all-has : Differ cs → fill 0 g.count g ≡ true → (g.count ≡ length cs) × HasIds 0 (length cs) cs
   all-has differ full =
       let most = differ-length cs differ 65536 (omega (arith, tells.past, tells.past_in_range)) in

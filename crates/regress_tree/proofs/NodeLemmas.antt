@@ -1,4 +1,4 @@
--- What a node is, from what it is not.
+-- The kind of a node, by exclusion of the others.
 use Rattle.std.proofs.Common.{◌≡◌, Bool, true, false, map, sym, ap, ◌∙◌, ℕ, Vec, Box, Global, rules, arith}
 use Rattle.std.specs.Box.{boxed_slice_items}
 use Rattle.std.specs.declared.boxed.BoxedSlice.{BoxedSlice}
@@ -13,7 +13,7 @@ pub tree-StringSet : (alternatives : Vec (BoxedSlice ℕ Global) Global) (icase 
 tree-StringSet alternatives icase =
     ap tree (sym (rolls-StringSet alternatives icase)) ∙ fold-roll-Node Tree tree_of_level (Node-F.StringSet alternatives icase)
 
--- what is neither a `Cat` nor an `Alt` and holds no node is a leaf
+-- A node that is neither a `Cat` nor an `Alt` and has no body is a leaf.
 pub leaf_of : (node : Node) → ((parts : Vec Node Global) → node ≡ Cat parts → ⊥) → ((left right : Box Node Global) → node ≡ Alt left right → ⊥) →
     is_wrapper (tree node) ≡ false → is_leaf (tree node) ≡ true
 leaf_of node not_cat not_alt no_wrapper = first_of (search (rules, the_lemmas), grind (arith, the_lemmas))

@@ -1,4 +1,4 @@
--- What passes and what fails: rows, alternatives, and what holds one node.
+-- Success and failure of a survey: lists, alternatives, and nodes with a body.
 use Rattle.std.proofs.Common.{◌≡◌, ◌≢◌, ℕ, ◌+◌, ◌<◌, ◌==◌, ◌||◌, ◌⊎◌, inl, inr, Bool, true, false, List, [], ◌∷◌, ◌++◌, length, get_or, take, drop, max, Option, refl, sym, ap, subst, ◌∙◌, suc, append-nil, append_assoc, arith}
 use Rattle.std.specs.Option.{IfSome}
 use Rattle.std.proofs.Math.Seq.{split_at}
@@ -20,7 +20,7 @@ reference-append : (ts us : Trees) → reference_in_row (row_append ts us) ≡ m
 reference-append no_trees us = omega arith
 reference-append (more_trees t ts) us = omega (arith, reference-append ts us)
 
--- Rows.
+-- ---- lists
 
 module _ (ts us : Trees) (before mid : GroupIds) (g : Tally) where
   pub rows-pass : (after : GroupIds) (h : Tally) → SurveyedAt inside (cat ts) before mid g → SurveyedAt inside (cat us) mid after h →
@@ -65,7 +65,7 @@ module _ (parts : List Node) (i : ℕ) (in_row : i < length parts) (d node : Nod
       (rows-fail (trees (take i parts)) (row_append (more_trees (tree node) no_trees) rest) before mid g passed
       (rows-fail-first (more_trees (tree node) no_trees) rest mid (single-fail (tree node) mid here)))
 
--- Alternatives: the left sides so far, and what is still on the right.
+-- ---- alternatives: the left sides so far, and the remaining right side
 
 abbrev alternatives : Trees → Tree → Tree
 alternatives no_trees t = t
@@ -133,7 +133,7 @@ module _ (whole : Tree) (before mid : GroupIds) (g : Tally) where
       spine-fail-last (alt left right) s
       (IsRefused-as _ _ (sides-stand left right) refl (IsRefused-first (StandsAt inside right) (captures right) here))
 
--- What holds one node.
+-- ---- nodes with a body
 
 pub group-pass : (id : ℕ) (name : Option (List ℕ)) (body : Tree) (before mid after : GroupIds) (g : Tally) →
     IfSome name (λ bytes. bytes ≢ []) → id < 65536 → holds before id ≡ false →

@@ -1,4 +1,4 @@
--- The root, where the goal may stand, and what the whole pass tells.
+-- The survey of the root, where the goal is allowed, and the result of the whole pass.
 use Rattle.std.proofs.Common.{◌≡◌, ℕ, ◌≤◌, ◌&&◌, nat_le, nat_lt, Bool, true, false, Option, Some, None, MatchOption, [], ◌++◌, length, max, refl, sym, ap, subst, ◌∙◌, le-leb, leb-true, arith}
 use Rattle.std.specs.Prelude.{if◌then◌else◌}
 use Rattle.std.proofs.lemmas.Bool.{false≢true, cond-true, cond-false, and_parts}
@@ -15,7 +15,7 @@ use Rattle.regress_tree.proofs.IdLemmas.{all-has, has-all}
 use Rattle.regress_tree.proofs.SurveyLemmas.{IsSurveyed-as, IsRefused-as, differ-held}
 use Rattle.regress_tree.proofs.StandingLemmas.{MayStand-bounded, MayStand-at}
 
--- The goal at the end.
+-- ---- the goal at the end
 
 pub drop-goal : (us : Trees) (t : Tree) → is_goal t ≡ true → without_goal (row_append us (more_trees t no_trees)) ≡ us
 drop-goal no_trees t e = cond-true _ no_trees (more_trees t no_trees) e
@@ -37,7 +37,7 @@ root-inside n (wrapped w body) e f m = m
 inside-root : (n : ℕ) (t : Tree) → MayStand n t inside → MayStand n t root
 inside-root n t m = MayStand-from_last n t root tt (MayStand-from_last n t last tt m)
 
--- the one part of a row, by whether it is the goal
+-- a list of one part, or the empty list if that is the goal
 abbrev but_goal : Bool → Tree → Trees
 but_goal goes t = if goes then no_trees else more_trees t no_trees
 
@@ -80,7 +80,7 @@ reference-without no_trees = refl
 reference-without (more_trees t no_trees) = reference-one t (is_goal t) refl
 reference-without (more_trees t (more_trees u us)) = ap (λ r. max (reference t) r) (reference-without (more_trees u us))
 
--- The whole.
+-- ---- the whole pass
 
 pub cat-passes : (ts : Trees) (before after : GroupIds) (g : Tally) → SurveyedAt inside (cat (without_goal ts)) before after g →
     SurveyedAt root (cat ts) before after g

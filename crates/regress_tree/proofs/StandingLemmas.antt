@@ -1,4 +1,4 @@
--- Where parts may stand, whatever the number of capture groups.
+-- Where parts are allowed, whatever the number of capture groups.
 use Rattle.std.proofs.Common.{◌≡◌, ℕ, ◌≤◌, ◌==◌, ◌↔◌, Bool, true, false, not, IsTrue, All, nat_le, length, refl, List, [], ◌∷◌, ◌++◌, max, subst, arith}
 use Rattle.std.proofs.lemmas.Bool.{leb-true, le-leb, false≢true}
 use Rattle.regress_base.specs.Intervals.{Bounds, IsCanonical, code_point_max}
@@ -8,7 +8,7 @@ use Rattle.regress_tree.specs.Survey.{past_ids, reference_of, reference, referen
 use Rattle.regress_tree.proofs.laws.Rows.{row_append-none, RowMayStand-append, RowMayStand-split}
 use Rattle.regress_tree.proofs.SurveyLemmas.{past-append}
 
--- A part stands where there are as many groups as it speaks of.
+-- ---- a part is allowed in a tree that has the groups it refers to
 
 leaf_bound : (n : ℕ) (l : Leaf) (p : Position) → LeafMayStand n l p → reference_of l ≤ n
 leaf_bound n (back_ref group icase) p m = m.high
@@ -104,7 +104,7 @@ MayStand-more m n t p h s = MayStand-at m n t p s (bounded-more m n _ _ h (MaySt
 pub RowMayStand-more_groups : (m n : ℕ) (ts : Trees) (p : Position) → m ≤ n → RowMayStand m ts p → RowMayStand n ts p
 RowMayStand-more_groups m n ts p h s = RowMayStand-at m n ts p s (bounded-more m n _ _ h (RowMayStand-bounded m ts p s))
 
--- Two parts.
+-- ---- two parts
 
 pub stands-alt : (left right : Tree) → StandsAt inside left × StandsAt inside right → StandsAt inside (alt left right)
 stands-alt left right (a, b) =
@@ -139,7 +139,7 @@ stands-single t s = (s.0, (tt, s.1))
 pub single-stands : (t : Tree) → StandsAt inside (cat (more_trees t no_trees)) → StandsAt inside t
 single-stands t s = (s.0, s.1.1)
 
--- A leaf that refers to no group stands whatever their number.
+-- ---- a leaf without a reference is allowed whatever the number of groups
 
 pub stands-where : {P : Type 0} (told : Bool) → (IsTrue told ↔ P) → IsTrue told ↔ ((n : ℕ) × P)
 stands-where told e = (λ yes. (0, e.0 yes), λ s. e.1 s.1)
@@ -152,12 +152,12 @@ pub strings-stand-where : (told icase : Bool) (strings : List (List ℕ)) → (I
     IsTrue told ↔ StandsAt inside (leaf (string_set strings icase))
 strings-stand-where told icase strings e = (λ yes. (0, record { free = tt; bounded = e.0 yes }), λ s. e.1 s.1.bounded)
 
--- A reference stands where there are as many groups as its number.
+-- A back reference is allowed in a tree that has at least its number of groups.
 pub reference-stands-where : (group : ℕ) (icase : Bool) → IsTrue (nat_le 1 group) ↔ StandsAt inside (leaf (back_ref group icase))
 reference-stands-where group icase =
     (λ yes. (group, record { free = tt; low = leb-true 1 group yes; high = omega arith }), λ s. le-leb 1 group s.1.low)
 
--- A small set stands as one character where it is not empty.
+-- ---- a small set is allowed as the body of a `Loop1CharBody` if it is not empty
 
 pub some-small_set : (told empty : Bool) (count : ℕ) (members : List ℕ) (greatest : ℕ) → count ≡ length members → empty ≡ false →
     empty ≡ (count == 0) → (IsTrue told ↔ IsSmallSet members greatest inside) → IsTrue told ↔ IsSmallSet members greatest one_character

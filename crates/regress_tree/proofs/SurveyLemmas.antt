@@ -1,4 +1,4 @@
--- What one pass over a tree gathers, composed.
+-- Composition of the results of one pass over a tree.
 use Rattle.std.proofs.Common.{◌≡◌, ℕ, ◌+◌, ◌<◌, ◌≤◌, ◌==◌, Bool, true, false, ◌||◌, List, [], ◌∷◌, ◌++◌, min, max, refl, sym, ap, subst, ◌∙◌, inl, inr, length-append, arith}
 use Rattle.std.specs.Prelude.{if◌then◌else◌}
 use Rattle.std.proofs.lemmas.Bool.{cases_eq, ne_eqb, eq-eqb}
@@ -8,7 +8,7 @@ use Rattle.regress_tree.specs.WellFormed.{Capture}
 use Rattle.regress_tree.specs.Survey.{holds, times_held, times, least_id, past_ids, IsTally, joined, one, IsSurveyed, IsRefused}
 use Rattle.regress_tree.proofs.IdLemmas.{times-append, Differ}
 
--- What is told, of two parts.
+-- ---- the summary of two parts
 
 least-append : (cs ds : List Capture) → least_id (cs ++ ds) ≡ min (least_id cs) (least_id ds)
 least-append [] ds = omega (arith, least-bound ds)
@@ -40,7 +40,7 @@ IsTally-one id c same small = record {
   reference = refl;
 }
 
--- Two parts, one after the other.
+-- ---- two parts in sequence
 
 module _ {A B : Type 0} {cs ds : List Capture} {r q : ℕ} {before mid after : GroupIds} {g h : Tally} where
   pub IsSurveyed-then : IsSurveyed A cs r before mid g → IsSurveyed B ds q mid after h → IsSurveyed (A × B) (cs ++ ds) (max r q) before after (joined g h)
@@ -50,21 +50,21 @@ module _ {A B : Type 0} {cs ds : List Capture} {r q : ℕ} {before mid after : G
     told = IsTally-joined g h cs ds r q a.told b.told;
   }
 
--- a second part that fails
+-- The second part fails,
 pub IsRefused-second : {A B : Type 0} {cs ds : List Capture} {r : ℕ} {before mid : GroupIds} {g : Tally} → IsSurveyed A cs r before mid g →
     IsRefused B ds mid → IsRefused (A × B) (cs ++ ds) before
 IsRefused-second {cs = cs} {ds = ds} a b = record {
   refuted = λ stands differ. b.refuted stands.1 (λ k. omega (arith, a.ids k, differ k, times-append k cs ds));
 }
 
--- or the first
+-- or the first.
 pub IsRefused-first : {A : Type 0} {cs : List Capture} {before : GroupIds} (B : Type 0) (ds : List Capture) → IsRefused A cs before →
     IsRefused (A × B) (cs ++ ds) before
 IsRefused-first {cs = cs} B ds a = record {
   refuted = λ stands differ. a.refuted stands.0 (λ k. omega (arith, differ k, times-append k cs ds));
 }
 
--- The same under another name.
+-- ---- equal statements
 
 pub IsSurveyed-as : {A : Type 0} {cs : List Capture} {r : ℕ} {before after : GroupIds} {g : Tally} (B : Type 0) (ds : List Capture) (q : ℕ) →
     (A → B) → cs ≡ ds → r ≡ q → IsSurveyed A cs r before after g → IsSurveyed B ds q before after g
@@ -77,12 +77,12 @@ pub IsRefused-as : {A : Type 0} {cs : List Capture} {before : GroupIds} (B : Typ
 IsRefused-as {before = before} B ds to same fails =
     subst (λ l. IsRefused B l before) same (record { refuted = λ stands differ. fails.refuted (to stands) differ })
 
--- Where there is no group.
+-- ---- parts without a group
 
 pub IsSurveyed-none : {A : Type 0} {r : ℕ} {ids : GroupIds} {g : Tally} → A → IsTally g [] r → IsSurveyed A [] r ids ids g
 IsSurveyed-none stands told = record { stands = stands; ids = λ k. omega arith; told = told }
 
--- what passes has ids that differ
+-- A part that passes has distinct ids.
 pub differ-held : (before after : GroupIds) (cs : List Capture) → ((k : ℕ) → times_held after k ≡ times_held before k + times k cs) → Differ cs
 differ-held before after cs ids k = omega (arith, ids k, held_once (holds after k))
   where
@@ -90,7 +90,7 @@ differ-held before after cs ids k = omega (arith, ids k, held_once (holds after 
     held_once true = omega arith
     held_once false = omega arith
 
--- One id more.
+-- ---- one more id
 
 pub held-insert : (before after : GroupIds) (c : Capture) → holds before c.id ≡ false →
     ((k : ℕ) → holds after k ≡ ((k == c.id) || holds before k)) → (k : ℕ) →

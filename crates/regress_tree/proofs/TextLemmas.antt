@@ -1,4 +1,4 @@
--- Bytes that are the UTF-8 of characters.
+-- Lemmas about bytes that are the UTF-8 of characters.
 use Rattle.std.proofs.Math.ListN.{get_or-map}
 use Rattle.std.proofs.lemmas.List.{length-map}
 use Rattle.std.proofs.Common.{◌≡◌, ℕ, ◌<◌, ◌==◌, get_or, map, subst, true, IsTrue, List, [], ◌∷◌, length, All, Bool, Result, Ok, Err, MatchResult, refl, sym, ap, ◌∙◌, ◌↔◌, eqb-true, eq-eqb}
@@ -57,7 +57,7 @@ pub tells-one : (bytes : List ℕ) (count : ℕ) → IsUtf8 bytes → count ≡ 
 tells-one bytes count utf8 e =
     (λ said. are-one bytes utf8 (sym e ∙ eqb-true count 1 said), λ are. eq-eqb count 1 (e ∙ one-are bytes are))
 
--- what holds of each image holds of the image of each element
+-- What holds for all elements of a mapped list holds for the mapped element.
 pub at-image : {X Y : Type 0} (P : Y → Type 0) (f : X → Y) (xs : List X) (i : ℕ) (d x : X) → i < length xs → x ≡ get_or xs i d →
     All P (map f xs) → P (f x)
 at-image P f xs i d x h at all =

@@ -1,4 +1,4 @@
--- Laws of this crate's definitions, which the crates above may cite.
+-- Lemmas about the definitions of this crate, for use by other crates.
 pub mod Accepting
 pub mod Alike
 pub mod Assertions

@@ -1,8 +1,8 @@
--- What copying asks of a tree.
+-- The preconditions of copying a tree.
 use Rattle.std.specs.Prelude.{◌≤◌, Bool, true, false}
 use Rattle.regress_tree.specs.Tree.{Wrapper, capture_group, loop, loop_one, lookaround, Tree, Trees, leaf, cat, alt, wrapped, no_trees, more_trees}
 
--- it is no capture group, and no group is said to lie inside
+-- The wrapper is not a capture group, and its group range is empty.
 abbrev pub IsGroupless : Wrapper → Type 0
 IsGroupless (capture_group id name) = ⊥
 IsGroupless (loop quantifier start end) = end ≤ start
@@ -21,7 +21,7 @@ abbrev mutual
   NoneHasGroup no_trees = Unit {0}
   NoneHasGroup (more_trees t ts) = HasNoGroup t × NoneHasGroup ts
 
--- it holds no node
+-- The tree contains no other node.
 abbrev pub is_leaf : Tree → Bool
 is_leaf (leaf l) = true
 is_leaf t = false

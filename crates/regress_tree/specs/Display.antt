@@ -1,4 +1,4 @@
--- The printed tree: a line for each node, each node before its children.
+-- The printed form of a tree: a line for each node, each node before its children.
 use Rattle.std.specs.Prelude.{ℕ, ◌-◌, Bool, true, false, List, [], ◌++◌, length, min, replicate, codes, flat_map, Option, Some, None, if◌then◌else◌, nat_le}
 use Rattle.std.specs.List.{join_by, repeat}
 use Rattle.std.specs.Fmt.{decimal, digits}
@@ -13,24 +13,24 @@ use Rattle.regress_tree.specs.Visits.{deeper}
 abbrev pub truth : Bool → List ℕ
 truth b = if b then codes "true" else codes "false"
 
--- lower case, no leading zeros
+-- a number in lower-case hexadecimal, without leading zeros
 abbrev pub hexadecimal : ℕ → List ℕ
 hexadecimal n = digits 16 false n
 
--- `U+0041`: upper case, at least four digits
+-- a code point as `U+0041`: upper case, at least four digits
 abbrev pub code_point : ℕ → List ℕ
 code_point c = let numeral = digits 16 true c in codes "U+" ++ replicate (4 - length numeral) 48 ++ numeral
 
--- `U+0041-U+005A`
+-- an interval as `U+0041-U+005A`
 abbrev pub interval : Bounds → List ℕ
 interval iv = code_point iv.first ++ codes "-" ++ code_point iv.last
 
--- `None`, or `Some(2)`
+-- a maximum as `None` or `Some(2)`
 abbrev pub maximum : Option ℕ → List ℕ
 maximum None = codes "None"
 maximum (Some n) = codes "Some(" ++ decimal n ++ codes ")"
 
--- `Quantifier { min: 2, max: Some(2), greedy: true }`
+-- a quantifier as `Quantifier { min: 2, max: Some(2), greedy: true }`
 abbrev pub quantifier : Quantifier → List ℕ
 quantifier q = codes "Quantifier { min: " ++ decimal q.min ++ codes ", max: " ++ maximum q.max ++ codes ", greedy: " ++ truth q.greedy ++ codes " }"
 
@@ -38,7 +38,7 @@ abbrev pub anchored : AnchorType → List ℕ
 anchored StartOfLine = codes "StartOfLine"
 anchored EndOfLine = codes "EndOfLine"
 
--- what stands on the line of a node that holds no node
+-- the text on the line of a node that contains no node
 abbrev pub leaf_text : Leaf → List ℕ
 leaf_text empty = codes "Empty"
 leaf_text goal = codes "Goal"
@@ -56,7 +56,7 @@ leaf_text (bracket invert intervals) = codes "Bracket BracketContents { invert: 
 leaf_text (back_ref group icase) = codes "BackRef " ++ decimal group ++ codes " "
 leaf_text (string_set strings icase) = codes "StringSet count=" ++ decimal (length strings) ++ codes ", icase=" ++ truth icase
 
--- what stands on the line of a node that holds one
+-- the text on the line of a node with a body
 abbrev pub wrapper_text : Wrapper → List ℕ
 wrapper_text (capture_group id None) = codes "CaptureGroup " ++ decimal id
 wrapper_text (capture_group id (Some name)) = codes "CaptureGroup " ++ decimal id ++ codes " \"" ++ name ++ codes "\""
@@ -66,22 +66,22 @@ wrapper_text (lookaround negate backwards start end) = codes "LookaroundAssertio
     ++ (if negate then codes "negative " else codes "positive ") ++ (if backwards then codes "backwards " else codes "forwards ")
     ++ decimal start ++ codes " " ++ decimal end
 
--- what stands on the line of a node
+-- the text on the line of a node
 abbrev pub node_text : Tree → List ℕ
 node_text (leaf l) = leaf_text l
 node_text (cat parts) = codes "Cat"
 node_text (alt left right) = codes "Alt"
 node_text (wrapped w body) = wrapper_text w
 
--- two dots for each level, of at most 120, and how many more there are
+-- The indent at a depth: two dots for each node around, at most 120 times, and then the excess as a number.
 abbrev pub indent : ℕ → List ℕ
 indent depth = repeat (min depth 120) (codes "..") ++ (if nat_le depth 120 then [] else codes "(+" ++ decimal (depth - 120) ++ codes ").. ")
 
--- a whole line
+-- the line with this text, at a depth
 abbrev pub line : ℕ → List ℕ → List ℕ
 line depth text = indent depth ++ text ++ codes "\n"
 
--- the lines of a tree whose root is at that depth
+-- the lines of a tree whose root is at a depth
 abbrev mutual
   pub printed_at : ℕ → Tree → List ℕ
   printed_at depth (leaf l) = line depth (leaf_text l)

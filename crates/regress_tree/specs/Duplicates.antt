@@ -1,9 +1,9 @@
--- Which trees are duplicated, level by level.
+-- The trees that `try_duplicate` copies.
 use Rattle.std.specs.Prelude.{ℕ, ◌+◌, Bool, true, not, ◌&&◌, nat_le}
 use Rattle.regress_tree.specs.Shapes.{is_string_set}
 use Rattle.regress_tree.specs.Tree.{Tree, Trees, leaf, cat, alt, wrapped, no_trees, more_trees}
 
--- no node stands past the depth of 100, where the tree stands at this one, and none is a `StringSet`
+-- No node of the tree, whose root is at this depth, is at a depth above 100, and none is a `StringSet`.
 abbrev mutual
   pub may_duplicate : (depth : ℕ) → Tree → Bool
   may_duplicate depth (leaf l) = nat_le depth 100 && not (is_string_set l)

@@ -1,9 +1,9 @@
--- What a caller's walk may gather.
+-- The list that a caller's walk may collect.
 use Rattle.std.specs.Prelude.{List, [], ◌++◌}
 use Rattle.regress_tree.specs.WellFormed.{Capture, captures_of_wrapper}
 use Rattle.regress_tree.specs.Tree.{Tree, Trees, leaf, cat, alt, wrapped, no_trees, more_trees}
 
--- what all nodes of a tree have, each before those inside it
+-- the items of all nodes of a tree, each node before those inside it
 abbrev mutual
   pub gathered : {X : Type 0} → (Tree → List X) → Tree → List X
   gathered own (leaf l) = own (leaf l)

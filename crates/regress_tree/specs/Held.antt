@@ -1,4 +1,4 @@
--- The one tree that a wrapper holds.
+-- The body of a wrapper.
 use denote.RattleType.{RattleType}
 use Rattle.std.specs.Prelude.{◌≡◌, Bool, true, false, Option, OnSome}
 use Rattle.std.specs.Borrow.{MutBor}
@@ -20,20 +20,20 @@ pub record IsAround (t body : Tree) : Type 0 where
   pub wrapper : Wrapper
   pub is : t ≡ wrapped wrapper body
 
--- a wrapper with another body, and any other tree as it is
+-- a wrapper with its body replaced, or any other tree unchanged
 abbrev pub with_body : Tree → Tree → Tree
 with_body (wrapped w old) body = wrapped w body
 with_body t body = t
 
--- whether what a tree holds is matched backwards, where the tree is or is not
+-- whether the body of a tree is matched backwards, given whether the tree is
 abbrev pub behind_in : Tree → Bool → Bool
 behind_in (wrapped w body) behind = turned_by w behind
 behind_in t behind = behind
 
--- the box of a node, as the logic holds it
+-- the type of a box of a node, in the logic
 abbrev pub box_row : RattleType
 box_row = box.the_row the_row global.the_row ghosts
 
--- What a node of which the body was lent ends as.
+-- The final value of a node whose body was borrowed.
 abbrev pub HoldsAfter : Option (MutBor (Box Node Global)) → Node → Node → Box Node Global → Type 0
 HoldsAfter lent old new body = OnSome lent (tree new ≡ with_body (tree old) (tree body.value))

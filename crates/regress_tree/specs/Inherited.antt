@@ -1,9 +1,9 @@
--- What lies around the nodes of a tree, for a caller whose walk keeps it in mind.
+-- What the nodes of a tree inherit from the nodes around them, for a caller whose walk keeps track of it.
 use Rattle.std.specs.Prelude.{List, [], ◌∷◌, ◌++◌}
 use Rattle.regress_tree.specs.Tree.{Tree, Trees, leaf, cat, alt, wrapped, no_trees, more_trees}
 
--- All nodes of a tree, each before those inside it, and beside each what it inherits: x at the root, and what a node at which
--- x is inherited hands down to its children is `handed x t`.
+-- All nodes of a tree, each before those inside it, paired with what it inherits: x at the root; a node t that inherits
+-- x passes `handed x t` on to its children.
 abbrev mutual
   pub inherited : {X : Type 0} → (X → Tree → X) → X → Tree → List (X × Tree)
   inherited handed x (leaf l) = (x, leaf l) ∷ []

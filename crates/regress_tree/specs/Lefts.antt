@@ -10,11 +10,11 @@ pub record HasLeft (t left : Tree) : Type 0 where
   pub right : Tree
   pub is : t ≡ alt left right
 
--- an `Alt` with another left side, and any other tree as it is
+-- an `Alt` with its left side replaced, or any other tree unchanged
 abbrev pub with_left : Tree → Tree → Tree
 with_left (alt old right) left = alt left right
 with_left t left = t
 
--- What a node of which the left side was lent ends as.
+-- The final value of a node whose left side was borrowed.
 abbrev pub LeftAfter : Option (MutBor (Box Node Global)) → Node → Node → Box Node Global → Type 0
 LeftAfter lent old new left = OnSome lent (tree new ≡ with_left (tree old) (tree left.value))

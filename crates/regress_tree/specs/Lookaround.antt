@@ -1,15 +1,15 @@
--- Lookarounds: what lies around a place is matched, and the place stays (ECMA-262, CompileAssertion).
+-- Lookarounds: the text around a position is matched, and the position stays the same (ECMA-262, CompileAssertion).
 use Rattle.std.specs.Prelude.{Bool, true, false, List, [], ◌∷◌}
 use Rattle.regress_tree.specs.Steps.{State, Step}
 
--- The state after looking, by the outcomes of the body: the first one gives its captures, and no later one is tried.
--- Negated, there may be none.
+-- The outcomes of a lookaround, by the outcomes of its body: the first one determines the captures, and later ones are
+-- not tried. A negated lookaround succeeds where its body has no outcome.
 abbrev pub looked : (negate : Bool) → State → List State → List State
 looked false s [] = []
 looked false s (t ∷ later) = record t { place = s.place } ∷ []
 looked true s [] = s ∷ []
 looked true s (t ∷ later) = []
 
--- a lookaround, by the steps of its body
+-- a lookaround, by the step of its body
 unfoldable pub look : (negate : Bool) → Step → Step
 look negate f s = looked negate s (f s)

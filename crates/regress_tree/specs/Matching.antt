@@ -1,4 +1,4 @@
--- What a tree matches, over the bytes of a text.
+-- What a tree matches, over the bytes of a text (ECMA-262, CompileSubpattern).
 use Rattle.std.specs.Prelude.{ℕ, ◌+◌, ◌-◌, true, not, ◌==◌, List, length, if◌then◌else◌}
 use Rattle.regress_base.specs.Brackets.{is_accepted}
 use Rattle.regress_base.specs.Listing.{lists}
@@ -13,7 +13,7 @@ use Rattle.regress_tree.specs.References.{back_reference}
 use Rattle.regress_tree.specs.Strings.{any_string}
 use Rattle.regress_tree.specs.Tree.{Leaf, empty, goal, char, byte_sequence, byte_set, char_set, match_any, match_any_except_line_terminator, anchor, word_boundary, bracket, back_ref, string_set, Wrapper, capture_group, loop, loop_one, lookaround, Tree, Trees, leaf, cat, alt, wrapped, no_trees, more_trees}
 
--- the direction in which what a wrapper holds is matched
+-- the direction in which the body of a wrapper is matched
 abbrev pub direction_in : Wrapper → Direction → Direction
 direction_in (lookaround negate looks_back start end) d = if looks_back then backwards else forwards
 direction_in w d = d
@@ -38,18 +38,18 @@ module _ (setting : Setting) (bytes : List ℕ) where
   leaf_steps d (string_set strings icase) =
       any_string d (of_bytes bytes) (stands_for setting.table icase setting.flags.unicode) strings
 
-  -- the outcomes of a wrapper around what has these
+  -- the outcomes of a wrapper, by the step of its body
   abbrev pub wrapper_steps : Wrapper → Step → Step
   wrapper_steps (capture_group id name) body = capture id body
   wrapper_steps (loop quantifier start end) body = repeat (length bytes + 1) quantifier start end body
   wrapper_steps (loop_one quantifier) body = repeat (length bytes + 1) quantifier 0 0 body
   wrapper_steps (lookaround negate looks_back start end) body = look negate body
 
-  -- the outcomes of a tree, with repeats
+  -- the outcomes of a tree, with duplicates
   abbrev mutual
     pub steps : Direction → Tree → Step
     steps d (leaf l) = leaf_steps d l
-    -- the parts in the order in which they stand, in both directions
+    -- the parts in the order of the list, in both directions
     steps d (cat parts) = steps_in_row d parts
     steps d (alt left right) = steps d left or_ steps d right
     steps d (wrapped w body) = wrapper_steps w (steps (direction_in w d) body)

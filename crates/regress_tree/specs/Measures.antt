@@ -1,15 +1,15 @@
--- Sums over the nodes of a tree, and its levels.
+-- Sums over the nodes of a tree, and its nesting depth.
 use Rattle.std.specs.Prelude.{ℕ, ◌+◌, max}
 use Rattle.regress_tree.specs.Tree.{Leaf, Wrapper, Tree, Trees, leaf, cat, alt, wrapped, no_trees, more_trees}
 
--- What each node counts. A node that holds others is counted beside them.
+-- The number that each node counts by itself. Its children are counted in addition.
 pub record Measure : Type 0 where
   pub of_leaf : Leaf → ℕ
   pub of_cat : ℕ
   pub of_alt : ℕ
   pub of_wrapper : Wrapper → ℕ
 
--- what all nodes of a tree count, and all of a row
+-- the sum over all nodes of a tree, and of a list of trees
 module _ (m : Measure) where
   abbrev mutual
     pub total : Tree → ℕ
@@ -22,7 +22,7 @@ module _ (m : Measure) where
     total_in_row no_trees = 0
     total_in_row (more_trees t ts) = total t + total_in_row ts
 
--- how many levels a tree has: one, and those of the deepest part
+-- The nesting depth of a tree: one more than that of the deepest part.
 abbrev mutual
   pub levels : Tree → ℕ
   levels (leaf l) = 1

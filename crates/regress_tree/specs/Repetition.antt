@@ -3,37 +3,39 @@ use Rattle.std.specs.Prelude.{ℕ, zero, suc, ◌+◌, ◌-◌, min, nat_le, nat
 use Rattle.regress_base.specs.declared.types.Quantifier.{Quantifier}
 use Rattle.regress_tree.specs.Steps.{State, CaptureSpan, Step, stay, ◌then_◌, ◌or_◌}
 
--- the captures from group k on, of which those of the groups start to end - 1 are forgotten
+-- the captures from group k on, with the groups start to end - 1 unset
 abbrev pub unset_from : (k start end : ℕ) → List (Option CaptureSpan) → List (Option CaptureSpan)
 unset_from k start end [] = []
 unset_from k start end (c ∷ cs) =
     (if nat_le start k && nat_lt k end then None else c) ∷ unset_from (k + 1) start end cs
 
--- the state in which the groups start to end - 1 have captured nothing
+-- the state with the groups start to end - 1 unset
 abbrev pub unset : (start end : ℕ) → State → State
 unset start end s = record s { captures = unset_from 0 start end s.captures }
 
--- One turn, with these groups inside: they have captured nothing as it begins.
+-- One iteration: the groups inside the body are unset when it begins.
 abbrev pub turn : (start end : ℕ) → Step → Step
 turn start end f s = f (unset start end s)
 
--- exactly n turns
+-- exactly n iterations
 abbrev pub turns : ℕ → Step → Step
 turns zero f = stay
 turns (suc n) f = f then_ turns n f
 
--- the outcomes that have moved: a turn that matches the empty text is dropped
+-- the outcomes at another position: an iteration that matches the empty text is dropped
 abbrev pub moving : Step → Step
 moving f s = filter (λ t. not (t.place == s.place)) (f s)
 
--- At most n more turns, each of which moves. Greedy, another turn comes before stopping here, and lazy after it.
+-- At most n more iterations, each of which advances. Greedy, another iteration is preferred to ending the loop; lazy,
+-- the reverse.
 abbrev pub up_to : (greedy : Bool) → ℕ → Step → Step
 up_to greedy zero f = stay
 up_to greedy (suc n) f =
     let more : Step = moving f then_ up_to greedy n f in
     if greedy then more or_ stay else stay or_ more
 
--- how many turns may follow the least number; `bound` where the quantifier has no greatest, and never more
+-- the number of iterations that may follow the minimum: at most `bound`, and exactly that if the quantifier has no
+-- maximum
 abbrev pub more_turns : (bound : ℕ) → Quantifier → ℕ
 more_turns bound q = after q.max
   where
@@ -41,7 +43,7 @@ more_turns bound q = after q.max
     after None = bound
     after (Some max) = min (max - q.min) bound
 
--- As many turns as the quantifier says. With a bound past the text's length any number may follow the least number,
--- since each of these moves.
+-- A loop (ECMA-262, RepeatMatcher): the number of iterations that the quantifier allows. With a bound greater than the
+-- length of the text it does not limit them, since each iteration past the minimum advances.
 unfoldable pub repeat : (bound : ℕ) → Quantifier → (start end : ℕ) → Step → Step
 repeat bound q start end f = turns q.min (turn start end f) then_ up_to q.greedy (more_turns bound q) (turn start end f)

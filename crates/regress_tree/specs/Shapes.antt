@@ -1,4 +1,4 @@
--- Tests on the nodes of a tree, and the shapes that rewriting removes.
+-- Tests on the nodes of a tree, and the shapes that rewrites remove.
 use Rattle.std.specs.Prelude.{◌≡◌, ℕ, ◌+◌, ◌-◌, ◌==◌, Bool, true, false, not, ◌&&◌, ◌||◌, nat_le, nat_lt, if◌then◌else◌, List, [], ◌∷◌, length, Option, Some, None}
 use Rattle.std.specs.List.{list_all}
 use lib.Utf8.{scalar}
@@ -11,7 +11,7 @@ use Rattle.regress_tree.specs.Units.{charge}
 use Rattle.regress_tree.specs.Tree.{Leaf, char, byte_sequence, char_set, bracket, string_set, Wrapper, capture_group, loop, loop_one, lookaround, Tree, Trees, leaf, cat, alt, wrapped, no_trees, more_trees}
 
 module _ (test : Tree → Bool) where
-  -- some node of the tree passes the test, or of a row
+  -- Some node of the tree, or of the list of trees, passes the test.
   abbrev mutual
     pub some_node : Tree → Bool
     some_node (leaf l) = test (leaf l)
@@ -23,7 +23,7 @@ module _ (test : Tree → Bool) where
     some_node_in_row no_trees = false
     some_node_in_row (more_trees t ts) = some_node t || some_node_in_row ts
 
-  -- some node below the root does
+  -- Some node below the root passes the test.
   abbrev pub some_node_inside : Tree → Bool
   some_node_inside (leaf l) = false
   some_node_inside (cat parts) = some_node_in_row parts
@@ -31,18 +31,18 @@ module _ (test : Tree → Bool) where
   some_node_inside (wrapped w body) = some_node body
 
 module _ (shape : Tree → Bool) where
-  -- no node of the tree has the shape
+  -- No node of the tree has the shape.
   abbrev pub LacksShape : Tree → Type 0
   LacksShape t = some_node shape t ≡ false
 
   abbrev pub RowLacksShape : Trees → Type 0
   RowLacksShape ts = some_node_in_row shape ts ≡ false
 
-  -- no node below the root has the shape
+  -- No node below the root has the shape.
   abbrev pub LacksInside : Tree → Type 0
   LacksInside t = some_node_inside shape t ≡ false
 
--- ---- tests on a leaf, or on a node that holds one
+-- ---- tests on a leaf, or on a node with a body
 
 abbrev pub on_leaf : (Leaf → Bool) → Tree → Bool
 on_leaf test (leaf l) = test l
@@ -57,7 +57,7 @@ abbrev pub on_loop : (Quantifier → (start end : ℕ) → Tree → Bool) → Tr
 on_loop test (wrapped (loop quantifier start end) body) = test quantifier start end body
 on_loop test t = false
 
--- some tree of the row passes the test itself
+-- The root of some tree of the list passes the test.
 abbrev pub some_in_row : (Tree → Bool) → Trees → Bool
 some_in_row test no_trees = false
 some_in_row test (more_trees t ts) = test t || some_in_row test ts
@@ -71,12 +71,12 @@ last_in_row test no_trees = false
 last_in_row test (more_trees t no_trees) = test t
 last_in_row test (more_trees t (more_trees u us)) = last_in_row test (more_trees u us)
 
--- the last part of a `Cat`, or any other tree itself, is `Goal`
+-- The tree is `Goal`, or a `Cat` whose last part is `Goal`.
 abbrev pub ends_in_goal : Tree → Bool
 ends_in_goal (cat parts) = last_in_row is_goal parts
 ends_in_goal t = is_goal t
 
--- two neighbours in the row pass the test
+-- Two adjacent trees of the list pass the test.
 abbrev pub has_neighbours : (Tree → Bool) → Trees → Bool
 has_neighbours test no_trees = false
 has_neighbours test (more_trees t ts) = (test t && first_in_row test ts) || has_neighbours test ts
@@ -104,20 +104,20 @@ has_loop = some_node (on_wrapper is_loop)
 abbrev pub has_string_set : Tree → Bool
 has_string_set = some_node (on_leaf is_string_set)
 
--- ---- what rewriting removes
+-- ---- shapes that rewrites remove
 
 -- a bracket whose `invert` and intervals pass the test
 abbrev pub is_bracket_with : (Bool → List Bounds → Bool) → Leaf → Bool
 is_bracket_with test (bracket invert intervals) = test invert intervals
 is_bracket_with test l = false
 
--- how many code points lie in the intervals
+-- the number of code points in the intervals
 abbrev pub code_point_count : List Bounds → ℕ
 code_point_count [] = 0
 code_point_count (iv ∷ ivs) = (iv.last + 1 - iv.first) + code_point_count ivs
 
--- How many gaps there are before the intervals from `start` on, between them, and behind them up to the greatest code point.
--- Those from 0 on are the intervals of the complement.
+-- The number of gaps before the intervals (from `start` on), between them, and after them up to the greatest code
+-- point. With 0 as the start it is the number of intervals of the complement.
 abbrev pub gap_count : (start : ℕ) → List Bounds → ℕ
 gap_count start [] = if nat_le start code_point_max then 1 else 0
 gap_count start (iv ∷ ivs) = (if nat_lt start iv.first then 1 else 0) + gap_count (iv.last + 1) ivs
@@ -130,7 +130,7 @@ is_small_bracket = is_bracket_with (λ invert intervals. not invert && nat_le (c
 abbrev pub is_long_bracket : Leaf → Bool
 is_long_bracket = is_bracket_with (λ invert intervals. nat_lt (gap_count 0 intervals) (length intervals))
 
--- What simplifying brackets removes.
+-- the shapes that simplifying brackets removes
 abbrev pub is_simplified_away : Tree → Bool
 is_simplified_away = on_leaf (λ l. is_small_bracket l || is_long_bracket l)
 
@@ -138,38 +138,38 @@ abbrev pub is_cat : Tree → Bool
 is_cat (cat parts) = true
 is_cat t = false
 
--- some tree of the row is a `Cat`
+-- Some tree of the list is a `Cat`.
 abbrev pub has_cat : Trees → Bool
 has_cat = some_in_row is_cat
 
--- the row has fewer than two trees
+-- The list has fewer than two trees.
 abbrev pub is_short : Trees → Bool
 is_short no_trees = true
 is_short (more_trees t no_trees) = true
 is_short (more_trees t (more_trees u ts)) = false
 
--- What flattening removes: a `Cat` of fewer than two parts, or with a `Cat` part.
+-- The shapes that flattening removes: a `Cat` of fewer than two parts, or with a `Cat` as a part.
 abbrev pub is_flattened_away : Tree → Bool
 is_flattened_away (cat parts) = is_short parts || has_cat parts
 is_flattened_away t = false
 
--- what the body of a loop that is unrolled is charged at most, and how many levels it has
+-- the greatest charge of the body of a loop that is unrolled, and its greatest nesting depth
 abbrev pub max_body_charge : ℕ
 max_body_charge = 256
 
 abbrev pub max_body_levels : ℕ
 max_body_levels = 101
 
--- There are no loops and no `StringSet`, and charge and levels are within the bounds.
+-- There are no loops and no `StringSet`, and charge and nesting depth are within the bounds.
 abbrev pub is_within : (most_levels budget : ℕ) (loops strings : Bool) (charge levels : ℕ) → Bool
 is_within most_levels budget loops strings charge levels =
     (not loops && not strings) && (nat_le charge budget && nat_le levels most_levels)
 
--- A loop without groups must take one to five turns.
+-- The loop has no groups, and its minimum is one to five iterations.
 abbrev pub has_few_turns : Quantifier → (start end : ℕ) → Bool
 has_few_turns quantifier start end = nat_le end start && (nat_le 1 quantifier.min && nat_le quantifier.min 5)
 
--- Such a loop is unrolled where what its body holds is within the bounds: that is copied for each of these turns.
+-- Such a loop is unrolled if its body is within the bounds, since the body is copied for each iteration of the minimum.
 abbrev pub may_unroll_by : Quantifier → (start end : ℕ) (loops strings : Bool) (charge levels : ℕ) → Bool
 may_unroll_by quantifier start end loops strings charge levels =
     has_few_turns quantifier start end && is_within max_body_levels max_body_charge loops strings charge levels
@@ -178,11 +178,11 @@ abbrev pub may_unroll : Quantifier → (start end : ℕ) → Tree → Bool
 may_unroll quantifier start end body =
     may_unroll_by quantifier start end (has_loop body) (has_string_set body) (charge body) (levels body)
 
--- What unrolling removes.
+-- the shape that unrolling removes
 abbrev pub is_unrolled_away : Tree → Bool
 is_unrolled_away = on_loop may_unroll
 
--- What promotion removes: a `Loop` whose body matches exactly one character, as far as is looked at.
+-- The shape that promotion removes: a `Loop` whose body passes the test `matches_exactly_one_char`.
 abbrev pub is_promoted_away : Tree → Bool
 is_promoted_away = on_loop (λ quantifier start end body. matches_exactly_one_char body)
 
@@ -191,17 +191,18 @@ abbrev pub is_byte_sequence_with : (List ℕ → Bool) → Leaf → Bool
 is_byte_sequence_with test (byte_sequence bytes) = test bytes
 is_byte_sequence_with test l = false
 
--- a `ByteSequence` with a byte
+-- a `ByteSequence` that is not empty
 abbrev pub has_bytes : Tree → Bool
 has_bytes = on_leaf (is_byte_sequence_with (λ bytes. not (is_none bytes)))
 
--- a `Char` that is a character, and a `CharSet` of ASCII alone, the empty one too
+-- a `Char` that is a character, or a `CharSet` of ASCII only, which may be empty
 abbrev pub is_bytes_leaf : Leaf → Bool
 is_bytes_leaf (char c) = scalar c
 is_bytes_leaf (char_set characters) = list_all (λ c. nat_le c 127) characters
 is_bytes_leaf l = false
 
--- What forming literal bytes removes: such a leaf, and a `Cat` with two neighbours that are a `ByteSequence` with a byte.
+-- The shapes that forming literal bytes removes: such a leaf, and a `Cat` with two adjacent byte sequences that are not
+-- empty.
 abbrev pub is_formed_away : Tree → Bool
 is_formed_away (leaf l) = is_bytes_leaf l
 is_formed_away (cat parts) = has_neighbours has_bytes parts
@@ -211,25 +212,28 @@ abbrev pub is_zero : Option ℕ → Bool
 is_zero None = false
 is_zero (Some n) = n == 0
 
--- A `Loop` with an `Empty` body, or of no turn and without groups; a lookaround for `Empty` that is not negated.
+-- a `Loop` with an `Empty` body, or with a maximum of zero iterations and without groups; a lookaround around `Empty`
+-- that is not negated
 abbrev pub is_empty_wrapper : Wrapper → Tree → Bool
 is_empty_wrapper (loop quantifier start end) body = is_empty body || (is_zero quantifier.max && nat_le end start)
 is_empty_wrapper (lookaround negate backwards start end) body = not negate && is_empty body
 is_empty_wrapper w body = false
 
--- What removing empties removes: these, a `ByteSequence` without a byte, an `Alt` of two `Empty`, and a `Cat` with an `Empty` part.
+-- The shapes that removing empties removes: these, an empty `ByteSequence`, an `Alt` of two `Empty`, and a `Cat` with
+-- an `Empty` part.
 abbrev pub is_emptied_away : Tree → Bool
 is_emptied_away (leaf l) = is_byte_sequence_with is_none l
 is_emptied_away (cat parts) = some_in_row is_empty parts
 is_emptied_away (alt left right) = is_empty left && is_empty right
 is_emptied_away (wrapped w body) = is_empty_wrapper w body
 
--- A `Cat` with a part that always fails, an `Alt` with such a side, and a `Loop` of at least one turn with such a body.
+-- a `Cat` with a part that always fails, an `Alt` with such a side, or a `Loop` with such a body and a minimum of at
+-- least one iteration
 abbrev pub fails_by_part : Tree → Bool
 fails_by_part (cat parts) = some_in_row match_always_fails parts
 fails_by_part (alt left right) = match_always_fails left || match_always_fails right
 fails_by_part t = on_loop (λ quantifier start end body. nat_le 1 quantifier.min && match_always_fails body) t
 
--- What propagating early failure removes: these, where no capture group is inside.
+-- The shapes that propagating early failure removes: these, where no capture group is inside.
 abbrev pub is_failed_away : Tree → Bool
 is_failed_away t = fails_by_part t && not (has_group t)

@@ -1,18 +1,19 @@
--- Outcomes: what a part of a pattern makes of a state, and the words of which all parts are made.
+-- States, steps and outcomes (ECMA-262, MatchState and Matcher), and the operations of which the steps of all nodes are
+-- composed.
 use Rattle.std.specs.Prelude.{◌≡◌, ℕ, Bool, true, false, not, ◌&&◌, List, [], ◌∷◌, ◌++◌, filter, flat_map, map, Option, Some, None, if◌then◌else◌, ◌==◌, min, max, slice_set, ◌+◌, ◌-◌, ◌≤◌, length, drop, nat_eq, nat_le, All}
 use Rattle.std.specs.List.{starts_with}
 use Rattle.regress_tree.specs.Reading.{Direction, forwards, backwards, Reading, Read, next_character, byte_place}
 
--- from where to where a group has last matched, the smaller place first
+-- the start and the end of what a group has last matched, the smaller position first
 abbrev pub CaptureSpan : Type 0
 CaptureSpan = ℕ × ℕ
 
--- where matching stands: at a place, with what each group has captured so far
+-- The state of matching: a position, and the capture of each group or none (ECMA-262, MatchState).
 pub record State : Type 0 where
   pub place : ℕ
   pub captures : List (Option CaptureSpan)
 
--- the outcomes of a part of a pattern from a state, the preferred ones first
+-- The outcomes of a part of a pattern from a state, in order of preference (ECMA-262, Matcher, as a list).
 abbrev pub Step : Type 0
 Step = State → List State
 
@@ -28,47 +29,47 @@ same_captures (a ∷ as') (b ∷ bs) = same_capture a b && same_captures as' bs
 same_captures [] (b ∷ bs) = false
 same_captures (a ∷ as') [] = false
 
--- the two states are equal
+-- The two states are equal.
 unfoldable pub same_state : State → State → Bool
 same_state s t = (s.place == t.place) && same_captures s.captures t.captures
 
--- the first of equal outcomes: a later one would be tried after the first has failed, in vain
+-- The list without repeated outcomes: a later equal one is tried only after the first has failed, so it fails too.
 abbrev pub distinct : List State → List State
 distinct [] = []
 distinct (s ∷ rest) = s ∷ filter (λ t. not (same_state s t)) (distinct rest)
 
--- The two steps cannot be told apart, whatever follows them: the same distinct outcomes from every state.
+-- The two steps have the same distinct outcomes from every state, so they are interchangeable whatever follows them.
 pub record Alike (f g : Step) : Type 0 where
   pub same : (s : State) → distinct (f s) ≡ distinct (g s)
 
--- matches the empty text
+-- Matches the empty text.
 abbrev pub stay : Step
 stay s = s ∷ []
 
--- never matches
+-- Never matches.
 abbrev pub fail : Step
 fail s = []
 
--- f, and then g from each of its outcomes
+-- the outcomes of g from each outcome of f (ECMA-262, MatchSequence)
 infixl 20 ◌then_◌
 abbrev pub ◌then_◌ : Step → Step → Step
 (f then_ g) s = flat_map g (f s)
 
--- what f finds, and then what g finds
+-- the outcomes of f, and then those of g (ECMA-262, MatchTwoAlternatives)
 infixl 10 ◌or_◌
 abbrev pub ◌or_◌ : Step → Step → Step
 (f or_ g) s = f s ++ g s
 
--- moves over the character if it passes the test
+-- Advances over the character if it passes the test.
 abbrev pub moved : (ℕ → Bool) → State → Option Read → List State
 moved test s None = []
 moved test s (Some read) = if test read.character then record s { place = read.place } ∷ [] else []
 
--- one character that passes the test (ECMA-262, CharacterSetMatcher)
+-- Matches one character that passes the test (ECMA-262, CharacterSetMatcher).
 unfoldable pub one_character : Direction → Reading → (ℕ → Bool) → Step
 one_character d r test s = moved test s (next_character d r s.place)
 
--- These bytes as they stand, behind the place or before it.
+-- Matches exactly these bytes, after the position or, backwards, before it.
 unfoldable pub these_bytes : Direction → List ℕ → List ℕ → Step
 these_bytes forwards bytes written s =
     if starts_with nat_eq (drop s.place bytes) written then record s { place = s.place + length written } ∷ [] else []
@@ -77,19 +78,19 @@ these_bytes backwards bytes written s =
     then record s { place = s.place - length written } ∷ []
     else []
 
--- the state itself, where the test holds at its place
+-- the state itself, if the test holds at its position
 unfoldable pub hold_at : (ℕ → Bool) → Step
 hold_at test s = if test s.place then s ∷ [] else []
 
--- the state in which group `id` has matched between the two places
+-- the state in which the capture of group `id` is the span between the two positions
 abbrev pub captured : ℕ → ℕ → State → State
 captured id from s = record s { captures = slice_set s.captures id (Some (min from s.place, max from s.place)) }
 
--- a group: what the body finds, with the group's span set
+-- A capture group: the outcomes of the body, with the group's capture set.
 unfoldable pub capture : ℕ → Step → Step
 capture id f s = map (captured id s.place) (f s)
 
--- A state of a text: its places lie in the text, and each span starts no later than it ends.
+-- A state of a text: its positions are in the text, and each span starts no later than it ends.
 pub record IsSpanOf (text : List ℕ) (span : CaptureSpan) : Type 0 where
   pub ordered : span.0 ≤ span.1
   pub within : span.1 ≤ length text
@@ -102,7 +103,7 @@ pub record IsStateOf (text : List ℕ) (s : State) : Type 0 where
   pub place : s.place ≤ length text
   pub captures : All (IsCaptureOf text) s.captures
 
--- the same capture, and the same state, in places of the UTF-8
+-- the same capture, and the same state, in byte offsets
 abbrev pub byte_capture : List ℕ → Option CaptureSpan → Option CaptureSpan
 byte_capture text None = None
 byte_capture text (Some span) = Some (byte_place text span.0, byte_place text span.1)

@@ -1,4 +1,4 @@
--- What one pass over a tree gathers of its capture groups and references.
+-- What one pass over a tree collects about its capture groups and back references.
 use Rattle.std.specs.Prelude.{◌≡◌, ℕ, ◌+◌, ◌≤◌, ◌-◌, ◌/◌, ◌%◌, Bool, false, ◌&&◌, nat_le, ◌==◌, List, [], ◌∷◌, length, count_by, min, max, Option, Some, None, slice_get, if◌then◌else◌}
 use Rattle.regress_base.specs.ByteBitmap.{contains}
 use Rattle.regress_base.specs.declared.bytesearch.bitmap.ByteBitmap.{ByteBitmap}
@@ -8,27 +8,27 @@ use Rattle.regress_tree.specs.NodeTests.{is_goal}
 use Rattle.regress_tree.specs.Tree.{Leaf, back_ref, Tree, Trees, leaf, cat, alt, wrapped, no_trees, more_trees}
 use Rattle.regress_tree.specs.WellFormed.{Capture, captures, Position, MayStand}
 
--- Sets of ids.
+-- ---- sets of ids
 
 abbrev pub page_holds : Option ByteBitmap → ℕ → Bool
 page_holds None k = false
 page_holds (Some page) k = contains page k
 
--- bit k % 256 of page k / 256
+-- The set contains id k: bit k % 256 of page k / 256 is set.
 unfoldable pub holds : GroupIds → ℕ → Bool
 holds ids k = page_holds (slice_get ids.pages (k / 256)) (k % 256)
 
--- how often the set holds the id
+-- how often the set contains the id: 0 or 1
 abbrev pub times_held : GroupIds → ℕ → ℕ
 times_held ids k = if holds ids k then 1 else 0
 
--- how many groups have the id
+-- the number of groups with the id
 abbrev pub times : ℕ → List Capture → ℕ
 times k cs = count_by (λ c. c.id == k) cs
 
--- What is gathered.
+-- ---- the summary of a part
 
--- the least id, and one past the greatest; 65536 and 0 where there is none
+-- the least id, and one more than the greatest; 65536 and 0 if there is none
 abbrev pub least_id : List Capture → ℕ
 least_id [] = 65536
 least_id (c ∷ cs) = min c.id (least_id cs)
@@ -41,7 +41,7 @@ abbrev pub reference_of : Leaf → ℕ
 reference_of (back_ref group icase) = group
 reference_of l = 0
 
--- the greatest group that is referred to, counted from 1
+-- the greatest group number of a back reference, 1-based, or 0 if there is none
 abbrev mutual
   pub reference : Tree → ℕ
   reference (leaf l) = reference_of l
@@ -53,7 +53,7 @@ abbrev mutual
   reference_in_row no_trees = 0
   reference_in_row (more_trees t ts) = max (reference t) (reference_in_row ts)
 
--- what is told of these groups and of the greatest reference beside them
+-- The summary of these groups, with the greatest back reference.
 pub record IsTally (g : Tally) (cs : List Capture) (referred : ℕ) : Type 0 where
   pub count : g.count ≡ min (length cs) 0xFFFFFFFF
   pub least : g.least ≡ least_id cs
@@ -61,7 +61,7 @@ pub record IsTally (g : Tally) (cs : List Capture) (referred : ℕ) : Type 0 whe
   pub past_in_range : g.past ≤ 65536
   pub reference : g.reference ≡ referred
 
--- what is told of two parts
+-- the summary of two parts together
 abbrev pub joined : Tally → Tally → Tally
 joined g h = record {
   count = min (g.count + h.count) 0xFFFFFFFF;
@@ -70,25 +70,26 @@ joined g h = record {
   reference = max g.reference h.reference;
 }
 
--- one group
+-- the summary of one group
 abbrev pub one : ℕ → Tally
 one id = record { count = 1; least = id; past = id + 1; reference = 0 }
 
--- none lies outside of start to end - 1, and there are as many
+-- The ids are exactly start to end - 1, if they differ: none is outside, and their number is that of the range.
 abbrev pub fill : (start end : ℕ) → Tally → Bool
 fill start end g = nat_le start g.least && (nat_le g.past end && (g.count == end - start))
 
--- The part may stand, none of its groups has an id that was there before or another one has, and the ids are now there too.
+-- The part is allowed, the ids of its groups differ from each other and from those collected before, and they are now
+-- collected too.
 pub record IsSurveyed (Stands : Type 0) (cs : List Capture) (referred : ℕ) (before after : GroupIds) (g : Tally) : Type 0 where
   pub stands : Stands
   pub ids : (k : ℕ) → times_held after k ≡ times_held before k + times k cs
   pub told : IsTally g cs referred
 
--- It may not stand, or some id comes twice.
+-- The part is not allowed, or some id occurs twice.
 pub record IsRefused (Stands : Type 0) (cs : List Capture) (before : GroupIds) : Type 0 where
   pub refuted : Stands → ((k : ℕ) → times_held before k + times k cs ≤ 1) → ⊥
 
--- it may stand there in a tree of enough capture groups
+-- The tree is allowed in that position in a tree with enough capture groups.
 abbrev pub StandsAt : Position → Tree → Type 0
 StandsAt p t = (n : ℕ) × MayStand n t p
 
@@ -98,9 +99,9 @@ SurveyedAt p t = IsSurveyed (StandsAt p t) (captures t) (reference t)
 abbrev pub RefusedAt : Position → Tree → GroupIds → Type 0
 RefusedAt p t = IsRefused (StandsAt p t) (captures t)
 
--- The goal at the end.
+-- ---- the goal at the end
 
--- the row, but for a goal that is its last part
+-- the list without a goal as its last part
 abbrev pub without_goal : Trees → Trees
 without_goal no_trees = no_trees
 without_goal (more_trees t no_trees) = if is_goal t then no_trees else more_trees t no_trees

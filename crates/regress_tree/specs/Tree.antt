@@ -1,4 +1,4 @@
--- A `Node` without memory. Two equal trees may lie in different places: contracts speak of this type.
+-- A `Node` as plain data, without addresses: contracts state properties of this type.
 use Rattle.std.specs.Prelude.{ℕ, zero, suc, Bool, List, [], ◌∷◌, map, Option, option_map, string_bytes}
 use Rattle.std.specs.Box.{boxed_slice_items}
 use Rattle.regress_base.specs.Intervals.{Bounds}
@@ -7,7 +7,7 @@ use Rattle.regress_base.specs.declared.types.Quantifier.{Quantifier}
 use Rattle.regress_tree.specs.declared.ir.node.Node.{Node, fold-Node}
 use Rattle.regress_tree.specs.declared.ir.node.Node.TheOpen.{Node-F}
 
--- the kinds of `Node` that hold no node, under its names for them
+-- the kinds of `Node` that contain no node, with the names of the variants
 pub data Leaf : Type 0 where
   empty : Leaf
   goal : Leaf
@@ -24,14 +24,14 @@ pub data Leaf : Type 0 where
   back_ref : (group : ℕ) (icase : Bool) → Leaf
   string_set : (strings : List (List ℕ)) (icase : Bool) → Leaf
 
--- the kinds that hold one node, without it
+-- the kinds of `Node` with a body, without the body
 pub data Wrapper : Type 0 where
   -- the name as UTF-8
   capture_group : (id : ℕ) (name : Option (List ℕ)) → Wrapper
-  -- the groups start to end - 1 lie inside
+  -- the groups start to end - 1 are inside
   loop : (quantifier : Quantifier) (start end : ℕ) → Wrapper
   loop_one : (quantifier : Quantifier) → Wrapper
-  -- the groups start to end - 1 lie inside
+  -- the groups start to end - 1 are inside
   lookaround : (negate backwards : Bool) (start end : ℕ) → Wrapper
 
 mutual
@@ -41,32 +41,32 @@ mutual
     alt : (left right : Tree) → Tree
     wrapped : (w : Wrapper) (body : Tree) → Tree
 
-  -- trees in a row
+  -- lists of trees
   pub data Trees : Type 0 where
     no_trees : Trees
     more_trees : (first : Tree) (rest : Trees) → Trees
 
--- a list as a row
+-- a `List` as `Trees`
 abbrev pub row : List Tree → Trees
 row [] = no_trees
 row (t ∷ ts) = more_trees t (row ts)
 
--- one row behind the other
+-- the two lists joined
 abbrev pub row_append : Trees → Trees → Trees
 row_append no_trees us = us
 row_append (more_trees t ts) us = more_trees t (row_append ts us)
 
--- n times the same tree
+-- the list of n times the same tree
 abbrev pub copies : ℕ → Tree → Trees
 copies zero t = no_trees
 copies (suc n) t = more_trees t (copies n t)
 
--- the last one first
+-- the list in reverse order
 abbrev pub row_reverse : Trees → Trees
 row_reverse no_trees = no_trees
 row_reverse (more_trees t ts) = row_append (row_reverse ts) (more_trees t no_trees)
 
--- one level, with each node inside already seen as its tree
+-- the tree of a node, given the trees of its children
 abbrev pub tree_of_level : Node-F Tree → Tree
 tree_of_level Node-F.Empty = leaf empty
 tree_of_level Node-F.Goal = leaf goal
@@ -93,6 +93,6 @@ tree_of_level (Node-F.StringSet alternatives icase) = leaf (string_set (map boxe
 abbrev pub tree : Node → Tree
 tree = fold-Node Tree tree_of_level
 
--- the trees of nodes in a row
+-- the trees of a list of nodes
 abbrev pub trees : List Node → Trees
 trees nodes = row (map tree nodes)

@@ -1,37 +1,37 @@
--- The visits of a walk: on which nodes the calls are made, in which order, and what they leave.
+-- The visits of a walk: on which nodes calls are made, in which order, and what they leave.
 use Rattle.std.specs.Prelude.{◌≡◌, ℕ, ◌+◌, ◌≤◌, Bool, true, false, min}
 use Rattle.std.specs.Borrow.{Bor, MutBor}
 use Rattle.regress_tree.specs.declared.ir.node.Node.{Node}
 use Rattle.regress_tree.specs.declared.ir.walker.Walk.{Walk}
 use Rattle.regress_tree.specs.Tree.{Leaf, Wrapper, lookaround, Tree, Trees, leaf, cat, alt, wrapped, no_trees, more_trees, tree}
 
--- the depth of what lies one level further inside: the greatest one is as deep as it goes
+-- the depth of a child, limited by the greatest `usize`
 abbrev pub deeper : ℕ → ℕ
 deeper depth = min (depth + 1) 18446744073709551615
 
--- whether what a wrapper holds is matched backwards, where the wrapper is or is not
+-- whether the body of a wrapper is matched backwards, given whether the wrapper is
 abbrev pub turned_by : Wrapper → Bool → Bool
 turned_by (lookaround negate backwards start end) behind = backwards
 turned_by w behind = behind
 
--- `Call a t depth behind b u skip` says that a call on a node of the tree t, at that depth and in a lookbehind or not, may take the
--- closure from the state a to b, leave the tree u there, and ask to skip the children or not.
+-- `Call a t depth behind b u skip`: a call on the tree t, at that depth and (with `behind`) in a lookbehind, may take
+-- the closure from state a to b, leave the tree u, and (with `skip`) ask to skip the children.
 module _ {State : Type 0} (Call : State → Tree → ℕ → Bool → State → Tree → Bool → Type 0) where
   mutual
-    -- A walk over the tree t, whose root is at that depth and in a lookbehind or not, may take the closure from the state a to b,
-    -- and leave the tree u.
+    -- A walk over the tree t, whose root is at that depth and (with `behind`) in a lookbehind, may take the closure
+    -- from state a to b, and leave the tree u.
     pub data Visited : (postorder : Bool) (depth : ℕ) (behind : Bool) (t u : Tree) (a b : State) → Type 0 where
       -- in preorder: a call, and then the children that it left,
       before_children : {d : ℕ} {behind : Bool} {t left u : Tree} {a b c : State} →
           Call a t d behind b left false → Inside false d behind left u b c → Visited false d behind t u a c
-      -- or none, if it asked for that
+      -- or none, if it asked to skip them
       without_children : {d : ℕ} {behind : Bool} {t u : Tree} {a b : State} →
           Call a t d behind b u true → Visited false d behind t u a b
       -- in postorder: the children, and then a call
       after_children : {d : ℕ} {behind : Bool} {t left u : Tree} {a b c : State} {skip : Bool} →
           Inside true d behind t left a b → Call b left d behind c u skip → Visited true d behind t u a c
 
-    -- the same of the children of such a root, in their order
+    -- the same for the children of such a root, in order
     pub data Inside : (postorder : Bool) (depth : ℕ) (behind : Bool) (t u : Tree) (a b : State) → Type 0 where
       in_leaf : {p : Bool} {d : ℕ} {behind : Bool} {l : Leaf} {a : State} → Inside p d behind (leaf l) (leaf l) a a
       in_cat : {p : Bool} {d : ℕ} {behind : Bool} {ts us : Trees} {a b : State} →
@@ -42,13 +42,13 @@ module _ {State : Type 0} (Call : State → Tree → ℕ → Bool → State → 
       in_wrapped : {p : Bool} {d : ℕ} {behind : Bool} {w : Wrapper} {t u : Tree} {a b : State} →
           Visited p (deeper d) (turned_by w behind) t u a b → Inside p d behind (wrapped w t) (wrapped w u) a b
 
-    -- and of trees in a row, one after the other
+    -- and for a list of trees, in order
     pub data RowVisited : (postorder : Bool) (depth : ℕ) (behind : Bool) (ts us : Trees) (a b : State) → Type 0 where
       no_more : {p : Bool} {d : ℕ} {behind : Bool} {a : State} → RowVisited p d behind no_trees no_trees a a
       one_more : {p : Bool} {d : ℕ} {behind : Bool} {t u : Tree} {ts us : Trees} {a b c : State} →
           Visited p d behind t u a b → RowVisited p d behind ts us b c → RowVisited p d behind (more_trees t ts) (more_trees u us) a c
 
--- A call by a `&`, where the pattern has the flag u or not: it leaves the tree as it is.
+-- a call with a shared reference to the node, which leaves the tree unchanged
 pub record Calls {F : Type 0} (step : F → Bor Node → MutBor Walk → Unit {0} → MutBor Walk → F → Type 0) (unicode : Bool)
     (before : F) (t : Tree) (depth : ℕ) (behind : Bool) (after : F) (u : Tree) (skip : Bool) : Type 0 where
   pub node : Bor Node
@@ -60,7 +60,7 @@ pub record Calls {F : Type 0} (step : F → Bor Node → MutBor Walk → Unit {0
   pub leaves : u ≡ t
   pub skips : walk'.now.skip_children ≡ skip
 
--- A call by a `&mut`.
+-- a call with a mutable reference to the node
 pub record CallsMut {F : Type 0} (step : F → MutBor Node → MutBor Walk → Unit {0} → MutBor Node → MutBor Walk → F → Type 0) (unicode : Bool)
     (before : F) (t : Tree) (depth : ℕ) (behind : Bool) (after : F) (u : Tree) (skip : Bool) : Type 0 where
   pub node : MutBor Node
@@ -73,7 +73,7 @@ pub record CallsMut {F : Type 0} (step : F → MutBor Node → MutBor Walk → U
   pub leaves : tree node'.now ≡ u
   pub skips : walk'.now.skip_children ≡ skip
 
--- how many nodes a tree has
+-- the number of nodes of a tree
 abbrev mutual
   pub nodes : Tree → ℕ
   nodes (leaf l) = 1

@@ -1,4 +1,4 @@
--- Which trees are well formed.
+-- The well-formed trees.
 use Rattle.std.specs.Prelude.{◌≡◌, ◌≢◌, ℕ, ◌<◌, ◌≤◌, Bool, true, ◌&&◌, List, [], ◌∷◌, ◌++◌, length, count_by, ◌==◌, Option, IfSome, if◌then◌else◌, nat_le, nat_lt, All, encode_utf8_all}
 use Rattle.regress_base.specs.Brackets.{is_accepted}
 use Rattle.regress_base.specs.Limits.{max_char_set_length}
@@ -29,59 +29,59 @@ abbrev mutual
   captures_in_row no_trees = []
   captures_in_row (more_trees t ts) = captures t ++ captures_in_row ts
 
--- Where a part stands: as the body of a loop over one character, anywhere inside, as the last part of a `Cat` that is the
--- root, or as the root.
+-- The position of a part in a tree: as the body of a `Loop1CharBody`, anywhere inside, as the last part of a `Cat` that
+-- is the root, or as the root.
 pub data Position : Type 0 where
   one_character : Position
   inside : Position
   last : Position
   root : Position
 
--- the goal ends the pattern: it is the root, or the last part of a `Cat` that is
+-- The goal ends the pattern: it is the root, or the last part of a `Cat` that is the root.
 abbrev pub GoalMayStand : Position → Type 0
 GoalMayStand one_character = ⊥
 GoalMayStand inside = ⊥
 GoalMayStand p = Unit {0}
 
--- what may not be the body of a loop over one character
+-- The position is not the body of a `Loop1CharBody`.
 abbrev pub NotAsOneCharacter : Position → Type 0
 NotAsOneCharacter one_character = ⊥
 NotAsOneCharacter p = Unit {0}
 
--- where the last part of a `Cat` stands
+-- the position of the last part of a `Cat`
 abbrev pub last_of : Position → Position
 last_of root = last
 last_of p = inside
 
--- where what a wrapper holds stands
+-- the position of the body of a wrapper
 abbrev pub position_in : Wrapper → Position
 position_in (loop_one quantifier) = one_character
 position_in w = inside
 
--- what may be the body of a loop over one character only if this holds
+-- P holds if the position is the body of a `Loop1CharBody`.
 abbrev pub AsOneCharacter : Position → Type 0 → Type 0
 AsOneCharacter one_character P = P
 AsOneCharacter p P = Unit {0}
 
--- the bytes are the UTF-8 of some characters, of one at that place
+-- The bytes are the UTF-8 of characters, and of exactly one as the body of a `Loop1CharBody`.
 pub record AreUtf8 (bytes : List ℕ) (p : Position) : Type 0 where
   pub characters : List ℕ
   pub are_scalar : IsText characters
   pub encoded : bytes ≡ encode_utf8_all characters
   pub one : AsOneCharacter p (length characters ≡ 1)
 
--- a small set of numbers up to a greatest one, not empty at that place
+-- A set of at most four numbers up to a greatest one, not empty as the body of a `Loop1CharBody`.
 pub record IsSmallSet (members : List ℕ) (greatest : ℕ) (p : Position) : Type 0 where
   pub bounded : All (λ m. m ≤ greatest) members
   pub small : length members ≤ max_char_set_length
   pub some : AsOneCharacter p (members ≢ [])
 
--- a bracket of canonical intervals, which accepts some code point at that place
+-- A bracket of canonical intervals, which accepts some code point as the body of a `Loop1CharBody`.
 pub record IsBracket (invert : Bool) (intervals : List Bounds) (p : Position) : Type 0 where
   pub canonical : IsCanonical intervals
   pub some : AsOneCharacter p ((c : ℕ) × (c ≤ code_point_max) × (is_accepted invert intervals c ≡ true))
 
--- a reference to one of n capture groups, which are numbered from 1
+-- a back reference to one of n capture groups, which are numbered from 1
 pub record IsReference (n group : ℕ) (p : Position) : Type 0 where
   pub free : NotAsOneCharacter p
   pub low : 1 ≤ group
@@ -92,7 +92,7 @@ pub record AreStrings (strings : List (List ℕ)) (p : Position) : Type 0 where
   pub free : NotAsOneCharacter p
   pub bounded : All (All (λ c. c ≤ code_point_max)) strings
 
--- the leaf may stand there, where there are n capture groups
+-- The leaf is allowed in that position, in a tree of n capture groups.
 abbrev pub LeafMayStand : ℕ → Leaf → Position → Type 0
 LeafMayStand n empty p = NotAsOneCharacter p
 LeafMayStand n goal p = GoalMayStand p
@@ -108,23 +108,23 @@ LeafMayStand n (bracket invert intervals) p = IsBracket invert intervals p
 LeafMayStand n (back_ref group icase) p = IsReference n group p
 LeafMayStand n (string_set strings icase) p = AreStrings strings p
 
--- the least number of turns is not above the greatest
+-- The minimum is at most the maximum.
 abbrev pub IsQuantifier : Quantifier → Type 0
 IsQuantifier q = IfSome q.max (λ max. q.min ≤ max)
 
--- the ids of the capture groups of the tree are start to end - 1, each once
+-- The ids of the capture groups of the tree are start to end - 1, each once.
 abbrev pub HasGroups : (start end : ℕ) → Tree → Type 0
 HasGroups start end t =
     (k : ℕ) → count_by (λ c. c.id == k) (captures t) ≡ (if nat_le start k && nat_lt k end then 1 else 0)
 
--- the wrapper may stand around the tree, where there are n capture groups
+-- The wrapper is allowed around the tree, in a tree of n capture groups.
 abbrev pub WrapperMayStand : ℕ → Wrapper → Tree → Type 0
 WrapperMayStand n (capture_group id name) body = (id < n) × IfSome name (λ bytes. bytes ≢ [])
 WrapperMayStand n (loop quantifier start end) body = IsQuantifier quantifier × HasGroups start end body
 WrapperMayStand n (loop_one quantifier) body = IsQuantifier quantifier
 WrapperMayStand n (lookaround negate backwards start end) body = HasGroups start end body
 
--- the tree may stand there in a well formed tree of n capture groups
+-- The tree is allowed in that position, in a well-formed tree of n capture groups.
 abbrev mutual
   pub MayStand : ℕ → Tree → Position → Type 0
   MayStand n (leaf l) p = LeafMayStand n l p
@@ -132,13 +132,13 @@ abbrev mutual
   MayStand n (alt left right) p = NotAsOneCharacter p × MayStand n left inside × MayStand n right inside
   MayStand n (wrapped w body) p = NotAsOneCharacter p × WrapperMayStand n w body × MayStand n body (position_in w)
 
-  -- the last part stands at p, and the others inside
+  -- the last tree of the list in position p, and the others inside
   pub RowMayStand : ℕ → Trees → Position → Type 0
   RowMayStand n no_trees p = Unit {0}
   RowMayStand n (more_trees t no_trees) p = MayStand n t p
   RowMayStand n (more_trees t (more_trees u us)) p = MayStand n t inside × RowMayStand n (more_trees u us) p
 
--- A well formed tree: each part may stand where it does, and the ids of its n capture groups are 0 to n - 1, each once.
+-- A well-formed tree: each part is allowed where it is, and the ids of its n capture groups are 0 to n - 1, each once.
 pub record IsWellFormed (t : Tree) : Type 0 where
   pub stands : MayStand (length (captures t)) t root
   pub ids : (k : ℕ) → count_by (λ c. c.id == k) (captures t) ≡ (if nat_lt k (length (captures t)) then 1 else 0)

@@ -1,4 +1,5 @@
-//! The intermediate representation: a pattern as a tree.
+//! The intermediate representation: a pattern as a tree of nodes, with walks, copies, printing and the test whether a
+//! tree is well formed.
 
 mod brackets;
 mod copies;

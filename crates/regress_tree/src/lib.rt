@@ -1,4 +1,4 @@
-//! The tree of a pattern, and what it matches.
+//! The tree of a pattern (IR), and the definition of what it matches (`specs/Matching.antt`).
 #![tactic(auto)]
 
 pub mod ir;

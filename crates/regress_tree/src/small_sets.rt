@@ -4,7 +4,10 @@ ghost use Rattle.regress_tree.specs.SmallSets.{is_ascii};
 
 use std::alloc::{AllocError, Global};
 
-/// The members as bytes, if all are ASCII.
+/// Returns the members as bytes, or `None` if one of them is not ASCII (greater than 0x7F).
+///
+/// # Errors
+/// Returns [`AllocError`] if an allocation fails.
 pub fn ascii(alloc: Global, members: &[u32]) -> Result<Option<Vec<u8>>, AllocError>
     ensures { IfOk result (λ found. option_map (λ bytes. bytes.items) found
         ≡ (if is_ascii members.now then Some members.now else None)) }

@@ -1,4 +1,4 @@
-//! What a tree has, by a plain walk.
+//! The contents of a tree, collected by a walk.
 
 use regress_base::types::CaptureGroupName;
 use regress_notation::{Call, Fault};
@@ -6,24 +6,24 @@ use regress_tree::ir::{Node, Walk, walk};
 use std::alloc::AllocError;
 use std::fmt::Write;
 
-/// How many units a loop may add that must take a turn.
+/// The number of units that unrolling may add for a loop with a required iteration.
 const UNITS_PER_LOOP: usize = 6401;
 
-/// What a tree has. Numbers saturate.
+/// The contents of a tree. Numbers saturate.
 #[derive(Drop)]
 pub struct Census {
-    /// One for a node, one more for each byte of a byte sequence, five for a `Char` in all.
+    /// The size: one for each node, one more for each byte of a byte sequence, and five in all for a `Char`.
     pub units: usize,
-    /// The loops, but those over one character.
+    /// The number of `Loop` nodes.
     pub loops: usize,
-    /// Of these loops those that must take a turn.
+    /// The number of these loops that have a required iteration.
     taken: usize,
     /// The ids and names of the capture groups, each before those inside it.
     groups: String,
 }
 
 impl Census {
-    /// Takes a walk over the tree.
+    /// Collects the contents of a tree.
     pub fn of(call: &mut Call, node: &Node) -> Census {
         let mut census = Census {
             units: 0,
@@ -76,12 +76,12 @@ impl Census {
         write!(self.groups, "{id}<{name}>").map_err(|_| AllocError)
     }
 
-    /// Whether the tree after this one has its groups, with their names, in the same order.
+    /// Returns whether this tree has the groups, with their names and in the order, of the tree before the rewrite.
     pub(crate) fn has_groups_of(&self, before: &Census) -> bool {
         self.groups.as_str() == before.groups.as_str()
     }
 
-    /// Whether the tree after this one has grown by no more than its loops allow.
+    /// Returns whether this tree has grown, from the one before the rewrite, by no more than its loops allow.
     pub(crate) fn is_within_bound_of(&self, before: &Census) -> bool {
         let more = before.taken.saturating_mul(UNITS_PER_LOOP);
         self.units <= before.units.saturating_add(more)

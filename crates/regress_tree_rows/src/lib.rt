@@ -1,5 +1,5 @@
-//! The calls on trees, literals and rewrites, by lines of data: what a line's call comes to, and what is kept by a tree
-//! that is rewritten. A program compares the answers with what lines say they should be.
+//! The calls of test cases on trees, literals and rewrites, and checks of what a rewritten tree keeps. A program
+//! compares their results with the expected ones.
 #![tactic(auto)]
 
 mod census;

@@ -1,4 +1,4 @@
-//! Lowered literals.
+//! Calls on lowered literals.
 
 use crate::printing::tell_tree;
 use regress_base::types::Flags;
@@ -7,7 +7,7 @@ use regress_notation::{Call, Fault, Promise};
 use regress_tree::ir::{Node, Regex};
 use regress_unicode::Tables;
 
-/// The nodes of lowered literals, in a `Cat`.
+/// Reports the nodes of lowered literals, in a `Cat`.
 pub fn lower(call: &mut Call, flags: Flags, tables: &Tables) {
     let alloc = call.alloc();
     let pieces = lowered(call, flags, tables);
@@ -16,7 +16,7 @@ pub fn lower(call: &mut Call, flags: Flags, tables: &Tables) {
     tell_tree(call, &Regex { node, flags });
 }
 
-/// How copies of the pieces of lowered literals are shown.
+/// Reports the `Debug` form of copies of the pieces of lowered literals.
 pub fn copy_pieces(call: &mut Call, flags: Flags, tables: &Tables) {
     let alloc = call.alloc();
     let pieces = lowered(call, flags, tables);

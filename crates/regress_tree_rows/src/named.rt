@@ -1,4 +1,4 @@
-//! Calls on trees that no pattern makes, which are called by their names.
+//! Calls on trees that no pattern has, which test cases select by name.
 ghost use Rattle.regress_tree.specs.Tree.{tree};
 ghost use Rattle.regress_tree.specs.Copies.{HasNoGroup};
 
@@ -8,7 +8,7 @@ use regress_base::types::Flags;
 use regress_notation::{Call, Fault};
 use regress_tree::ir::{Node, Quantifier, Regex};
 
-/// Makes the call of this name, and answers whether there is one.
+/// Makes the call with this name, and returns whether there is one.
 pub fn answer(call: &mut Call, name: &str) -> bool {
     match name {
         "well_formed" => test(call),
@@ -27,7 +27,7 @@ pub fn answer(call: &mut Call, name: &str) -> bool {
     true
 }
 
-/// Whether a tree is well formed.
+/// Reports whether a tree is well formed.
 fn test(call: &mut Call) {
     let node = node_named(call);
     let flags = Flags::default();
@@ -76,7 +76,7 @@ fn leaf_named(call: &mut Call, name: &str) -> Option<Node> {
 
 fn loop_named(call: &mut Call, name: &str) -> Node {
     match name {
-        "more turns at least than at most" => loop_of(call, Node::MatchAny, 2, 0, 0),
+        "a minimum above the maximum" => loop_of(call, Node::MatchAny, 2, 0, 0),
         "an empty range that ends before it starts" => loop_of(call, Node::MatchAny, 0, 1, 0),
         "a range of the group inside" => loop_over_group(call, 1),
         "a range too wide" => loop_over_group(call, 2),
@@ -93,7 +93,7 @@ fn bytes(call: &mut Call, bytes: &[u8]) -> Vec<u8> {
     call.made(Vec::from_slice(alloc, bytes), Vec::new(alloc))
 }
 
-/// A set of no strings.
+/// Returns a set without strings.
 fn strings(call: &mut Call) -> Node {
     Node::StringSet {
         alternatives: Vec::new(call.alloc()),
@@ -112,13 +112,13 @@ fn group(call: &mut Call, id: u16) -> Node {
     }
 }
 
-/// What stands for a node for which memory is wanting.
+/// Records a failed allocation, and returns a node in place of the missing one.
 fn missing(call: &mut Call) -> Node {
     call.fail(Fault::Memory);
     Node::Empty
 }
 
-/// A loop of at most one turn, and the range of groups that it says it has.
+/// Returns a loop of at most one iteration, with this range of enclosed groups.
 fn loop_of(call: &mut Call, body: Node, min: usize, start: u16, end: u16) -> Node {
     match Box::new(call.alloc(), body) {
         Ok(loopee) => Node::Loop {
@@ -161,7 +161,7 @@ fn row_of(call: &mut Call, first: Node, second: Node) -> Node {
     Node::Cat(parts)
 }
 
-/// A byte sequence and a set of these bytes, as they print.
+/// Reports the printed form of a byte sequence and of a set of the same bytes.
 fn print_bytes(call: &mut Call) {
     let given = call.bytes();
     let sequence = Node::ByteSequence(bytes(call, &given));
@@ -170,7 +170,7 @@ fn print_bytes(call: &mut Call) {
     tell_node(call, node);
 }
 
-/// A copy as unrolling makes it, of `a`, of `ab` or of a set of strings at a depth, or `none`.
+/// Reports the copy that unrolling makes of `a`, of `ab` or of a set of strings at a depth, or `none`.
 fn duplicate(call: &mut Call) {
     let name = call.field();
     let depth = call.number() as usize;

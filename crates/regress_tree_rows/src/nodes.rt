@@ -4,7 +4,7 @@ use crate::printing::tell_tree;
 use regress_notation::{Call, Fault};
 use regress_tree::ir::{Node, Regex, Walk};
 
-/// The first part of a `Cat`, or the node itself.
+/// Returns the first part of a `Cat`, or the node itself.
 pub fn first_part(node: &Node) -> &Node {
     match node {
         Node::Cat(parts) => parts.first().unwrap_or(node),
@@ -12,8 +12,8 @@ pub fn first_part(node: &Node) -> &Node {
     }
 }
 
-/// How many parts a `Cat` has, and the size of the first: its intervals if it is a bracket, its bytes if it is a byte
-/// sequence, and else 0.
+/// Reports the number of parts of a `Cat`, and the size of the first: the number of intervals of a bracket or of bytes
+/// of a byte sequence, else 0.
 pub fn parts(call: &mut Call, node: &Node) {
     let count = match node {
         Node::Cat(parts) => parts.len(),
@@ -28,7 +28,7 @@ pub fn parts(call: &mut Call, node: &Node) {
     call.tell(&size);
 }
 
-/// Which of the tests on a node hold.
+/// Reports which of the tests on a node hold.
 pub fn ask(call: &mut Call, node: &Node) {
     say_if(call, node.is_empty(), "empty ");
     say_if(call, node.is_cat(), "cat ");
@@ -42,7 +42,8 @@ fn say_if(call: &mut Call, holds: bool, word: &str) {
     }
 }
 
-/// The first part of a tree, turned as in a lookbehind, and what it is where the walk is in none.
+/// Reports the first part of a tree after reversing its `Cat`s as in a lookbehind. Reversing it outside of one changes
+/// nothing.
 pub fn turn(call: &mut Call, regex: &Regex) {
     let copy = first_part(&regex.node).try_clone(call.alloc());
     let mut node = call.made(copy, Node::Empty);

@@ -1,10 +1,10 @@
-//! How lines write trees.
+//! The notation of trees in test cases.
 
 use regress_base::types::Flags;
 use regress_notation::Call;
 use regress_tree::ir::{Node, Regex};
 
-/// Adds the tree as it prints, with `/` in place of each line's end.
+/// Appends the printed form of a tree, with `/` instead of each line end.
 pub fn tell_tree(call: &mut Call, regex: &Regex) {
     let alloc = call.alloc();
     let printed = call.made(format!(in alloc; "{regex}"), String::new(alloc));
@@ -14,7 +14,7 @@ pub fn tell_tree(call: &mut Call, regex: &Regex) {
     }
 }
 
-/// Adds the tree with this root, under no flags.
+/// Appends the tree with this root, without flags.
 pub(crate) fn tell_node(call: &mut Call, node: Node) {
     let flags = Flags::default();
     tell_tree(call, &Regex { node, flags });

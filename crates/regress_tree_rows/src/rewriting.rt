@@ -1,4 +1,4 @@
-//! Rewrites run over trees, and what a rewritten tree keeps.
+//! Runs rewrites over trees, and checks what a rewritten tree keeps.
 ghost use Rattle.regress_tree.specs.Tree.{tree};
 ghost use Rattle.regress_tree.specs.WellFormed.{IsWellFormed};
 
@@ -13,7 +13,10 @@ use regress_rewrite::rewrites::{
 use regress_rewrite::{Rewrite, run_pass};
 use regress_tree::ir::Regex;
 
-/// What two passes of a rewrite answer, and the tree behind them.
+/// Reports what two passes of a rewrite return, and the tree after them.
+///
+/// # Preconditions
+/// The tree of `regex` is well formed.
 pub fn rewrite(call: &mut Call, name: &str, regex: &mut Regex)
     requires { IsWellFormed (tree regex.old.node) }
 {
@@ -41,7 +44,7 @@ fn run_twice<R: Rewrite>(call: &mut Call, regex: &mut Regex, rewrite: &mut R)
     tell_tree(call, regex);
 }
 
-/// Whether a rewrite answers that it changes the tree.
+/// Returns whether a pass of a rewrite reports a change.
 fn changes<R: Rewrite>(call: &mut Call, regex: &mut Regex, rewrite: &mut R) -> bool
     requires { IsWellFormed (tree regex.old.node) }
     ensures { IsWellFormed (tree regex.new.node) }
@@ -50,7 +53,10 @@ fn changes<R: Rewrite>(call: &mut Call, regex: &mut Regex, rewrite: &mut R) -> b
     call.made(answer, false)
 }
 
-/// Whether one of the rewrites answers that it changes the tree.
+/// Returns whether a pass of one of the rewrites reports a change.
+///
+/// # Preconditions
+/// The tree of `regex` is well formed.
 pub fn is_changed(call: &mut Call, regex: &mut Regex) -> bool
     requires { IsWellFormed (tree regex.old.node) }
     ensures { IsWellFormed (tree regex.new.node) }
@@ -65,7 +71,10 @@ pub fn is_changed(call: &mut Call, regex: &mut Regex) -> bool
         || changes(call, regex, &mut PropagateEarlyFails { alloc })
 }
 
-/// The flattened tree, after passes for which memory is wanting at the first node, at the second, and so on.
+/// Reports the flattened tree, after passes in which an allocation fails at the first node, at the second, and so on.
+///
+/// # Preconditions
+/// The tree of `regex` is well formed.
 pub fn pass(call: &mut Call, regex: &Regex)
     requires { IsWellFormed (tree regex.now.node) }
 {
@@ -98,7 +107,7 @@ fn is_passed(call: &mut Call, regex: Regex, nodes: usize, before: &Census) -> bo
     true
 }
 
-/// What holds of a rewritten tree whatever is answered.
+/// Checks what a rewrite keeps, whatever it returns.
 pub fn check_kept(call: &mut Call, regex: &Regex, before: &Census) {
     let after = Census::of(call, &regex.node);
     call.check(regex.is_well_formed(), Promise::WellFormed);

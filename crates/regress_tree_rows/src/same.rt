@@ -1,10 +1,10 @@
-//! Whether two trees are equal.
+//! Equality of trees.
 
 use regress_base::types::BracketContents;
 use regress_tree::ir::{AnchorType, Node, Quantifier};
 use std::boxed::BoxedSlice;
 
-/// Whether two trees are equal, node by node.
+/// Returns whether two trees are equal, node by node.
 #[cycle(same)]
 pub fn is_same(left: &Node, right: &Node) -> bool {
     match (left, right) {
@@ -86,7 +86,7 @@ fn are_same_turns(left: &Quantifier, right: &Quantifier) -> bool {
     left.min == right.min && left.max == right.max && left.greedy == right.greedy
 }
 
-/// The same of nodes that hold none.
+/// Returns whether two leaves are equal.
 fn is_same_leaf(left: &Node, right: &Node) -> bool {
     match (left, right) {
         (Node::Empty, Node::Empty)

@@ -1,9 +1,9 @@
-//! The shapes that an optimized tree has none of, by plain walks.
+//! Normal form: the shapes that no node of an optimized tree has, found by walks.
 
 use regress_base::types::BracketContents;
 use regress_tree::ir::{Node, Quantifier, Walk, walk};
 
-/// Whether no node of the tree has such a shape.
+/// Returns whether a tree is in normal form.
 pub fn is_normal(node: &Node) -> bool {
     let mut found = false;
     walk(
@@ -42,7 +42,7 @@ fn fails(node: &Node) -> bool {
     node.match_always_fails()
 }
 
-/// A set for which there is a smaller form.
+/// Returns whether a set has a smaller form.
 fn can_be_simplified(contents: &BracketContents) -> bool {
     let mut points: usize = 0;
     for interval in contents.cps.intervals() {
@@ -52,7 +52,8 @@ fn can_be_simplified(contents: &BracketContents) -> bool {
         || contents.cps.intervals().len() > contents.cps.inverted_interval_count()
 }
 
-/// Fewer than two parts, a part that could be spliced in or left out, or two that could be joined.
+/// Returns whether a `Cat` has fewer than two parts, a part that could be spliced in or removed, or two that could be
+/// joined.
 fn is_loose(parts: &[Node]) -> bool {
     let mut was_bytes = false;
     for part in parts {
@@ -65,7 +66,7 @@ fn is_loose(parts: &[Node]) -> bool {
     parts.len() < 2
 }
 
-/// A loop that can be left out, failed, promoted or unrolled.
+/// Returns whether a loop could be removed, replaced by a node that fails, promoted or unrolled.
 fn is_loop_to_rewrite(body: &Node, quant: &Quantifier) -> bool {
     body.is_empty()
         || body.matches_exactly_one_char()
@@ -75,7 +76,7 @@ fn is_loop_to_rewrite(body: &Node, quant: &Quantifier) -> bool {
                 || (1 <= quant.min && quant.min <= 5 && can_be_copied(body))))
 }
 
-/// Whether a body without groups is small enough to be written out.
+/// Returns whether a body without groups is small enough to be copied.
 fn can_be_copied(body: &Node) -> bool {
     let mut charge: usize = 0;
     let mut deepest: usize = 0;

@@ -1,10 +1,10 @@
-//! A rewrite of a caller's own, for which memory is wanting at a node.
+//! A caller's own rewrite, in which an allocation fails at a node.
 
 use regress_rewrite::{PassAction, Rewrite};
 use regress_tree::ir::{Node, Walk};
 use std::alloc::AllocError;
 
-/// Another rewrite, for which memory is wanting behind so many nodes.
+/// A rewrite that behaves as another one, but fails after a number of nodes as if an allocation had failed.
 #[derive(Drop)]
 pub(crate) struct Wanting<R: Rewrite> {
     pub(crate) nodes: usize,

@@ -1,4 +1,4 @@
--- What the constants keep, looked through.
+-- Properties of the constants, by computation.
 use Rattle.std.proofs.Common.{◌≡◌, true, IsTrue, map, All, length, refl}
 use Rattle.std.proofs.lemmas.Bool.{and_parts}
 use Rattle.std.proofs.lemmas.List.Sums.{AllPass-from_list_all}

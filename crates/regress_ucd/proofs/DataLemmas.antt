@@ -1,5 +1,5 @@
--- What tests of the constants tell: a canonical set has intervals, which its ends tell pair by pair, rows can be packed,
--- strings stand where their places say.
+-- Consequences of the tests of the constants: a canonical set has valid intervals, given by pairs of ends; entries can
+-- be packed; and each string is within its range.
 use Rattle.std.proofs.Common.{◌≡◌, ℕ, ℤ, pos, negsuc, ◌+◌, ◌*◌, ◌/◌, ◌^◌, ◌≤◌, ◌<◌, ◌≤ℤ◌, ◌⊎◌, inl, inr, Bool, true, ◌&&◌, ◌||◌, ◌==◌, nat_le, nat_lt, IsTrue, List, [], ◌∷◌, ◌++◌, map, All, length, get_or, slice_range, take, drop, zero, suc, ◌-◌, refl, sym, ap, subst, ◌∙◌, arith}
 use Rattle.std.specs.List.{list_all}
 use Rattle.std.proofs.lemmas.Bool.Decides.{nat_tests}
@@ -26,11 +26,11 @@ canonical_intervals ivs h = intervals_from 0 ivs h
 
 -- ---- pairs of ends
 
--- the pair of this number, as an interval
+-- the pair at an index, as an interval
 abbrev pub pair_at : List ℕ → ℕ → Bounds
 pair_at ends i = record { first = get_or ends (2 * i) 0; last = get_or ends (2 * i + 1) 0 }
 
--- what is left of the ends has a pair in front
+-- the remaining ends begin with a pair
 next_pair : (ends : List ℕ) (i : ℕ) → i < length ends / 2 →
     paired (drop (2 * i) ends) ≡ pair_at ends i ∷ paired (drop (2 * (i + 1)) ends)
 next_pair ends i lt =
@@ -64,9 +64,9 @@ all_taken ends i taken le is =
     let none : paired (drop (2 * i) ends) ≡ [] = unpaired (drop (2 * i) ends) (omega (arith, le, length-drop (2 * i) ends)) in
     sym (append-nil taken) ∙ ap (λ rest. taken ++ rest) (sym none) ∙ is
 
--- ---- rows
+-- ---- entries of case mappings
 
--- a delta of less than 2 ^ 27, either way
+-- the absolute value of the delta is below 2 ^ 27
 abbrev pub is_short : ℤ → Bool
 is_short (pos n) = nat_lt n (2 ^ 27)
 is_short (negsuc n) = nat_lt n (2 ^ 27)
@@ -99,7 +99,7 @@ packable row h =
       modulo = elim modulo [ inl one ↦ inl one | inr two ↦ inr (inl two) ];
     }
 
--- ---- places, in lists whose lengths are known
+-- ---- ranges in lists of known length
 
 abbrev pub is_set_in : List ℕ → (count from to : ℕ) → Bool
 is_set_in intervals count from to = are_places count from to && is_canonical_from 0 (set_at intervals from to)
@@ -124,7 +124,7 @@ dropped xs left at to le is =
     let sum : at + (to - at) ≡ to = omega (arith, le) in
     ap (drop (to - at)) is ∙ drop_again xs at (to - at) ∙ ap (λ k. drop k xs) sum
 
--- One walk over the intervals: each set stands behind where the one before it begins, or there.
+-- One traversal of the intervals tests every set: each set begins at or after the start of the one before it.
 abbrev pub are_sets_from : (count at : ℕ) → List ℕ → List (ℕ × ℕ) → Bool
 are_sets_from count at left [] = true
 are_sets_from count at left (p ∷ places) =
@@ -183,7 +183,7 @@ strings_stand places points names of_places of_points is are h =
     (λ n e. strings_stand_at places points n.0 n.1 (rw (is, are) e)) names
     (AllPass-from_list_all (λ n. are_strings_in places of_places of_points n.0 n.1) names h)
 
--- ---- the places of a name
+-- ---- the range of a name
 
 pub places_at : {A : Type 0} (P : ℕ × ℕ → Type 0) (names : List (A × ℕ × ℕ)) (k : ℕ) (d : A × ℕ × ℕ) →
     All P (map (λ n. (n.1, n.2)) names) → k < length names → P ((get_or names k d).1, (get_or names k d).2)
@@ -192,7 +192,7 @@ places_at P (n ∷ names) zero d h lt = All-head P (n.1, n.2) (map (λ n. (n.1, 
 places_at P (n ∷ names) (suc k) d h lt =
     places_at P names k d (All-tail P (n.1, n.2) (map (λ n. (n.1, n.2)) names) h) (omega (arith, lt))
 
--- ---- what sets and strings under names keep
+-- ---- named sets and strings
 
 pub canonical_sets : {A : Type 0} (name_of : A → List ℕ) (intervals : List ℕ) (names : List (A × ℕ × ℕ)) →
     AreSets intervals (map (λ n. (n.1, n.2)) names) → HasCanonicalSets (map (λ n. named_set intervals (name_of n.0) n.1 n.2) names)
@@ -219,7 +219,7 @@ all_weaker p q weaker (x ∷ xs) h =
     let parts = and_parts (p x) (list_all p xs) h in
     both (q x) (list_all q xs) (weaker x parts.0) (all_weaker p q weaker xs parts.1)
 
--- a place of one code point at least, in a list of that length
+-- a nonempty range in a list of that length
 abbrev pub is_place : ℕ → ℕ × ℕ → Bool
 is_place count p = nat_lt p.0 p.1 && nat_le p.1 count
 

@@ -1,4 +1,4 @@
--- Lists with what the constants say make the parts of the whole table.
+-- Lists with the contents of the constants make the parts of the complete table.
 use Rattle.std.proofs.Common.{◌≡◌, ℕ, List, String, Vec, Global, Result, ◌++◌, map, ap, sym, subst, ◌∙◌}
 use Rattle.std.proofs.lemmas.Result.{err_from_is_err_and}
 use Rattle.std.specs.Result.{IfOk, IsErrAnd}
@@ -64,6 +64,6 @@ strings_in listed points same points_same places h =
     subst (λ (xs : List (ℕ × ℕ)). AreStrings xs points places) (sym same)
     (subst (λ (xs : List ℕ). AreStrings STRINGS.now xs places) (sym points_same) h)
 
--- what a `?` answers in the end is no table
+-- an error that `?` returns is not a table
 pub no_table : (Q : AllocError → Type 0) (r : Result Tables AllocError) → IsErrAnd r Q → IfOk r (λ tables. table_of tables ≡ unicode_table)
 no_table Q r h = let is = err_from_is_err_and r h in subst (λ (x : Result Tables AllocError). IfOk x (λ tables. table_of tables ≡ unicode_table)) (sym is.1) tt

@@ -1,4 +1,4 @@
--- The table that the constants say, list by list.
+-- The table that the constants define, list by list.
 use Rattle.std.specs.Prelude.{map, ◌++◌}
 use Rattle.regress_base.specs.Table.{Table}
 use Rattle.regress_unicode.specs.Parts.{Parts, table_from}
@@ -8,7 +8,7 @@ use Rattle.regress_ucd.specs.declared.names.TheConstants.{ID_START, ID_CONTINUE,
 use Rattle.regress_ucd.specs.declared.strings.TheConstants.{STRING_NAMES, STRINGS, POINTS}
 use Rattle.regress_ucd.specs.Data.{row, set_at, named_set, named_strings}
 
--- the parts that the constants say
+-- the parts of the table
 unfoldable pub unicode_parts : Parts
 unicode_parts = record {
   folds = map row FOLDS.now;
@@ -26,6 +26,6 @@ unicode_parts = record {
   strings = map (λ n. named_strings STRINGS.now POINTS.now n.0.now n.1 n.2) STRING_NAMES.now;
 }
 
--- the whole table of Unicode
+-- the complete table of Unicode
 unfoldable pub unicode_table : Table
 unicode_table = table_from unicode_parts

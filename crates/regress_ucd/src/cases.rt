@@ -1,8 +1,8 @@
-//! The maps of cases, as rows of start, length, delta and modulo.
+//! The case mappings, as entries of start, length, delta and modulo.
 //!
 //! Made by tools/make_unicode_tables from the data of Unicode 15.0.0.
 
-/// CaseFolding.txt, status C and S.
+/// Simple case folding: CaseFolding.txt, status C and S.
 pub(super) static FOLDS: &[(u32, u32, i32, u8)] = &[
     (0x41, 26, 32, 1),
     (0xB5, 1, 775, 1),
@@ -208,7 +208,7 @@ pub(super) static FOLDS: &[(u32, u32, i32, u8)] = &[
     (0x1E900, 34, 34, 1),
 ];
 
-/// The upper cases, where one code point has one.
+/// Upper case, where it is one code point and does not map to ASCII from outside (ECMA-262, Canonicalize).
 pub(super) static UPPERS: &[(u32, u32, i32, u8)] = &[
     (0x61, 26, -32, 1),
     (0xB5, 1, 743, 1),

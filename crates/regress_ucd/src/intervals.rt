@@ -1,11 +1,11 @@
-//! The intervals of all sets, one set behind the other.
+//! The intervals of all sets, set by set.
 //!
 //! Made by tools/make_unicode_tables from the data of Unicode 15.0.0.
 
-/// How many INTERVALS lists.
+/// The length of INTERVALS.
 pub(super) const INTERVALS_COUNT: usize = 44114;
 
-/// First and last code points in turn.
+/// First and last code points of intervals, alternating.
 pub(super) static INTERVALS: &[u32] = &[
     0x0, 0x1F, 0x7F, 0x9F, 0xAD, 0xAD, 0x378, 0x379, 0x380, 0x383, 0x38B, 0x38B, 0x38D, 0x38D,
     0x3A2, 0x3A2, 0x530, 0x530, 0x557, 0x558, 0x58B, 0x58C, 0x590, 0x590, 0x5C8, 0x5CF, 0x5EB,

@@ -1,4 +1,4 @@
-//! The whole of Unicode, as a table for patterns.
+//! The Unicode data of patterns, complete for one version of Unicode.
 #![tactic(auto)]
 
 mod cases;

@@ -1,14 +1,14 @@
-//! The names of sets, and where their intervals stand.
+//! The names of sets, with the ranges of their intervals.
 //!
 //! Made by tools/make_unicode_tables from the data of Unicode 15.0.0.
 
-/// The places of the set of ID_Start.
+/// The range of ID_Start in INTERVALS, half-open.
 pub(super) const ID_START: (usize, usize) = (36298, 37616);
 
-/// The places of the set of ID_Continue.
+/// The range of ID_Continue in INTERVALS, half-open.
 pub(super) const ID_CONTINUE: (usize, usize) = (34762, 36298);
 
-/// Names, and the places of the ends of their intervals, from the first up to the second.
+/// Names, each with its range in INTERVALS, half-open.
 pub(super) static GENERAL_CATEGORY: &[(&str, usize, usize)] = &[
     ("C", 0, 1424),
     ("Other", 0, 1424),
@@ -92,7 +92,7 @@ pub(super) static GENERAL_CATEGORY: &[(&str, usize, usize)] = &[
     ("Space_Separator", 12784, 12798),
 ];
 
-/// Names, and the places of the ends of their intervals, from the first up to the second.
+/// Names, each with its range in INTERVALS, half-open.
 pub(super) static SCRIPT: &[(&str, usize, usize)] = &[
     ("Adlm", 12798, 12804),
     ("Adlam", 12798, 12804),
@@ -258,7 +258,7 @@ pub(super) static SCRIPT: &[(&str, usize, usize)] = &[
     ("Marc", 13838, 13844),
 ];
 
-/// The rest of them.
+/// The rest of the names.
 pub(super) static SCRIPT_REST: &[(&str, usize, usize)] = &[
     ("Marchen", 13838, 13844),
     ("Medf", 13844, 13846),
@@ -424,7 +424,7 @@ pub(super) static SCRIPT_REST: &[(&str, usize, usize)] = &[
     ("Unknown", 14702, 16112),
 ];
 
-/// Names, and the places of the ends of their intervals, from the first up to the second.
+/// Names, each with its range in INTERVALS, half-open.
 pub(super) static SCRIPT_EXTENSIONS: &[(&str, usize, usize)] = &[
     ("Adlm", 16112, 16122),
     ("Adlam", 16112, 16122),
@@ -590,7 +590,7 @@ pub(super) static SCRIPT_EXTENSIONS: &[(&str, usize, usize)] = &[
     ("Marc", 17400, 17406),
 ];
 
-/// The rest of them.
+/// The rest of the names.
 pub(super) static SCRIPT_EXTENSIONS_REST: &[(&str, usize, usize)] = &[
     ("Marchen", 17400, 17406),
     ("Medf", 17406, 17408),
@@ -756,7 +756,7 @@ pub(super) static SCRIPT_EXTENSIONS_REST: &[(&str, usize, usize)] = &[
     ("Unknown", 18364, 19774),
 ];
 
-/// Names, and the places of the ends of their intervals, from the first up to the second.
+/// Names, each with its range in INTERVALS, half-open.
 pub(super) static BINARY: &[(&str, usize, usize)] = &[
     ("ASCII", 19774, 19776),
     ("Any", 19776, 19778),

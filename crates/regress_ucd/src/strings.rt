@@ -2,13 +2,13 @@
 //!
 //! Made by tools/make_unicode_tables from the data of Unicode 15.0.0.
 
-/// How many STRINGS lists.
+/// The length of STRINGS.
 pub(super) const STRINGS_COUNT: usize = 7328;
 
-/// How many POINTS lists.
+/// The length of POINTS.
 pub(super) const POINTS_COUNT: usize = 10611;
 
-/// Names, and the places of their strings, from the first up to the second.
+/// Names, each with its range in STRINGS, half-open.
 pub(super) static STRING_NAMES: &[(&str, usize, usize)] = &[
     ("Basic_Emoji", 0, 1386),
     ("Emoji_Keycap_Sequence", 1386, 1398),
@@ -19,7 +19,7 @@ pub(super) static STRING_NAMES: &[(&str, usize, usize)] = &[
     ("RGI_Emoji", 3664, 7328),
 ];
 
-/// The places of the code points of each string, from the first up to the second.
+/// The range in POINTS of each string, half-open.
 pub(super) static STRINGS: &[(usize, usize)] = &[
     (0, 2),
     (2, 4),

@@ -1,4 +1,4 @@
-//! The table of the constants.
+//! Construction of the table from the constants.
 ghost use Rattle.std.specs.Prelude.{◌≡◌, ◌++◌, All, IfOk, map, IsTrue, length, slice_range};
 ghost use Rattle.regress_base.specs.Intervals.{IsCanonical, IsInterval};
 ghost use Rattle.regress_unicode.specs.FoldRows.{IsPackableRow};
@@ -9,7 +9,7 @@ use regress_base::codepointset::{CodePointSet, Interval};
 use regress_unicode::FoldRange;
 use std::alloc::{AllocError, Global};
 
-/// The rows that the constants list.
+/// Returns the listed entries of a case mapping.
 pub(super) fn rows(
     alloc: Global,
     listed: &[(u32, u32, i32, u8)],
@@ -23,7 +23,7 @@ pub(super) fn rows(
         .collect(alloc)
 }
 
-/// The intervals with these ends, which are first and last code points in turn.
+/// Returns the intervals whose first and last code points alternate in `ends`.
 fn intervals(alloc: Global, ends: &[u32]) -> Result<Vec<Interval>, AllocError>
     requires { All IsInterval (paired ends.now) }
     ensures { IfOk result (λ intervals. intervals.items ≡ paired ends.now) }
@@ -36,7 +36,7 @@ fn intervals(alloc: Global, ends: &[u32]) -> Result<Vec<Interval>, AllocError>
     Ok(intervals)
 }
 
-/// The set with these intervals.
+/// Returns the set with these intervals.
 #[tactic(auto, using(crate::proofs::DataLemmas::canonical_intervals))]
 fn set(alloc: Global, ends: &[u32]) -> Result<CodePointSet, AllocError>
     requires { IsCanonical (paired ends.now) }
@@ -46,7 +46,7 @@ fn set(alloc: Global, ends: &[u32]) -> Result<CodePointSet, AllocError>
     Ok(CodePointSet::from_sorted_disjoint_intervals(intervals))
 }
 
-/// The set whose intervals have their ends from one place up to the other.
+/// Returns the set whose ends of intervals are in the half-open range from `from` to `to`.
 pub(super) fn set_at(
     alloc: Global,
     intervals: &[u32],
@@ -59,7 +59,7 @@ pub(super) fn set_at(
     set(alloc, &intervals[from..to])
 }
 
-/// The sets of these names.
+/// Returns the named sets of a list.
 pub(super) fn named_sets(
     alloc: Global,
     intervals: &[u32],
@@ -79,7 +79,7 @@ pub(super) fn named_sets(
     Ok(entries)
 }
 
-/// The sets of these names, and those of the rest of them.
+/// Returns the named sets of both lists.
 pub(super) fn all_named_sets(
     alloc: Global,
     intervals: &[u32],
@@ -97,7 +97,7 @@ pub(super) fn all_named_sets(
     Ok(entries)
 }
 
-/// The string whose code points stand from one place up to the other.
+/// Returns the string whose code points are in the half-open range from `from` to `to`.
 fn string_at(alloc: Global, points: &[u32], from: usize, to: usize) -> Result<Vec<u32>, AllocError>
     requires { IsTrue (are_places (length points.now) from to) }
     ensures { IfOk result (λ string. string.items ≡ slice_range points.now from to) }
@@ -105,7 +105,7 @@ fn string_at(alloc: Global, points: &[u32], from: usize, to: usize) -> Result<Ve
     Vec::from_slice(alloc, &points[from..to])
 }
 
-/// The strings whose code points stand at these places.
+/// Returns the strings whose code points are in these half-open ranges.
 fn strings(
     alloc: Global,
     points: &[u32],
@@ -122,7 +122,7 @@ fn strings(
     Ok(strings)
 }
 
-/// The strings whose places stand from one place up to the other.
+/// Returns the strings whose ranges are in the half-open range from `from` to `to` of `places`.
 fn strings_at(
     alloc: Global,
     points: &[u32],
@@ -136,7 +136,7 @@ fn strings_at(
     strings(alloc, points, &places[from..to])
 }
 
-/// The strings of these names.
+/// Returns the named lists of strings.
 pub(super) fn named_strings(
     alloc: Global,
     points: &[u32],

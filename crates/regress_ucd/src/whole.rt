@@ -1,4 +1,4 @@
-//! The whole table.
+//! The complete table.
 ghost use Rattle.std.specs.Prelude.{◌≡◌, IfOk};
 ghost use Rattle.regress_unicode.specs.TableOf.{table_of};
 ghost use Rattle.regress_ucd.specs.UnicodeTable.{unicode_table};
@@ -14,10 +14,18 @@ use super::tables::{all_named_sets, named_sets, named_strings, rows, set_at};
 use regress_unicode::Tables;
 use std::alloc::{AllocError, Global};
 
-/// The table of all of Unicode, in the version [`UNICODE_VERSION`](super::UNICODE_VERSION): what ECMA-262 takes in
-/// `\p{..}`, which characters begin and go on in a name, the simple folds, and the upper cases of its Canonicalize.
+/// Returns the table with all data of Unicode that patterns use, in the version
+/// [`UNICODE_VERSION`](super::UNICODE_VERSION).
 ///
-/// The error stands for want of memory. Make the table once, and lend it.
+/// It has every property that ECMA-262 permits in `\p{..}`, with all aliases; the properties ID_Start and ID_Continue
+/// of identifiers; simple case folding; and the upper case of Canonicalize. A caller builds the table once and passes
+/// references to it.
+///
+/// # Errors
+/// Returns [`AllocError`] if an allocation fails.
+///
+/// # Complexity
+/// Linear in the size of the data, all of which is copied to memory from `alloc`.
 pub fn unicode_tables(alloc: Global) -> Result<Tables, AllocError>
     ensures { IfOk result (λ tables. table_of tables ≡ unicode_table) }
 {

@@ -1,4 +1,4 @@
--- What the images of a table of rows keep, told by the code points of the rows that move.
+-- Properties of the case mapping of a table, from those of the code points that the entries map to others.
 use Rattle.std.proofs.Common.{◌≡◌, ◌≢◌, ℕ, zero, suc, ◌+◌, ◌-◌, ◌%◌, ◌<◌, ◌≤◌, ◌⊎◌, Bool, true, false, not, ◌&&◌, nat_lt, ◌==◌, IsTrue, List, [], ◌∷◌, ◌++◌, length, map, cond, filter, get_or, All, inl, inr, refl, sym, ap, subst, ◌∙◌, arith}
 use Rattle.std.proofs.lemmas.Bool.{cases_eq, eqb-true, eq-eqb}
 use Rattle.std.proofs.Math.Bool.{or-true}
@@ -17,7 +17,7 @@ use Rattle.regress_base.specs.Table.{IsIdempotent, HasSmallClasses, IsCaseMap}
 use Rattle.regress_base.proofs.laws.Listings.{ascending_parts, ascending_within, ascending_filter, lists-tail, lists-past, lists-filter, length_without, ascending_append, lists-append, lists-run}
 use Rattle.regress_unicode.proofs.RowLemmas.{order_parts, shifted_is}
 
--- a number that has another image is in a row
+-- a number that is mapped to another one is in a range
 pub moves_in_codes : (rows : List FoldRow) (c : ℕ) → (lists (codes rows) c ≡ true) ⊎ (image rows c ≡ c)
 unfolding image
 moves_in_codes [] c = inr refl
@@ -30,7 +30,7 @@ moves_in_codes (row ∷ rows) c = by_row (is_in_row row c) refl (moves_in_codes 
     by_row false e (inl later) = inl (lists-append (range_with_len row.start row.length) (codes rows) c ∙ (rw later (or-true _)))
     by_row false e (inr stays) = inr stays
 
--- rows in order have ascending code points
+-- entries in order have ascending code points
 pub ascending_codes : (low : ℕ) (rows : List FoldRow) → IsTrue (is_in_order_from low rows) → IsTrue (is_ascending_from low (codes rows))
 ascending_codes low [] h = h
 ascending_codes low (row ∷ rows) h =
@@ -46,7 +46,7 @@ mover_listed rows c other = elim (moves_in_codes rows c) [
 
 -- ---- idempotent
 
--- where the images of what moves are their own images
+-- a mapping is idempotent if every result of it is mapped to itself
 pub idempotent_from_movers : (rows : List FoldRow) → ((c : ℕ) → lists (movers (image rows) rows) c ≡ true →
     image rows (image rows c) ≡ image rows c) → IsIdempotent (image rows)
 idempotent_from_movers rows h c =
@@ -57,7 +57,7 @@ idempotent_from_movers rows h c =
 
 -- ---- classes
 
--- how many of a list go to an image
+-- the number of elements of a list that are mapped to a number
 abbrev pub count_to : (ℕ → ℕ) → ℕ → List ℕ → ℕ
 count_to f d xs = length (filter (λ x. f x == d) xs)
 
@@ -68,7 +68,7 @@ All-lists P (x ∷ xs) c all h = elim (cases_eq x c) [
   | inr other ↦ All-lists P xs c (All-tail P x xs all) (lists-past x xs c other h)
 ]
 
--- where at most three others have the image of each image, at most four do
+-- if at most three other code points are mapped to each canonical form, at most four have the same one
 pub small_from_counts : (rows : List FoldRow) → IsTrue (is_in_order rows) →
     ((d : ℕ) → count_to (image rows) d (movers (image rows) rows) ≤ 3) → HasSmallClasses (image rows)
 small_from_counts rows order h d xs up same =
@@ -91,7 +91,7 @@ small_from_counts rows order h d xs up same =
     let count : length moved ≤ 3 = h d in
     omega (arith, shorter, without, count)
 
--- a number put in its place
+-- a number inserted in order
 insert_into : ℕ → List ℕ → List ℕ
 insert_into d [] = d ∷ []
 insert_into d (y ∷ ys) = cond (nat_lt d y) (d ∷ y ∷ ys) (y ∷ insert_into d ys)
@@ -131,7 +131,7 @@ All-insert P d (y ∷ ys) here all = by_order (nat_lt d y) (All-insert P d ys he
     by_order true rest = All-cons P d (y ∷ ys) here all
     by_order false rest = All-cons P y (insert_into d ys) (All-head P y ys all) rest
 
--- where four others have the image of an image, five do
+-- if four other code points are mapped to a canonical form, five have the same one
 pub large_from_count : (rows : List FoldRow) (d : ℕ) → IsTrue (is_in_order rows) → image rows d ≡ d →
     4 ≤ count_to (image rows) d (movers (image rows) rows) → ¬ HasSmallClasses (image rows)
 large_from_count rows d order own h small =
@@ -150,9 +150,9 @@ large_from_count rows d order own h small =
     let count : 4 ≤ length moved = h in
     omega (arith, five, len, count)
 
--- ---- runs of equal numbers in a sorted list
+-- ---- equal numbers in a sorted list
 
--- those of a list that go to d are the d's among the images
+-- the number of elements that are mapped to d is the number of occurrences of d among the results
 pub count_of-map : (f : ℕ → ℕ) (d : ℕ) (xs : List ℕ) → count_of d (map f xs) ≡ count_to f d xs
 count_of-map f d [] = refl
 count_of-map f d (x ∷ xs) = by_test (f x == d) (count_of-map f d xs)
@@ -166,7 +166,7 @@ count_of-map f d (x ∷ xs) = by_test (f x == d) (count_of-map f d xs)
 tail_rises : (x : ℕ) (xs : List ℕ) → IsNonDecreasing (x ∷ xs) → IsNonDecreasing xs
 tail_rises x xs up i j d le lt = up (suc i) (suc j) d (omega arith) (omega arith)
 
--- where what stands at a place is more than d, d stands before it alone
+-- if the number at an index of a sorted list is greater than d, every occurrence of d is before the index
 count_before : (d k : ℕ) (xs : List ℕ) → IsNonDecreasing xs → (k < length xs → d < get_or xs k 0) → count_of d xs ≤ k
 count_before d k [] up above = omega arith
 count_before d zero (x ∷ xs) up above =
@@ -198,7 +198,7 @@ few_without_four d (x ∷ xs) up no_four = by_test (x == d) refl
         omega (arith, two)
     by_test false e rest = rest
 
--- between two that are d all are
+-- between two indices of a sorted list with the number d all numbers are d
 pub many_between : (d i j : ℕ) (xs : List ℕ) → IsNonDecreasing xs → i ≤ j → j < length xs → get_or xs i 0 ≡ d → get_or xs j 0 ≡ d →
     j + 1 ≤ i + count_of d xs
 many_between d i j [] up le lt at_i at_j = absurd (omega arith)
@@ -221,7 +221,7 @@ many_between d (suc i) (suc j) (x ∷ xs) up le lt at_i at_j =
     by_test true rest = omega (arith, rest)
     by_test false rest = omega (arith, rest)
 
--- ---- by the images of what moves
+-- ---- counts in the list of results
 
 pub lists-map : (f : ℕ → ℕ) (xs : List ℕ) (c : ℕ) → lists xs c ≡ true → lists (map f xs) (f c) ≡ true
 lists-map f [] c h = let no : false ≡ true = h in cc
@@ -248,7 +248,7 @@ pub large_from_images : (rows : List FoldRow) (d : ℕ) → IsTrue (is_in_order 
 large_from_images rows d order own many =
     large_from_count rows d order own (subst (λ (n : ℕ). 4 ≤ n) (count_of-map (image rows) d (movers (image rows) rows)) many)
 
--- a number that is not in the list is counted no time
+-- a number that is not in the list occurs zero times
 pub count_of_absent : (d : ℕ) (xs : List ℕ) → lists xs d ≡ false → count_of d xs ≡ 0
 count_of_absent d [] h = refl
 count_of_absent d (x ∷ xs) h =
@@ -256,7 +256,7 @@ count_of_absent d (x ∷ xs) h =
     let later : lists xs d ≡ false = grind (arith, nat_tests, h) in
     rw other (count_of_absent d xs later)
 
--- ---- the whole map
+-- ---- the whole mapping
 
 pub image_in_range : (rows : List FoldRow) (c : ℕ) → IsTrue (are_targets_in_range rows) → c ≤ code_point_max → image rows c ≤ code_point_max
 unfolding image
@@ -280,7 +280,7 @@ case_map rows sound = record {
 
 -- ---- after a sort
 
--- a sort keeps how often each number stands
+-- sorting keeps the number of occurrences of each number
 pub count_of_sorted : (xs ys : List ℕ) (d : ℕ) → IsStable nat_cmp xs ys → count_of d ys ≡ count_of d xs
 count_of_sorted xs ys d stable =
     ap length (filter_agree (λ x. x == d) (ties (λ a b. is_lt (nat_cmp a b)) d) same ys ∙ stable d ∙

@@ -1,4 +1,4 @@
--- Steps of closing a set: intervals passed over, put into a list, and looked at no more.
+-- Steps of the closure of a set: leaving out, appending and stopping at intervals.
 use Rattle.std.proofs.Common.{◌≡◌, ℕ, ◌+◌, ◌-◌, ◌<◌, ◌≤◌, ◌==◌, Bool, true, false, ◌||◌, IsTrue, List, [], ◌∷◌, ◌++◌, length, take, drop, get_or, suc, zero, le_refl, inl, inr, refl, sym, ap, subst, ◌∙◌, ◌⊎◌, arith}
 use Rattle.std.proofs.lemmas.Bool.{cases_lt}
 use Rattle.std.proofs.lemmas.Bool.Decides.{nat_tests}
@@ -15,7 +15,7 @@ use Rattle.regress_unicode.proofs.RowLemmas.{order_apart}
 use Rattle.regress_unicode.specs.Shifts.{lands, lands_by}
 use Rattle.regress_unicode.proofs.ShiftLemmas.{lands-same, lands-none, rows_more, apart_from}
 
--- ---- one interval more
+-- ---- one more interval
 
 pub pushed : (xs ys : List Bounds) (iv : Bounds) (c : ℕ) → ys ≡ xs ++ iv ∷ [] → is_member ys c ≡ (is_member xs c || is_within iv c)
 pushed xs ys iv c is =
@@ -31,15 +31,15 @@ pushed_one xs ys iv k m c is one same =
     pushed xs ys iv c is
     ∙ ap (λ b. is_member xs c || b) (ap (λ v. is_within v c) one ∙ one_within k c ∙ ap (λ n. c == n) same)
 
--- ---- what is left out
+-- ---- intervals that are left out
 
--- the intervals from a place on
+-- the intervals from an index on are canonical
 pub canonical_drop : (low : ℕ) (ivs : List Bounds) (k : ℕ) → IsTrue (is_canonical_from low ivs) → IsCanonical (drop k ivs)
 canonical_drop low ivs zero can = canonical_lower low 0 ivs (omega arith) can
 canonical_drop low [] (suc k) can = refl
 canonical_drop low (iv ∷ ivs) (suc k) can = canonical_drop (iv.last + 2) ivs k (canonical_parts low iv ivs can).rest
 
--- ... have the members from a number on, if the others end below it
+-- if all earlier intervals end below a number, they have the same members from it on
 pub members_behind : (ivs : List Bounds) (k low x : ℕ) → ((j : ℕ) (d : Bounds) → j < k → j < length ivs → (get_or ivs j d).last < low) →
     low ≤ x → is_member (drop k ivs) x ≡ is_member ivs x
 members_behind ivs zero low x below le = refl
@@ -49,7 +49,7 @@ members_behind (iv ∷ ivs) (suc k) low x below le =
     members_behind ivs k low x (λ j d lt inside. below (suc j) d (omega arith) (omega arith)) le
     ∙ sym (is_member-cons iv ivs x ∙ ap (λ b. b || is_member ivs x) (gt-is_within iv x (omega (arith, here))))
 
--- the slice from a place to the end
+-- the slice from an index to the end
 to_end : (ivs : List Bounds) (k : ℕ) → take (length ivs - k) (drop k ivs) ≡ drop k ivs
 to_end ivs k = let len = length-drop k ivs in take_all (length ivs - k) (drop k ivs) (omega arith)
 
@@ -60,7 +60,7 @@ pub slice_members : (ivs : List Bounds) (k low x : ℕ) → ((j : ℕ) (d : Boun
     low ≤ x → is_member (take (length ivs - k) (drop k ivs)) x ≡ is_member ivs x
 slice_members ivs k low x below le = rw (to_end ivs k) (members_behind ivs k low x (λ j d lt inside. below j d lt) le)
 
--- the intervals before a place have the members below the interval there
+-- the intervals before an index contain every member below the interval at the index
 members_before : (low : ℕ) (ivs : List Bounds) (i x : ℕ) (d : Bounds) → IsTrue (is_canonical_from low ivs) → i < length ivs →
     x < (get_or ivs i d).first → is_member (take i ivs) x ≡ is_member ivs x
 members_before low [] i x d can inside lt = absurd (omega arith)
@@ -72,14 +72,14 @@ members_before low (iv ∷ ivs) (suc i) x d can inside lt =
     ∙ ap (λ b. is_within iv x || b) (members_before (iv.last + 2) ivs i x d p.rest (omega arith) lt)
     ∙ sym (is_member-cons iv ivs x)
 
--- a run that ends before an interval moves nothing of it, nor of those behind it
+-- a shift whose range ends before an interval maps nothing of that interval or of later ones
 pub lands_before : (s : Shift) (ivs : List Bounds) (i c : ℕ) (iv : Bounds) → IsCanonical ivs → i < length ivs → iv ≡ get_or ivs i iv →
     s.last < iv.first → lands s (is_member (take i ivs)) c ≡ lands s (is_member ivs) c
 lands_before s ivs i c iv can inside is past =
     lands-same s _ _ c (λ x from to. members_before 0 ivs i x iv can inside
     (subst (λ (v : Bounds). x < v.first) is (omega arith)))
 
--- ---- the ends
+-- ---- the first and the last member
 
 pub lasts_rise : (low : ℕ) (ivs : List Bounds) → IsTrue (is_canonical_from low ivs) → IsNonDecreasingBy (λ iv. iv.last) ivs
 lasts_rise low [] can i j d le lt = absurd (omega arith)
@@ -119,13 +119,13 @@ pub below_first_none : (ivs : List Bounds) (x : ℕ) (d : Bounds) → IsCanonica
 below_first_none [] x d can some lt = absurd (omega arith)
 below_first_none (iv ∷ ivs) x d can some lt = no_member_below iv.first (iv ∷ ivs) x (from_first 0 iv ivs can) lt
 
--- ---- one row more
+-- ---- one more entry
 
--- a run without a member moves nothing
+-- a shift with no member in its range maps nothing
 lands_outside : (s : Shift) (p : ℕ → Bool) (c : ℕ) → ((x : ℕ) → s.first ≤ x → x ≤ s.last → p x ≡ false) → lands s p c ≡ false
 lands_outside s p c h = lands-same s p (λ x. false) c h ∙ lands-none s (λ x. false) c (λ x. refl)
 
--- tests that agree on the run add the same
+-- tests that agree on the range give the same result for an entry
 pub row_more : (way : FoldRow → Shift) (p q : ℕ → Bool) (rows : List FoldRow) (i c : ℕ) (row : FoldRow) (shift : Shift)
     (so_far new : Bool) → i < length rows → row ≡ get_or rows i row → shift ≡ way row →
     ((x : ℕ) → shift.first ≤ x → x ≤ shift.last → q x ≡ p x) →
@@ -141,7 +141,7 @@ row_no_more way p rows i c row so_far lt is none is_so_far =
     rows_more way p rows i c row (way row) false so_far so_far lt is refl is_so_far
     (sym (or-false so_far) ∙ ap (λ b. so_far || b) (sym (lands_outside (way row) p c none)))
 
--- rows that move nothing add nothing
+-- entries that map nothing add nothing
 pub rows_done : (way : FoldRow → Shift) (p : ℕ → Bool) (rows : List FoldRow) (i c : ℕ) (d : FoldRow) →
     ((k : ℕ) → i ≤ k → k < length rows → (x : ℕ) → (way (get_or rows k d)).first ≤ x → p x ≡ false) →
     lands_by way (take i rows) p c ≡ lands_by way rows p c
@@ -153,7 +153,7 @@ rows_done way p (row ∷ rows) zero c d none =
 rows_done way p (row ∷ rows) (suc i) c d none =
     ap (λ b. lands (way row) p c || b) (rows_done way p rows i c d (λ k le lt. none (suc k) (omega arith) (omega arith)))
 
--- a row does not begin above one behind it
+-- an entry does not begin above a later one
 starts_rise : (rows : List FoldRow) (i k : ℕ) (row d : FoldRow) → IsTrue (is_in_order rows) → i ≤ k → k < length rows →
     row ≡ get_or rows i row → row.start ≤ (get_or rows k d).start
 starts_rise rows i k row d order le lt is =
@@ -165,7 +165,7 @@ starts_rise rows i k row d order le lt is =
           omega (arith, here, there))
     ]
 
--- what is left at a row has all that this row and those behind it may move
+-- the remaining intervals at an entry have every member that this entry or a later one maps
 pub left : (rows : List FoldRow) (i first : ℕ) (row : FoldRow) (ivs before after : List Bounds) → IsTrue (is_in_order rows) →
     row ≡ get_or rows i row → first ≡ row.start →
     ((k : ℕ) (d : FoldRow) → i ≤ k → k < length rows → (x : ℕ) → (get_or rows k d).start ≤ x → is_member before x ≡ is_member ivs x) →
@@ -191,7 +191,7 @@ pub found_none : (way : FoldRow → Shift) (p : ℕ → Bool) (c : ℕ) (found :
 unfolding lands_by
 found_none way p c found none = ap (λ l. is_member l c) none ∙ is_member-nil c
 
--- beyond the ends there is no member
+-- there is no member beyond the ends
 pub beyond : (ivs : List Bounds) (low high x : ℕ) → ((y : ℕ) → IsTrue (is_member ivs y) → (low ≤ y) × (y ≤ high)) →
     (x < low) ⊎ (high < x) → is_member ivs x ≡ false
 beyond ivs low high x ends out = by_test (is_member ivs x) refl

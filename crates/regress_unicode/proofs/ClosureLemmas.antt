@@ -1,4 +1,4 @@
--- The images of a set, and then what goes to them, make its closure.
+-- The canonical forms of a set, followed by the code points that are mapped to them, make its closure.
 use Rattle.std.proofs.Common.{◌≡◌, ◌≢◌, ℕ, zero, suc, ◌+◌, ◌-◌, ◌%◌, ◌≤◌, ◌⊎◌, Bool, true, false, ◌&&◌, ◌||◌, nat_le, ◌==◌, IsTrue, List, [], ◌∷◌, All, cond, ℤ, pos, negsuc, neg_ℤ, refl, sym, ap, subst, ◌∙◌, inl, inr, arith}
 use Rattle.std.proofs.lemmas.Bool.{cases_eq, eqb-true, eq-eqb}
 use Rattle.std.proofs.lemmas.Bool.Decides.{nat_tests}
@@ -16,12 +16,12 @@ use Rattle.regress_base.proofs.laws.Literals.{same_tests}
 use Rattle.regress_unicode.proofs.RowLemmas.{order_parts}
 use Rattle.regress_unicode.specs.Shifts.{is_hit, origin, lands, lands_by, forward, backward}
 
--- a row that has a code point, and whose ends stay in range
+-- a nonempty entry whose ends are mapped to code points
 pub record IsGoodRow (row : FoldRow) : Type 0 where
   pub nonempty : 1 ≤ row.length
   pub target : IsTrue (is_target_in_range row)
 
--- a code point of a row that has another image is aligned
+-- a code point of an entry that is mapped to another one is at a multiple of the modulo
 moves_aligned : (row : FoldRow) (x : ℕ) → image_in_row row x ≢ x → (((x - row.start) % row.modulo == 0) ≡ true) ×
     (image_in_row row x ≡ moved row.delta x)
 moves_aligned row x other = by_test ((x - row.start) % row.modulo == 0) other
@@ -30,7 +30,7 @@ moves_aligned row x other = by_test ((x - row.start) % row.modulo == 0) other
     by_test true ne = (refl, refl)
     by_test false ne = absurd (ne refl)
 
--- going there and back
+-- the inverse of a shift undoes it
 back_and_forth : (delta : ℤ) (start n x : ℕ) → IsTrue (stays_in_range delta start) → start ≤ x → (origin delta (moved delta x) ≡ x) ×
     (origin (neg_ℤ delta) x ≡ moved delta x) × (moved (neg_ℤ delta) (moved delta x) ≡ x) ×
     (moved delta x - moved delta start ≡ x - start) × (moved delta start ≤ moved delta x)
@@ -45,7 +45,7 @@ lands_at s p x c from hit passes to =
     let yes : (moved s.delta x == c) ≡ true = eq-eqb (moved s.delta x) c to in
     rw (from, hit, passes, yes)
 
--- what the images of a row come from
+-- what the shift of an entry maps
 forward_gives : (row : FoldRow) (p : ℕ → Bool) (c : ℕ) → IsGoodRow row → lands (forward row) p c ≡ true →
     (x : ℕ) × (is_in_row row x ≡ true) × (image_in_row row x ≡ c) × (p x ≡ true)
 unfolding lands
@@ -94,7 +94,7 @@ backward_from row p x good within other passes =
     (moved_le row.delta x (row.start + row.length - 1) bounds.1) aligned in
     lands_at (backward row) p (moved row.delta x) x back.1 hit (subst (λ (k : ℕ). p k ≡ true) on.1 passes) back.2
 
--- what goes back to a row was in it
+-- the inverse shift of an entry maps into its range
 back_hits : (delta : ℤ) (start last s : ℕ) → IsTrue (stays_in_range delta start) → IsTrue (stays_in_range delta last) → start ≤ last →
     moved delta start ≤ origin (neg_ℤ delta) s → origin (neg_ℤ delta) s ≤ moved delta last →
     moved (neg_ℤ delta) (origin (neg_ℤ delta) s) ≡ s →
@@ -134,7 +134,7 @@ backward_gives row p x good h =
     in_row_from : (row : FoldRow) (x : ℕ) → IsGoodRow row → row.start ≤ x → x ≤ row.start + row.length - 1 → is_in_row row x ≡ true
     in_row_from row x good low high = grind (arith, nat_tests, good.nonempty)
 
--- ---- all rows
+-- ---- all entries
 
 abbrev pub AreGoodRows : List FoldRow → Type 0
 AreGoodRows [] = Unit {0}
@@ -147,7 +147,7 @@ good_rows (row ∷ rows) targets nonempty = (
   good_rows rows (grind (arith, nat_tests, targets)) (All-tail (λ (r : FoldRow). 1 ≤ r.length) row rows nonempty),
 )
 
--- an image in the first row, and one behind it
+-- a canonical form that the first entry determines, and one that a later entry determines
 image_here : (row : FoldRow) (rows : List FoldRow) (x : ℕ) → is_in_row row x ≡ true → image (row ∷ rows) x ≡ image_in_row row x
 unfolding image
 image_here row rows x e = rw e
@@ -287,7 +287,7 @@ closure_gives t set c h =
     let found = some_member_gives (λ x. t.fold x == t.fold c) set some in
     (small, found.0, found.1, eqb-true (t.fold found.0) (t.fold c) found.2)
 
--- a set with the images of another, and with what goes into it
+-- a set with the canonical forms of another set, and then with the code points that are mapped to them
 pub record ClosesOver (rows : List FoldRow) (set : List Bounds) (folded closed : ℕ → Bool) : Type 0 where
   pub in_order : IsTrue (is_in_order rows)
   pub good : AreGoodRows rows

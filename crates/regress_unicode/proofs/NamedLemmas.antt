@@ -1,11 +1,11 @@
--- The first entry of a name, step by step.
+-- The first entry with a name, element by element.
 use Rattle.std.proofs.Common.{◌≡◌, ℕ, suc, ◌+◌, ◌<◌, ◌≤◌, Bool, true, false, List, [], ◌∷◌, map, drop, length, get_or, Option, Some, None, String, Vec, string_bytes, Global, refl, sym, ap, ◌∙◌, add-one, drop-cons, option_map, cond}
 use Rattle.std.specs.Str.{bytes_eq}
 use Rattle.std.proofs.lemmas.List.{drop_all}
 use Rattle.regress_base.specs.Table.{named}
 use Rattle.regress_unicode.specs.Parts.{entry_of, strings_of}
 
--- the entries from a place on begin with the one there
+-- the entries from an index on begin with the one there
 entries_at : {A : Type 0} (entries : List (String Global × A)) (i : ℕ) (x : String Global × A) → i < length entries →
     x ≡ get_or entries i x →
     map entry_of (drop i entries) ≡ entry_of x ∷ map entry_of (drop (i + 1) entries)
@@ -36,7 +36,7 @@ unfolding named
 named_none {A} name entries i whole le so_far =
     sym (ap (λ es. named {A = A} name (map entry_of es)) (drop_all i entries le)) ∙ so_far
 
--- the strings of a name
+-- the strings with a name
 pub named_strings : (name : List ℕ) (entries : List (String Global × Vec (Vec ℕ Global) Global)) →
     option_map (λ (v : Vec (Vec ℕ Global) Global). map (λ string. string.items) v.items) (named name (map entry_of entries)) ≡ named name
     (strings_of entries)

@@ -1,4 +1,4 @@
--- A delta and a modulo in one word: the delta above four bits, and below it the modulo less one.
+-- A delta and a modulo in one word: the modulo minus one in the four low bits, and the delta above them.
 use Rattle.std.proofs.Common.{◌≡◌, ℕ, suc, ◌+◌, ◌-◌, ◌*◌, ◌%◌, ◌^◌, ◌<◌, ◌≤◌, ℤ, pos, negsuc, ◌≤ℤ◌, bit_or, unsigned_abs, ap, ◌∙◌, w32, to_z, of_z, arith}
 use Rattle.std.proofs.lemmas.Nat.{or_shifted}
 use Rattle.std.proofs.lemmas.Int.{ints}
@@ -9,7 +9,7 @@ use Rattle.regress_unicode.specs.FoldRows.{IsModulo}
 pub IsModulo-small : (m : ℕ) → IsModulo m → (1 ≤ m) × (m ≤ 16)
 IsModulo-small m h = grind (arith, h)
 
--- the word that packs a delta and a mask of four bits
+-- the word with a delta and a mask of four bits
 abbrev pub packed : ℤ → ℕ → ℤ
 packed d mask = to_z w32 (bit_or (of_z w32 d * 16 % 4294967296) mask)
 

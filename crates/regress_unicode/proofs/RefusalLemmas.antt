@@ -1,4 +1,4 @@
--- The refusals, one after the other.
+-- The errors of `Tables::new` in order.
 use Rattle.std.proofs.Common.{◌≡◌, ℕ, suc, ◌<◌, IsTrue, List, [], ◌∷◌, ◌&&◌, String, Vec, Global, cond, lit<, ◌==◌, inl, inr, refl, sym, ap, subst, ◌∙◌, arith}
 use Rattle.std.proofs.lemmas.Bool.{cases_lt}
 use Rattle.std.proofs.lemmas.List.Folds.{list_all-map}
@@ -12,14 +12,14 @@ use Rattle.regress_base.specs.Table.{Named, IsIdempotent, HasSmallClasses, is_st
 use Rattle.regress_unicode.specs.Parts.{Parts, AreSoundRows, strings_of}
 use Rattle.regress_unicode.specs.Refusals.{Meets, place, IsFirstDue}
 
--- the parts meet the refusals before a place
+-- the parts meet the conditions of all errors before a position
 abbrev pub MeetsBefore : Parts → ℕ → Type 0
 MeetsBefore parts n = (e : TablesError) → place e < n → Meets parts e
 
 pub meets_none : (parts : Parts) → MeetsBefore parts 0
 meets_none parts e lt = absurd (omega arith)
 
--- the refusal at a place
+-- the error at a position
 at_place : ℕ → TablesError
 at_place n =
     cond (n == 0) (RangeOrder Fold) (cond (n == 1) (RangeOrder Upper)
@@ -42,7 +42,7 @@ at_its_place IdentifierPunctuation lt = refl
 at_its_place BadString lt = refl
 at_its_place (Memory error) lt = absurd (omega arith)
 
--- one more
+-- one more error
 pub meets_more : (parts : Parts) (e : TablesError) → place e < 10 → MeetsBefore parts (place e) → Meets parts e →
     MeetsBefore parts (suc (place e))
 meets_more parts e small before here other lt = elim (cases_lt (place other) (place e)) [
@@ -52,7 +52,7 @@ meets_more parts e small before here other lt = elim (cases_lt (place other) (pl
       subst (λ (x : TablesError). Meets parts x) (sym (at_its_place e small) ∙ ap at_place same ∙ at_its_place other (omega arith)) here)
 ]
 
--- what the rows of both maps meet before a refusal
+-- the conditions that the entries of both mappings meet before an error
 pub meets_five : (p : Parts) → Meets p (RangeOrder Fold) → Meets p (RangeOrder Upper) → Meets p (TargetOutOfRange Fold) →
     Meets p (TargetOutOfRange Upper) → Meets p (NotIdempotent Fold) → MeetsBefore p 5
 meets_five p m0 m1 m2 m3 m4 =
@@ -66,13 +66,13 @@ meets_six p before m5 = meets_more p (NotIdempotent Upper) (lit< tt) before m5
 pub meets_seven : (p : Parts) → MeetsBefore p 6 → Meets p (ClassTooLarge Fold) → MeetsBefore p 7
 meets_seven p before m6 = meets_more p (ClassTooLarge Fold) (lit< tt) before m6
 
--- a refusal that is told, by its name
+-- an error that is returned, by its name
 pub told : (p : Parts) (e named : TablesError) → e ≡ named → place named < 8 → ¬ Meets p named → MeetsBefore p (place named) →
     (place e < 8) × IsFirstDue p e
 told p e named same lt due before =
     subst (λ (x : TablesError). (place x < 8) × IsFirstDue p x) (sym same) (lt, record { due = due; before = before })
 
--- the first eight speak of the rows alone
+-- the conditions of the first eight errors depend on the entries alone
 pub meets_by_rows : (p q : Parts) → p.folds ≡ q.folds → p.uppers ≡ q.uppers → (e : TablesError) → place e < 8 → Meets p e → Meets q e
 meets_by_rows p q folds uppers (RangeOrder Fold) lt h = subst (λ (rows : List FoldRow). IsTrue (is_in_order rows)) folds h
 meets_by_rows p q folds uppers (RangeOrder Upper) lt h = subst (λ (rows : List FoldRow). IsTrue (is_in_order rows)) uppers h
@@ -86,7 +86,7 @@ meets_by_rows p q folds uppers IdentifierPunctuation lt h = absurd (omega arith)
 meets_by_rows p q folds uppers BadString lt h = absurd (omega arith)
 meets_by_rows p q folds uppers (Memory error) lt h = absurd (omega arith)
 
--- what is first due by the rows is first due by all parts
+-- an error that applies first by the entries applies first by all parts
 pub first_by_rows : (p q : Parts) (e : TablesError) → p.folds ≡ q.folds → p.uppers ≡ q.uppers → place e < 8 → IsFirstDue p e →
     IsFirstDue q e
 first_by_rows p q e folds uppers lt first = record {
@@ -94,7 +94,7 @@ first_by_rows p q e folds uppers lt first = record {
   before = λ other earlier. meets_by_rows p q folds uppers other (omega arith) (first.before other earlier);
 }
 
--- ---- the tests that were met
+-- ---- the conditions that hold after the tests
 
 pub rows_meet : (p : Parts) → AreSoundRows p.folds → AreSoundRows p.uppers → MeetsBefore p 8
 rows_meet p folds uppers (RangeOrder Fold) lt = folds.in_order

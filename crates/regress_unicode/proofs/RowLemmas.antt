@@ -1,4 +1,4 @@
--- Rows in order, and the search among them.
+-- Entries in order, and the binary search among them.
 use Rattle.std.proofs.Common.{◌≡◌, ℕ, ◌+◌, ◌-◌, ◌<◌, ◌≤◌, false, ◌&&◌, inl, inr, nat_lt, List, [], ◌∷◌, length, get_or, Err, cond, ap, subst, le_refl, le_of_eq, ℤ, pos, negsuc, ◌+ℤ◌, IsTrue, refl, zero, suc, arith}
 use Rattle.std.proofs.lemmas.Bool.{cases_lt}
 use Rattle.std.proofs.lemmas.Bool.Decides.{nat_tests}
@@ -10,7 +10,7 @@ use Rattle.std.specs.declared.cmp.Ordering.TheVariants.{Less, Equal, Greater}
 use Rattle.regress_base.specs.Intervals.{code_point_max}
 use Rattle.regress_unicode.specs.FoldRows.{FoldRow, moved, is_in_row, image_in_row, image, is_in_order_from, is_in_order, stays_in_range, is_target_in_range, are_targets_in_range}
 
--- where a row lies as seen from a number
+-- how an entry compares with a number
 unfoldable pub place_of_row : ℕ → FoldRow → Ordering
 place_of_row c row = cond (nat_lt c row.start) Greater (cond (nat_lt c (row.start + row.length)) Equal Less)
 
@@ -19,7 +19,7 @@ pub place_of_row_tells : (c : ℕ) (row : FoldRow) → MatchOrdering (place_of_r
 unfolding place_of_row
 place_of_row_tells c row = grind (arith, nat_tests)
 
--- the parts of rows in order
+-- the conditions of entries in order
 pub record OrderParts (low : ℕ) (row : FoldRow) (rows : List FoldRow) : Type 0 where
   pub above : low ≤ row.start
   pub rest : IsTrue (is_in_order_from (row.start + row.length) rows)
@@ -27,7 +27,7 @@ pub record OrderParts (low : ℕ) (row : FoldRow) (rows : List FoldRow) : Type 0
 pub order_parts : (low : ℕ) (row : FoldRow) (rows : List FoldRow) → IsTrue (is_in_order_from low (row ∷ rows)) → OrderParts low row rows
 order_parts low row rows h = grind (arith, nat_tests)
 
--- a number below all rows is in none
+-- a number below all entries is in no range
 pub below_image : (low : ℕ) (rows : List FoldRow) (c : ℕ) → IsTrue (is_in_order_from low rows) → c < low → image rows c ≡ c
 unfolding image
 below_image low [] c h lt = refl
@@ -36,7 +36,7 @@ below_image low (row ∷ rows) c h lt =
     let rest : image rows c ≡ c = below_image (row.start + row.length) rows c parts.rest (omega (arith, parts.above)) in
     grind (arith, nat_tests, parts.above, rest)
 
--- each row begins at `low` or above
+-- each entry begins at `low` or above
 pub order_at : (low : ℕ) (rows : List FoldRow) (k : ℕ) (d : FoldRow) → IsTrue (is_in_order_from low rows) → k < length rows →
     low ≤ (get_or rows k d).start
 order_at low [] k d h lt = absurd (omega arith)
@@ -46,7 +46,7 @@ order_at low (row ∷ rows) (suc k) d h lt =
     let rest = order_at (row.start + row.length) rows k d parts.rest (omega arith) in
     omega (arith, parts.above, rest)
 
--- a row ends before a later one begins
+-- an entry ends before a later one begins
 pub order_apart : (low : ℕ) (rows : List FoldRow) (i j : ℕ) (d : FoldRow) → IsTrue (is_in_order_from low rows) → i < j → j < length rows →
     (get_or rows i d).start + (get_or rows i d).length ≤ (get_or rows j d).start
 order_apart low [] i j d h lt inside = absurd (omega arith)
@@ -62,7 +62,7 @@ target_at [] k d h lt = absurd (omega arith)
 target_at (row ∷ rows) zero d h lt = grind (arith, nat_tests)
 target_at (row ∷ rows) (suc k) d h lt = target_at rows k d (grind (arith, nat_tests)) (omega arith)
 
--- the row that holds a number tells its image
+-- the entry with a number in its range determines what it is mapped to
 pub image_at : (low : ℕ) (rows : List FoldRow) (k : ℕ) (d : FoldRow) (c : ℕ) → IsTrue (is_in_order_from low rows) → k < length rows →
     IsTrue (is_in_row (get_or rows k d) c) → image rows c ≡ image_in_row (get_or rows k d) c
 unfolding image
@@ -81,7 +81,7 @@ unfolding image
 image_nowhere [] c d h = refl
 image_nowhere (row ∷ rows) c d h = rw (h zero (omega arith)) (image_nowhere rows c d (λ k lt. h (suc k) (omega arith)))
 
--- a number in a row that is moved
+-- the result of the delta for a number of the range
 pub shifted_is : (row : FoldRow) (c : ℕ) → IsTrue (is_target_in_range row) → IsTrue (is_in_row row c) →
     (pos c +ℤ row.delta ≡ pos (moved row.delta c)) × (moved row.delta c ≤ code_point_max)
 shifted_is row c target within = by_delta row.delta (grind (arith, nat_tests)) (grind (arith, nat_tests)) (grind (arith, nat_tests))
@@ -91,7 +91,7 @@ shifted_is row c target within = by_delta row.delta (grind (arith, nat_tests)) (
     by_delta (pos n) t low high = grind (arith, nat_tests)
     by_delta (negsuc n) t low high = grind (arith, nat_tests, ints)
 
--- ---- the search
+-- ---- the binary search
 
 no_row : FoldRow
 no_row = record { start = 0; length = 0; delta = pos 0; modulo = 1 }
@@ -114,7 +114,7 @@ row-Greater c row e =
     (c < row.start)) e (place_of_row_tells c row) in
     grind (arith, nat_tests, tells)
 
--- the place of a row is no later than that of one behind it
+-- an entry compares no later than one after it
 row_place_rises : (c : ℕ) (a b : FoldRow) → a.start + a.length ≤ b.start →
     ordering_index (place_of_row c a) ≤ ordering_index (place_of_row c b)
 row_place_rises c a b apart = by_places (place_of_row c a) (place_of_row c b) (place_of_row_tells c a) (place_of_row_tells c b)
@@ -130,7 +130,7 @@ row_place_rises c a b apart = by_places (place_of_row c a) (place_of_row c b) (p
     by_places Greater Equal s t = absurd (omega (arith, s, t.0))
     by_places Greater Greater s t = le_refl 2
 
--- the places rise along rows in order
+-- along entries in order the results of the comparison do not decrease
 rows_rise : (c : ℕ) (rows : List FoldRow) → IsTrue (is_in_order rows) → IsNonDecreasingBy (λ row. ordering_index (place_of_row c row)) rows
 rows_rise c rows h i j d le lt =
     elim (cases_lt i j) [
@@ -138,7 +138,7 @@ rows_rise c rows h i j d le lt =
       | inr not_before ↦ (let same : i ≡ j = omega arith in le_of_eq (ap (λ k. ordering_index (place_of_row c (get_or rows k d))) same))
     ]
 
--- a search that finds no row finds a number that is its own image
+-- a number for which the search finds no entry is mapped to itself
 pub not_found_image : (c : ℕ) (rows : List FoldRow) (i : ℕ) → IsTrue (is_in_order rows) →
     IsBinarySearchResult (place_of_row c) rows (Err i) → image rows c ≡ c
 not_found_image c rows i h at =

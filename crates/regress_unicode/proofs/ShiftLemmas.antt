@@ -1,4 +1,4 @@
--- What a shift adds to a set.
+-- The code points that a shift maps a set to.
 use Rattle.std.proofs.Common.{◌≡◌, ◌≢◌, ℕ, ◌+◌, ◌-◌, ◌%◌, ◌<◌, ◌≤◌, Bool, true, false, ◌&&◌, ◌||◌, nat_le, nat_lt, ◌==◌, IsTrue, List, [], ◌∷◌, length, take, get_or, suc, zero, min, max, ℤ, pos, negsuc, refl, sym, ap, ◌∙◌, inl, inr, arith}
 use Rattle.std.proofs.lemmas.Bool.{cases_eq, cases_Bool, eq-eqb}
 use Rattle.std.proofs.lemmas.Bool.Decides.{nat_tests}
@@ -12,7 +12,7 @@ use Rattle.regress_unicode.specs.declared.shift.Shift.{Shift}
 use Rattle.regress_unicode.specs.FoldRows.{FoldRow, moved, stays_in_range}
 use Rattle.regress_unicode.specs.Shifts.{IsShift, is_hit, origin, lands, lands_by}
 
--- a test that either of two tests passes
+-- a shift of the union of two tests
 pub lands-or : (s : Shift) (p q r : ℕ → Bool) (c : ℕ) → ((x : ℕ) → r x ≡ (p x || q x)) → lands s r c ≡ (lands s p c || lands s q c)
 unfolding lands
 lands-or s p q r c h = let e = h (origin s.delta c) in grind (arith, nat_tests, e)
@@ -28,7 +28,7 @@ pub overlap_none : (s : Shift) (iv : Bounds) (a b c : ℕ) → a ≡ max s.first
 unfolding lands is_within
 overlap_none s iv a b c is_a is_b lt = grind (arith, nat_tests)
 
--- a shift of every code point moves an interval as a whole
+-- a shift with modulo 1 maps an interval as a whole
 whole : (s : Shift) (iv : Bounds) (a b c : ℕ) (delta : ℤ) → a ≡ max s.first iv.first → b ≡ min s.last iv.last → a ≤ b →
     IsTrue (stays_in_range delta s.first) → IsTrue (stays_in_range delta s.last) →
     (nat_le (moved delta a) c && nat_le c (moved delta b)) ≡
@@ -46,9 +46,9 @@ overlap_whole s iv a b c shift one is_a is_b le =
     let aligned : ((origin s.delta c - s.first) % s.modulo == 0) ≡ true = eq-eqb _ 0 zero_rest in
     whole s iv a b c s.delta is_a is_b le shift.first_lands shift.last_lands ∙ rw aligned
 
--- ---- code point by code point
+-- ---- one code point at a time
 
--- the numbers from a on, below k
+-- whether a number is from a up to k, k excluded
 abbrev pub between : ℕ → ℕ → ℕ → Bool
 between a k x = nat_le a x && nat_lt x k
 
@@ -59,7 +59,7 @@ origin_moved : (delta : ℤ) (first k : ℕ) → IsTrue (stays_in_range delta fi
 origin_moved (pos n) first k stays le = omega arith
 origin_moved (negsuc n) first k stays le = grind (arith, nat_tests, stays)
 
--- a code point that moves lands where it is moved to, and one that does not lands nowhere
+-- a code point that is mapped adds its result, and any other one adds nothing
 lands_one : (s : Shift) (k c : ℕ) → IsShift s → is_hit s k ≡ true → lands s (λ x. x == k) c ≡ (c == moved s.delta k)
 unfolding lands
 lands_one s k c shift hit = elim (cases_eq c (moved s.delta k)) [
@@ -124,7 +124,7 @@ pub between_all : (s : Shift) (iv : Bounds) (a b c : ℕ) → a ≡ max s.first 
 unfolding lands is_within
 between_all s iv a b c is_a is_b = grind (arith, nat_tests)
 
--- ---- one interval more, and one row more
+-- ---- one more interval, and one more entry
 
 pub intervals_none : (s : Shift) (c : ℕ) (old : Bool) → old ≡ (old || lands s (is_member []) c)
 intervals_none s c old = sym (or-false old) ∙ ap (λ b. old || b) (sym (lands-none s (is_member []) c is_member-nil))
@@ -153,9 +153,9 @@ rows_more way p rows i c row shift old so_far new lt is is_shift is_so_far is_ne
     is_new ∙ rw (is_so_far, here, more) (sym (or_assoc old (list_any (λ r. lands (way r) p c) (take i rows))
     (lands (way (get_or rows i row)) p c)))
 
--- ---- intervals off the run
+-- ---- intervals outside the range
 
--- tests that agree on the run
+-- tests that agree on the range
 pub lands-same : (s : Shift) (p q : ℕ → Bool) (c : ℕ) → ((x : ℕ) → s.first ≤ x → x ≤ s.last → p x ≡ q x) → lands s p c ≡ lands s q c
 unfolding lands
 lands-same s p q c h = elim (cases_Bool (is_hit s (origin s.delta c))) [

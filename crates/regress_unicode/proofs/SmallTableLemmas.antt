@@ -1,4 +1,4 @@
--- The small table is sound.
+-- The small table is valid.
 use Rattle.std.proofs.Common.{◌≡◌, ℕ, IsTrue, List, String, Vec, Global, refl}
 use Rattle.std.specs.List.{list_all}
 use Rattle.std.proofs.lemmas.List.Sums.{AllPass-from_list_all}

@@ -1,4 +1,4 @@
--- Which code points have an image: itself, and those that a row moves to it.
+-- The code points with a given canonical form: it itself, and those that an entry maps to it.
 use Rattle.std.proofs.Common.{◌≡◌, ℕ, ◌+◌, ◌-◌, ◌%◌, ◌<◌, Bool, true, false, ◌&&◌, ◌||◌, ◌==◌, IsTrue, List, [], ◌∷◌, length, take, get_or, cond, inl, inr, refl, sym, ap, subst, ◌∙◌, arith}
 use Rattle.std.proofs.lemmas.Bool.{cases_eq, eq-eqb}
 use Rattle.std.proofs.lemmas.Bool.Decides.{nat_tests}
@@ -8,7 +8,7 @@ use Rattle.std.proofs.Math.Bool.{or-false}
 use Rattle.regress_unicode.specs.FoldRows.{FoldRow, moved, is_in_row, image_in_row, is_source, image, is_in_order_from}
 use Rattle.regress_unicode.proofs.RowLemmas.{order_parts, below_image}
 
--- whether a row moves the code point to the target
+-- whether an entry maps the code point to the target
 unfoldable pub has_source : List FoldRow → ℕ → ℕ → Bool
 has_source rows target c = list_any (λ row. is_source row target c) rows
 
@@ -16,7 +16,7 @@ pub has_source-nil : (target c : ℕ) → has_source [] target c ≡ false
 unfolding has_source
 has_source-nil target c = refl
 
--- a code point below all rows is moved by none
+-- no entry maps a code point below all entries
 below_source : (low : ℕ) (rows : List FoldRow) (target c : ℕ) → IsTrue (is_in_order_from low rows) → c < low →
     has_source rows target c ≡ false
 unfolding has_source
@@ -26,7 +26,7 @@ below_source low (row ∷ rows) target c h lt =
     let rest = below_source (row.start + row.length) rows target c parts.rest (omega (arith, parts.above)) in
     grind (arith, nat_tests, parts.above, rest)
 
--- an image is its own image under the rows behind the first too
+-- a canonical form is its own canonical form also under the entries after the first
 own_later : (low : ℕ) (row : FoldRow) (rows : List FoldRow) (target : ℕ) → IsTrue (is_in_order_from low (row ∷ rows)) →
     image (row ∷ rows) target ≡ target → image rows target ≡ target
 unfolding image
@@ -37,7 +37,7 @@ own_later low row rows target h own = by_row (is_in_row row target) refl own
     by_row true e own = below_image (row.start + row.length) rows target (order_parts low row rows h).rest (grind (arith, nat_tests, e))
     by_row false e own = own
 
--- an image is its own image in its row
+-- a canonical form is mapped to itself by its own entry
 own_in_row : (row : FoldRow) (rows : List FoldRow) (target : ℕ) → image (row ∷ rows) target ≡ target → is_in_row row target ≡ true →
     image_in_row row target ≡ target
 unfolding image
@@ -77,14 +77,14 @@ has_image low (row ∷ rows) target c h own =
         (in_row ((c - row.start) % row.modulo == 0) refl e)
     by_row false e none rest = rest
 
--- one row more
+-- one more entry
 pub has_source-more : (rows : List FoldRow) (i target c : ℕ) (row : FoldRow) → i < length rows → row ≡ get_or rows i row →
     has_source (take (i + 1) rows) target c ≡ (has_source (take i rows) target c || is_source row target c)
 unfolding has_source
 has_source-more rows i target c row lt is =
     list_any_more (λ r. is_source r target c) rows i row lt ∙ ap (λ r. has_source (take i rows) target c || is_source r target c) (sym is)
 
--- ... that moves nothing to the target
+-- one more entry that maps nothing to the target
 pub has_source-no_more : (rows : List FoldRow) (i target c : ℕ) (row : FoldRow) → i < length rows → row ≡ get_or rows i row →
     is_source row target c ≡ false → has_source (take i rows) target c ≡ has_source (take (i + 1) rows) target c
 has_source-no_more rows i target c row lt is none =

@@ -1,4 +1,4 @@
--- Each value of `Tables` stands for a lawful table.
+-- Every value of `Tables` represents a table that satisfies the invariants of tables.
 use Rattle.regress_unicode.specs.declared.Tables.{Tables}
 use Rattle.regress_base.specs.Table.{IsLawful}
 use Rattle.regress_unicode.specs.TableOf.{table_of}

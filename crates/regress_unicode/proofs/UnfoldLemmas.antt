@@ -1,4 +1,4 @@
--- Code points of an image, put into a list row by row.
+-- The code points with a given canonical form, appended to a list entry by entry.
 use Rattle.std.proofs.Common.{◌≡◌, ℕ, ◌+◌, ◌<◌, ◌≤◌, Bool, true, false, ◌&&◌, ◌||◌, nat_le, ◌==◌, IsTrue, List, [], ◌∷◌, ◌++◌, length, get_or, refl, sym, ap, subst, ◌∙◌, arith}
 use Rattle.std.proofs.lemmas.Bool.{eq-eqb, eqb-true}
 use Rattle.std.proofs.lemmas.Bool.Decides.{nat_tests}
@@ -10,7 +10,7 @@ use Rattle.regress_base.proofs.laws.Listings.{ascending_parts, lists-append, lis
 use Rattle.regress_base.proofs.laws.Literals.{lists-one}
 use Rattle.regress_unicode.proofs.RowLemmas.{order_apart}
 
--- ---- a number put at the end
+-- ---- appending a number
 
 end_ascending : (low : ℕ) (xs : List ℕ) (c : ℕ) → IsTrue (is_ascending_from low xs) → ((x : ℕ) → lists xs x ≡ true → x < c) → low ≤ c →
     IsTrue (is_ascending_from low (xs ++ c ∷ []))
@@ -30,14 +30,14 @@ pub pushed_lists : (xs ys : List ℕ) (c x : ℕ) → ys ≡ xs ++ c ∷ [] → 
 pushed_lists xs ys c x is =
     ap (λ l. lists l x) is ∙ lists-append xs (c ∷ []) x ∙ ap (λ b. lists xs x || b) (lists-one c x)
 
--- a number that is moved lies in the run
+-- a number that is mapped is in the range
 pub source_within : (row : FoldRow) (target source : ℕ) → ((c : ℕ) → is_source row target c ≡ (c == source)) →
     (row.start ≤ source) × (source < row.start + row.length)
 source_within row target source some =
     let here : is_source row target source ≡ true = some source ∙ eq-eqb source source refl in
     (grind (arith, nat_tests, here), grind (arith, nat_tests, here))
 
--- what is listed lies below the rows to come, and so does what a row adds
+-- the listed numbers are below the remaining entries, and so is what an entry adds
 pub below_rows : (rows : List FoldRow) (i : ℕ) (row : FoldRow) (xs ys : List ℕ) (source : ℕ) → IsTrue (is_in_order rows) →
     row ≡ get_or rows i row → source < row.start + row.length → ys ≡ xs ++ source ∷ [] →
     ((x : ℕ) → lists xs x ≡ true → (k : ℕ) (d : FoldRow) → i ≤ k → k < length rows → x < (get_or rows k d).start) →

@@ -1,3 +1,3 @@
--- Laws of this crate's definitions, which the crates above may cite.
+-- Lemmas on the definitions of this crate that the crates above may cite.
 pub mod Closures
 pub mod Soundness

@@ -1,11 +1,11 @@
--- What `Tables::new` is handed, and when it is refused.
+-- The arguments of `Tables::new`, and the conditions on them.
 use Rattle.std.specs.Prelude.{ℕ, List, [], map, IsTrue, String, string_bytes, Vec}
 use Rattle.std.specs.declared.alloc.Global.{Global}
 use Rattle.regress_base.specs.Intervals.{Bounds}
 use Rattle.regress_unicode.specs.FoldRows.{FoldRow, image, is_in_order, are_targets_in_range}
 use Rattle.regress_base.specs.Table.{Table, Named, IsIdempotent, HasSmallClasses, IsLawful}
 
--- the rows of both maps, the sets of identifiers, and the named sets and strings
+-- the entries of both case mappings, the sets of identifier characters, and the named sets and strings
 pub record Parts : Type 0 where
   pub folds : List FoldRow
   pub uppers : List FoldRow
@@ -17,7 +17,7 @@ pub record Parts : Type 0 where
   pub binary : List (Named (List Bounds))
   pub strings : List (Named (List (List ℕ)))
 
--- the table of the parts
+-- the table with the parts
 abbrev pub table_from : Parts → Table
 table_from parts = record {
   fold = image parts.folds;
@@ -31,33 +31,34 @@ table_from parts = record {
   strings = parts.strings;
 }
 
--- an entry of a list of named values
+-- an element of a list of named values
 abbrev pub entry_of : {A : Type 0} → String Global × A → Named A
 entry_of entry = record { name = string_bytes entry.0; value = entry.1 }
 
--- the entries of a list of named sets
+-- the named sets of a list
 abbrev pub sets_of : List (String Global × List Bounds) → List (Named (List Bounds))
 sets_of entries = map entry_of entries
 
--- the entries of a list of named strings
+-- the named strings of a list
 abbrev pub strings_of : List (String Global × Vec (Vec ℕ Global) Global) → List (Named (List (List ℕ)))
 strings_of entries =
     map (λ entry. record { name = string_bytes entry.0; value = map (λ string. string.items) entry.1.items }) entries
 
--- What the rows of a map keep: a binary search finds the row of a code point, and the images make a map of cases.
+-- The entries of a case mapping are valid: a binary search finds the entry of a code point, and the result is a case
+-- mapping.
 pub record AreSoundRows (rows : List FoldRow) : Type 0 where
   pub in_order : IsTrue (is_in_order rows)
   pub in_range : IsTrue (are_targets_in_range rows)
   pub idempotent : IsIdempotent (image rows)
   pub small_classes : HasSmallClasses (image rows)
 
--- What a value of `Tables` keeps.
+-- The invariant of `Tables`.
 pub record IsSound (parts : Parts) : Type 0 where
   pub folds : AreSoundRows parts.folds
   pub uppers : AreSoundRows parts.uppers
   pub lawful : IsLawful (table_from parts)
 
--- the rows of both maps, with nothing else
+-- parts with the entries of both case mappings and nothing else
 abbrev pub rows_alone : (folds uppers : List FoldRow) → Parts
 rows_alone folds uppers = record {
   folds = folds;
@@ -71,7 +72,7 @@ rows_alone folds uppers = record {
   strings = [];
 }
 
--- the parts that a value of `Tables` holds
+-- the parts of a value of `Tables`, from its fields
 abbrev pub parts_from :
     (folds uppers : List FoldRow) (id_start id_continue : List Bounds)
     (general_category script script_extensions binary : List (String Global × List Bounds))

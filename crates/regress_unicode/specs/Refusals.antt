@@ -1,4 +1,4 @@
--- When `Tables::new` refuses its parts, and what it tells.
+-- The errors of `Tables::new`: when each applies, and which one is returned.
 use Rattle.std.specs.Prelude.{ℕ, ◌<◌, List, IsTrue}
 use Rattle.regress_unicode.specs.declared.tables_error.Which.{Which}
 use Rattle.regress_unicode.specs.declared.tables_error.Which.TheVariants.{Fold, Upper}
@@ -8,12 +8,12 @@ use Rattle.regress_unicode.specs.FoldRows.{FoldRow, image, is_in_order, are_targ
 use Rattle.regress_base.specs.Table.{IsIdempotent, HasSmallClasses, HasWordAscii, HasStrings}
 use Rattle.regress_unicode.specs.Parts.{Parts}
 
--- the rows of a map
+-- the entries of a case mapping
 abbrev pub rows_of : Parts → Which → List FoldRow
 rows_of parts Fold = parts.folds
 rows_of parts Upper = parts.uppers
 
--- What the parts meet if the refusal is not due. Want of memory says nothing of them.
+-- The condition on the parts under which the error does not apply. `Memory` depends on the allocator alone.
 abbrev pub Meets : Parts → TablesError → Type 0
 Meets parts (RangeOrder which) = IsTrue (is_in_order (rows_of parts which))
 Meets parts (TargetOutOfRange which) = IsTrue (are_targets_in_range (rows_of parts which))
@@ -23,7 +23,7 @@ Meets parts IdentifierPunctuation = HasWordAscii parts.id_start × HasWordAscii 
 Meets parts BadString = HasStrings parts.strings
 Meets parts (Memory error) = Unit {0}
 
--- the place of a refusal in the order in which they are looked for
+-- the position of an error in the order of the tests
 abbrev pub place : TablesError → ℕ
 place (RangeOrder Fold) = 0
 place (RangeOrder Upper) = 1
@@ -37,7 +37,7 @@ place IdentifierPunctuation = 8
 place BadString = 9
 place (Memory error) = 10
 
--- The refusal is due, and none before it is.
+-- The error applies, and no error before it does.
 pub record IsFirstDue (parts : Parts) (refusal : TablesError) : Type 0 where
   pub due : ¬ Meets parts refusal
   pub before : (other : TablesError) → place other < place refusal → Meets parts other

@@ -1,4 +1,5 @@
--- The small table: this project's selection from the Unicode Character Database, enough for each way in which cases meet.
+-- The small table: a selection from the Unicode Character Database (dialect), with an example of each way in which case
+-- mappings relate characters.
 use Rattle.std.specs.Prelude.{ℕ, List, [], ◌∷◌, map, ℤ, pos, neg_ℤ, codes}
 use Rattle.regress_base.specs.Intervals.{Bounds}
 use Rattle.regress_unicode.specs.FoldRows.{FoldRow}
@@ -14,7 +15,7 @@ up n = pos n
 abbrev down : ℕ → ℤ
 down n = neg_ℤ (pos n)
 
--- CaseFolding.txt, the rows of status C and S of the letters selected
+-- CaseFolding.txt: the simple case folding (status C and S) of the selected letters
 abbrev pub small_folds : List FoldRow
 small_folds =
     row 0x41 26 (up 32) 1 ∷ row 0xB5 1 (up 775) 1 ∷ row 0xC0 23 (up 32) 1 ∷ row 0xD8 7 (up 32) 1
@@ -22,7 +23,7 @@ small_folds =
     ∷ row 0x37F 1 (up 116) 1 ∷ row 0x398 1 (up 32) 1 ∷ row 0x39C 1 (up 32) 1 ∷ row 0x3D1 1 (down 25) 1
     ∷ row 0x3F4 1 (down 60) 1 ∷ row 0x212A 1 (down 8383) 1 ∷ row 0x16E40 32 (up 32) 1 ∷ row 0x1E900 34 (up 34) 1 ∷ []
 
--- UnicodeData.txt, the simple upper cases of the letters selected (ECMA-262, Canonicalize, without the flag u)
+-- UnicodeData.txt: the simple upper case of the selected letters (ECMA-262, Canonicalize without the flags u and v)
 abbrev pub small_uppers : List FoldRow
 small_uppers =
     row 0x61 26 (down 32) 1 ∷ row 0xB5 1 (up 743) 1 ∷ row 0xE0 23 (down 32) 1 ∷ row 0xF8 7 (down 32) 1
@@ -36,7 +37,6 @@ interval first last = record { first = first; last = last }
 abbrev pub set : List ℕ → List Bounds → Named (List Bounds)
 set name intervals = record { name = name; value = intervals }
 
--- the parts of the small table
 abbrev pub small_parts : Parts
 small_parts = record {
   folds = small_folds;
@@ -60,6 +60,5 @@ small_parts = record {
       } ∷ [];
 }
 
--- the small table
 unfoldable pub small_table : Table
 small_table = table_from small_parts

@@ -1,4 +1,4 @@
-//! The tests of a table's parts, each for one refusal.
+//! The tests of the parts of a table, each for one error of [`TablesError`].
 ghost use Rattle.std.specs.Prelude.{◌≡◌, ◌≢◌, ℕ, ◌+◌, ◌<◌, ◌≤◌, ◌↔◌, ◌⊎◌, true, false, length, slice_index, IsTrue, IfOk, IfErr, MatchResult, MatchBool, All, alloc_error};
 ghost use Rattle.std.specs.List.{list_all};
 ghost use Rattle.regress_base.specs.Intervals.{is_member};
@@ -15,7 +15,7 @@ use regress_base::codepointset::CodePointSet;
 use regress_base::sets::{are_code_points, set_is_canonical};
 use std::alloc::{AllocError, Global};
 
-/// Refuses rows that do not ascend, or share a code point.
+/// Rejects entries that do not ascend, or that have a code point in common.
 pub(super) fn check_order(which: Which, rows: &[FoldRange]) -> Result<(), TablesError>
     ensures { MatchResult result (λ _. IsTrue (is_in_order rows.now))
         (λ e. (e ≡ RangeOrder which) × (is_in_order rows.now ≡ false)) }
@@ -30,7 +30,7 @@ pub(super) fn check_order(which: Which, rows: &[FoldRange]) -> Result<(), Tables
     Ok(())
 }
 
-/// Refuses a row whose first or last code point moves to none.
+/// Rejects an entry whose first or last code point is mapped to a number that is no code point.
 pub(super) fn check_targets(which: Which, rows: &[FoldRange]) -> Result<(), TablesError>
     ensures { MatchResult result (λ _. IsTrue (are_targets_in_range rows.now))
         (λ e. (e ≡ TargetOutOfRange which) × (are_targets_in_range rows.now ≡ false)) }
@@ -48,8 +48,8 @@ fn targets_are_in_range(rows: &[FoldRange]) -> bool
     rows.iter().all(|row| row.is_target_in_range())
 }
 
-/// The images of the code points of the rows that have another image, in the order of the rows. A
-/// binary search for each code point.
+/// Returns what the code points of the entries are mapped to, in order, without those that are mapped to themselves.
+/// Takes one binary search for each code point.
 pub(super) fn moved_images(alloc: Global, rows: &[FoldRange]) -> Result<Vec<u32>, AllocError>
     requires in_order { IsTrue (is_in_order rows.now) }
     requires in_range { IsTrue (are_targets_in_range rows.now) }
@@ -62,7 +62,8 @@ pub(super) fn moved_images(alloc: Global, rows: &[FoldRange]) -> Result<Vec<u32>
         .collect(alloc)
 }
 
-/// Refuses images of which one has another image. A binary search for each.
+/// Rejects a mapping that is not idempotent: one of `images` is mapped to another code point. Takes one binary search
+/// for each.
 pub(super) fn check_idempotent(
     which: Which,
     rows: &[FoldRange],
@@ -89,8 +90,8 @@ fn are_own_images(rows: &[FoldRange], images: &[u32]) -> bool
     images.iter().all(|c| image(rows, *c) == *c)
 }
 
-/// Refuses images of which one stands four times: with itself five code points have it. It sorts
-/// them.
+/// Rejects `images` in which a number occurs four times, since with that number itself five code points have the same
+/// canonical form. Sorts them.
 pub(super) fn check_classes(which: Which, mut images: Vec<u32>) -> Result<(), TablesError>
     ensures ok { IfOk result (λ _. (d : ℕ) → count_of d images.items ≤ 3) }
     ensures err { IfErr result (λ e. (e ≡ Memory alloc_error)
@@ -104,7 +105,7 @@ pub(super) fn check_classes(which: Which, mut images: Vec<u32>) -> Result<(), Ta
     }
 }
 
-/// Whether some number stands four times in a sorted list.
+/// Returns whether a number occurs four times in a sorted list.
 fn stands_four_times(sorted: &[u32]) -> bool
     ensures some { IsTrue result → (i : ℕ) × (i + 3 < length sorted.now)
         × (slice_index sorted.now i ≡ slice_index sorted.now (i + 3)) }
@@ -118,7 +119,7 @@ fn stands_four_times(sorted: &[u32]) -> bool
     false
 }
 
-/// Whether the ASCII members of both sets are letters, digits and the low line.
+/// Returns whether the ASCII members of both sets are letters, digits and the low line.
 pub(super) fn have_word_ascii(id_start: &CodePointSet, id_continue: &CodePointSet) -> bool
     ensures { IsTrue result ↔ HasWordAscii id_start.now × HasWordAscii id_continue.now }
 {
@@ -143,7 +144,7 @@ fn is_word_character(c: u32) -> bool
     matches!(c, 0x30..=0x39 | 0x41..=0x5A | 0x5F | 0x61..=0x7A)
 }
 
-/// Whether each string of each entry holds a code point at least, and nothing else.
+/// Returns whether every string of every entry is nonempty and has only code points.
 pub(super) fn have_strings(entries: &[(String, Vec<Vec<u32>>)]) -> bool
     ensures { result ≡ list_all (λ entry. list_all (λ string. is_string string.items) entry.1.items) entries.now }
 {
@@ -162,7 +163,7 @@ fn is_string(string: &[u32]) -> bool
     !string.is_empty() && are_code_points(string)
 }
 
-/// What [`set_is_canonical`] tells, for each entry.
+/// States that the set of every entry is canonical, as [`set_is_canonical`] states it of one set.
 pub(super) fn sets_are_canonical(entries: &[(String, CodePointSet)])
     ensures { HasCanonicalSets (sets_of entries.now) }
 {

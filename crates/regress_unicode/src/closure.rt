@@ -1,4 +1,4 @@
-//! Closing a set under its folds.
+//! The closure of a set under simple case folding.
 ghost use Rattle.std.specs.Prelude.{◌≡◌, ℕ, ◌≤◌, ◌||◌, List, All, IsTrue, IfOk, OnOk};
 ghost use Rattle.regress_base.specs.Intervals.{Bounds, is_within, is_member, IsCanonical};
 ghost use Rattle.regress_unicode.specs.FoldRows.{is_in_order, are_targets_in_range};
@@ -12,11 +12,18 @@ use regress_base::codepointset::{CodePointSet, Interval};
 use regress_base::sets::{add_intervals, set_is_canonical};
 use std::alloc::{AllocError, Global};
 
-/// All code points whose fold is the fold of a member. What is closed stays as it is.
+/// Returns the closure of `input`: every code point whose simple case folding is the simple case folding of a member
+/// (ECMA-262, MaybeSimpleCaseFolding).
 ///
-/// The set is added to in place, and no memory is taken where it is closed. Each row is held against
-/// the intervals that its run overlaps. It adds an interval where all of its code points move, else
-/// the code points one by one; no loop runs over the members of an interval.
+/// A closed set is returned unchanged.
+///
+/// # Errors
+/// Returns [`AllocError`] if an allocation fails. `input` is dropped.
+///
+/// # Complexity
+/// Two passes over the table and the intervals, with a binary search for each entry. An entry that maps every code
+/// point of its range adds one interval for each interval that its range overlaps; any other entry adds single code
+/// points. Members outside the ranges of the table are never traversed one by one.
 pub fn add_icase_code_points(
     input: CodePointSet,
     tables: &Tables,
@@ -35,7 +42,7 @@ pub fn add_icase_code_points(
     Ok(closure)
 }
 
-/// Adds the images of the members.
+/// Adds the canonical forms of the members.
 fn add_images(alloc: Global, set: &mut CodePointSet, rows: &[FoldRange]) -> Result<(), AllocError>
     requires in_order { IsTrue (is_in_order rows.now) }
     requires in_range { IsTrue (are_targets_in_range rows.now) }
@@ -46,7 +53,7 @@ fn add_images(alloc: Global, set: &mut CodePointSet, rows: &[FoldRange]) -> Resu
     add_intervals(set, &images)
 }
 
-/// Adds what moves to the members.
+/// Adds the code points that are mapped to a member.
 fn add_sources(alloc: Global, set: &mut CodePointSet, rows: &[FoldRange]) -> Result<(), AllocError>
     requires { IsTrue (are_targets_in_range rows.now) }
     ensures members { OnOk result ((c : ℕ) →
@@ -57,8 +64,8 @@ fn add_sources(alloc: Global, set: &mut CodePointSet, rows: &[FoldRange]) -> Res
     add_intervals(set, &sources)
 }
 
-/// The images of what moves in the intervals. One walk over the rows and the intervals, which both
-/// ascend, up to the end of either.
+/// Returns the canonical forms of the members that are mapped to another code point. Traverses the entries and the
+/// intervals at once, since both ascend, up to the end of either.
 fn images(
     alloc: Global,
     rows: &[FoldRange],
@@ -84,8 +91,8 @@ fn images(
     Ok(found)
 }
 
-/// What moves into the intervals. One pass over the rows, whose images are in no order, and a binary
-/// search for each whose images lie between the ends of the intervals.
+/// Returns the code points that are mapped into the intervals. Traverses the entries, whose canonical forms are in no
+/// order, with a binary search for each one whose canonical forms are between the ends of the intervals.
 fn sources(
     alloc: Global,
     rows: &[FoldRange],
@@ -108,7 +115,7 @@ fn sources(
     Ok(found)
 }
 
-/// The first and the last member.
+/// Returns the first and the last member, or zeros if there is none.
 fn ends(intervals: &[Interval]) -> (u32, u32)
     requires { IsCanonical intervals.now }
     ensures { (c : ℕ) → IsTrue (is_member intervals.now c) → (result.0 ≤ c) × (c ≤ result.1) }
@@ -119,7 +126,7 @@ fn ends(intervals: &[Interval]) -> (u32, u32)
     (intervals[0].first(), intervals[intervals.len() - 1].last())
 }
 
-/// The intervals without those that end below `low`. Linear in what is passed over.
+/// Returns the intervals without those that end below `low`. Linear in the number of intervals that are left out.
 fn pass_over(intervals: &[Interval], low: u32) -> &[Interval]
     requires { IsCanonical intervals.now }
     ensures canonical { IsCanonical result.now }
@@ -132,7 +139,7 @@ fn pass_over(intervals: &[Interval], low: u32) -> &[Interval]
     &intervals[place..]
 }
 
-/// The intervals without those that end below `low`. A binary search.
+/// Returns the intervals without those that end below `low`. A binary search.
 fn search(intervals: &[Interval], low: u32) -> &[Interval]
     requires { IsCanonical intervals.now }
     ensures canonical { IsCanonical result.now }
@@ -141,8 +148,8 @@ fn search(intervals: &[Interval], low: u32) -> &[Interval]
     &intervals[intervals.partition_point(|interval| interval.last() < low)..]
 }
 
-/// Puts what the shift makes of the code points of the intervals at the end of the list. It looks at
-/// no interval behind the run.
+/// Appends what the shift maps the code points of the intervals to. Stops at the first interval after the range of the
+/// shift.
 fn push_moved(
     found: &mut Vec<Interval>,
     shift: &Shift,
@@ -162,7 +169,7 @@ fn push_moved(
     Ok(())
 }
 
-/// Puts what the shift makes of the code points of one interval at the end of the list.
+/// Appends what the shift maps the code points of one interval to.
 fn push_overlap(
     found: &mut Vec<Interval>,
     shift: &Shift,

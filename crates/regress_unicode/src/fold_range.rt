@@ -1,4 +1,4 @@
-//! A row of a table of images, packed.
+//! A packed entry of a case mapping table.
 ghost use Rattle.std.specs.Prelude.{◌≡◌, ℕ, ◌+◌, ◌-◌, ◌*◌, ◌/◌, ◌%◌, ◌^◌, ◌<◌, ◌≤◌, ◌↔◌, ◌==◌, false, IfSome, IfNone, pos, negsuc, ◌≤ℤ◌, IsTrue};
 ghost use Rattle.regress_unicode.specs.FoldRows.{is_in_row, image_in_row, is_source, is_target_in_range, stays_in_range as stays_in_range_spec, moved, IsModulo};
 ghost use Rattle.regress_base.specs.Intervals.{code_point_max};
@@ -9,16 +9,17 @@ use regress_base::codepointset::CODE_POINT_MAX;
 use std::cmp::Ordering;
 use std::marker::Model;
 
-/// How far the delta is shifted, to make room for the modulo less one.
+/// The number of low bits that contain the modulo minus one. The delta is in the bits above them.
 const PREDICATE_MASK_BITS: u32 = 4;
 
-/// One row of a table of images: a run of code points, how far they move, and which of them do. A
-/// code point of the run moves by the delta exactly if its distance from the start is a multiple of
-/// the modulo. All others stay.
+/// An entry of a case mapping table: a range of code points, and the delta by which they are mapped.
+///
+/// A code point of the range is mapped by the delta if its distance from the start is a multiple of the modulo, and to
+/// itself otherwise.
 #[derive(Debug, Drop)]
 pub struct FoldRange {
     range: CodePointRange,
-    /// The delta in the high bits, and the modulo less one in the low ones.
+    /// The delta in the high bits, and the modulo minus one in the low bits.
     extra: i32,
 }
 
@@ -45,10 +46,12 @@ impl Model for FoldRange {
 }
 
 impl FoldRange {
-    /// The row of `length` code points from `start` on, which move by `delta`, each one whose
-    /// distance from the start is a multiple of `modulo`. The bounds of `start` and `length` are
-    /// those of [`CodePointRange::from`], `delta` is -2^27 to 2^27 - 1, and `modulo` is 1, 2, 4, 8
-    /// or 16.
+    /// Returns the entry for the `length` code points from `start` on, of which each one at a distance from `start`
+    /// that is a multiple of `modulo` is mapped by `delta`.
+    ///
+    /// # Preconditions
+    /// `length` is from 1 to 4096, `start + length` is below 2^20, `delta` is from -2^27 to 2^27 - 1, and `modulo` is
+    /// 1, 2, 4, 8 or 16.
     pub const fn from(start: u32, length: u32, delta: i32, modulo: u8) -> Self
         requires nonempty { 1 ≤ length }
         requires short { length ≤ 4096 }
@@ -64,7 +67,7 @@ impl FoldRange {
             extra: (delta << PREDICATE_MASK_BITS) | mask,
         }
     }
-    /// The first code point of the run.
+    /// Returns the first code point of the range.
     pub(super) fn first(&self) -> u32
         ensures value { result ≡ self.now.start }
         ensures nonempty { 1 ≤ self.now.length }
@@ -73,7 +76,7 @@ impl FoldRange {
         self.range.first()
     }
 
-    /// The last code point of the run.
+    /// Returns the last code point of the range, which is in the range.
     pub(super) fn last(&self) -> u32
         ensures value { result + 1 ≡ self.now.start + self.now.length }
         ensures nonempty { 1 ≤ self.now.length }
@@ -82,7 +85,7 @@ impl FoldRange {
         self.range.last()
     }
 
-    /// How far the code points move.
+    /// Returns the delta by which code points are mapped.
     pub(super) fn delta(&self) -> i32
         ensures value { result ≡ self.now.delta }
         ensures low { negsuc (2 ^ 27 - 1) ≤ℤ result }
@@ -91,8 +94,8 @@ impl FoldRange {
         self.extra.div_euclid(1 << PREDICATE_MASK_BITS)
     }
 
-    /// The distances from the start that are multiples of this one are those of the code points that
-    /// move.
+    /// Returns the modulo: a code point is mapped by the delta if its distance from the start is a multiple of the
+    /// modulo.
     pub(super) fn modulo(&self) -> u32
         ensures value { result ≡ self.now.modulo }
         ensures least { 1 ≤ result }
@@ -101,8 +104,8 @@ impl FoldRange {
         self.extra.rem_euclid(1 << PREDICATE_MASK_BITS) as u32 + 1
     }
 
-    /// Where the run lies as seen from `c`: `Greater` where all of it is above `c`, `Less` where all
-    /// of it is below, else `Equal`.
+    /// Compares the range with `c`: `Greater` if all of it is above `c`, `Less` if all of it is below, and `Equal` if
+    /// it contains `c`.
     pub(super) fn compare(&self, c: u32) -> Ordering
         ensures greater { (result ≡ Greater) ↔ (c < self.now.start) }
         ensures less { (result ≡ Less) ↔ (self.now.start + self.now.length ≤ c) }
@@ -117,7 +120,7 @@ impl FoldRange {
         }
     }
 
-    /// The image of `c`, which is a code point of the run.
+    /// Returns what `c`, a code point of the range, is mapped to.
     pub(super) fn apply(&self, c: u32) -> u32
         requires target { IsTrue (is_target_in_range self.now) }
         requires within { IsTrue (is_in_row self.now c) }
@@ -130,7 +133,7 @@ impl FoldRange {
         }
     }
 
-    /// The code point moved by the delta.
+    /// Returns `c` plus the delta.
     pub(super) fn shifted(&self, c: u32) -> u32
         requires low { c < 2 ^ 20 }
         requires target { IsTrue (is_target_in_range self.now) }
@@ -141,7 +144,7 @@ impl FoldRange {
         (c as i32 + self.delta()) as u32
     }
 
-    /// The code point of the run that moves to `target`, if there is one: at most one does.
+    /// Returns the code point of the range that the delta maps to `target`, or `None`. There is at most one.
     pub(super) fn source(&self, target: u32) -> Option<u32>
         requires code_point { target ≤ code_point_max }
         requires in_range { IsTrue (is_target_in_range self.now) }
@@ -163,7 +166,7 @@ impl FoldRange {
         }
     }
 
-    /// Whether the first and the last code point of the run move to code points.
+    /// Returns whether the first and the last code point of the range are mapped to code points.
     pub(super) fn is_target_in_range(&self) -> bool
         ensures { result ≡ is_target_in_range self.now }
     {
@@ -171,7 +174,7 @@ impl FoldRange {
     }
 }
 
-/// Whether `c` moved by `delta` is a code point.
+/// Returns whether `c` plus `delta` is a code point.
 fn stays_in_range(delta: i32, c: u32) -> bool
     requires low { c < 2 ^ 20 }
     requires delta_low { negsuc (2 ^ 27 - 1) ≤ℤ delta }

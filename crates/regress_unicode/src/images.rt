@@ -1,4 +1,4 @@
-//! Images under the rows of a table.
+//! Case mapping of single code points.
 ghost use Rattle.std.specs.Prelude.{◌≡◌, ℕ, IsTrue};
 ghost use Rattle.regress_unicode.specs.FoldRows.{image as image_of, is_in_order, are_targets_in_range};
 ghost use Rattle.regress_unicode.specs.TableOf.{table_of};
@@ -6,7 +6,7 @@ ghost use Rattle.regress_unicode.specs.TableOf.{table_of};
 use super::Tables;
 use super::fold_range::FoldRange;
 
-/// The image of `c` under the rows. A binary search.
+/// Returns what the entries map `c` to. A binary search.
 pub(super) fn image(rows: &[FoldRange], c: u32) -> u32
     requires in_order { IsTrue (is_in_order rows.now) }
     requires in_range { IsTrue (are_targets_in_range rows.now) }
@@ -18,14 +18,21 @@ pub(super) fn image(rows: &[FoldRange], c: u32) -> u32
     }
 }
 
-/// The simple case folding of `c`. A binary search in the rows.
+/// Returns the simple case folding of `c` (ECMA-262, scf in Canonicalize).
+///
+/// # Complexity
+/// A binary search in the entries.
 pub fn fold(c: u32, tables: &Tables) -> u32
     ensures { result ≡ (table_of tables.now).fold c }
 {
     image(&tables.folds, c)
 }
 
-/// The simple upper case of `c`. A binary search in the rows.
+/// Returns the upper case of `c`, if it is one code point, and else `c` (ECMA-262, Canonicalize without the flags u and
+/// v).
+///
+/// # Complexity
+/// A binary search in the entries.
 pub fn uppercase(c: u32, tables: &Tables) -> u32
     ensures { result ≡ (table_of tables.now).uppercase c }
 {

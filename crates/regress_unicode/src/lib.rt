@@ -1,4 +1,4 @@
-//! The table of the characters' cases, classes and properties.
+//! The Unicode data of patterns: case mappings, the characters of identifiers, and properties.
 #![tactic(auto)]
 
 ghost use Rattle.std.proofs.Props.{props};
@@ -24,9 +24,11 @@ use regress_base::codepointset::CodePointSet;
 pub use tables_error::{TablesError, Which};
 pub use unfold::{expand_code_point, unfold_char, unfold_uppercase_char};
 
-/// What a pattern needs to know of Unicode: how characters fold, which may stand in a name, and
-/// which have a property. Each value is lawful: an image is its own image, at most four code points
-/// share one, ASCII characters of names are letters, digits and `_`, and strings are nonempty.
+/// The Unicode data that the meaning of a pattern depends on: case mappings, the characters of identifiers, and named
+/// sets of code points and of strings.
+///
+/// Every value satisfies these invariants: a canonical form is its own canonical form, at most four code points have
+/// the same one, the ASCII characters of identifiers are letters, digits and `_`, and no string is empty.
 #[derive(Debug, Drop)]
 pub struct Tables {
     folds: Vec<FoldRange>,

@@ -1,4 +1,4 @@
-//! Making a table of its parts.
+//! Construction of a table from its parts.
 ghost use Rattle.std.specs.Prelude.{◌≡◌, ◌≢◌, ◌<◌, [], alloc_error, IfOk, IfErr};
 ghost use Rattle.regress_unicode.specs.declared.tables_error.TablesError.TheVariants.{Memory};
 ghost use Rattle.regress_unicode.specs.Parts.{AreSoundRows, rows_alone};
@@ -13,8 +13,8 @@ use regress_base::codepointset::CodePointSet;
 use regress_base::sets::set_is_canonical;
 use std::alloc::Global;
 
-/// Refuses rows that make no map of cases. It looks at each code point of the rows, and sorts those
-/// that move.
+/// Rejects entries that are no case mapping. Tests each code point of the entries, and sorts those that are mapped to
+/// another one.
 fn check_rows(alloc: Global, folds: &[FoldRange], uppers: &[FoldRange]) -> Result<(), TablesError>
     ensures ok { IfOk result (λ _. AreSoundRows folds.now × AreSoundRows uppers.now) }
     ensures err { IfErr result (λ e. e ≢ Memory alloc_error → (place e < 8) × IsFirstDue (rows_alone folds.now uppers.now) e) }
@@ -39,14 +39,19 @@ impl Tables {
     ghost use Rattle.regress_unicode.specs.Refusals.{Meets, IsFirstDue};
     ghost use Rattle.regress_unicode.specs.TableOf.{table_of};
 
-    /// The table of these parts: the rows of both maps, the characters that may begin and go on in
-    /// a name, and the named sets and strings. Where two entries of a list have one name, the first
-    /// counts. Names are compared as they are written, so an alias, as `Lu` of `Uppercase_Letter`, is an entry of
-    /// its own with the same members.
+    /// Returns the table with these parts: the entries of both case mappings, the characters that can begin and
+    /// continue an identifier, and the named sets and strings.
     ///
-    /// The error is the first refusal that is due, in the order of [`TablesError`]; want of memory
-    /// may be told in place of a later one. For n code points in the rows it takes time n log n and
-    /// memory for n numbers; besides it is linear in the entries and the strings.
+    /// If several entries of a list have the same name, the first one counts. Names are compared exactly, so an alias,
+    /// such as `Lu` for `Uppercase_Letter`, is an entry of its own with the same members.
+    ///
+    /// # Errors
+    /// Returns the first error that applies, in the order of [`TablesError`]. If an allocation fails, returns
+    /// [`TablesError::Memory`], possibly instead of an error later in that order. The parts are dropped.
+    ///
+    /// # Complexity
+    /// With n code points in the ranges of the entries: time n log n, and memory for n numbers. Linear in the named
+    /// sets and strings.
     pub fn new(
         alloc: Global,
         folds: Vec<FoldRange>,
@@ -89,8 +94,11 @@ impl Tables {
         })
     }
 
-    /// The table of these parts, as [`new`](Tables::new) makes it, for parts of which it is proved that they are sound,
-    /// as constants can be. Nothing is tested, and no memory is asked for.
+    /// Returns the table with these parts, as [`new`](Tables::new) does, without tests and without allocations. The
+    /// parts can be constants with a proof that they are valid.
+    ///
+    /// # Preconditions
+    /// No error of [`TablesError`] applies to the parts.
     pub fn from_sound_parts(
         folds: Vec<FoldRange>,
         uppers: Vec<FoldRange>,

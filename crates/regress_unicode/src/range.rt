@@ -1,13 +1,15 @@
-//! A run of code points in one word.
+//! A range of code points in one word.
 ghost use Rattle.std.specs.Prelude.{◌≡◌, ℕ, ◌+◌, ◌-◌, ◌*◌, ◌/◌, ◌%◌, ◌^◌, ◌<◌, ◌≤◌};
 
 use std::marker::Model;
 
-/// The bits of the number of code points, less one. The bits above them are the first code point.
+/// The number of low bits that contain the number of code points minus one. The first code point is in the bits above
+/// them.
 const LENGTH_BITS: u32 = 12;
 
-/// A run of code points, packed into one word: the first one, below 2^20, and how many there are,
-/// 1 to 4096. Nothing of plane 16 has a place here.
+/// A range of code points, packed into one word: the first one, and the number of them, from 1 to 4096.
+///
+/// The end of the range, exclusive, is below 2^20, so no code point of plane 16 can be in it.
 #[derive(Clone, Copy, Debug)]
 pub struct CodePointRange(u32);
 
@@ -28,8 +30,10 @@ impl Model for CodePointRange {
 }
 
 impl CodePointRange {
-    /// The run of `len` code points from `start` on. `len` is 1 to 4096, and the last one is below
-    /// 2^20 - 1.
+    /// Returns the range of `len` code points from `start` on.
+    ///
+    /// # Preconditions
+    /// `len` is from 1 to 4096, and `start + len` is below 2^20.
     pub const fn from(start: u32, len: u32) -> Self
         requires nonempty { 1 ≤ len }
         requires short { len ≤ 4096 }
@@ -39,7 +43,7 @@ impl CodePointRange {
         CodePointRange((start << LENGTH_BITS) | (len - 1))
     }
 
-    /// The first code point.
+    /// Returns the first code point.
     pub const fn first(self) -> u32
         ensures value { result ≡ self.start }
         ensures low { result + self.length < 2 ^ 20 }
@@ -47,7 +51,7 @@ impl CodePointRange {
         self.0 >> LENGTH_BITS
     }
 
-    /// The last code point.
+    /// Returns the last code point, which is in the range.
     pub const fn last(self) -> u32
         ensures value { result + 1 ≡ self.start + self.length }
         ensures low { result < 2 ^ 20 - 1 }
@@ -55,7 +59,7 @@ impl CodePointRange {
         self.first() + self.len_minus_1()
     }
 
-    /// How many code points there are, less one.
+    /// Returns the number of code points minus one.
     const fn len_minus_1(self) -> u32
         ensures { result + 1 ≡ self.length }
     {

@@ -1,9 +1,9 @@
-//! Runs of code points that move together.
+//! Ranges of code points that are mapped by one delta.
 
 use super::fold_range::FoldRange;
 
-/// Code points from `first` to `last`, of which those whose distance from the first is a multiple
-/// of `modulo` move by `delta`.
+/// The code points from `first` to `last`, both included. Those at a distance from `first` that is a multiple of
+/// `modulo` are mapped by `delta`.
 #[derive(Drop)]
 pub(super) struct Shift {
     pub(super) first: u32,
@@ -18,7 +18,7 @@ impl Shift {
     ghost use Rattle.regress_unicode.specs.FoldRows.{is_target_in_range, moved};
     ghost use Rattle.regress_unicode.specs.Shifts.{IsShift, is_hit, forward, backward};
 
-    /// From the code points of the row to their images.
+    /// Returns the shift of an entry, from the code points of its range to what they are mapped to.
     pub(super) fn forward(row: &FoldRange) -> Shift
         requires { IsTrue (is_target_in_range row.now) }
         ensures value { result ≡ forward row.now }
@@ -32,7 +32,7 @@ impl Shift {
         }
     }
 
-    /// From the images of the row back.
+    /// Returns the inverse shift of an entry.
     pub(super) fn backward(row: &FoldRange) -> Shift
         requires { IsTrue (is_target_in_range row.now) }
         ensures value { result ≡ backward row.now }
@@ -46,7 +46,7 @@ impl Shift {
         }
     }
 
-    /// Whether the code point moves.
+    /// Returns whether the shift maps `c` by the delta.
     pub(super) fn moves(&self, c: u32) -> bool
         requires { IsShift self.now }
         ensures { result ≡ is_hit self.now c }
@@ -54,7 +54,7 @@ impl Shift {
         self.first <= c && c <= self.last && (c - self.first).is_multiple_of(self.modulo)
     }
 
-    /// The code point moved.
+    /// Returns `c` plus the delta.
     pub(super) fn apply(&self, c: u32) -> u32
         requires shift { IsShift self.now }
         requires first { self.now.first ≤ c }

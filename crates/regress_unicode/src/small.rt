@@ -13,8 +13,11 @@ impl Tables {
     ghost use Rattle.regress_unicode.specs.SmallTable.{small_table};
     ghost use Rattle.regress_unicode.specs.TableOf.{table_of};
 
-    /// The small table, which the program uses: a selection of Unicode's with each way in which
-    /// cases meet. The error stands for want of memory.
+    /// Returns the small table: a selection from the data of Unicode with an example of each way in which case mappings
+    /// relate characters.
+    ///
+    /// # Errors
+    /// Returns [`AllocError`] if an allocation fails.
     pub fn small(alloc: Global) -> Result<Tables, AllocError>
         ensures { IfOk result (λ tables. table_of tables ≡ small_table) }
     {
@@ -103,7 +106,7 @@ fn small_id_continue(alloc: Global) -> Result<CodePointSet, AllocError>
     Ok(CodePointSet::from_sorted_disjoint_intervals(intervals))
 }
 
-/// Adds a set under a name.
+/// Appends an entry with a named set.
 fn push_entry(
     entries: &mut Vec<(String, CodePointSet)>,
     name: &str,
@@ -159,7 +162,7 @@ fn small_binary(alloc: Global) -> Result<Vec<(String, CodePointSet)>, AllocError
     Ok(entries)
 }
 
-/// The keys of a telephone, each followed by the signs that draw it as a keycap.
+/// Returns the keycap sequences: each key of a telephone, followed by the two code points that make it an emoji.
 fn small_strings(alloc: Global) -> Result<Vec<(String, Vec<Vec<u32>>)>, AllocError>
     ensures { IfOk result (λ entries. strings_of entries.items ≡ small_parts.strings) }
 {

@@ -1,41 +1,44 @@
-//! Why a table was refused.
+//! Why the parts of a table are rejected.
 ghost use Rattle.std.specs.Prelude.{◌≡◌, alloc_error};
 ghost use Rattle.regress_unicode.specs.declared.tables_error.TablesError.TheVariants.{Memory};
 
 use std::alloc::{AllocError, AllocFailed};
 
-/// One of the two maps of a table.
+/// One of the two case mappings of a table.
 #[derive(Clone, Copy, Debug, PartialEq, Eq)]
 pub enum Which {
-    /// The folds.
+    /// Simple case folding.
     Fold,
-    /// The upper cases.
+    /// Upper case.
     Upper,
 }
 
-/// Why a table was refused. The refusals stand in the order in which they are looked for, each in
-/// the folds before the upper cases.
+/// Why the parts of a table are rejected. The variants are in the order of the tests; each test is made for the folds
+/// before the upper cases.
 #[derive(Debug, Drop, thiserror::Error)]
 pub enum TablesError {
-    /// The ranges do not ascend, or two share a code point: a row from `a` to `z` behind one from `x` on.
+    /// The ranges do not ascend, or two of them have a code point in common, such as a range from `a` to `z` after one
+    /// that begins at `x`.
     #[error("RangeOrder({0:?})")]
     RangeOrder(Which),
-    /// The first or the last code point of a range moves below 0 or past U+10FFFF: U+0005 by -6.
+    /// The first or the last code point of a range is mapped below 0 or above U+10FFFF, such as U+0005 with a delta of
+    /// -6.
     #[error("TargetOutOfRange({0:?})")]
     TargetOutOfRange(Which),
-    /// Some image has another image: `a` goes to `b`, and `b` to `c`.
+    /// A canonical form has another canonical form: `a` is mapped to `b`, and `b` to `c`.
     #[error("NotIdempotent({0:?})")]
     NotIdempotent(Which),
-    /// More than four code points have one image, it included: `b`, `c`, `d` and `e` go to `a`.
+    /// More than four code points have the same canonical form, which is counted as one of them: `b`, `c`, `d` and `e`
+    /// are mapped to `a`.
     #[error("ClassTooLarge({0:?})")]
     ClassTooLarge(Which),
-    /// A set of identifiers holds an ASCII character other than a letter, a digit or `_`: `-` may go on in a name.
+    /// A set of identifier characters has an ASCII member other than a letter, a digit or `_`, such as `-`.
     #[error("IdentifierPunctuation")]
     IdentifierPunctuation,
-    /// A string is empty, or holds a number past U+10FFFF: a property of strings has `[]` among them.
+    /// A string is empty, or has a number above U+10FFFF.
     #[error("BadString")]
     BadString,
-    /// Memory was wanting, which says nothing of the table.
+    /// An allocation failed. Nothing is known of the parts that were not tested before.
     #[error("out of memory")]
     Memory(AllocError),
 }

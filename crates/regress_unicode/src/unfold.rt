@@ -1,4 +1,4 @@
-//! All code points of an image.
+//! All code points with a given canonical form.
 ghost use Rattle.std.specs.Prelude.{◌≡◌, ◌<◌, ◌≤◌, ◌==◌, ◌||◌, ℕ, length, get_or, IsTrue, IfOk, OnOk};
 ghost use Rattle.std.specs.List.{AllWithin, insert};
 ghost use Rattle.regress_base.specs.Intervals.{code_point_max};
@@ -10,11 +10,20 @@ ghost use Rattle.regress_unicode.specs.TableOf.{table_of};
 use super::{FoldRange, Tables, fold, uppercase};
 use std::alloc::{AllocError, Global};
 
-/// How many code points share an image at most.
+/// The maximum number of code points with the same canonical form.
 const MOST: usize = 4;
 
-/// The code points with the fold of `c`, ascending, each once: at most four, `c` among them. One
-/// pass over the rows, none over code points.
+/// Returns the code points with the same simple case folding as `c`, ascending, each once: at most four, `c` among
+/// them.
+///
+/// # Preconditions
+/// `c` is at most U+10FFFF.
+///
+/// # Errors
+/// Returns [`AllocError`] if an allocation fails.
+///
+/// # Complexity
+/// Linear in the number of entries of the table.
 pub fn unfold_char(alloc: Global, c: u32, tables: &Tables) -> Result<Vec<u32>, AllocError>
     requires { c ≤ code_point_max }
     ensures listing { IfOk result (λ list.
@@ -24,7 +33,16 @@ pub fn unfold_char(alloc: Global, c: u32, tables: &Tables) -> Result<Vec<u32>, A
     with_image(alloc, &tables.folds, fold(c, tables))
 }
 
-/// The code points with the upper case of `c`, as [`unfold_char`] lists those with its fold.
+/// Returns the code points with the same upper case as `c`, ascending, each once: at most four, `c` among them.
+///
+/// # Preconditions
+/// `c` is at most U+10FFFF.
+///
+/// # Errors
+/// Returns [`AllocError`] if an allocation fails.
+///
+/// # Complexity
+/// Linear in the number of entries of the table.
 pub fn unfold_uppercase_char(alloc: Global, c: u32, tables: &Tables) -> Result<Vec<u32>, AllocError>
     requires { c ≤ code_point_max }
     ensures listing { IfOk result (λ list.
@@ -34,8 +52,19 @@ pub fn unfold_uppercase_char(alloc: Global, c: u32, tables: &Tables) -> Result<V
     with_image(alloc, &tables.uppers, uppercase(c, tables))
 }
 
-/// The code points that a literal `c` stands for, ascending, each once: with `icase` those that have
-/// its fold, or without `unicode` its upper case; else `c` alone. One pass over the rows at most.
+/// Returns the code points that a literal `c` matches, ascending, each once (ECMA-262, CharacterSetMatcher).
+///
+/// With `icase` these are the code points with the same canonical form as `c`: the same simple case folding if
+/// `unicode`, else the same upper case. Without `icase` it is `c` alone.
+///
+/// # Preconditions
+/// `c` is at most U+10FFFF.
+///
+/// # Errors
+/// Returns [`AllocError`] if an allocation fails.
+///
+/// # Complexity
+/// At most linear in the number of entries of the table.
 pub fn expand_code_point(
     alloc: Global,
     c: u32,
@@ -57,7 +86,8 @@ pub fn expand_code_point(
     }
 }
 
-/// The code points that `target`, an image, is the image of. The rows ascend, and so does what moves.
+/// Returns the code points whose canonical form is `target`, which is its own canonical form. The entries ascend, and
+/// so do the code points that they map to it.
 fn with_image(alloc: Global, rows: &[FoldRange], target: u32) -> Result<Vec<u32>, AllocError>
     requires code_point { target ≤ code_point_max }
     requires in_order { IsTrue (is_in_order rows.now) }
@@ -75,7 +105,7 @@ fn with_image(alloc: Global, rows: &[FoldRange], target: u32) -> Result<Vec<u32>
     Ok(list)
 }
 
-/// Adds the number in its place, if it isn't there.
+/// Inserts the number in order, unless it is in the list.
 fn add_in_place(list: &mut Vec<u32>, c: u32) -> Result<(), AllocError>
     requires { IsTrue (is_ascending list.old.items) }
     ensures ascending { OnOk result (IsTrue (is_ascending list.new.items)) }
@@ -89,7 +119,7 @@ fn add_in_place(list: &mut Vec<u32>, c: u32) -> Result<(), AllocError>
     put(list, place, c)
 }
 
-/// Puts the number at the place. At the end nothing is to be moved.
+/// Inserts the number at an index. At the end of the list no element moves.
 fn put(list: &mut Vec<u32>, place: usize, c: u32) -> Result<(), AllocError>
     requires { place ≤ length list.old.items }
     ensures { OnOk result (list.new.items ≡ insert list.old.items place c) }
@@ -102,7 +132,7 @@ fn put(list: &mut Vec<u32>, place: usize, c: u32) -> Result<(), AllocError>
     Ok(())
 }
 
-/// The first place at which the number or a greater one stands, else the end. Linear.
+/// Returns the least index with a number that is at least `c`, or the length of the list. Linear.
 fn first_from(list: &[u32], c: u32) -> usize
     ensures bound { result ≤ length list.now }
     ensures below { AllWithin (λ x. x < c) list.now 0 result }

@@ -1,4 +1,4 @@
--- Rows of nodes, counted.
+-- The number of trees of a list of nodes.
 use Rattle.std.proofs.Common.{◌≡◌, suc, List, [], ◌∷◌, length, refl, ap}
 use Rattle.regress_tree.specs.declared.ir.node.Node.{Node}
 use Rattle.regress_tree.specs.Tree.{trees}

@@ -1,4 +1,4 @@
--- What is read of a tree's words is the tree.
+-- Decoding the encoding of a tree yields the tree.
 use Rattle.std.proofs.Common.{◌≡◌, ◌≤◌, ℕ, zero, suc, ◌^◌, Bool, true, false, ◌==◌, List, [], ◌∷◌, ◌++◌, length, flat_map, refl, sym, ap, ◌∙◌, arith, append_assoc, append-nil}
 use Rattle.std.specs.Prelude.{Option, Some, None}
 use Rattle.std.proofs.Math.Nat.{div-add-mod}
@@ -14,7 +14,7 @@ truth-read : (b : Bool) → (truth_word b == 1) ≡ b
 truth-read false = refl
 truth-read true = refl
 
--- both halves of a number
+-- both halves of a 64-bit number
 wide-read : (n : ℕ) (rest : List ℕ) → read_wide (wide n ++ rest) ≡ (n, rest)
 wide-read n rest = ap (λ m. (m, rest)) (div-add-mod n (2 ^ 32))
 
@@ -118,7 +118,7 @@ wrapper-some (loop q start end) = omega arith
 wrapper-some (loop_one q) = omega arith
 wrapper-some (lookaround negate backwards start end) = omega arith
 
--- a word at least, and the rest are those of what lies inside
+-- A wrapper takes at least one word; the other words encode its body and what follows.
 body-shorter : (w : Wrapper) (words : List ℕ) (n : ℕ) → length (wrapper_words w ++ words) ≤ suc n → length words ≤ n
 body-shorter w words n h =
     let some = wrapper-some w in

@@ -1,4 +1,4 @@
--- A tree read from words. What is no tree's words is read as some tree.
+-- The tree that a list of words encodes. A list that encodes no tree decodes to some tree.
 use Rattle.std.specs.Prelude.{ℕ, zero, suc, ◌+◌, ◌*◌, ◌^◌, Bool, ◌==◌, if◌then◌else◌, List, [], ◌∷◌, length, Option, Some, None}
 use Rattle.regress_base.specs.Intervals.{Bounds}
 use Rattle.regress_base.specs.declared.types.AnchorType.{AnchorType}
@@ -6,7 +6,7 @@ use Rattle.regress_base.specs.declared.types.AnchorType.TheVariants.{StartOfLine
 use Rattle.regress_base.specs.declared.types.Quantifier.{Quantifier}
 use Rattle.regress_tree.specs.Tree.{Leaf, empty, goal, char, byte_sequence, byte_set, char_set, match_any, match_any_except_line_terminator, anchor, word_boundary, bracket, back_ref, string_set, Wrapper, capture_group, loop, loop_one, lookaround, Tree, Trees, leaf, cat, alt, wrapped, no_trees, more_trees}
 
--- what is read at the front of words, and the words behind it
+-- the value that is decoded at the start of the words, and the remaining words
 abbrev pub Reads : Type 0 → Type 0
 Reads A = List ℕ → A × List ℕ
 
@@ -20,12 +20,12 @@ read_truth ws = let w = read_word ws in (w.0 == 1, w.1)
 abbrev pub read_wide : Reads ℕ
 read_wide ws = let low = read_word ws in let high = read_word low.1 in (2 ^ 32 * high.0 + low.0, high.1)
 
--- as often as said
+-- n values in sequence
 abbrev pub read_times : {A : Type 0} → Reads A → ℕ → Reads (List A)
 read_times read zero ws = ([], ws)
 read_times read (suc n) ws = let first = read ws in let others = read_times read n first.1 in (first.0 ∷ others.0, others.1)
 
--- first how many there are
+-- the number of values, and then the values
 abbrev pub read_list : {A : Type 0} → Reads A → Reads (List A)
 read_list read ws = let count = read_wide ws in read_times read count.0 count.1
 
@@ -38,7 +38,7 @@ read_interval ws = let first = read_word ws in let last = read_word first.1 in (
 abbrev pub read_anchor : Reads AnchorType
 read_anchor ws = let w = read_word ws in (if w.0 == 0 then StartOfLine else EndOfLine, w.1)
 
--- first whether there is one
+-- whether there is a value, and then the value
 abbrev pub read_option : {A : Type 0} → Reads A → Reads (Option A)
 read_option read ws =
     let there = read_word ws in
@@ -76,7 +76,7 @@ read_back_ref ws = let group = read_word ws in let icase = read_truth group.1 in
 abbrev pub read_string_set : Reads Tree
 read_string_set ws = let icase = read_truth ws in let strings = read_list read_listed icase.1 in (leaf (string_set strings.0 icase.0), strings.1)
 
--- the wrapper, and then its body
+-- a wrapper, and then its body
 abbrev pub read_body : (Reads Tree) → Wrapper × List ℕ → Tree × List ℕ
 read_body read w = let body = read w.1 in (wrapped w.0 body.0, body.1)
 
@@ -111,7 +111,7 @@ read_cat read ws = let count = read_wide ws in let parts = read_row read count.0
 abbrev pub read_alt : Reads Tree → Reads Tree
 read_alt read ws = let left = read ws in let right = read left.1 in (alt left.0 right.0, right.1)
 
--- what stands behind the word of a kind
+-- a tree after the word of its kind
 abbrev pub read_kind : Reads Tree → ℕ → Reads Tree
 read_kind read kind ws =
     if kind == 1 then read_leaf goal ws
@@ -134,15 +134,15 @@ read_kind read kind ws =
     else if kind == 18 then read_string_set ws
     else read_leaf empty ws
 
--- what lies inside is read as said
+-- a tree whose children are decoded by `read`
 abbrev pub read_level : Reads Tree → Reads Tree
 read_level read ws = let kind = read_word ws in read_kind read kind.0 kind.1
 
--- a tree of at most so many levels
+-- a tree of at most this nesting depth
 abbrev pub read_tree : ℕ → Reads Tree
 read_tree zero ws = (leaf empty, ws)
 read_tree (suc levels) ws = read_level (read_tree levels) ws
 
--- No tree has more levels than words.
+-- The tree that the words encode. Its nesting depth is at most the number of words.
 abbrev pub decode : List ℕ → Tree
 decode words = (read_tree (length words) words).0

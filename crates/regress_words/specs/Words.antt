@@ -1,4 +1,5 @@
--- A tree as 32-bit words: each node before those inside it, a word for its kind, and then its fields in a row.
+-- The encoding of a tree as 32-bit words: each node before those inside it, as the word of its kind and then its fields
+-- in order.
 use Rattle.std.specs.Prelude.{ℕ, suc, ◌/◌, ◌%◌, ◌^◌, Bool, true, false, List, [], ◌∷◌, ◌++◌, length, flat_map, Option, Some, None}
 use Rattle.regress_base.specs.Intervals.{Bounds}
 use Rattle.regress_base.specs.declared.types.AnchorType.{AnchorType}
@@ -10,11 +11,11 @@ abbrev pub truth_word : Bool → ℕ
 truth_word false = 0
 truth_word true = 1
 
--- a number of 64 bits: the low half first
+-- a 64-bit number as two words, the low half first
 abbrev pub wide : ℕ → List ℕ
 wide n = n % 2 ^ 32 ∷ n / 2 ^ 32 ∷ []
 
--- how many there are, and then each in a word
+-- the number of elements, and then each element as one word
 abbrev pub listed : List ℕ → List ℕ
 listed xs = wide (length xs) ++ xs
 
@@ -25,7 +26,7 @@ abbrev pub anchor_word : AnchorType → ℕ
 anchor_word StartOfLine = 0
 anchor_word EndOfLine = 1
 
--- whether there is one, and then it
+-- whether there is a number, and then the number
 abbrev pub most_words : Option ℕ → List ℕ
 most_words None = 0 ∷ []
 most_words (Some n) = 1 ∷ wide n
@@ -52,19 +53,19 @@ leaf_words (bracket invert intervals) = 13 ∷ truth_word invert ∷ wide (lengt
 leaf_words (back_ref group icase) = 17 ∷ group ∷ truth_word icase ∷ []
 leaf_words (string_set strings icase) = 18 ∷ truth_word icase ∷ wide (length strings) ++ flat_map listed strings
 
--- without what it holds
+-- the words of a wrapper, without its body
 abbrev pub wrapper_words : Wrapper → List ℕ
 wrapper_words (capture_group id name) = 12 ∷ id ∷ name_words name
 wrapper_words (loop q start end) = 14 ∷ start ∷ end ∷ quantifier_words q
 wrapper_words (loop_one q) = 15 ∷ quantifier_words q
 wrapper_words (lookaround negate backwards start end) = 16 ∷ truth_word negate ∷ truth_word backwards ∷ start ∷ end ∷ []
 
--- how many trees stand in a row
+-- the number of trees of a list
 abbrev pub trees_count : Trees → ℕ
 trees_count no_trees = 0
 trees_count (more_trees t ts) = suc (trees_count ts)
 
--- the words of a node, without those inside it
+-- the words of a node, without those of its children
 abbrev pub node_words : Tree → List ℕ
 node_words (leaf l) = leaf_words l
 node_words (cat parts) = 6 ∷ wide (trees_count parts)

@@ -1,4 +1,4 @@
-//! Trees as 32-bit words, for callers in other languages.
+//! The encoding of trees as 32-bit words, for callers in other languages.
 #![tactic(auto)]
 
 mod parts;

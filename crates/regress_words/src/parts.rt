@@ -1,4 +1,4 @@
-//! The words of a node, without those inside it.
+//! The words of a single node, without those of its children.
 ghost use Rattle.std.specs.Prelude.{◌≡◌, ◌∷◌, ◌++◌, flat_map, map, OnOk, option_map, string_bytes};
 ghost use Rattle.std.specs.Box.{boxed_slice_items};
 ghost use Rattle.regress_tree.specs.Tree.{tree, trees, cat, bracket, string_set, capture_group, loop, loop_one};
@@ -12,7 +12,7 @@ use regress_tree::ir::Node;
 use std::alloc::AllocError;
 use std::boxed::BoxedSlice;
 
-/// Pushes the words of a node, without those inside it.
+/// Appends the words of a node, without those of its children.
 pub(crate) fn push_node(node: &Node, words: &mut Vec<u32>) -> Result<(), AllocError>
     ensures { OnOk result (words.new.items ≡ words.old.items ++ words_of.node_words (tree node.now)) }
 {

@@ -1,4 +1,4 @@
-//! The words of a tree, each node before those inside it.
+//! The encoding of a tree, each node before its children.
 ghost use Rattle.std.specs.Prelude.{◌≡◌, ◌++◌, IfOk, OnOk};
 ghost use Rattle.regress_tree.specs.Tree.{Tree, tree, trees};
 ghost use Rattle.regress_words.specs.Words as words_of;
@@ -9,9 +9,15 @@ use regress_tree::ir::Node;
 use regress_tree::ir::held::body;
 use std::alloc::{AllocError, Global};
 
-/// The words of a tree. The error stands for want of memory.
+/// Returns the encoding of a tree as 32-bit words: each node before its children, as the number of its kind and then
+/// its fields in order. `specs/Words.antt` defines it for each kind. Two trees with the same encoding are equal.
 ///
-/// Right sides of alternatives take no stack: only left sides and what lies in other nodes do.
+/// # Errors
+/// Returns [`AllocError`] if an allocation fails.
+///
+/// # Complexity
+/// Linear in the size of the tree. The recursion is as deep as nodes are nested, where right sides of alternatives and
+/// bodies do not count.
 pub fn encode(alloc: Global, node: &Node) -> Result<Vec<u32>, AllocError>
     ensures { IfOk result (λ words. words.items ≡ words_of.encode (tree node.now)) }
 {
@@ -20,13 +26,14 @@ pub fn encode(alloc: Global, node: &Node) -> Result<Vec<u32>, AllocError>
     Ok(words)
 }
 
-/// A law of the words: they tell the tree, so no two trees have the same. It does nothing; a function whose proof needs
-/// the law calls it.
+/// States the theorem that decoding the encoding of a tree yields the tree, so no two trees have the same encoding. The
+/// function does nothing; a function whose proof needs the theorem calls it.
 pub fn words_tell_the_tree()
     ensures { (t : Tree) → decode (words_of.encode t) ≡ t }
 {}
 
-// It goes down the right sides of alternatives in a loop: there may be as many levels as alternatives.
+// A loop follows the right sides of alternatives and single bodies: an alternation nests as deep as it has
+// alternatives.
 #[cycle(push)]
 fn push_tree(node: &Node, words: &mut Vec<u32>) -> Result<(), AllocError>
     ensures { OnOk result (words.new.items ≡ words.old.items ++ words_of.encode (tree node.now)) }

@@ -1,4 +1,4 @@
--- What a writer has taken by several writes.
+-- Lemmas about several writes in order.
 use Rattle.std.proofs.Common.{ℕ, List, ◌++◌, Option, Some, None, ap, ◌∙◌, append_assoc}
 use Rattle.std.specs.Io.KnownBytes.{Appends, Keeps}
 
@@ -9,7 +9,7 @@ appends_both (Some a) None c xs ys one two = absurd one
 appends_both (Some a) (Some b) None xs ys one two = two
 appends_both (Some a) (Some b) (Some c) xs ys one two = two ∙ ap (λ t. t ++ ys) one ∙ append_assoc a xs ys
 
--- a write, and then nothing more
+-- a write after which nothing is appended
 pub appends_kept : (a b c : Option (List ℕ)) (xs : List ℕ) → Appends a b xs → Keeps b c → Appends a c xs
 appends_kept None b c xs one kept = tt
 appends_kept (Some a) None c xs one kept = absurd one

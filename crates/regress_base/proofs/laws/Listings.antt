@@ -16,7 +16,7 @@ pub record AscendingParts (low x : ℕ) (xs : List ℕ) : Type 0 where
 pub ascending_parts : (low x : ℕ) (xs : List ℕ) → IsTrue (is_ascending_from low (x ∷ xs)) → AscendingParts low x xs
 ascending_parts low x xs h = grind (arith, nat_tests)
 
--- a list begins with its first number
+-- a list is ascending from its first number
 pub ascending_again : (x : ℕ) (xs : List ℕ) → IsTrue (is_ascending_from (x + 1) xs) → IsTrue (is_ascending_from x (x ∷ xs))
 ascending_again x xs h = grind (arith, nat_tests)
 
@@ -24,7 +24,7 @@ pub ascending_lower : (low low' : ℕ) (xs : List ℕ) → low' ≤ low → IsTr
 ascending_lower low low' [] le h = h
 ascending_lower low low' (x ∷ xs) le h = let parts = ascending_parts low x xs h in grind (arith, nat_tests, parts.above, parts.rest)
 
--- what an ascending list holds is `low` or more
+-- every number of an ascending list is at least `low`
 pub ascending_above : (low : ℕ) (xs : List ℕ) (c : ℕ) → IsTrue (is_ascending_from low xs) → lists xs c ≡ true → low ≤ c
 ascending_above low [] c h e = cc
 ascending_above low (x ∷ xs) c h e =
@@ -46,7 +46,7 @@ lists-tail x xs c h = grind (arith, nat_tests, h)
 pub lists-past : (x : ℕ) (xs : List ℕ) (c : ℕ) → x ≢ c → lists (x ∷ xs) c ≡ true → lists xs c ≡ true
 lists-past x xs c ne h = grind (arith, nat_tests, h)
 
--- an ascending list within another is no longer
+-- an ascending list whose numbers are all in another one is not longer
 pub ascending_within : (low low' : ℕ) (xs ys : List ℕ) → IsTrue (is_ascending_from low xs) → IsTrue (is_ascending_from low' ys) →
     ((c : ℕ) → lists xs c ≡ true → lists ys c ≡ true) → length xs ≤ length ys
 ascending_within low low' [] ys hx hy within = omega arith
@@ -73,7 +73,7 @@ ascending_within low low' (x ∷ xs) (y ∷ ys) hx hy within =
           omega (arith, shorter))
     ]
 
--- what passes a test ascends too
+-- the numbers of an ascending list that pass a test ascend
 pub ascending_filter : (low : ℕ) (p : ℕ → Bool) (xs : List ℕ) → IsTrue (is_ascending_from low xs) →
     IsTrue (is_ascending_from low (filter p xs))
 ascending_filter low p [] h = h
@@ -97,7 +97,7 @@ lists-filter p (x ∷ xs) c = by_test (p x) refl (x == c) refl (lists-filter p x
     by_test false e true same rest = let pc : p c ≡ false = ap p (sym (eqb-true x c same)) ∙ e in rw (rest, pc)
     by_test false e false other rest = rest
 
--- nothing is left out below the first number
+-- filtering out a number below the first one changes nothing
 filter_all : (low d : ℕ) (xs : List ℕ) → d < low → IsTrue (is_ascending_from low xs) → filter (λ x. not (x == d)) xs ≡ xs
 filter_all low d [] lt h = refl
 filter_all low d (x ∷ xs) lt h =
@@ -106,7 +106,7 @@ filter_all low d (x ∷ xs) lt h =
     let other : (x == d) ≡ false = grind (arith, nat_tests, parts.above) in
     rw (other, rest)
 
--- of an ascending list one number at most is left out
+-- filtering one value out of an ascending list drops at most one number
 pub length_without : (low d : ℕ) (xs : List ℕ) → IsTrue (is_ascending_from low xs) → length xs ≤ 1 + length (filter (λ x. not (x == d)) xs)
 length_without low d [] h = omega arith
 length_without low d (x ∷ xs) h = by_test (x == d) refl (length_without (x + 1) d xs (ascending_parts low x xs h).rest)
@@ -119,7 +119,7 @@ length_without low d (x ∷ xs) h = by_test (x == d) refl (length_without (x + 1
         rw all (omega arith)
     by_test false e rest = omega (arith, rest)
 
--- a run of numbers before others that ascend behind it
+-- a run of consecutive numbers before an ascending list above it ascends
 pub ascending_append : (low start n : ℕ) (ys : List ℕ) → low ≤ start → IsTrue (is_ascending_from (start + n) ys) →
     IsTrue (is_ascending_from low (range_with_len start n ++ ys))
 ascending_append low start zero ys le h = ascending_lower (start + 0) low ys (omega arith) h
@@ -132,12 +132,12 @@ pub lists-append : (xs ys : List ℕ) (c : ℕ) → lists (xs ++ ys) c ≡ (list
 lists-append [] ys c = refl
 lists-append (x ∷ xs) ys c = let rest = lists-append xs ys c in grind (arith, nat_tests, rest)
 
--- a run of numbers has those from its start to its end
+-- a run contains the numbers from its start up to its end
 pub lists-run : (start n c : ℕ) → lists (range_with_len start n) c ≡ (nat_le start c && nat_lt c (start + n))
 lists-run start zero c = grind (arith, nat_tests)
 lists-run start (suc n) c = let rest = lists-run (start + 1) n c in grind (arith, nat_tests, rest)
 
--- ---- the members of a set
+-- ---- members of a set
 
 pub lists-interval : (iv : Bounds) (c : ℕ) → lists (code_points iv) c ≡ is_within iv c
 unfolding is_within
@@ -151,12 +151,12 @@ lists-members low (iv ∷ ivs) c h =
     lists-append (code_points iv) (flat_map code_points ivs) c
     ∙ rw (lists-interval iv c, lists-members (iv.last + 2) ivs c parts.rest) (sym (is_member-cons iv ivs c))
 
--- what holds of each number that the list has
+-- a property of every listed number holds for all elements
 pub All-from_lists : (P : ℕ → Type 0) (xs : List ℕ) → ((c : ℕ) → lists xs c ≡ true → P c) → All P xs
 All-from_lists P [] h = All-nil P
 All-from_lists P (x ∷ xs) h = All-cons P x xs (h x (lists-head x xs)) (All-from_lists P xs (λ c e. h c (lists-tail x xs c e)))
 
--- the code points of an image are four at most
+-- at most four code points have the same canonical form
 pub few_of_image : (f : ℕ → ℕ) (image : ℕ) (xs : List ℕ) → HasSmallClasses f → IsListing (λ x. f x == image) xs → length xs ≤ 4
 few_of_image f image xs small listing =
     small image xs listing.ascending (All-from_lists (λ x. f x ≡ image) xs (λ c e.
@@ -164,7 +164,7 @@ few_of_image f image xs small listing =
     let yes : (f c == image) ≡ true = grind (arith, nat_tests, both) in
     eqb-true (f c) image yes)))
 
--- ---- a number put in its place
+-- ---- inserting a number in order
 
 ascending_raise : (low low' : ℕ) (xs : List ℕ) → IsTrue (is_ascending_from low xs) → (0 < length xs → (d : ℕ) → low' ≤ get_or xs 0 d)
     → IsTrue (is_ascending_from low' xs)
@@ -195,7 +195,7 @@ put_lists (y ∷ ys) (suc place) c x within =
     let rest = put_lists ys place c x (omega arith) in
     grind (arith, nat_tests, rest)
 
--- what was found of an image so far: the target, and then a source more
+-- the code points found so far for a canonical form: the target, and one more source
 pub listed_source : (x source : ℕ) (old new target before here more : Bool) → source ≤ code_point_max
     → old ≡ (nat_le x code_point_max && (target || before)) → new ≡ (old || (x == source)) → here ≡ (x == source) → more ≡ (before || here)
     → new ≡ (nat_le x code_point_max && (target || more))

@@ -1,4 +1,4 @@
--- The list of the code points that pass a test, and what a literal stands for as such a list.
+-- The list of the code points that pass a test, and the code points that a literal matches as such a list.
 use Rattle.std.proofs.Common.{◌≡◌, ◌≢◌, ℕ, ◌+◌, ◌≤◌, ◌==◌, Bool, true, false, ◌&&◌, nat_le, nat_lt, IsTrue, List, [], ◌∷◌, inl, inr, refl, sym, ap, subst, ◌∙◌, arith, append-nil, length, All}
 use Rattle.std.proofs.lemmas.Bool.{eq-eqb, false≢true, and_from, le-leb, leb-true, and_parts}
 use Rattle.std.proofs.lemmas.Bool.Decides.{nat_tests}
@@ -10,7 +10,7 @@ use Rattle.regress_base.specs.Listing.{lists, is_ascending_from, is_ascending, I
 use Rattle.regress_base.specs.Table.{Table, IsLawful, canon, stands_for, class_of}
 use Rattle.regress_base.proofs.laws.Listings.{All-from_lists, few_of_image, ascending_parts, ascending_again, ascending_above, ascending_append, ascending_filter, lists-head, lists-tail, lists-past, lists-filter, lists-run}
 
--- tests that pass together are one
+-- tests that imply each other are equal
 pub same_tests : (a b : Bool) → (a ≡ true → b ≡ true) → (b ≡ true → a ≡ true) → a ≡ b
 same_tests true b to from = sym (to refl)
 same_tests false true to from = from refl
@@ -18,7 +18,7 @@ same_tests false false to from = refl
 
 -- ---- listings
 
--- what stands behind the same first number is the same
+-- lists with the same first number and the same members have the same members after it
 same_behind : (x : ℕ) (xs ys : List ℕ) → IsTrue (is_ascending_from (x + 1) xs) →
     ((c : ℕ) → lists (x ∷ xs) c ≡ true → lists (x ∷ ys) c ≡ true) → (c : ℕ) → lists xs c ≡ true → lists ys c ≡ true
 same_behind x xs ys h within c e =
@@ -26,7 +26,7 @@ same_behind x xs ys h within c e =
     let other : x ≢ c = omega (arith, above) in
     lists-past x ys c other (within c (lists-tail x xs c e))
 
--- ascending lists with the same members are one list
+-- ascending lists with the same members are equal
 ascending_same : (low low' : ℕ) (xs ys : List ℕ) → IsTrue (is_ascending_from low xs) → IsTrue (is_ascending_from low' ys) →
     ((c : ℕ) → lists xs c ≡ lists ys c) → xs ≡ ys
 ascending_same low low' [] [] hx hy same = refl
@@ -63,7 +63,7 @@ lists_listed n test c = lists-filter test (range_with_len 0 n) c ∙ rw (lists-r
     swapped true = grind (arith, nat_tests)
     swapped false = grind (arith, nat_tests)
 
--- the list of the code points that pass a test is what it says
+-- `listed` is a listing of the code points that pass the test
 pub IsListing-listed : (test : ℕ → Bool) → IsListing test (listed test)
 IsListing-listed test = record {
   ascending = ascending_listed (code_point_max + 1) test;
@@ -73,13 +73,13 @@ IsListing-listed test = record {
     below : (c : ℕ) → nat_lt c (code_point_max + 1) ≡ nat_le c code_point_max
     below c = grind (arith, nat_tests)
 
--- and the only one
+-- there is no other listing
 pub listing_is_listed : (test : ℕ → Bool) (xs : List ℕ) → IsListing test xs → xs ≡ listed test
 listing_is_listed test xs listing =
     let all = IsListing-listed test in
     ascending_same 0 0 xs (listed test) listing.ascending all.ascending (λ c. listing.members c ∙ sym (all.members c))
 
--- ---- what a literal stands for
+-- ---- the code points that a literal matches
 
 pub lists-one : (c x : ℕ) → lists (c ∷ []) x ≡ (x == c)
 lists-one c x = grind (arith, nat_tests)
@@ -88,7 +88,7 @@ stands_for-itself : (table : Table) (icase unicode : Bool) (c : ℕ) → stands_
 stands_for-itself table true unicode c = eq-eqb (canon table unicode c) _ refl
 stands_for-itself table false unicode c = eq-eqb c c refl
 
--- without icase it is the literal alone
+-- without icase a literal matches only itself
 pub class_of-itself : (table : Table) (unicode : Bool) (c : ℕ) → c ≤ code_point_max → class_of table false unicode c ≡ c ∷ []
 class_of-itself table unicode c h =
     sym (listing_is_listed (λ x. x == c) (c ∷ []) (record { ascending = ascending; members = λ x. lists-one c x ∙ within x }))
@@ -107,25 +107,25 @@ module _ (table : Table) (icase unicode : Bool) (c : ℕ) where
   pub lists-class_of : (x : ℕ) → lists (class_of table icase unicode c) x ≡ (nat_le x code_point_max && stands_for table icase unicode c x)
   lists-class_of x = (IsListing-listed (stands_for table icase unicode c)).members x
 
-  -- a code point stands for itself at least
+  -- a code point matches itself
   pub class_of-some : c ≤ code_point_max → class_of table icase unicode c ≢ []
   class_of-some h none =
       false≢true
       (ap (λ xs. lists xs c) (sym none) ∙ lists-class_of c
       ∙ and_from _ _ (le-leb c code_point_max h) (stands_for-itself table icase unicode c))
 
-  -- of the Unicode scalar values the class has those that the literal stands for
+  -- the class contains exactly the Unicode scalar values that the literal matches
   pub lists-class_of-scalar : (x : ℕ) → IsScalar x → lists (class_of table icase unicode c) x ≡ stands_for table icase unicode c x
   lists-class_of-scalar x s =
       lists-class_of x ∙ ap (λ b. b && stands_for table icase unicode c x) (le-leb x code_point_max (scalar_in_range x s))
 
-  -- the members of a class are code points
+  -- every member of a class is a code point
   pub class_of-bounded : All (λ x. x ≤ code_point_max) (class_of table icase unicode c)
   class_of-bounded =
       All-from_lists (λ x. x ≤ code_point_max) (class_of table icase unicode c)
       (λ x listed. leb-true x code_point_max (and_parts _ _ (sym (lists-class_of x) ∙ listed)).0)
 
--- under a lawful table they are four at most
+-- if the table satisfies its invariants, a class has at most four members
 pub class_of-few : (table : Table) (icase unicode : Bool) (c : ℕ) → IsLawful table → c ≤ code_point_max →
     length (class_of table icase unicode c) ≤ 4
 class_of-few table true true c lawful h =

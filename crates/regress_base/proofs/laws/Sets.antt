@@ -1,4 +1,4 @@
--- Laws of sets of code points, for the crates above. What `pub use` passes on stands with its comment where it is proved.
+-- Lemmas on sets of code points, for the crates above. Lemmas in a `pub use` have their comments where they are proved.
 pub use Rattle.regress_base.proofs.MemberLemmas.{or_assoc, is_member-nil, is_member-cons, is_member-one, is_member-append, is_member-take_more}
 pub use Rattle.regress_base.proofs.WithinLemmas.{is_within_tells, is_within-true, le-is_within, lt-is_within, gt-is_within}
 pub use Rattle.regress_base.proofs.CanonicalLemmas.{canonical_parts, canonical_cons, canonical_lower, from_first}
@@ -12,7 +12,7 @@ use Rattle.std.proofs.lemmas.Bool.Decides.{nat_tests}
 use Rattle.regress_base.specs.Intervals.{Bounds, code_point_max, is_within, is_member, is_canonical_from, IsCanonical, put_before, intervals_from, intervals_of}
 use Rattle.regress_base.proofs.WithinLemmas.{pair, is_within_one}
 
--- ---- one code point more
+-- ---- one more code point
 
 put_before-none : (c : ℕ) → put_before c [] ≡ pair c c ∷ []
 unfolding put_before
@@ -50,7 +50,7 @@ put_before-canonical c (iv ∷ ivs) h can =
           }))
     ]
 
--- an interval that begins right behind c, grown by c
+-- an interval that begins at c + 1, extended by c
 grown : (c b : ℕ) (iv : Bounds) → iv.first ≡ c + 1 → iv.first ≤ iv.last → is_within (pair c iv.last) b ≡ ((b == c) || is_within iv b)
 grown c b iv touches ordered = grind (arith, nat_tests, is_within_tells (pair c iv.last) b, is_within_tells iv b)
 
@@ -72,7 +72,7 @@ put_before-member c b (iv ∷ ivs) can =
           ∙ ap (λ t. t || is_member (iv ∷ ivs) b) (is_within_one c c b refl)
     ]
 
--- ---- the list of those that pass a test
+-- ---- the list of the numbers that pass a test
 
 from-passes : (p : ℕ → Bool) (low n : ℕ) → p low ≡ true → intervals_from p low (suc n) ≡ put_before low (intervals_from p (low + 1) n)
 unfolding intervals_from
@@ -121,7 +121,7 @@ from-member p low (suc n) c h from to =
           ]
     ]
 
--- ---- the laws
+-- ---- the lemmas for other crates
 
 pub intervals_of-canonical : (p : ℕ → Bool) → IsCanonical (intervals_of p)
 unfolding intervals_of
@@ -131,18 +131,18 @@ pub intervals_of-member : (p : ℕ → Bool) (c : ℕ) → c ≤ code_point_max 
 unfolding intervals_of
 intervals_of-member p c h = from-member p 0 (code_point_max + 1) c (omega arith) (omega arith) (omega arith)
 
--- a canonical list with the members that pass is the list of them
+-- a canonical list whose members are those that pass the test is `intervals_of` it
 pub canonical_is : (xs : List Bounds) (p : ℕ → Bool) → IsCanonical xs → ((c : ℕ) → c ≤ code_point_max → is_member xs c ≡ p c)
     → xs ≡ intervals_of p
 canonical_is xs p can same =
     canonical_unique xs (intervals_of p) can (intervals_of-canonical p) (λ c h. same c h ∙ sym (intervals_of-member p c h))
 
--- tests that agree on the code points have one list
+-- tests that agree on the code points have the same intervals
 pub intervals_of-agree : (p q : ℕ → Bool) → ((c : ℕ) → c ≤ code_point_max → p c ≡ q c) → intervals_of p ≡ intervals_of q
 intervals_of-agree p q same =
     canonical_is (intervals_of p) q (intervals_of-canonical p) (λ c h. intervals_of-member p c h ∙ same c h)
 
--- ---- how many intervals
+-- ---- the number of intervals
 
 canonical_from_length : (low : ℕ) (ivs : List Bounds) → low ≤ code_point_max + 2 → IsTrue (is_canonical_from low ivs) →
     low + 2 * length ivs ≤ code_point_max + 2
@@ -152,6 +152,7 @@ canonical_from_length low (iv ∷ ivs) h can =
     let rest = canonical_from_length (iv.last + 2) ivs (omega (arith, p.interval.in_range)) p.rest in
     omega (arith, p.above, p.interval.ordered, rest)
 
--- between two intervals a code point is missing: there are at most half as many as code points
+-- a canonical list has at most half as many intervals as there are code points, since between two of them one is
+-- missing
 pub canonical_length : (ivs : List Bounds) → IsCanonical ivs → 2 * length ivs ≤ code_point_max + 2
 canonical_length ivs can = omega (arith, canonical_from_length 0 ivs (omega arith) can)

@@ -8,18 +8,22 @@ use super::debug_list::write_members;
 use super::searcher::ByteSet;
 use std::fmt;
 
-/// How many bits a cell of the bitmap has.
+/// The number of bits in a cell of the bitmap.
 const CELL_BITS: u8 = 8;
 
 /// The greatest byte that is an ASCII character.
 const ASCII_MAX: u8 = 0x7F;
 
-/// A set of ASCII characters: bit `b % 8` of cell `b / 8` tells whether byte `b` is a member. No byte above 127 is one.
+/// A set of ASCII characters. Bit `b % 8` of cell `b / 8` is set if and only if byte `b` is a member. No byte above 127
+/// is a member.
 #[derive(Clone, Copy)]
 pub struct AsciiBitmap(pub [u8; 16]);
 
 impl AsciiBitmap {
-    /// Adds one character, which the caller knows to be at most 127.
+    /// Adds one character.
+    ///
+    /// # Preconditions
+    /// `val` is at most 127.
     pub fn set(&mut self, val: u8)
         requires { val ≤ 127 }
         ensures { (b : ℕ) → ascii_contains self.new b ≡ (b == val || ascii_contains self.old b) }
@@ -31,7 +35,7 @@ impl AsciiBitmap {
 impl Default for AsciiBitmap {
     ghost is_default = { λ s. (b : ℕ) → ascii_contains s b ≡ false };
 
-    /// The empty set.
+    /// Returns the empty set.
     fn default() -> AsciiBitmap {
         AsciiBitmap([0; 16])
     }

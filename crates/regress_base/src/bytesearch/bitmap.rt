@@ -13,20 +13,20 @@ use super::find::find_byte;
 use super::searcher::ByteSearcher;
 use std::fmt;
 
-/// How many words the bitmap has.
+/// The number of words in the bitmap.
 const WORDS: usize = 16;
 
-/// How many bits a word has.
+/// The number of bits in a word.
 const WORD_BITS: u8 = 16;
 
-/// A set of bytes: bit `b % 16` of word `b / 16` tells whether byte `b` is a member.
+/// A set of bytes. Bit `b % 16` of word `b / 16` is set if and only if byte `b` is a member.
 #[derive(Clone, Copy)]
 pub struct ByteBitmap {
     words: [u16; WORDS],
 }
 
 impl ByteBitmap {
-    /// The set of the bytes of a list, of which some may repeat.
+    /// Returns the set of the bytes of a list, which may contain a byte more than once.
     pub fn new(bytes: &[u8]) -> ByteBitmap
         ensures { SameMembers (contains result) (bytes_of bytes.now) }
     {
@@ -37,7 +37,7 @@ impl ByteBitmap {
         bitmap
     }
 
-    /// Whether `val` is a member.
+    /// Returns whether `val` is a member.
     pub fn contains(&self, val: u8) -> bool
         ensures { result ≡ contains self.now val }
     {
@@ -51,7 +51,7 @@ impl ByteBitmap {
         self.words[(val / WORD_BITS) as usize] |= 1 << (val % WORD_BITS);
     }
 
-    /// Adds the bytes from `first` to `last`, both included: by whole words, with a mask at each end.
+    /// Adds the bytes from `first` to `last`, both included: whole words at a time, with a mask at each end.
     pub(crate) fn set_run(&mut self, first: u8, last: u8)
         ensures { (b : ℕ) → contains self.new b ≡ ((nat_le first b && nat_le b last) || contains self.old b) }
     {
@@ -76,7 +76,7 @@ impl ByteBitmap {
         }
     }
 
-    /// Leaves the bytes that were no members, and answers the same bitmap.
+    /// Replaces the set by its complement within all bytes, and returns a reference to it.
     pub fn bitnot(&mut self) -> &mut Self
         ensures same_bitmap { result.ghost_name ≡ self.entry.ghost_name }
         ensures complement { (b : ℕ) → contains result.now b ≡ (nat_lt b 256 && not (contains self.old b)) }
@@ -87,7 +87,7 @@ impl ByteBitmap {
         self
     }
 
-    /// How many members there are: at most 256.
+    /// Returns the number of members, at most 256.
     pub fn count_bits(&self) -> u32
         ensures members { result ≡ member_count (contains self.now) }
         ensures bound { result ≤ 256 }
@@ -99,7 +99,10 @@ impl ByteBitmap {
         count
     }
 
-    /// The members, ascending, and then zeros. The caller knows that at most `N` bytes are members.
+    /// Returns the members, ascending, followed by zeros.
+    ///
+    /// # Preconditions
+    /// The set has at most `N` members.
     pub fn as_array<const N: usize>(&self) -> [u8; N]
         requires { member_count (contains self.now) ≤ N }
         ensures { result ≡ members_of (contains self.now) ++ replicate (N - member_count (contains self.now)) 0 }
@@ -116,7 +119,7 @@ impl ByteBitmap {
     }
 }
 
-// The word with the bits from `low` to `high`, both included, and no other.
+// Returns the word with exactly the bits from `low` to `high` set, both included.
 fn bits_between(low: u8, high: u8) -> u16
     requires low { low < 16 }
     requires high { high < 16 }
@@ -128,7 +131,7 @@ fn bits_between(low: u8, high: u8) -> u16
 impl Default for ByteBitmap {
     ghost is_default = { λ s. (b : ℕ) → contains s b ≡ false };
 
-    /// The empty set.
+    /// Returns the empty set.
     fn default() -> ByteBitmap {
         ByteBitmap { words: [0; WORDS] }
     }
@@ -139,7 +142,7 @@ impl PartialEq for ByteBitmap {
 
     ghost laws = { Prim.search (comparing, rules) };
 
-    /// Whether both have the same members.
+    /// Returns whether both sets have the same members.
     fn eq(&self, other: &ByteBitmap) -> bool
         ensures value { result ≡ same_members self.now other.now }
         ensures members { IsTrue result ↔ SameMembers (contains self.now) (contains other.now) }

@@ -4,7 +4,7 @@ ghost use Rattle.std.specs.Prelude.{◌↔◌, IsTrue, Contains};
 
 use crate::types::MAX_CHAR_SET_LENGTH;
 
-/// Whether `c` is one of the four code points of `set`. A zero counts as any other.
+/// Returns whether `c` is one of the four code points of `set`. A zero counts as any other code point.
 pub fn charset_contains(set: &[u32; MAX_CHAR_SET_LENGTH], c: u32) -> bool
     ensures { IsTrue result ↔ Contains set.now c }
 {

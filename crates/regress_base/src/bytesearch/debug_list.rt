@@ -1,4 +1,4 @@
-//! How a byte set is printed: its runs of members, as `a` or `a-b` in decimal.
+//! The printed form of a byte set: its runs of members, as `a` or `a-b` in decimal.
 
 ghost use Rattle.std.specs.Prelude.{◌<◌, ◌≤◌};
 
@@ -7,8 +7,8 @@ use std::fmt;
 /// One more than the greatest byte.
 const BYTES: u16 = 256;
 
-/// Writes `name`, and behind it in brackets the members that `contains` tells, ascending, as runs with one space
-/// between two.
+/// Writes `name` and, in brackets, the bytes for which `contains` returns true: as runs in ascending order, separated
+/// by single spaces.
 pub(super) fn write_members<W: fmt::Write, F: Fn(u8) -> bool>(
     f: &mut fmt::Formatter<W>,
     name: &str,
@@ -33,7 +33,7 @@ pub(super) fn write_members<W: fmt::Write, F: Fn(u8) -> bool>(
     write!(f, "]")
 }
 
-// The first number from `first` on that is no member, at most 256.
+// Returns the first number, `first` or greater, that is no member; at most 256.
 fn end_of_run<F: Fn(u8) -> bool>(first: u16, contains: &F) -> u16
     requires callable { F.IsAlwaysCallable contains.now }
     requires within { first ≤ 256 }
@@ -47,7 +47,7 @@ fn end_of_run<F: Fn(u8) -> bool>(first: u16, contains: &F) -> u16
     end
 }
 
-// Writes the numbers from `first` up to `end`, which is no longer one of them.
+// Writes the run of numbers from `first` up to `end`, `end` excluded.
 fn write_run<W: fmt::Write>(f: &mut fmt::Formatter<W>, first: u16, end: u16) -> fmt::Result
     requires { first < end }
 {

@@ -1,12 +1,12 @@
-//! The walk over a text that the searches for bytes share.
+//! The traversal of a text that the searches for bytes share.
 
 ghost use Rattle.std.specs.Prelude.{ℕ, ◌<◌, Bool, length, IfSome};
 ghost use Rattle.regress_base.specs.Places.{IsLeast, IsMemberAt, IsTestFor};
 
-/// How many bytes the walk looks at in one turn.
+/// The number of bytes that one iteration of the traversal tests.
 const LANES: usize = 4;
 
-/// The least index of `text` whose byte passes `test`. Each byte up to there is tested once.
+/// Returns the least index of `text` whose byte passes `test`, or `None`. Each byte up to there is tested once.
 pub(super) fn find_byte<F: Fn(u8) -> bool>(text: &[u8], test: F) -> Option<usize>
     requires { F.IsAlwaysCallable test }
     ensures { (set : ℕ → Bool) → IsTestFor (F.post test) set
@@ -22,7 +22,7 @@ pub(super) fn find_byte<F: Fn(u8) -> bool>(text: &[u8], test: F) -> Option<usize
     Some(chunks.len() * LANES + behind)
 }
 
-// The same for a chunk, or for what is left behind the last one.
+// Returns the same index within one chunk, or within the remaining bytes after the last chunk.
 fn first_index<F: Fn(u8) -> bool>(part: &[u8], test: &F) -> Option<usize>
     requires { F.IsAlwaysCallable test.now }
     ensures inside { IfSome result (λ i. i < length part.now) }

@@ -1,4 +1,4 @@
-//! Arrays of a few bytes as sets: the order of the bytes and repeats among them mean nothing.
+//! Arrays of a few bytes as sets: the order of the bytes and repeated bytes have no meaning.
 
 ghost use Rattle.std.specs.Prelude.{◌≡◌};
 ghost use Rattle.regress_base.specs.ByteSets.{bytes_of};
@@ -62,12 +62,15 @@ impl ByteSearcher for [u8; 3] {
     }
 }
 
-/// A small array as a set to look for.
+/// A small array as a set to search for.
 #[derive(Clone, Copy, Debug)]
 pub struct ByteArraySet<S: SmallArraySet>(pub S);
 
 impl<S: SmallArraySet> ByteArraySet<S> {
-    /// Whether `b` is a member of the array. Linear in the length of the array.
+    /// Returns whether `b` is in the array.
+    ///
+    /// # Complexity
+    /// Linear in the length of the array.
     pub fn contains(self, b: u8) -> bool
         ensures { result ≡ S.members self.0 b }
     {

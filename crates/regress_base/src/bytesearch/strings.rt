@@ -1,4 +1,4 @@
-//! Strings of bytes to look for.
+//! Strings of bytes to search for.
 
 ghost use Rattle.std.specs.Prelude.{◌≡◌};
 ghost use Rattle.regress_base.specs.Needle.{needle_bytes};
@@ -6,7 +6,7 @@ ghost use Rattle.regress_base.specs.Places.{StandsWhole};
 
 use super::searcher::ByteSearcher;
 
-/// The empty string. It stands at every place of a text, so it is always found at place 0.
+/// The empty string. It occurs at every byte offset of a text, so it is always found at 0.
 #[derive(Clone, Copy, Debug)]
 pub struct EmptyString {}
 
@@ -18,15 +18,17 @@ impl ByteSearcher for EmptyString {
     }
 }
 
-/// A string of bytes to look for as a whole. The empty one stands at every place of a text. A search tries one place
-/// after another, so it costs at most the length of the text times that of the string.
+/// A string of bytes to search for. The empty string occurs at every byte offset of a text.
+///
+/// # Complexity
+/// A search tests the offsets in order: at most the length of the text times the length of the string.
 #[derive(Clone, Copy, Debug)]
 pub struct Needle<'a> {
     bytes: &'a [u8],
 }
 
 impl<'a> Needle<'a> {
-    /// Looks for `bytes`.
+    /// Returns a search for `bytes`.
     pub fn new(bytes: &'a [u8]) -> Needle<'a>
         ensures { needle_bytes result ≡ bytes.now }
     {

@@ -12,9 +12,14 @@ use std::cmp::Ordering;
 use std::ops::Range;
 
 impl CodePointSet {
-    /// Adds an interval. It takes memory only where `new_iv` neither overlaps nor touches one that
-    /// is there, and after an error the set is as it was. A binary search, and one move of the
-    /// intervals behind the new one; at the end of the list amortized constant.
+    /// Adds the code points of `new_iv`.
+    ///
+    /// # Errors
+    /// Returns [`AllocError`] if an allocation fails. The set is unchanged. If `new_iv` overlaps or touches an interval
+    /// of the set, nothing is allocated and the call succeeds.
+    ///
+    /// # Complexity
+    /// A binary search, and a move of the intervals after the new one. Amortized constant at the end of the list.
     pub fn add(&mut self, new_iv: Interval) -> Result<(), AllocError>
         ensures members { OnOk result ((c : ℕ) →
             is_member self.new c ≡ (is_member self.old c || is_within new_iv c)) }
@@ -34,7 +39,14 @@ impl CodePointSet {
         Ok(())
     }
 
-    /// Adds one code point, as [`add`](CodePointSet::add) does.
+    /// Adds the code point `cp`, as [`add`](CodePointSet::add) does.
+    ///
+    /// # Preconditions
+    /// `cp` is at most [`CODE_POINT_MAX`].
+    ///
+    /// # Errors
+    /// Returns [`AllocError`] if an allocation fails. The set is unchanged. If `cp` is a member or is next to one,
+    /// nothing is allocated and the call succeeds.
     #[tactic(auto, using(crate::proofs::WithinLemmas::is_within_one))]
     pub fn add_one(&mut self, cp: CodePoint) -> Result<(), AllocError>
         requires { cp ≤ CODE_POINT_MAX }
@@ -48,7 +60,7 @@ impl CodePointSet {
     }
 }
 
-/// Puts the interval at the place. At the end nothing is to be moved.
+/// Inserts the interval at index `place`. At the end of the list no element moves.
 fn put_in(ivs: &mut Vec<Interval>, place: usize, iv: Interval) -> Result<(), AllocError>
     requires { place ≤ length ivs.old.items }
     ensures ok { OnOk result (ivs.new.items ≡ insert ivs.old.items place iv) }
@@ -62,8 +74,8 @@ fn put_in(ivs: &mut Vec<Interval>, place: usize, iv: Interval) -> Result<(), All
     Ok(())
 }
 
-/// The places of the intervals that `new_iv` overlaps or touches, or the place where it would go.
-/// Constant where it belongs at the end, else a binary search.
+/// Returns the range of indices of the intervals that `new_iv` overlaps or touches, or the empty range at the index at
+/// which it would be inserted. Constant if `new_iv` belongs at the end, else a binary search.
 pub(super) fn touching(ivs: &[Interval], new_iv: Interval) -> Range<usize>
     requires { IsCanonical ivs.now }
     ensures range { IsTouchingRange ivs.now new_iv result.start result.end }
@@ -79,7 +91,8 @@ pub(super) fn touching(ivs: &[Interval], new_iv: Interval) -> Range<usize>
     }
 }
 
-/// The same of any interval. Constant where it goes before the first or the last one, else a binary search.
+/// Returns the same range for any interval. Constant if `new_iv` belongs before the first or the last interval, else a
+/// binary search.
 fn touching_inside(ivs: &[Interval], new_iv: Interval) -> Range<usize>
     requires { IsCanonical ivs.now }
     ensures { IsTouchingRange ivs.now new_iv result.start result.end }
@@ -96,8 +109,8 @@ fn touching_inside(ivs: &[Interval], new_iv: Interval) -> Range<usize>
     equal_range_by(ivs, |iv| merge_order(*iv, new_iv))
 }
 
-/// `Less` or `Greater` where `iv` lies before or after `other` with a code point between them, else
-/// `Equal`: they overlap or touch.
+/// Returns `Less` or `Greater` if `iv` is before or after `other` with a code point between them, and `Equal` if they
+/// overlap or touch.
 fn merge_order(iv: Interval, other: Interval) -> Ordering
     ensures less { (result ≡ Less) ↔ (iv.last + 1 < other.first) }
     ensures greater { (result ≡ Greater) ↔ (other.last + 1 < iv.first) }

@@ -4,8 +4,11 @@ ghost use Rattle.regress_base.specs.Intervals.{is_member, IsCanonical, Canonical
 
 use crate::interval::Interval;
 
-/// Whether the intervals ascend and at least one code point is missing between neighbours, so that
-/// none overlap and none touch. Linear in the number of intervals.
+/// Returns whether the intervals ascend with at least one code point missing between neighbors, so that none overlap
+/// and none touch.
+///
+/// # Complexity
+/// Linear in the number of intervals.
 pub fn is_canonical(ivs: &[Interval]) -> bool
     ensures { IsTrue result ↔ IsCanonical ivs.now }
 {
@@ -19,13 +22,14 @@ pub fn is_canonical(ivs: &[Interval]) -> bool
     true
 }
 
-/// A law of the definitions: canonical lists with the same members are equal. It does nothing; a
-/// function whose proof needs the law calls it.
+/// States that canonical lists with the same members are equal.
+///
+/// The function has no effect: a function whose proof needs the fact calls it.
 pub fn canonical_form_is_unique()
     ensures { CanonicalFormIsUnique }
 {}
 
-/// Whether one of the intervals contains `cp`. A binary search.
+/// Returns whether one of the intervals contains `cp`. A binary search.
 pub(super) fn contains(ivs: &[Interval], cp: u32) -> bool
     requires { IsCanonical ivs.now }
     ensures { result ≡ is_member ivs.now cp }

@@ -1,4 +1,4 @@
-//! Union, intersection and difference, and equality.
+//! Union, intersection, difference and equality of sets.
 ghost use Rattle.std.specs.Prelude.{◌≡◌, ℕ, ◌≤◌, ◌++◌, ◌||◌, ◌&&◌, ◌↔◌, not, [], IsTrue, IfOk, IfSome, IfNone, OnOk, OnErr};
 ghost use Rattle.regress_base.specs.Intervals.{is_within, is_member, bounds_eq, IsCanonical};
 ghost use Rattle.regress_base.specs.Overlap.{overlap};
@@ -13,7 +13,13 @@ use std::alloc::{AllocError, Global};
 use std::ops::Range;
 
 impl CodePointSet {
-    /// Adds the members of `rhs`. After an error the set is as it was. One pass over both lists.
+    /// Adds the members of `rhs`.
+    ///
+    /// # Errors
+    /// Returns [`AllocError`] if an allocation fails. The set is unchanged.
+    ///
+    /// # Complexity
+    /// Linear in the number of intervals of both sets.
     pub fn add_set(&mut self, rhs: CodePointSet) -> Result<(), AllocError>
         ensures members { OnOk result ((c : ℕ) →
             is_member self.new c ≡ (is_member self.old c || is_member rhs c)) }
@@ -25,8 +31,16 @@ impl CodePointSet {
         Ok(())
     }
 
-    /// Keeps the members that lie in one of the intervals. After an error the set is as it was. One
-    /// pass over both lists.
+    /// Keeps the members that are in one of the intervals, and drops the others.
+    ///
+    /// # Preconditions
+    /// `intervals` is canonical, as [`is_canonical`](crate::codepointset::is_canonical) tests.
+    ///
+    /// # Errors
+    /// Returns [`AllocError`] if an allocation fails. The set is unchanged.
+    ///
+    /// # Complexity
+    /// Linear in the number of intervals of both.
     pub fn intersect(&mut self, intervals: &[Interval]) -> Result<(), AllocError>
         requires { IsCanonical intervals.now }
         ensures members { OnOk result ((c : ℕ) →
@@ -38,9 +52,17 @@ impl CodePointSet {
         Ok(())
     }
 
-    /// Drops the members that lie in one of the intervals. After an error the set is as it was. A
-    /// binary search for what lies between the first and the last of the intervals, one pass over that
-    /// and over the intervals, and one move of what lies behind.
+    /// Drops the members that are in one of the intervals.
+    ///
+    /// # Preconditions
+    /// `intervals` is canonical, as [`is_canonical`](crate::codepointset::is_canonical) tests.
+    ///
+    /// # Errors
+    /// Returns [`AllocError`] if an allocation fails. The set is unchanged.
+    ///
+    /// # Complexity
+    /// A binary search for the part of the set from the first to the last code point of `intervals`, one pass over that
+    /// part and over `intervals`, and one move of the intervals after that part.
     pub fn remove(&mut self, intervals: &[Interval]) -> Result<(), AllocError>
         requires { IsCanonical intervals.now }
         ensures members { OnOk result ((c : ℕ) →
@@ -63,7 +85,7 @@ impl CodePointSet {
     }
 }
 
-/// The interval from the first member to the last, if there is one.
+/// Returns the interval from the first member to the last, or `None` if there is no member.
 fn span(intervals: &[Interval]) -> Option<Interval>
     requires { IsCanonical intervals.now }
     ensures some { IfSome result (λ span. (c : ℕ) →
@@ -76,8 +98,7 @@ fn span(intervals: &[Interval]) -> Option<Interval>
     }
 }
 
-/// The members of either list. The intervals are taken in ascending order, so that each is added at
-/// the end.
+/// Returns the members of either list. The intervals are added in ascending order, so that each is added at the end.
 fn union(alloc: Global, left: &[Interval], right: &[Interval]) -> Result<CodePointSet, AllocError>
     ensures { IfOk result (λ set. (c : ℕ) →
         is_member set c ≡ (is_member left.now c || is_member right.now c)) }
@@ -97,11 +118,10 @@ fn union(alloc: Global, left: &[Interval], right: &[Interval]) -> Result<CodePoi
     Ok(joined)
 }
 
-/// For how many common intervals there is room from the start: as many as two usual lists have.
+/// The maximum initial capacity for common intervals: enough for two lists of usual length.
 const USUAL: usize = 8;
 
-/// The intervals that both lists have in common. Of two intervals the one that ends first overlaps no
-/// later one.
+/// Returns the common intervals of both lists. Of two intervals, the one that ends first overlaps no later one.
 fn intersection(
     alloc: Global,
     left: &[Interval],
@@ -129,7 +149,7 @@ fn intersection(
     Ok(common)
 }
 
-/// Appends the code points that both intervals hold.
+/// Appends the code points that both intervals contain, as one interval, if there are any.
 fn push_overlap(list: &mut Vec<Interval>, a: Interval, b: Interval) -> Result<(), AllocError>
     ensures { OnOk result (list.new.items ≡ list.old.items ++ overlap a b) }
 {
@@ -139,7 +159,7 @@ fn push_overlap(list: &mut Vec<Interval>, a: Interval, b: Interval) -> Result<()
     Ok(())
 }
 
-/// Sets are equal where they have the same intervals, which is where they have the same members.
+/// Compares the intervals: two sets are equal if and only if they have the same members.
 impl PartialEq for CodePointSet {
     ghost eq = { pointwise bounds_eq };
 

@@ -7,8 +7,11 @@ use crate::interval::{CODE_POINT_MAX, Interval};
 use std::alloc::{AllocError, Global};
 
 impl CodePointSet {
-    /// How many intervals [`inverted`](CodePointSet::inverted) has: one between each two neighbours, and one at either
-    /// end that is no member. Constant.
+    /// Returns the number of intervals of the complement, which [`inverted`](CodePointSet::inverted) returns: one
+    /// between every two neighbors, and one at either end of the code points that is no member.
+    ///
+    /// # Complexity
+    /// Constant.
     pub fn inverted_interval_count(&self) -> usize
         ensures { (gaps : List Bounds)
             × IsCanonical gaps × IsComplement self.now gaps × (result ≡ length gaps) }
@@ -24,7 +27,13 @@ impl CodePointSet {
         }
     }
 
-    /// The code points that are no members, up to [`CODE_POINT_MAX`]. One pass over the intervals.
+    /// Returns the complement: the code points up to [`CODE_POINT_MAX`] that are not members.
+    ///
+    /// # Errors
+    /// Returns [`AllocError`] if an allocation fails.
+    ///
+    /// # Complexity
+    /// Linear in the number of intervals.
     #[must_use]
     pub fn inverted(&self) -> Result<CodePointSet, AllocError>
         ensures members { IfOk result (λ set. IsComplement self.now set) }
@@ -37,7 +46,7 @@ impl CodePointSet {
     }
 }
 
-/// The intervals between, before and behind these.
+/// Returns the intervals before, between and after `ivs`.
 pub(super) fn gaps(alloc: Global, ivs: &[Interval]) -> Result<Vec<Interval>, AllocError>
     requires { IsCanonical ivs.now }
     ensures members { IfOk result (λ gaps. IsComplement ivs.now gaps.items) }

@@ -4,13 +4,12 @@ ghost use Rattle.std.specs.Prelude.{◌≡◌, ℕ, ◌≤◌, ◌↔◌, false,
 use crate::codepointset::CodePointSet;
 use std::alloc::{AllocError, Global};
 
-/// What stands between `[` and `]`: a code point is accepted where its membership in `cps` and
-/// `invert` differ.
+/// The contents of a bracket `[..]`: it accepts a code point if exactly one of `invert` and membership in `cps` holds.
 #[derive(Debug, Drop)]
 pub struct BracketContents {
-    /// Whether the bracket accepts what `cps` lacks, as `[^a]` does.
+    /// Whether the bracket accepts the code points outside `cps`, as `[^a]` does.
     pub invert: bool,
-    /// The code points that are written.
+    /// The code points that the pattern lists.
     pub cps: CodePointSet,
 }
 
@@ -18,7 +17,10 @@ impl BracketContents {
     ghost use Rattle.regress_base.specs.Brackets.{accepts};
     ghost use Rattle.regress_base.specs.Intervals.{code_point_max};
 
-    /// Whether no code point is accepted. Constant.
+    /// Returns whether the bracket accepts no code point.
+    ///
+    /// # Complexity
+    /// Constant.
     pub fn is_empty(&self) -> bool
         ensures { IsTrue result ↔ ((c : ℕ) → c ≤ code_point_max → accepts self.now c ≡ false) }
     {
@@ -29,7 +31,10 @@ impl BracketContents {
         }
     }
 
-    /// Equal contents with memory of their own.
+    /// Returns equal contents with memory of their own from `alloc`.
+    ///
+    /// # Errors
+    /// Returns [`AllocError`] if an allocation fails.
     pub fn try_clone(&self, alloc: Global) -> Result<BracketContents, AllocError>
         ensures { IfOk result (λ contents. contents ≡ self.now) }
     {

@@ -1,18 +1,20 @@
-//! The state of capture groups and loops in a match.
+//! The state of capture groups and loops during a match.
 ghost use Rattle.std.specs.Prelude.{◌≡◌, ◌↔◌, None, Some, IsTrue, IsSome, IfSome};
 
 use std::ops::Range;
 
-/// The two ends of a capture group, each set or not: going forwards the start is set first, going
-/// backwards the end.
+/// The two ends of a capture group, each set or unset. In the forward direction the start is set first, in the backward
+/// direction the end.
 #[derive(Clone, Copy, Debug)]
 pub struct GroupData<P: Copy> {
+    /// The position at which the group begins, if set.
     pub start: Option<P>,
+    /// The position at which the group ends, if set.
     pub end: Option<P>,
 }
 
 impl<P: Copy> GroupData<P> {
-    /// A group that was not entered: neither end is set.
+    /// Returns a group with neither end set.
     pub fn new() -> GroupData<P>
         ensures start { result.start ≡ None }
         ensures end { result.end ≡ None }
@@ -23,21 +25,21 @@ impl<P: Copy> GroupData<P> {
         }
     }
 
-    /// Whether the start is set.
+    /// Returns whether the start is set.
     pub fn start_matched(&self) -> bool
         ensures { IsTrue result ↔ IsSome self.now.start }
     {
         self.start.is_some()
     }
 
-    /// Whether the end is set.
+    /// Returns whether the end is set.
     pub fn end_matched(&self) -> bool
         ensures { IsTrue result ↔ IsSome self.now.end }
     {
         self.end.is_some()
     }
 
-    /// From the start to the end, where both are set.
+    /// Returns the span from the start to the end, or `None` if either is unset.
     pub fn as_range(&self) -> Option<Range<P>>
         ensures both { IsSome result ↔ (IsSome self.now.start × IsSome self.now.end) }
         ensures ends { IfSome result (λ range.
@@ -49,7 +51,7 @@ impl<P: Copy> GroupData<P> {
         }
     }
 
-    /// Makes the group one that was not entered.
+    /// Makes both ends unset.
     pub fn reset(&mut self)
         ensures start { self.new.start ≡ None }
         ensures end { self.new.end ≡ None }
@@ -59,15 +61,17 @@ impl<P: Copy> GroupData<P> {
     }
 }
 
-/// The state of a loop: how many turns it has taken, and where the last one began.
+/// The state of a loop: the number of iterations so far, and the position at which the last one began.
 #[derive(Clone, Copy, Debug)]
 pub struct LoopData<P: Copy> {
+    /// The number of iterations so far.
     pub iters: usize,
+    /// The position at which the last iteration began.
     pub entry: P,
 }
 
 impl<P: Copy> LoopData<P> {
-    /// A loop that has taken no turn.
+    /// Returns a loop at position `entry` with no iteration so far.
     pub fn new(entry: P) -> LoopData<P>
         ensures iters { result.iters ≡ 0 }
         ensures entry { result.entry ≡ entry }

@@ -4,7 +4,10 @@ ghost use Rattle.std.specs.Prelude.{◌≡◌, ◌≤◌, All, IfOk, chars};
 use crate::interval::CODE_POINT_MAX;
 use std::alloc::{AllocError, Global};
 
-/// The characters of a text in order, none above U+10FFFF. The error is want of memory.
+/// Returns the characters of `text` in order, each at most U+10FFFF.
+///
+/// # Errors
+/// Returns [`AllocError`] if an allocation fails.
 pub fn code_points(alloc: Global, text: &str) -> Result<Vec<u32>, AllocError>
     ensures characters { IfOk result (λ points. points.items ≡ chars text.now) }
     ensures in_range { IfOk result (λ points. All (λ c. c ≤ CODE_POINT_MAX) points.items) }

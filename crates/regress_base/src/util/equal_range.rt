@@ -1,4 +1,4 @@
-//! The range of equal elements.
+//! The range of the elements equal to a key.
 ghost use Rattle.std.specs.Prelude.{◌≡◌, ◌≤◌, length};
 ghost use Rattle.std.specs.List.Sorted.{IsNonDecreasingBy};
 ghost use Rattle.std.specs.Fn.{ComputesKey};
@@ -9,9 +9,17 @@ ghost use Rattle.regress_base.specs.Ranges.{IsEqualRange, SplitsAt};
 use std::cmp::Ordering;
 use std::ops::Range;
 
-/// The range of the elements that `f` calls `Equal`, where its answers over `s` are `Less`, then
-/// `Equal`, then `Greater`. An empty one stands where an equal element would go. Two binary
-/// searches.
+/// Returns the half-open range of the indices of the elements for which `f` returns `Equal`.
+///
+/// If the results of `f` along `s` are `Less`, then `Equal`, then `Greater`, the range is exact. It is empty if there
+/// is no `Equal`, and then its bounds are the index at which an equal element would be inserted. For results in any
+/// other order the range is within bounds, and otherwise unspecified.
+///
+/// # Preconditions
+/// `f` can always be called.
+///
+/// # Complexity
+/// Two binary searches.
 pub fn equal_range_by<T, F: FnMut(&T) -> Ordering>(s: &[T], mut f: F) -> Range<usize>
     requires { F.IsAlwaysCallable f }
     ensures in_order { result.start ≤ result.end }
@@ -25,7 +33,7 @@ pub fn equal_range_by<T, F: FnMut(&T) -> Ordering>(s: &[T], mut f: F) -> Range<u
     start..end
 }
 
-/// The first place from `low` on at which `f` answers `least` or more.
+/// Returns the least index, `low` or greater, at which `f` returns `least` or greater.
 fn boundary<T, F: FnMut(&T) -> Ordering>(
     s: &[T],
     mut low: usize,

@@ -1,4 +1,4 @@
-//! The first bytes that a set of code points has in UTF-8.
+//! The first bytes of the UTF-8 encodings of a set of code points.
 ghost use Rattle.std.specs.Prelude.{◌≡◌, ◌⊎◌, ◌↔◌, ℕ, ◌≤◌, IsTrue, length, encode_utf8};
 ghost use Rattle.regress_base.specs.ByteBitmap.{contains};
 ghost use Rattle.regress_base.specs.FirstBytes.{IsFirstByteBetween};
@@ -7,9 +7,12 @@ use super::utf8::utf8_first_byte;
 use crate::bytesearch::ByteBitmap;
 use crate::interval::{CODE_POINT_MAX, Interval};
 
-/// Adds to `bitmap` the first bytes that the code points of `interval` have in UTF-8 (RFC 3629, section 3).
-/// Surrogates follow the rule for three bytes. The cost is that of the bytes added, at most 256, however many
-/// code points there are.
+/// Adds to `bitmap` the first bytes of the UTF-8 encodings of the code points of `interval` (RFC 3629, section 3).
+///
+/// Surrogates are encoded by the rule for three bytes.
+///
+/// # Complexity
+/// Linear in the number of bytes added, at most 256, however many code points there are.
 pub fn add_utf8_first_bytes_to_bitmap(interval: Interval, bitmap: &mut ByteBitmap)
     ensures { (b : ℕ) → IsTrue (contains bitmap.new b)
         ↔ (IsTrue (contains bitmap.old b) ⊎ IsFirstByteBetween interval.first interval.last b) }
@@ -21,8 +24,8 @@ pub fn add_utf8_first_bytes_to_bitmap(interval: Interval, bitmap: &mut ByteBitma
     add_first_bytes_of_one_width(first.max(0x1_0000), last, bitmap);
 }
 
-// The code points from `first` to `last`, if there are any, have the same number of bytes. Then their first bytes
-// are all those from that of `first` to that of `last`.
+// The code points from `first` to `last`, if there are any, have encodings of the same length, so that their first
+// bytes are a contiguous range.
 fn add_first_bytes_of_one_width(first: u32, last: u32, bitmap: &mut ByteBitmap)
     requires in_range { last ≤ CODE_POINT_MAX }
     requires one_width { first ≤ last → length (encode_utf8 first) ≡ length (encode_utf8 last) }

@@ -1,17 +1,20 @@
-//! The bytes of UTF-8 (RFC 3629, section 3). Surrogates follow the rule for three bytes.
+//! The bytes of UTF-8 (RFC 3629, section 3). Surrogates are encoded by the rule for three bytes.
 ghost use Rattle.std.specs.Prelude.{◌≡◌, ℕ, ◌<◌, ◌≤◌, ◌+◌, ◌*◌, ◌%◌, ◌^◌, IsTrue, [], ◌∷◌, Some, slice_get, encode_utf8, if◌then◌else◌};
 ghost use Rattle.regress_base.specs.Utf8.{is_scalar, is_continuation, IsLeadOfTwo, IsLeadOfThree, IsLeadOfFour, value_of_two, value_of_three, value_of_four};
 
 use crate::interval::CODE_POINT_MAX;
 
-/// The character of a code point, or U+10FFFF where `c` is no scalar value.
+/// Returns the character with code point `c`, or U+10FFFF if `c` is no Unicode scalar value.
 pub fn to_char_sat(c: u32) -> char
     ensures { result ≡ (if is_scalar c then c else CODE_POINT_MAX) }
 {
     char::from_u32(c).unwrap_or(char::MAX)
 }
 
-/// The first byte of the code point in UTF-8.
+/// Returns the first byte of the UTF-8 encoding of `cp`. A surrogate is encoded by the rule for three bytes.
+///
+/// # Preconditions
+/// `cp` is at most U+10FFFF.
 #[tactic(auto, using(crate::proofs::Utf8Lemmas::first_of_two, crate::proofs::Utf8Lemmas::first_of_three, crate::proofs::Utf8Lemmas::first_of_four))]
 pub fn utf8_first_byte(cp: u32) -> u8
     requires { cp ≤ CODE_POINT_MAX }
@@ -28,14 +31,17 @@ pub fn utf8_first_byte(cp: u32) -> u8
     }
 }
 
-/// Whether the byte goes on with a code point: its bits are 10xxxxxx.
+/// Returns whether `b` is a continuation byte of UTF-8: its bits are 10xxxxxx.
 pub fn is_utf8_continuation(b: u8) -> bool
     ensures { result ≡ is_continuation b }
 {
     b & 0xC0 == 0x80
 }
 
-/// The code point of two bytes, 110xxxxx and a continuation.
+/// Decodes a sequence of two bytes of UTF-8.
+///
+/// # Preconditions
+/// `b0` has the bits 110xxxxx, and `b1` is a continuation byte.
 pub fn utf8_w2(b0: u8, b1: u8) -> u32
     requires lead { IsLeadOfTwo b0 }
     requires second { IsTrue (is_continuation b1) }
@@ -45,7 +51,10 @@ pub fn utf8_w2(b0: u8, b1: u8) -> u32
     continued(low_bits(b0, 5), b1)
 }
 
-/// The code point of three bytes, 1110xxxx and two continuations.
+/// Decodes a sequence of three bytes of UTF-8.
+///
+/// # Preconditions
+/// `b0` has the bits 1110xxxx, and `b1` and `b2` are continuation bytes.
 pub fn utf8_w3(b0: u8, b1: u8, b2: u8) -> u32
     requires lead { IsLeadOfThree b0 }
     requires second { IsTrue (is_continuation b1) }
@@ -56,7 +65,10 @@ pub fn utf8_w3(b0: u8, b1: u8, b2: u8) -> u32
     continued(continued(low_bits(b0, 4), b1), b2)
 }
 
-/// The code point of four bytes, 11110xxx and three continuations.
+/// Decodes a sequence of four bytes of UTF-8.
+///
+/// # Preconditions
+/// `b0` has the bits 11110xxx, and `b1`, `b2` and `b3` are continuation bytes.
 pub fn utf8_w4(b0: u8, b1: u8, b2: u8, b3: u8) -> u32
     requires lead { IsLeadOfFour b0 }
     requires second { IsTrue (is_continuation b1) }
@@ -68,7 +80,7 @@ pub fn utf8_w4(b0: u8, b1: u8, b2: u8, b3: u8) -> u32
     continued(continued(continued(low_bits(b0, 3), b1), b2), b3)
 }
 
-/// The bits so far, and behind them the six of a continuation.
+/// Appends the six low bits of a continuation byte to `bits`.
 fn continued(bits: u32, b: u8) -> u32
     requires { bits < 2 ^ 24 }
     ensures { result ≡ bits * 64 + b % 64 }
@@ -76,7 +88,7 @@ fn continued(bits: u32, b: u8) -> u32
     bits << 6 | low_bits(b, 6)
 }
 
-/// The lowest `count` bits of the byte.
+/// Returns the lowest `count` bits of the byte.
 fn low_bits(b: u8, count: u32) -> u32
     requires { count < 8 }
     ensures { result ≡ b % 2 ^ count }

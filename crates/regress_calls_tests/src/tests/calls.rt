@@ -1,4 +1,4 @@
-//! The caller of docs/CALLING.md, and calls that carry a fact and answer nothing.
+//! The callers of docs/guide.md, and functions that state a theorem and do nothing.
 
 use regress_calls::caller::optimized_text;
 use regress_calls::caret::pointed_at;
@@ -9,7 +9,7 @@ use regress_front::unicode::Tables;
 use std::test::Fail;
 
 #[test]
-fn facts_are_carried(_rt: HostRuntime) {
+fn functions_that_state_theorems_return(_rt: HostRuntime) {
     canonical_form_is_unique();
     limits_are_as_defined();
 }
@@ -25,15 +25,15 @@ fn another_crate_calls_the_library(rt: HostRuntime) -> Result<(), Fail> {
     match optimized_text(alloc, "a)", Flags::default()) {
         Ok(_text) => assert!(rt; false, "it is accepted"),
         Err(fault) => {
-            let told = fault.to_string(alloc)?;
-            assert_eq!(rt; told.as_str(), "Unbalanced parenthesis");
+            let message = fault.to_string(alloc)?;
+            assert_eq!(rt; message.as_str(), "Unbalanced parenthesis");
         }
     }
     Ok(())
 }
 
 #[test]
-fn a_caret_stands_under_the_place_of_a_fault(rt: HostRuntime) -> Result<(), Fail> {
+fn a_caret_is_below_the_position_of_a_syntax_error(rt: HostRuntime) -> Result<(), Fail> {
     let alloc = rt.alloc();
     let tables = Tables::small(alloc)?;
     match pointed_at(alloc, "ab[c", Flags::default(), &tables)? {

@@ -1,4 +1,4 @@
-//! The recursion of docs/CALLING.md. What is expected is the shortest text that a reader of the pattern finds.
+//! The recursive function of docs/guide.md. The expected value is the length of the shortest text that matches.
 
 use super::parsed;
 use super::walks::alternation;
@@ -15,7 +15,7 @@ fn the_shortest_match_of_a_pattern(rt: HostRuntime) -> Result<(), Fail> {
         ("abc|d|ef", 1),
         ("(?:ab){3,}c*", 6),
         ("(?:a|bcd){2}e?", 2),
-        // what is looked at is not taken
+        // a lookaround consumes nothing
         ("^(?=abc)d\\b(?<!e)", 1),
     ] {
         let regex = parsed(alloc, pattern, false)?;

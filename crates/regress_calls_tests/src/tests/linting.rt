@@ -1,4 +1,4 @@
-//! The linter of docs/CALLING.md.
+//! The linter of docs/guide.md.
 
 use super::parsed;
 use regress_calls::linter::lint;
@@ -16,7 +16,7 @@ fn a_linter_lists_groups_and_warns_of_nested_loops(rt: HostRuntime) -> Result<()
             "(?:a+b)*(?=c)",
             "Report { groups: [], loops: 2, lookarounds: 1, nested: true }",
         ),
-        // side by side, and with a greatest number of turns
+        // loops in sequence, and with a maximum
         (
             "a+b*(?:c+){3}",
             "Report { groups: [], loops: 4, lookarounds: 0, nested: false }",
@@ -33,17 +33,17 @@ fn a_linter_lists_groups_and_warns_of_nested_loops(rt: HostRuntime) -> Result<()
 }
 
 #[test]
-fn unbounded_loops_in_one_another_are_told(rt: HostRuntime) -> Result<(), Fail> {
+fn nested_unbounded_loops_are_reported(rt: HostRuntime) -> Result<(), Fail> {
     let alloc = rt.alloc();
     for (pattern, wanted) in [
         ("(a*)*", true),
         ("(?:b|(?=a{2,}))+", true),
         ("a*(?:b(?:c+d)?)*", true),
         ("(?:a+){2}", false),
-        // the loop before is no longer around
+        // the earlier loop is not around
         ("(?:b(?:c(?:a+)))(?:d?)e*", false),
         ("(?:a*|b+)c*", false),
-        // two ways to match, and one loop
+        // two ways to match with one loop
         ("(?:a|a)*", false),
     ] {
         let report = lint(alloc, &parsed(alloc, pattern, false)?)?;

@@ -1,4 +1,4 @@
-//! Rewrites of a test's own: the order of the nodes, and want of memory at one.
+//! A test's own rewrite: the order in which nodes are visited, and a failed allocation at one of them.
 
 use super::parsed;
 use regress_front::ir::{Node, Walk};
@@ -8,7 +8,7 @@ use std::alloc::{AllocError, Global};
 use std::fmt::Write;
 use std::test::Fail;
 
-/// Leaves each node as it is, and writes down where it was met; where its count of nodes is spent, memory is wanting.
+/// Keeps each node, and records the visit. After the given number of nodes it fails as if an allocation had failed.
 #[derive(Drop)]
 struct Visits {
     nodes: usize,
@@ -60,7 +60,7 @@ fn kind(node: &Node) -> &'static str {
     }
 }
 
-/// How a pattern's tree is walked over, if that many nodes are met before memory is wanting.
+/// Returns the record of a pass over a pattern's tree, with an allocation failure after that many nodes.
 fn visited(
     alloc: Global,
     pattern: &str,
@@ -92,7 +92,7 @@ fn children_are_visited_before_parents_and_left_before_right(rt: HostRuntime) ->
             false,
             "Empty at 2, forwards, no unicode\nEmpty at 3, forwards, no unicode\nEmpty at 4, forwards, no unicode\nChar at 4, forwards, no unicode\nCat at 3, forwards, no unicode\nAlt at 2, forwards, no unicode\nAlt at 1, forwards, no unicode\nGoal at 1, forwards, no unicode\nCat at 0, forwards, no unicode\nnot changed",
         ),
-        // what a lookaround holds is visited in its own direction
+        // the contents of a lookaround are visited in their own direction
         (
             "(?<=a(?=b))",
             false,
@@ -106,10 +106,10 @@ fn children_are_visited_before_parents_and_left_before_right(rt: HostRuntime) ->
 }
 
 #[test]
-fn want_of_memory_at_a_node_is_answered(rt: HostRuntime) -> Result<(), Fail> {
+fn an_allocation_failure_at_a_node_is_returned(rt: HostRuntime) -> Result<(), Fail> {
     for nodes in 0..9 {
         let answer = visited(rt.alloc(), "(?:a|bc)d", false, nodes);
-        assert!(rt; answer.is_err(), "with {nodes} nodes looked at");
+        assert!(rt; answer.is_err(), "after {nodes} nodes");
     }
     Ok(())
 }

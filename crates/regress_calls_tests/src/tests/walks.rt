@@ -1,11 +1,11 @@
-//! Walks: their visits, whatever is written to what a call is shown, and long alternations.
+//! Walks: their visits, whatever a closure writes to its arguments, and long alternations.
 
 use regress_front::ir::{Node, Walk, walk, walk_mut};
 use std::alloc::{AllocError, Global};
 use std::test::Fail;
 
-/// The tree of `(?<=ab)c`.
-fn behind(alloc: Global) -> Result<Node, AllocError> {
+/// Returns the tree of `(?<=ab)c`.
+fn lookbehind_tree(alloc: Global) -> Result<Node, AllocError> {
     let mut inner = Vec::new(alloc);
     inner.push(Node::Char { c: 98 })?;
     inner.push(Node::Char { c: 97 })?;
@@ -24,7 +24,7 @@ fn behind(alloc: Global) -> Result<Node, AllocError> {
     Ok(Node::Cat(whole))
 }
 
-/// An alternation of one more than so many alternatives, each empty.
+/// Returns an alternation with `bars` bars and one alternative more, each of them empty.
 pub fn alternation(alloc: Global, bars: usize) -> Result<Node, AllocError> {
     let mut node = Node::Empty;
     for _ in 0..bars {
@@ -45,7 +45,7 @@ fn name(n: &Node) -> char {
     }
 }
 
-/// Notes the visit: the node, its depth, and a `<` in a lookbehind.
+/// Records a visit: the node, its depth, and a `<` in a lookbehind.
 fn note(seen: &mut String, n: &Node, w: &Walk) {
     let _name = seen.push(name(n));
     let depth = match w.depth {
@@ -77,7 +77,7 @@ fn look(alloc: Global, postorder: bool, skip: bool, depth: usize) -> Result<Stri
     walk(
         postorder,
         true,
-        &behind(alloc)?,
+        &lookbehind_tree(alloc)?,
         &mut |n: &Node, w: &mut Walk| {
             note(&mut seen, n, w);
             w.skip_children = postorder || (skip && matches!(n, Node::LookaroundAssertion { .. }));
@@ -91,7 +91,7 @@ fn look(alloc: Global, postorder: bool, skip: bool, depth: usize) -> Result<Stri
 
 fn change(alloc: Global, postorder: bool, skip: bool, depth: usize) -> Result<String, Fail> {
     let mut seen = String::new(alloc);
-    let mut tree = behind(alloc)?;
+    let mut tree = lookbehind_tree(alloc)?;
     walk_mut(
         postorder,
         true,

@@ -1,4 +1,4 @@
--- Classes with the flag v, read from the front of a source.
+-- Classes with the flag v, at the start of a source.
 use Rattle.std.proofs.Common.{◌≡◌, ℕ, zero, suc, ◌+◌, Bool, true, false, ◌&&◌, ◌||◌, ◌==◌, cond, List, [], ◌∷◌, ◌++◌, length, drop, Option, Some, None, refl, ap, ◌∙◌}
 use Rattle.regress_base.specs.Intervals.{Bounds}
 use Rattle.regress_base.specs.Limits.{max_nesting_depth}
@@ -11,7 +11,7 @@ use Rattle.regress_classes.proofs.laws.Pieces.{property_at-ends}
 use Rattle.regress_lexical.proofs.laws.Behind.{IsBehind, behind_same, behind_drop, Ends, ends_none, ends_some, one-ends, ends_behind, ends_more, ends_then, ends_map, ends_cond, escape_at-ends}
 use Rattle.regress_lexical.proofs.laws.Sources.{EachRow, no_more, ◌also◌, first_row-has, then_same}
 
--- ---- to read behind what is held is to join the list to it
+-- ---- parsing after a list is joining the result to it
 
 map_cond : {A B : Type 0} (f : A → B) (b : Bool) (x y : Found A) → found_map f (cond b x y) ≡ cond b (found_map f x) (found_map f y)
 map_cond f true x y = refl
@@ -58,7 +58,7 @@ module _ (table : Table) (unicode : Bool) (inner : Source → Found (Bool × Val
       ∙ ap (λ y. cond (are_at c x.1) y None)
       (map_map (from_left f held) (λ others. value_of x.0 ∷ others) (operands_by table unicode inner in_negated n c (drop 2 x.1)))))
 
--- ---- what stands behind an operand
+-- ---- the source after an operand
 
 escaped_character_at-ends : (unicode : Bool) (t : Source) → Ends (escaped_character_at unicode t) t
 escaped_character_at-ends unicode [] = ends_none []
@@ -66,7 +66,7 @@ escaped_character_at-ends unicode (c ∷ t) =
     ends_cond (c == 98) _ _ (c ∷ t) (one-ends 8 c t)
     (ends_cond (is_reserved c) _ _ (c ∷ t) (one-ends c c t) (escape_at-ends unicode (c ∷ t)))
 
--- a character takes a code point at least
+-- A character consumes at least one code point.
 pub set_character_at-shortens : (unicode : Bool) (t : Source) → Ends (set_character_at unicode t) (drop 1 t)
 unfolding set_character_at
 set_character_at-shortens unicode [] = ends_none []
@@ -118,9 +118,9 @@ module _ (table : Table) (unicode : Bool) where
         | None ↦ first_row-has (λ found. Ends found (c ∷ t)) (operand_rows table unicode in_negated c t) (ends_none (c ∷ t)) (operand_rows-end in_negated c t)
       ]
 
-  -- the rest follows where what stands behind a class is at the end
+  -- The lemmas on a class follow from the same on the classes inside it.
   module _ (inner : Source → Found (Bool × Value)) (inner_ends : (t : Source) → Ends (inner t) t) (in_negated : Bool) where
-    -- an operand takes a code point at least
+    -- An operand consumes at least one code point.
     pub operand_at-shortens : (t : Source) → Ends (operand_at table unicode inner in_negated t) (drop 1 t)
     unfolding operand_at
     operand_at-shortens t =

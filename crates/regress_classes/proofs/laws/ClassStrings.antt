@@ -1,4 +1,5 @@
--- The strings of a class with the flag v, and those of a property, are of code points. Classes lie in it no deeper than the bound.
+-- The strings of a class with the flag v, and those of a property, consist of code points. The classes in a class nest
+-- no deeper than the bound.
 use Rattle.std.proofs.Common.{◌≡◌, ℕ, zero, suc, ◌+◌, ◌<◌, ◌≤◌, Bool, true, false, not, ◌&&◌, ◌||◌, ◌==◌, nat_le, cond, List, [], ◌∷◌, ◌++◌, length, drop, Option, Some, None, refl, arith, leb-true}
 use Rattle.std.proofs.lemmas.List.Elements.{All-head, All-nil, All-cons, All-append, All-drop, All-filter}
 use Rattle.std.specs.List.{All, list_all}
@@ -20,7 +21,7 @@ use Rattle.regress_lexical.proofs.laws.Sources.{EachRow, no_more, ◌also◌, fi
 abbrev pub OfCodePoints : List (List ℕ) → Type 0
 OfCodePoints strings = All (All IsCodePoint) strings
 
--- what a property holds
+-- The strings of a property consist of code points.
 abbrev pub PropertyInRange : Property → Type 0
 PropertyInRange (of_points members) = Unit {0}
 PropertyInRange (of_strings written) = OfCodePoints written
@@ -28,7 +29,8 @@ PropertyInRange (of_strings written) = OfCodePoints written
 abbrev pub ValueInRange : Value → Type 0
 ValueInRange value = OfCodePoints value.strings
 
--- What holds of a value by its operands: of code points, of strings of them, and of what is made of two such values.
+-- A predicate that holds for a value if it holds for its operands: for code points, for strings of them, and for two
+-- such values combined.
 record IsKept (P : Value → Type 0) : Type 0 where
   points : (members : List Bounds) → P (only members)
   strings : (ss : List (List ℕ)) → OfCodePoints ss → P (value_of_strings ss)
@@ -87,7 +89,7 @@ closed_property-in_range None t h = finds_none _
 closed_property-in_range (Some property) t h =
     finds_cond _ (is_at 125 t) _ _ (λ _. finds_some _ (property, drop 1 t) h) (λ _. finds_none _)
 
--- whatever the word is
+-- Whatever the word is.
 behind_word : {A : Type 0} {P : A → Type 0} (t : Source) (next : List ℕ × Source → Found A) → ((x : List ℕ × Source) → Finds P (next x)) →
     Finds P (property_word_at t >>= next)
 behind_word {A} {P} t next h = finds_then (λ _. Unit {0}) P (property_word_at t) next (record { each = λ x e. tt }) (λ x _. h x)
@@ -114,7 +116,7 @@ module _ (table : Table) (lawful : IsLawful table) where
 
 -- ---- strings
 
--- behind what was found, which leaves code points
+-- what follows the part that was found; only code points remain there
 finds_next : {A B : Type 0} (P : A → Type 0) (Q : B → Type 0) (found : Found A) (next : A × Source → Found B) (t : Source) →
     Finds P found → Ends found t → All IsCodePoint t → ((x : A × Source) → P x.0 → All IsCodePoint x.1 → Finds Q (next x)) →
     Finds Q (found >>= next)
@@ -130,7 +132,7 @@ escaped_character_at-in_range unicode (c ∷ t) all =
     (λ _. finds_cond _ (is_reserved c) _ _ (λ _. finds_some _ (c, t) (All-head IsCodePoint c t all))
     (λ _. escape_at-in_range unicode (c ∷ t) all))
 
--- a character is a code point
+-- A character is a code point.
 pub set_character_at-in_range : (unicode : Bool) (t : Source) → All IsCodePoint t → Finds IsCodePoint (set_character_at unicode t)
 unfolding set_character_at
 set_character_at-in_range unicode [] all = finds_none _
@@ -154,7 +156,7 @@ strings_by-in_range (suc n) unicode s t h all =
     (λ x c_in rest. strings_by-in_range n unicode (s ++ x.0 ∷ []) x.1
     (All-append IsCodePoint s (x.0 ∷ []) h (All-cons IsCodePoint x.0 [] c_in (All-nil _))) rest)))
 
--- ---- whatever is kept
+-- ---- predicates that are kept
 
 from_left-kept : (P : Value → Type 0) (f : Value → Value → Value) → ((a b : Value) → P a → P b → P (f a b)) →
     (held : Value) (others : List Value) → P held → All P others → P (from_left f held others)
@@ -260,7 +262,7 @@ module _ (P : Value → Type 0) (kept : IsKept P) where
           (λ others. All-cons P (value_of x.0) others has) (operands_by-kept n c (drop 2 x.1) (All-drop IsCodePoint 2 x.1 rest)))
           (λ _. finds_none _)))
 
-      -- what is held already, with what is read
+      -- A value with what is parsed after it.
       onto-kept : (f : Value → Value → Value) (held : Value) (found : Found (List Value)) → ((a b : Value) → P a → P b → P (f a b)) →
           P held → Finds (All P) found → Finds P (found_map (from_left f held) found)
       onto-kept f held found keeps h all =
@@ -321,7 +323,7 @@ strings_kept = record {
   subtracts = λ a b h k. All-filter (λ s. not (is_among b.strings s)) (All IsCodePoint) a.strings h;
 }
 
--- ---- levels
+-- ---- nesting depth
 
 level_of_string : (s : List ℕ) → (value_of_string s).levels ≡ 0
 level_of_string [] = refl
@@ -353,12 +355,12 @@ module _ (table : Table) (lawful : IsLawful table) (unicode : Bool) where
       (λ found. ValueInRange found.1) (λ found h. h) (class_set_by-in_range n) (is_at 94 t) (cond (is_at 94 t) (drop 1 t) t) (inside-in_range t all))
       (unless_of_strings-kept ValueInRange (is_at 94 t))
 
-  -- the strings that a class holds
+  -- The strings of a class consist of code points.
   pub class_set_at-in_range : (t : Source) → All IsCodePoint t →
       Finds (λ found. All (All IsCodePoint) found.1.strings) (class_set_at table unicode t)
   class_set_at-in_range t all = class_set_by-in_range max_nesting_depth t all
 
-  -- how deep classes lie in it
+  -- How deep the classes in a class nest.
   pub class_set_by-levels : (n : ℕ) (t : Source) → All IsCodePoint t → Finds (λ found. found.1.levels < n) (class_set_by table unicode n t)
   unfolding class_set_by
   class_set_by-levels zero t all = finds_none _

@@ -1,4 +1,4 @@
--- Properties and classes, read from the front of a source.
+-- Properties and classes without the flag v, at the start of a source.
 use Rattle.std.proofs.Common.{◌≡◌, ℕ, zero, suc, ◌+◌, ◌<◌, Bool, true, false, ◌||◌, ◌==◌, cond, List, [], ◌∷◌, ◌++◌, length, drop, Option, Some, None, refl, sym, ap, ◌∙◌, subst, add-one, arith, eqb-true}
 use Rattle.std.proofs.lemmas.Option.{none-some}
 use Rattle.std.proofs.lemmas.Bool.{cond-true, cond-false, and_parts}
@@ -12,7 +12,7 @@ use Rattle.regress_classes.specs.ClassRows.{ClassAtom, point, set, complement_if
 use Rattle.regress_lexical.proofs.laws.Sources.{then_same, cond_same, EachRow, no_more, ◌also◌, first_row-has}
 use Rattle.regress_lexical.proofs.laws.Behind.{IsBehind, behind_same, behind_drop, behind_front, behind_shorter, Ends, ends_none, ends_some, one-ends, ends_behind, ends_more, ends_then, ends_map, ends_cond, escape_at-ends}
 
--- ---- what stands behind a property
+-- ---- the source after a property
 
 closed_property-ends : (found : Option Property) (t : Source) → Ends (closed_property found t) t
 closed_property-ends None t = ends_none t
@@ -37,7 +37,7 @@ property_at-ends sets table t =
     ends_cond (is_at 123 t) _ _ t
     (ends_behind _ t (drop 1 t) (behind_drop 1 t) (braced_property_at-ends sets table (drop 1 t))) (ends_none t)
 
--- ---- what stands behind a class
+-- ---- the source after a class
 
 pub class_control_at-ends : (t : Source) → Ends (class_control_at t) (99 ∷ t)
 class_control_at-ends [] = ends_some _ (99 ∷ []) (behind_same (99 ∷ []))
@@ -62,14 +62,14 @@ made-ends : (made : Option (List Bounds)) (t : Source) →
 made-ends None t = ends_none t
 made-ends (Some members) t = ends_some (members, t) t (behind_same t)
 
--- the parts, without their `^`
+-- the parts without the `^` before them
 abbrev inside : Source → Source
 inside t = cond (is_at 94 t) (drop 1 t) t
 
 inside-behind : (t : Source) → IsBehind t (inside t)
 inside-behind t = elim (is_at 94 t) as (λ b. IsBehind t (cond b (drop 1 t) t)) [ true ↦ behind_drop 1 t | false ↦ behind_same t ]
 
--- what stands behind members that were read already
+-- the members of the parts that follow those parsed already
 abbrev pub more_parts : List Bounds → Found (List Bounds) → Found (List Bounds)
 more_parts members others = others >>= λ (y : List Bounds × Source). Some (members ++ y.0, y.1)
 
@@ -98,7 +98,7 @@ module _ (table : Table) (unicode : Bool) where
   class_escape_at-ends [] = ends_none []
   class_escape_at-ends (c ∷ t) = class_escape_by-ends c t
 
-  -- an atom takes a code point at least
+  -- An atom consumes at least one code point.
   class_atom_at-shortens : (t : Source) → Ends (class_atom_at table unicode t) (drop 1 t)
   class_atom_at-shortens [] = ends_none []
   class_atom_at-shortens (c ∷ t) =
@@ -123,7 +123,7 @@ module _ (table : Table) (unicode : Bool) where
   class_part_at-behind t =
       ends_then (class_atom_at table unicode t) _ (drop 1 t) (class_atom_at-shortens t) part_behind-ends
 
-  -- so does a part
+  -- A part consumes at least one code point.
   pub class_part_at-shortens : (t : Source) (x : List Bounds × Source) → class_part_at table unicode t ≡ Some x → length x.1 < length t
   class_part_at-shortens [] x e = absurd (none-some x e)
   class_part_at-shortens (c ∷ t) x e = omega (arith, behind_shorter t x.1 ((class_part_at-behind (c ∷ t)).each x e))
@@ -146,9 +146,9 @@ module _ (table : Table) (unicode : Bool) where
       (ends_then (class_parts_by table unicode (length (inside t) + 1) (inside t)) _ (inside t)
       (class_parts_by-ends (length (inside t) + 1) (inside t)) (λ x. ends_some _ x.1 (behind_same x.1)))
 
-  -- ---- the parts, with no bound
+  -- ---- the parts, without a bound
 
-  -- More than the source allows change nothing.
+  -- A larger bound changes nothing once it exceeds the length of the source.
   class_parts_by-same : (n m : ℕ) (t : Source) → length t < n → length t < m →
       class_parts_by table unicode n t ≡ class_parts_by table unicode m t
   unfolding class_parts_by

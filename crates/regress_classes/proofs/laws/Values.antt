@@ -1,4 +1,4 @@
--- What the code's sets and strings stand for.
+-- The meaning of the code's sets and strings.
 use Rattle.std.proofs.Common.{◌≡◌, ℕ, Vec, Global, ap₂, List, [], ◌∷◌, refl, not, ap, ◌∙◌}
 use Rattle.std.specs.List.{AllZip}
 use Rattle.regress_classes.specs.ClassViews.{strings_of}
@@ -6,7 +6,7 @@ use Rattle.regress_base.specs.Intervals.{Bounds, is_member, IsCanonical, IsCompl
 use Rattle.regress_base.proofs.laws.Sets.{canonical_is}
 use Rattle.regress_classes.specs.ClassRows.{complement}
 
--- The complement of a set with these members is the one of the members.
+-- The complement of a set with these members is the complement of the members.
 pub complement_is : (members set others : List Bounds) → ((c : ℕ) → is_member set c ≡ is_member members c) → IsComplement set others →
     IsCanonical others → others ≡ complement members
 complement_is members set others has is_complement canonical =

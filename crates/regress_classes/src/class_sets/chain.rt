@@ -11,8 +11,8 @@ use crate::gathered::Gathered;
 use regress_base::codepointset::{CODE_POINT_MAX, CodePointSet};
 use std::alloc::{AllocError, Global};
 
-/// An operand, and what those behind it take away from it: all but the last, which is taken away at once. To take each
-/// away as it is read would walk over all of the first one each time.
+/// An operand, and what the operands after it drop from it. The last operand is applied directly. Applying each one as
+/// it is parsed would traverse the whole first operand each time.
 #[derive(Drop)]
 pub struct Chain {
     first: Value,
@@ -20,7 +20,7 @@ pub struct Chain {
     taken: Option<Taken>,
 }
 
-/// What operands behind an operator take away.
+/// What operands after an operator drop.
 #[derive(Drop)]
 pub struct Taken {
     /// The code points that are dropped.
@@ -30,7 +30,7 @@ pub struct Taken {
 }
 
 impl Chain {
-    /// The first operand.
+    /// Returns a chain of the first operand alone.
     pub(super) fn new(first: Value, operator: Operator) -> Chain
         ensures value { (v : Written) → IsValue first v → IsChain result v }
         ensures operator { result.operator ≡ operator }
@@ -42,7 +42,7 @@ impl Chain {
         }
     }
 
-    /// Adds an operand, behind which stands another one.
+    /// Adds an operand that is not the last.
     pub(super) fn push(self, operand: Value) -> Result<Chain, AllocError>
         ensures { IfOk result (λ chain. (chain.operator ≡ self.operator)
             × ((v b : Written) → IsChain self v → IsValue operand b → IsChain chain (applied self.operator v b))) }
@@ -63,7 +63,7 @@ impl Chain {
         })
     }
 
-    /// What the last operand leaves.
+    /// Returns what all operands keep of the first one, the last operand included.
     pub(super) fn close(self, last: Value) -> Result<Value, AllocError>
         ensures { IfOk result (λ held. (v b : Written) → IsChain self v → IsValue last b → IsValue held (applied self.operator v b)) }
     {
@@ -82,7 +82,7 @@ impl Chain {
 }
 
 impl Taken {
-    /// What one operand takes away.
+    /// Returns what one operand drops.
     fn of(operator: Operator, operand: Value) -> Result<Taken, AllocError>
         ensures { IfOk result (λ taken. (first : Value) (a b : Written) →
             IsValue first a → IsValue operand b → IsLeft operator first taken (applied operator a b)) }
@@ -95,7 +95,7 @@ impl Taken {
         })
     }
 
-    /// What one more operand takes away too.
+    /// Returns what these operands and one more drop.
     fn and(self, operator: Operator, operand: Value) -> Result<Taken, AllocError>
         ensures { IfOk result (λ taken. (first : Value) (v b : Written) →
             IsLeft operator first self v → IsValue operand b → IsLeft operator first taken (applied operator v b)) }
@@ -108,7 +108,7 @@ impl Taken {
         })
     }
 
-    /// What it leaves of a value.
+    /// Returns what is kept of a value.
     fn take_from(self, mut value: Value, operator: Operator) -> Result<Value, AllocError>
         ensures { IfOk result (λ left. (v : Written) → IsLeft operator value self v → IsValue left v) }
     {
@@ -119,7 +119,7 @@ impl Taken {
     }
 }
 
-/// The code points that an operand drops.
+/// Returns the code points that an operand drops.
 fn dropped_points(operator: Operator, set: CodePointSet) -> Result<CodePointSet, AllocError>
     ensures { IfOk result (λ dropped. (c : ℕ) → c ≤ CODE_POINT_MAX →
         is_member dropped c ≡ not (kept operator (is_member set c))) }

@@ -11,8 +11,8 @@ use regress_lexical::digits::is_letter;
 use regress_lexical::escape::{escape_fault, read_escape};
 use regress_lexical::fault::{Fault, FaultKind, refused};
 
-/// Reads a character (this project's profile of ECMA-262, ClassSetCharacter). The fault comes where a code point doesn't
-/// stand for itself, or where a backslash begins no escape of a character.
+/// Parses a character (dialect of ECMA-262, ClassSetCharacter). Fails if the code point is no literal, or if the
+/// backslash starts no character escape.
 pub(super) fn read_set_character(cursor: &mut Cursor, unicode: bool) -> Result<u32, Fault>
     ensures value { AlwaysReads (λ c. c) (source cursor.new) result (set_character_at unicode (source cursor.old)) }
     ensures in_range { IfOk result IsCodePoint }
@@ -31,14 +31,15 @@ pub(super) fn read_set_character(cursor: &mut Cursor, unicode: bool) -> Result<u
     }
 }
 
-/// Whether the code point stands for itself before the rest.
+/// Returns whether the code point is a literal before `rest`.
 fn is_itself(c: u32, rest: &[u32]) -> bool
     ensures { result ≡ not (is_set_syntax c || (is_double c && begins_double rest.now)) }
 {
     !is_set_syntax(c) && !(is_double(c) && begins_double(rest))
 }
 
-/// Reads the escape of a character, behind its backslash. `begin` is how many code points were left before that.
+/// Parses a character escape after its backslash. `begin` is the number of code points that remained before the
+/// backslash.
 pub(super) fn read_escaped_character(
     cursor: &mut Cursor,
     unicode: bool,
@@ -67,7 +68,7 @@ pub(super) fn read_escaped_character(
     Ok(point)
 }
 
-/// Whether the code point stands for itself only behind a backslash, or never.
+/// Returns whether the code point is a literal only after a backslash, or never.
 fn is_set_syntax(c: u32) -> bool
     ensures { result ≡ is_set_syntax c }
 {
@@ -78,7 +79,7 @@ fn is_set_syntax(c: u32) -> bool
         )
 }
 
-/// Whether the code point stands for itself, but not before another of these.
+/// Returns whether the code point is a literal that may not be followed by another of these.
 fn is_double(c: u32) -> bool
     ensures { result ≡ is_double c }
 {
@@ -117,7 +118,8 @@ fn begins_double(source: &[u32]) -> bool
     }
 }
 
-/// Whether the code point stands for itself behind a backslash, beside those of any escape.
+/// Returns whether the code point is a literal after a backslash, besides the escapes outside classes (ECMA-262,
+/// ClassSetReservedPunctuator).
 fn is_reserved(c: u32) -> bool
     ensures { result ≡ is_reserved c }
 {

@@ -22,7 +22,7 @@ use regress_lexical::cursor::Cursor;
 use regress_lexical::fault::{Fault, FaultKind, refused};
 use std::alloc::{AllocError, Global};
 
-/// A character, which may be an end of a range, or what holds some of them and strings.
+/// A character, which may be an end of a range, or a set of code points and strings.
 #[derive(Drop)]
 pub enum Operand {
     Character(u32),
@@ -30,7 +30,7 @@ pub enum Operand {
 }
 
 impl Operand {
-    /// What it holds.
+    /// Returns the contents of the operand.
     pub(super) fn into_value(self, alloc: Global) -> Result<Value, AllocError>
         requires { (operand : Written) × IsOperand self operand }
         ensures { IfOk result (λ held. (operand : Written) → IsOperand self operand → IsValue held (value_of operand)) }
@@ -42,7 +42,7 @@ impl Operand {
     }
 }
 
-/// Reads an escape, behind its backslash. `begin` is how many code points were left before that.
+/// Parses an escape after its backslash. `begin` is the number of code points that remained before the backslash.
 pub(super) fn read_escaped_operand(
     cursor: &mut Cursor,
     around: &Surroundings,
@@ -71,7 +71,7 @@ pub(super) fn read_escaped_operand(
     }
 }
 
-/// A class by an escape, or its complement.
+/// Returns a class escape, or its complement if `negated`.
 fn class_value(alloc: Global, kind: CharacterClassType, negated: bool) -> Result<Value, AllocError>
     ensures { IfOk result (λ held. IsValue held (only (class_members (kind, negated)))) }
 {
@@ -80,7 +80,7 @@ fn class_value(alloc: Global, kind: CharacterClassType, negated: bool) -> Result
     Ok(Value::of_set(alloc, set))
 }
 
-/// Reads a property, behind `\p` or `\P`.
+/// Parses a property after its `\p` or `\P`.
 fn read_property_operand(
     cursor: &mut Cursor,
     around: &Surroundings,
@@ -106,7 +106,7 @@ fn read_property_operand(
     }
 }
 
-/// A property of code points, or its complement.
+/// Returns a property of code points, or its complement if `negated`.
 fn point_value(alloc: Global, set: &CodePointSet, negated: bool) -> Result<Value, AllocError>
     ensures { IfOk result (λ held. IsValue held (only (complement_if negated set.now))) }
 {
@@ -119,7 +119,7 @@ fn point_value(alloc: Global, set: &CodePointSet, negated: bool) -> Result<Value
     Ok(Value::of_set(alloc, set))
 }
 
-/// A property of strings.
+/// Returns a property of strings.
 fn string_value(alloc: Global, strings: &[Vec<u32>]) -> Result<Value, AllocError>
     requires { All (All IsCodePoint) (strings_of strings.now) }
     ensures { IfOk result (λ held. IsValue held (value_of_strings (strings_of strings.now))) }

@@ -1,4 +1,4 @@
-//! What a class with the flag v holds beside code points.
+//! The strings of a class with the flag v.
 ghost use Rattle.std.specs.Prelude.{◌≡◌, ◌&&◌, ℕ, not, max, List, filter, IfOk, OnOk};
 ghost use Rattle.std.specs.BTreeSet.{contains_by};
 ghost use Rattle.std.specs.Cmp.Lexicographic.{slice_cmp};
@@ -11,18 +11,18 @@ use super::Operator;
 use std::alloc::{AllocError, Global};
 use std::collections::BTreeSet;
 
-/// Strings, and how many levels of classes lie in it.
+/// The contents of a class with the flag v besides its code points: strings, and how deep the classes in it nest.
 #[derive(Drop)]
 pub struct Others {
-    /// The strings of two or more, in the order in which they were read, repeats kept.
+    /// The strings of two or more characters, in the order in which they were parsed, with repeats.
     pub strings: Vec<Vec<u32>>,
-    /// Whether the empty string is there.
+    /// Whether the class has the empty string.
     pub has_empty: bool,
     pub levels: u32,
 }
 
 impl Others {
-    /// Nothing.
+    /// Returns contents without a string.
     pub(super) fn new(alloc: Global) -> Others
         ensures { (members : List Bounds) → HasOthers (only members) result }
     {
@@ -33,7 +33,7 @@ impl Others {
         }
     }
 
-    /// Adds the others.
+    /// Adds the strings of `other`.
     pub(super) fn join(&mut self, mut other: Others) -> Result<(), AllocError>
         ensures { OnOk result ((a b : Written) → HasOthers a self.old → HasOthers b other → HasOthers (joined a b) self.new) }
     {
@@ -43,7 +43,7 @@ impl Others {
         Ok(())
     }
 
-    /// Keeps what is in both, or what the other one lacks, and counts the levels.
+    /// Keeps the strings that `&&` or `--` keeps, given those of `other`. The nesting depth is the maximum of both.
     pub(super) fn apply(&mut self, operator: Operator, other: &Others) -> Result<(), AllocError>
         ensures strings { OnOk result (self.new.strings.items
             ≡ filter (λ string. kept operator (is_among (strings_of other.now.strings.items) string.items)) self.old.strings.items) }
@@ -59,7 +59,7 @@ impl Others {
         Ok(())
     }
 
-    /// What both keep, or either drops.
+    /// Returns the strings that both operands keep, or that either drops.
     pub(super) fn and(self, operator: Operator, other: Others) -> Result<Others, AllocError>
         ensures { IfOk result (λ both. (first : Others) (v b : Written) →
             AreLeft operator first self v → HasOthers b other → AreLeft operator first both (applied operator v b)) }
@@ -72,7 +72,7 @@ impl Others {
     }
 }
 
-/// The strings, to be searched.
+/// Returns the strings as a set for searching.
 fn string_set(alloc: Global, strings: &[Vec<u32>]) -> Result<BTreeSet<&[u32]>, AllocError>
     ensures { IfOk result (λ set. (s : List ℕ) →
         contains_by (λ other. slice_cmp nat_cmp s other.now) set ≡ is_among (strings_of strings.now) s) }
@@ -106,7 +106,7 @@ fn remove_strings(strings: &mut Vec<Vec<u32>>, others: &[Vec<u32>]) -> Result<()
     Ok(())
 }
 
-/// The strings that both keep, or that either drops.
+/// Returns the strings that both operands keep, or that either drops.
 fn both_strings(
     operator: Operator,
     mut strings: Vec<Vec<u32>>,
@@ -127,7 +127,7 @@ fn both_strings(
     }
 }
 
-/// Whether both keep the empty string, or either drops it.
+/// Returns whether both operands keep the empty string, or either drops it.
 fn both(operator: Operator, has_empty: bool, other: bool) -> bool
     ensures { kept operator result ≡ (kept operator has_empty && kept operator other) }
 {

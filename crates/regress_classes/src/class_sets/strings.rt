@@ -12,8 +12,8 @@ use super::value::Value;
 use regress_lexical::cursor::Cursor;
 use regress_lexical::fault::{Fault, FaultKind, refused};
 
-/// Reads strings, behind `\q` (ECMA-262, ClassStringDisjunction). `begin` is how many code points were left before the
-/// backslash.
+/// Parses the strings after `\q` (ECMA-262, ClassStringDisjunction). `begin` is the number of code points that remained
+/// before the backslash.
 pub(super) fn read_quoted(
     cursor: &mut Cursor,
     unicode: bool,
@@ -28,7 +28,7 @@ pub(super) fn read_quoted(
     Ok(Operand::Class(read_strings(cursor, unicode, begin)?))
 }
 
-/// Reads strings with `|` between them, up to `}`.
+/// Parses strings with `|` between them, up to `}`.
 fn read_strings(cursor: &mut Cursor, unicode: bool, begin: usize) -> Result<Value, Fault>
     ensures value { let t = source cursor.old in
         ReadsAs (λ held strings. IsValue held (value_of_strings strings)) (source cursor.new) result (strings_by (length t + 1) unicode [] t) }

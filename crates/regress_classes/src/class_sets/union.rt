@@ -1,4 +1,4 @@
-//! What the parts of a class with the flag v hold.
+//! Unions of the parts of a class with the flag v.
 ghost use Rattle.std.specs.Prelude.{◌≡◌, ℕ, [], ◌∷◌, IfOk, OnOk};
 ghost use Rattle.regress_classes.specs.ClassRows.{one_point};
 ghost use Rattle.regress_classes.specs.ClassSets.{Value as Written, Operand as WrittenOperand, nothing, only, joined, value_of};
@@ -12,7 +12,7 @@ use crate::gathered::Gathered;
 use regress_base::codepointset::Interval;
 use std::alloc::{AllocError, Global};
 
-/// What is in one or another of several parts, while they are read: a value whose code points are still gathered.
+/// The union of the parts of a class while they are parsed: a value whose code points are still collected.
 #[derive(Drop)]
 pub struct Union {
     points: Gathered,
@@ -20,7 +20,7 @@ pub struct Union {
 }
 
 impl Union {
-    /// Nothing.
+    /// Returns an empty union.
     pub(super) fn new(alloc: Global) -> Union
         ensures { IsUnion result nothing }
     {
@@ -45,7 +45,7 @@ impl Union {
         self.add(Interval::new(c, c))
     }
 
-    /// Adds what an operand holds.
+    /// Adds the contents of an operand.
     pub(super) fn add_operand(&mut self, operand: Operand) -> Result<(), AllocError>
         requires { (written : WrittenOperand) × IsOperand operand written }
         ensures { OnOk result ((a : Written) (written : WrittenOperand) →
@@ -57,7 +57,7 @@ impl Union {
         }
     }
 
-    /// Adds what a value holds.
+    /// Adds the contents of a value.
     fn join(&mut self, other: Value) -> Result<(), AllocError>
         ensures { OnOk result ((a b : Written) → IsUnion self.old a → IsValue other b → IsUnion self.new (joined a b)) }
     {
@@ -65,7 +65,7 @@ impl Union {
         self.others.join(other.others)
     }
 
-    /// The value, where all of them are read.
+    /// Returns the value of the whole union.
     pub(super) fn into_value(self) -> Result<Value, AllocError>
         ensures { IfOk result (λ held. (a : Written) → IsUnion self a → IsValue held a) }
     {

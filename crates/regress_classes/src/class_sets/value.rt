@@ -1,4 +1,4 @@
-//! What a class with the flag v holds.
+//! The contents of a class with the flag v.
 ghost use Rattle.std.specs.Prelude.{◌≡◌, ◌&&◌, ℕ, All, List, IfOk, OnOk};
 ghost use Rattle.regress_base.specs.Intervals.{Bounds, is_member, IsCanonical};
 ghost use Rattle.regress_classes.specs.ClassRows.{one_point};
@@ -11,7 +11,7 @@ use super::others::Others;
 use regress_base::codepointset::CodePointSet;
 use std::alloc::{AllocError, Global};
 
-/// Code points, and what is held beside them.
+/// The contents of a class with the flag v: code points and strings.
 #[derive(Drop)]
 pub struct Value {
     pub set: CodePointSet,
@@ -19,14 +19,14 @@ pub struct Value {
 }
 
 impl Value {
-    /// Nothing.
+    /// Returns empty contents.
     pub(super) fn new(alloc: Global) -> Value
         ensures { IsValue result nothing }
     {
         Value::of_set(alloc, CodePointSet::new(alloc))
     }
 
-    /// These code points alone.
+    /// Returns these code points alone.
     pub(super) fn of_set(alloc: Global, set: CodePointSet) -> Value
         ensures { (members : List Bounds) → HasMembers members set → IsValue result (only members) }
     {
@@ -36,14 +36,14 @@ impl Value {
         }
     }
 
-    /// Whether it holds a string beside its code points, be it the empty one.
+    /// Returns whether there is a string, which may be the empty one.
     pub fn has_strings(&self) -> bool
         ensures { (value : Written) → IsValue self.now value → result ≡ has_strings value }
     {
         !self.others.strings.is_empty() || self.others.has_empty
     }
 
-    /// One code point.
+    /// Returns one code point.
     pub(super) fn of_point(alloc: Global, c: u32) -> Result<Value, AllocError>
         requires { IsCodePoint c }
         ensures { IfOk result (λ value. IsValue value (only (one_point c))) }
@@ -53,7 +53,7 @@ impl Value {
         Ok(Value::of_set(alloc, set))
     }
 
-    /// Adds a string. One of one character is a code point.
+    /// Adds a string. A string of one character is added as a code point.
     pub(super) fn add_string(&mut self, string: Vec<u32>) -> Result<(), AllocError>
         requires { All IsCodePoint string.items }
         ensures { OnOk result ((a : Written) → IsValue self.old a → IsValue self.new (joined a (value_of_string string.items))) }
@@ -66,7 +66,7 @@ impl Value {
         Ok(())
     }
 
-    /// Keeps what is in both, or what the other one lacks.
+    /// Keeps what is in both operands for `&&`, or what the other one lacks for `--`.
     pub(super) fn apply(&mut self, operator: Operator, other: Value) -> Result<(), AllocError>
         ensures { OnOk result ((a b : Written) → IsValue self.old a → IsValue other b → IsValue self.new (applied operator a b)) }
     {
@@ -76,7 +76,7 @@ impl Value {
     }
 }
 
-/// Keeps the code points that are in both sets, or that the other one lacks.
+/// Keeps the code points that are in both sets for `&&`, or that the other one lacks for `--`.
 fn apply_points(
     set: &mut CodePointSet,
     operator: Operator,

@@ -1,4 +1,4 @@
--- What a reader leaves stands at the end of the source that it was given.
+-- The source that a parsing function leaves is a suffix of the one that it was given.
 use Rattle.std.proofs.Common.{◌≡◌, ℕ, suc, ◌+◌, ◌≤◌, ◌<◌, Bool, true, false, not, cond, ◌&&◌, ◌||◌, ◌==◌, [], ◌∷◌, length, drop, Option, Some, None, refl, sym, ap, ◌∙◌, subst, arith, length-drop}
 use Rattle.std.proofs.lemmas.Option.{none-some, same_Some}
 use Rattle.std.proofs.lemmas.List.{drop-drop}
@@ -10,7 +10,7 @@ use Rattle.regress_lexical.specs.Digits.{is_decimal, is_octal, is_hex, number, b
 use Rattle.regress_lexical.specs.Escapes.{braced_hex_at, unit_at, second_half_at, paired, with_second_half, unicode_at, or_itself, octal_digits, letter_escape, begins_with_digit, is_syntax_character, control_at, other_escape, escape_at}
 use Rattle.regress_lexical.specs.Quantifiers.{Times, count_at, closed_brace, most_at, times_by, greedy_or_lazy, quantifier_at}
 
--- rest is t without so many code points of its front
+-- rest is t without its first `count` code points
 pub record IsBehind (t rest : Source) : Type 0 where
   pub count : ℕ
   pub same : rest ≡ drop count t
@@ -46,7 +46,7 @@ behind_front p (c ∷ t) =
     elim (p c) as (λ b. IsBehind (c ∷ t) (cond b (behind p t) (c ∷ t)))
     [ true ↦ behind_more c t (behind p t) (behind_front p t) | false ↦ behind_same (c ∷ t) ]
 
--- Whatever is found, what stands behind it stands at the end of t.
+-- Whatever is found, the source after it is a suffix of t.
 pub record Ends {A : Type 0} (found : Found A) (t : Source) : Type 0 where
   pub each : (x : A × Source) → found ≡ Some x → IsBehind t x.1
 
@@ -56,7 +56,7 @@ ends_none t = record { each = λ x e. absurd (none-some x e) }
 pub ends_some : {A : Type 0} (x : A × Source) (t : Source) → IsBehind t x.1 → Ends (Some x) t
 ends_some {A} x t h = record { each = λ y e. subst (λ (z : A × Source). IsBehind t z.1) (same_Some x y e) h }
 
--- what leaves all behind the first code point
+-- What takes one code point leaves the source after it.
 pub one-ends : {A : Type 0} (x : A) (c : ℕ) (t : Source) → Ends (Some (x, t)) (c ∷ t)
 one-ends x c t = ends_some (x, t) (c ∷ t) (behind_drop 1 (c ∷ t))
 
@@ -144,7 +144,7 @@ count_at-ends t = ends_cond _ _ _ t (ends_none t) (ends_some _ t (behind_front i
 closed_brace-ends : (times : Times) (t : Source) → Ends (closed_brace times t) t
 closed_brace-ends times t = ends_cond _ _ _ t (ends_some _ t (behind_drop 1 t)) (ends_none t)
 
--- the same, behind a code point
+-- The same after a code point.
 closed_behind-ends : (times : Times) (t : Source) → Ends (closed_brace times (drop 1 t)) t
 closed_behind-ends times t = ends_behind _ t (drop 1 t) (behind_drop 1 t) (closed_brace-ends times (drop 1 t))
 
@@ -174,7 +174,7 @@ unfolding quantifier_at
 quantifier_at-ends [] = ends_none []
 quantifier_at-ends (c ∷ t) = ends_more _ c t (ends_then (times_by c t) greedy_or_lazy t (times_by-ends c t) greedy_or_lazy-ends)
 
--- a quantifier takes a code point at least
+-- A quantifier takes at least one code point.
 pub quantifier_at-shortens : (t : Source) (x : Quantifier × Source) → quantifier_at t ≡ Some x → length x.1 < length t
 unfolding quantifier_at
 quantifier_at-shortens [] x e = absurd (none-some x e)

@@ -1,4 +1,4 @@
--- Digits at the front of a source, and the numbers that they write.
+-- Digits at the start of a source, and the numbers that they denote.
 use Rattle.std.proofs.Common.{◌≡◌, ℕ, zero, suc, ◌+◌, ◌*◌, ◌-◌, ◌^◌, ◌<◌, ◌≤◌, min, ⊎_elim, nat_le, ◌==◌, Bool, true, false, ◌&&◌, cond, List, [], ◌∷◌, map, length, get_or, take, drop, Some, refl, sym, ap, ◌∙◌, subst, arith}
 use Rattle.std.proofs.lemmas.Bool.Decides.{nat_tests}
 use Rattle.std.proofs.lemmas.Bool.{cases_lt, cond-false, ne_eqb, false≢true}
@@ -13,7 +13,7 @@ use Rattle.regress_lexical.specs.Source.{Source}
 use Rattle.regress_lexical.specs.Quantifiers.{count_at}
 use Rattle.regress_lexical.specs.Digits.{is_decimal, is_octal, is_hex, digit, number_from, number, front, behind}
 
--- a front that passes, by its length
+-- The longest prefix that passes a test, by its length.
 front_cons : (p : ℕ → Bool) (c : ℕ) (t : Source) (n : ℕ) (b : Bool) → front p t ≡ take n t →
     cond b (c ∷ front p t) [] ≡ take (cond b (1 + n) 0) (c ∷ t)
 front_cons p c t n true e = let same : 1 + n ≡ suc n = omega arith in rw same (ap (λ (u : Source). c ∷ u) e)
@@ -34,7 +34,7 @@ unfolding behind
 behind_dropped p [] = refl
 behind_dropped p (c ∷ t) = behind_cons p c t (prefix_len p t) (p c) (behind_dropped p t)
 
--- one digit more
+-- One more digit.
 pub number_from-more : (base n : ℕ) (cs : List ℕ) (k d : ℕ) → k < length cs →
     number_from base n (take (k + 1) cs) ≡ number_from base n (take k cs) * base + digit (get_or cs k d)
 number_from-more base n [] k d h = absurd (omega arith)
@@ -45,7 +45,7 @@ number_from-more base n (c ∷ cs) (suc k) d h =
     let more = number_from-more base (n * base + digit c) cs k d (omega arith) in
     rw same_suc (rw same at more)
 
--- a number that has reached the limit stays there
+-- A saturated number stays saturated.
 pub saturates : (base n d limit : ℕ) → 2 ≤ base → min (min (min n limit * base) limit + d) limit ≡ min (n * base + d) limit
 saturates base n d limit h =
     ⊎_elim
@@ -57,7 +57,7 @@ saturates base n d limit h =
     (λ (le : n ≤ limit). let e : min n limit ≡ n = omega arith in rw e (omega arith))
     (cases_lt limit n)
 
--- so does one that was cut at the limit before further digits
+-- Saturating before the next digits does not change the saturated result.
 cut_before : (base n d limit : ℕ) → 2 ≤ base → min (min n limit * base + d) limit ≡ min (n * base + d) limit
 cut_before base n d limit h =
     ⊎_elim
@@ -76,14 +76,14 @@ cut_number base n limit (c ∷ cs) h =
     ∙ ap (λ m. min (number_from base m cs) limit) (cut_before base n (digit c) limit h)
     ∙ cut_number base (n * base + digit c) limit cs h
 
--- one digit more, as the code counts it
+-- One more digit, with the saturating arithmetic of the code.
 pub cut_digit : (n d limit : ℕ) (cs : List ℕ) →
     min (number_from 10 (min (min (n * 10) limit + d) limit) cs) limit ≡ min (number_from 10 (n * 10 + d) cs) limit
 cut_digit n d limit cs =
     let same : min (min (n * 10) limit + d) limit ≡ min (n * 10 + d) limit = omega arith in
     ap (λ m. min (number_from 10 m cs) limit) same ∙ cut_number 10 (n * 10 + d) limit cs (omega arith)
 
--- a decimal digit at the front, and what it writes
+-- A decimal digit at the start belongs to the number.
 pub front_digit : (c : ℕ) (t : Source) → is_decimal c ≡ true → front is_decimal (c ∷ t) ≡ c ∷ front is_decimal t
 unfolding front
 front_digit c t e = rw e refl
@@ -139,7 +139,7 @@ number_below base cs h =
     let below_same : number base cs < (0 + 1) * base ^ length cs = subst (λ n. number base cs < (0 + 1) * base ^ n) same below in
     omega arith
 
--- Few digits of the kind write a small number.
+-- At most four hexadecimal digits denote a number below 0x10000.
 pub hex_fits : (cs : List ℕ) → length cs ≤ 4 → list_all is_hex cs ≡ true → number 16 cs < 0x10000
 hex_fits cs short e =
     let below = number_below 16 cs (digits_below 16 is_hex hex_below cs e) in
@@ -159,7 +159,7 @@ drop_one_more [] = refl
 drop_one_more (c ∷ []) = refl
 drop_one_more (c ∷ d ∷ t) = refl
 
--- the octal digits of an escape, as those behind its first one are counted
+-- The octal digits of an escape are the first one and those that the code counts after it.
 pub octal_digits_counted : (c most n : ℕ) (t : Source) → is_octal c ≡ true → most + 1 ≡ cond (nat_le c 51) 3 2 →
     n ≡ prefix_len is_octal (take (min (length t) most) t) → octal_digits c t ≡ c ∷ take n t
 unfolding front
@@ -177,7 +177,7 @@ octal_number_fits c t = octal_fits (take (cond (nat_le c 51) 3 2) (c ∷ t)) (oc
 pub number_behind : (base c d : ℕ) (cs : List ℕ) → d ≡ digit c → number base (c ∷ cs) ≡ number_from base d cs
 number_behind base c d cs e = ap (λ n. number_from base n cs) (omega (arith, e))
 
--- a decimal number whose first digit was read
+-- A decimal number, parsed from its first digit and the digits after it.
 pub counted_digits : (c : ℕ) (t source : Source) (d n : ℕ) (rest : Source) → source ≡ c ∷ t → is_decimal c ≡ true → d ≡ digit c →
     n ≡ min (number_from 10 d (front is_decimal t)) (2 ^ 64 - 1) → rest ≡ behind is_decimal t → Some (n, rest) ≡ count_at source
 counted_digits c t source d n rest split decimal first counted left =

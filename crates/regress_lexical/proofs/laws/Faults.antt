@@ -1,4 +1,4 @@
--- What the kind of a fault tells of a source tells of another one.
+-- A contract on the kind of an error follows from a stronger one.
 use Rattle.std.proofs.Common.{◌≡◌, ◌⊎◌, inl, inr, false, Result, Ok, Err}
 use Rattle.regress_lexical.specs.declared.fault.Fault.{Fault}
 use Rattle.regress_lexical.specs.declared.fault.FaultKind.{FaultKind}

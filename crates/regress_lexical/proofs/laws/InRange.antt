@@ -1,4 +1,4 @@
--- What an escape stands for is a code point.
+-- The value of an escape is a code point.
 use Rattle.std.proofs.Common.{◌≡◌, ℕ, ◌<◌, ◌≤◌, Bool, true, false, not, cond, ◌&&◌, ◌||◌, ◌==◌, nat_le, [], ◌∷◌, length, take, drop, length-take, Option, Some, None, refl, sym, subst, arith, leb-true}
 use Rattle.std.proofs.lemmas.Option.{none-some, same_Some}
 use Rattle.std.proofs.lemmas.List.Elements.{All-head}
@@ -61,7 +61,7 @@ second_half_at-in_range t =
     finds_then _ _ (unit_at t) _ (unit_at-in_range t)
     (λ x _. finds_cond _ (is_between 0xDC00 0xDFFF x.0) _ _ (λ e. finds_some _ x (leb-true _ _ (and_both _ _ e).1)) (λ e. finds_none _))
 
--- the two halves
+-- A surrogate pair denotes a code point.
 paired_in_range : (high low : ℕ) → high ≤ 0xDBFF → low ≤ 0xDFFF → paired high low ≤ code_point_max
 paired_in_range high low h l = omega arith
 
@@ -125,7 +125,7 @@ escape_at-in_range unicode [] h = finds_none _
 escape_at-in_range unicode (c ∷ t) h =
     escape_by-in_range unicode c t (letter_escape c) (letter_escape-in_range c) (All-head IsCodePoint c t h)
 
--- the same of a function's answer, of which a contract speaks
+-- The same for the result of a function, as its contract states it.
 pub value_in_range : {R : Type 0} (view : R → Source) (unicode : Bool) (t : Source) (answer : Option (ℕ × R)) → All IsCodePoint t →
     option_map (λ found. (found.0, view found.1)) answer ≡ escape_at unicode t → IfSome answer (λ found. IsCodePoint found.0)
 value_in_range view unicode t None h e = tt

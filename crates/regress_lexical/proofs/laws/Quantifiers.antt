@@ -1,4 +1,4 @@
--- Where none may begin by the first code point, none is read.
+-- If the first code point begins no quantifier, none is parsed.
 use Rattle.std.proofs.Common.{◌≡◌, ℕ, false, [], ◌∷◌, None, refl, ap, arith}
 use Rattle.std.proofs.lemmas.Bool.Decides.{nat_tests}
 use Rattle.regress_lexical.specs.Source.{Source, ◌>>=◌, char, is_at}

@@ -1,4 +1,4 @@
--- Reading from the front of a source.
+-- Parsing from the start of a source.
 use Rattle.std.proofs.Common.{◌≡◌, ℕ, ◌<◌, ◌≤◌, ◌⊎◌, inl, inr, ◌≢◌, ◌==◌, Bool, true, false, cond, List, [], ◌∷◌, length, Option, Some, None, Result, Ok, Err, refl, sym, ap, ◌∙◌, arith}
 use Rattle.std.specs.Option.{IfSome, IsSomeAnd}
 use Rattle.std.specs.Result.{IfOk}
@@ -11,7 +11,7 @@ use Rattle.regress_lexical.specs.declared.fault.Fault.TheVariants.{Refused, Memo
 use Rattle.regress_lexical.specs.Fault.{OnRefused, OnKind}
 use Rattle.regress_lexical.specs.Source.{Source, Found, ◌>>=◌, Row, first_row, is_at}
 
--- what is found behind something
+-- What a continuation finds, it finds after what was found first.
 pub found_then : {A B : Type 0} (found : Found A) (next : A × Source → Found B) (y : B × Source) → found >>= next ≡ Some y →
     (x : A × Source) × (found ≡ Some x) × (next x ≡ Some y)
 found_then None next y e = absurd (none-some y e)
@@ -30,29 +30,29 @@ pub cond_same : {A : Type 0} (b : Bool) (x y x' y' : A) → (b ≡ true → x �
 cond_same true x y x' y' h k = h refl
 cond_same false x y x' y' h k = k refl
 
--- What each row finds where it applies has the property.
+-- What each production finds where it applies has the property.
 infixr 5 ◌also◌
 pub data EachRow {A : Type 0} (P : Found A → Type 0) : List (Row A) → Type 0 where
   no_more : EachRow P []
   ◌also◌ : {applies : Bool} {found : Found A} {rows : List (Row A)} → (applies ≡ true → P found) → EachRow P rows →
       EachRow P ((applies, found) ∷ rows)
 
--- So has what the first row finds that applies.
+-- Then the first production that applies has the property too.
 pub first_row-has : {A : Type 0} (P : Found A → Type 0) (rows : List (Row A)) → P None → EachRow P rows → P (first_row rows)
 first_row-has P [] none no_more = none
 first_row-has P ((true, found) ∷ rows) none (has also each) = has refl
 first_row-has P ((false, found) ∷ rows) none (has also each) = first_row-has P rows none each
 
--- what is at the front of a source is in it
+-- A source that starts with a code point is not empty.
 pub at_front : (k : ℕ) (t : Source) → is_at k t ≡ true → 0 < length t
 at_front k [] e = cc
 at_front k (c ∷ t) e = omega arith
 
--- What reads does not end before the source that it was given.
+-- The source that is left is no longer than the one that was given.
 abbrev pub Shortens : {A : Type 0} → (Source → Found A) → Type 0
 Shortens {A} f = (t : Source) (x : A × Source) → f t ≡ Some x → length x.1 ≤ length t
 
--- Whatever is found has the property.
+-- The property holds of whatever is found.
 pub to_each : {A : Type 0} (o : Option A) (P : A → Type 0) → IfSome o P → (x : A) → o ≡ Some x → P x
 to_each None P h x e = absurd (none-some x e)
 to_each (Some y) P h x e = subst P (same_Some y x e) h
@@ -65,7 +65,7 @@ pub some_and : {A : Type 0} (o : Option A) (P : A → Type 0) → IsSomeAnd o P 
 some_and None P h = absurd h
 some_and (Some x) P h = (x, refl, h)
 
--- what holds whatever the fault
+-- What holds anyway holds for a syntax error.
 pub on_refused : {P : Type 0} (fault : Fault) → P → OnRefused fault P
 on_refused (Refused r) h = h
 on_refused (Memory e) h = tt
@@ -78,17 +78,17 @@ pub on_kind_then : {P Q : FaultKind → Type 0} (fault : Fault) → ((kind : Fau
 on_kind_then (Refused r) f h = f r.kind h
 on_kind_then (Memory e) f h = tt
 
--- of whatever kind
+-- A property that implies another for every kind implies it for the kind of an error.
 pub on_each_kind : {P : Type 0} {Q : FaultKind → Type 0} (fault : Fault) → ((kind : FaultKind) → P → Q kind) → OnRefused fault P → OnKind fault Q
 on_each_kind (Refused r) f h = f r.kind h
 on_each_kind (Memory e) f h = tt
 
--- what follows for each value from two facts follows for an answer
+-- Two facts about a successful result imply what they imply for each value.
 pub ok_from_both : {X E : Type 0} (r : Result X E) (P Q R : X → Type 0) → ((x : X) → P x → Q x → R x) → IfOk r P → IfOk r Q → IfOk r R
 ok_from_both (Ok x) P Q R h p q = h x p q
 ok_from_both (Err e) P Q R h p q = tt
 
--- Whether a list is empty, by its length.
+-- A list is empty exactly if its length is 0.
 
 pub length-none : (xs : List ℕ) → (length xs == 0) ≡ true → xs ≡ []
 length-none [] e = refl

@@ -1,4 +1,4 @@
--- One match more.
+-- Finding one more match extends a list of matches.
 use Rattle.std.proofs.Common.{ℕ, List, [], ◌∷◌, ◌++◌, refl, subst}
 use Rattle.regress_tree.specs.Steps.{State}
 use Rattle.regress_match.specs.Matched.{IsLeftmost}

@@ -1,4 +1,4 @@
--- How many nodes rows of trees have.
+-- The number of nodes in a list of trees.
 use Rattle.std.proofs.Common.{◌≡◌, ◌+◌, refl, arith}
 use Rattle.regress_tree.specs.Reading.{Direction, forwards, backwards}
 use Rattle.regress_tree.specs.Tree.{Trees, no_trees, more_trees, row_append, row_reverse}
@@ -13,7 +13,7 @@ nodes-reverse : (ts : Trees) → nodes_in_row (row_reverse ts) ≡ nodes_in_row 
 nodes-reverse no_trees = refl
 nodes-reverse (more_trees t ts) = omega (arith, nodes-append (row_reverse ts) (more_trees t no_trees), nodes-reverse ts)
 
--- as many where parts stand turned
+-- Reversing the list does not change the number.
 pub nodes-turned : (d : Direction) (ts : Trees) → nodes_in_row (turned d ts) ≡ nodes_in_row ts
 nodes-turned forwards ts = refl
 nodes-turned backwards ts = nodes-reverse ts

@@ -1,4 +1,4 @@
--- What a scan in front finds of a source that is accepted.
+-- What the scan finds in an accepted source.
 use Rattle.std.proofs.Common.{◌≡◌, ℕ, min, List, length, Option, inl, refl, sym, ◌∙◌, arith}
 use Rattle.regress_base.specs.Limits.{max_capture_groups}
 use Rattle.regress_tree.specs.Setting.{Setting}
@@ -14,7 +14,7 @@ module _ (setting : Setting) (t : Source) (gives : GivesMarks setting.flags.unic
   own_groups : (counts p).groups ≡ most setting t gives
   own_groups = omega (arith, groups_found setting t gives (own_context setting p) p refl refl h.derived, h.limits.groups)
 
-  -- what the parser makes of the groups and names is the context of the pattern's own
+  -- The parser's context, made of the groups and names found, is the pattern's own.
   pub scanned_context : (groups : ℕ) (ns : List (Option Name)) →
       ns ≡ named_by (marks setting.flags.unicode_sets setting.table plain t) → groups ≡ min (length ns) max_capture_groups →
       record { setting = setting; groups = groups; names = ns } ≡ own_context setting p
@@ -22,7 +22,7 @@ module _ (setting : Setting) (t : Source) (gives : GivesMarks setting.flags.unic
       scanned-is setting t gives groups ns same e
       ∙ sym (own_is setting t gives (own_context setting p) p refl refl h.derived (most setting t gives) own_groups)
 
-  -- it refuses nothing
+  -- The scan rejects no accepted source.
   pub scan_content : (kind : FaultKind) → MarksShow (marks setting.flags.unicode_sets setting.table plain t) kind → ⊥
   scan_content kind shown =
       true-refuses setting t kind (λ q derived. inl (marks-say setting t gives kind shown q derived)) p h

@@ -1,4 +1,4 @@
--- Leaves that take one character, and how it is read.
+-- Leaves that match one character, and how they read it.
 use Rattle.std.proofs.Common.{◌≡◌, ◌==◌, ◌∙◌, ℕ, ◌+◌, Bool, true, false, List, ◌++◌, length, Option, Some, None, refl, sym, ap, subst, arith, append-nil, if◌then◌else◌}
 use Rattle.std.specs.Char.{IsScalar, len_utf8, encode_utf8}
 use Rattle.std.specs.Option.{option_map}
@@ -35,7 +35,7 @@ pub after_parts : (bytes : List ℕ) (k : ℕ) (read : Read) → read_after byte
 unfolding read_after
 after_parts bytes k read e = read_parts (character_at bytes k) k read e
 
--- Bytes that are the UTF-8 of one character.
+-- bytes that are the UTF-8 encoding of one character
 sole-is : (written : List ℕ) (o : Option Read) (c : ℕ) → up_to_place (length written) o ≡ Some c →
     (read : Read) × (o ≡ Some read) × (read.place ≡ length written) × (read.character ≡ c)
 sole-is written None c e = let bad : ⊥ = cc in absurd bad
@@ -79,7 +79,7 @@ sole-steps bytes d written s (Some c) e is =
     either forwards scalar = these_bytes-one bytes c scalar s
     either backwards scalar = these_bytes_before-one bytes c scalar s
 
--- A leaf that takes one character.
+-- a leaf that matches one character has the outcome after that character, if it passes the test
 pub takes_one-steps : (setting : Setting) (bytes : List ℕ) (d : Direction) (t : Tree) (s : State) → takes_one t ≡ true →
     steps setting bytes d t s ≡ one_character d (of_bytes bytes) (test_of t) s
 takes_one-steps setting bytes d (leaf (char c)) s is = refl

@@ -1,4 +1,4 @@
--- Two nodes of a row that is cut between them, each changed in its half.
+-- Two nodes of a list that is split between them, each changed in its half.
 use Rattle.std.proofs.Common.{◌≡◌, ℕ, ◌-◌, ◌<◌, true, List, [], ◌++◌, map, length, get_or, set, length-append, Result, Ok, Err, sym, ap, ap₂, ◌∙◌, arith}
 use Rattle.std.specs.Prelude.{OnOk, OnErr}
 use Rattle.std.proofs.Math.Seq.{map-set_same}
@@ -67,7 +67,7 @@ module _ (all front back : List Node) (i k : ℕ) (have : HaveBytes i k (map tre
         ∙ ap₂ (λ (t u : Tree). set (set (map tree all) i t) k u) none
         (both ∙ ap₂ (λ (t u : Tree). written (joined d (bytes_of t) (bytes_of u))) (sym part_at-first) (sym part_at-second))
 
--- what holds where a call succeeds, or fails, from two facts
+-- two facts about success, or about failure, give a third
 pub on_ok_both : {T E P Q R : Type 0} (r : Result T E) → (P → Q → R) → OnOk r P → OnOk r Q → OnOk r R
 on_ok_both (Ok x) both p q = both p q
 on_ok_both (Err e) both p q = tt

@@ -1,4 +1,4 @@
--- A character as bytes, and a set of ASCII as a set of bytes.
+-- A character as bytes, and a set of ASCII characters as a set of bytes.
 use Rattle.std.proofs.Common.{◌≡◌, ℕ, ◌≤◌, ◌==◌, Bool, true, false, if◌then◌else◌, Some, None, List, [], ◌∷◌, Vec, Global, nat_le, refl, sym, subst, append-nil, arith}
 use Rattle.std.specs.Char.{IsScalar, encode_utf8}
 use Rattle.std.proofs.lemmas.Bool.{leb-true}
@@ -74,7 +74,7 @@ module _ (d : Direction) (members : List ℕ) where
   set_less : IsLess (leaf (byte_set members)) (leaf (char_set members))
   set_less = IsLess-lighter _ _ (omega arith) (omega arith)
 
-  -- as `ascii` finds the bytes
+  -- the bytes that `ascii` returns obey the law
   pub set_lawful : (bytes : Vec ℕ Global) → Some bytes.items ≡ (if is_ascii members then Some members else None) →
       ObeysLaw is_formed_away true d (leaf (char_set members)) (leaf (char_set members)) (Replace (ByteSet bytes))
   set_lawful bytes found =

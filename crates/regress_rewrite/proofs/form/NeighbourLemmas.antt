@@ -10,7 +10,7 @@ use Rattle.regress_tree.specs.Tree.{Tree, row, tree}
 use Rattle.regress_rewrite.specs.Formed.{part_at, HaveBytes, joined_at, JoinsSome, JoinsBytes}
 use Rattle.regress_rewrite.proofs.form.PartLemmas.{HasGap, HasGap-none, join_gap, join_more, join_first}
 
--- whether there are neighbours with bytes from a place on
+-- whether there are neighbours with bytes from an index on
 abbrev has_more : ℕ → List Tree → Bool
 has_more i ts = has_neighbours has_bytes (row (drop i ts))
 
@@ -40,7 +40,7 @@ have_both i k ts have next =
     let here : both i ts ≡ true = and_from _ _ have.first (subst (λ j. has_bytes (part_at j ts) ≡ true) next have.second) in
     has_more-next ts i (omega (arith, have.within, next)) ∙ ap (λ b. b || has_more (suc i) ts) here
 
--- Forwards: what was made of the old list when the next pair ends at `i`, by whether something was joined.
+-- Forwards: the list when the next pair ends at `i`, by whether any were joined.
 
 abbrev pub ForwardSoFar : Bool → ℕ → (old now : List Tree) → Type 0
 ForwardSoFar true i old now = JoinsSome forwards (row old) (row now)
@@ -83,7 +83,7 @@ module _ (i : ℕ) (old now : List Tree) where
   forward_end false low end so_far =
       (ap row so_far.0, sym so_far.1 ∙ has_more-none old (i - 1) (omega (arith, low, end, ap length so_far.0)))
 
--- Backwards: what was made of the old list from the part `i` on, where the part `last` has the bytes of those before it.
+-- Backwards: the list from the part `i` on, where the part `last` has the bytes of those before it.
 
 abbrev pub BackwardSoFar : Bool → (i last : ℕ) → (old now : List Tree) → Type 0
 BackwardSoFar true i last old now = JoinsSome backwards (row old) (row now)
@@ -126,7 +126,7 @@ module _ (i last : ℕ) (old now : List Tree) (some : 1 ≤ i) where
   pub backward_gap : HaveBytes (i - 1) last now → HasGap i last now → HasGap (i - 1) last (joined_at backwards (i - 1) last now)
   backward_gap have gap = join_gap now (i - 1) last have (gap_before gap) backwards
 
--- What the tests on nodes say of the list of their trees.
+-- What the tests on nodes imply for the list of their trees.
 
 pub have_bytes : (nodes : List Node) (i k : ℕ) → i < k → k < length nodes →
     (has_bytes (part_at i (map tree nodes)) && has_bytes (part_at k (map tree nodes))) ≡ true → HaveBytes i k (map tree nodes)

@@ -13,13 +13,13 @@ use Rattle.regress_rewrite.proofs.laws.Keeps.{Keeps-trans}
 use Rattle.regress_tree.proofs.laws.Falling.{IsLess-trans}
 use Rattle.regress_rewrite.proofs.laws.Joining.{written, is_written, with_run, joined_keeps, joined_less}
 
--- A list as a row.
+-- A list as the parts of a `Cat`.
 
 row-replicate : (n : ℕ) (t : Tree) → row (replicate n t) ≡ copies n t
 row-replicate zero t = refl
 row-replicate (suc n) t = ap (more_trees t) (row-replicate n t)
 
--- From the earlier place up to the later one no part has bytes.
+-- From the earlier index up to the later one no part has bytes.
 
 abbrev pub HasGap : (earlier later : ℕ) → List Tree → Type 0
 HasGap i k ts = drop i ts ≡ replicate (k - i) (written []) ++ drop k ts
@@ -29,7 +29,7 @@ HasGap-none i ts =
     let none : i - i ≡ 0 = omega arith in
     sym (ap (λ m. replicate m (written []) ++ drop i ts) none)
 
--- Two parts, and parts without bytes between them.
+-- Two parts, with parts without bytes between them.
 
 module _ (front : List Tree) (n : ℕ) (behind : List Tree) where
   abbrev in_row : (x y : Tree) → List Tree
@@ -80,7 +80,7 @@ module _ (front : List Tree) (n : ℕ) (behind : List Tree) where
       (drop-append_seam front (replicate (suc n) (written []) ++ z ∷ behind)
       ∙ ap₂ (λ (m : ℕ) (us : List Tree). replicate m (written []) ++ us) (sym nones) (sym (ap (drop later) (regroup (written []) z) ∙ rest)))
 
-  -- where both parts have bytes, joining them keeps the row and makes it less
+  -- if both parts have bytes, joining them obeys the law and makes the list less
   module _ (d : Direction) (x y : Tree) (first : has_bytes x ≡ true) (second : has_bytes y ≡ true) where
     abbrev a : List ℕ
     a = bytes_of x
@@ -152,7 +152,7 @@ module _ (ts : List Tree) (j k : ℕ) (have : HaveBytes j k ts) (gap : HasGap (s
   pub join_gap : (d : Direction) → HasGap j k (joined_at d j k ts)
   join_gap d = at_split (λ i l us vs. HasGap i l vs) d (joined-gap front between behind d (part_at j ts) (part_at k ts))
 
-  -- a row that was joined already is joined further
+  -- a list with joined parts may be joined further
   pub join_more : (d : Direction) (old : Trees) → JoinsSome d old (row ts) → JoinsSome d old (row (joined_at d j k ts))
   join_more d old so_far = record {
     keeps = Keeps-trans d so_far.keeps (join_keeps d);

@@ -1,4 +1,4 @@
--- A side in the place of an `Alt` whose other side always fails.
+-- One side replaces an `Alt` whose other side always fails.
 use Rattle.std.proofs.Common.{◌≡◌, true, false}
 use Rattle.regress_tree.specs.NodeTests.{match_always_fails}
 use Rattle.regress_tree.specs.Reading.{Direction}

@@ -1,4 +1,4 @@
--- What is told of changes, one after another.
+-- Results about changes, composed.
 use Rattle.std.proofs.Common.{◌≡◌, Bool, true, false, ◌||◌, Result, Ok, Err, sym, ap, subst, ◌∙◌}
 use Rattle.std.specs.declared.alloc.AllocError.{AllocError}
 use Rattle.std.proofs.lemmas.Bool.{or_parts}
@@ -7,7 +7,7 @@ use Rattle.regress_tree.specs.Units.{IsLess}
 use Rattle.regress_tree.proofs.laws.Falling.{IsLess-trans}
 use Rattle.regress_rewrite.specs.Sweep.{TellsChange}
 
--- the answer of what follows a change, or none
+-- the result of a change and of what follows it
 abbrev pub joined : Bool → Result Bool AllocError → Result Bool AllocError
 joined a (Ok b) = Ok (a || b)
 joined a (Err e) = Err e

@@ -1,4 +1,4 @@
--- Sums that were checked.
+-- Checked sums.
 use Rattle.std.proofs.Common.{◌≡◌, ℕ, Option, Some, None, Ok}
 use Rattle.std.specs.Prelude.{SomeIff, alloc_error}
 use Rattle.std.specs.Option.{ok_or}

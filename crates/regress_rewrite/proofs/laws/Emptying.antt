@@ -1,4 +1,4 @@
--- What matches the empty text alone may become `Empty`.
+-- A node that matches only the empty text may become `Empty`.
 use Rattle.std.proofs.Common.{◌≡◌, true, false}
 use Rattle.regress_tree.specs.Reading.{Direction}
 use Rattle.regress_tree.specs.Shapes.{is_cat, is_emptied_away}

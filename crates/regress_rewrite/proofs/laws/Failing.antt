@@ -1,4 +1,4 @@
--- What fails by a part matches nothing, and becomes a set of nothing or the side that may match.
+-- A node that fails because a part of it does becomes an empty set, or the side that may match.
 use Rattle.std.proofs.Common.{◌≡◌, ℕ, zero, suc, ◌+◌, ◌≤◌, Bool, true, false, not, ◌||◌, inl, inr, List, [], ◌∷◌, ◌++◌, length, nat_le, Option, Some, None, refl, sym, ap, ap₂, subst, ◌∙◌, append-nil, arith}
 use Rattle.std.specs.Char.{IsScalar}
 use Rattle.std.specs.Prelude.{encode_utf8_all}
@@ -34,9 +34,9 @@ use Rattle.regress_rewrite.specs.declared.rewrite.PassAction.TheVariants.{Replac
 use Rattle.regress_rewrite.proofs.laws.Keeps.{Keeps-part}
 use Rattle.regress_rewrite.proofs.LawfulLemmas.{replace_lawful}
 
--- ---- what fails
+-- ---- nodes that fail
 
--- From no state is there an outcome; and it weighs at least so much.
+-- The tree has no outcome from any state, and its weight is at least `least`.
 pub record MatchesNothing (least : ℕ) (t : Tree) : Type 0 where
   pub none : (setting : Setting) (bytes : List ℕ) (d : Direction) (s : State) → steps setting bytes d t s ≡ []
   pub heavy : least ≤ weight t
@@ -73,7 +73,7 @@ node_fails (cat parts) is n p m = absurd (false≢true is)
 node_fails (alt left right) is n p m = absurd (false≢true is)
 node_fails (wrapped w body) is n p m = absurd (false≢true is)
 
--- a row with a part that fails
+-- a `Cat` with a part that fails
 
 flat_map-none : (f : Step) (states : List State) → ((s : State) → f s ≡ []) → flat_map f states ≡ []
 flat_map-none f [] none = refl
@@ -106,7 +106,7 @@ row_fails (more_trees t ts) some n p m = elim (cases_Bool (match_always_fails t)
       row_fails-later t ts (row_fails ts others n p (row_tail n t ts p m))
 ]
 
--- a loop of at least one turn
+-- a loop with at least one iteration whose body fails
 
 turns-none : (n : ℕ) → 1 ≤ n → (f : Step) → ((s : State) → f s ≡ []) → (s : State) → turns n f s ≡ []
 turns-none zero least f none s = absurd (omega (arith, least))
@@ -138,7 +138,7 @@ tree_fails (cat parts) other is part = row_fails parts is part.0 (last_of part.1
 tree_fails (alt left right) other is part = absurd (true≢false other)
 tree_fails (wrapped w body) other is part = wrapper_fails w body is part
 
--- ---- what stands for it
+-- ---- what replaces it
 
 pub parts_free : (t : Tree) → fails_by_part t ≡ true → (n : ℕ) (p : Position) → MayStand n t p → NotAsOneCharacter p
 parts_free (leaf l) is n p m = absurd (false≢true is)
@@ -149,7 +149,7 @@ parts_free (wrapped w body) is n p m = m.0
 no_member : (greatest : ℕ) (p : Position) → NotAsOneCharacter p → IsSmallSet [] greatest p
 no_member greatest p free = record { bounded = All-nil _; small = omega arith; some = AsOneCharacter-free p _ free }
 
--- it matches nothing wherever it may not be the body of a loop over one character, and is no bracket
+-- the leaf matches nothing, may appear wherever the body of a `Loop1CharBody` may not, and is no bracket
 record IsNothing (l : Leaf) : Type 0 where
   none : (setting : Setting) (bytes : List ℕ) (d : Direction) (s : State) → steps setting bytes d (leaf l) s ≡ []
   stands : (n : ℕ) (p : Position) → NotAsOneCharacter p → LeafMayStand n l p
@@ -183,7 +183,7 @@ nothing_keeps d t l nothing is free fails = record {
   brackets = λ lacks. nothing.other;
 }
 
--- an empty set of bytes stands for what fails by a part and has no capture group, if it is no `Alt`
+-- an empty set of bytes may replace a node that fails by a part, has no capture group and is no `Alt`
 pub fails_keeps : (d : Direction) (t : Tree) → is_alt t ≡ false → fails_by_part t ≡ true → has_group t ≡ false → IsPart t →
     Keeps d t (leaf (byte_set []))
 fails_keeps d t other is free part = nothing_keeps d t (byte_set []) no_byte_nothing is free (tree_fails t other is part)
@@ -198,7 +198,7 @@ module _ (d : Direction) (t left : Tree) (is : fails_by_part t ≡ true) (free :
       replace_lawful is_failed_away true d t (removed t is free) left node (subst (λ (u : Tree). Keeps d t u) (sym node_is) keeps)
       (subst (λ (u : Tree). IsLess u t) (sym node_is) is_less)
 
-  -- a set of nothing
+  -- an empty set
   fail_lawful : (node : Node) → tree node ≡ leaf (char_set []) → MatchesNothing 4 t → ObeysLaw is_failed_away true d t left (Replace node)
   fail_lawful node node_is fails =
       replaced (leaf (char_set [])) node node_is (nothing_keeps d t (char_set []) no_character_nothing is free fails)
@@ -260,7 +260,7 @@ module _ (d : Direction) (first second : Tree) where
             (left_keeps (fails_second second_is) (captures-free second frees.1)) (IsLess-part (left_of second) first)
       ]
 
--- the same of a tree that is one
+-- the same for a tree that is an `Alt`
 pub alt_lawful : (d : Direction) (t left first second : Tree) (node : Node) → t ≡ alt first second → fails_by_part t ≡ true →
     has_group t ≡ false → IsPart t → (match_always_fails first ≡ false → tree node ≡ first) →
     (match_always_fails first ≡ true → match_always_fails second ≡ false → tree node ≡ second) →

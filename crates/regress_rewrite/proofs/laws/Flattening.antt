@@ -1,4 +1,4 @@
--- Flattening keeps what a rewrite must keep, and makes the tree less.
+-- Flattening obeys the law, and makes the tree less.
 use Rattle.std.proofs.Common.{◌≡◌, ℕ, ◌<◌, ◌≤◌, Bool, true, false, ◌||◌, ◌++◌, inl, inr, refl, sym, ap, ap₂, subst, ◌∙◌, append-nil, arith, le_refl, List, Result, Ok, Err}
 use Rattle.std.specs.Prelude.{encode_utf8_all, IfOk}
 use Rattle.std.specs.declared.alloc.AllocError.{AllocError}
@@ -26,7 +26,7 @@ use Rattle.regress_rewrite.specs.Splice.{parts_of, spliced, Flattens}
 use Rattle.regress_rewrite.specs.Taken.{StandsAlone}
 use Rattle.regress_rewrite.proofs.LawfulLemmas.{alone_keeps, keep_lawful, modified_lawful, replace_lawful}
 
--- Where the parts may stand.
+-- Where the parts may appear.
 
 pub parts_of-stand : (n : ℕ) (t : Tree) (p : Position) → MayStand n t (last_of p) → RowMayStand n (parts_of t) (last_of p)
 parts_of-stand n (leaf l) p m = m
@@ -80,7 +80,7 @@ module _ (m : Measure) where
   total-spliced no_trees = le_refl _
   total-spliced (more_trees t ts) = omega (arith, total-append m (parts_of t) (spliced ts), total-parts_of t, total-spliced ts)
 
--- a test that no `Cat` passes finds what it found
+-- splicing keeps the result of a test that every `Cat` fails
 module _ (test : Tree → Bool) (no_cat : (ts : Trees) → test (cat ts) ≡ false) where
   some_node-parts_of : (t : Tree) → some_node_in_row test (parts_of t) ≡ some_node test t
   some_node-parts_of (leaf l) = or-false _
@@ -93,7 +93,7 @@ module _ (test : Tree → Bool) (no_cat : (ts : Trees) → test (cat ts) ≡ fal
   some_node-spliced (more_trees t ts) =
       some_node-append test (parts_of t) (spliced ts) ∙ ap₂ ◌||◌ (some_node-parts_of t) (some_node-spliced ts)
 
--- where there is a `Cat`, the row becomes lighter
+-- splicing a list with a `Cat` reduces its weight
 weight-less : (ts : Trees) → has_cat ts ≡ true → total_in_row weights (spliced ts) < total_in_row weights ts
 weight-less no_trees some = absurd (false≢true some)
 weight-less (more_trees (cat parts) ts) some = omega (arith, total-append weights parts (spliced ts), total-spliced weights ts)

@@ -1,4 +1,4 @@
--- Where the bytes of two parts of a row are joined, with none between them, the row keeps what a rewrite must keep and is less.
+-- Joining the bytes of two parts, with none between them, obeys the law and makes the list less.
 use Rattle.std.proofs.Common.{◌≡◌, ◌≢◌, ℕ, zero, suc, ◌+◌, true, ◌||◌, List, [], ◌∷◌, ◌++◌, flat_map, length, refl, sym, ap, ap₂, ◌∙◌, append-nil, arith, length-append}
 use Rattle.std.specs.Prelude.{encode_utf8_all}
 use Rattle.std.specs.Char.{IsScalar}
@@ -54,7 +54,7 @@ module _ (setting : Setting) (bytes : List ℕ) (d : Direction) where
   steps-nones zero ts s = refl
   steps-nones (suc k) ts s = none_first (row_append (copies k (written [])) ts) s ∙ steps-nones k ts s
 
--- A row with two parts that have these bytes, and parts without bytes between them.
+-- A list with two parts that have these bytes, and parts without bytes between them.
 module _ (before behind : Trees) (k : ℕ) where
   abbrev pub run : (a b : List ℕ) → Trees
   run a b = more_trees (written a) (row_append (copies k (written [])) (more_trees (written b) behind))
@@ -82,7 +82,7 @@ module _ (before behind : Trees) (k : ℕ) where
           ∙ ap (λ f. flat_map f (steps_in_row setting bytes d before s)) (fun_ext steps-run)
           ∙ sym (steps-append setting bytes d before (run a b) s)
 
--- Where it may stand.
+-- Where it may appear.
 
 AreUtf8-none : (p : Position) → AreUtf8 [] (last_of p)
 AreUtf8-none p = record { characters = []; are_scalar = All-nil IsScalar; encoded = refl; one = AsOneCharacter-free (last_of p) _ (last_of-free p) }

@@ -1,4 +1,4 @@
--- What rewriting keeps, composed: one change after another, and a change of a part in the whole.
+-- What the law requires, composed: of two changes in sequence, and of a part in the whole.
 use Rattle.std.proofs.Common.{◌≡◌, ◌∙◌, refl, sym, le_refl, le_trans, append-nil, arith}
 use Rattle.std.specs.Prelude.{encode_utf8_all}
 use Rattle.regress_tree.specs.Reading.{Direction}
@@ -38,7 +38,7 @@ Keeps-put p d a = record {
   brackets = LacksShape-put is_simplified_away p _ _ (on_leaf-put _ p _ ∙ sym (on_leaf-put _ p _)) a.brackets;
 }
 
--- a part in the place of the whole
+-- a part may replace the whole
 pub Keeps-part : (p : Place) (d : Direction) (t : Tree) → MeansTheSame d (put p t) t → StandsWhere (put p t) t →
     captures t ≡ captures (put p t) → Keeps d (put p t) t
 Keeps-part p d t meaning stands captures = record {
@@ -49,7 +49,7 @@ Keeps-part p d t meaning stands captures = record {
   brackets = LacksShape-whole is_simplified_away p t;
 }
 
--- what stands for a `Cat` of no part, and of one
+-- what may replace a `Cat` of no part, and of one
 pub Keeps-no_part : (d : Direction) → Keeps d (cat no_trees) (leaf empty)
 Keeps-no_part d = record {
   meaning = λ setting text is_text. Alike-from_same (λ s. refl);

@@ -1,4 +1,4 @@
--- The sweep of a row of nodes, part by part.
+-- The traversal of a list of parts, part by part.
 use Rattle.std.proofs.Common.{◌≡◌, ℕ, ◌+◌, ◌<◌, ◌≤◌, Bool, List, [], ◌∷◌, ◌++◌, length, take, drop, get_or, set, Result, Ok, suc, sym, ap, subst, ◌∙◌, arith}
 use Rattle.std.specs.declared.alloc.AllocError.{AllocError}
 use Rattle.std.proofs.Math.Bool.{or-false}
@@ -18,13 +18,13 @@ use Rattle.regress_rewrite.proofs.laws.Keeps.{IsPart-kept, IsPart-part}
 use Rattle.regress_rewrite.proofs.laws.Changes.{joined}
 use Rattle.regress_rewrite.proofs.SweepLemmas.{Swept-put, Swept-then}
 
--- what the sweep of the row `initial` has made of it when it has come to part `i`
+-- the traversal of the parts `initial`, when it has reached part `i`
 abbrev pub PartsSwept : (Tree → Bool) → Bool → Direction → List Node → List Node → ℕ → Result Bool AllocError → Type 0
 PartsSwept shape exact d initial now i =
     Swept (RowLacksShape shape (trees initial)) (RowLacksShape shape (trees (take i now))) exact d (cat (trees initial)) (cat (trees now))
 
 module _ (now : List Node) (i : ℕ) (in_row : i < length now) where
-  -- where part `i` stands
+  -- where part `i` is
   abbrev pub place : Place
   place = among (trees (take i now)) (trees (drop (suc i) now))
 
@@ -34,7 +34,7 @@ module _ (now : List Node) (i : ℕ) (in_row : i < length now) where
   put_there : (node : Node) → cat (trees (in_place node)) ≡ put place (tree node)
   put_there node = ap cat (trees-append (take i now) (node ∷ drop (suc i) now))
 
-  -- the row with another node there
+  -- the list with another node at `i`
   pub row_set : (new : Node) → cat (trees (set now i new)) ≡ put place (tree new)
   row_set new = ap (λ nodes. cat (trees nodes)) (set_split now i new in_row) ∙ put_there new
 
@@ -76,7 +76,7 @@ module _ (now : List Node) (i : ℕ) (in_row : i < length now) where
           let there = Swept-put exact place d here in
           Swept-then exact d so_far (rw (row_at, row_set new) there) part_lacks more_lack
 
--- what is behind the part is still as it was
+-- the parts after `i` are unchanged
 pub unvisited-next : (now initial : List Node) (i : ℕ) (new : Node) → drop i now ≡ drop i initial →
     drop (i + 1) (set now i new) ≡ drop (i + 1) initial
 unvisited-next now initial i new same =

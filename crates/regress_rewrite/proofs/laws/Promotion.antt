@@ -1,4 +1,4 @@
--- Promotion keeps what a rewrite must keep, and makes the loop less.
+-- Promotion obeys the law, and makes the loop less.
 use Rattle.std.proofs.Common.{ℕ, ◌+◌, true, length, refl, ap, arith}
 use Rattle.std.specs.Prelude.{encode_utf8_all, IfOk, Result, Ok, Err}
 use Rattle.std.specs.declared.alloc.AllocError.{AllocError}
@@ -20,7 +20,7 @@ use Rattle.regress_rewrite.specs.Promote.{Promotes}
 use Rattle.regress_rewrite.proofs.LawfulLemmas.{keep_lawful, replace_lawful}
 
 module _ (d : Direction) (q : Quantifier) (start end : ℕ) (body : Tree) where
-  -- where the body may stand in a loop over one character
+  -- promotion obeys the law if the body may appear in a `Loop1CharBody`
   pub promoted_keeps : ((n : ℕ) → MayStand n body inside → MayStand n body one_character) → IsPart (wrapped (loop q start end) body) →
       Keeps d (wrapped (loop q start end) body) (wrapped (loop_one q) body)
   promoted_keeps stands part =

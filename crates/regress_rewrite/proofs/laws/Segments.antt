@@ -1,4 +1,4 @@
--- A segment of a row in the place of another, and parts that may be left out.
+-- Replacing a segment of a list of parts, and leaving parts out.
 use Rattle.std.proofs.Common.{◌≡◌, ℕ, true, List, [], ◌++◌, refl, sym, ap, ◌∙◌, subst, arith}
 use Rattle.std.proofs.lemmas.Bool.{or_parts, false≢true}
 use Rattle.std.specs.Prelude.{encode_utf8_all}
@@ -50,7 +50,7 @@ module _ (d : Direction) (u : Tree) (us vs : Trees) (keeps : Keeps d (cat (more_
         ≡ captures_in_row xs ++ (captures_in_row ts ++ captures_in_row zs)
     captures-apart ts = captures-append xs (row_append ts zs) ∙ ap (λ cs. captures_in_row xs ++ cs) (captures-append ts zs)
 
-    -- whatever stands before it and behind it
+    -- a segment may be replaced whatever is before and after it
     pub Keeps-segment : Keeps d (cat was) (cat is)
     Keeps-segment = record {
       meaning = λ setting text is_text. Alike-trans (Alike-from_same (apart setting (encode_utf8_all text) (more_trees u us)))
@@ -85,7 +85,7 @@ pub is_empty-leaf : (t : Tree) → is_empty t ≡ true → t ≡ leaf empty
 is_empty-leaf (leaf empty) is = refl
 is_empty-leaf t is = absurd (false≢true is)
 
--- a part that matches the empty text alone and captures nothing may be left out
+-- a part may be left out if it matches only the empty text and has no group
 Keeps-none : (d : Direction) (t : Tree) →
     ((setting : Setting) (bytes : List ℕ) (s : State) → steps setting bytes d t s ≡ stay s) → captures t ≡ [] →
     Keeps d (cat (more_trees t no_trees)) (cat no_trees)

@@ -1,4 +1,4 @@
--- The way down the right sides of alternatives, and up again.
+-- Descending the right sides of alternatives, and ascending again.
 use Rattle.std.proofs.Common.{◌≡◌, ℕ, ◌+◌, ◌-◌, ◌<◌, Bool, false, ◌||◌, Result, Ok, sym, ap, ap₂, subst, ◌∙◌, arith}
 use Rattle.std.proofs.lemmas.Bool.{or_parts}
 use Rattle.std.specs.declared.alloc.AllocError.{AllocError}
@@ -15,7 +15,7 @@ use Rattle.regress_rewrite.proofs.laws.Changes.{joined}
 use Rattle.regress_rewrite.proofs.SweepLemmas.{Swept-put, Swept-then, Swept-same}
 use Rattle.regress_tree.proofs.laws.Measures.{LacksShape-here, LacksShape-inside, LacksShape-from}
 
--- What stands at the end of the way, and the whole.
+-- The last alternative, and the whole.
 
 pub IsPart-reattach : (above t : Tree) → IsPart (reattach above t) → IsPart t
 IsPart-reattach (leaf l) t part = part
@@ -23,7 +23,7 @@ IsPart-reattach (cat parts) t part = part
 IsPart-reattach (alt left above) t part = IsPart-part (right_of left) t (IsPart-reattach above (alt left t) part)
 IsPart-reattach (wrapped w body) t part = part
 
--- the two sides of what lacks a shape lack it
+-- if an alternation lacks a shape its two sides do
 sides_lack : (shape : Tree → Bool) (left right : Tree) → LacksShape shape (alt left right) → LacksShape shape left × LacksShape shape right
 sides_lack shape left right lacks = or_parts _ _ (LacksShape-inside shape (alt left right) lacks)
 
@@ -42,15 +42,15 @@ module _ (exact : Bool) (d : Direction) where
   Swept-reattach (wrapped w body) t u swept = swept
 
   module _ (shape : Tree → Bool) (old : Tree) where
-    -- what a whole that is still the old one lacks, its end lacks
+    -- if the whole is unchanged and lacks a shape, so does the last alternative
     end_lacks : (above t : Tree) → LacksShape shape old → reattach above t ≡ old → LacksShape shape t
     end_lacks above t lacks same = LacksShape-reattach shape above t (subst (λ (x : Tree). LacksShape shape x) (sym same) lacks)
 
-    -- what going down has made of the old tree, with the left sides above swept
+    -- the tree after a descent that has traversed the left sides above
     abbrev pub DownSwept : Tree → Tree → Result Bool AllocError → Type 0
     DownSwept above node = Swept (LacksShape shape old) (LeftsLackShape shape above) exact d old (reattach above node)
 
-    -- down: a left side is swept,
+    -- descending: a left side is traversed
     pub down_next : (changed : Bool) (answer : Result Bool AllocError) (node above rest top left left' right : Tree) →
         Shifted node above rest top → top ≡ alt left right → DownSwept above node (Ok changed) →
         SweptOf (LacksShape shape) exact d left left' answer → DownSwept (alt left' right) rest (joined changed answer)
@@ -63,7 +63,7 @@ module _ (exact : Bool) (d : Direction) where
         (λ lacks same. (sides_lack shape left rest (end_lacks right (alt left rest) lacks same)).0)
         (λ lefts this. (this, lefts))
 
-    -- and then the last alternative
+    -- descending: the last alternative is traversed
     pub down_last : (changed : Bool) (answer : Result Bool AllocError) (above node node' : Tree) → DownSwept above node (Ok changed) →
         SweptOf (LacksShape shape) exact d node node' answer →
         Swept (LacksShape shape old) (LacksShape shape node' × LeftsLackShape shape above) exact d old (reattach above node')
@@ -71,12 +71,13 @@ module _ (exact : Bool) (d : Direction) where
     down_last changed answer above node node' so_far here =
         Swept-then exact d so_far (Swept-reattach above node node' here) (end_lacks above node) (λ lefts this. (this, lefts))
 
-    -- what going up has made of the old tree: if it was clean at the start, what is rewritten is, and the left sides above
+    -- the tree after an ascent: if it lacked the shape at the start, so do the rewritten alternatives and the left
+    -- sides above
     abbrev pub UpSwept : Type 0 → Tree → Tree → Result Bool AllocError → Type 0
     UpSwept start above node =
         Swept (LacksShape shape old) (start → LacksShape shape node × LeftsLackShape shape above) exact d old (reattach above node)
 
-    -- up: the next alternative is rewritten
+    -- ascending: the next alternative is rewritten
     pub up_next : (start : Type 0) (changed : Bool) (answer : Result Bool AllocError) (above node rest here made : Tree) →
         Shifted above node rest here → UpSwept start above node (Ok changed) →
         SweptOf (λ t. shape t ≡ false) exact d here made answer → UpSwept start rest made (joined changed answer)
@@ -91,7 +92,7 @@ module _ (exact : Bool) (d : Direction) where
         let lacks = LacksShape-from shape next (ap₂ ◌||◌ parts.1.0 parts.0) (sym (ap shape this.1) ∙ this.0) in
         (subst (λ (x : Tree). LacksShape shape x) (sym this.1) lacks, parts.1.1))
 
--- a left side on the way down, which is smaller than the whole
+-- a left side on the descent, which is smaller than the whole
 module _ (node above rest top left right : Tree) (shifted : Shifted node above rest top) (is : top ≡ alt left right) where
   pub sides : node ≡ alt left rest
   sides =
@@ -107,14 +108,14 @@ module _ (node above rest top left right : Tree) (shifted : Shifted node above r
       let here = subst (λ (t : Tree). IsPart t) sides (IsPart-reattach above node (IsPart-kept d keeps part)) in
       IsPart-part (left_of rest) left here
 
--- how many alternatives there are above
+-- the number of alternatives above
 pub levels_down : (n : ℕ) (node above rest top : Tree) → Shifted node above rest top → n ≡ spine_length above → n + 1 ≡ spine_length top
 levels_down n node above rest top shifted levels = ap (λ k. k + 1) levels ∙ ap spine_length (sym shifted.is)
 
 pub levels_up : (n : ℕ) (above node rest here : Tree) → Shifted above node rest here → n ≡ spine_length above → n - 1 ≡ spine_length rest
 levels_up n above node rest here shifted levels = omega (arith, levels, ap spine_length shifted.was)
 
--- the part that is rewritten next
+-- the node that is rewritten next is part of a well-formed tree
 pub IsPart-up : (d : Direction) (old above node rest here : Tree) → Shifted above node rest here → Keeps d old (reattach above node) →
     IsPart old → IsPart here
 IsPart-up d old above node rest here shifted keeps part =

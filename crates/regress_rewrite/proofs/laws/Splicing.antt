@@ -1,4 +1,4 @@
--- Rows spliced, joined and counted.
+-- Lists of parts: spliced, appended and counted.
 use Rattle.std.proofs.Common.{◌≡◌, ◌+◌, false, List, [], ◌∷◌, map, length, refl, sym, ap, ap₂, true≢false, ◌∙◌, arith}
 use Rattle.std.proofs.lemmas.Bool.{or_parts}
 use Rattle.std.proofs.lemmas.List.{length-map}
@@ -30,7 +30,7 @@ parts_of-other (cat parts) other = absurd (true≢false other)
 parts_of-other (alt left right) other = refl
 parts_of-other (wrapped w body) other = refl
 
--- without a `Cat` splicing leaves the row as it is
+-- splicing a list without a `Cat` changes nothing
 pub spliced-same : (ts : Trees) → has_cat ts ≡ false → spliced ts ≡ ts
 spliced-same no_trees none = refl
 spliced-same (more_trees t ts) none =

@@ -1,4 +1,4 @@
--- Unrolling keeps what a rewrite must keep, and makes the tree less.
+-- Unrolling obeys the law, and makes the tree less.
 use Rattle.std.proofs.Common.{◌≡◌, ℕ, zero, suc, ◌+◌, ◌-◌, ◌*◌, ◌≤◌, Bool, true, false, ◌||◌, inl, inr, List, [], ◌∷◌, ◌++◌, length, Option, Some, None, refl, sym, ap, ap₂, ◌∙◌, append-nil, flat_map, mul-le-mul, arith}
 use Rattle.std.specs.Prelude.{encode_utf8_all}
 use Rattle.std.specs.Option.{option_eq}
@@ -31,7 +31,7 @@ use Rattle.regress_rewrite.specs.Law.{IsPart, Keeps, ObeysLaw}
 use Rattle.regress_rewrite.specs.Unroll.{further_turns, further_loop, unrolled, unrolled_loop}
 use Rattle.regress_rewrite.proofs.LawfulLemmas.{modified_lawful}
 
--- The turns that may follow the least number.
+-- The iterations that may follow the minimum.
 
 more_turns-further : (bound least : ℕ) (max : Option ℕ) (greedy : Bool) →
     more_turns bound (further_turns (record { min = least; max = max; greedy = greedy }))
@@ -45,7 +45,7 @@ more_turns-none : (bound least : ℕ) (max : Option ℕ) (greedy : Bool) →
 more_turns-none bound least None greedy none = absurd (false≢true none)
 more_turns-none bound least (Some max) greedy none = omega (arith, eqb-true (max - least) 0 none)
 
--- what `==` tells of the greatest number
+-- the test that the maximum is 0, as `==` computes it
 pub is_zero-told : (max : Option ℕ) → is_zero max ≡ option_eq eqb max (Some 0)
 is_zero-told None = refl
 is_zero-told (Some n) = refl
@@ -55,7 +55,7 @@ pub IsQuantifier-further : (least : ℕ) (max : Option ℕ) (greedy : Bool) →
 IsQuantifier-further least None greedy = tt
 IsQuantifier-further least (Some max) greedy = omega arith
 
--- What a loop has that may be unrolled.
+-- The conditions under which a loop is unrolled.
 pub record MayUnroll (q : Quantifier) (start end : ℕ) (body : Tree) : Type 0 where
   pub groupless : end ≤ start
   pub least : 1 ≤ q.min
@@ -83,7 +83,7 @@ MayUnroll-from q start end body may = by (has_loop body) refl (has_string_set bo
     }
 
 module _ (q : Quantifier) (start end : ℕ) (body : Tree) where
-  -- what holds of the row behind the copies, whether the loop is there or not
+  -- what holds of the parts after the copies, with and without a remaining loop
   pub with_further : (P : Trees → Type 0) → (is_zero (further_turns q).max ≡ true → P no_trees) →
       P (more_trees (wrapped (loop (further_turns q) start end) body) no_trees) → P (further_loop q start end body)
   with_further P none some = elim (cases_Bool (is_zero (further_turns q).max)) [
@@ -131,7 +131,7 @@ module _ (q : Quantifier) (start end : ℕ) (body : Tree) where
         ∙ ap₂ (λ (f g : Step). flat_map g (f s)) (steps-copies q.min) (fun_ext steps-further_loop)
         ∙ sym (steps-loop s)
 
-  -- Where it may stand, its groups and its size.
+  -- Where it may appear, its groups and its size.
 
   unrolled-stand : (n : ℕ) (p : Position) → MayStand n (wrapped (loop q start end) body) p → MayStand n (unrolled q start end body) p
   unrolled-stand n p m =
@@ -170,7 +170,7 @@ module _ (q : Quantifier) (start end : ℕ) (body : Tree) where
     one_loop : 1 ≤ loops (wrapped (loop q start end) body)
     one_loop = grind (arith, nat_tests)
 
-    -- the body may be copied
+    -- the body has no group, so it may be copied
     pub body_groupless : IsPart (wrapped (loop q start end) body) → HasNoGroup body
     body_groupless part = HasNoGroup-from part.0 body inside part.2.2 (captures-none start end body part.2.1.1 may.groupless)
 
@@ -201,7 +201,7 @@ module _ (q : Quantifier) (start end : ℕ) (body : Tree) where
       modified_lawful is_unrolled_away true d (wrapped (loop q start end) body) may (unrolled q start end body)
       (unrolled_keeps facts d part) (unrolled_less facts)
 
-  -- The node of the code: the copies, without the loop and with it.
+  -- The node that the code makes: the copies, without a loop and with it.
 
   module _ (parts : List Node) (copied : trees parts ≡ copies q.min body) where
     pub unrolled-without : is_zero (further_turns q).max ≡ true → cat (trees parts) ≡ unrolled q start end body
@@ -212,7 +212,7 @@ module _ (q : Quantifier) (start end : ℕ) (body : Tree) where
     unrolled-with further is some =
         rw some (ap cat (trees-append parts (further ∷ []) ∙ ap₂ (λ (ts : Trees) (t : Tree). row_append ts (more_trees t no_trees)) copied is))
 
--- The same of any node.
+-- The same for any node.
 
 pub loop_lawful : (d : Direction) (t new : Tree) → IsPart t → is_unrolled_away t ≡ true → new ≡ unrolled_loop t →
     ObeysLaw is_unrolled_away true d t new Modified

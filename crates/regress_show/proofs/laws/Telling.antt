@@ -1,4 +1,4 @@
--- The JSON of a pattern tells its flags and its tree, so no two patterns have the same.
+-- The JSON of a pattern determines its flags and its tree: no two patterns have the same JSON.
 use Rattle.std.proofs.Common.{◌≡◌, ◌∙◌, ℕ, ◌+◌, ◌==◌, ◌||◌, Bool, true, false, if◌then◌else◌, List, [], ◌++◌, refl, ap, codes}
 use Rattle.regress_base.specs.declared.types.Flags.{Flags}
 use Rattle.regress_tree.specs.Tree.{Leaf, empty, goal, char, byte_sequence, byte_set, char_set, match_any, match_any_except_line_terminator, anchor, word_boundary, bracket, back_ref, string_set, Wrapper, capture_group, loop, loop_one, lookaround, Tree, Trees, leaf, cat, alt, wrapped, no_trees, more_trees}
@@ -37,7 +37,7 @@ constructor_of (cat parts) = 1
 constructor_of (alt left right) = 2
 constructor_of (wrapped w body) = 3
 
--- the same by the name of the kind
+-- equality of kinds, by their names as numbers
 abbrev is_kind : List ℕ → List ℕ → Bool
 is_kind xs ys = code xs == code ys
 
@@ -88,8 +88,8 @@ further-goes_on n (cat parts) a = refl
 further-goes_on n (alt left right) a = refl
 further-goes_on n (wrapped w body) a = refl
 
--- What is proved of a tree by induction, of its text as a node, as alternatives behind another one, and of a row, whatever the
--- numbers of the first nodes.
+-- The induction hypotheses for a tree: its text as a node, as a further alternative, and in a list of parts, whatever
+-- the numbers of the first nodes are.
 abbrev Told : Tree → Type 0
 Told t = (u : Tree) (m n : ℕ) → NumbersFit t → NumbersFit u → Tells (node m t) (node n u) (t ≡ u)
 
@@ -123,7 +123,7 @@ alt-told l r left right (alt l' r') m n h k = gives (λ e. e.1)
     (more_items (start (codes "{\"kind\":\"Alt\",\"alternatives\":[")) (sides-told l r l' r' left right m n h k) (codes "}"))
 alt-told l r left right u m n h k = constructors-apart m n (alt l r) u refl
 
--- alternatives, and one alone
+-- several alternatives on one side, one on the other
 longer-told : (l r u : Tree) → Told l → (m n : ℕ) → NumbersFit (alt l r) → NumbersFit u →
     TellsIfClosed (further m (alt l r)) (codes "," ++ node n u) (alt l r ≡ u)
 longer-told l r u left m n h k =
@@ -175,7 +175,7 @@ pattern-told f g t u h k = gives (λ e. (e.0.1, e.1))
     (if_ended (flags-tell f g)) (codes ",\"node\":") refl)
     (if_ended ((tree-told t).0 u 0 0 h k)) (codes "}") refl)
 
--- whatever stands behind
+-- whatever follows
 pub json-tells_in_front : (f g : Flags) (t u : Tree) → NumbersFit t → NumbersFit u → (a b : List ℕ) →
     json_of f t ++ a ≡ json_of g u ++ b → ((f ≡ g) × (t ≡ u)) × (a ≡ b)
 json-tells_in_front f g t u h k a b e = (pattern-told f g t u h k).told a b e

@@ -1,4 +1,4 @@
--- There is a span for each node of the tree.
+-- There is exactly one span for each node of the tree.
 use Rattle.std.proofs.Common.{◌≡◌, ◌≢◌, ℕ, ◌+◌, ◌==◌, List, [], ◌∷◌, ◌++◌, length, Option, Some, None, refl, ap, arith}
 use Rattle.std.proofs.lemmas.Bool.{cond-false, ne_eqb}
 use Rattle.std.proofs.lemmas.List.{length-append, length-replicate}
@@ -111,7 +111,7 @@ module _ (whole : ℕ) where
               (tree_of_pattern ctx.setting.table ctx.names (direction_of_group kind d) (n + opened_by kind) p) (between whole t rest),
         )
       where
-        -- a group changes neither table nor names
+        -- A group changes neither the table nor the names.
         inside : {l : ℕ} (kind : Group) →
             l ≡ nodes (tree_of_pattern (context_inside kind ctx).setting.table (context_inside kind ctx).names (direction_of_group kind d)
             (n + opened_by kind) p) →

@@ -1,4 +1,4 @@
--- Neighbours share no code point: of any two parts one stands inside the other, or they stand apart.
+-- Of any two spans one is inside the other, or they are disjoint.
 use Rattle.std.proofs.Common.{ℕ, zero, suc, ◌≤◌, ◌==◌, Bool, true, false, cond, List, [], ◌∷◌, ◌++◌, length, replicate, Option, Some, None, arith}
 use Rattle.std.specs.List.{All, AllPairs}
 use Rattle.std.proofs.lemmas.List.Elements.{All-nil, All-cons, All-append, All-head, All-tail, All-replicate, All-weaker}
@@ -19,7 +19,7 @@ use Rattle.regress_spans.proofs.laws.Nesting.{AllBetween, itself, wider, item-sh
 
 -- ---- lists of spans
 
--- each of the first has this to each of the others
+-- the relation holds of each span of the first list with each span of the second
 abbrev Across : (Span → Span → Type 0) → List Span → List Span → Type 0
 Across R xs ys = All (λ s. All (R s) ys) xs
 
@@ -29,7 +29,7 @@ IsBefore s later = s.end ≤ later.start
 abbrev IsBehind : Span → Span → Type 0
 IsBehind s earlier = earlier.end ≤ s.start
 
--- as `AllPairs` says it, by recursion
+-- `AllPairs`, defined by recursion
 abbrev Nest : List Span → Type 0
 Nest [] = Unit {0}
 Nest (s ∷ ss) = All (IsInsideOrApart s) ss × Nest ss
@@ -45,7 +45,7 @@ joined (x ∷ xs) ys across h k = (
   joined xs ys (All-tail (λ s. All (IsInsideOrApart s) ys) x xs across) h.1 k,
 )
 
--- and nothing, or a span around all of them
+-- A list of nested spans without a span around it is nested.
 unwrapped : (xs : List Span) → Nest xs → Nest (xs ++ [])
 unwrapped [] h = tt
 unwrapped (x ∷ xs) h = (All-append (IsInsideOrApart x) xs [] h.0 (All-nil _), unwrapped xs h.1)
@@ -84,7 +84,7 @@ turned forwards xs ys to back h k =
 turned backwards xs ys to back h k =
     joined ys xs (All-weaker _ _ (λ y all. All-weaker (IsBehind y) (IsInsideOrApart y) (λ x lt. begins_behind lt) xs all) ys back) k h
 
--- ---- along the grammar
+-- ---- the grammar
 
 module _ (whole : ℕ) where
   apart : (t mid behind rest : Source) (xs ys : List Span) → length behind ≤ length mid →
@@ -99,14 +99,14 @@ module _ (whole : ℕ) where
       All-weaker (IsWithin (between whole behind rest)) _
       (λ y k. All-weaker (IsWithin (between whole t mid)) (IsBehind y) (λ x h. omega (arith, h.end, k.start, shorter)) xs hx) ys hy
 
-  -- a term has no code point of those behind it
+  -- A term shares no code point with the terms after it.
   pub term-before_others : (ctx : Context) (d : Direction) (x : Item) (q : Option Quantifier) (xs : Terms) (t rest : Source)
       (h : AreTerms ctx (more_terms x q xs) t rest) →
       Across IsBefore (spans_of_item whole ctx d x t h.0 h.2 ++ span_of_times q (between whole t h.1)) (spans_of_terms whole ctx d xs h.1 rest h.4)
   term-before_others ctx d x q xs t rest h =
       apart t h.1 h.1 rest _ _ (omega arith) (term-within whole ctx d x q xs t rest h) (terms-within whole ctx d xs h.1 rest h.4)
 
-  -- nor an alternative of those behind it
+  -- An alternative shares no code point with the alternatives after it.
   pub alternative-before_others : (ctx : Context) (d : Direction) (ts : Terms) (p : Pattern) (t rest : Source) (h : IsPattern ctx (either ts p) t rest) →
       Across IsBefore (spans_of_terms whole ctx d ts t (bar ∷ h.0) h.1 ++ span_of_row (how_many ts) (between whole t (bar ∷ h.0)))
       (spans_of_pattern whole ctx d p h.0 rest h.2)
@@ -148,7 +148,7 @@ module _ (whole : ℕ) where
         enclosed kind _ (between whole t rest) (inner-within whole ctx d kind p t rest h)
         (nest_of_pattern (context_inside kind ctx) (direction_of_group kind d) p h.0 (closing ∷ rest) h.2)
 
--- of a whole pattern
+-- The spans of a whole pattern are nested.
 pub all_nest : (setting : Setting) (source : Source) (p : Pattern) (derived : IsDerived setting source p) →
     AllPairs IsInsideOrApart (spans_of setting source p derived)
 all_nest setting source p derived =

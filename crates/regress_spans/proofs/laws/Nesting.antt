@@ -1,4 +1,4 @@
--- What stands inside a part has spans inside the part's own.
+-- The spans of a part of the pattern are inside the part's own span.
 use Rattle.std.proofs.Common.{ℕ, ◌≤◌, ◌==◌, Bool, true, false, cond, List, [], ◌∷◌, ◌++◌, length, Option, Some, None, ap, arith}
 use Rattle.std.specs.List.{All}
 use Rattle.std.proofs.lemmas.List.Elements.{All-nil, All-cons, All-append, All-replicate, All-weaker}
@@ -15,7 +15,7 @@ use Rattle.regress_parse.specs.Accepted.{own_context, IsDerived}
 use Rattle.regress_spans.specs.declared.span.Span.{Span}
 use Rattle.regress_spans.specs.Spans.{IsWithin, span_of_times, span_of_group, how_many, span_of_row, in_order, between, spans_of_pattern, spans_of_terms, spans_of_item, spans_of}
 
--- ---- what the grammar relates does not grow
+-- ---- the rest of a derivation is no longer than its source
 
 mutual
   pub pattern-shortens : (ctx : Context) (p : Pattern) (t rest : Source) → IsPattern ctx p t rest → length rest ≤ length t
@@ -43,7 +43,7 @@ mutual
       )
 
 module _ (whole : ℕ) where
-  -- all of these stand between the two places
+  -- all spans are between the two positions
   abbrev pub AllBetween : Source → Source → List Span → Type 0
   AllBetween t rest ss = All (IsWithin (between whole t rest)) ss
 
@@ -56,7 +56,7 @@ module _ (whole : ℕ) where
   both : (t rest : Source) (xs ys : List Span) → AllBetween t rest xs → AllBetween t rest ys → AllBetween t rest (xs ++ ys)
   both t rest xs ys = All-append (IsWithin (between whole t rest)) xs ys
 
-  -- what stands between two places stands between others around them
+  -- Spans between two positions are between positions further outside.
   pub wider : (t mid behind rest : Source) (ss : List Span) → length mid ≤ length t → length rest ≤ length behind →
       AllBetween mid behind ss → AllBetween t rest ss
   wider t mid behind rest ss front back =
@@ -84,7 +84,7 @@ module _ (whole : ℕ) where
   group-within (capture name) t rest shorter = alone t rest (between whole t rest) (itself t rest shorter)
   group-within (look negate direction) t rest shorter = alone t rest (between whole t rest) (itself t rest shorter)
 
-  -- ---- a part, from what is so of the parts inside
+  -- ---- a part, from its subparts
 
   row-around : (ctx : Context) (ts : Terms) (t rest : Source) → AreTerms ctx ts t rest → (ss : List Span) → AllBetween t rest ss →
       AllBetween t rest (ss ++ span_of_row (how_many ts) (between whole t rest))
@@ -111,7 +111,7 @@ module _ (whole : ℕ) where
   group-around ctx kind p t rest h ss =
       wider t h.0 (closing ∷ rest) rest ss (omega (arith, head_at-shortens ctx t (opens kind, h.0) h.1)) (omega arith)
 
-  -- ---- along the grammar
+  -- ---- the grammar
 
   mutual
     pub pattern-within : (ctx : Context) (d : Direction) (p : Pattern) (t rest : Source) (h : IsPattern ctx p t rest) →
@@ -157,7 +157,7 @@ module _ (whole : ℕ) where
   alternative-within ctx d ts t rest h =
       row-around ctx ts t rest h (spans_of_terms whole ctx d ts t rest h) (terms-within ctx d ts t rest h)
 
-  -- what stands inside the `Alt`
+  -- the spans inside an `Alt`
   pub alternatives-within : (ctx : Context) (d : Direction) (ts : Terms) (p : Pattern) (t rest : Source) (h : IsPattern ctx (either ts p) t rest) →
       AllBetween t rest
       (spans_of_terms whole ctx d ts t (bar ∷ h.0) h.1 ++ span_of_row (how_many ts) (between whole t (bar ∷ h.0))
@@ -168,21 +168,21 @@ module _ (whole : ℕ) where
       (spans_of_pattern whole ctx d p h.0 rest h.2)
       (alternative-within ctx d ts t (bar ∷ h.0) h.1) (pattern-within ctx d p h.0 rest h.2)
 
-  -- an item with its quantifier
+  -- the spans of an item with its quantifier
   pub term-within : (ctx : Context) (d : Direction) (x : Item) (q : Option Quantifier) (xs : Terms) (t rest : Source)
       (h : AreTerms ctx (more_terms x q xs) t rest) →
       AllBetween t h.1 (spans_of_item whole ctx d x t h.0 h.2 ++ span_of_times q (between whole t h.1))
   term-within ctx d x q xs t rest h =
       times-around ctx x q xs t rest h (spans_of_item whole ctx d x t h.0 h.2) (item-within ctx d x t h.0 h.2)
 
-  -- what stands in a group
+  -- the spans inside a group
   pub inner-within : (ctx : Context) (d : Direction) (kind : Group) (p : Pattern) (t rest : Source) (h : IsItem ctx (group kind p) t rest) →
       AllBetween t rest
       (spans_of_pattern whole (context_inside kind ctx) (direction_of_group kind d) p h.0 (closing ∷ rest) h.2)
   inner-within ctx d kind p t rest h =
       group-around ctx kind p t rest h _ (pattern-within (context_inside kind ctx) (direction_of_group kind d) p h.0 (closing ∷ rest) h.2)
 
--- of a whole pattern
+-- the spans of a whole pattern
 pub all_within : (setting : Setting) (source : Source) (p : Pattern) (derived : IsDerived setting source p) →
     All (IsWithin (record { start = 0; end = length source })) (spans_of setting source p derived)
 all_within setting source p derived =

@@ -1,4 +1,5 @@
--- What a source comes to at most: each group, loop and level takes a code point of it.
+-- The numbers of groups and loops and the nesting depth are at most the length of the source: each of them takes a code
+-- point.
 use Rattle.std.proofs.Common.{◌≡◌, ℕ, ◌+◌, ◌-◌, ◌≤◌, ◌<◌, max, Bool, true, false, ◌&&◌, ◌==◌, cond, ⊎_elim, List, [], ◌∷◌, ◌++◌, drop, length, Option, Some, None, refl, ap, arith}
 use Rattle.std.specs.Option.{option_to_list}
 use Rattle.std.proofs.lemmas.Option.{none-some, same_Some, cond_some}
@@ -16,16 +17,16 @@ use Rattle.regress_syntax.specs.Marks.{Mark, opens, captures, closes, next, nest
 use Rattle.regress_syntax.specs.Scan.{Mode, plain, escape, class, class_escape, opened_at, mode_behind, mark_at, marks, named_by, deepest}
 use Rattle.regress_syntax.proofs.ScanSets.{gives_class_set_at}
 
--- ---- rows
+-- ---- productions
 
--- a parenthesis opens one group at most
+-- A parenthesis opens at most one capture group.
 pub opened_by-one : (kind : Group) → opened_by kind ≤ 1
 opened_by-one grouping = omega arith
 opened_by-one (modified change) = omega arith
 opened_by-one (capture name) = omega arith
 opened_by-one (look negate direction) = omega arith
 
--- a quantifier takes a code point
+-- A quantifier takes at least one code point.
 pub times_at-takes : (ctx : Context) (allowed : Bool) (t : Source) (q : Quantifier) (rest : Source) → times_at ctx allowed t ≡ Some (Some q, rest) →
     length rest < length t
 unfolding times_at
@@ -59,7 +60,7 @@ one_named (Some closes) ms = omega arith
 one_named (Some next) ms = omega arith
 one_named (Some (nests levels)) ms = omega arith
 
--- no more groups than code points
+-- There are at most as many groups as code points.
 pub named_by-length : (sets : Bool) (table : Table) (m : Mode) (t : Source) → length (named_by (marks sets table m t)) ≤ length t
 unfolding marks
 named_by-length sets table m [] = omega arith
@@ -70,21 +71,21 @@ named_by-length sets table m (c ∷ t) =
       named_by-length sets table (mode_behind sets m c) t,
     )
 
--- how many levels of classes a scan has passed since it stands in a class
+-- the greatest depth that a scan has reached in the class that it is in
 abbrev passed : Mode → ℕ
 passed plain = 0
 passed escape = 0
 passed (class depth deepest) = deepest
 passed (class_escape depth deepest) = deepest
 
--- it stands in no more than it has passed
+-- The scan's depth is at most the greatest depth that it has reached.
 abbrev IsInside : Mode → Type 0
 IsInside plain = Unit {0}
 IsInside escape = Unit {0}
 IsInside (class depth deepest) = depth ≤ deepest
 IsInside (class_escape depth deepest) = depth ≤ deepest
 
--- from each number of open levels on, no more are reached than there are code points
+-- From every depth on, the marks nest at most k deeper.
 abbrev NoDeeper : ℕ → List Mark → Type 0
 NoDeeper k ms = (n : ℕ) → 1 ≤ n → deepest n ms ≤ n + k
 
@@ -106,7 +107,7 @@ class_deeper : (levels k : ℕ) (closed : Bool) (ms : List Mark) → levels ≤ 
 class_deeper levels k true ms few h n some = omega (arith, few, h n some)
 class_deeper levels k false ms few h n some = omega (arith, h n some)
 
--- the same of a source in whatever mode
+-- The same for a source of which the scan is in any mode: k is its length.
 abbrev AllNoDeeper : (sets : Bool) → Table → Source → Type 0
 AllNoDeeper sets table t = (m : Mode) → IsInside m → NoDeeper (passed m + length t) (marks sets table m t)
 
@@ -149,11 +150,11 @@ no_deeper sets table (c ∷ t) (class depth most) inside n some =
     )
 no_deeper sets table (c ∷ t) (class_escape depth most) inside n some = omega (arith, no_deeper sets table t (class depth most) inside n some)
 
--- no more levels than code points, beside the pattern's own
+-- The nesting depth is at most one more than the number of code points.
 pub deepest-length : (sets : Bool) (table : Table) (t : Source) → deepest 1 (marks sets table plain t) ≤ 1 + length t
 deepest-length sets table t = omega (arith, no_deeper sets table t plain tt 1 (omega arith))
 
--- so it is for what lies in a class
+-- The nesting depth of a class is at most the number of its code points.
 pub class_set_at-levels : (table : Table) → IsLawful table → (unicode : Bool) (t : Source) (x : (Bool × Value) × Source) →
     class_set_at table unicode t ≡ Some x → x.0.1.levels ≤ length t
 class_set_at-levels table lawful unicode t x e =

@@ -1,4 +1,4 @@
--- A parenthesis that closes nothing, or one that opens a level too many, stays so whatever stands behind it.
+-- An unmatched `)`, or a parenthesis past the limit of the nesting depth, is an error whatever follows it.
 use Rattle.std.proofs.Common.{◌≡◌, ℕ, suc, ◌+◌, ◌-◌, ◌<◌, ◌≤◌, max, Bool, true, false, cond, nat_le, eqb-true, zero, ◌==◌, ◌&&◌, List, [], ◌∷◌, ◌++◌, length, take, drop, Option, Some, None, unwrap_or, refl, sym, ap, ◌∙◌, arith, append_assoc, append-nil, option_to_list}
 use Rattle.std.proofs.lemmas.Bool.{false≢true}
 use Rattle.std.proofs.lemmas.Bool.Decides.{nat_tests}
@@ -24,7 +24,7 @@ use Rattle.regress_syntax.specs.Scanning.{noted, NotesFirst, IsLocated, OnRefusa
 
 -- ---- what the marks show
 
--- some mark closes nothing, where n levels are open
+-- some mark closes nothing, where n groups are open
 abbrev closes_nothing : ℕ → List Mark → Bool
 closes_nothing n [] = false
 closes_nothing n (Marks.opens ∷ ms) = closes_nothing (n + 1) ms
@@ -33,7 +33,7 @@ closes_nothing n (closes ∷ ms) = cond (n == 1) true (closes_nothing (max 1 (n 
 closes_nothing n (next ∷ ms) = closes_nothing n ms
 closes_nothing n (nests deep ∷ ms) = closes_nothing n ms
 
--- The marks show the flaw, where n levels are open.
+-- The marks show the flaw, where n groups are open.
 abbrev pub Shows : Flaw → ℕ → List Mark → Type 0
 Shows unopened n ms = closes_nothing n ms ≡ true
 Shows too_deep n ms = max_nesting_depth < deepest n ms
@@ -75,7 +75,7 @@ one_level_behind escape n c h = h
 one_level_behind (class depth most) n c h = h
 one_level_behind (class_escape depth most) n c h = h
 
--- What the marks behind a code point show, those from it on show too.
+-- What the marks after a code point show, the marks from it on show too.
 shows_step : (flaw : Flaw) (sets : Bool) (table : Table) (mode : Mode) (n c : ℕ) (t : Source) → is_flaw flaw sets mode n c ≡ false →
     Shows flaw (levels_behind mode n c) (marks sets table (mode_behind sets mode c) t) → Shows flaw n (marks sets table mode (c ∷ t))
 unfolding marks
@@ -136,7 +136,7 @@ left_within flaw sets mode n (c ∷ t) left e =
     by true within e = omega (arith, same_Some _ _ e)
     by false within e = omega (arith, within e)
 
--- The code points up to and with the first one show it, if that is no bracket: a class must still be closed.
+-- The code points up to the first flaw show it, if the flaw is no bracket: a class would still have to be closed.
 pub shows_front : (flaw : Flaw) (sets : Bool) (table : Table) (mode : Mode) (n : ℕ) (t : Source) (left k : ℕ) (behind : Source) → 1 ≤ n →
     left_at flaw sets mode n t ≡ Some left → k + left ≡ length t → is_at 91 (drop k t) ≡ false →
     Shows flaw n (marks sets table mode (take (suc k) t ++ behind))
@@ -207,15 +207,15 @@ mutual
       ∙ closes-pattern (n + 1) p (closes ∷ ms) (omega arith)
       ∙ closes-closed n ms h
 
--- The marks of a pattern within the limit of levels show neither.
+-- The marks of a pattern within the nesting limit show neither flaw.
 pub shows_none : (flaw : Flaw) (p : Pattern) → levels p ≤ max_nesting_depth → Shows flaw 1 (marks_of p) → ⊥
 shows_none unopened p few h =
     false≢true (sym (closes-pattern 1 p [] (omega arith)) ∙ ap (closes_nothing 1) (append-nil (marks_of p)) ∙ h)
 shows_none too_deep p few h = omega (arith, few, deepest-whole p, h)
 
--- ---- faults
+-- ---- errors
 
--- a fault keeps its kind
+-- An error keeps its kind when its position changes.
 pub located-kind : (misplaced : Misplaced) (fault : Fault) (P : FaultKind → Type 0) → OnKind fault P → OnKind (located misplaced fault) P
 located-kind misplaced (Refused r) P h = h
 located-kind misplaced (Memory e) P h = h

@@ -1,4 +1,4 @@
--- What stands behind a name and behind modifiers, and what a name is made of.
+-- The source that remains after a name or modifiers, and the characters of a name.
 use Rattle.std.proofs.Common.{◌≡◌, ◌≢◌, ℕ, zero, suc, ◌+◌, ◌<◌, Bool, true, false, cond, ◌==◌, [], ◌∷◌, length, drop, Some, arith}
 use Rattle.std.proofs.lemmas.Option.{none-some}
 use Rattle.std.specs.Char.{IsScalar}
@@ -14,7 +14,7 @@ use Rattle.regress_lexical.proofs.laws.Digits.{and_both}
 use Rattle.regress_lexical.proofs.laws.InRange.{Finds, finds_none, finds_some, finds_cond, finds_then, finds_map}
 use Rattle.regress_lexical.proofs.laws.Behind.{IsBehind, behind_same, behind_behind, behind_drop, behind_front, behind_shorter, Ends, ends_none, ends_some, ends_behind, ends_more, ends_then, ends_map, ends_cond, unicode_at-ends}
 
--- What is read of a character takes one code point at least.
+-- A character takes at least one code point.
 written_behind-ends : (c : ℕ) (t : Source) → Ends (written_at (c ∷ t)) t
 written_behind-ends c t =
     ends_cond (c == 92) _ _ t
@@ -67,9 +67,9 @@ modifiers_at-ends t =
     (behind_behind rest (behind_letters_off rest) _ (behind_letters_off-behind rest) (behind_drop 1 (behind_letters_off rest)))))
     (ends_none t)
 
--- ---- what a name is made of
+-- ---- the characters of a name
 
--- such a test passes scalar values alone
+-- Only scalar values pass the test.
 abbrev IsOfScalars : (ℕ → Bool) → Type 0
 IsOfScalars p = (c : ℕ) → p c ≡ true → IsScalar c
 
@@ -94,7 +94,7 @@ rest_of_name_by-text (suc n) table t =
     (λ x holds. finds_map IsText IsText (λ cs. x.0 ∷ cs) (rest_of_name_by n table x.1)
     (λ cs text. All-cons IsScalar x.0 cs holds text) (rest_of_name_by-text n table x.1)))
 
--- What may stand as a name: a text, and not an empty one.
+-- A valid name is a non-empty list of scalar values.
 pub record IsName (name : Name) : Type 0 where
   pub text : IsText name
   pub some : name ≢ []

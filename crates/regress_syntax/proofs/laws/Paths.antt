@@ -1,6 +1,6 @@
--- Where the groups of a list of marks stand: two of them are alternatives where any disjunction at all holds both in
--- different alternatives, wherever it stands in their paths. And by this rule more is refused than by one that compares the
--- numbers of alternatives alone, level by level, as the Rust crate does.
+-- It suffices to compare two paths from the outermost disjunction on: that decides whether any disjunction has two
+-- groups in different alternatives. This rule rejects at least the patterns that the Rust crate rejects, which compares
+-- only the numbers of the alternatives, level by level.
 use Rattle.std.proofs.Common.{◌≡◌, ℕ, ◌+◌, ◌<◌, ◌≤◌, Bool, true, false, not, ◌==◌, ◌&&◌, ◌||◌, List, [], ◌∷◌, ◌++◌, reverse, refl, sym, ap, ap₂, ◌∙◌, subst, arith, append_assoc}
 use Rattle.std.proofs.lemmas.Bool.{true≢false, and_parts, and_from, and_left, and_right, or_from, or_left, or_right, not_from_true, not_from_false, false_from_ne_true}
 use Rattle.std.proofs.lemmas.Bool.Decides.{nat_tests}
@@ -13,15 +13,15 @@ use Rattle.regress_syntax.specs.Paths.{Level, Path, Place, at_the_start, enter, 
 
 -- ---- any disjunction at all
 
--- the same disjunction, and different alternatives of it
+-- different alternatives of the same disjunction
 abbrev pub is_beside : Level → Level → Bool
 is_beside level other = level.opening == other.opening && not (level.alternative == other.alternative)
 
--- some disjunction holds both places, in different alternatives
+-- some disjunction has the two positions in different alternatives
 abbrev pub some_holds_both : Path → Path → Bool
 some_holds_both path other = list_any (λ level. list_any (is_beside level) other) path
 
--- a path from its outermost level on, around a level of it
+-- The reverse of a path, split at one of its levels.
 pub turned : (front outer : Path) (level : Level) → reverse (front ++ level ∷ outer) ≡ reverse outer ++ level ∷ reverse front
 turned front outer level =
     reverse-append front (level ∷ outer) ∙ ap (λ p. p ++ reverse front) (reverse-append (level ∷ []) outer)
@@ -29,17 +29,17 @@ turned front outer level =
 
 -- ---- numbers of parentheses
 
--- all are below n
+-- all numbers of parentheses in the path are less than n
 abbrev pub Below : ℕ → Path → Type 0
 Below n [] = Unit {0}
 Below n (level ∷ path) = (level.opening < n) × Below n path
 
--- none is
+-- all numbers of parentheses in the path are at least n
 abbrev pub From : ℕ → Path → Type 0
 From n [] = Unit {0}
 From n (level ∷ path) = (n ≤ level.opening) × From n path
 
--- they fall on the way outwards
+-- the numbers of parentheses decrease outwards
 abbrev Falls : ℕ → Path → Type 0
 Falls n [] = Unit {0}
 Falls n (level ∷ path) = (level.opening < n) × Falls level.opening path
@@ -61,7 +61,7 @@ higher_differs k m l = grind (arith, nat_tests, l)
 pub same_number : (k m : ℕ) → k ≡ m → (k == m) ≡ true
 same_number k m e = grind (arith, nat_tests, e)
 
--- one that is none of the others has none beside it
+-- A level with a greater number is in a different disjunction than every level of the path.
 none_beside : (level : Level) (path : Path) (n : ℕ) → n ≤ level.opening → Below n path → list_any (is_beside level) path ≡ false
 none_beside level [] n l h = refl
 none_beside level (other ∷ path) n l h =
@@ -72,7 +72,7 @@ beside_none level [] n l h = refl
 beside_none level (other ∷ path) n l h =
     or_from _ _ (and_left _ _ (lower_differs level.opening other.opening (omega (arith, l, h.0)))) (beside_none level path n l h.1)
 
--- Behind later parentheses nothing is beside what stood before.
+-- Levels of parentheses that are opened later can be dropped: no earlier level is in the same disjunction.
 drop_later : (path more outer : Path) (n : ℕ) → Below n path → From n more →
     some_holds_both path (more ++ outer) ≡ some_holds_both path outer
 drop_later [] more outer n h k = refl
@@ -81,7 +81,7 @@ drop_later (level ∷ path) more outer n h k =
     (list_any-append (is_beside level) more outer ∙ ap (λ b. b || list_any (is_beside level) outer) (beside_none level more n h.0 k))
     (drop_later path more outer n h.1 k)
 
--- No disjunction holds a place in two alternatives.
+-- No disjunction has one position in two alternatives.
 none_in_itself : (path : Path) (n : ℕ) → Falls n path → some_holds_both path path ≡ false
 none_in_itself [] n h = refl
 none_in_itself (level ∷ path) n h =
@@ -103,7 +103,7 @@ none_outside (level ∷ inner) outer n h =
     (below_end inner outer level.opening (below_from_falls level.opening (inner ++ outer) h.1)))
     (none_outside inner outer level.opening h.1)
 
--- ---- the outermost first
+-- ---- outermost first
 
 pub below_append : (n : ℕ) (path other : Path) → Below n path → Below n other → Below n (path ++ other)
 below_append n [] other h k = k
@@ -136,10 +136,10 @@ no_alternatives [] other n h k = refl
 no_alternatives (level ∷ path) [] n h k = refl
 no_alternatives (level ∷ path) (beside ∷ other) n h k = and_left _ _ (lower_differs level.opening beside.opening (omega (arith, h.0, k.0)))
 
--- ---- from one place to the next
+-- ---- from one position to the next
 
--- How a path stands to that of an earlier place, in front of whose pattern fewer than n parentheses were opened: both have
--- the outer part in common, and what this one has more was opened later; or they part at an alternative.
+-- How a path relates to that of an earlier position, before which fewer than n parentheses were opened. Either they
+-- have an outer part in common, and the other levels of this one were opened later, or they separate at an alternative.
 data Stands (old : Path) (n : ℕ) (now : Path) : Type 0 where
   shared : (inner outer more : Path) → old ≡ inner ++ outer → now ≡ more ++ outer → From n more → Stands old n now
   parted : (inner outer more : Path) (before here : Level) → old ≡ inner ++ before ∷ outer → now ≡ more ++ here ∷ outer →
@@ -193,7 +193,7 @@ module _ (old : Path) (n : ℕ) where
   stands_next now (parted inner outer more before here e f same less) =
       subst (λ p. Stands old n (next_alternative p)) (sym f) (parted_next inner outer more before here e same less)
 
-  -- ---- of two places
+  -- ---- two positions
 
   module _ (k : ℕ) (falls : Falls k old) (below : Below n old) where
     shared_alike : (inner outer more : Path) → old ≡ inner ++ outer → From n more →
@@ -233,9 +233,9 @@ module _ (old : Path) (n : ℕ) where
     alike now (parted inner outer more before here e f same less) =
         subst (λ p. are_alternatives (reverse old) (reverse p) ≡ some_holds_both old p) (sym f) (parted_alike inner outer more before here e same less)
 
--- ---- of all groups
+-- ---- all groups
 
--- Two groups of one name, in no disjunction at all in different alternatives.
+-- Two groups have the same name, and no disjunction at all has them in different alternatives.
 abbrev pub conflict_anywhere : CaptureAt → CaptureAt → Bool
 conflict_anywhere a b = same_name a.name b.name && not (some_holds_both a.path b.path)
 
@@ -281,13 +281,13 @@ apart_alike place (closes ∷ ms) h = apart_alike (record place { path = outside
 apart_alike place (next ∷ ms) h = apart_alike (record place { path = next_alternative place.path }) ms (falls_next _ place.path h)
 apart_alike place (nests levels ∷ ms) h = apart_alike place ms h
 
--- It is enough to compare paths from the outermost disjunction on: no other one holds both.
+-- Comparing paths from the outermost disjunction on finds all conflicts.
 pub apart_anywhere : (ms : List Mark) → are_apart (groups_by at_the_start ms) ≡ are_apart_anywhere (groups_by at_the_start ms)
 apart_anywhere ms = apart_alike at_the_start ms (omega arith, tt)
 
 -- ---- by the numbers of alternatives alone
 
--- the numbers agree on all levels that both have, the outermost first
+-- The numbers of the alternatives agree at each level that both paths have, outermost first.
 abbrev pub numbers_agree : Path → Path → Bool
 numbers_agree [] other = true
 numbers_agree (level ∷ path) [] = true
@@ -320,7 +320,8 @@ all_by_numbers_too g [] e = refl
 all_by_numbers_too g (other ∷ gs) e =
     let parts = and_parts _ _ e in and_from _ _ (by_numbers_too g other parts.0) (all_by_numbers_too g gs parts.1)
 
--- What is apart is so by the numbers alone too: a pattern that is accepted is accepted by that rule.
+-- Groups that do not conflict do not conflict by the numbers alone either: each accepted pattern is accepted by that
+-- rule too.
 pub apart_by_numbers : (gs : List CaptureAt) → are_apart gs ≡ true → are_apart_by_numbers gs ≡ true
 apart_by_numbers [] e = refl
 apart_by_numbers (g ∷ gs) e =

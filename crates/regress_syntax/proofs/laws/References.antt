@@ -1,4 +1,4 @@
--- References by number.
+-- Backreferences by number.
 use Rattle.std.proofs.Common.{◌≡◌, ℕ, nat_le, ◌∷◌, Some, ap, ◌∙◌}
 use Rattle.std.proofs.lemmas.Bool.{cond-true}
 use Rattle.std.proofs.lemmas.Option.{cond_some}

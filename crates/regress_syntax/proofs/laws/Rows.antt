@@ -1,4 +1,4 @@
--- What a row reads ends behind the front of the source.
+-- Each production leaves a suffix of the source.
 use Rattle.std.proofs.Common.{◌≡◌, ℕ, ◌<◌, nat_le, Bool, true, not, ◌&&◌, ◌||◌, ◌==◌, ⊎_elim, [], ◌∷◌, length, drop, Option, Some, None, is_some, refl, sym, ap, subst, arith, eqb-true}
 use Rattle.std.proofs.lemmas.Bool.{or_cases, and_parts}
 use Rattle.std.proofs.lemmas.Option.{none-some, same_Some, cond_some}
@@ -21,7 +21,7 @@ use Rattle.regress_classes.proofs.laws.Pieces.{property_at-ends, class_at-ends}
 use Rattle.regress_classes.proofs.laws.ClassSets.{class_set_at-ends}
 use Rattle.regress_lexical.proofs.laws.Sources.{Shortens, chosen, EachRow, no_more, ◌also◌, first_row-has}
 
--- what is found leaves the source from its first code point on, or from its second
+-- What is found leaves the source from its first code point on, or from its second.
 this-ends : {A : Type 0} (x : A) (t : Source) → Ends (Some (x, t)) t
 this-ends x t = ends_some (x, t) t (behind_same t)
 
@@ -66,7 +66,7 @@ module _ (ctx : Context) where
       ends_then (group_name_at ctx.setting.table t) _ t (group_name_at-ends ctx.setting.table t)
       (λ x. ends_cond (has_name x.0 ctx.names) _ _ x.1 (this-ends _ x.1) (ends_none x.1))
 
-  -- the backslash alone leaves the `c`
+  -- A literal backslash leaves the `c`.
   backslash-ends : (c : ℕ) (t : Source) (x : Atom) → is_lone_backslash ctx.setting.flags.unicode c t ≡ true → Ends (Some (x, 99 ∷ t)) (c ∷ t)
   backslash-ends c t x e =
       let unicode = ctx.setting.flags.unicode in
@@ -133,7 +133,7 @@ module _ (ctx : Context) where
   head_at-ends [] = ends_none []
   head_at-ends (c ∷ t) = ends_more _ c t (head_by-ends c t)
 
-  -- an item takes a code point at least
+  -- The start of an item takes at least one code point.
   pub head_at-shortens : (t : Source) (y : Head × Source) → head_at ctx t ≡ Some y → length y.1 < length t
   unfolding head_at
   head_at-shortens [] y e = absurd (none-some y e)
@@ -157,7 +157,7 @@ module _ (ctx : Context) where
   pub times_at-shortens : (allowed : Bool) → Shortens (times_at ctx allowed)
   times_at-shortens allowed t y e = behind_shorter t y.1 ((times_at-ends allowed t).each y e)
 
-  -- a quantifier that is read may stand there, and is ordered
+  -- A quantifier that is parsed is allowed, and its minimum is at most its maximum.
   pub times_at-ordered : (allowed : Bool) (t : Source) (q : Quantifier) (rest : Source) → times_at ctx allowed t ≡ Some (Some q, rest) →
       (allowed ≡ true) × (is_ordered q ≡ true)
   unfolding times_at
@@ -178,7 +178,7 @@ module _ (ctx : Context) where
           let both = and_parts allowed (is_ordered x.0) found.0 in
           (both.0, subst (λ r. is_ordered r ≡ true) (same_Some x.0 q (ap (λ (z : Option Quantifier × Source). z.0) found.1)) both.1)
 
-  -- no item begins where the alternative ends
+  -- No item begins where an alternative ends.
   pub no_head_at_end : (t : Source) → ends_alternative t ≡ true → head_at ctx t ≡ None
   unfolding head_at
   no_head_at_end [] e = refl

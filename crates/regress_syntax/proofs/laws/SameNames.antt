@@ -1,5 +1,5 @@
--- The rule on names, on the syntax tree, says of its groups what the parentheses and bars tell: of two groups of one name
--- some disjunction holds both in different alternatives.
+-- The rule for duplicate names, defined on the syntax tree, agrees with the one on the marks: some disjunction has each
+-- two groups of one name in different alternatives.
 use Rattle.std.proofs.Common.{◌≡◌, ℕ, ◌+◌, ◌≤◌, Bool, true, false, not, ◌&&◌, ◌||◌, List, [], ◌∷◌, ◌++◌, map, reverse, Option, refl, sym, ap, ap₂, ◌∙◌, arith, append_assoc, append-nil}
 use Rattle.std.proofs.lemmas.Bool.{and_right, and_from, or_left, not_from_false}
 use Rattle.std.proofs.lemmas.List.{map-append, reverse-append}
@@ -24,7 +24,7 @@ each_append : (P : CaptureAt → Type 0) (xs ys : List CaptureAt) → Each P xs 
 each_append P [] ys h k = k
 each_append P (g ∷ xs) ys h k = (h.0, each_append P xs ys h.1 k)
 
--- none of the first conflicts with one of the second
+-- no group of the first list conflicts with one of the second
 abbrev are_clear : List CaptureAt → List CaptureAt → Bool
 are_clear xs ys = list_all (λ g. list_all (λ other. not (conflict g other)) ys) xs
 
@@ -51,7 +51,7 @@ are_apart-append (g ∷ xs) ys =
     regroup true false true d e = refl
     regroup true true c d e = refl
 
--- in one alternative of all disjunctions that hold both, or in different ones of some
+-- whether some disjunction has the two groups in different alternatives
 abbrev AreAlternatives : Bool → CaptureAt → CaptureAt → Type 0
 AreAlternatives answer g other = are_alternatives (reverse g.path) (reverse other.path) ≡ answer
 
@@ -66,7 +66,8 @@ together-one g (y ∷ ys) h =
     regroup true b = refl
     regroup false b = refl
 
--- Groups that are together conflict where they share a name.
+-- If no disjunction has the groups of two lists in different alternatives, two of them conflict exactly if they share a
+-- name.
 together : (xs ys : List CaptureAt) → Each (λ g. Each (AreAlternatives false g) ys) xs →
     are_clear xs ys ≡ not (share_name (names_at xs) (names_at ys))
 together [] ys h = refl
@@ -86,9 +87,9 @@ in_alternatives : (xs ys : List CaptureAt) → Each (λ g. Each (AreAlternatives
 in_alternatives [] ys h = refl
 in_alternatives (x ∷ xs) ys h = and_from _ _ (apart-one x ys h.0) (in_alternatives xs ys h.1)
 
--- ---- where the groups of a part stand
+-- ---- the paths of the groups of a part
 
--- Below a path, in parentheses that are opened behind n others and within the first m.
+-- The group's path extends this path, by parentheses with numbers greater than n and at most m.
 abbrev IsIn : (n m : ℕ) → Path → CaptureAt → Type 0
 IsIn n m path g = (inner : Path) × (g.path ≡ inner ++ path) × From (n + 1) inner × Below (m + 1) inner
 
@@ -96,7 +97,7 @@ from_less : (n m : ℕ) (path : Path) → m ≤ n → From n path → From m pat
 from_less n m [] l h = tt
 from_less n m (level ∷ path) l h = (omega (arith, l, h.0), from_less n m path l h.1)
 
--- in a row, the one behind the parentheses of the other
+-- Groups of consecutive terms are not in different alternatives.
 row : (n k m : ℕ) (path : Path) (g other : CaptureAt) → IsIn n k path g → IsIn k m path other → AreAlternatives false g other
 row n k m path g other (inner, e, from, below) (inner', e', from', below') =
     ap₂ (λ a b. are_alternatives (reverse a) (reverse b)) e e'
@@ -104,12 +105,12 @@ row n k m path g other (inner, e, from, below) (inner', e', from', below') =
     ∙ same_front (reverse path) (reverse inner) (reverse inner')
     ∙ no_alternatives (reverse inner) (reverse inner') (k + 1) (below_reverse (k + 1) inner below) (from_reverse (k + 1) inner' from')
 
--- in an alternative of this disjunction, that of this number or a later one
+-- The group is in an alternative of this disjunction, with this number or a later one.
 abbrev IsFrom : (n m : ℕ) (outer : Path) (opening alternative : ℕ) → CaptureAt → Type 0
 IsFrom n m outer opening alternative g =
     (number : ℕ) × (alternative ≤ number) × IsIn n m (record { opening = opening; alternative = number } ∷ outer) g
 
--- in different alternatives
+-- Groups of two alternatives are in different alternatives.
 beside : (n k k' m : ℕ) (outer : Path) (opening alternative : ℕ) (g other : CaptureAt) →
     IsIn n k (record { opening = opening; alternative = alternative } ∷ outer) g → IsFrom k' m outer opening (alternative + 1) other →
     AreAlternatives true g other
@@ -122,7 +123,8 @@ beside n k k' m outer opening alternative g other (inner, e, from, below) (numbe
 abbrev at : Path → ℕ → Place
 at path n = record { path = path; opened = n }
 
--- What the marks of terms tell behind n parentheses: groups below the path, of these names, and whether they are apart.
+-- What the marks of a list of terms determine, after n parentheses: the paths of its groups, their names, and whether
+-- any conflict.
 record Row (path : Path) (n : ℕ) (ms : List Mark) (ns : List (Option Name)) (b : Bool) : Type 0 where
   found : List CaptureAt
   opened : ℕ
@@ -132,7 +134,7 @@ record Row (path : Path) (n : ℕ) (ms : List Mark) (ns : List (Option Name)) (b
   named : names_at found ≡ ns
   apart : are_apart found ≡ b
 
--- The same of alternatives, from one on.
+-- The same for a list of alternatives.
 record Choice (outer : Path) (opening first n : ℕ) (ms : List Mark) (ns : List (Option Name)) (b : Bool) : Type 0 where
   found : List CaptureAt
   opened : ℕ
@@ -156,7 +158,7 @@ parts_in_a_row xs ys zs rest found others a b c h k =
     ap (groups_by a) (append_assoc xs ys rest) ∙ h (ys ++ rest) ∙ ap (λ gs. found ++ gs) (k rest)
     ∙ sym (append_assoc found others (groups_by c rest))
 
--- terms behind a term
+-- a term, and the terms after it
 in_a_row : (path : Path) (n : ℕ) (xs ys : List Mark) (ns ms : List (Option Name)) (a b : Bool) → (first : Row path n xs ns a) →
     Row path first.opened ys ms b → Row path n (xs ++ ys) (ns ++ ms) (a && (not (share_name ns ms) && b))
 in_a_row path n xs ys ns ms a b first rest =
@@ -180,7 +182,7 @@ in_a_row path n xs ys ns ms a b first rest =
           rest.apart);
     }
 
--- one alternative, the last
+-- the last alternative
 only : (outer : Path) (opening first n : ℕ) (xs : List Mark) (ns : List (Option Name)) (a : Bool) →
     Row (record { opening = opening; alternative = first } ∷ outer) n xs ns a → Choice outer opening first n xs ns a
 only outer opening first n xs ns a r =
@@ -195,7 +197,7 @@ only outer opening first n xs ns a r =
       apart = r.apart;
     }
 
--- one alternative, and others behind a bar
+-- an alternative, and others after a `|`
 or_else : (outer : Path) (opening first n : ℕ) (xs ys : List Mark) (ns ms : List (Option Name)) (a b : Bool) →
     (r : Row (record { opening = opening; alternative = first } ∷ outer) n xs ns a) → Choice outer opening (first + 1) r.opened ys ms b →
     Choice outer opening first n (xs ++ next ∷ ys) (ns ++ ms) (a && b)
@@ -222,7 +224,7 @@ or_else outer opening first n xs ys ns ms a b r others =
           others.apart);
     }
 
--- the groups that a parenthesis opens at a path
+-- the group that a parenthesis opens at a path, if it captures
 abbrev own : Path → Group → List CaptureAt
 own path kind = map (λ name. record { path = path; name = name }) (names_of_group kind)
 
@@ -251,7 +253,7 @@ own_apart path (modified change) = refl
 own_apart path (capture name) = refl
 own_apart path (look negate direction) = refl
 
--- what stands in parentheses is below the path around them
+-- The path of a group inside parentheses extends the path outside.
 below_path : (path : Path) (n m : ℕ) → n + 1 ≤ m → (g : CaptureAt) → IsFrom (n + 1) m path (n + 1) 0 g → IsIn n m path g
 below_path path n m l g (number, later, (inner, e, from, below)) =
     let level : Level = record { opening = n + 1; alternative = number } in (
@@ -261,7 +263,7 @@ below_path path n m l g (number, later, (inner, e, from, below)) =
       below_append (m + 1) inner (level ∷ []) below (omega (arith, l), tt),
     )
 
--- parentheses with what they hold
+-- parentheses with their contents
 in_parentheses : (level : Level) (around : Path) (n : ℕ) (kind : Group) (ms : List Mark) (ns : List (Option Name)) (b : Bool) →
     Choice (level ∷ around) (n + 1) 0 (n + 1) ms ns b →
     Row (level ∷ around) n (mark_of_group kind ∷ ms ++ closes ∷ []) (names_of_group kind ++ ns) (not (share_name (names_of_group kind) ns) && b)
@@ -327,17 +329,18 @@ mutual
   of_item level around n (group kind p) =
       in_parentheses level around n kind _ _ _ (of_pattern (level ∷ around) (n + 1) 0 (n + 1) p)
 
--- The marks of a pattern tell whether its names are apart.
+-- The marks of a pattern decide whether its names conflict.
 pub apart_by_marks : (p : Pattern) → are_marks_apart (marks_of p) ≡ are_names_apart p
 apart_by_marks p =
     let all = of_pattern [] 0 0 0 p in
     ap are_apart (ap (groups_by at_the_start) (sym (append-nil (marks_of p))) ∙ all.split [] ∙ append-nil all.found) ∙ all.apart
 
--- The rule, of each two groups: names are apart where of each two groups of one name some disjunction holds both in
--- different alternatives.
+-- A pattern's names do not conflict exactly if some disjunction has each two groups of one name in different
+-- alternatives.
 pub apart_as_written : (p : Pattern) → are_names_apart p ≡ are_apart_anywhere (groups_by at_the_start (marks_of p))
 apart_as_written p = sym (apart_by_marks p) ∙ apart_anywhere (marks_of p)
 
--- Where names are apart they are so by the numbers of alternatives alone: what the rule accepts was accepted by that one.
+-- Names that do not conflict do not conflict by the numbers of alternatives alone: that rule accepts each pattern that
+-- this one accepts.
 pub apart_by_numbers_too : (p : Pattern) → NoneConflict p → are_apart_by_numbers (groups_by at_the_start (marks_of p)) ≡ true
 apart_by_numbers_too p h = apart_by_numbers (groups_by at_the_start (marks_of p)) (apart_by_marks p ∙ h)

@@ -1,4 +1,5 @@
--- A scan that knows no grammar gives the marks of each syntax tree that the grammar derives, and what they say of it.
+-- The scan finds the marks of every syntax tree that the grammar derives, and they determine its groups and nesting
+-- depth.
 use Rattle.std.proofs.Common.{◌≡◌, ℕ, ◌+◌, ◌-◌, ◌≤◌, max, Bool, List, [], ◌∷◌, ◌++◌, refl, sym, ap, ap₂, ◌∙◌, subst, arith, append_assoc, append-nil}
 use Rattle.regress_base.specs.Table.{Table, IsLawful}
 use Rattle.regress_lexical.specs.Source.{Source, closing, bar}
@@ -11,7 +12,7 @@ use Rattle.regress_syntax.specs.Marks as Marks
 use Rattle.regress_syntax.proofs.ScanRows.{gives_head_at, lead_times_at}
 use Rattle.regress_syntax.proofs.ScannerLemmas.{deepest_above}
 
--- ---- by the grammar
+-- ---- the grammar
 
 marks_behind_bar : (sets : Bool) (table : Table) (t : Source) → marks sets table plain (bar ∷ t) ≡ next ∷ marks sets table plain t
 unfolding marks
@@ -21,19 +22,19 @@ marks_behind_closing : (sets : Bool) (table : Table) (t : Source) → marks sets
 unfolding marks
 marks_behind_closing sets table t = refl
 
--- the marks of two parts in a row
+-- the marks of two consecutive parts
 joined : (xs ys rest : List Mark) {all behind : List Mark} → all ≡ xs ++ behind → behind ≡ ys ++ rest →
     all ≡ (xs ++ ys) ++ rest
 joined xs ys rest h k = h ∙ ap (λ zs. xs ++ zs) k ∙ sym (append_assoc xs ys rest)
 
--- what the marks ask of a context: the flag v and the table
+-- what the marks depend on in a context: the flag v and the table
 abbrev told : Context → Bool × Table
 told ctx = (ctx.setting.flags.unicode_sets, ctx.setting.table)
 
 abbrev marks_from : Bool × Table → Source → List Mark
 marks_from (sets, table) t = marks sets table plain t
 
--- a group changes other flags alone
+-- A group changes neither the flag v nor the table.
 same_told : (kind : Group) (ctx : Context) → told (context_inside kind ctx) ≡ told ctx
 same_told grouping ctx = refl
 same_told (modified change) ctx = refl
@@ -77,13 +78,13 @@ nothing_behind : (sets : Bool) (table : Table) → marks sets table plain [] ≡
 unfolding marks
 nothing_behind sets table = refl
 
--- whatever the rows were told of groups and names
+-- The scan finds the marks of the syntax tree, whatever the groups and names of the context are.
 pub gives_marks : (sets : Bool) (table : Table) (t : Source) → IsLawful table → GivesMarks sets table t
 gives_marks sets table t lawful ctx p flag same h =
     sym (marks_of_pattern (sets, table) lawful ctx p t [] (ap₂ (λ a b. (a, b)) flag same) h
     ∙ ap (λ ms. marks_of p ++ ms) (nothing_behind sets table) ∙ append-nil (marks_of p))
 
--- ---- by the syntax tree
+-- ---- the syntax tree
 
 named_by-append : (xs ys : List Mark) → named_by (xs ++ ys) ≡ named_by xs ++ named_by ys
 named_by-append [] ys = refl
@@ -111,7 +112,7 @@ named_by-group (capture name) ms = refl
 named_by-group (look negate direction) ms = refl
 
 mutual
-  -- the marks have the pattern's names
+  -- The marks have the names of the pattern's groups.
   pub named_by-pattern : (p : Pattern) → named_by (marks_of p) ≡ names p
   named_by-pattern (one ts) = named_by-terms ts
   named_by-pattern (either ts p) =
@@ -151,7 +152,7 @@ one_level (one ts) = omega arith
 one_level (either ts p) = omega arith
 
 mutual
-  -- where n levels are open, of which the pattern is one
+  -- The depth that a pattern's marks reach from depth n, in which the pattern is counted.
   deepest-pattern : (n : ℕ) (p : Pattern) (ms : List Mark) → 1 ≤ n → deepest n (marks_of p ++ ms) ≡ max (n - 1 + levels p) (deepest n ms)
   deepest-pattern n (one ts) ms h = omega (arith, deepest-terms n ts ms h)
   deepest-pattern n (either ts p) ms h =
@@ -188,7 +189,7 @@ mutual
         one_level p,
       )
 
--- the marks nest as deep as the pattern
+-- The greatest depth of a pattern's marks is its nesting depth.
 pub deepest-whole : (p : Pattern) → deepest 1 (marks_of p) ≡ levels p
 deepest-whole p =
     omega (arith, ap (deepest 1) (append-nil (marks_of p)), deepest-pattern 1 p [] (omega arith), one_level p)

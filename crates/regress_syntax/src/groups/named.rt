@@ -1,4 +1,4 @@
-//! The names of the groups, and the numbers of those that have one.
+//! Capture groups by name.
 ghost use Rattle.std.specs.Prelude.{◌≡◌, ◌≤◌, true, false, min, length};
 ghost use Rattle.std.specs.List.{prefix_len};
 ghost use Rattle.std.specs.List.Sorted.{IsPartitionPoint};
@@ -14,7 +14,10 @@ use crate::names::Name;
 use std::cmp::Ordering;
 
 impl Groups {
-    /// The groups with these names, and the numbers of those that have one.
+    /// Creates the groups with these names. `sorted` has the numbers of those that have one.
+    ///
+    /// # Preconditions
+    /// `sorted` has the numbers of the named groups, from 1, in the order of their names and ascending for equal names.
     pub(crate) fn new(names: Vec<Option<Name>>, sorted: Vec<u32>) -> Groups
         requires { AreSortedByName (names_of names.items) sorted.items }
         ensures names { names_in result ≡ names_of names.items }
@@ -28,14 +31,14 @@ impl Groups {
         }
     }
 
-    /// Whether some group has a name.
+    /// Returns whether some group has a name.
     pub(crate) fn has_names(&self) -> bool
         ensures { result ≡ has_names (names_in self.now) }
     {
         self.named
     }
 
-    /// The groups of that name, by their numbers from 1, ascending. A binary search finds the first.
+    /// Returns the numbers, from 1 and ascending, of the groups with this name. A binary search finds the first.
     pub(crate) fn numbers_of(&self, name: &[char]) -> &[u32]
         ensures { result.now ≡ groups_named name.now 1 (names_in self.now) }
     {
@@ -51,7 +54,7 @@ fn is_any_named(names: &[Option<Name>]) -> bool
     names.iter().any(|name| name.is_some())
 }
 
-/// How the name of a group stands to another. A group without a name stands behind all that have one.
+/// Compares the name of group `number` with `name`. A group without a name is greater than every name.
 fn name_order(names: &[Option<Name>], number: u32, name: &[char]) -> Ordering
     ensures { result ≡ name_order (names_of names.now) name.now number }
 {
@@ -61,7 +64,7 @@ fn name_order(names: &[Option<Name>], number: u32, name: &[char]) -> Ordering
     }
 }
 
-/// The place of the first number whose group's name is no lower.
+/// Returns the index of the first number in `sorted` whose group's name is not less than `name`.
 fn first_of(names: &[Option<Name>], sorted: &[u32], name: &[char]) -> usize
     requires { AreSortedByName (names_of names.now) sorted.now }
     ensures within { result ≤ length sorted.now }
@@ -71,14 +74,14 @@ fn first_of(names: &[Option<Name>], sorted: &[u32], name: &[char]) -> usize
     sorted.partition_point(|number| is_lower(names, *number, name))
 }
 
-/// Whether the name of a group is lower than another.
+/// Whether the name of group `number` is less than `name`.
 fn is_lower(names: &[Option<Name>], number: u32, name: &[char]) -> bool
     ensures { result ≡ is_lt (name_order (names_of names.now) name.now number) }
 {
     name_order(names, number, name).is_lt()
 }
 
-/// How many groups at the front have the name.
+/// Returns the number of groups at the start of `numbers` that have this name.
 fn how_many_of(names: &[Option<Name>], numbers: &[u32], name: &[char]) -> usize
     ensures value { result ≡ prefix_len (λ k. is_eq (name_order (names_of names.now) name.now k)) numbers.now }
     ensures within { result ≤ length numbers.now }

@@ -1,4 +1,4 @@
-//! What tells the capture groups of a pattern apart.
+//! The marks of a pattern: the code points that determine its groups and its nesting depth.
 ghost use Rattle.std.specs.Prelude.{◌≡◌, ℕ, ◌<◌, ◌≤◌, ◌+◌, ◌^◌, ◌==◌, Bool, false, drop, length, option_map, IfOk};
 ghost use Rattle.regress_base.specs.Table.{Table};
 ghost use Rattle.regress_unicode.specs.TableOf.{table_of};
@@ -13,34 +13,34 @@ use regress_lexical::digits::after;
 use regress_unicode::Tables;
 use std::alloc::{AllocError, Global};
 
-/// What the scan stands in, outside of escapes: plain text or a class.
+/// Where the scan is, outside of escapes: in plain text or in a class.
 #[derive(Clone, Copy)]
 pub(super) enum Mode {
     Plain,
     Class {
-        /// How many classes are open inside the outermost.
+        /// The number of classes that are open inside the outermost one.
         depth: usize,
-        /// How many there were at most.
+        /// The greatest `depth` in this outermost class so far.
         deepest: usize,
     },
 }
 
-/// A parenthesis, a bar, or with the flag v a class.
+/// A parenthesis, a `|`, or, with the flag v, a whole class.
 #[derive(Drop)]
 pub(super) enum Mark {
     /// A parenthesis that opens no capture group.
     Opens,
-    /// One that opens a capture group.
+    /// A parenthesis that opens a capture group, with its name if it has one.
     Captures(Option<Name>),
     Closes,
-    /// `|`
+    /// A `|`.
     Next,
-    /// A class in which so many levels of classes lie.
+    /// A class, with the nesting depth of the classes inside it.
     Nests(usize),
 }
 
 impl Mode {
-    /// The mode behind a code point that begins no escape.
+    /// Returns the mode after the code point `c`, which begins no escape.
     pub(super) fn behind(self, c: u32, sets: bool) -> Mode
         requires room { depth_of (mode_of self) + 1 < 2 ^ 64 }
         requires unescaped { (c == char "\\") ≡ false }
@@ -66,11 +66,11 @@ impl Mode {
     }
 }
 
-/// Whether the code point is no mark, and leaves the mode as it is.
+/// Whether the code point is no mark and never changes the mode.
 fn is_quiet(c: u32) -> bool
     ensures { result ≡ is_quiet c }
 {
-    // In two parts, of which each is tested by few comparisons.
+    // The split in two halves lets each be tested by few comparisons.
     if c < u32::from('@') {
         c != u32::from('(') && c != u32::from(')')
     } else {
@@ -78,7 +78,7 @@ fn is_quiet(c: u32) -> bool
     }
 }
 
-/// What stands behind the code point that is escaped, if there is one.
+/// Returns the source after the escaped code point, if there is one.
 fn skip_escaped(source: &[u32]) -> &[u32]
     ensures { result.now ≡ drop 1 source.now }
 {
@@ -88,7 +88,7 @@ fn skip_escaped(source: &[u32]) -> &[u32]
     }
 }
 
-/// Goes past escapes, and past code points that are no marks and leave the mode as it is: nearly all of a pattern.
+/// Skips escapes, and code points that are no marks and never change the mode: nearly all of a pattern.
 pub(super) fn skip_quiet(source: &[u32]) -> &[u32]
     ensures same { (sets : Bool) (table : Table) (mode : CodeMode) →
         marks sets table (mode_of mode) source.now ≡ marks sets table (mode_of mode) result.now }
@@ -110,7 +110,7 @@ pub(super) fn skip_quiet(source: &[u32]) -> &[u32]
     rest
 }
 
-/// The mark that the code point `c` is, if any, with the text behind it.
+/// Returns the mark that the code point `c` is, if it is one; `behind` is the source after it.
 pub(super) fn read_mark(
     alloc: Global,
     mode: Mode,
@@ -130,7 +130,7 @@ pub(super) fn read_mark(
     })
 }
 
-/// What a parenthesis opens: a capture group has no `?` behind it, or a name.
+/// Returns the mark of an opening parenthesis: it opens a capture group if no `?` follows, or `?` and a name.
 fn read_opening(alloc: Global, text: &[u32], tables: &Tables) -> Result<Mark, AllocError>
     ensures { IfOk result (λ mark. mark_of mark ≡ opened_at (table_of tables.now) text.now) }
 {

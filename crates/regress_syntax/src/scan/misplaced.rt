@@ -1,4 +1,4 @@
-//! Where a pattern has a parenthesis too many, or a level too many.
+//! The positions at which a pattern has a `)` too many, or is nested too deeply.
 ghost use Rattle.std.specs.Prelude.{◌≡◌, Bool, Some, None, if◌then◌else◌};
 ghost use Rattle.std.specs.Option.{option_or};
 ghost use Rattle.regress_syntax.specs.Misplaced.{Flaw, unopened, too_deep, is_flaw};
@@ -8,17 +8,18 @@ use super::mark::Mode;
 use regress_base::types::MAX_NESTING_DEPTH;
 use regress_lexical::fault::{Fault, FaultKind, refused};
 
-/// The places of a pattern at which it is past mending, by how many code points are left from there on.
+/// The first position of each kind of error that no continuation of the pattern can repair, as the number of code
+/// points that remain from it on.
 #[derive(Clone, Copy)]
 pub struct Misplaced {
-    /// The first parenthesis that closes nothing.
+    /// The first `)` that closes nothing.
     pub(crate) unopened: Option<usize>,
-    /// The first parenthesis or bracket that opens a level past `MAX_NESTING_DEPTH`.
+    /// The first parenthesis or bracket that nests the pattern deeper than `MAX_NESTING_DEPTH`.
     pub(crate) too_deep: Option<usize>,
 }
 
 impl Misplaced {
-    /// Nothing was noted yet.
+    /// Returns a value in which nothing is noted.
     pub(super) fn none() -> Misplaced
         ensures { (flaw : Flaw) → noted flaw result ≡ None }
     {
@@ -28,7 +29,8 @@ impl Misplaced {
         }
     }
 
-    /// Notes a code point that begins no escape, from which so many are left, where so many levels of groups are open.
+    /// Notes the code point `c`, which begins no escape, if it is one of these errors. `left` is the number of code
+    /// points that remain from it on, and `levels` the number of open groups, the whole pattern included.
     pub(super) fn note(&mut self, mode: Mode, levels: usize, c: u32, sets: bool, left: usize)
         ensures { (flaw : Flaw) → noted flaw self.new
             ≡ option_or (noted flaw self.old) (if is_flaw flaw sets (mode_of mode) levels c then Some left else None) }
@@ -37,7 +39,7 @@ impl Misplaced {
         note_first(&mut self.too_deep, is_too_deep(mode, levels, c, sets), left);
     }
 
-    /// The fault, at the place that was noted for its kind, if there is one.
+    /// Returns `fault` with the position that was noted for its kind, or unchanged if none was.
     pub fn locate(self, fault: Fault) -> Fault
         ensures { result ≡ located self fault }
     {
@@ -50,7 +52,7 @@ impl Misplaced {
         }
     }
 
-    /// What was noted for faults of this kind.
+    /// Returns the position that was noted for errors of this kind.
     fn noted_for(self, kind: &FaultKind) -> Option<usize>
         ensures { result ≡ noted_for self kind.now }
     {
@@ -62,7 +64,7 @@ impl Misplaced {
     }
 }
 
-/// Notes this place, if it is one and none was noted before.
+/// Sets `place` to `left` if `is_one` is `true` and no position was noted before.
 fn note_first(place: &mut Option<usize>, is_one: bool, left: usize)
     ensures { place.new ≡ option_or place.old (if is_one then Some left else None) }
 {
@@ -71,7 +73,7 @@ fn note_first(place: &mut Option<usize>, is_one: bool, left: usize)
     }
 }
 
-/// Whether it is a parenthesis that closes nothing.
+/// Whether `c` is a `)` that closes nothing.
 fn is_unopened(mode: Mode, levels: usize, c: u32) -> bool
     ensures { (sets : Bool) → result ≡ is_flaw unopened sets (mode_of mode) levels c }
 {
@@ -81,7 +83,7 @@ fn is_unopened(mode: Mode, levels: usize, c: u32) -> bool
     }
 }
 
-/// Whether it opens a level past the limit.
+/// Whether `c` nests the pattern deeper than the limit.
 fn is_too_deep(mode: Mode, levels: usize, c: u32, sets: bool) -> bool
     ensures { result ≡ is_flaw too_deep sets (mode_of mode) levels c }
 {

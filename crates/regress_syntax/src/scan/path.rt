@@ -1,31 +1,31 @@
-//! Where a place of a pattern stands: the disjunctions that hold it.
+//! The path of a position: the disjunctions that contain it.
 ghost use Rattle.std.specs.Prelude.{◌≡◌, ◌<◌, ◌≤◌, ◌+◌, ◌∷◌, [], ◌^◌, length, reverse, IfOk, OnOk};
 ghost use Rattle.regress_syntax.specs.Paths.{at_the_start, are_alternatives, outside, next_alternative};
 ghost use Rattle.regress_syntax.specs.Scanning.{path_of, highest};
 
 use std::alloc::{AllocError, Global};
 
-/// Most patterns go no deeper: for so many levels memory is asked once.
+/// The initial capacity of a path, in levels: most paths need one allocation.
 const USUAL_DEPTH: usize = 8;
 
-/// A disjunction that holds a place: the whole pattern, or what stands in parentheses.
+/// A disjunction that contains a position: that of the whole pattern, or that inside a pair of parentheses.
 #[derive(Clone, Copy, PartialEq, Eq, PartialOrd, Ord)]
 pub(super) struct Level {
-    /// The number of its parenthesis, from 1; 0 for the whole pattern.
+    /// The number of its opening parenthesis, from 1; 0 for the whole pattern.
     opening: u64,
-    /// The number of its alternative in which the place stands, from 0.
+    /// The index, from 0, of its alternative that contains the position.
     alternative: u64,
 }
 
-/// The disjunctions that hold a place. Of paths in order those that begin alike stand together.
+/// The disjunctions that contain a position. In sorted order, paths with a common prefix are adjacent.
 #[derive(PartialEq, Eq, PartialOrd, Ord, Drop)]
 pub(super) struct Path {
-    /// The outermost first.
+    /// The disjunctions, outermost first.
     levels: Vec<Level>,
 }
 
 impl Path {
-    /// The path of the start of a pattern.
+    /// Returns the path of the start of a pattern.
     pub(super) fn new(alloc: Global) -> Result<Path, AllocError>
         ensures { IfOk result (λ path. path_of path ≡ at_the_start.path) }
     {
@@ -38,7 +38,7 @@ impl Path {
         Ok(Path { levels })
     }
 
-    /// Goes behind the parenthesis of that number, which opens.
+    /// Enters the disjunction after the opening parenthesis of this number.
     pub(super) fn enter(&mut self, opening: u64) -> Result<(), AllocError>
         ensures { OnOk result (path_of self.new ≡ record { opening = opening; alternative = 0 } ∷ path_of self.old) }
     {
@@ -49,7 +49,7 @@ impl Path {
         Ok(())
     }
 
-    /// Leaves the innermost disjunction, but never the whole pattern: a `)` too many closes nothing.
+    /// Leaves the innermost disjunction, but never the whole pattern: an unmatched `)` closes nothing.
     pub(super) fn leave(&mut self)
         ensures { path_of self.new ≡ outside (path_of self.old) }
     {
@@ -58,7 +58,7 @@ impl Path {
         }
     }
 
-    /// Goes to the next alternative of the innermost disjunction.
+    /// Moves to the next alternative of the innermost disjunction.
     pub(super) fn next_alternative(&mut self)
         requires { highest (path_of self.old) + 1 < 2 ^ 64 }
         ensures { path_of self.new ≡ next_alternative (path_of self.old) }
@@ -68,14 +68,14 @@ impl Path {
         }
     }
 
-    /// How many disjunctions hold the place.
+    /// Returns the number of disjunctions that contain the position.
     pub(super) fn depth(&self) -> usize
         ensures { result ≡ length (path_of self.now) }
     {
         self.levels.len()
     }
 
-    /// A copy of the outermost levels, as many as `limit` at most.
+    /// Returns a copy of the outermost levels, at most `limit` of them.
     pub(super) fn outermost(&self, alloc: Global, limit: usize) -> Result<Path, AllocError>
         ensures { length (path_of self.now) ≤ limit → IfOk result (λ copy. path_of copy ≡ path_of self.now) }
     {
@@ -85,8 +85,9 @@ impl Path {
         })
     }
 
-    /// Whether some disjunction holds both places, in different alternatives. The first level at which the paths differ tells:
-    /// inside different parentheses, or different alternatives, no disjunction holds both.
+    /// Returns whether some disjunction has the two positions in different alternatives. The first level at which the
+    /// paths differ decides: inside different parentheses, or different alternatives, no disjunction contains both
+    /// positions.
     pub(super) fn is_alternative_to(&self, other: &Path) -> bool
         ensures { result ≡ are_alternatives (reverse (path_of self.now)) (reverse (path_of other.now)) }
     {

@@ -19,36 +19,36 @@ use regress_base::types::MAX_NESTING_DEPTH;
 use regress_lexical::fault::{Fault, FaultKind, refused};
 use std::alloc::{AllocError, Global};
 
-/// What was found in front of a place of the pattern.
+/// What the scan has found before its position in the pattern.
 #[derive(Drop)]
 pub(super) struct Scanner {
     alloc: Global,
-    /// The disjunctions that hold the place.
+    /// The disjunctions that contain the position.
     path: Path,
-    /// How many parentheses were opened.
+    /// The number of parentheses opened so far.
     opened: u64,
-    /// How many levels were open at most, with those of a class that lay in them. It saturates.
+    /// The greatest nesting depth so far, with the classes inside a class counted. It saturates.
     deepest: usize,
-    /// The name of each capture group.
+    /// The name of each capture group so far, or `None`.
     names: Vec<Option<Name>>,
-    /// The capture groups that have names.
+    /// The capture groups so far that have names.
     named: Vec<NamedGroup>,
 }
 
-/// A capture group with a name, and the path of its place: `MAX_NESTING_DEPTH` levels of it at most, so that the paths of
-/// a deep pattern don't grow as its square.
+/// A capture group with a name, and the path of its position. The path has at most `MAX_NESTING_DEPTH` levels, so that
+/// the paths of a deeply nested pattern do not take quadratic memory.
 #[derive(PartialEq, Eq, PartialOrd, Ord, Drop)]
 struct NamedGroup {
     name: Name,
     path: Path,
-    /// How many code points are left from the name on.
+    /// The number of code points that remain from the name on.
     left: usize,
-    /// Its number, from 1; `u32::MAX` where that is more.
+    /// The group's number, from 1; `u32::MAX` if it is greater.
     number: u32,
 }
 
 impl Scanner {
-    /// At the start of a pattern: one level is open.
+    /// Creates the state at the start of a pattern, where the nesting depth is 1.
     #[tactic(auto, using(crate::proofs::ScannerLemmas::deepest_above))]
     pub(super) fn new(alloc: Global) -> Result<Scanner, AllocError>
         ensures found { (all : List Written) → IfOk result (Behind all all) }
@@ -66,7 +66,7 @@ impl Scanner {
         })
     }
 
-    /// Moves behind a mark. `left` is how many code points are left from its first one on.
+    /// Moves past a mark. `left` is the number of code points that remain from its first one on.
     pub(super) fn pass(&mut self, mark: Mark, left: usize) -> Result<(), AllocError>
         requires { highest_at (place_of self.old) + 1 < 2 ^ 64 }
         ensures found { (all rest : List Written) → Behind all (mark_of mark ∷ rest) self.old → OnOk result (Behind all rest self.new) }
@@ -78,7 +78,7 @@ impl Scanner {
         match mark {
             Mark::Opens => self.open()?,
             Mark::Captures(name) => {
-                // The name is behind `(?<`.
+                // The name follows `(?<`.
                 self.add(name, left.saturating_sub(3))?;
                 self.open()?;
             }
@@ -89,7 +89,7 @@ impl Scanner {
         Ok(())
     }
 
-    /// Opens a level.
+    /// Enters a pair of parentheses.
     fn open(&mut self) -> Result<(), AllocError>
         requires { highest_at (place_of self.old) + 1 < 2 ^ 64 }
         ensures same { OnOk result (self.new ≡ record self.old { path = self.new.path; opened = self.new.opened; deepest = self.new.deepest }) }
@@ -102,7 +102,7 @@ impl Scanner {
         Ok(())
     }
 
-    /// Passes a class in which so many levels lie, inside those that are open.
+    /// Moves past a class inside which classes are nested `levels` deep.
     fn hold(&mut self, levels: usize)
         ensures same { self.new ≡ record self.old { deepest = self.new.deepest } }
         ensures deepest { self.new.deepest ≡ max self.old.deepest (min (length (path_of self.old.path) + levels) (2 ^ 64 - 1)) }
@@ -110,14 +110,15 @@ impl Scanner {
         self.deepest = self.deepest.max(self.path.depth().saturating_add(levels));
     }
 
-    /// How many levels of groups are open, the whole pattern among them.
+    /// Returns the number of open groups, the whole pattern included.
     pub(super) fn levels(&self) -> usize
         ensures { result ≡ length (path_of self.now.path) }
     {
         self.path.depth()
     }
 
-    /// Adds a capture group at the place. `left` is how many code points are left from its name on, if it has one.
+    /// Adds a capture group at the position. `left` is the number of code points that remain from its name on, if it
+    /// has one.
     fn add(&mut self, name: Option<Name>, left: usize) -> Result<(), AllocError>
         ensures same { OnOk result (self.new ≡ record self.old { names = self.new.names; named = self.new.named }) }
         ensures names { OnOk result (names_of self.new.names.items ≡ names_of self.old.names.items ++ names_of (name ∷ [])) }
@@ -138,8 +139,12 @@ impl Scanner {
         Ok(())
     }
 
-    /// The capture groups, at the end of the pattern. The fault comes where two groups conflict, else where there were
-    /// too many levels, else where there are more groups than 32 bits number.
+    /// Returns the capture groups, at the end of the pattern.
+    ///
+    /// # Errors
+    /// The first of these that applies: [`FaultKind::DuplicateName`] if two groups conflict, [`FaultKind::TooDeep`] if
+    /// the pattern is nested too deeply, [`FaultKind::TooManyGroups`] if there are more than `u32::MAX` groups. Returns
+    /// [`Fault::Memory`] if an allocation fails.
     pub(super) fn finish(self) -> Result<Groups, Fault>
         requires { HasNumbers self }
         ensures names { (all : List Written) → Behind all [] self → IfOk result (λ groups. names_in groups ≡ named_by all) }
@@ -149,12 +154,12 @@ impl Scanner {
         ensures refused { (all : List Written) → Behind all [] self → FailsBy result (MarksShow all) }
     {
         let mut named = self.named;
-        // Those of one name keep their order, by which they are numbered.
+        // The sort is stable: groups of one name stay in the order of their numbers.
         sort_by_name(&mut named)?;
         let sorted = numbers(self.alloc, &named)?;
-        // That is the order of their paths too where none conflict, so little is left to sort.
+        // Where no groups conflict this is also the order of their paths, so little remains to be sorted.
         named.sort()?;
-        // Paths that differ past the limit alone count as one: the pattern is refused in any case.
+        // Paths that differ only past the limit compare as equal: such a pattern is rejected in any case.
         if !are_neighbours_apart(&named) {
             return Err(refused(second_name(&named), FaultKind::DuplicateName));
         }
@@ -168,14 +173,14 @@ impl Scanner {
     }
 }
 
-/// The number of the group behind these, from 1; `u32::MAX` where that is more.
+/// Returns the number, from 1, of the group that follows these; `u32::MAX` if it is greater.
 fn number_behind(names: &[Option<Name>]) -> u32
     ensures { length names.now + 1 < 2 ^ 32 → result ≡ length names.now + 1 }
 {
     u32::try_from(names.len() + 1).unwrap_or(u32::MAX)
 }
 
-/// Sorts the groups by their names. Those of one name keep their order.
+/// Sorts the groups by name. Groups of one name keep their order.
 fn sort_by_name(groups: &mut Vec<NamedGroup>) -> Result<(), AllocError>
     ensures permutation { IsPermutation groups.old.items groups.new.items }
     ensures sorted { OnOk result (IsSortedBy is_before groups.new.items) }
@@ -184,7 +189,7 @@ fn sort_by_name(groups: &mut Vec<NamedGroup>) -> Result<(), AllocError>
     groups.sort_by(|group, other| group.name.cmp(&other.name))
 }
 
-/// The numbers of the groups, in their order.
+/// Returns the numbers of the groups, in their order.
 fn numbers(alloc: Global, groups: &[NamedGroup]) -> Result<Vec<u32>, AllocError>
     ensures { IfOk result (λ numbers. numbers.items ≡ map (λ group. group.number) groups.now) }
 {
@@ -192,7 +197,7 @@ fn numbers(alloc: Global, groups: &[NamedGroup]) -> Result<Vec<u32>, AllocError>
 }
 
 impl NamedGroup {
-    /// Whether both have one name and no disjunction holds both in different alternatives.
+    /// Returns whether the groups have the same name and no disjunction has them in different alternatives.
     fn conflicts_with(&self, other: &NamedGroup) -> bool
         ensures { result ≡ conflict (capture_of self.now) (capture_of other.now) }
     {
@@ -200,15 +205,15 @@ impl NamedGroup {
     }
 }
 
-/// Whether no group conflicts with the one behind it. Where the groups are sorted none conflicts with any then.
+/// Whether no group conflicts with the next one. In a sorted list no two groups conflict then.
 fn are_neighbours_apart(groups: &[NamedGroup]) -> bool
     ensures { IsAllAdjacentAnswer (λ x y apart. apart ≡ not (conflict (capture_of x) (capture_of y))) groups.now result }
 {
     groups.is_sorted_by(|group, next| !group.conflicts_with(next))
 }
 
-/// How many code points are left from the second name on of two neighbours that conflict, the first such name if there
-/// are several.
+/// Returns the number of code points that remain from the second name of two adjacent groups that conflict, for the
+/// earliest such name if there are several.
 fn second_name(groups: &[NamedGroup]) -> usize {
     let mut left = 0;
     for pair in groups.windows(2) {

@@ -1,4 +1,4 @@
--- What brackets of canonical intervals accept: some code point, or none.
+-- Brackets of canonical intervals accept some code point, or none.
 use Rattle.std.proofs.Common.{◌≡◌, ℕ, ◌+◌, ◌<◌, ◌≤◌, ◌==◌, Bool, true, false, not, ◌⊎◌, inl, inr, IsTrue, ◌↔◌, List, [], ◌∷◌, refl, sym, ap, ◌∙◌, eqb-true, arith}
 use Rattle.std.proofs.lemmas.Bool.{cases_Bool, cases_eq, false≢true, eq-eqb, and_from, and_parts, or_left, false_from_ne_true}
 use Rattle.regress_base.specs.Intervals.{Bounds, code_point_max, is_within, is_member, is_canonical_from, IsCanonical}
@@ -6,7 +6,7 @@ use Rattle.regress_base.specs.Brackets.{is_accepted}
 use Rattle.regress_base.proofs.laws.Sets.{is_within-true, le-is_within, is_member-nil, is_member-cons, canonical_parts, member_above}
 use Rattle.regress_tree.specs.NodeTests.{is_none, are_all, accepts_none}
 
--- Some code point is a member, or all are none.
+-- Intervals that are not empty have a member.
 pub member_from : (ivs : List Bounds) → IsCanonical ivs → is_none ivs ≡ false →
     (c : ℕ) × (c ≤ code_point_max) × (is_member ivs c ≡ true)
 member_from [] can some = absurd (false≢true (sym some))
@@ -17,7 +17,7 @@ member_from (iv ∷ ivs) can some =
       is_member-cons iv ivs iv.first ∙ or_left _ _ (le-is_within iv iv.first (omega arith) p.interval.ordered),
     )
 
--- a number below the first interval, or between it and the others
+-- A number before the first interval, or between it and the others, is no member.
 not_member : (iv : Bounds) (ivs : List Bounds) → IsTrue (is_canonical_from 0 (iv ∷ ivs)) → (c : ℕ) →
     (c < iv.first) ⊎ (c ≡ iv.last + 1) → is_member (iv ∷ ivs) c ≡ false
 not_member iv ivs can c where_it_is =
@@ -32,7 +32,7 @@ not_member iv ivs can c where_it_is =
         let w = is_within-true iv c within in
         elim place [ inl below ↦ omega (arith, w.0) | inr behind ↦ omega (arith, w.1) ]
 
--- some code point is no member of intervals that are not the one of all
+-- Some code point is no member, unless the only interval is that of all.
 pub gap_from : (ivs : List Bounds) → IsCanonical ivs → are_all ivs ≡ false →
     (c : ℕ) × (c ≤ code_point_max) × (is_member ivs c ≡ false)
 gap_from [] can some = (0, omega arith, is_member-nil 0)
@@ -75,7 +75,7 @@ accepts_nothing true (iv ∷ []) can none c h =
     ap not (is_member-cons iv [] c ∙ or_left _ _ within)
 accepts_nothing true (iv ∷ next ∷ ivs) can none c h = absurd (false≢true none)
 
--- what tells whether it accepts none is that test
+-- A test that determines whether a bracket accepts none equals `accepts_none`.
 pub accepts_none-is : (told : Bool) (invert : Bool) (ivs : List Bounds) → IsCanonical ivs →
     (IsTrue told ↔ ((c : ℕ) → c ≤ code_point_max → is_accepted invert ivs c ≡ false)) → told ≡ accepts_none invert ivs
 accepts_none-is told invert ivs can tells =

@@ -1,4 +1,4 @@
--- Alike steps: an equivalence that each word of steps keeps in each argument.
+-- `Alike` is an equivalence, and a congruence for each operation on steps.
 use Rattle.std.proofs.Common.{◌≡◌, ◌==◌, ℕ, zero, suc, Bool, true, false, not, List, [], ◌∷◌, filter, refl, sym, ap, ◌∙◌}
 use Rattle.regress_tree.specs.Steps.{State, Step, Alike, distinct, stay, ◌then_◌, ◌or_◌, capture, captured}
 use Rattle.regress_tree.specs.Lookaround.{looked, look}
@@ -12,7 +12,7 @@ Alike-refl f = record { same = λ s. refl }
 pub Alike-trans : {f g h : Step} → Alike f g → Alike g h → Alike f h
 Alike-trans a b = record { same = λ s. a.same s ∙ b.same s }
 
--- steps with the same outcomes are alike
+-- Steps with the same outcomes are alike.
 pub Alike-from_same : {f g : Step} → ((s : State) → f s ≡ g s) → Alike f g
 Alike-from_same same = record { same = λ s. ap distinct (same s) }
 
@@ -28,7 +28,7 @@ Alike-capture id f f' a = record { same = λ s. distinct-map-alike (captured id 
 
 -- ---- lookarounds
 
--- looking asks only which outcome is the first
+-- A lookaround depends only on the first outcome.
 looked-distinct : (negate : Bool) (s : State) (states : List State) → looked negate s (distinct states) ≡ looked negate s states
 looked-distinct false s [] = refl
 looked-distinct false s (t ∷ states) = refl

@@ -1,4 +1,4 @@
--- The counts of a bracket's intervals, and the set that they are.
+-- The counts of a bracket's intervals, and the set that they denote.
 use Rattle.std.proofs.Common.{◌≡◌, ℕ, ◌+◌, ◌-◌, Bool, true, false, cond, nat_le, nat_lt, List, [], ◌∷◌, length, refl, sym, ap, ◌∙◌, add-zero, arith}
 use Rattle.regress_base.specs.Intervals.{Bounds, code_point_max, IsCanonical, IsComplement}
 use Rattle.regress_base.proofs.laws.Sets.{canonical_unique, gaps_from, complement_from}
@@ -15,7 +15,7 @@ gap_count-length start (iv ∷ ivs) =
     length-if (nat_lt start iv.first) (record { first = start; last = iv.first - 1 }) (gaps_from (iv.last + 1) ivs)
     ∙ ap (λ n. cond (nat_lt start iv.first) 1 0 + n) (gap_count-length (iv.last + 1) ivs)
 
--- the gaps are the intervals of the complement
+-- The gaps are the intervals of the complement.
 pub gap_count-complement : (ivs others : List Bounds) → IsCanonical ivs → IsCanonical others → IsComplement ivs others →
     length others ≡ gap_count 0 ivs
 gap_count-complement ivs others canonical canonical_others complement =

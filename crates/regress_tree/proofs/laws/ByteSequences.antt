@@ -1,4 +1,4 @@
--- What bytes in a row match: characters one after another where they are the UTF-8 of these.
+-- A byte sequence matches the characters of which it is the UTF-8, in order.
 use Rattle.std.proofs.Common.{◌≡◌, ℕ, ◌+◌, ◌-◌, ◌==◌, Bool, true, false, cond, ◌&&◌, List, [], ◌∷◌, ◌++◌, length, drop, flat_map, Option, Some, None, option_map, option_and_then, IfSome, ◌⊎◌, inl, inr, nat_le, refl, sym, ap, ◌∙◌, subst, ⊎_elim, arith, add-zero, append-nil, append_assoc, nat_eq}
 use Rattle.std.proofs.lemmas.List.{length-append, drop-drop, drop_at}
 use Rattle.std.proofs.lemmas.Bool.{false≢true, leb-true, le-leb, and_parts, and_from, cond-true, cond-false, cases_Bool, eq-eqb, eqb-true, ne_eqb}
@@ -15,7 +15,7 @@ use Rattle.regress_tree.specs.Steps.{State, stay, ◌then_◌, moved, one_charac
 use Rattle.regress_tree.proofs.laws.Characters.{character_at_from, character_at_parts}
 use Rattle.regress_tree.proofs.laws.Readings.{read_before-behind}
 
--- the bytes stand at that place
+-- The bytes are at that offset.
 abbrev stands : List ℕ → ℕ → List ℕ → Bool
 stands bytes k written = starts_with nat_eq (drop k bytes) written
 
@@ -26,7 +26,7 @@ stands_parts bytes k written h = (starts_is Decides-eqb (drop k bytes) written _
 stands_from : (bytes : List ℕ) (k : ℕ) (written rest : List ℕ) → drop k bytes ≡ written ++ rest → stands bytes k written ≡ true
 stands_from bytes k written rest e = (starts_is Decides-eqb (drop k bytes) written _ refl).1 rest e
 
--- what stands behind bytes that stand there
+-- what follows the bytes at an offset
 behind : (bytes : List ℕ) (k : ℕ) (written rest : List ℕ) → drop k bytes ≡ written ++ rest → drop (k + length written) bytes ≡ rest
 behind bytes k written rest e =
     sym (drop-drop (length written) k bytes) ∙ ap (drop (length written)) e ∙ drop_at written rest (length written) refl
@@ -62,7 +62,7 @@ these_bytes-none backwards bytes s =
 -- ---- forwards
 
 module _ (bytes : List ℕ) where
-  -- bytes behind bytes
+  -- two byte sequences, the second after the first
   pub these_bytes-append : (first second : List ℕ) (s : State) →
       these_bytes forwards bytes (first ++ second) s ≡ (these_bytes forwards bytes first then_ these_bytes forwards bytes second) s
   unfolding these_bytes
@@ -104,7 +104,7 @@ module _ (bytes : List ℕ) where
 
 -- ---- backwards
 
--- the bytes end at that place
+-- The bytes end at that offset.
 abbrev ends : List ℕ → ℕ → List ℕ → Bool
 ends bytes k written = nat_le (length written) k && stands bytes (k - length written) written
 
@@ -137,7 +137,7 @@ ends-append bytes k first second =
     ∙ and_from _ _ (subst (λ j. stands bytes j first ≡ true) to_first earlier.1)
     (subst (λ j. stands bytes j second ≡ true) to_second later.1)))
 
--- what is read before a place is a character that ends there
+-- A character that is decoded before an offset ends there.
 pub record IsBefore (bytes : List ℕ) (k : ℕ) (r : Read) : Type 0 where
   pub stands_there : character_at bytes r.place ≡ Some r.character
   pub ends_there : r.place + len_utf8 r.character ≡ k
@@ -169,7 +169,7 @@ before_parts bytes k r e =
     (or_parts _ _ r e₃)) (or_parts _ _ r e₂)) (or_parts _ _ r e)
 
 module _ (bytes : List ℕ) where
-  -- bytes before bytes: the last ones first
+  -- two byte sequences backwards: the second is matched first
   pub these_bytes_before-append : (first second : List ℕ) (s : State) →
       these_bytes backwards bytes (first ++ second) s ≡ (these_bytes backwards bytes second then_ these_bytes backwards bytes first) s
   unfolding these_bytes
@@ -221,7 +221,7 @@ module _ (bytes : List ℕ) where
 
 -- ---- tests that agree on characters
 
--- whether what is read is a character
+-- The decoded character is a Unicode scalar value.
 abbrev IsRead : Read → Type 0
 IsRead r = IsScalar r.character
 
@@ -255,7 +255,7 @@ either_read : (o p : Option Read) → IfSome o IsRead → IfSome p IsRead → If
 either_read None p first second = second
 either_read (Some r) p first second = first
 
--- what is read from bytes is a Unicode scalar value
+-- A character that is decoded from bytes is a Unicode scalar value.
 pub next_character-scalar : (d : Direction) (bytes : List ℕ) (k : ℕ) →
     IfSome (next_character d (of_bytes bytes) k) (λ r. IsScalar r.character)
 unfolding read_after read_before
@@ -269,7 +269,7 @@ moved-agree : (p q : ℕ → Bool) (s : State) (read : Option Read) → ((c : �
 moved-agree p q s None agree h = refl
 moved-agree p q s (Some r) agree h = ap (λ b. cond b (record s { place = r.place } ∷ []) []) (agree r.character h)
 
--- tests that agree on the Unicode scalar values take the same characters
+-- Tests that agree on the Unicode scalar values match the same characters.
 pub one_character-agree : (d : Direction) (bytes : List ℕ) (p q : ℕ → Bool) → ((c : ℕ) → IsScalar c → p c ≡ q c) → (s : State) →
     one_character d (of_bytes bytes) p s ≡ one_character d (of_bytes bytes) q s
 unfolding one_character

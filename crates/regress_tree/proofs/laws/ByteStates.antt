@@ -1,4 +1,4 @@
--- Dropping repeats over the characters of a text and over its bytes drops the same outcomes.
+-- Removal of duplicate outcomes is the same over the characters of a text and over its bytes.
 use Rattle.std.proofs.Common.{◌≡◌, ℕ, ◌≤◌, Bool, true, false, cond, not, ◌&&◌, ◌==◌, List, [], ◌∷◌, length, map, filter, Option, Some, None, All, refl, sym, ap, ap₂, ◌∙◌, ⊎_elim, arith}
 use Rattle.std.proofs.lemmas.List.Elements.{All-cons, All-head, All-tail, All-filter}
 use Rattle.std.proofs.lemmas.Bool.{cases_eq, eq-eqb, ne_eqb}
@@ -7,7 +7,7 @@ use Rattle.regress_tree.specs.Steps.{State, CaptureSpan, IsStateOf, IsCaptureOf,
 use Rattle.regress_tree.proofs.laws.Characters.{byte_place_same}
 
 module _ (text : List ℕ) where
-  -- two places are one place exactly if their byte places are
+  -- Two positions are equal exactly if their byte offsets are.
   pub eqb-byte_place : (j k : ℕ) → j ≤ length text → k ≤ length text → (byte_place text j == byte_place text k) ≡ (j == k)
   eqb-byte_place j k hj hk =
       ⊎_elim
@@ -35,7 +35,7 @@ module _ (text : List ℕ) where
       (same_capture-byte_capture a b (All-head (IsCaptureOf text) a as' ha) (All-head (IsCaptureOf text) b bs hb))
       (same_captures-byte_capture as' bs (All-tail (IsCaptureOf text) a as' ha) (All-tail (IsCaptureOf text) b bs hb))
 
-  -- two states of the text are one state exactly if they are in places of the UTF-8
+  -- Two states of the text are equal exactly if they are equal in byte offsets.
   pub same_state-byte_state : (s t : State) → IsStateOf text s → IsStateOf text t →
       same_state (byte_state text s) (byte_state text t) ≡ same_state s t
   unfolding same_state
@@ -48,7 +48,7 @@ module _ (text : List ℕ) where
   cond-map true xs ys = refl
   cond-map false xs ys = refl
 
-  -- tests that agree on the states of the text keep the same ones
+  -- Tests that agree on the states of the text keep the same ones.
   pub filter-byte_state : (p q : State → Bool) → ((t : State) → IsStateOf text t → p (byte_state text t) ≡ q t) →
       (states : List State) → All (IsStateOf text) states →
       filter p (map (byte_state text) states) ≡ map (byte_state text) (filter q states)
@@ -65,7 +65,7 @@ module _ (text : List ℕ) where
       All-cons P s _ (All-head P s states all)
       (All-filter (λ t. not (same_state s t)) P (distinct states) (All-distinct P states (All-tail P s states all)))
 
-  -- the distinct outcomes in places of the UTF-8
+  -- the distinct outcomes, in byte offsets
   pub distinct-byte_state : (states : List State) → All (IsStateOf text) states →
       distinct (map (byte_state text) states) ≡ map (byte_state text) (distinct states)
   distinct-byte_state [] all = refl

@@ -1,4 +1,4 @@
--- Where the characters of a text stand in its UTF-8, and that none stands elsewhere.
+-- The byte offsets of the characters of a text in its UTF-8: no character begins at any other offset.
 use Rattle.std.proofs.Common.{◌≡◌, ℕ, zero, suc, ◌+◌, ◌-◌, ◌/◌, ◌%◌, ◌<◌, ◌≤◌, Bool, true, cond, ◌&&◌, nat_eq, ⊎_elim, List, [], ◌∷◌, ◌++◌, length, take, drop, Option, Some, None, slice_index, All, chars, encode_utf8_all, refl, sym, ap, ◌∙◌, subst, arith, append-nil}
 use Rattle.std.proofs.lemmas.List.{length-append, length-take-le, length-drop, take-append-drop, drop_at, take-take, take_more, drop_more, get_or-drop, get_or_append_left, drop_all}
 use Rattle.std.proofs.lemmas.List.Elements.{All-nil, All-cons}
@@ -12,9 +12,9 @@ use Rattle.std.specs.List.{starts_with}
 use lib.Utf8.{scalar}
 use Rattle.regress_tree.specs.Reading.{IsText, character_at, byte_place}
 
--- ---- places
+-- ---- positions
 
--- what stands behind a byte place is the UTF-8 of what stands behind its place
+-- The bytes from a byte offset on are the UTF-8 of the characters from its position on.
 pub drop-byte_place : (text : List ℕ) (k : ℕ) → drop (byte_place text k) (encode_utf8_all text) ≡ encode_utf8_all (drop k text)
 unfolding byte_place
 drop-byte_place text k =
@@ -23,7 +23,7 @@ drop-byte_place text k =
     ap (drop (length (encode_utf8_all (take k text)))) split
     ∙ drop_at (encode_utf8_all (take k text)) (encode_utf8_all (drop k text)) (length (encode_utf8_all (take k text))) refl
 
--- between two places stands at least a byte for each character
+-- Between two positions there is at least one byte for each character.
 pub byte_place-add-le : (text : List ℕ) (j k : ℕ) → j ≤ k → k ≤ length text → byte_place text j + (k - j) ≤ byte_place text k
 unfolding byte_place
 byte_place-add-le text j k h within =
@@ -41,7 +41,7 @@ byte_place-le text j k h within = omega (arith, byte_place-add-le text j k h wit
 pub byte_place-lt : (text : List ℕ) (j k : ℕ) → j < k → k ≤ length text → byte_place text j < byte_place text k
 byte_place-lt text j k h within = omega (arith, byte_place-add-le text j k (omega arith) within)
 
--- different places have different byte places
+-- Different positions have different byte offsets.
 pub byte_place_same : (text : List ℕ) (j k : ℕ) → j ≤ length text → k ≤ length text → byte_place text j ≡ byte_place text k → j ≡ k
 byte_place_same text j k hj hk e =
     ⊎_elim
@@ -56,7 +56,7 @@ pub byte_place-zero : (text : List ℕ) → byte_place text 0 ≡ 0
 unfolding byte_place
 byte_place-zero text = refl
 
--- the next place lies behind the bytes of the character between the two
+-- The next position is after the bytes of the character between the two.
 pub byte_place-add-one : (text : List ℕ) (k : ℕ) → k < length text →
     byte_place text (k + 1) ≡ byte_place text k + len_utf8 (slice_index text k)
 unfolding byte_place
@@ -68,13 +68,13 @@ byte_place-add-one text k h =
     ∙ ap (λ bs. length (encode_utf8_all (take k text)) + length bs) (append-nil (encode_utf8 c))
     ∙ ap (λ n. length (encode_utf8_all (take k text)) + n) (length-encode c)
 
--- ---- the character at a place
+-- ---- the character at a position
 
--- the UTF-8 of c stands at byte k
+-- The UTF-8 of c begins at byte k.
 abbrev stands_at : List ℕ → ℕ → ℕ → Bool
 stands_at bytes k c = starts_with nat_eq (drop k bytes) (encode_utf8 c)
 
--- `character_at` finds a character exactly where its UTF-8 stands
+-- `character_at` finds a character exactly where its UTF-8 begins.
 pub character_at_from : (bytes : List ℕ) (k c : ℕ) (rest : List ℕ) → IsScalar c → drop k bytes ≡ encode_utf8 c ++ rest →
     character_at bytes k ≡ Some c
 unfolding character_at
@@ -96,19 +96,19 @@ character_at_parts bytes k c e =
     let both = and_parts _ _ (subst (λ x. (scalar x && stands_at bytes k x) ≡ true) found.1 found.0) in
     (both.0, (_, (starts_is Decides-eqb (drop k bytes) (encode_utf8 c) _ refl).0 both.1))
 
--- at a place of the text stands its character
+-- At the byte offset of a position `character_at` finds the character of the text,
 pub character_at-byte_place : (text : List ℕ) → IsText text → (k : ℕ) → k < length text →
     character_at (encode_utf8_all text) (byte_place text k) ≡ Some (slice_index text k)
 character_at-byte_place text is_text k h =
     character_at_from (encode_utf8_all text) (byte_place text k) (slice_index text k) (encode_utf8_all (drop (k + 1) text)) (is_text k 0 h)
     (drop-byte_place text k ∙ ap encode_utf8_all (drop_more text k 0 h))
 
--- what is no character is none
+-- An option without a character is `None`.
 pub no_character : (o : Option ℕ) → ((c : ℕ) → o ≡ Some c → ⊥) → o ≡ None
 no_character None h = refl
 no_character (Some c) h = absurd (h c refl)
 
--- and none at the end
+-- and none at the end.
 pub character_at-end : (text : List ℕ) (k : ℕ) → length text ≤ k → character_at (encode_utf8_all text) (byte_place text k) ≡ None
 character_at-end text k h =
     no_character _ (λ c e.
@@ -122,9 +122,9 @@ character_at-end text k h =
       len_utf8_bounds c,
     ))
 
--- ---- within a character
+-- ---- inside a character
 
--- a byte 10xxxxxx, as all bytes of a character are but the first
+-- a byte 10xxxxxx, as all bytes of a character except the first
 abbrev six_bits : ℕ → ℕ
 six_bits x = 128 + x % 64
 
@@ -176,7 +176,7 @@ continuation c n low high =
     (cases_lt c 0x800))
     (cases_lt c 0x80)
 
--- no character begins with a continuation byte
+-- No character begins with a continuation byte,
 no_continuation : (c : ℕ) → IsScalar c → IsContinuation (slice_index (encode_utf8 c) 0) → ⊥
 no_continuation c s h =
     let start = IsCharBoundary-start (encode_utf8 c) (IsUtf8-encode c s) in
@@ -187,7 +187,7 @@ byte_of : (bytes front rest : List ℕ) (k n : ℕ) → drop k bytes ≡ front +
 byte_of bytes front rest k n e h =
     sym (get_or-drop k bytes n 0) ∙ ap (λ bs. slice_index bs n) e ∙ get_or_append_left front rest 0 n h
 
--- so none begins within another
+-- so none begins inside another.
 pub character_at-inside : (bytes : List ℕ) (k c n : ℕ) (rest : List ℕ) → drop k bytes ≡ encode_utf8 c ++ rest → 0 < n → n < len_utf8 c →
     character_at bytes (k + n) ≡ None
 character_at-inside bytes k c n rest here low high =

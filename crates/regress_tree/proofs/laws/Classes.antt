@@ -1,4 +1,4 @@
--- What brackets take: tests that agree on the Unicode scalar values.
+-- What brackets match: tests that agree on the Unicode scalar values.
 use Rattle.std.proofs.Common.{◌≡◌, ℕ, Bool, true, false, not, List, encode_utf8_all, ap}
 use Rattle.std.specs.Char.{IsScalar}
 use Rattle.regress_base.specs.Brackets.{is_accepted}
@@ -11,13 +11,13 @@ use Rattle.regress_tree.proofs.laws.ByteSequences.{one_character-agree}
 use Rattle.regress_base.proofs.laws.Literals.{scalar_in_range}
 use Rattle.regress_tree.proofs.laws.Simulation.{Simulates, Simulates-same_right, Simulates-one_character}
 
--- over the bytes a test does what another one does over the characters, where the two agree
+-- Over bytes a test matches what another matches over characters, if the two agree on the scalar values.
 pub agreeing_simulates : (text : List ℕ) → IsText text → (d : Direction) (p q : ℕ → Bool) → ((x : ℕ) → IsScalar x → q x ≡ p x) →
     Simulates text d (one_character d (of_characters text) p) (one_character d (of_bytes (encode_utf8_all text)) q)
 agreeing_simulates text is_text d p q agree =
     Simulates-same_right text d _ _ _ (one_character-agree d (encode_utf8_all text) q p agree) (Simulates-one_character text is_text d p)
 
--- of the scalar values a bracket accepts those that pass its test, or inverted the others
+-- A bracket accepts the scalar values that pass its test or, inverted, the others.
 pub is_accepted-scalar : (inverted : Bool) (p : ℕ → Bool) (x : ℕ) → IsScalar x →
     is_accepted inverted (intervals_of p) x ≡ differ inverted (p x)
 is_accepted-scalar inverted p x s = by_test inverted

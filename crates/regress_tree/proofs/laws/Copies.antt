@@ -1,4 +1,4 @@
--- Rows of copies of a tree.
+-- Lists of copies of a tree.
 use Rattle.std.proofs.Common.{◌≡◌, ℕ, zero, suc, ◌+◌, List, [], ◌∷◌, ◌++◌, refl, sym, ap, ap₂, ◌∙◌}
 use Rattle.std.proofs.Math.Nat.{suc-add}
 use Rattle.regress_tree.specs.declared.ir.node.Node.{Node}
@@ -6,12 +6,12 @@ use Rattle.regress_tree.specs.Tree.{Tree, Trees, no_trees, more_trees, row_appen
 use Rattle.regress_tree.specs.WellFormed.{captures, captures_in_row, inside, MayStand, RowMayStand}
 use Rattle.regress_tree.proofs.laws.Rows.{trees-append}
 
--- one copy more
+-- one more copy
 pub copies-push : (n : ℕ) (t : Tree) → row_append (copies n t) (more_trees t no_trees) ≡ copies (n + 1) t
 copies-push zero t = refl
 copies-push (suc n) t = ap (more_trees t) (copies-push n t) ∙ ap (λ (k : ℕ). copies k t) (sym (suc-add n 1))
 
--- the same of a list of nodes
+-- the same for a list of nodes
 pub trees-push_copy : (parts : List Node) (n : ℕ) (body : Tree) (copy : Node) → trees parts ≡ copies n body → tree copy ≡ body →
     trees (parts ++ copy ∷ []) ≡ copies (n + 1) body
 trees-push_copy parts n body copy copied is =

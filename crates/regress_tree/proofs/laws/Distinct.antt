@@ -1,4 +1,4 @@
--- Laws of `distinct`: what it makes of lists joined, filtered and mapped.
+-- Lemmas about `distinct` of lists that are joined, filtered and mapped.
 use Rattle.std.proofs.Common.{◌≡◌, ◌==◌, ℕ, Bool, true, false, not, ◌&&◌, ◌||◌, List, [], ◌∷◌, ◌++◌, map, Option, Some, None, refl, sym, ap, ap₂, ◌∙◌, inl, inr, eqb-true, eq-eqb}
 use Rattle.std.specs.List.{filter, flat_map}
 use Rattle.std.proofs.lemmas.Bool.{and_parts, cases_Bool, or_right, false≢true}
@@ -6,7 +6,7 @@ use Rattle.std.proofs.lemmas.List.Concat.{flat_map_single}
 use Rattle.std.proofs.lemmas.List.Elements.{filter-append, filter_agree}
 use Rattle.regress_tree.specs.Steps.{CaptureSpan, State, same_capture, same_captures, same_state, distinct}
 
--- `same_state` decides equality.
+-- ---- `same_state` decides equality
 
 same_capture-true : (a b : Option CaptureSpan) → same_capture a b ≡ true → a ≡ b
 same_capture-true None None e = refl
@@ -46,7 +46,7 @@ pub same_state-refl : (s : State) → same_state s s ≡ true
 unfolding same_state
 same_state-refl s = rw (eq-eqb s.place s.place refl, same_captures-refl s.captures)
 
--- Filters.
+-- ---- filters
 
 filter-swap : {X : Type 0} (p q : X → Bool) (l : List X) → filter p (filter q l) ≡ filter q (filter p l)
 filter-swap p q [] = refl
@@ -57,7 +57,7 @@ filter-swap p q (x ∷ l) =
       | inr pf ↦ elim (cases_Bool (q x)) [ inl qt ↦ simp (pf, qt) ih | inr qf ↦ simp (pf, qf) ih ]
     ]
 
--- what passes p passes q
+-- An element that passes p passes q.
 filter-absorb : {X : Type 0} (p q : X → Bool) (implies : (x : X) → p x ≡ true → q x ≡ true) (l : List X) →
     filter p (filter q l) ≡ filter p l
 filter-absorb p q implies [] = refl
@@ -81,7 +81,7 @@ filter-filter p q (x ∷ l) =
 abbrev except : State → List State → List State
 except s l = filter (λ t. not (same_state s t)) l
 
--- a test that the state fails passes no state equal to it
+-- A test that the state fails is passed by no state equal to it.
 except-absorb : (p : State → Bool) (s : State) → p s ≡ false → (l : List State) → filter p (except s l) ≡ filter p l
 except-absorb p s fails =
     filter-absorb p (λ t. not (same_state s t)) (λ t passes. elim (cases_Bool (same_state s t)) [
@@ -98,14 +98,14 @@ distinct-filter p (s ∷ l) =
       | inr pf ↦ simp pf (ih ∙ sym (except-absorb p s pf (distinct l)))
     ]
 
--- Lists joined.
+-- ---- joined lists
 
--- the state is in the list
+-- The state is in the list.
 abbrev among : State → List State → Bool
 among t [] = false
 among t (s ∷ l) = same_state s t || among t l
 
--- the second list without what is in the first
+-- the second list without the elements of the first
 abbrev without : List State → List State → List State
 without xs l = filter (λ t. not (among t xs)) l
 
@@ -117,7 +117,7 @@ filter_true : {X : Type 0} (l : List X) → filter (λ _. true) l ≡ l
 filter_true [] = refl
 filter_true (x ∷ l) = ap (λ r. x ∷ r) (filter_true l)
 
--- what is new comes behind what was there
+-- New elements come after those of the first list.
 distinct-append : (xs ys : List State) → distinct (xs ++ ys) ≡ distinct xs ++ without xs (distinct ys)
 distinct-append [] ys = sym (filter_true (distinct ys))
 distinct-append (s ∷ xs) ys =
@@ -148,7 +148,7 @@ among-distinct t (s ∷ l) =
           | inr differs ↦ simp differs (ap (λ b. same_state x t || b) ih)
         ]
 
--- `without` asks only which states there are
+-- `without` depends only on which states are in the first list.
 without-distinct : (xs l : List State) → without (distinct xs) l ≡ without xs l
 without-distinct xs l = filter_agree _ _ (λ t. ap not (among-distinct t xs)) l
 
@@ -161,7 +161,7 @@ distinct-append-alike xs xs' ys ys' first second =
     distinct-append xs ys ∙ ap₂ ◌++◌ first (ap (without xs) second ∙ without-alike xs xs' (distinct ys') first)
     ∙ sym (distinct-append xs' ys')
 
--- nothing is left of a list without what is in another that covers it
+-- A list without the elements of another that covers it is empty.
 without-covered : (xs l : List State) → ((t : State) → among t l ≡ true → among t xs ≡ true) → without xs l ≡ []
 without-covered xs [] covers = refl
 without-covered xs (s ∷ l) covers =
@@ -177,14 +177,14 @@ without-swap xs ys l = filter-swap _ _ l
 without-without : (xs l : List State) → without xs (without xs l) ≡ without xs l
 without-without xs l = filter-absorb _ _ (λ t e. e) l
 
--- Lists of lists.
+-- ---- lists of lists
 
 module _ (f : State → List State) where
   without-flat_map : (zs : List State) (t : State) (l : List State) →
       without zs (distinct (flat_map f (t ∷ l))) ≡ without zs (distinct (f t)) ++ without zs (without (f t) (distinct (flat_map f l)))
   without-flat_map zs t l = ap (without zs) (distinct-append (f t) (flat_map f l)) ∙ filter-append _ (distinct (f t)) _
 
-  -- what a state gives once it gives no more a second time
+  -- the outcomes from a list of states without those from a repeated state
   flat_map-except : (s : State) (l : List State) →
       without (f s) (distinct (flat_map f l)) ≡ without (f s) (distinct (flat_map f (except s l)))
   flat_map-except s [] = refl

@@ -1,4 +1,4 @@
--- What falls with every change by a rewrite, as a number: passes over a tree end.
+-- A number that decreases with every change by a rewrite, so passes over a tree terminate.
 use Rattle.std.proofs.Common.{◌≡◌, ℕ, ◌+◌, ◌*◌, ◌<◌, ◌≤◌, ◌⊎◌, [], inl, inr, ap, arith}
 use Rattle.std.proofs.Math.Nat.{mul-le-mul_left}
 use Rattle.regress_tree.specs.Tree.{Leaf, byte_sequence, bracket, Wrapper, capture_group, loop, loop_one, lookaround, Tree}
@@ -7,7 +7,7 @@ use Rattle.regress_tree.specs.WellFormed.{Position, LeafMayStand, MayStand}
 use Rattle.regress_tree.specs.Units.{units_of_leaf, sizes, units, loops, account, weight_of_leaf, weight_of_wrapper, weights, weight, IsLess}
 use Rattle.regress_tree.proofs.laws.Measures.{total-le}
 
--- What one unit weighs at most: a bracket has no more intervals than half of the code points.
+-- The greatest weight of one unit: a bracket has at most half as many intervals as there are code points.
 abbrev heaviest : ℕ
 heaviest = 557061
 
@@ -22,7 +22,7 @@ wrapper_weight-le (loop quantifier start end) = omega arith
 wrapper_weight-le (loop_one quantifier) = omega arith
 wrapper_weight-le (lookaround negate backwards start end) = omega arith
 
--- what may stand weighs no more than that for each of its units
+-- The weight of an allowed tree is at most that for each of its units.
 weight-le : (n : ℕ) (t : Tree) (p : Position) → MayStand n t p → weight t ≤ heaviest * units t
 weight-le = total-le heaviest weights sizes (record {
   of_leaf = leaf_weight-le;
@@ -31,8 +31,8 @@ weight-le = total-le heaviest weights sizes (record {
   of_wrapper = wrapper_weight-le;
 })
 
--- More than the changes that are still to come, where the account of the tree was `spent` at first: a loop less leaves a
--- tree whose weight is below what each loop counts here.
+-- An upper bound for the number of remaining changes, where `spent` is the account of the original tree: one loop fewer
+-- outweighs any weight that the tree can then have.
 abbrev pub changes_left : ℕ → Tree → ℕ
 changes_left spent t = (heaviest * spent + 1) * loops t + weight t
 
@@ -46,7 +46,7 @@ changes_left-falls spent t u n p part within no_more is_less = by is_less.less
         omega (arith, mul-le-mul_left (heaviest * spent + 1) loop, weight-le n u p part, within, no_more)
     by (inr lighter) = omega (arith, ap (λ k. (heaviest * spent + 1) * k) lighter.0, lighter.1)
 
--- one change after another
+-- `IsLess` is transitive.
 pub IsLess-trans : (t u v : Tree) → IsLess u t → IsLess v u → IsLess v t
 IsLess-trans t u v a b = record { less = by a.less b.less }
   where

@@ -1,4 +1,4 @@
--- What the calls of a walk add up to, for a caller of `walk` whose calls gather something.
+-- What the calls of a walk collect together, for a caller of `walk` whose calls collect something.
 use Rattle.std.proofs.Common.{◌≡◌, ℕ, Bool, false, List, [], ◌++◌, refl, sym, ap, ap₂, subst}
 use Rattle.std.proofs.lemmas.Bool.{false≢true}
 use Rattle.regress_tree.specs.Tree.{Tree, Trees, leaf, cat, alt, wrapped, no_trees, more_trees}
@@ -6,8 +6,8 @@ use Rattle.regress_tree.specs.WellFormed.{captures, captures_in_row, captures_of
 use Rattle.regress_tree.specs.Visits.{Visited, before_children, without_children, Inside, in_leaf, in_cat, in_alt, in_wrapped, RowVisited, no_more, one_more}
 use Rattle.regress_tree.specs.Gathered.{gathered, gathered_in_row, own_group}
 
--- Each call adds what its node has, leaves the node and skips nothing. `Added a b xs` says that the closure has gathered these
--- between the two states.
+-- Each call adds the items of its node, leaves the node unchanged and skips nothing. `Added a b xs` means that the
+-- closure has collected xs between the states a and b.
 pub record AddsOwn {State X : Type 0} (Call : State → Tree → ℕ → Bool → State → Tree → Bool → Type 0) (own : Tree → List X)
     (Added : State → State → List X → Type 0) : Type 0 where
   pub none : (a : State) → Added a a []
@@ -19,7 +19,7 @@ pub record AddsOwn {State X : Type 0} (Call : State → Tree → ℕ → Bool �
 module _ {State X : Type 0} (Call : State → Tree → ℕ → Bool → State → Tree → Bool → Type 0) (own : Tree → List X)
     (Added : State → State → List X → Type 0) (r : AddsOwn Call own Added) where
   mutual
-    -- a walk in preorder adds what the nodes of the tree have
+    -- A walk in preorder adds the items of all nodes of the tree.
     pub visited_adds : (t u : Tree) (a b : State) (d : ℕ) (behind : Bool) → Visited Call false d behind t u a b → Added a b (gathered own t)
     visited_adds t u a c d behind (before_children {left = left} {b = b} call inside) =
         let same = r.leaves a b t left d behind false call in
@@ -48,7 +48,7 @@ module _ {State X : Type 0} (Call : State → Tree → ℕ → Bool → State �
 -- ---- capture groups
 
 mutual
-  -- those of all nodes are the tree's
+  -- The groups of all nodes are those of the tree.
   pub gathered-groups : (t : Tree) → gathered own_group t ≡ captures t
   gathered-groups (leaf l) = refl
   gathered-groups (cat parts) = gathered_in_row-groups parts

@@ -1,4 +1,4 @@
--- The goal, and where it stands.
+-- The goal, and where it is in a tree.
 use Rattle.std.proofs.Common.{◌≡◌, ℕ, true, false, ◌||◌, inl, inr, refl, sym, ap, ap₂, subst}
 use Rattle.std.proofs.Math.Bool.{or-false}
 use Rattle.std.proofs.lemmas.Bool.{cases_Bool, false≢true}
@@ -28,7 +28,7 @@ goal-is (cat parts) e = absurd (false≢true e)
 goal-is (alt left right) e = absurd (false≢true e)
 goal-is (wrapped w body) e = absurd (false≢true e)
 
--- what is no goal may stand inside wherever it stands
+-- A leaf that is not the goal is allowed inside if it is allowed anywhere.
 pub leaf-inside : (n : ℕ) (l : Leaf) (p : Position) → is_goal_leaf l ≡ false → LeafMayStand n l p → LeafMayStand n l inside
 leaf-inside n empty p e m = tt
 leaf-inside n goal p e m = absurd (false≢true (sym e))
@@ -51,14 +51,14 @@ last-inside n (cat parts) e m = m
 last-inside n (alt left right) e m = m
 last-inside n (wrapped w body) e m = m
 
--- it doesn't stand inside,
+-- The goal is not inside,
 inside-no_goal : (n : ℕ) (t : Tree) → MayStand n t inside → is_goal t ≡ false
 inside-no_goal n t m = elim (cases_Bool (is_goal t)) [
   | inl is ↦ absurd (subst (λ (u : Tree). MayStand n u inside) (goal-is t is) m)
   | inr is_not ↦ is_not
 ]
 
--- so in a row it is the last part,
+-- so in a list it is the last part,
 pub goal-last : (n : ℕ) (p : Position) (ts : Trees) → RowMayStand n ts p → some_in_row is_goal ts ≡ last_in_row is_goal ts
 goal-last n p no_trees m = refl
 goal-last n p (more_trees t no_trees) m = or-false (is_goal t)
@@ -75,7 +75,7 @@ inside-no_end n (cat parts) m = row-no_goal n parts m.1
 inside-no_end n (alt left right) m = refl
 inside-no_end n (wrapped w body) m = refl
 
--- and a root that doesn't end in it may stand inside
+-- and a root that does not end in it is allowed inside.
 row-inside : (n : ℕ) (ts : Trees) → last_in_row is_goal ts ≡ false → RowMayStand n ts last → RowMayStand n ts inside
 row-inside n no_trees e m = tt
 row-inside n (more_trees t no_trees) e m = last-inside n t e m

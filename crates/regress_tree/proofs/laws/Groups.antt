@@ -1,4 +1,5 @@
--- What has no capture group. Ranges of group ids around it are empty, and forgetting what their groups have captured changes no state.
+-- Trees without a capture group: ranges of group ids around them are empty, and resetting their groups changes no
+-- state.
 use Rattle.std.proofs.Common.{◌≡◌, ℕ, ◌+◌, ◌≤◌, ◌==◌, Bool, false, ◌&&◌, cond, nat_le, nat_lt, inl, inr, List, [], ◌∷◌, ◌++◌, count_by, Option, refl, ap, ap₂, ◌∙◌, le_refl, arith}
 use Rattle.std.proofs.lemmas.Bool.{true≢false, cases_lt, and_left, and_right, and_from, or_parts, le-leb, lt-leb, lt-ltb, le-ltb, eq-eqb, cond-false}
 use Rattle.std.proofs.lemmas.List.Sums.{sum_by-cons}
@@ -10,14 +11,14 @@ use Rattle.regress_tree.specs.Steps.{CaptureSpan, State, Step}
 use Rattle.regress_tree.specs.Tree.{Wrapper, capture_group, loop, loop_one, lookaround, Tree, Trees, leaf, cat, alt, wrapped, no_trees, more_trees}
 use Rattle.regress_tree.specs.WellFormed.{Capture, captures, captures_in_row, captures_of_wrapper, Position, inside, last_of, position_in, MayStand, RowMayStand, HasGroups}
 
--- no number lies in a range that ends where it starts, or before
+-- No number is in a range that ends where it starts, or before.
 none_within : (start end k : ℕ) → end ≤ start → (nat_le start k && nat_lt k end) ≡ false
 none_within start end k ends = elim (cases_lt k start) [
   | inl before ↦ and_left (nat_le start k) (nat_lt k end) (lt-leb start k before)
   | inr from ↦ and_right (nat_le start k) (nat_lt k end) (le-ltb k end (omega arith))
 ]
 
--- ---- what has no group has an empty range
+-- ---- a tree without a group has an empty range
 
 pub HasGroups-none : (start end : ℕ) (t : Tree) → HasGroups start end t → captures t ≡ [] → end ≤ start
 HasGroups-none start end t has none = elim (cases_lt start end) [
@@ -29,7 +30,7 @@ HasGroups-none start end t has none = elim (cases_lt start end) [
   | inr empty ↦ empty
 ]
 
--- and an empty range says that there is no group
+-- A tree with an empty range has no group.
 pub captures-none : (start end : ℕ) (t : Tree) → HasGroups start end t → end ≤ start → captures t ≡ []
 captures-none start end t has ends = by (captures t) (λ k. has k ∙ ap (λ (b : Bool). cond {A = ℕ} b 1 0) (none_within start end k ends))
   where
@@ -40,7 +41,7 @@ captures-none start end t has ends = by (captures t) (λ k. has k ∙ ap (λ (b 
         let split = sum_by-cons (λ (d : Capture). cond {A = ℕ} (d.id == c.id) 1 0) c cs in
         absurd (omega (arith, one, split, counts c.id))
 
--- ---- what has no group inside
+-- ---- trees without a group inside
 
 no_group : (w : Wrapper) → is_group w ≡ false → captures_of_wrapper w ≡ []
 no_group (capture_group id name) none = absurd (true≢false none)
@@ -65,7 +66,7 @@ mutual
       let both = or_parts (has_group t) (some_node_in_row (on_wrapper is_group) ts) none in
       ap₂ ◌++◌ (captures-free t both.0) (captures_in_row-free ts both.1)
 
--- and what captures nothing has empty ranges of groups
+-- ---- a tree without a group has empty group ranges inside
 
 append_none : {X : Type 0} (xs ys : List X) → xs ++ ys ≡ [] → (xs ≡ []) × (ys ≡ [])
 append_none [] ys none = (refl, none)
@@ -93,7 +94,7 @@ mutual
       let both = append_none (captures t) (captures_in_row (more_trees u us)) none in
       (HasNoGroup-from n t inside m.0 both.0, NoneHasGroup-from n (more_trees u us) p m.1 both.1)
 
--- ---- forgetting nothing
+-- ---- resetting an empty range
 
 module _ (start end : ℕ) (ends : end ≤ start) where
   unset_from-none : (k : ℕ) (cs : List (Option CaptureSpan)) → unset_from k start end cs ≡ cs

@@ -1,4 +1,4 @@
--- What the calls of a walk see of what lies around each node, for a caller of `walk` that keeps it in mind.
+-- What the calls of a walk find around each node, for a caller of `walk` that keeps track of it.
 use Rattle.std.proofs.Common.{◌≡◌, ℕ, ◌+◌, ◌≤◌, Bool, false, List, [], ◌∷◌, ◌++◌, sym, subst, arith}
 use Rattle.std.proofs.lemmas.Bool.{false≢true}
 use Rattle.regress_tree.specs.Tree.{Tree, Trees, leaf, cat, alt, wrapped}
@@ -6,9 +6,10 @@ use Rattle.regress_tree.specs.Measures.{levels, levels_of_deepest}
 use Rattle.regress_tree.specs.Visits.{Visited, before_children, without_children, Inside, in_leaf, in_cat, in_alt, in_wrapped, RowVisited, no_more, one_more, deeper}
 use Rattle.regress_tree.specs.Inherited.{inherited, inherited_in_row}
 
--- Each call leaves the node and skips nothing. `Around a d x` says that in the state a the closure tells x of what lies around a
--- node at depth d. It then adds this node with x, hands `handed x t` down, and goes on to tell of what lies around at depths up to
--- this one what it told before. `Added a b ps` says that it has added these pairs between the two states.
+-- Each call leaves the node unchanged and skips nothing. `Around a d x` means that in state a the closure has recorded
+-- x as what a node at depth d inherits. The call on that node t adds the node with x, and records `handed x t` for its
+-- children; what was recorded for depths up to d stays. `Added a b ps` means that the closure has added these pairs
+-- between the states a and b.
 pub record HandsDown {State X : Type 0} (Call : State → Tree → ℕ → Bool → State → Tree → Bool → Type 0) (handed : X → Tree → X)
     (Around : State → ℕ → X → Type 0) (Added : State → State → List (X × Tree) → Type 0) : Type 0 where
   pub none : (a : State) → Added a a []
@@ -28,14 +29,14 @@ some_level (cat parts) = omega arith
 some_level (alt left right) = omega arith
 some_level (wrapped w body) = omega arith
 
--- as deep as the count goes
+-- the greatest depth that is counted
 abbrev deepest : ℕ
 deepest = 18446744073709551615
 
 module _ {State X : Type 0} (Call : State → Tree → ℕ → Bool → State → Tree → Bool → Type 0) (handed : X → Tree → X)
     (Around : State → ℕ → X → Type 0) (Added : State → State → List (X × Tree) → Type 0) (r : HandsDown Call handed Around Added) where
   mutual
-    -- what the closure tells of depths up to that of a tree, it tells behind the visits to it
+    -- What is recorded for depths up to that of a tree stays recorded after the visits to the tree.
     visited_keeps : (t u : Tree) (a b : State) (d : ℕ) (behind : Bool) (e : ℕ) (x : X) → e ≤ d → e ≤ deepest → Around a e x →
         Visited Call false d behind t u a b → Around b e x
     visited_keeps t u a c d behind e x up fits around (before_children {left = left} {b = b} call inside) =
@@ -61,7 +62,7 @@ module _ {State X : Type 0} (Call : State → Tree → ℕ → Bool → State �
         row_keeps ts' us' b c d behind e x up fits (visited_keeps t u a b d behind e x up fits around first) rest
 
   mutual
-    -- a walk in preorder adds what the nodes of the tree inherit, where the depth is counted to the last level
+    -- A walk in preorder adds what the nodes of the tree inherit, if no depth exceeds the greatest one.
     pub visited_inherits : (t u : Tree) (a b : State) (d : ℕ) (behind : Bool) (x : X) → d + levels t ≤ deepest + 1 → Around a d x →
         Visited Call false d behind t u a b → Added a b (inherited handed x t)
     visited_inherits t u a c d behind x fits around (before_children {left = left} {b = b} call inside) =
@@ -104,7 +105,7 @@ module _ {State X : Type 0} (Call : State → Tree → ℕ → Bool → State �
         (r.adds a b (wrapped w body) _ d behind false x around call)
         (visited_inherits body body' b c (deeper d) _ y (omega arith) below inner)
 
-    -- nothing need be told where there is no tree
+    -- An empty list needs no record.
     row_inherits : (ts us : Trees) (a b : State) (d : ℕ) (behind : Bool) (x : X) → d + levels_of_deepest ts ≤ deepest + 1 →
         (1 ≤ levels_of_deepest ts → Around a d x) → RowVisited Call false d behind ts us a b → Added a b (inherited_in_row handed x ts)
     row_inherits ts us a b d behind x fits around no_more = r.none a

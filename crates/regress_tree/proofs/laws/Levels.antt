@@ -1,4 +1,4 @@
--- One level of a node.
+-- One layer of a node.
 use Rattle.std.proofs.Common.{◌≡◌, ◌∙◌, sym, ap, ℕ, Bool, Vec, Box, Global, rules}
 use Rattle.std.specs.declared.ops.Range.{Range}
 use Rattle.regress_base.specs.declared.types.Quantifier.{Quantifier}
@@ -22,7 +22,7 @@ out-LookaroundAssertion negate backwards start end contents = search (rules, the
 pub out-Cat : (parts : Vec Node Global) → out-Node (Cat parts) ≡ Node-F.Cat parts
 out-Cat parts = search (rules, the_lemmas)
 
--- an `Alt`, by the value that was read at its left side
+-- an `Alt`, by the value of its left side
 pub alt_of : (node : Node) (left right : Box Node Global) (value : Node) → node ≡ Alt left right → value ≡ left.value →
     tree node ≡ alt (tree value) (tree right.value)
 alt_of node left right value is value_is = ap tree is ∙ tree-Alt left right ∙ ap (λ n. alt (tree n) (tree right.value)) (sym value_is)

@@ -12,11 +12,11 @@ use Rattle.regress_tree.proofs.laws.ByteSequences.{one_character-agree}
 use Rattle.regress_tree.proofs.laws.Simulation.{Simulates, Simulates-same_right, Simulates-one_character}
 
 module _ (setting : Setting) (bytes : List ℕ) (d : Direction) where
-  -- a single code point is the set of it
+  -- A single code point matches as the set of it.
   pub char-steps : (c : ℕ) (s : State) → leaf_steps setting bytes d (char c) s ≡ one_character d (of_bytes bytes) (lists (c ∷ [])) s
   char-steps c s = one_character-agree d bytes (λ x. x == c) (lists (c ∷ [])) (λ x scalar_value. sym (lists-one c x)) s
 
-  -- over bytes a class takes what the literal stands for
+  -- Over bytes a class matches what the literal matches.
   pub class_of-steps : (table : Table) (icase unicode : Bool) (c : ℕ) (s : State) →
       one_character d (of_bytes bytes) (lists (class_of table icase unicode c)) s
       ≡ one_character d (of_bytes bytes) (stands_for table icase unicode c) s
@@ -24,14 +24,14 @@ module _ (setting : Setting) (bytes : List ℕ) (d : Direction) where
       one_character-agree d bytes _ _ (lists-class_of-scalar table icase unicode c) s
 
 module _ (setting : Setting) (text : List ℕ) (is_text : IsText text) (d : Direction) (table : Table) (icase unicode : Bool) (c : ℕ) where
-  -- over the bytes the class of a literal does what the literal does over the characters
+  -- Over bytes the class of a literal matches what the literal matches over characters,
   pub class_simulates : Simulates text d (one_character d (of_characters text) (stands_for table icase unicode c))
       (steps setting (encode_utf8_all text) d (leaf (char_set (class_of table icase unicode c))))
   class_simulates =
       Simulates-same_right text d _ _ _ (class_of-steps setting (encode_utf8_all text) d table icase unicode c)
       (Simulates-one_character text is_text d (stands_for table icase unicode c))
 
-  -- and so does its single code point, if there is but one
+  -- and so does its single code point, if it has only one.
   pub char_simulates : (x : ℕ) → class_of table icase unicode c ≡ x ∷ [] →
       Simulates text d (one_character d (of_characters text) (stands_for table icase unicode c))
       (steps setting (encode_utf8_all text) d (leaf (char x)))

@@ -1,4 +1,4 @@
--- Laws of sums over a tree and of tests on its nodes, for whatever a node counts and whatever is tested.
+-- Lemmas about sums over a tree and tests on its nodes, for any measure and any test.
 use Rattle.std.proofs.Common.{◌≡◌, ℕ, zero, suc, ◌+◌, ◌*◌, ◌≤◌, ◌<◌, inl, inr, Bool, false, ◌||◌, [], refl, sym, ap, ap₂, ◌∙◌, max, arith}
 use Rattle.std.proofs.Math.Bool.{or_assoc, or-false}
 use Rattle.std.proofs.Math.Nat.{mul-add}
@@ -20,7 +20,7 @@ module _ (m : Measure) where
   total-copies zero t = omega arith
   total-copies (suc n) t = omega (arith, total-copies n t)
 
-  -- A tree counts at least one where each node does.
+  -- A tree counts at least one if each node does.
   pub total-positive : ((l : Leaf) → 1 ≤ m.of_leaf l) → 1 ≤ m.of_cat → 1 ≤ m.of_alt → ((w : Wrapper) → 1 ≤ m.of_wrapper w) →
       (t : Tree) → 1 ≤ total m t
   total-positive of_leaf of_cat of_alt of_wrapper (leaf l) = of_leaf l
@@ -28,7 +28,7 @@ module _ (m : Measure) where
   total-positive of_leaf of_cat of_alt of_wrapper (alt left right) = omega arith
   total-positive of_leaf of_cat of_alt of_wrapper (wrapped w body) = omega (arith, of_wrapper w)
 
--- at each node, where it may stand, the one counts at most k times what the other does
+-- At each node, where it is allowed, m counts at most k times what m' counts;
 pub record IsAtMost (k : ℕ) (m m' : Measure) : Type 0 where
   pub of_leaf : (n : ℕ) (l : Leaf) (p : Position) → LeafMayStand n l p → m.of_leaf l ≤ k * m'.of_leaf l
   pub of_cat : m.of_cat ≤ k * m'.of_cat
@@ -40,7 +40,7 @@ module _ (k : ℕ) (m m' : Measure) (each : IsAtMost k m m') where
   joined a b x y first second = omega (arith, mul-add k x y)
 
   mutual
-    -- then a tree does
+    -- then so does a tree.
     pub total-le : (n : ℕ) (t : Tree) (p : Position) → MayStand n t p → total m t ≤ k * total m' t
     total-le n (leaf l) p stands = each.of_leaf n l p stands
     total-le n (cat parts) p stands = joined _ _ _ _ each.of_cat (total_in_row-le n parts (last_of p) stands.1)
@@ -84,7 +84,7 @@ units_of_leaf-le : (n : ℕ) (l : Leaf) (p : Position) → LeafMayStand n l p �
 units_of_leaf-le n (char c) p stands = omega arith
 units_of_leaf-le n l p stands = omega arith
 
--- what is charged as one counts five units at most
+-- A charge of one is at most five units.
 pub units-le : (n : ℕ) (t : Tree) (p : Position) → MayStand n t p → units t ≤ 5 * charge t
 units-le = total-le 5 sizes charges (record {
   of_leaf = units_of_leaf-le;
@@ -93,7 +93,7 @@ units-le = total-le 5 sizes charges (record {
   of_wrapper = λ w. omega arith;
 })
 
--- what has no more loops to unroll and is lighter is less
+-- A lighter tree that has no more loops to unroll is less.
 pub IsLess-lighter : (new old : Tree) → loops new ≤ loops old → weight new < weight old → IsLess new old
 IsLess-lighter new old no_more lighter = elim (cases_lt (loops new) (loops old)) [
   | inl fewer ↦ record { less = inl fewer }
@@ -103,7 +103,7 @@ IsLess-lighter new old no_more lighter = elim (cases_lt (loops new) (loops old))
 -- ---- tests
 
 module _ (test : Tree → Bool) where
-  -- of a tree by its root and what lies inside
+  -- a test on some node, by the root and the nodes inside
   pub some_node-root : (t : Tree) → some_node test t ≡ (test t || some_node_inside test t)
   some_node-root (leaf l) = sym (or-false (test (leaf l)))
   some_node-root (cat parts) = refl
@@ -138,7 +138,7 @@ module _ (test : Tree → Bool) where
   pub RowLacksShape-append : (ts us : Trees) → RowLacksShape test ts → RowLacksShape test us → RowLacksShape test (row_append ts us)
   RowLacksShape-append ts us first second = some_node-append ts us ∙ ap₂ ◌||◌ first second
 
--- what has no loop has none that may be unrolled
+-- A tree without a loop has none that may be unrolled.
 mutual
   pub loops-none : (t : Tree) → has_loop t ≡ false → loops t ≡ 0
   loops-none (leaf l) none = refl

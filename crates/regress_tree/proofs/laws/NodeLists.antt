@@ -1,4 +1,4 @@
--- Lists of nodes, told by their rows.
+-- Lists of nodes, and the lists of their trees.
 use Rattle.std.proofs.Common.{◌≡◌, ◌≤◌, Bool, false, ◌||◌, List, [], ◌∷◌, length, refl, ap, arith}
 use Rattle.std.specs.List.{list_any}
 use Rattle.regress_tree.specs.declared.ir.node.Node.{Node}

@@ -1,4 +1,4 @@
--- How far matching forwards goes at least, word by word of steps.
+-- A lower bound for how far matching forwards advances, for each operation on steps.
 use Rattle.std.proofs.Common.{ℕ, zero, suc, ◌+◌, ◌*◌, ◌-◌, ◌≤◌, get_or, Bool, true, false, cond, List, [], ◌∷◌, length, flat_map, Option, Some, None, option_map, All, min, arith}
 use Rattle.std.proofs.lemmas.List.Elements.{All-nil, All-cons, All-head, All-tail, All-append, All-filter, All-map, All-weaker}
 use Rattle.std.proofs.lemmas.Str.{len_utf8_bounds}
@@ -19,7 +19,7 @@ module _ (n : ℕ) (s : State) where
   one_on : (t : State) → IsOn n s t → All (IsOn n s) (t ∷ [])
   one_on t on = All-cons (IsOn n s) t [] on (All-nil (IsOn n s))
 
-  -- the state is reached or not
+  -- the state is an outcome or not
   cond_on : (b : Bool) (t : State) → IsOn n s t → All (IsOn n s) (cond b (t ∷ []) [])
   cond_on true t on = one_on t on
   cond_on false t on = All-nil (IsOn n s)
@@ -73,7 +73,7 @@ GoesOn-these_bytes bytes written = record {
 }
 
 module _ (bytes : List ℕ) (same : ℕ → ℕ → Bool) where
-  -- a character for each
+  -- Each character takes at least one position.
   pub GoesOn-all_of : (cs : List ℕ) → GoesOn (length cs) (all_of forwards (of_bytes bytes) same cs)
   GoesOn-all_of [] = GoesOn-stay
   GoesOn-all_of (c ∷ cs) =
@@ -95,7 +95,7 @@ module _ (bytes : List ℕ) (same : ℕ → ℕ → Bool) where
   unfolding back_reference
   GoesOn-back_reference id = record { onward = λ s. once_on (get_or s.captures id None) s }
 
--- ---- what holds a part
+-- ---- nodes with a body
 
 pub GoesOn-capture : (n id : ℕ) (f : Step) → GoesOn n f → GoesOn n (capture id f)
 unfolding capture
@@ -126,7 +126,7 @@ module _ (n : ℕ) (f : Step) (on : GoesOn n f) where
   GoesOn-up_to true (suc k) = GoesOn-or 0 0 _ stay (GoesOn-then 0 0 _ _ GoesOn-moving (GoesOn-up_to true k)) GoesOn-stay
   GoesOn-up_to false (suc k) = GoesOn-or 0 0 stay _ GoesOn-stay (GoesOn-then 0 0 _ _ GoesOn-moving (GoesOn-up_to false k))
 
--- the least number of turns
+-- A loop advances at least by its minimum of iterations.
 pub GoesOn-repeat : (n bound : ℕ) (q : Quantifier) (start end : ℕ) (f : Step) → GoesOn n f →
     GoesOn (q.min * n) (repeat bound q start end f)
 unfolding repeat

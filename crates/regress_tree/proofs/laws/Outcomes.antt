@@ -1,4 +1,4 @@
--- Outcomes of steps that follow one another.
+-- Outcomes of steps in sequence.
 use Rattle.std.proofs.Common.{◌≡◌, List, [], ◌∷◌, ◌++◌, flat_map, refl, sym, ap, ◌∙◌}
 use Rattle.std.proofs.lemmas.List.Concat.{flat_map-append}
 use Rattle.regress_tree.specs.Steps.{State, Step, stay, ◌then_◌}

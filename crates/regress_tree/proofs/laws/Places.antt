@@ -1,4 +1,4 @@
--- Places where a tree stands as a part of another, and what of the whole follows from what is put there.
+-- Contexts: a tree with a hole where a part is put, and what holds for the whole by what is put there.
 use Rattle.std.proofs.Common.{◌≡◌, ℕ, ◌+◌, ◌<◌, ◌≤◌, ◌⊎◌, inl, inr, Bool, false, ◌||◌, ◌==◌, List, ◌++◌, length, count_by, refl, sym, ap, ap₂, ◌∙◌, arith}
 use Rattle.std.proofs.lemmas.Bool.{or_parts}
 use Rattle.std.specs.Prelude.{if◌then◌else◌}
@@ -18,28 +18,28 @@ use Rattle.regress_tree.proofs.laws.Alike.{Alike-refl, Alike-then, Alike-or, Ali
 use Rattle.regress_tree.proofs.laws.Measures.{weight_of_wrapper-positive, IsLess-lighter, total-append, some_node-append, LacksShape-here, LacksShape-inside, LacksShape-from, RowLacksShape-append}
 
 pub data Place : Type 0 where
-  -- in a row, between these trees
+  -- in a list, between these trees
   among : (before behind : Trees) → Place
   left_of : (right : Tree) → Place
   right_of : (left : Tree) → Place
-  -- what a wrapper holds
+  -- the body of a wrapper
   inside_of : (w : Wrapper) → Place
 
--- the whole with the tree at the place
+-- the whole tree with t in the hole
 abbrev pub put : Place → Tree → Tree
 put (among before behind) t = cat (row_append before (more_trees t behind))
 put (left_of right) t = alt t right
 put (right_of left) t = alt left t
 put (inside_of w) t = wrapped w t
 
--- the direction there
+-- the direction in the hole
 abbrev pub direction_at : Place → Direction → Direction
 direction_at (among before behind) d = d
 direction_at (left_of right) d = d
 direction_at (right_of left) d = d
 direction_at (inside_of w) d = direction_in w d
 
--- the walk of what a wrapper holds runs in the direction in which that is matched
+-- The walk at the body of a wrapper has the direction in which the body is matched.
 pub direction_inside : (w : Wrapper) (walk inner : Walk) → inner.in_lookbehind ≡ turned_by w walk.in_lookbehind →
     direction_of inner ≡ direction_in w (direction_of walk)
 direction_inside w walk inner is = rw is (by w)
@@ -50,10 +50,10 @@ direction_inside w walk inner is = rw is (by w)
     by (loop_one quantifier) = refl
     by (lookaround negate looks_back start end) = refl
 
--- What it matches.
+-- ---- what the whole matches
 
 module _ (setting : Setting) (bytes : List ℕ) where
-  -- alike bodies give alike wholes: all that a new wrapper has to add here
+  -- Alike bodies give alike wholes. For a new wrapper only this lemma needs a new case here.
   Alike-wrapper : (w : Wrapper) (f g : Step) → Alike f g → Alike (wrapper_steps setting bytes w f) (wrapper_steps setting bytes w g)
   Alike-wrapper (capture_group id name) f g alike = Alike-capture id f g alike
   Alike-wrapper (loop quantifier start end) f g alike = Alike-repeat (length bytes + 1) quantifier start end f g alike
@@ -74,7 +74,7 @@ module _ (setting : Setting) (bytes : List ℕ) where
   Alike-put (right_of left) d t u alike = Alike-or _ _ _ _ (Alike-refl _) alike
   Alike-put (inside_of w) d t u alike = Alike-wrapper w _ _ alike
 
--- Its groups.
+-- ---- the groups of the whole
 
 captures-among : (before behind : Trees) (t u : Tree) → captures u ≡ captures t →
     captures_in_row (row_append before (more_trees u behind)) ≡ captures_in_row (row_append before (more_trees t behind))
@@ -87,12 +87,12 @@ captures-put (left_of right) t u same = ap (λ cs. cs ++ captures right) same
 captures-put (right_of left) t u same = ap (λ cs. captures left ++ cs) same
 captures-put (inside_of w) t u same = ap (λ cs. captures_of_wrapper w ++ cs) same
 
--- Where it may stand.
+-- ---- where the whole is allowed
 
 HasGroups-around : (start end : ℕ) (t u : Tree) → captures u ≡ captures t → HasGroups start end t → HasGroups start end u
 HasGroups-around start end t u same has k = ap (count_by (λ c. c.id == k)) same ∙ has k
 
--- the wrapper asks no more of a body than its groups
+-- A wrapper requires nothing of its body except its groups.
 WrapperMayStand-around : (n : ℕ) (w : Wrapper) (t u : Tree) → captures u ≡ captures t → WrapperMayStand n w t → WrapperMayStand n w u
 WrapperMayStand-around n (capture_group id name) t u same m = m
 WrapperMayStand-around n (loop quantifier start end) t u same m =
@@ -122,14 +122,14 @@ RowMayStand-part n p no_trees (more_trees y behind) t m = (inside, m.0)
 RowMayStand-part n p (more_trees x no_trees) behind t m = RowMayStand-part n p no_trees behind t m.1
 RowMayStand-part n p (more_trees x (more_trees y before)) behind t m = RowMayStand-part n p (more_trees y before) behind t m.1
 
--- a part of what may stand somewhere may stand somewhere
+-- A part of a tree that is allowed somewhere is allowed somewhere.
 pub MayStand-part : (place : Place) (t : Tree) (n : ℕ) (p : Position) → MayStand n (put place t) p → (q : Position) × MayStand n t q
 MayStand-part (among before behind) t n p m = RowMayStand-part n (last_of p) before behind t m.1
 MayStand-part (left_of right) t n p m = (inside, m.1)
 MayStand-part (right_of left) t n p m = (inside, m.2)
 MayStand-part (inside_of w) t n p m = (position_in w, m.2)
 
--- How large it is.
+-- ---- the size of the whole
 
 module _ (m : Measure) where
   abbrev total_around : Place → ℕ
@@ -159,7 +159,7 @@ IsLess-put p t u is_less = record { less = by is_less.less }
       omega (arith, lighter.1, total-put weights p t, total-put weights p u),
     )
 
--- the part alone is less
+-- The part alone is less than the whole.
 weight_around-positive : (p : Place) → 1 ≤ total_around weights p
 weight_around-positive (among before behind) = omega arith
 weight_around-positive (left_of right) = omega arith
@@ -173,7 +173,7 @@ IsLess-part p t = IsLess-lighter t (put p t) (omega (arith, total-put unrollable
 pub account-part : (p : Place) (t : Tree) → account t ≤ account (put p t)
 account-part p t = omega (arith, total-put sizes p t, total-put unrollables p t)
 
--- Which shapes it lacks.
+-- ---- the shapes that the whole lacks
 
 module _ (shape : Tree → Bool) where
   RowLacksShape-part : (before behind : Trees) (t : Tree) → RowLacksShape shape (row_append before (more_trees t behind)) →

@@ -1,4 +1,4 @@
--- What is asked of the body of a loop over one character, and of no other part.
+-- What is required of the body of a `Loop1CharBody`, and of no other part.
 use Rattle.std.proofs.Common.{◌≡◌, ℕ, true, [], ◌∷◌, refl}
 use Rattle.std.proofs.lemmas.Bool.{false≢true, not-true}
 use Rattle.regress_tree.specs.NodeTests.{leaf_matches_exactly_one_char, matches_exactly_one_char}
@@ -6,35 +6,36 @@ use Rattle.regress_tree.specs.Tree.{Leaf, char, char_set, match_any, match_any_e
 use Rattle.regress_tree.specs.WellFormed.{captures, Position, one_character, inside, last, root, last_of, NotAsOneCharacter, AsOneCharacter, LeafMayStand, MayStand}
 use Rattle.regress_tree.proofs.laws.Accepting.{accepts_some}
 
--- nothing is asked elsewhere,
+-- Elsewhere nothing is required;
 pub AsOneCharacter-free : (p : Position) (P : Type 0) → NotAsOneCharacter p → AsOneCharacter p P
 AsOneCharacter-free one_character P free = absurd free
 AsOneCharacter-free inside P free = tt
 AsOneCharacter-free last P free = tt
 AsOneCharacter-free root P free = tt
 
--- what holds may be asked anywhere,
+-- what holds may be required anywhere;
 pub AsOneCharacter-from : (p : Position) (P : Type 0) → P → AsOneCharacter p P
 AsOneCharacter-from one_character P holds = holds
 AsOneCharacter-from inside P holds = tt
 AsOneCharacter-from last P holds = tt
 AsOneCharacter-from root P holds = tt
 
--- and what follows from P may be asked in its place
+-- and what follows from P may be required instead of P.
 pub AsOneCharacter-map : (p : Position) (P Q : Type 0) → (P → Q) → AsOneCharacter p P → AsOneCharacter p Q
 AsOneCharacter-map one_character P Q f holds = f holds
 AsOneCharacter-map inside P Q f holds = holds
 AsOneCharacter-map last P Q f holds = holds
 AsOneCharacter-map root P Q f holds = holds
 
--- a part of a `Cat` is no such body
+-- A part of a `Cat` is no such body.
 pub last_of-free : (p : Position) → NotAsOneCharacter (last_of p)
 last_of-free one_character = tt
 last_of-free inside = tt
 last_of-free last = tt
 last_of-free root = tt
 
--- What matches exactly one character may be one wherever it stands, whatever the number of capture groups.
+-- ---- a node that matches exactly one character is allowed as such a body wherever it is, whatever the number of
+-- groups
 
 leaf-one_character : (n k : ℕ) (l : Leaf) (p : Position) → leaf_matches_exactly_one_char l ≡ true → LeafMayStand n l p →
     LeafMayStand k l one_character
@@ -55,7 +56,7 @@ MayStand-one_character n k (cat parts) p one m = absurd (false≢true one)
 MayStand-one_character n k (alt left right) p one m = absurd (false≢true one)
 MayStand-one_character n k (wrapped w body) p one m = absurd (false≢true one)
 
--- such a body has no group
+-- Such a body has no group.
 pub captures-one_character : (n : ℕ) (t : Tree) → MayStand n t one_character → captures t ≡ []
 captures-one_character n (leaf l) m = refl
 captures-one_character n (cat parts) m = absurd m.0

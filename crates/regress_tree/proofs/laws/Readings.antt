@@ -1,4 +1,5 @@
--- Reading a text by its characters and by the bytes of its UTF-8 gives the same characters, at places that answer each other.
+-- Decoding a text by its characters and by the bytes of its UTF-8 gives the same characters, at corresponding
+-- positions.
 use Rattle.std.proofs.Common.{◌≡◌, ℕ, zero, suc, ◌+◌, ◌-◌, ◌<◌, ◌≤◌, cond, ◌==◌, ⊎_elim, List, length, Option, Some, None, option_map, option_and_then, slice_get, slice_index, IfSome, encode_utf8_all, refl, sym, ap, ◌∙◌, subst, arith, ◌++◌, drop}
 use Rattle.std.proofs.lemmas.List.{drop_more}
 use Rattle.std.proofs.lemmas.Bool.{cond-true, cond-false, le-leb, eq-eqb, ne_eqb, cases_lt}
@@ -9,11 +10,11 @@ use Rattle.std.specs.Option.{option_or}
 use Rattle.regress_tree.specs.Reading.{Direction, forwards, backwards, Read, next_character, IsText, of_characters, character_at, read_after, read_before_by, read_before, of_bytes, byte_place}
 use Rattle.regress_tree.proofs.laws.Characters.{byte_place-zero, byte_place-add-one, drop-byte_place, character_at_from, character_at-byte_place, character_at-end, character_at-inside}
 
--- a character read, in places of the UTF-8
+-- a decoded character, with its position as a byte offset
 abbrev pub byte_read : List ℕ → Read → Read
 byte_read text r = record { character = r.character; place = byte_place text r.place }
 
--- both readings over the characters, and neither at its end
+-- Both ways decode a character before the end of the text, and neither does at the end.
 pub after_within : (text : List ℕ) (k : ℕ) → k < length text →
     (of_characters text).after k ≡ Some (record { character = slice_index text k; place = k + 1 })
 after_within text k h = ap (option_map (λ c. record { character = c; place = k + 1 })) (slice_get-get_or text k 0 h)
@@ -79,7 +80,7 @@ none_before bytes n k j e is =
     ∙ ap (λ i. option_and_then (λ x. cond (len_utf8 x == n) (Some (record { character = x; place = i })) None) (character_at bytes i)) back
     ∙ ap (option_and_then (λ x. cond (len_utf8 x == n) (Some (record { character = x; place = k })) None)) e
 
--- behind the UTF-8 of a character that character ends
+-- A character ends after its UTF-8.
 pub read_before-behind : (bytes : List ℕ) (k c : ℕ) (rest : List ℕ) → IsScalar c → drop k bytes ≡ encode_utf8 c ++ rest →
     read_before bytes (k + len_utf8 c) ≡ Some (record { character = c; place = k })
 unfolding read_before
@@ -110,19 +111,19 @@ read_before-byte_place text is_text (suc k) within =
     next
     (before_next text is_text k within ∙ ap (option_map (byte_read text)) (sym (before_within text k within)))
 
--- Over the bytes of a text the next character is the one that comes over its characters, and its place answers that one's.
+-- The next character over the bytes of a text is the one over its characters, at the corresponding position.
 pub next_character-byte_place : (text : List ℕ) → IsText text → (d : Direction) (k : ℕ) → k ≤ length text →
     next_character d (of_bytes (encode_utf8_all text)) (byte_place text k)
     ≡ option_map (byte_read text) (next_character d (of_characters text) k)
 next_character-byte_place text is_text forwards k within = read_after-byte_place text is_text k within
 next_character-byte_place text is_text backwards k within = read_before-byte_place text is_text k within
 
--- the place does not lie against the direction
+-- The position `to` is not against the direction from `from`.
 abbrev pub IsOnward : Direction → (from to : ℕ) → Type 0
 IsOnward forwards from to = from ≤ to
 IsOnward backwards from to = to ≤ from
 
--- reading does not leave the text, and goes in its direction
+-- Decoding stays inside the text, and advances in its direction.
 pub next_character-within : (text : List ℕ) (d : Direction) (k : ℕ) → k ≤ length text →
     IfSome (next_character d (of_characters text) k) (λ r. (r.place ≤ length text) × IsOnward d k r.place)
 next_character-within text forwards k within =

@@ -1,4 +1,4 @@
--- References to what a group has captured, over the bytes of a text and over its characters.
+-- Back references, over the bytes of a text and over its characters.
 use Rattle.std.proofs.Common.{◌≡◌, ℕ, zero, suc, ◌+◌, ◌-◌, ◌<◌, ◌≤◌, Bool, List, [], ◌∷◌, length, Option, Some, None, option_map, slice_index, get_or, All, encode_utf8_all, refl, sym, ap, subst, ◌∙◌, ⊎_elim, arith}
 use Rattle.std.proofs.Math.ListN.{get_or-map}
 use Rattle.std.proofs.lemmas.List.Elements.{All-head, All-tail}
@@ -33,7 +33,7 @@ module _ (text : List ℕ) (is_text : IsText text) where
       cond-true _ _ _ (lt-ltb k end h)
       ∙ ap (read_with (λ j. characters_from (of_characters text) n j end)) (after_within text k (omega arith))
 
-  -- where the bounds reach to the end, the bytes between two places give the characters between them
+  -- If the bounds suffice, the bytes between two positions decode to the characters between them.
   characters_from-byte_place : (n m k end : ℕ) → k ≤ end → end ≤ length text → end ≤ k + n → end ≤ k + m →
       characters_from (of_bytes (encode_utf8_all text)) n (byte_place text k) (byte_place text end)
       ≡ characters_from (of_characters text) m k end
@@ -59,7 +59,7 @@ module _ (text : List ℕ) (is_text : IsText text) where
     Simulates-all_of (c ∷ cs) =
         Simulates-then text d _ _ _ _ (Simulates-one_character text is_text d (same c)) (Simulates-all_of cs)
 
-    -- what lies in a span, by its places and by its byte places
+    -- the text of a span, by positions and by byte offsets
     Simulates-once_more : (span : Option CaptureSpan) → IsCaptureOf text span →
         Simulates text d (once_more d (of_characters text) same span)
         (once_more d (of_bytes (encode_utf8_all text)) same (byte_capture text span))
@@ -74,7 +74,7 @@ module _ (text : List ℕ) (is_text : IsText text) where
         (all_of d (of_bytes (encode_utf8_all text)) same (in_order d cs)))
         (sym characters) sim
 
--- what a group has captured, if there is such a group, lies in the text
+-- The capture of a group, if there is one, is inside the text.
 capture-within : (text : List ℕ) (id : ℕ) (captures : List (Option CaptureSpan)) → All (IsCaptureOf text) captures → IsCaptureOf text (get_or captures id None)
 capture-within text id [] all = tt
 capture-within text zero (c ∷ captures) all = All-head (IsCaptureOf text) c captures all

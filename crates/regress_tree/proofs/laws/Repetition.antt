@@ -1,5 +1,5 @@
--- Repetition over the bytes of a text does what it does over its characters. How large the bound is makes no difference
--- once it is past what is left of the text.
+-- A loop over the bytes of a text matches what it matches over its characters. The bound makes no difference once it
+-- exceeds the remaining text.
 use Rattle.std.proofs.Common.{◌≡◌, ◌⊎◌, inl, inr, ⊎_elim, ℕ, zero, suc, ◌+◌, ◌-◌, ◌<◌, ◌≤◌, nat_le, nat_lt, ◌==◌, Bool, true, false, not, ◌&&◌, cond, List, [], ◌∷◌, ◌++◌, length, map, filter, flat_map, Option, Some, None, All, encode_utf8_all, refl, sym, ap, ap₂, subst, ◌∙◌, arith}
 use Rattle.std.proofs.lemmas.Bool.{cases_lt, eq-eqb, false≢true}
 use Rattle.std.proofs.lemmas.List.Elements.{All-cons, All-head, All-tail, All-filter, filter_passes}
@@ -11,7 +11,7 @@ use Rattle.regress_tree.specs.Repetition.{unset_from, unset, turn, turns, moving
 use Rattle.regress_tree.proofs.laws.ByteStates.{eqb-byte_place, filter-byte_state}
 use Rattle.regress_tree.proofs.laws.Simulation.{IsReached, Simulates, Simulates-within, Simulates-stay, Simulates-then, Simulates-or}
 
--- ---- one turn
+-- ---- one iteration
 
 module _ (text : List ℕ) where
   cond-byte_capture : (b : Bool) (c : Option CaptureSpan) → cond b None (byte_capture text c) ≡ byte_capture text (cond b None c)
@@ -43,13 +43,13 @@ module _ (text : List ℕ) where
   unset-within : (start end : ℕ) (s : State) → IsStateOf text s → IsStateOf text (unset start end s)
   unset-within start end s in' = record { place = in'.place; captures = unset_from-within 0 start end s.captures in'.captures }
 
--- ---- how much is left of the text
+-- ---- the length of the remaining text
 
 abbrev left : Direction → List ℕ → ℕ → ℕ
 left forwards text k = length text - k
 left backwards text k = k
 
--- a state of the text behind which less is left
+-- a state of the text with less remaining text
 record IsFurther (text : List ℕ) (d : Direction) (from to : State) : Type 0 where
   state : IsStateOf text to
   less : left d text to.place < left d text from.place
@@ -105,14 +105,14 @@ module _ (text : List ℕ) (d : Direction) (f g : Step) (sim : Simulates text d 
   Simulates-up_to false (suc n) =
       Simulates-or text d stay stay _ _ (Simulates-stay text d) (Simulates-then text d _ _ _ _ Simulates-moving (Simulates-up_to false n))
 
-  -- a turn that moves leaves less of the text
+  -- After an iteration that advances, less of the text remains.
   moving-further : (s : State) → IsStateOf text s → All (IsFurther text d s) (moving f s)
   moving-further s in' k e h =
       reached_further d text s _
       (All-filter (λ t. not (t.place == s.place)) (IsReached text d s) (f s) (sim.reached s in') k e h)
       (filter_passes (λ t. not (t.place == s.place)) (f s) k e h)
 
-  -- any two bounds past what is left give the same outcomes
+  -- Any two bounds that exceed the remaining text give the same outcomes.
   up_to-bound : (greedy : Bool) (n m : ℕ) (s : State) → IsStateOf text s → left d text s.place < n → left d text s.place < m →
       up_to greedy n f s ≡ up_to greedy m f s
   up_to-bound greedy zero m s in' hn hm = absurd (omega arith)
@@ -128,7 +128,7 @@ module _ (text : List ℕ) (d : Direction) (f g : Step) (sim : Simulates text d 
       (λ t further. up_to-bound false n m t further.state (omega (arith, further.less)) (omega (arith, further.less)))
       (moving f s) (moving-further s in'))
 
-  -- with bounds that are equal, or past the text's length
+  -- with bounds that are equal, or exceed the length of the text
   Simulates-up_to_bounds : (greedy : Bool) (n m : ℕ) → (n ≡ m) ⊎ ((length text < n) × (length text < m)) →
       Simulates text d (up_to greedy n f) (up_to greedy m g)
   Simulates-up_to_bounds greedy n m (inl e) =

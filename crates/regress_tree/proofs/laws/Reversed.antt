@@ -1,4 +1,4 @@
--- Nodes turned are a row turned.
+-- The trees of reversed nodes are the reversed trees.
 use Rattle.std.proofs.Common.{◌≡◌, List, [], ◌∷◌, reverse, refl, ap, ◌∙◌}
 use Rattle.std.proofs.lemmas.Grind.{reverse_onto}
 use Rattle.regress_tree.specs.declared.ir.node.Node.{Node}

@@ -1,4 +1,4 @@
--- Rows of trees, one behind the other.
+-- Joined lists of trees.
 use Rattle.std.proofs.Common.{◌≡◌, ℕ, List, [], ◌∷◌, ◌++◌, map, flat_map, refl, sym, ap, ◌∙◌, append_assoc, append-nil}
 use mathlib.Core.Path.{fun_ext}
 use Rattle.std.proofs.lemmas.List.{map-append}
@@ -27,7 +27,7 @@ row-append (t ∷ ts) us = ap (more_trees t) (row-append ts us)
 pub trees-append : (xs ys : List Node) → trees (xs ++ ys) ≡ row_append (trees xs) (trees ys)
 trees-append xs ys = ap row (map-append tree xs ys) ∙ row-append (map tree xs) (map tree ys)
 
--- What a row matches and captures.
+-- ---- what a list matches and captures
 
 pub steps-append : (setting : Setting) (bytes : List ℕ) (d : Direction) (ts us : Trees) (s : State) →
     steps_in_row setting bytes d (row_append ts us) s ≡ flat_map (steps_in_row setting bytes d us) (steps_in_row setting bytes d ts s)
@@ -41,7 +41,7 @@ captures-append no_trees us = refl
 captures-append (more_trees t ts) us =
     ap (λ cs. captures t ++ cs) (captures-append ts us) ∙ sym (append_assoc (captures t) (captures_in_row ts) (captures_in_row us))
 
--- What may stand as the last part of a `Cat` may stand where the `Cat` does.
+-- ---- a tree that is allowed as the last part of a `Cat` is allowed in the position of the `Cat`
 
 LeafMayStand-wider : (n : ℕ) (p q : Position) → NotAsOneCharacter q → (GoalMayStand p → GoalMayStand q) →
     (l : Leaf) → LeafMayStand n l p → LeafMayStand n l q
@@ -87,14 +87,14 @@ MayStand-from_last n t inside any m = m
 MayStand-from_last n t last any m = MayStand-last n t m
 MayStand-from_last n t root any m = MayStand-root n t m
 
--- what may stand in a `Cat` that is the last part may stand where that part does
+-- The parts of a `Cat` that is the last part are allowed in the position of that part.
 pub RowMayStand-last_of : (n : ℕ) (ts : Trees) (p : Position) → RowMayStand n ts (last_of (last_of p)) → RowMayStand n ts (last_of p)
 RowMayStand-last_of n ts one_character m = m
 RowMayStand-last_of n ts inside m = m
 RowMayStand-last_of n ts last m = m
 RowMayStand-last_of n ts root m = RowMayStand-last n ts m
 
--- Rows of what may stand, joined.
+-- ---- joined lists of allowed trees
 
 MayStand-last_of : (n : ℕ) (t : Tree) (p : Position) → MayStand n t inside → MayStand n t (last_of p)
 MayStand-last_of n t one_character m = m
@@ -114,7 +114,7 @@ RowMayStand-append n (more_trees t no_trees) us p first second = RowMayStand-mor
 RowMayStand-append n (more_trees t (more_trees u ts)) us p first second =
     RowMayStand-more n t (row_append (more_trees u ts) us) p first.0 (RowMayStand-append n (more_trees u ts) us p first.1 second)
 
--- A row of what may stand, taken apart.
+-- ---- a list of allowed trees, taken apart
 
 pub RowMayStand-parts : (n : ℕ) (t : Tree) (ts : Trees) → RowMayStand n (more_trees t ts) inside →
     MayStand n t inside × RowMayStand n ts inside

@@ -1,4 +1,4 @@
--- Each word of `Steps` does over the bytes of a text what it does over its characters.
+-- Each operation of `Steps` does over the bytes of a text what it does over its characters.
 use Rattle.std.proofs.Common.{◌≡◌, ℕ, ◌≤◌, Bool, true, false, cond, min, max, ◌<◌, List, [], ◌∷◌, ◌++◌, length, map, set, Option, Some, None, option_map, IfSome, All, flat_map, encode_utf8_all, refl, sym, ap, ap₂, ◌∙◌, ⊎_elim, arith}
 use Rattle.std.proofs.lemmas.List.{map-append, map-set}
 use Rattle.std.proofs.lemmas.List.Elements.{All-nil, All-cons, All-head, All-tail, All-append, All-set, All-map, All-weaker}
@@ -9,12 +9,12 @@ use Rattle.regress_tree.specs.Lookaround.{looked, look}
 use Rattle.regress_tree.proofs.laws.Characters.{byte_place-le}
 use Rattle.regress_tree.proofs.laws.Readings.{byte_read, IsOnward, next_character-byte_place, next_character-within}
 
--- a state of the text that does not lie against the direction, as seen from another one
+-- a state of the text that is not against the direction from another one
 pub record IsReached (text : List ℕ) (d : Direction) (from to : State) : Type 0 where
   pub state : IsStateOf text to
   pub onward : IsOnward d from.place to.place
 
--- The step g over the bytes of a text does what f does over its characters, and f does not leave the text and goes in
+-- The step g over the bytes of a text does what f does over its characters, and f stays inside the text and advances in
 -- the direction.
 pub record Simulates (text : List ℕ) (d : Direction) (f g : Step) : Type 0 where
   pub same : (s : State) → IsStateOf text s → g (byte_state text s) ≡ map (byte_state text) (f s)
@@ -32,14 +32,14 @@ module _ (text : List ℕ) (d : Direction) where
   pub Simulates-within : (f g : Step) → Simulates text d f g → (s : State) → IsStateOf text s → All (IsStateOf text) (f s)
   Simulates-within f g sim s in' = All-weaker (IsReached text d s) (IsStateOf text) (λ t r. r.state) (f s) (sim.reached s in')
 
-  -- a step that is equal at each state serves as well
+  -- A step that is equal at each state simulates too.
   pub Simulates-same_right : (f g h : Step) → ((s : State) → h s ≡ g s) → Simulates text d f g → Simulates text d f h
   Simulates-same_right f g h e sim = record {
     same = λ s in'. e (byte_state text s) ∙ sim.same s in';
     reached = sim.reached;
   }
 
-  -- the state alone is reached
+  -- The state itself is reached.
   reached_itself : (s : State) → IsStateOf text s → All (IsReached text d s) (s ∷ [])
   reached_itself s in' =
       All-cons (IsReached text d s) s [] (record { state = in'; onward = IsOnward-refl d s.place }) (All-nil (IsReached text d s))
@@ -58,7 +58,7 @@ module _ (text : List ℕ) (d : Direction) where
       (flat_map-byte_state f g sim states (All-tail (IsStateOf text) s states all))
       ∙ sym (map-append (byte_state text) (f s) (flat_map f states))
 
-  -- what a step makes of what is reached is reached
+  -- The outcomes of a step from reached states are reached.
   flat_map-reached : (f g : Step) → Simulates text d f g → (from : State) (states : List State) → All (IsReached text d from) states →
       All (IsReached text d from) (flat_map f states)
   flat_map-reached f g sim from [] all = All-nil (IsReached text d from)
@@ -83,7 +83,7 @@ module _ (text : List ℕ) (d : Direction) where
     reached = λ s in'. All-append (IsReached text d s) (f s) (h s) (left.reached s in') (right.reached s in');
   }
 
-  -- ---- tests on a place
+  -- ---- tests on a position
 
   cond-itself : (s : State) → IsStateOf text s → (b : Bool) → All (IsReached text d s) (cond b (s ∷ []) [])
   cond-itself s in' true = reached_itself s in'
@@ -93,7 +93,7 @@ module _ (text : List ℕ) (d : Direction) where
   cond-same s true = refl
   cond-same s false = refl
 
-  -- a test that answers the same at each place of the text
+  -- a test with the same result at each position of the text
   pub Simulates-hold_at : (p q : ℕ → Bool) → ((k : ℕ) → k ≤ length text → q (byte_place text k) ≡ p k) →
       Simulates text d (hold_at p) (hold_at q)
   unfolding hold_at
@@ -105,7 +105,7 @@ module _ (text : List ℕ) (d : Direction) where
 -- ---- characters
 
 module _ (text : List ℕ) (d : Direction) (test : ℕ → Bool) (s : State) (in' : IsStateOf text s) where
-  -- whether or not the character passes
+  -- whether or not the character passes the test
   cond-byte_state : (b : Bool) (k : ℕ) →
       cond b (record (byte_state text s) { place = byte_place text k } ∷ []) []
       ≡ map (byte_state text) (cond b (record s { place = k } ∷ []) [])
@@ -215,7 +215,7 @@ module _ (text : List ℕ) (d e : Direction) (s : State) (in' : IsStateOf text s
   looked-byte_state true [] = refl
   looked-byte_state true (t ∷ states) = refl
 
-  -- the place stays, in whatever direction the outcomes lie
+  -- The position stays the same, whatever the direction of the outcomes.
   looked-reached : (negate : Bool) (states : List State) → All (IsReached text e s) states → All (IsReached text d s) (looked negate s states)
   looked-reached false [] all = All-nil (IsReached text d s)
   looked-reached false (t ∷ states) all =
@@ -226,7 +226,7 @@ module _ (text : List ℕ) (d e : Direction) (s : State) (in' : IsStateOf text s
   looked-reached true [] all = reached_itself text d s in'
   looked-reached true (t ∷ states) all = All-nil (IsReached text d s)
 
--- what is looked at lies in a direction of its own
+-- The body of a lookaround has a direction of its own.
 pub Simulates-look : (text : List ℕ) (d e : Direction) (negate : Bool) (f g : Step) → Simulates text e f g →
     Simulates text d (look negate f) (look negate g)
 unfolding look

@@ -1,4 +1,4 @@
--- What a call says at a walk, said at the walk where it was made.
+-- A statement about a call at a walk, transferred to an equal walk.
 use Rattle.std.proofs.Common.{◌≡◌, ℕ, Bool}
 use Rattle.regress_tree.specs.Tree.{Tree, Trees}
 use Rattle.regress_tree.specs.Visits.{Visited, Inside, RowVisited}

@@ -1,4 +1,4 @@
--- Rows of trees turned: the last one first.
+-- Reversed lists of trees.
 use Rattle.std.proofs.Common.{◌≡◌, ℕ, List, [], ◌++◌, flat_map, refl, sym, ap, subst, ◌∙◌, append-nil}
 use mathlib.Core.Path.{fun_ext}
 use Rattle.std.specs.List.Sorted.{IsPermutation}
@@ -23,7 +23,7 @@ row_reverse-twice no_trees = refl
 row_reverse-twice (more_trees t ts) =
     row_reverse-append (row_reverse ts) (more_trees t no_trees) ∙ ap (more_trees t) (row_reverse-twice ts)
 
--- a row turned matches as the others turned and then its first part
+-- A reversed list matches as the reversed rest and then the first part.
 pub steps-row_reverse : (setting : Setting) (bytes : List ℕ) (d : Direction) (t : Tree) (ts : Trees) (s : State) →
     steps_in_row setting bytes d (row_reverse (more_trees t ts)) s
     ≡ (steps_in_row setting bytes d (row_reverse ts) then_ steps setting bytes d t) s
@@ -31,7 +31,7 @@ steps-row_reverse setting bytes d t ts s =
     steps-append setting bytes d (row_reverse ts) (more_trees t no_trees) s
     ∙ ap (λ f. flat_map f (steps_in_row setting bytes d (row_reverse ts) s)) (fun_ext (λ u. flat_map-stay (steps setting bytes d t u)))
 
--- it has the same capture groups
+-- A reversed list has the same capture groups,
 pub captures-row_reverse : (ts : Trees) → IsPermutation (captures_in_row ts) (captures_in_row (row_reverse ts))
 captures-row_reverse no_trees = IsPermutation-refl []
 captures-row_reverse (more_trees t ts) =
@@ -42,7 +42,7 @@ captures-row_reverse (more_trees t ts) =
     (IsPermutation-append_comm (captures t) (captures_in_row ts))
     (IsPermutation-append_left (captures t) _ _ (captures-row_reverse ts)))
 
--- and may stand where the row may
+-- and is allowed where the list is.
 pub RowMayStand-row_reverse : (n : ℕ) (ts : Trees) → RowMayStand n ts inside → RowMayStand n (row_reverse ts) inside
 RowMayStand-row_reverse n no_trees m = tt
 RowMayStand-row_reverse n (more_trees t no_trees) m = m

@@ -1,4 +1,4 @@
--- Repetition of what matches the empty text alone, of what has no group inside, and of no turn.
+-- Loops over the empty text, loops without a group inside, and loops with a maximum of zero iterations.
 use Rattle.std.proofs.Common.{◌≡◌, ℕ, zero, suc, ◌≤◌, Bool, true, false, not, cond, [], ◌∷◌, ◌++◌, Option, Some, sym, refl, ap, ap₂, subst, ◌∙◌, append-nil, le_refl, arith}
 use Rattle.std.specs.Prelude.{IfSome}
 use Rattle.std.specs.List.{flat_map}
@@ -22,14 +22,14 @@ up_to-stay true (suc n) s = ap (λ states. flat_map (up_to true n stay) states +
 up_to-stay false (suc n) s = ap (λ states. s ∷ flat_map (up_to false n stay) states) (moving-stay s)
 
 module _ (bound : ℕ) (q : Quantifier) (start end : ℕ) where
-  -- turns without a group inside forget nothing
+  -- Iterations without a group inside reset nothing,
   pub repeat-groupless : (f : Step) → end ≤ start → repeat bound q start end f ≡ repeat bound q 0 0 f
   unfolding repeat
   repeat-groupless f ends =
       ap (λ (g : Step). turns q.min g then_ up_to q.greedy (more_turns bound q) g)
       (turn-none start end ends f ∙ sym (turn-none 0 0 (le_refl 0) f))
 
-  -- and turns of the empty text alone change nothing
+  -- and iterations over the empty text alone change nothing.
   pub repeat-stay : end ≤ start → (s : State) → repeat bound q start end stay s ≡ stay s
   unfolding repeat
   repeat-stay ends s =
@@ -40,7 +40,7 @@ module _ (bound : ℕ) (q : Quantifier) (start end : ℕ) where
   more_turns-none : q.max ≡ Some 0 → more_turns bound q ≡ 0
   more_turns-none is = rw is (omega arith)
 
-  -- no turn
+  -- no iteration
   pub repeat-none : q.max ≡ Some 0 → IsQuantifier q → (f : Step) (s : State) → repeat bound q start end f s ≡ stay s
   unfolding repeat
   repeat-none is quantifier f s =

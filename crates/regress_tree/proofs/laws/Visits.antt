@@ -1,4 +1,4 @@
--- Visits put together.
+-- Composition of visits.
 use Rattle.std.proofs.Common.{◌≡◌, ℕ, zero, suc, ◌+◌, ◌-◌, ◌/◌, ◌<◌, ◌≤◌, min, Bool, true, false, refl, sym, ap, ◌∙◌, arith, rules, Box, Global, List, [], ◌∷◌, length, get_or, set, take, drop, le_refl}
 use Rattle.std.proofs.lemmas.List.{drop_more, drop-drop, drop-set-lt, take_more_set}
 use Rattle.regress_tree.proofs.laws.Rows.{row_append-assoc, trees-append}
@@ -16,7 +16,7 @@ use Rattle.regress_tree.specs.declared.ir.walker.Walk.{Walk}
 use Rattle.std.specs.Borrow.{MutBor}
 use Rattle.regress_tree.specs.Spine.{Shifted, reattach, spine_length}
 
--- where the depth is counted in one sum
+-- the depth as one sum
 pub further-sum : (k depth : ℕ) → 0 < k → min (depth + k) 18446744073709551615 ≡ further k depth
 further-sum zero depth some = elim some [ ]
 further-sum (suc zero) depth some = refl
@@ -31,7 +31,7 @@ further-twice : (j k depth : ℕ) → further k (further j depth) ≡ further (j
 further-twice j zero depth = rw add-zero refl
 further-twice j (suc k) depth = ap deeper (further-twice j k depth) ∙ ap (λ n. further n depth) (sym (add-suc j k))
 
--- the right side of an `Alt` lies deeper
+-- The right side of an `Alt` is smaller.
 pub right_smaller : (node : Node) (left right : Box Node Global) → node ≡ Alt left right → size-Node right.value ≤ size-Node node
 right_smaller node left right is = search (rules, the_lemmas)
 
@@ -46,7 +46,7 @@ pub down_next : (node : Node) (left right : Box Node Global) (k : ℕ) (t : Tree
     tree right.value ≡ down (k + 1) t
 down_next node left right k t is below = rw add-one (sym (ap right_side (ap tree is ∙ tree-Alt left right)) ∙ ap right_side below)
 
--- A row of nodes, of which one is visited.
+-- ---- a list of nodes, of which one is visited
 
 nodes_drop : (i : ℕ) (nodes' : List Node) → nodes_in_row (trees (drop i nodes')) ≤ nodes_in_row (trees nodes')
 nodes_drop zero nodes' = le_refl _
@@ -55,7 +55,7 @@ nodes_drop (suc i) (node ∷ rest) = omega (arith, nodes_drop i rest)
 
 module _ (now old : List Node) (i : ℕ) (in_row : i < length now) (node : Node) (at : node ≡ get_or now i node)
     (unvisited : drop i now ≡ drop i old) where
-  -- what is not visited yet, of which the node is the first
+  -- The list of unvisited nodes begins with the node.
   pub next_is : drop i old ≡ node ∷ drop (i + 1) old
   next_is =
       let here : drop i now ≡ node ∷ drop (i + 1) now = drop_more now i node in_row ∙ ap (λ n. n ∷ drop (i + 1) now) (sym at) in
@@ -86,7 +86,7 @@ module _ {State : Type 0} (Call : State → Tree → ℕ → Bool → State → 
       let call = rw (further-twice j k depth, down-twice j k t) at lower.2 in
       rw add-suc (lower.0, lower.1, call, Climbed-both j k depth behind t lower.0 b c lower.3 upper)
 
-  -- the calls on the lower half of a way, and then on the upper one
+  -- the calls on the lower half of the nodes, and then on the upper half
   pub Climbed-two : (n depth : ℕ) (behind : Bool) (t : Tree) (a b c : State) → 1 < n →
       Climbed Call (n - n / 2) (min (depth + n / 2) 18446744073709551615) behind (down (n / 2) t) a b →
       Climbed Call (n / 2) depth behind t b c → Climbed Call n depth behind t a c
@@ -106,7 +106,7 @@ module _ {State : Type 0} (Call : State → Tree → ℕ → Bool → State → 
       Visited Call p (deeper d) behind (tree right.value) (tree right.value) b c → Inside Call p d behind (tree node) (tree node) a c
   in_Alt node left right is first second = rw (is, tree-Alt) (in_alt first second)
 
-  -- One more alternative on the way down: its children are visited, and its call is the first one on the way up.
+  -- One more alternative on the way down: its children are visited, and its call is the first on the way up.
   pub after_next : (k here depth : ℕ) (behind : Bool) (node t : Tree) (a b e : State) (Whole : Type 0) →
       node ≡ down k t → here ≡ further k depth →
       ((c : State) → Visited Call true here behind node node a c → Climbed Call k depth behind t c e → Whole) →
@@ -115,7 +115,7 @@ module _ {State : Type 0} (Call : State → Tree → ℕ → Bool → State → 
       let up : Climbed Call (suc k) depth behind t b e = rw add-one at climbed in
       whole up.0 (after_children inside (rw (← below, ← is) at up.2)) up.3
 
-  -- A left side on the way down, whose links are turned round: with the visits to come, the whole is visited.
+  -- A left side on the way down, with reversed links: with the remaining visits, the whole is visited.
   module _ (d depth : ℕ) (behind : Bool) (node above rest top left left' right : Tree) (shifted : Shifted node above rest top)
       (is : top ≡ alt left right) where
     side : shifted.left ≡ left
@@ -154,7 +154,7 @@ module _ {State : Type 0} (Call : State → Tree → ℕ → Bool → State → 
         let called = rw (← here) at rest_climbed.3 in
         whole rest_climbed.1 rest_climbed.0 (rw sides (after_children (in_alt first second) called)) rest_climbed.4
 
-  -- a tree that holds no node
+  -- a tree that contains no node
   pub at_leaf : {p : Bool} {d : ℕ} {behind : Bool} {a : State} (t : Tree) → is_leaf t ≡ true → Inside Call p d behind t t a a
   at_leaf (leaf l) is = in_leaf
   at_leaf (cat parts) is = absurd (false≢true is)

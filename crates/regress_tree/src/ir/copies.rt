@@ -16,8 +16,14 @@ impl Node {
     ghost use Rattle.std.specs.Prelude.{◌≡◌, IfOk};
     ghost use Rattle.regress_tree.specs.Tree.{tree};
 
-    /// An equal tree with memory of its own. Right sides of alternatives take no stack: only left sides and
-    /// what lies in other nodes do.
+    /// Returns an equal tree that owns all of its memory.
+    ///
+    /// # Errors
+    /// Returns [`AllocError`] if an allocation fails. What was copied until then is freed.
+    ///
+    /// # Complexity
+    /// Linear in the size of the tree. The recursion is as deep as nodes are nested, where right sides of alternatives
+    /// do not count.
     pub fn try_clone(&self, alloc: Global) -> Result<Node, AllocError>
         ensures { IfOk result (λ copy. tree copy ≡ tree self.now) }
     {
@@ -25,7 +31,7 @@ impl Node {
     }
 }
 
-/// The depth of the deepest nodes that [`Node::try_duplicate`] copies.
+/// The greatest depth of a node that [`Node::try_duplicate`] copies.
 const MAX_COPY_DEPTH: usize = 100;
 
 impl Node {
@@ -35,9 +41,17 @@ impl Node {
     ghost use Rattle.regress_tree.specs.Measures.{levels};
     ghost use Rattle.regress_tree.specs.Shapes.{has_string_set};
 
-    /// An equal node with memory of its own, where this one stands at `depth` in a tree. It is None if a
-    /// `StringSet`, which may be long, stands in it, or a node of it at a depth past 100. The caller knows that
-    /// no capture group is inside, and that the group range of each loop and lookaround inside is empty.
+    /// Returns an equal node that owns all of its memory, for a node that is at `depth` in a tree (the root has depth
+    /// 0). The result is `None` if the node contains a `StringSet`, which may be long, or a node at a depth above 100.
+    ///
+    /// # Preconditions
+    /// The node contains no capture group, and the group range of each loop and lookaround inside is empty.
+    ///
+    /// # Errors
+    /// Returns [`AllocError`] if an allocation fails. What was copied until then is freed.
+    ///
+    /// # Complexity
+    /// Linear in the size of the node. The recursion is at most 102 nodes deep.
     pub fn try_duplicate(&self, alloc: Global, depth: usize) -> Result<Option<Node>, AllocError>
         requires { HasNoGroup (tree self.now) }
         ensures copy { IfOk result (λ found. IfSome found (λ copy. tree copy ≡ tree self.now)) }
@@ -52,7 +66,13 @@ impl Regex {
     ghost use Rattle.std.specs.Prelude.{◌≡◌, IfOk};
     ghost use Rattle.regress_tree.specs.Tree.{tree};
 
-    /// An equal pattern with memory of its own.
+    /// Returns an equal pattern, tree and flags, that owns all of its memory.
+    ///
+    /// # Errors
+    /// Returns [`AllocError`] if an allocation fails. What was copied until then is freed.
+    ///
+    /// # Complexity
+    /// As [`Node::try_clone`].
     pub fn try_clone(&self, alloc: Global) -> Result<Regex, AllocError>
         ensures node { IfOk result (λ copy. tree copy.node ≡ tree self.now.node) }
         ensures flags { IfOk result (λ copy. copy.flags ≡ self.now.flags) }
@@ -64,7 +84,7 @@ impl Regex {
     }
 }
 
-// It goes down the right sides of alternatives in a loop: there may be as many levels as alternatives.
+// A loop follows the right sides of alternatives, since an alternation nests as deep as it has alternatives.
 #[cycle(copy)]
 fn copy_node(node: &Node, alloc: Global) -> Result<Node, AllocError>
     ensures { IfOk result (λ copy. tree copy ≡ tree node.now) }
@@ -81,7 +101,7 @@ fn copy_node(node: &Node, alloc: Global) -> Result<Node, AllocError>
     Ok(copy)
 }
 
-/// Copies a node that is no `Alt`.
+/// Copies a node that is not an `Alt`.
 #[cycle(copy)]
 fn copy_other(node: &Node, alloc: Global) -> Result<Node, AllocError>
     requires { is_alt (tree node.now) ≡ false }
@@ -230,7 +250,7 @@ fn duplicate_nodes(
     Ok(Some(copies))
 }
 
-/// Copies a node that holds no node.
+/// Copies a node that contains no node.
 fn copy_leaf(node: &Node, alloc: Global) -> Result<Node, AllocError>
     requires { is_leaf (tree node.now) ≡ true }
     ensures { IfOk result (λ copy. tree copy ≡ tree node.now) }

@@ -1,4 +1,4 @@
-//! The printed tree: one line a node, each node before its children.
+//! The printed form of a tree: one line for each node, each node before its children.
 ghost use Rattle.std.specs.Prelude.{◌≡◌, ◌++◌, codes, option_map, string_bytes};
 ghost use Rattle.std.specs.List.{join_by};
 ghost use Rattle.std.specs.Fmt.{WritesOnOk, decimal};
@@ -14,7 +14,7 @@ use regress_base::types::{
 use std::fmt;
 use std::fmt::{Formatter, Write};
 
-/// How many levels are shown by dots. A deeper one is shown by its number.
+/// The greatest depth that is printed as dots. For a deeper node the excess is printed as a number.
 const MAX_DEPTH_DOTS: usize = 120;
 
 impl fmt::Display for Regex {
@@ -29,7 +29,8 @@ impl fmt::Display for Regex {
     }
 }
 
-/// The lines of a tree whose root is this node.
+/// Writes the lines of the tree whose root is this node. Alternatives take no stack, however many there are, unlike
+/// with the derived `Debug`.
 impl fmt::Display for Node {
     ghost use Rattle.std.specs.Prelude.{Some};
     ghost use Rattle.regress_tree.specs.Tree.{tree};
@@ -42,7 +43,8 @@ impl fmt::Display for Node {
     }
 }
 
-// It goes down the right sides of alternatives in a loop: there may be as many levels as alternatives.
+// A loop follows the right sides of alternatives and single bodies: an alternation nests as deep as it has
+// alternatives.
 #[cycle(write_tree)]
 fn write_tree<W: Write>(node: &Node, depth: usize, f: &mut Formatter<W>) -> fmt::Result
     ensures { WritesOnOk W.write_str_gives f.old result (text.printed_at depth (tree node.now)) f.new }
@@ -99,7 +101,7 @@ fn write_indent<W: Write>(depth: usize, f: &mut Formatter<W>) -> fmt::Result
     Ok(())
 }
 
-/// Writes what stands on the line of a node.
+/// Writes the text of a node's line, after the indent.
 fn write_node<W: Write>(node: &Node, f: &mut Formatter<W>) -> fmt::Result
     ensures { WritesOnOk W.write_str_gives f.old result (text.node_text (tree node.now)) f.new }
 {

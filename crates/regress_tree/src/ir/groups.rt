@@ -1,13 +1,13 @@
-//! The capture groups of a tree, as one pass gathers them.
+//! The capture groups of a tree, as one pass over it collects them.
 ghost use Rattle.std.specs.Prelude.{◌≡◌, ℕ, ◌==◌, ◌||◌, false, not};
 
 use regress_base::bytesearch::ByteBitmap;
 use regress_base::types::CaptureGroupID;
 
-/// How many ids a page has: one for each byte.
+/// The number of ids in a page: one for each value of a byte.
 const PAGE: u16 = 256;
 
-/// A set of ids of capture groups: id `k` is member `k % 256` of page `k / 256`.
+/// A set of capture group ids: id `k` is bit `k % 256` of page `k / 256`. It takes 8 KiB.
 #[derive(Drop)]
 pub struct GroupIds {
     pages: [ByteBitmap; 256],
@@ -16,7 +16,7 @@ pub struct GroupIds {
 impl GroupIds {
     ghost use Rattle.regress_tree.specs.Survey.{holds};
 
-    /// The empty set.
+    /// Returns the empty set.
     pub fn new() -> GroupIds
         ensures { (k : ℕ) → holds result k ≡ false }
     {
@@ -25,7 +25,7 @@ impl GroupIds {
         }
     }
 
-    /// Adds an id, and answers whether it was not there before.
+    /// Adds an id, and returns whether it is new.
     pub fn insert(&mut self, id: CaptureGroupID) -> bool
         ensures new { result ≡ not (holds self.old id) }
         ensures after { (k : ℕ) → holds self.new k ≡ ((k == id) || holds self.old k) }
@@ -38,16 +38,16 @@ impl GroupIds {
     }
 }
 
-/// What is told of the capture groups of a part of a tree, whose ids differ, and of its references.
+/// A summary of the capture groups of a part of a tree, whose ids differ, and of its back references.
 #[derive(Clone, Copy)]
 pub struct Tally {
-    /// How many groups there are, at most `u32::MAX`.
+    /// The number of groups, at most `u32::MAX`.
     pub count: u32,
-    /// The least id, and 65,536 where there is none.
+    /// The least id, or 65,536 if there is none.
     pub least: u32,
-    /// One past the greatest id, and 0 where there is none.
+    /// One more than the greatest id, or 0 if there is none.
     pub past: u32,
-    /// The greatest group that is referred to, counted from 1, and 0 where there is none.
+    /// The greatest group number of a back reference, 1-based, or 0 if there is none.
     pub reference: u32,
 }
 
@@ -55,7 +55,7 @@ impl Tally {
     ghost use Rattle.std.specs.Prelude.{◌≡◌, []};
     ghost use Rattle.regress_tree.specs.Survey.{IsTally, joined, one, fill};
 
-    /// No group, and this reference, or 0.
+    /// Returns the summary of a part without groups, with this greatest reference, or 0 for none.
     pub fn none(reference: u32) -> Tally
         ensures { IsTally result [] reference }
     {
@@ -67,7 +67,7 @@ impl Tally {
         }
     }
 
-    /// The groups of two parts.
+    /// Returns the summary of two parts together.
     pub fn join(self, other: Tally) -> Tally
         ensures { result ≡ joined self other }
     {
@@ -79,7 +79,7 @@ impl Tally {
         }
     }
 
-    /// With one group more.
+    /// Returns the summary with one more group.
     pub fn with(self, id: CaptureGroupID) -> Tally
         ensures { result ≡ joined (one id) self }
     {
@@ -92,8 +92,8 @@ impl Tally {
         }
     }
 
-    /// Whether the ids, which differ, are those from `start` to `end` without it: none of them lies outside, and
-    /// they are as many.
+    /// Returns whether the ids, which differ, are exactly those of the half-open range from `start` to `end`: none is
+    /// outside, and their number is that of the range.
     pub fn are(self, start: u32, end: u32) -> bool
         ensures { result ≡ fill start end self }
     {

@@ -1,4 +1,4 @@
-//! The one node that a group, a loop or a lookaround holds.
+//! Access to the body of a node: the one node that a group, a loop or a lookaround contains.
 ghost use Rattle.std.specs.Prelude.{◌≡◌, ◌<◌, ◌+◌, min, false, IfSome, MatchOption};
 ghost use Rattle.std.specs.Borrow.{LendsSo, sem};
 ghost use Rattle.regress_tree.specs.contracts.ir.node.Node.{the_row};
@@ -8,7 +8,7 @@ ghost use Rattle.regress_tree.specs.Tree.{tree};
 
 use super::{Node, Walk};
 
-/// The node that it holds, if it holds one alone.
+/// Returns the body of a group, loop or lookaround, and `None` for any other node.
 pub fn body(node: &Node) -> Option<&Node>
     ensures body { MatchOption result (is_wrapper (tree node.now) ≡ false) (λ body. IsAround (tree node.now) (tree body.now)) }
     ensures smaller { IfSome result (λ body. size-Node body.now < size-Node node.now) }
@@ -22,7 +22,7 @@ pub fn body(node: &Node) -> Option<&Node>
     }
 }
 
-/// The same, to be changed.
+/// Returns the body of a group, loop or lookaround as a mutable reference, and `None` for any other node.
 pub fn body_mut(node: &mut Node) -> Option<&mut Box<Node>>
     ensures* writes_back { sem 𝓛 (LendsSo the_row box_row node.entry result (HoldsAfter result node.old) (λ n. tree n ≡ tree node.old)) }
     ensures body { MatchOption result (is_wrapper (tree node.old) ≡ false) (λ body. IsAround (tree node.old) (tree body.now.value)) }
@@ -36,7 +36,8 @@ pub fn body_mut(node: &mut Node) -> Option<&mut Box<Node>>
     }
 }
 
-/// The walk at what a node of a walk holds.
+/// Returns the walk at the children of `node`, from the walk at `node`: one deeper, and in a lookaround with its
+/// direction.
 pub fn walk_inside(walk: &Walk, node: &Node) -> Walk
     ensures children { result.skip_children ≡ false }
     ensures depth { result.depth ≡ min (walk.now.depth + 1) usize.MAX }

@@ -1,4 +1,4 @@
-//! The tree.
+//! The types of the tree: `Node` and `Regex`.
 
 use regress_base::types::{
     AnchorType, BracketContents, CaptureGroupID, CaptureGroupName, Flags, Quantifier,
@@ -6,70 +6,96 @@ use regress_base::types::{
 use std::boxed::BoxedSlice;
 use std::ops::Range;
 
-/// A node of the tree of a pattern. `specs/Matching.antt` says what each kind matches.
+/// A node of the tree of a pattern. `specs/Matching.antt` defines what each kind matches.
 ///
-/// A tree has as many levels as an alternation has alternatives, and dropping one takes no stack for
-/// these: only for left sides and parts of `Cat`s, as deep as groups lie in one another. For this a node has
-/// a `Drop` of its own, so it is matched by reference, and a child is taken out by `mem::replace`.
+/// Nodes are matched in a direction: forwards, or backwards inside a lookbehind (a `LookaroundAssertion` with
+/// `backwards`; the nearest lookaround around a node determines its direction). Inside a lookbehind the parts of a
+/// `Cat` are stored in reverse order. Bytes and strings are always stored in the order of the text.
+///
+/// An alternation is nested to the right: `a|b|c` is `Alt(a, Alt(b, c))`, so a tree is as deep as an alternation has
+/// alternatives. Dropping a tree, `walk`, `walk_mut`, `try_clone`, `is_well_formed` and `Display` follow right sides in
+/// loops; they take stack for left sides, parts of `Cat`s and bodies only. The derived `Debug` recurses into right
+/// sides, as does any recursive function of a caller's own, such as a comparison: `{:?}` of a tree with very many
+/// alternatives, such as 200,000, can overflow the stack. Print such a tree with `Display`.
+///
+/// `Node` implements `Drop`, so its fields cannot be moved out of a pattern: match by reference, and take a child out
+/// by `mem::replace`.
 #[derive(Debug)]
 pub enum Node {
     /// Matches the empty text.
     Empty,
-    /// The end of the pattern, where a match has succeeded.
+    /// The end of the pattern, where a match has succeeded. In a well-formed tree it is the root or the last part of a
+    /// `Cat` that is the root. It matches the empty text.
     Goal,
-    /// One character. A surrogate or a number past U+10FFFF is none, and matches nothing.
+    /// Matches the character `c` itself, without folding. If `c` is a surrogate or greater than U+10FFFF, it never
+    /// matches.
     Char {
         c: u32,
     },
-    /// These bytes as they stand, whole UTF-8 of characters. No byte matches the empty text.
+    /// Matches exactly these bytes, which are the UTF-8 of whole characters, in the order of the text also inside a
+    /// lookbehind. An empty sequence matches the empty text.
     ByteSequence(Vec<u8>),
-    /// One character of a set of at most four ASCII bytes. An empty set matches nothing.
+    /// Matches one character of a set of at most four ASCII bytes. An empty set never matches.
     ByteSet(Vec<u8>),
-    /// One character of a set of at most four code points. An empty set matches nothing.
+    /// Matches one character of a set of at most four code points. An empty set never matches.
     CharSet(Vec<u32>),
-    /// The parts one after another. In a lookbehind they stand turned: the last one first.
+    /// A sequence: matches its parts in the order of the list. Inside a lookbehind the list is in reverse order, the
+    /// last part of the pattern first, since matching runs backwards there; an emitter therefore emits the parts in the
+    /// order of the list in both directions. A `Cat` without parts matches the empty text.
     Cat(Vec<Node>),
-    /// What the left side matches, and then what the right side does.
+    /// An alternation: the outcomes of the left side, and then those of the right side.
     Alt(Box<Node>, Box<Node>),
-    /// Any character.
+    /// Matches any character (`.` with the flag s).
     MatchAny,
-    /// Any character but a line terminator.
+    /// Matches any character except a line terminator: U+000A, U+000D, U+2028, U+2029 (`.` without the flag s).
     MatchAnyExceptLineTerminator,
-    /// The start or the end of the text. With `multiline` also a place behind or before a line terminator.
+    /// Matches the empty text at the start or at the end of the text; with `multiline` also after (`StartOfLine`) or
+    /// before (`EndOfLine`) a line terminator. ECMA-262, CompileAssertion, `^` and `$`.
     Anchor {
         anchor_type: AnchorType,
         multiline: bool,
     },
-    /// A place with a word character on exactly one side. With `invert` a place with one on both sides or on none. With
-    /// `unicode_icase` what folds to the fold of a word character is one too.
+    /// Matches the empty text at a position with a word character on exactly one side; with `invert`, on both sides or
+    /// on neither. With `unicode_icase` a character whose canonical form is that of a word character is a word
+    /// character too. ECMA-262, CompileAssertion, `\b` and `\B`, and WordCharacters.
     WordBoundary {
         invert: bool,
         unicode_icase: bool,
     },
-    /// A capture group. A name that is set is not empty, and several groups in different
-    /// alternatives may share one.
+    /// A capture group: matches its contents and sets the capture `id`, 0-based, to the span that they matched, with
+    /// the smaller byte offset first in both directions. A name is not empty, and several groups in different
+    /// alternatives may have the same name.
     CaptureGroup {
         id: CaptureGroupID,
         contents: Box<Node>,
         name: Option<CaptureGroupName>,
     },
-    /// One character that the bracket accepts.
+    /// Matches one character that the bracket accepts: one in its intervals, or with `invert` one outside of them.
     Bracket(BracketContents),
-    /// As many turns of the body as the quantifier says. Each turn after the least number must move. A turn forgets what
-    /// the groups of these ids, which are exactly those inside, have captured.
+    /// A loop: matches its body the number of times that the quantifier allows. ECMA-262, RepeatMatcher:
+    ///
+    /// - At the start of each iteration the groups of `enclosed_groups` are reset to unset. This half-open range of ids
+    ///   contains exactly the groups inside the body.
+    /// - Up to the minimum, an iteration may match the empty text. Past it, an iteration that does not advance the
+    ///   position fails: other outcomes of the body are tried, and if none advances, the loop ends before that
+    ///   iteration, with the captures from before it.
     Loop {
-        // The first field, since it fits beside the tag.
+        // The first field, since it fits beside the discriminant.
         enclosed_groups: Range<u16>,
         loopee: Box<Node>,
         quant: Quantifier,
     },
-    /// A loop whose body takes exactly one character or fails. A surrogate as a `Char` may be the body: it never matches.
+    /// A loop whose body contains no group, and takes exactly one character or fails. The body may be a `Char` of a
+    /// surrogate, which never matches.
     Loop1CharBody {
         loopee: Box<Node>,
         quant: Quantifier,
     },
-    /// A place from which the body matches, whose groups have these ids from the first on, up to the second without it.
-    /// With `negate` a place from which it does not. With `backwards` the body is matched before the place, as a lookbehind.
+    /// A lookaround: matches the empty text at a position from which its contents match; with `negate`, from which they
+    /// do not. With `backwards` it is a lookbehind: the contents are matched backwards from the position, and their
+    /// `Cat`s are stored in reverse order. Only the first outcome of the contents is used: it sets the captures of the
+    /// groups inside, and there is no backtracking into a lookaround. A negated one sets none. The ids of the groups
+    /// inside are exactly those of the half-open range from `start_group` to `end_group`. ECMA-262, CompileAssertion.
     LookaroundAssertion {
         negate: bool,
         backwards: bool,
@@ -77,25 +103,27 @@ pub enum Node {
         end_group: CaptureGroupID,
         contents: Box<Node>,
     },
-    /// What a group has captured, once more, and the empty text if it has captured nothing. The groups count from 1:
-    /// group 1 is the one with the id 0. With `icase` a character may stand for another with the same image.
+    /// A back reference: matches the text of a capture once more, character by character. A back reference to an unset
+    /// group matches the empty text. `group` is 1-based: group 1 is the one with id 0. With `icase` two characters are
+    /// equal if they have the same canonical form. ECMA-262, BackreferenceMatcher.
     BackRef {
         group: u32,
         icase: bool,
     },
-    /// One of these strings of characters, tried in their order. With `icase` a character may stand for another with the
-    /// same image. An empty string matches the empty text, and a set of none matches nothing.
+    /// Matches one of these strings of code points, tried in the order of the list; each is stored in the order of the
+    /// text, also inside a lookbehind. With `icase` two characters are equal if they have the same canonical form. An
+    /// empty string matches the empty text, and an empty set never matches.
     StringSet {
         alternatives: Vec<BoxedSlice<u32>>,
         icase: bool,
     },
 }
 
-// A pattern has a node for each character, so their size counts.
+// A pattern has a node for each character, so their size matters.
 const _: () = prove!(size_of::<Node>() == 48);
 
 impl Drop for Node {
-    // A kind that holds one node gives it to the next round.
+    // The body or right side is dropped by the next iteration instead of a recursive call.
     fn drop(mut self) {
         loop {
             self = match self {
@@ -145,10 +173,10 @@ impl Drop for Node {
     }
 }
 
-/// Nodes in a row.
+/// A list of nodes.
 pub type NodeList = Vec<Node>;
 
-/// A pattern: its tree, and its flags.
+/// A parsed pattern: its tree and its flags.
 #[derive(Debug, Drop)]
 pub struct Regex {
     pub node: Node,

@@ -1,4 +1,4 @@
-//! Tests on one node, and the node that never matches.
+//! Tests on a single node, and the node that never matches.
 
 use super::brackets::accepts_none;
 use super::node::Node;
@@ -10,29 +10,34 @@ impl Node {
     ghost use Rattle.regress_tree.specs.Shapes.{is_cat};
     ghost use Rattle.regress_tree.specs.NodeTests.{is_empty, matches_exactly_one_char, match_always_fails};
 
-    /// A node that matches nowhere: an empty `CharSet`. It takes no memory.
+    /// Returns a node that never matches: an empty `CharSet`. It allocates nothing.
     pub fn make_always_fails(alloc: Global) -> Node
         ensures { tree result ≡ leaf (char_set []) }
     {
         Node::CharSet(Vec::new(alloc))
     }
 
-    /// Whether it is `Empty`. Constant.
+    /// Returns whether the node is `Empty`.
     pub fn is_empty(&self) -> bool
         ensures { result ≡ is_empty (tree self.now) }
     {
         matches!(self, Node::Empty)
     }
 
-    /// Whether it is a `Cat`. Constant.
+    /// Returns whether the node is a `Cat`.
     pub fn is_cat(&self) -> bool
         ensures { result ≡ is_cat (tree self.now) }
     {
         matches!(self, Node::Cat(_))
     }
 
-    /// Whether it always matches exactly one character: a `Char`, a `CharSet` that is not empty, a bracket that
-    /// accepts something, or one of the two kinds of dot. Of other nodes it answers no, though some do. Constant.
+    /// Returns whether the node is of a kind that takes exactly one character whenever it matches: a `Char`, a
+    /// `CharSet` that is not empty, a bracket that accepts some code point, `MatchAny` or
+    /// `MatchAnyExceptLineTerminator`. It returns false for all other nodes, though some of them take exactly one
+    /// character too.
+    ///
+    /// # Complexity
+    /// Constant.
     pub fn matches_exactly_one_char(&self) -> bool
         ensures { result ≡ matches_exactly_one_char (tree self.now) }
     {
@@ -44,8 +49,11 @@ impl Node {
         }
     }
 
-    /// Whether it is a set without members or a bracket that accepts nothing, which match nowhere. Of other
-    /// nodes it answers no, though some never match either. Constant.
+    /// Returns whether the node is an empty set or a bracket that accepts no code point, which never match. It returns
+    /// false for all other nodes, though some of them never match either.
+    ///
+    /// # Complexity
+    /// Constant.
     pub fn match_always_fails(&self) -> bool
         ensures { result ≡ match_always_fails (tree self.now) }
     {

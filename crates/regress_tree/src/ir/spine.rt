@@ -1,5 +1,5 @@
-//! The right sides of alternatives: going down them and up again in loops, with no memory taken. A tree
-//! has as many levels as an alternation has alternatives.
+//! The spine of an alternation, which is the chain of its right sides: loops that descend it and climb back without
+//! allocating. They reverse the links on the way down, since an alternation nests as deep as it has alternatives.
 ghost use Rattle.std.specs.Prelude.{◌≡◌, MatchBool, MatchOption, false};
 ghost use Rattle.std.specs.Borrow.{LendsSo, sem};
 ghost use Rattle.regress_tree.specs.contracts.ir.node.Node.{the_row};
@@ -11,8 +11,9 @@ ghost use Rattle.regress_tree.specs.Spine.{is_alt, Shifted, reattach};
 use crate::ir::Node;
 use std::mem;
 
-/// Puts the `Alt` at `from`, if there is one, with its left side on top of `onto`: what was its right
-/// side stands at `from`, and its right side is what stood at `onto`. Answers whether it did.
+/// Moves the `Alt` at `from`, if it is one, with its left side to the top of `onto`: afterwards `from` is its former
+/// right side, and `onto` is the `Alt` with its left side and, as its right side, the former `onto`. Returns whether
+/// `from` is an `Alt`; if not, nothing is changed.
 pub fn shift(from: &mut Node, onto: &mut Node) -> bool
     ensures { MatchBool result
         (Shifted (tree from.old) (tree onto.old) (tree from.new) (tree onto.new))
@@ -26,7 +27,7 @@ pub fn shift(from: &mut Node, onto: &mut Node) -> bool
     true
 }
 
-/// Goes all the way up again.
+/// Puts all `Alt`s that [`shift`] moved to `above` back around `node`.
 pub fn relink(node: &mut Node, above: Node)
     ensures { tree node.new ≡ reattach (tree above) (tree node.old) }
 {
@@ -34,7 +35,7 @@ pub fn relink(node: &mut Node, above: Node)
     while shift(&mut above, node) {}
 }
 
-/// The left side of an `Alt`, to be changed.
+/// Returns the left side of an `Alt` as a mutable reference, and `None` for any other node.
 pub fn left_mut(node: &mut Node) -> Option<&mut Box<Node>>
     ensures* writes_back { sem 𝓛 (LendsSo the_row box_row node.entry result (LeftAfter result node.old) (λ n. tree n ≡ tree node.old)) }
     ensures left { MatchOption result (is_alt (tree node.old) ≡ false) (λ left. HasLeft (tree node.old) (tree left.now.value)) }

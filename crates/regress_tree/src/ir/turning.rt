@@ -1,4 +1,4 @@
-//! Turning the parts of a `Cat` for a lookbehind.
+//! Reversal of the parts of a `Cat` inside a lookbehind.
 
 use super::Walk;
 use super::node::Node;
@@ -8,8 +8,14 @@ impl Node {
     ghost use Rattle.regress_tree.specs.Tree.{tree};
     ghost use Rattle.regress_tree.specs.NodeTests.{is_byte_sequence, parts_turned};
 
-    /// Turns the parts of a `Cat` where the walk is in a lookbehind: the last one comes first. It does nothing
-    /// else. As bytes are written forwards, the caller has made no `ByteSequence` yet. Linear in the parts.
+    /// Reverses the parts of a `Cat` if the walk is inside a lookbehind. Any other node is left as it is.
+    ///
+    /// # Preconditions
+    /// The node is not a `ByteSequence`: bytes are stored in the order of the text, so `Cat`s are reversed before byte
+    /// sequences are formed.
+    ///
+    /// # Complexity
+    /// Linear in the number of parts.
     pub fn reverse_cats(&mut self, w: &mut Walk)
         requires { is_byte_sequence (tree self.old) ≡ false }
         ensures behind { w.old.in_lookbehind ≡ true → tree self.new ≡ parts_turned (tree self.old) }

@@ -1,4 +1,4 @@
-//! Walks that only look at the nodes.
+//! Walks that only inspect the nodes.
 ghost use Rattle.std.specs.Prelude.{◌≡◌, true, false};
 ghost use Rattle.regress_tree.specs.Tree.{tree, trees};
 ghost use Rattle.regress_tree.specs.Visits.{Calls, Visited, Inside, RowVisited};
@@ -7,9 +7,17 @@ ghost use Rattle.regress_tree.specs.Climbs.{Climbed, down};
 use super::held::{body, walk_inside};
 use super::{Node, Walk};
 
-/// Calls `func` on each node of the tree, with the walk there: before the calls on its children, or with
-/// `postorder` after them. In preorder a call that sets `skip_children` leaves the children out. What else a
-/// call writes to its walk changes nothing.
+/// Calls `func` on each node of the tree, with the [`Walk`] there: on a node before its children, or with `postorder`
+/// after them. In preorder a call that sets `skip_children` leaves the children of its node out. Whatever else a call
+/// writes to its `Walk` has no effect. `unicode` is the value of [`Walk::unicode`] in each call.
+///
+/// # Preconditions
+/// `func` has no precondition: it may be called with any node and any walk.
+///
+/// # Complexity
+/// Preorder makes a linear number of steps; in postorder an alternation of n alternatives takes a number of steps
+/// proportional to n log n. The recursion is as deep as nodes are nested, where right sides of alternatives do not
+/// count; in postorder it is deeper by the binary logarithm of the number of alternatives. Nothing is allocated.
 pub fn walk<F: FnMut(&Node, &mut Walk)>(postorder: bool, unicode: bool, n: &Node, func: &mut F)
     requires { F.IsAlwaysCallable func.old }
     ensures callable { F.IsAlwaysCallable func.new }
@@ -18,7 +26,7 @@ pub fn walk<F: FnMut(&Node, &mut Walk)>(postorder: bool, unicode: bool, n: &Node
     visit(postorder, n, &Walk::root(unicode), func);
 }
 
-/// Visits a node and what lies inside it.
+/// Visits a node and what is inside it.
 #[cycle(visit)]
 fn visit<F: FnMut(&Node, &mut Walk)>(postorder: bool, n: &Node, walk: &Walk, func: &mut F)
     requires { F.IsAlwaysCallable func.old }
@@ -32,7 +40,7 @@ fn visit<F: FnMut(&Node, &mut Walk)>(postorder: bool, n: &Node, walk: &Walk, fun
     }
 }
 
-/// Visits in preorder, down the right sides of alternatives.
+/// Visits in preorder, in a loop along the right sides of alternatives.
 #[cycle(visit)]
 fn visit_before<F: FnMut(&Node, &mut Walk)>(n: &Node, walk: &Walk, func: &mut F)
     requires { F.IsAlwaysCallable func.old }
@@ -51,7 +59,7 @@ fn visit_before<F: FnMut(&Node, &mut Walk)>(n: &Node, walk: &Walk, func: &mut F)
     }
 }
 
-/// Visits in postorder: down the right sides of alternatives, and up again.
+/// Visits in postorder: a loop down the right sides of alternatives, and the calls on the way back up.
 #[cycle(visit)]
 fn visit_after<F: FnMut(&Node, &mut Walk)>(n: &Node, walk: &Walk, func: &mut F)
     requires { F.IsAlwaysCallable func.old }
@@ -75,7 +83,7 @@ fn visit_after<F: FnMut(&Node, &mut Walk)>(n: &Node, walk: &Walk, func: &mut F)
     climb(n, levels, walk, func);
 }
 
-/// Visits what lies inside a node.
+/// Visits what is inside a node.
 #[cycle(visit)]
 fn visit_inside<F: FnMut(&Node, &mut Walk)>(postorder: bool, n: &Node, walk: &Walk, func: &mut F)
     requires { F.IsAlwaysCallable func.old }
@@ -97,7 +105,7 @@ fn visit_inside<F: FnMut(&Node, &mut Walk)>(postorder: bool, n: &Node, walk: &Wa
     }
 }
 
-/// Visits nodes one after the other.
+/// Visits the nodes of a list in order.
 #[cycle(visit)]
 fn visit_row<F: FnMut(&Node, &mut Walk)>(postorder: bool, parts: &[Node], walk: &Walk, func: &mut F)
     requires { F.IsAlwaysCallable func.old }
@@ -109,8 +117,8 @@ fn visit_row<F: FnMut(&Node, &mut Walk)>(postorder: bool, parts: &[Node], walk: 
     }
 }
 
-/// Calls `func` on so many nodes down the right sides, the lowest one first. No link leads up, so the lower
-/// half of the way is a call of its own: the stack is as deep as the number has binary digits.
+/// Calls `func` on `levels` nodes along the right sides from `n`, the lowest one first. No link leads up, so the lower
+/// half of the nodes takes a recursive call: the recursion is as deep as `levels` has binary digits.
 fn climb<F: FnMut(&Node, &mut Walk)>(n: &Node, levels: usize, walk: &Walk, func: &mut F)
     requires { F.IsAlwaysCallable func.old }
     ensures callable { F.IsAlwaysCallable func.new }
@@ -127,7 +135,7 @@ fn climb<F: FnMut(&Node, &mut Walk)>(n: &Node, levels: usize, walk: &Walk, func:
     }
 }
 
-/// The node so many right sides further down.
+/// Returns the node that is `levels` right sides below `n`.
 fn right_side(n: &Node, levels: usize) -> &Node
     ensures { tree result.now ≡ down levels (tree n.now) }
 {
@@ -140,7 +148,7 @@ fn right_side(n: &Node, levels: usize) -> &Node
     below
 }
 
-/// Calls `func` on a node, and answers whether to leave its children out.
+/// Calls `func` on a node, and returns whether to leave its children out.
 fn call<F: FnMut(&Node, &mut Walk)>(n: &Node, walk: &Walk, func: &mut F) -> bool
     requires { F.IsAlwaysCallable func.old }
     ensures callable { F.IsAlwaysCallable func.new }

@@ -9,11 +9,18 @@ use super::held::{body_mut, walk_inside};
 use super::spine::{left_mut, relink, shift};
 use super::{Node, NodeList, Walk};
 
-/// Calls `func` on each node of the tree, with the walk there: before the calls on its children, or with
-/// `postorder` after them. In preorder the children are those that the call left, and a call that sets
-/// `skip_children` leaves them out. What else a call writes to its walk changes nothing.
+/// Calls `func` on each node of the tree, with the [`Walk`] there: on a node before its children, or with `postorder`
+/// after them. In preorder the children are those of the node that the call left, and a call that sets `skip_children`
+/// leaves them out. Whatever else a call writes to its `Walk` has no effect. `unicode` is the value of
+/// [`Walk::unicode`] in each call.
 ///
-/// A walk in preorder ends because no call leaves more nodes than it found.
+/// # Preconditions
+/// - `func` has no precondition: it may be called with any node and any walk.
+/// - In preorder no call leaves a node with more nodes than it had, so the walk ends.
+///
+/// # Complexity
+/// Linear in the number of nodes. The recursion is as deep as nodes are nested, where right sides of alternatives do
+/// not count. Nothing is allocated.
 pub fn walk_mut<F: FnMut(&mut Node, &mut Walk)>(
     postorder: bool,
     unicode: bool,
@@ -28,7 +35,7 @@ pub fn walk_mut<F: FnMut(&mut Node, &mut Walk)>(
     visit_mut(postorder, n, &Walk::root(unicode), func);
 }
 
-/// Visits a node and what lies inside it.
+/// Visits a node and what is inside it.
 #[cycle(visit_mut)]
 fn visit_mut<F: FnMut(&mut Node, &mut Walk)>(
     postorder: bool,
@@ -49,7 +56,7 @@ fn visit_mut<F: FnMut(&mut Node, &mut Walk)>(
     }
 }
 
-/// Visits in preorder, down the right sides of alternatives, whose links are turned round for the way back.
+/// Visits in preorder, in a loop down the right sides of alternatives, whose links are reversed for the way back.
 #[cycle(visit_mut)]
 fn visit_before<F: FnMut(&mut Node, &mut Walk)>(n: &mut Node, walk: &Walk, func: &mut F)
     requires callable { F.IsAlwaysCallable func.old }
@@ -73,7 +80,7 @@ fn visit_before<F: FnMut(&mut Node, &mut Walk)>(n: &mut Node, walk: &Walk, func:
     relink(n, above);
 }
 
-/// Visits in postorder: down the right sides of alternatives, and up again.
+/// Visits in postorder: a loop down the right sides of alternatives, and the calls on the way back up.
 #[cycle(visit_mut)]
 fn visit_after<F: FnMut(&mut Node, &mut Walk)>(n: &mut Node, walk: &Walk, func: &mut F)
     requires { F.IsAlwaysCallable func.old }
@@ -96,7 +103,7 @@ fn visit_after<F: FnMut(&mut Node, &mut Walk)>(n: &mut Node, walk: &Walk, func: 
     climb(n, above, levels, walk, func);
 }
 
-/// Visits what lies inside a node.
+/// Visits what is inside a node.
 #[cycle(visit_mut)]
 fn visit_inside<F: FnMut(&mut Node, &mut Walk)>(
     postorder: bool,
@@ -125,7 +132,7 @@ fn visit_inside<F: FnMut(&mut Node, &mut Walk)>(
     }
 }
 
-/// Visits nodes one after the other.
+/// Visits the nodes of a list in order.
 #[cycle(visit_mut)]
 fn visit_row<F: FnMut(&mut Node, &mut Walk)>(
     postorder: bool,
@@ -144,7 +151,7 @@ fn visit_row<F: FnMut(&mut Node, &mut Walk)>(
     }
 }
 
-/// Goes all the way up again, and calls `func` on each alternative.
+/// Restores the reversed links, and calls `func` on each `Alt` on the way up.
 fn climb<F: FnMut(&mut Node, &mut Walk)>(
     n: &mut Node,
     above: Node,
@@ -166,7 +173,7 @@ fn climb<F: FnMut(&mut Node, &mut Walk)>(
     }
 }
 
-/// Calls `func` on a node, and answers whether to leave its children out.
+/// Calls `func` on a node, and returns whether to leave its children out.
 fn call<F: FnMut(&mut Node, &mut Walk)>(n: &mut Node, walk: &Walk, func: &mut F) -> bool
     requires { F.IsAlwaysCallable func.old }
     ensures callable { F.IsAlwaysCallable func.new }

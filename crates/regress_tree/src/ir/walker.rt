@@ -1,21 +1,21 @@
-//! How a tree is walked.
+//! The context of a node during a walk over a tree.
 ghost use Rattle.std.specs.Prelude.{◌≡◌, ◌+◌, min, false};
 
-/// Where a walk over a tree stands.
+/// The context of the node that a walk is at.
 #[derive(Clone, Debug, Drop)]
 pub struct Walk {
-    /// Set by the call on a node to leave its children out.
+    /// Set by the call on a node to leave its children out (in preorder). It is false when a call begins.
     pub skip_children: bool,
-    /// How many nodes lie around this one. The root has 0, and the count stops at `usize::MAX`.
+    /// The number of nodes around this one, 0 at the root. The count stops at `usize::MAX`.
     pub depth: usize,
-    /// Whether the nearest lookaround around the node is a lookbehind, so that matching runs backwards.
+    /// Whether the nearest lookaround around the node is a lookbehind, so that the node is matched backwards.
     pub in_lookbehind: bool,
     /// Whether the pattern has the flag u.
     pub unicode: bool,
 }
 
 impl Walk {
-    /// The walk at the root of a tree, which is matched forwards.
+    /// Returns the walk at the root of a tree, which is matched forwards.
     pub fn root(unicode: bool) -> Walk
         ensures children { result.skip_children ≡ false }
         ensures depth { result.depth ≡ 0 }
@@ -30,7 +30,7 @@ impl Walk {
         }
     }
 
-    /// The walk at the same node, as a call begins.
+    /// Returns the walk at the same node with `skip_children` cleared, for a new call.
     pub(crate) fn fresh(&self) -> Walk
         ensures { result ≡ record self.now { skip_children = false } }
     {
@@ -40,7 +40,7 @@ impl Walk {
         }
     }
 
-    /// The walk so many levels further inside, where no node between is a lookaround.
+    /// Returns the walk `levels` nodes further inside, where no node between is a lookaround.
     pub fn inside(&self, levels: usize) -> Walk
         ensures children { result.skip_children ≡ false }
         ensures depth { result.depth ≡ min (self.now.depth + levels) usize.MAX }
@@ -56,7 +56,7 @@ impl Walk {
         }
     }
 
-    /// The walk at the same depth in a lookaround, whatever lies around it.
+    /// Returns the walk at the same depth with the direction of a lookaround, whatever is around that.
     pub fn looking(&self, backwards: bool) -> Walk
         ensures children { result.skip_children ≡ false }
         ensures depth { result.depth ≡ self.now.depth }

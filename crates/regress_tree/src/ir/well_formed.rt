@@ -1,4 +1,4 @@
-//! Whether a tree is well formed.
+//! The test whether a tree is well formed.
 ghost use Rattle.std.specs.Prelude.{◌≡◌, ◌↔◌, true, false, [], IsTrue, MatchOption, IfSome, All, map, option_map, string_bytes, ◌≢◌, ◌≤◌};
 ghost use Rattle.std.specs.Box.{boxed_slice_items};
 ghost use Rattle.regress_base.specs.Intervals.{code_point_max};
@@ -23,9 +23,13 @@ impl Regex {
     ghost use Rattle.regress_tree.specs.Tree.{tree};
     ghost use Rattle.regress_tree.specs.WellFormed.{IsWellFormed};
 
-    /// Whether the tree is well formed: each part may stand where it does, and the ids of its n capture groups
-    /// are 0 to n - 1, each once. Each parsed tree is. It takes one pass over the tree, and no memory: 8 KiB of
-    /// stack tell which ids have come.
+    /// Returns whether the tree is well formed: each node is allowed where it is (`specs/WellFormed.antt`), and the ids
+    /// of its n capture groups are 0 to n - 1, each once. Each parsed tree is well formed; a tree that was built by
+    /// hand may not be.
+    ///
+    /// # Complexity
+    /// One pass over the tree. It allocates nothing and takes 8 KiB of stack for the set of ids. The recursion is as
+    /// deep as nodes are nested, where right sides of alternatives do not count.
     pub fn is_well_formed(&self) -> bool
         ensures { IsTrue result ↔ IsWellFormed (tree self.now.node) }
     {
@@ -37,8 +41,7 @@ impl Regex {
     }
 }
 
-/// Goes over a whole tree. It answers None where a part may not stand where it does or an id comes twice,
-/// whatever else there is.
+/// Surveys a whole tree. The result is `None` if a part is not allowed where it is or an id occurs twice.
 fn survey_root(node: &Node, ids: &mut GroupIds) -> Option<Tally>
     ensures { MatchOption result (RefusedAt root (tree node.now) ids.old) (SurveyedAt root (tree node.now) ids.old ids.new) }
 {
@@ -49,7 +52,7 @@ fn survey_root(node: &Node, ids: &mut GroupIds) -> Option<Tally>
     }
 }
 
-/// The parts of a `Cat` that is the root, but for the goal at the end.
+/// Returns the parts of a `Cat` that is the root, without a goal at the end.
 fn without_goal(parts: &[Node]) -> &[Node]
     ensures { trees result.now ≡ without_goal (trees parts.now) }
 {
@@ -65,8 +68,8 @@ fn is_goal(node: &Node) -> bool
     matches!(node, Node::Goal)
 }
 
-/// Goes over a part that stands inside. It goes down the right sides of alternatives in a loop: there may be
-/// as many levels as alternatives.
+/// Surveys a part that is inside a tree. A loop follows the right sides of alternatives, since an alternation nests as
+/// deep as it has alternatives.
 #[cycle(survey)]
 fn survey(node: &Node, ids: &mut GroupIds) -> Option<Tally>
     ensures { MatchOption result (RefusedAt inside (tree node.now) ids.old) (SurveyedAt inside (tree node.now) ids.old ids.new) }
@@ -80,7 +83,7 @@ fn survey(node: &Node, ids: &mut GroupIds) -> Option<Tally>
     Some(groups.join(survey_other(node, ids)?))
 }
 
-/// Goes over the parts of a `Cat`.
+/// Surveys the parts of a `Cat`.
 #[cycle(survey)]
 fn survey_parts(parts: &[Node], ids: &mut GroupIds) -> Option<Tally>
     ensures { MatchOption result (RefusedAt inside (cat (trees parts.now)) ids.old)
@@ -93,7 +96,7 @@ fn survey_parts(parts: &[Node], ids: &mut GroupIds) -> Option<Tally>
     Some(groups)
 }
 
-/// Goes over a part that is no `Alt`.
+/// Surveys a part that is not an `Alt`.
 #[cycle(survey)]
 fn survey_other(node: &Node, ids: &mut GroupIds) -> Option<Tally>
     requires { is_alt (tree node.now) ≡ false }
@@ -145,7 +148,7 @@ fn survey_other(node: &Node, ids: &mut GroupIds) -> Option<Tally>
     }
 }
 
-/// Goes over a part that holds no node.
+/// Surveys a part that contains no node.
 fn survey_leaf(node: &Node) -> Option<Tally>
     requires { is_leaf (tree node.now) ≡ true }
     ensures { MatchOption result (StandsAt inside (tree node.now) → ⊥)
@@ -160,7 +163,7 @@ fn survey_leaf(node: &Node) -> Option<Tally>
     }))
 }
 
-/// Whether a part that holds no node may stand inside, if there are enough groups.
+/// Returns whether a part that contains no node is allowed inside a tree of enough groups.
 fn leaf_stands(node: &Node) -> bool
     requires { is_leaf (tree node.now) ≡ true }
     ensures { IsTrue result ↔ StandsAt inside (tree node.now) }
@@ -183,7 +186,7 @@ fn leaf_stands(node: &Node) -> bool
     }
 }
 
-/// Whether it may be the body of a loop over one character.
+/// Returns whether the node is allowed as the body of a `Loop1CharBody`.
 fn is_one_character(node: &Node) -> bool
     ensures { IsTrue result ↔ StandsAt one_character (tree node.now) }
 {
@@ -198,7 +201,7 @@ fn is_one_character(node: &Node) -> bool
     }
 }
 
-/// Whether the name, if there is one, is not empty.
+/// Returns whether the name, if there is one, is not empty.
 fn is_name(name: &Option<CaptureGroupName>) -> bool
     ensures { IsTrue result ↔ IfSome (option_map string_bytes name.now) (λ bytes. bytes ≢ []) }
 {
@@ -208,7 +211,7 @@ fn is_name(name: &Option<CaptureGroupName>) -> bool
     }
 }
 
-/// Whether the least number is not above the greatest.
+/// Returns whether the minimum is at most the maximum.
 fn is_quantifier(quant: &Quantifier) -> bool
     ensures { IsTrue result ↔ IsQuantifier quant.now }
 {
@@ -218,14 +221,14 @@ fn is_quantifier(quant: &Quantifier) -> bool
     }
 }
 
-/// Whether the bytes are the UTF-8 of characters.
+/// Returns whether the bytes are the UTF-8 of characters.
 fn is_encoded(bytes: &[u8]) -> bool
     ensures { IsTrue result ↔ AreUtf8 bytes.now inside }
 {
     str::from_utf8(bytes).is_ok()
 }
 
-/// Whether the bytes are the UTF-8 of one character.
+/// Returns whether the bytes are the UTF-8 of exactly one character.
 fn is_encoded_character(bytes: &[u8]) -> bool
     ensures { IsTrue result ↔ AreUtf8 bytes.now one_character }
 {
@@ -235,21 +238,21 @@ fn is_encoded_character(bytes: &[u8]) -> bool
     }
 }
 
-/// Whether the bytes are at most four and ASCII.
+/// Returns whether there are at most four bytes, and all are ASCII.
 fn is_byte_set(bytes: &[u8]) -> bool
     ensures { IsTrue result ↔ IsSmallSet bytes.now 127 inside }
 {
     bytes.len() <= MAX_CHAR_SET_LENGTH && bytes.iter().all(|b| *b <= 0x7F)
 }
 
-/// Whether they are at most four code points.
+/// Returns whether there are at most four members, and all are code points.
 fn is_char_set(characters: &[u32]) -> bool
     ensures { IsTrue result ↔ IsSmallSet characters.now code_point_max inside }
 {
     characters.len() <= MAX_CHAR_SET_LENGTH && are_code_points(characters)
 }
 
-/// Whether all are strings of code points.
+/// Returns whether all are strings of code points.
 fn are_strings(strings: &[BoxedSlice<u32>]) -> bool
     ensures { IsTrue result ↔ All (All (λ c. c ≤ code_point_max)) (map boxed_slice_items strings.now) }
 {

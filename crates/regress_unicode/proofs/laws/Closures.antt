@@ -1,4 +1,4 @@
--- What is in a set's closure, and that it depends on the members alone.
+-- The members of a closure, and that a closure depends on the members of the set alone.
 use Rattle.std.proofs.Common.{◌≡◌, ℕ, true, List, sym, ◌∙◌}
 use Rattle.regress_base.specs.Intervals.{Bounds, is_member}
 use Rattle.regress_base.specs.Table.{Table, is_in_closure}

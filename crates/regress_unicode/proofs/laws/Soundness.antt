@@ -1,4 +1,4 @@
--- What parts of a table are sound, by tests that can be computed.
+-- Parts of a table that are valid, by tests that can be computed.
 use Rattle.std.proofs.Common.{◌≡◌, ℕ, zero, suc, ◌+◌, ◌^◌, ◌<◌, ◌≤◌, Bool, true, false, ◌&&◌, ◌||◌, nat_lt, nat_le, ◌==◌, IsTrue, List, [], ◌∷◌, ◌++◌, length, map, cond, filter, All, inl, inr, refl, sym, ap, ap₂, subst, ◌∙◌, arith}
 use Rattle.std.specs.List.{list_all, list_any, flat_map}
 use Rattle.std.proofs.lemmas.Bool.{cases_lt, eqb-true, and_parts}
@@ -17,7 +17,7 @@ use Rattle.regress_unicode.specs.Parts.{Parts, AreSoundRows, IsSound}
 use Rattle.regress_unicode.proofs.RowLemmas.{order_parts}
 use Rattle.regress_unicode.proofs.CaseMapLemmas.{All-lists, ascending_codes, case_map, idempotent_from_movers, lists-map, small_from_images}
 
--- ---- the images of what moves, row by row
+-- ---- the results of the mapping, entry by entry
 
 abbrev pub images_of_row : FoldRow → List ℕ
 images_of_row row = map (image_in_row row) (filter (moves (image_in_row row)) (run row))
@@ -33,7 +33,7 @@ same_images f g (x ∷ xs) h =
     by_test true rest = ap₂ (λ y ys. y ∷ ys) (All-head (λ c. f c ≡ g c) x xs h) rest
     by_test false rest = rest
 
--- rows in order share no code point, so each tells its images alone
+-- entries in order have no code point in common, so each determines its own results
 images_by_rows : (low : ℕ) (rows : List FoldRow) → IsTrue (is_in_order_from low rows) → images rows ≡ flat_map images_of_row rows
 unfolding image
 images_by_rows low [] h = refl
@@ -52,13 +52,13 @@ images_by_rows low (row ∷ rows) h =
     ∙ ap₂ (λ xs ys. xs ++ ys) (same_images f (image_in_row row) (run row) here)
     (same_images f (image rows) (codes rows) later ∙ images_by_rows (row.start + row.length) rows parts.rest)
 
--- ---- images that are their own, and of which no four are equal, found by halving
+-- ---- results that are mapped to themselves, no four of which are equal, by bisection
 
 pub record AreSettled (rows : List FoldRow) (xs : List ℕ) : Type 0 where
   pub own : (d : ℕ) → lists xs d ≡ true → image rows d ≡ d
   pub few : (d : ℕ) → count_of d xs ≤ 3
 
--- where no row is dropped that holds the number
+-- entries without the number in their range can be dropped
 image_kept : (q : FoldRow → Bool) (c : ℕ) → ((row : FoldRow) → is_in_row row c ≡ true → q row ≡ true) → (rows : List FoldRow) →
     image (filter q rows) c ≡ image rows c
 unfolding image
@@ -84,11 +84,12 @@ count_kept p d h (x ∷ xs) = by_tests (p x) (x == d) refl refl (count_kept p d 
     by_tests false true k e rest = let no : false ≡ true = sym k ∙ ap p (eqb-true x d e) ∙ h in cc
     by_tests false false k e rest = rest
 
--- at most three images, each its own
+-- at most three results, each mapped to itself
 abbrev are_few_own : List FoldRow → List ℕ → Bool
 are_few_own rows xs = nat_le (length xs) 3 && list_all (λ d. image rows d == d) xs
 
--- Numbers below a bound and those from it on, with the rows that may hold them, till at most three are left.
+-- The numbers below a bound and those from it on, each with the entries that can contain them, are split until at most
+-- three remain.
 abbrev pub are_settled : (halvings low : ℕ) → List FoldRow → List ℕ → Bool
 are_settled zero low rows xs = are_few_own rows xs
 are_settled (suc k) low rows xs = elim (nat_le (length xs) 3) [
@@ -109,7 +110,7 @@ settled_few rows xs h =
       few = λ d. omega (arith, short, length-filter (λ x. x == d) xs, count_by-le-length (λ x. x == d) xs);
     }
 
--- by the side on which each number is
+-- all numbers are settled if those below a bound and those from it on are
 settled_halves : (rows : List FoldRow) (xs : List ℕ) (bound : ℕ) →
     AreSettled (filter (λ row. nat_lt row.start bound) rows) (filter (λ x. nat_lt x bound) xs) →
     AreSettled (filter (λ row. nat_lt bound (row.start + row.length)) rows) (filter (λ x. nat_le bound x) xs) → AreSettled rows xs
@@ -158,7 +159,7 @@ settled (suc k) low rows xs h =
         let parts = and_parts (are_settled k low before (filter (λ x. nat_lt x bound) xs)) _ t in
         settled_halves rows xs bound (low_settled parts.0) (high_settled parts.1)
 
--- the images of all code points lie below 2 ^ 21
+-- all results are below 2 ^ 21
 pub sound_rows : (rows : List FoldRow) → IsTrue (is_in_order rows) → IsTrue (are_targets_in_range rows) →
     IsTrue (are_settled 21 0 rows (flat_map images_of_row rows)) → AreSoundRows rows
 sound_rows rows order range h =
@@ -172,9 +173,9 @@ sound_rows rows order range h =
       small_classes = small_from_images rows order images_settled.few;
     }
 
--- ---- sets of identifiers
+-- ---- sets of identifier characters
 
--- the interval lies past ASCII, or in one of letters, digits or the low line
+-- the interval is above ASCII, or it is in one of the ranges of letters, digits and the low line
 abbrev pub has_word_ends : Bounds → Bool
 has_word_ends iv = nat_le 0x80 iv.first || list_any (λ w. nat_le w.first iv.first && nat_le iv.last w.last) word_characters
 
@@ -194,7 +195,7 @@ word_ascii (iv ∷ set) h c lt member =
     by_test true e t ends rest = word_in iv c ends lt e
     by_test false e t ends rest = rest t
 
--- ---- the whole
+-- ---- all parts
 
 pub sound_from : (parts : Parts) → AreSoundRows parts.folds → AreSoundRows parts.uppers →
     IsCanonical parts.id_start → IsCanonical parts.id_continue → HasWordAscii parts.id_start → HasWordAscii parts.id_continue →

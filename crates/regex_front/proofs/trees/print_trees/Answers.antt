@@ -1,4 +1,4 @@
--- Both parts are printed of the characters of the pattern.
+-- Both parts are printed from the code points of the pattern.
 use Rattle.std.proofs.Common.{◌≡◌, subst, ◌∙◌, chars}
 use Rattle.std.specs.Prelude.{OnOk}
 use Rattle.regress_arguments.specs.Output.{Took}

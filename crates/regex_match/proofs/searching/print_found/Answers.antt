@@ -1,4 +1,4 @@
--- What is written of the search is written of the tree.
+-- The lines of the search are the lines of the tree.
 use Rattle.std.proofs.Common.{◌≡◌, ◌∙◌, ap, sym, subst, map}
 use Rattle.std.specs.Prelude.{IfOk, IfErr, IfSome}
 use Rattle.regress_front.specs.SettingOf.{setting_of}

@@ -2,7 +2,7 @@ use Rattle.std.proofs.Common.{◌≡◌, length}
 use Rattle.regex_tree.specs.Taken.{no_options, options_of}
 use Rattle.regex_tree.proofs.request.read_options.Given as goal
 
--- What is left says with the options so far what all of them say with none.
+-- The remaining arguments, with the options so far, yield what all arguments yield with no options.
 abbrev pub invariant-loop-rest : goal.invariant-loop-rest
 invariant-loop-rest l = options_of l.options l.rest ≡ options_of no_options l.args
 

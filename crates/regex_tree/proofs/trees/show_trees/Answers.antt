@@ -1,4 +1,4 @@
--- Both trees, one behind the other.
+-- Both trees in order.
 use Rattle.regress_tree.specs.Tree.{tree}
 use Rattle.regex_tree.proofs.ShownLemmas.{shows_both}
 use Rattle.regex_tree.proofs.trees.show_trees.Goals as goal

@@ -1,4 +1,4 @@
--- The set has the members of the intervals taken so far.
+-- The set has the members of the intervals added so far.
 use Rattle.std.proofs.Common.{◌≡◌, ℕ, ◌||◌, take}
 use Rattle.regress_base.specs.Intervals.{is_member}
 use Rattle.regress_base.proofs.sets.add_intervals.Given as goal

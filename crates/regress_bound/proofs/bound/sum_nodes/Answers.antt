@@ -3,7 +3,7 @@ use Rattle.regress_lexical.specs.Source.{Source}
 use Rattle.regress_bound.specs.Bound.{total, nodes_at}
 use Rattle.regress_bound.proofs.bound.sum_nodes.Goals as goal
 
--- nothing is left
+-- At the end of the source the sum is complete.
 all_summed : (count : Source → ℕ) (rest : Source) (nodes whole most : ℕ) → length rest < 1 → nodes ≤ most →
     min (nodes + total count rest) most ≡ min whole most → nodes ≡ min whole most
 all_summed count [] nodes whole most none fits sum = omega arith

@@ -1,4 +1,4 @@
--- The sum so far and what the rest counts are all, as far as a number goes.
+-- The sum so far and the count of the remaining source are the whole count, saturated.
 use Rattle.std.proofs.Common.{◌≡◌, ◌+◌, ◌-◌, ◌^◌, ◌≤◌, min, length}
 use Rattle.regress_bound.specs.Bound.{total, nodes_at}
 use Rattle.regress_bound.proofs.bound.sum_nodes.Given as goal

@@ -1,4 +1,4 @@
--- What was found and what stands in the rest are all.
+-- The number so far and that of the remaining source are the whole number.
 use Rattle.std.proofs.Common.{◌≡◌, ◌+◌, ◌≤◌, length}
 use Rattle.regress_bound.specs.Bound.{places, opens_name}
 use Rattle.regress_bound.proofs.places.named_groups.Given as goal

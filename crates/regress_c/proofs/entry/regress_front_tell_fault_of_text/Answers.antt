@@ -6,7 +6,7 @@ use Rattle.regress_c.specs.FaultAnswer.{AnswersFault, wanting, bad}
 use Rattle.regress_c.proofs.AnswerLemmas.{fault-asked}
 use Rattle.regress_c.proofs.entry.regress_front_tell_fault_of_text.Goals as goal
 
--- the characters of the bytes were asked about
+-- the request is for the code points of the bytes
 pub returns-in-Ok-Some : goal.returns-in-Ok-Some
 returns-in-Ok-Some c =
     let read = rw c.in-Ok-Some.field-0-is at c.in-Ok-Some.ensures.points in

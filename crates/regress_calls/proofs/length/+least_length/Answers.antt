@@ -1,4 +1,4 @@
--- What the parts take, put together.
+-- The sum of the parts' minimum lengths.
 use Rattle.std.proofs.Common.{◌∙◌, ◌∷◌, min, drop, sym, ap, arith, ◌+◌}
 use Rattle.std.proofs.lemmas.List.{drop_more, drop_all}
 use Rattle.regress_front.specs.Tree.{tree, trees, cat}

@@ -1,4 +1,4 @@
--- What is still to come completes what the whole takes.
+-- The remaining parts complete the minimum length of the whole.
 use Rattle.std.proofs.Common.{ℕ, ◌+◌, ◌≤◌, min, drop}
 use Rattle.regress_front.specs.Tree.{tree, trees, cat}
 use Rattle.regress_tree.specs.Onward.{TakesAtLeast}

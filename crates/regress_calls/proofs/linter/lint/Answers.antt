@@ -1,4 +1,4 @@
--- What the calls of the walk have listed, one after the other, and which loops they have met.
+-- The groups that the calls of the walk have listed, in order, and the nested loops that they have found.
 use Rattle.std.proofs.Common.{rules, ◌≡◌, ◌++◌, ◌∙◌, ◌||◌, ◌≤◌, false, refl, ap, arith}
 use Rattle.std.specs.List.{list_any}
 use Rattle.regress_front.specs.Tree.{tree}

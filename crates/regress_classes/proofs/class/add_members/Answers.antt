@@ -1,4 +1,4 @@
--- The complement is added by its intervals.
+-- The complement is added interval by interval.
 use Rattle.std.proofs.Common.{sym, subst, Bool}
 use Rattle.std.proofs.lemmas.Result.{on_ok_weaker}
 use Rattle.regress_classes.specs.ClassRows.{complement_if}

@@ -1,4 +1,4 @@
--- A range is an interval, and else all three parts are members.
+-- A range is one interval; otherwise all three parts are members.
 use Rattle.std.proofs.Common.{◌++◌, ◌∙◌, ◌||◌, List, [], ◌∷◌, ℕ, ap, subst, rules}
 use Rattle.regress_base.specs.Intervals.{Bounds, is_within, is_member}
 use Rattle.regress_classes.specs.ClassRows.{atom_members, one_point}

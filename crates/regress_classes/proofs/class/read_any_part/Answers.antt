@@ -1,4 +1,4 @@
--- An atom that begins no range.
+-- An atom that starts no range.
 use Rattle.std.proofs.Common.{Some, sym, ap, ◌∙◌}
 use Rattle.regress_unicode.specs.TableOf.{table_of}
 use Rattle.regress_lexical.specs.Source.{Source}

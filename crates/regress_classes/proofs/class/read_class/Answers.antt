@@ -1,4 +1,4 @@
--- The parts, and whether they are inverted.
+-- The parts, and whether the class is inverted.
 use Rattle.std.proofs.Common.{None, Some, refl}
 use Rattle.std.proofs.lemmas.Result.{err_from_is_err_and}
 use Rattle.regress_unicode.specs.TableOf.{table_of}

@@ -1,4 +1,4 @@
--- A plain part, or any other one.
+-- A plain part, or any other part.
 use Rattle.std.proofs.Common.{[], ◌∷◌, subst}
 use Rattle.regress_unicode.specs.TableOf.{table_of}
 use Rattle.regress_lexical.specs.Reads.{ReadsAs}

@@ -1,4 +1,4 @@
--- A turn reads one part more.
+-- Each iteration parses one more part.
 use Rattle.std.proofs.Common.{◌≡◌, true, Some, sym, ap, ◌∙◌}
 use Rattle.std.proofs.lemmas.Bool.{cond-true}
 use Rattle.std.proofs.lemmas.Result.{err_from_is_err_and}

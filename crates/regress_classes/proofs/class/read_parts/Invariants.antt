@@ -1,4 +1,4 @@
--- The parts so far were read.
+-- The parts before the cursor are parsed.
 use Rattle.std.proofs.Common.{length}
 use Rattle.regress_unicode.specs.TableOf.{table_of}
 use Rattle.regress_lexical.specs.Views.{source}

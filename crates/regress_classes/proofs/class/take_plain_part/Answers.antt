@@ -1,4 +1,4 @@
--- What is left of code points are code points, and which part it is.
+-- What remains of a list of code points is one too, and each branch is the matching part.
 use Rattle.std.proofs.Common.{◌≡◌, false, [], ◌∷◌, Some, sym, ap, subst, ◌∙◌}
 use Rattle.std.proofs.lemmas.Bool.{ne_eqb}
 use Rattle.std.proofs.lemmas.List.Elements.{All-head, All-tail}

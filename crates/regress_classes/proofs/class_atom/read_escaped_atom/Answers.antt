@@ -1,4 +1,4 @@
--- Which row it is, and that what is left of code points are code points.
+-- Each branch is the production that the grammar selects, and what remains of a list of code points is one too.
 use Rattle.std.proofs.Common.{◌≡◌, ℕ, false, not, ◌&&◌, ◌||◌, ◌==◌, ◌∷◌, sym, ap, ◌∙◌, subst}
 use Rattle.std.proofs.lemmas.Bool.{ne_eqb, and_left, and_right}
 use Rattle.std.specs.List.{All}

@@ -1,4 +1,4 @@
--- White space and line terminators in order are both lists, one behind the other.
+-- White space and line terminators in order have the members of the two lists in sequence.
 use Rattle.std.proofs.Common.{◌≡◌, ◌++◌, ◌∙◌, ℕ, List, [], ◌∷◌, arith}
 use Rattle.std.proofs.lemmas.Bool.Decides.{nat_tests}
 use Rattle.std.proofs.lemmas.Result.{IfOk-weaker}

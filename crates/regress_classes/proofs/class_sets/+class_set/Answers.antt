@@ -1,4 +1,4 @@
--- Each answer is a lemma on what was read, at the values of the call.
+-- Each clause follows from a lemma on what was parsed, at the values of the call.
 use Rattle.std.proofs.Common.{◌≡◌, ◌⊎◌, ◌<◌, ◌≤◌, ℕ, Bool, false, ◌&&◌, ◌-◌, Some, None, length, drop, refl, sym, ap, ap₂, subst, arith, length-drop, ◌∙◌}
 use Rattle.std.proofs.lemmas.Bool.{cond-true, cond-false}
 use Rattle.std.proofs.lemmas.Result.{err_from_is_err_and}
@@ -381,7 +381,7 @@ read_class_set-returns-then-has_strings-clause-value t c =
     ∙ cond-true _ _ _ (ap₂ (λ a b. a && b) c.if-negated.true
     (sym (c.has_strings.ensures found.0 found.2) ∙ c.if-has_strings.true)))
 
--- a class that is not negated, or holds no string, is what it holds
+-- A class that is not negated, or has no strings, is its contents.
 kept_class : (negated : Bool) (value : Value) (t : Source) → (negated && has_strings value) ≡ false →
     unless_of_strings negated (value, t) ≡ Some ((negated, value), t)
 kept_class negated value t allowed = cond-false _ _ _ allowed
@@ -412,9 +412,9 @@ read_class_set-returns-clause-levels t c =
     c.args.cursor.now.in_range).each (read.0, source c.read_contents.new.cursor) read.1 in
     omega (arith, fewer, read.2.1.others.levels)
 
--- ---- levels
+-- ---- nesting depth
 
--- behind what was read fewer code points are left
+-- After what was parsed fewer code points remain.
 left_behind : {levels : ℕ} (t rest : Source) → length rest ≤ length t → (kind : FaultKind) →
     (is_limit kind ≡ false) ⊎ ((kind ≡ TooDeep) × (levels < length rest)) → (is_limit kind ≡ false) ⊎ ((kind ≡ TooDeep) × (levels < length t))
 left_behind t rest fewer = by_levels_then (λ few. omega (arith, few, fewer))

@@ -6,7 +6,7 @@ use Rattle.regress_lexical.specs.Views.{source}
 use Rattle.regress_classes.proofs.ClassContentsLemmas.{ReadFrom}
 use Rattle.regress_classes.proofs.class_sets.+class_set.Given as goal
 
--- A class in another one has one level less. Between two of them the calls go from a class to an operand.
+-- A class inside another class has one nesting depth less. Between two of them the calls go from a class to an operand.
 abbrev pub decreases-read_class_set : goal.decreases-read_class_set
 decreases-read_class_set l = 8 * l.levels
 

@@ -1,4 +1,4 @@
--- Each call joins two neighbours or leaves both.
+-- Each call merges two neighbours or leaves both.
 use Rattle.std.proofs.Common.{rules}
 use Rattle.regress_classes.proofs.GatheredLemmas.{joined_canonical, joined_members}
 use Rattle.regress_classes.proofs.gathered.join_neighbours.Goals as goal

@@ -1,4 +1,4 @@
--- The order doesn't matter, and joined neighbours are canonical.
+-- The order of the intervals does not matter, and merged neighbours are canonical.
 use Rattle.std.proofs.Common.{rules, subst, sym}
 use Rattle.std.proofs.lemmas.List.Sorted.{IsNonDecreasingBy-from_sort_by_key}
 use Rattle.regress_classes.specs.ClassViews.{HasMembers}

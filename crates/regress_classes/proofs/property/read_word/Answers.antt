@@ -1,4 +1,4 @@
--- A turn reads one character more, which is ASCII.
+-- Each iteration parses one more character, which is ASCII.
 use Rattle.std.proofs.Common.{◌++◌, ◌==◌, ◌∙◌, length, sym, ap, string_bytes, arith}
 use Rattle.std.proofs.lemmas.Bool.{cond-true, cond-false}
 use Rattle.regress_classes.proofs.PropertyLemmas.{ascii, more_of_word, all_of_word}

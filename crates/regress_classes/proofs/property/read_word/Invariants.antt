@@ -1,4 +1,4 @@
--- The word so far was read.
+-- The word before the cursor is parsed.
 use Rattle.std.proofs.Common.{length, string_bytes}
 use Rattle.regress_lexical.specs.Views.{source}
 use Rattle.regress_classes.proofs.PropertyLemmas.{WordUpTo}

@@ -1,4 +1,4 @@
--- As many groups are open as when the loop began.
+-- The number of open groups is the same as before the loop.
 use Rattle.std.proofs.Common.{◌≡◌}
 use Rattle.regress_diagram.proofs.draw.+draw.Given as goal
 

@@ -1,4 +1,4 @@
--- What is still to come is smaller.
+-- The remaining alternatives are smaller.
 use Rattle.std.proofs.Common.{◌<◌}
 use Rattle.regress_tree.specs.declared.ir.node.Node.{size-Node}
 use Rattle.regress_diagram.proofs.layout.+lay_out.Given as goal

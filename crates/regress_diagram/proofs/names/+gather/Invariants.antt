@@ -1,4 +1,4 @@
--- The loop goes down, and the calls in it go further.
+-- The loop descends, and the calls in it are on smaller nodes.
 use Rattle.std.proofs.Common.{◌≤◌}
 use Rattle.regress_tree.specs.declared.ir.node.Node.{size-Node}
 use Rattle.regress_diagram.proofs.names.+gather.Given as goal

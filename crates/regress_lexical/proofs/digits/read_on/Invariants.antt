@@ -1,4 +1,4 @@
--- What is left, behind the number so far, writes what the whole writes.
+-- The number so far, continued by the digits that remain, is the whole number.
 use Rattle.std.proofs.Common.{◌≡◌, ◌≤◌, ◌-◌, ◌^◌, min, length}
 use Rattle.regress_lexical.specs.Digits.{is_decimal, number_from, front, behind}
 use Rattle.regress_lexical.proofs.digits.read_on.Given as goal

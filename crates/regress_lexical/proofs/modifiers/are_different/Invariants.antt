@@ -1,4 +1,4 @@
--- Those before the ones that are left stand nowhere else.
+-- The letters before the remaining ones occur only once.
 use Rattle.std.proofs.Common.{◌≡◌, length}
 use Rattle.regress_lexical.specs.Modifiers.{are_different}
 use Rattle.regress_lexical.proofs.modifiers.are_different.Given as goal

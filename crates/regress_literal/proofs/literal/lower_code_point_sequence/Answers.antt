@@ -1,4 +1,4 @@
--- Each literal goes on with the text, or ends it and is a piece of its own.
+-- Each literal extends the text, or ends it and is a piece by itself.
 use Rattle.std.proofs.Common.{◌≡◌, ℕ, ◌+◌, ◌++◌, [], ◌∷◌, Bool, List, map, string_bytes, refl, sym, ap, ap₂, subst, ◌∙◌}
 use Rattle.std.proofs.lemmas.List.{at_drop_all, map-append}
 use Rattle.regress_literal.specs.Literal.{piece, piece_of, bytes_piece, is_character, lowered_behind, AreApart, MeanLiterals}
@@ -9,7 +9,7 @@ use Rattle.regress_literal.proofs.LoweringLemmas.{AreFound, step_character, step
 use Rattle.regress_literal.proofs.literal.lower_code_point_sequence.Goals as goal
 use Rattle.regress_literal.proofs.literal.lower_code_point_sequence.Goals.{in-Some+in_ok-push-in-Some, in-None+in_ok-push_text-in-None+in_ok-piece_of-in-None+in_ok-push-in-None}
 
--- what is found under other names
+-- the pieces found, by equal values
 found_as : (table : Table) (icase unicode : Bool) (cps : List ℕ) (i : ℕ) (found found' : List Leaf) (written written' : List ℕ) →
     found ≡ found' → written ≡ written' → AreFound table icase unicode found' written' cps i →
     AreFound table icase unicode found written cps i

@@ -1,4 +1,4 @@
--- The pieces found, and those of what is left behind the text, are the pieces of all.
+-- The pieces found, and those of the remaining literals after the text, are the pieces of all literals.
 use Rattle.std.proofs.Common.{map, string_bytes}
 use Rattle.regress_literal.specs.Literal.{piece}
 use Rattle.regress_unicode.specs.TableOf.{table_of}

@@ -1,4 +1,4 @@
--- None so far has the fold of the character.
+-- No smaller word character has the same canonical form.
 use Rattle.std.proofs.Common.{◌≡◌, ◌≤◌, ◌<◌, ℕ, true}
 use Rattle.regress_base.specs.Classes.{word_characters}
 use Rattle.regress_base.specs.Intervals.{is_member}

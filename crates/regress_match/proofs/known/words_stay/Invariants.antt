@@ -1,4 +1,4 @@
--- Those so far fold to one of the word set.
+-- Every smaller word character folds to a word character.
 use Rattle.std.proofs.Common.{◌≡◌, ◌≤◌, ◌<◌, ℕ, true}
 use Rattle.regress_base.specs.Classes.{word_characters}
 use Rattle.regress_base.specs.Intervals.{is_member}

@@ -1,4 +1,4 @@
--- What is left of the characters, from here.
+-- The remaining characters, from the current position.
 use Rattle.std.proofs.Common.{◌≡◌, drop}
 use Rattle.regress_base.specs.Table.{stands_for}
 use Rattle.regress_tree.specs.Reading.{of_bytes, direction_if}

@@ -1,4 +1,4 @@
--- What is found so far, and then what lies from here on.
+-- The characters found, followed by those from the current position on.
 use Rattle.std.proofs.Common.{◌≡◌, ◌≤◌, ◌+◌, ◌-◌, ◌++◌, length}
 use Rattle.regress_tree.specs.Reading.{of_bytes}
 use Rattle.regress_tree.specs.References.{characters_from}

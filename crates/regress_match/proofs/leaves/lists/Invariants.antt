@@ -1,4 +1,4 @@
--- None so far is the character.
+-- No earlier element is the character.
 use Rattle.std.proofs.Common.{◌≡◌, drop}
 use Rattle.regress_base.specs.Listing.{lists}
 use Rattle.regress_match.proofs.leaves.lists.Given as goal

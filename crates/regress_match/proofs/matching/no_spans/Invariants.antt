@@ -1,4 +1,4 @@
--- So many so far.
+-- The list has the expected number of elements so far.
 use Rattle.std.proofs.Common.{◌≡◌, ◌≤◌, ◌-◌, length, None}
 use Rattle.std.specs.Prelude.{replicate}
 use Rattle.regress_match.proofs.matching.no_spans.Given as goal

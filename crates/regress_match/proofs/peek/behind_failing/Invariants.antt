@@ -1,4 +1,4 @@
--- What is left matches what all of them do.
+-- The remaining alternatives match what all of them match.
 use Rattle.std.proofs.Common.{◌≡◌}
 use Rattle.regress_tree.specs.Matching.{steps}
 use Rattle.regress_tree.specs.Steps.{State}

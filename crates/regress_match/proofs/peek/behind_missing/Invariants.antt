@@ -1,4 +1,4 @@
--- What is left matches what all of them do.
+-- The remaining strings match what all of them match.
 use Rattle.std.proofs.Common.{◌≡◌}
 use Rattle.regress_tree.specs.Steps.{State}
 use Rattle.regress_match.specs.Leaves.{any_of}

@@ -1,4 +1,4 @@
--- Where what is in front fails, the node does.
+-- The node fails where the remaining alternatives fail.
 use Rattle.regress_match.specs.Peek.{FailsAt}
 use Rattle.regress_match.specs.Subject.{subject}
 use Rattle.regress_tree.specs.Tree.{tree}

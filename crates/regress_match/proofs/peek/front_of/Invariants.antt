@@ -1,4 +1,4 @@
--- Where what is in front fails, the node does.
+-- The node fails where its first part fails.
 use Rattle.regress_match.specs.Peek.{FailsAt}
 use Rattle.regress_match.specs.Subject.{Subject}
 use Rattle.regress_tree.specs.Tree.{tree}

@@ -1,4 +1,4 @@
--- The outcomes of the node are what the machine has left, and undoing all changes gives the captures at the start.
+-- The node's outcomes are the machine's remaining ones, and undoing all changes gives the captures at the start.
 use Rattle.std.proofs.Common.{◌≡◌, ◌≤◌, ◌+◌, ◌*◌, length}
 use Rattle.regress_tree.specs.Matching.{steps}
 use Rattle.regress_tree.specs.Tree.{tree}

@@ -1,4 +1,4 @@
--- No boundary before the place has an outcome.
+-- No character boundary before the current position has an outcome.
 use Rattle.std.proofs.Common.{length, ◌+◌, ◌-◌, ◌≤◌}
 use Rattle.regress_tree.specs.Tree.{tree}
 use Rattle.regress_match.specs.Fresh.{IsFresh}

@@ -1,4 +1,4 @@
--- What is left to be taken from here.
+-- The remaining iterations, from the current position.
 use Rattle.std.proofs.Common.{◌≡◌}
 use Rattle.regress_tree.specs.Reading.{direction_if}
 use Rattle.regress_tree.specs.Repetition.{turns}

@@ -1,4 +1,4 @@
--- What may follow from here, and then the places behind.
+-- The iterations that may follow from the current position, and then the positions after it.
 use Rattle.std.proofs.Common.{true, ◌≡◌, ◌≤◌, ◌++◌}
 use Rattle.regress_tree.specs.Reading.{direction_if}
 use Rattle.regress_tree.specs.Repetition.{up_to}

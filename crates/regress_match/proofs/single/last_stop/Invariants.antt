@@ -1,4 +1,4 @@
--- Nothing that comes after matches at the places that are left out.
+-- What comes next fails at each position that was skipped.
 use Rattle.std.proofs.Common.{◌≡◌}
 use Rattle.regress_tree.specs.Reading.{direction_if}
 use Rattle.regress_match.specs.Captures.{state}

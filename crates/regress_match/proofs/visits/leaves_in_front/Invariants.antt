@@ -1,4 +1,4 @@
--- What is left of the row, from here.
+-- The remaining parts, from the current position.
 use Rattle.std.proofs.Common.{◌≡◌}
 use Rattle.regress_match.specs.Captures.{state}
 use Rattle.regress_match.specs.Machine.{row_of}

@@ -1,4 +1,4 @@
--- By which side is left.
+-- By which side replaces the `Alt`.
 use Rattle.std.proofs.Common.{inl, inr, sym, ◌∙◌}
 use Rattle.std.proofs.lemmas.Bool.{or_left, or_right}
 use Rattle.regress_tree.specs.Tree.{tree}

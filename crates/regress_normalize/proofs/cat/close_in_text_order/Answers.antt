@@ -1,4 +1,4 @@
--- One behind the other.
+-- The two steps in sequence.
 use Rattle.std.proofs.Common.{ap, rules, ◌∙◌}
 use Rattle.regress_tree.specs.NodeTests.{is_empty}
 use Rattle.regress_tree.specs.Shapes.{some_in_row}

@@ -1,4 +1,4 @@
--- Where the parts stand turned they are turned, packed and turned back.
+-- In a lookbehind the parts are reversed, packed and reversed back.
 use Rattle.std.proofs.Common.{◌≡◌, sym, ap, ◌∙◌, subst}
 use Rattle.std.specs.Prelude.{if◌then◌else◌}
 use Rattle.regress_tree.specs.Reading.{Direction, forwards, backwards}

@@ -1,4 +1,4 @@
--- The law, from what became of the parts.
+-- The result follows from that of the parts.
 use Rattle.std.proofs.Common.{◌≡◌, false, rules, refl, sym, ap, ◌∙◌, subst, Ok}
 use Rattle.std.proofs.lemmas.Bool.{true≢false}
 use Rattle.regress_tree.specs.declared.ir.node.Node.{the_lemmas}

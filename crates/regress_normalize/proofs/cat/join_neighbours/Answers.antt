@@ -1,4 +1,4 @@
--- Each call joins two neighbours or leaves both.
+-- Each call joins two neighbours or leaves both unchanged.
 use Rattle.std.proofs.Common.{rules}
 use Rattle.regress_normalize.proofs.CatLemmas.{deduped_packs, deduped_empties}
 use Rattle.regress_normalize.proofs.cat.join_neighbours.Goals as goal

@@ -1,4 +1,4 @@
--- Spliced, and then packed.
+-- The parts are spliced, and then packed.
 use Rattle.std.proofs.Common.{◌∙◌, sym, ap, subst, arith}
 use Rattle.regress_tree.specs.NodeTests.{is_goal}
 use Rattle.regress_tree.specs.Shapes.{some_in_row}

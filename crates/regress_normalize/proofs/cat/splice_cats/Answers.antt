@@ -1,4 +1,4 @@
--- Without a `Cat` splicing would leave the row as it is.
+-- Without a `Cat` splicing would change nothing.
 use Rattle.std.proofs.Common.{rules, tests, sym, ◌∙◌}
 use Rattle.std.proofs.lemmas.Iterator.{YieldsList-from_slice}
 use Rattle.std.proofs.lemmas.Iterator.Search.{any_from_yields_List}

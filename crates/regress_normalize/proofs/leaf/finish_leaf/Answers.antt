@@ -1,4 +1,4 @@
--- Each step by itself, and all three.
+-- Each step, and all three in sequence.
 use Rattle.std.proofs.Common.{sym, ◌∙◌}
 use Rattle.regress_tree.specs.Tree.{tree}
 use Rattle.regress_normalize.proofs.LeafLemmas.{IsPart-cleared, simplified_error, formed_error, was_one, leaf_finished}

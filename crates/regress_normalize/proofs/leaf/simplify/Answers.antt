@@ -1,4 +1,4 @@
--- One answer of the rewrite more.
+-- One more action of the rewrite.
 use Rattle.std.proofs.Common.{ap, subst, sym, ◌∙◌}
 use Rattle.regress_tree.specs.Copies.{is_leaf}
 use Rattle.regress_tree.specs.Reading.{forwards}

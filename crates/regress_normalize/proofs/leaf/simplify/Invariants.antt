@@ -7,6 +7,6 @@ use Rattle.regress_normalize.proofs.leaf.simplify.Given as goal
 abbrev pub invariant-loop-action : goal.invariant-loop-action
 invariant-loop-action l = Clears is_simplified_away (tree l.initial.node) (tree l.node)
 
--- each change makes the bracket lighter
+-- each change reduces the weight of the bracket
 abbrev pub decreases-loop-action : goal.decreases-loop-action
 decreases-loop-action l = weight (tree l.node)

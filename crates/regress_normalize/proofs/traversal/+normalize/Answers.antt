@@ -1,4 +1,4 @@
--- Each answer is a lemma on plain trees, at the values of the call.
+-- Each result is a lemma about trees, applied to the values of the call.
 use Rattle.std.proofs.Common.{rules, arith, ◌∙◌, sym, ap, subst, refl, length-set, take}
 use Rattle.regress_tree.specs.Spine.{reattach}
 use Rattle.regress_tree.specs.Tree.{Tree, Trees, alt, wrapped, tree, trees}

@@ -1,4 +1,4 @@
--- What the traversal so far has made of the whole.
+-- The effect of the traversal so far on the whole tree.
 use Rattle.std.proofs.Common.{◌≡◌, ◌≤◌, ◌+◌, ◌*◌, length, drop, take}
 use Rattle.regress_tree.specs.NormalForm.{IsNormal}
 use Rattle.regress_tree.specs.Spine.{reattach}
@@ -38,7 +38,8 @@ invariant-normalize_parts-loop-i l =
       facts : HasRowFacts l.row (trees (take l.i l.parts.items));
     }
 
--- Each call is on a part, or on what is further down in this list. Right sides above are finished, and count no more.
+-- Each call is on a smaller node, or on the same node and a later function of this list. Right sides above are
+-- finished, and don't count.
 
 abbrev pub decreases-normalize : goal.decreases-normalize
 decreases-normalize l = 6 * units (tree l.node.now) + 4

@@ -4,7 +4,7 @@ use Rattle.regress_tree.specs.Tree.{tree}
 use Rattle.regress_tree.specs.Units.{units}
 use Rattle.regress_normalize.proofs.traversal.go_down.Given as goal
 
--- the whole is still the old one
+-- the whole tree is unchanged
 abbrev pub invariant-loop : goal.invariant-loop
 invariant-loop l = reattach (tree l.above) (tree l.node) ≡ tree l.initial.node
 

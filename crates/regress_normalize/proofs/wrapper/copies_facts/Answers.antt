@@ -1,4 +1,4 @@
--- One copy more stands behind the others.
+-- One more copy follows the others.
 use Rattle.std.proofs.Common.{subst}
 use Rattle.regress_tree.specs.Tree.{Trees, copies}
 use Rattle.regress_normalize.specs.PartFacts.{HasRowFacts}

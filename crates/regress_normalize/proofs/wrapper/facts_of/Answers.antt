@@ -1,4 +1,4 @@
--- A loop of either kind is a node around the body, and the others are leaves.
+-- A loop of either kind is a node around the body, and the other forms are leaves.
 use Rattle.std.proofs.Common.{ℕ, List, refl, ap, ◌∙◌}
 use Rattle.regress_tree.specs.Tree.{loop, loop_one, leaf, byte_set}
 use Rattle.regress_tree.proofs.laws.Nodes.{tree-Empty, tree-ByteSet}

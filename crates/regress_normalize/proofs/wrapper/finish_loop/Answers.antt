@@ -1,4 +1,4 @@
--- What a loop becomes in its form stands for it.
+-- The loop in its form keeps the meaning of the old one.
 use Rattle.std.proofs.Common.{◌≡◌, subst, ap, ◌∙◌}
 use Rattle.regress_tree.specs.Shapes.{is_unrolled_away}
 use Rattle.regress_tree.specs.Tree.{Tree, tree}

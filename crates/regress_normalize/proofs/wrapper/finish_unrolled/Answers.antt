@@ -1,4 +1,4 @@
--- The row stands for the loop, and what became of it for the row.
+-- The list of parts replaces the loop, and its normal form replaces the list.
 use Rattle.regress_tree.specs.Tree.{tree}
 use Rattle.regress_tree.specs.Walk.{direction_of}
 use Rattle.regress_rewrite.proofs.laws.Keeps.{IsPart-kept}

@@ -1,4 +1,4 @@
--- A loop by what was found of it, and a lookaround for `Empty`.
+-- A loop by its plan, and a lookaround of `Empty`.
 use Rattle.std.proofs.Common.{◌≡◌, true, sym, ap, subst, ◌∙◌}
 use Rattle.regress_tree.specs.Shapes.{is_emptied_away, is_unrolled_away, may_unroll}
 use Rattle.regress_tree.specs.Tree.{Tree, tree, wrapped, loop, lookaround}

@@ -1,4 +1,4 @@
--- The copies, and what the loop behind them becomes, stand for the loop.
+-- The copies, with what the loop after them becomes, replace the loop.
 use Rattle.std.proofs.Common.{◌≡◌, true, false, List, [], ◌∷◌, rules, tests, sym, subst, ap, ap₂, ◌∙◌}
 use Rattle.regress_tree.specs.declared.ir.node.Node.{Node}
 use Rattle.regress_tree.specs.declared.ir.node.Node.TheVariants.{Cat}

@@ -16,7 +16,7 @@ use Rattle.regress_parse.specs.Accepted.{IsAccepted, OneIsDerived}
 use Rattle.regress_opt.specs.Optimized.{IsOptimized}
 use Rattle.regress_opt.proofs.headline.parse_and_optimize.Goals as goal
 
--- what holds of each tree that was parsed and then optimized holds of the answer
+-- What holds for each tree that is parsed and then optimized holds for the result.
 of_optimized : {A : Regex → Type 0} {P : Regex × Result (Unit {0}) AllocError → Type 0}
     (parsed : Result Regex ParseFault) (answer : Result (Regex × Result (Unit {0}) AllocError) ParseFault)
     → MatchResult parsed (λ regex. IsOkAnd answer (IsOptimized regex)) (λ fault. answer ≡ Err fault)
@@ -27,7 +27,7 @@ of_optimized (Ok old) (Err fault) optimized known step = tt
 of_optimized (Err fault) (Ok new) same known step = absurd (cc)
 of_optimized (Err fault) (Err other) same known step = tt
 
--- what was parsed is the tree of each accepted pattern, of which there is one
+-- The parsed tree is that of each accepted pattern, since there is only one.
 own : {s : Setting} {text : List ℕ} (t : Tree) → OneIsDerived s text
     → (p : Pattern) × IsAccepted s text p × (t ≡ tree_of s.table p)
     → (p : Pattern) → IsAccepted s text p → t ≡ tree_of s.table p

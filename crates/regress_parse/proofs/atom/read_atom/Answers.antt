@@ -1,4 +1,4 @@
--- A class between brackets, or another item.
+-- An item is a class or another item.
 use Rattle.std.proofs.Common.{ℕ, ◌∷◌, not, inl, length, sym, ap, ◌∙◌, subst, arith}
 use Rattle.regress_lexical.specs.Source.{Source}
 use Rattle.regress_lexical.specs.Views.{source}

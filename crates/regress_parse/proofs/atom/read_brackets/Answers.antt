@@ -1,4 +1,4 @@
--- A class, of either kind.
+-- A class, without or with the flag v.
 use Rattle.std.proofs.Common.{◌<◌, ◌∙◌, inr, refl, sym, ap, subst, arith}
 use Rattle.std.specs.Option.{IfSome}
 use Rattle.std.proofs.lemmas.Bool.{cond-true, cond-false}

@@ -1,4 +1,4 @@
--- Which row it is.
+-- Each branch is the production that the grammar selects.
 use Rattle.std.proofs.Common.{ℕ, false, true, ◌==◌, ◌∷◌, drop, Some, arith, refl, sym, ap, subst, ◌∙◌}
 use Rattle.std.proofs.lemmas.Bool.{ne_eqb}
 use Rattle.regress_lexical.specs.Reads.{ReadsAs}

@@ -1,4 +1,4 @@
--- Which atom it is, by its code point.
+-- Each branch is the atom that the grammar selects by the first code point.
 use Rattle.std.proofs.Common.{rules, arith}
 use Rattle.std.proofs.lemmas.Bool.Decides.{nat_tests}
 use Rattle.regress_base.specs.declared.types.AnchorType.TheVariants.{StartOfLine, EndOfLine}

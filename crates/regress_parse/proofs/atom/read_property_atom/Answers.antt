@@ -1,4 +1,4 @@
--- What was found, and its node.
+-- The property that was found, and its node.
 use Rattle.std.proofs.Common.{◌≡◌, ℕ, List, Some, refl, ap, ◌∙◌, arith}
 use Rattle.std.proofs.lemmas.Bool.{cond-false}
 use Rattle.std.proofs.lemmas.List.Elements.{same_from_all_zip}

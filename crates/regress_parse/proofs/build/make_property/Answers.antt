@@ -1,4 +1,4 @@
--- The complement is a set of its own.
+-- With the flag i, the complement is closed as a set of its own.
 use Rattle.std.proofs.Common.{◌≡◌, ◌&&◌, List, refl, ap, ap₂, sym, subst}
 use Rattle.std.specs.Result.{IfOk}
 use Rattle.std.proofs.lemmas.Bool.{cond-true}

@@ -74,7 +74,7 @@ pub returns-in_err-parts-clause-only : goal.returns-in_err-parts-clause-only
 returns-in_err-parts-clause-only c =
     same_derived (setting_of c.args.flags c.args.tables.now) c.args.pattern.now c.in_ok-found.ensures.whole
 
--- the pattern that was read, and its tree
+-- The pattern that was parsed, and its tree.
 pub returns-clause-accepted : goal.returns-clause-accepted
 returns-clause-accepted c =
     let setting = setting_of c.args.flags c.args.tables.now in

@@ -1,4 +1,4 @@
--- Whether the whole source was read.
+-- Whether the whole source was parsed.
 use Rattle.std.proofs.Common.{◌≡◌, [], Ok, Some, None, length, ◌==◌, false, refl, sym, ap, ◌∙◌}
 use Rattle.std.proofs.lemmas.Option.{same_Some}
 use Rattle.std.specs.Option.{IsSomeAnd}

@@ -1,4 +1,4 @@
--- If what is left is anchored, all is.
+-- If the remaining alternatives are anchored, all are.
 use Rattle.std.proofs.Common.{◌≤◌}
 use Rattle.regress_tree.specs.Tree.{tree}
 use Rattle.regress_tree.specs.declared.ir.node.Node.{size-Node}

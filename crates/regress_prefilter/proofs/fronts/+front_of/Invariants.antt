@@ -1,4 +1,4 @@
--- What is gone over, and then what is left.
+-- The alternatives or parts so far have the front, and the remaining ones follow.
 use Rattle.std.proofs.Common.{◌≤◌, take}
 use Rattle.regress_tree.specs.Tree.{tree, trees, cat}
 use Rattle.regress_tree.specs.declared.ir.node.Node.{size-Node}

@@ -1,4 +1,4 @@
--- Each member is still to come, or its first byte is there.
+-- Each member is among the remaining ones, or its first byte is in the set.
 use Rattle.std.proofs.Common.{◌≡◌, ◌⊎◌, ℕ, true, drop}
 use Rattle.regress_base.specs.ByteBitmap.{contains}
 use Rattle.regress_base.specs.Intervals.{is_member}

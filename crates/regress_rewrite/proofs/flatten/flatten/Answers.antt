@@ -1,4 +1,4 @@
--- The law, from what became of the parts.
+-- The law, from what happened to the parts.
 use Rattle.regress_tree.specs.Tree.{trees}
 use Rattle.regress_tree.proofs.laws.Nodes.{tree-Cat}
 use Rattle.regress_tree.proofs.laws.Levels.{out-Cat}

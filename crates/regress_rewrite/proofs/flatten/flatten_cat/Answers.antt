@@ -1,4 +1,4 @@
--- What `any` answered tells whether there is a `Cat` among the parts.
+-- `any` returns whether there is a `Cat` among the parts.
 use Rattle.std.proofs.Common.{◌≡◌, ◌||◌, true, false, rules, tests, sym, ap₂, ◌∙◌}
 use Rattle.std.proofs.lemmas.Iterator.{YieldsList-from_slice}
 use Rattle.std.proofs.lemmas.Iterator.Search.{any_from_yields_List}

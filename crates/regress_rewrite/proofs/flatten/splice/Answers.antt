@@ -1,4 +1,4 @@
--- The parts moved so far are the first ones, so there is room for the next.
+-- The parts moved so far are the first ones, so the capacity suffices for the next.
 use Rattle.std.proofs.Common.{rules, arith, le_trans}
 use Rattle.std.proofs.lemmas.Bool.{false≢true}
 use Rattle.std.proofs.lemmas.Iterator.Adapters.{YieldsList-from_vec}

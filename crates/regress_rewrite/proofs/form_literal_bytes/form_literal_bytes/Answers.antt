@@ -1,4 +1,4 @@
--- Nothing is formed of other nodes.
+-- Other nodes are kept.
 use Rattle.std.proofs.Common.{◌≡◌, ℕ, true, false, Vec, Global, rules}
 use Rattle.regress_tree.specs.declared.ir.node.Node.{out-Node, the_lemmas}
 use Rattle.regress_tree.specs.declared.ir.node.Node.TheOpen.{Node-F}

@@ -1,4 +1,4 @@
--- The two parts stand in the two halves.
+-- The two parts are in different halves of the list.
 use Rattle.std.proofs.Common.{◌-◌, ◌∙◌, ap}
 use Rattle.regress_tree.specs.Reading.{forwards}
 use Rattle.regress_tree.specs.Tree.{tree}

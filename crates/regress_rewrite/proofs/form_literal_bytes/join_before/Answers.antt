@@ -1,4 +1,4 @@
--- The two parts stand in the two halves.
+-- The two parts are in different halves of the list.
 use Rattle.regress_tree.specs.Reading.{backwards}
 use Rattle.regress_rewrite.proofs.form.HalvesLemmas.{first_has, second_has, halves_joined, halves_kept, on_ok_both, on_err_both}
 use Rattle.regress_rewrite.proofs.form_literal_bytes.join_before.Goals as goal

@@ -1,4 +1,4 @@
--- Nothing is found so far: what is left to be searched tells.
+-- No group was found so far, so the result is that of the nodes not yet searched.
 use Rattle.std.proofs.Common.{◌≡◌, ◌≤◌, drop}
 use Rattle.regress_tree.specs.declared.ir.node.Node.{size-Node}
 use Rattle.regress_tree.specs.Tree.{tree, trees}

@@ -1,4 +1,4 @@
--- Each answer is a lemma on plain trees, at the values of the call.
+-- Each result is a lemma about trees, applied to the values of the call.
 use Rattle.std.proofs.Common.{rules, arith, ◌≡◌, ◌+◌, ◌∙◌, true, false, [], take, drop, set, sym, ap, subst, refl, length-set}
 use Rattle.regress_tree.specs.declared.ir.node.Node.{Node, the_lemmas}
 use Rattle.regress_tree.specs.Tree.{Tree, alt, wrapped, no_trees, more_trees, tree, trees}

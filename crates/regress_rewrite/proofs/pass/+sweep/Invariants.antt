@@ -1,4 +1,4 @@
--- What the sweeps so far have made of the whole.
+-- The effect of the traversals so far on the whole tree.
 use Rattle.std.proofs.Common.{◌≡◌, ◌≤◌, ◌+◌, ◌*◌, true, Ok, length, take, drop}
 use Rattle.regress_tree.specs.Tree.{Tree, Trees, tree, trees, row_append}
 use Rattle.regress_tree.specs.Visits.{Visited, RowVisited}
@@ -41,7 +41,7 @@ invariant-sweep_parts-loop-i g l =
       swept : PartsSwept g.R.Rewrite.removes g.R.Rewrite.is_exact (direction_of l.walk) old l.parts.items l.i (Ok l.changed);
     }
 
--- each call is on a part, or on what is further down in this list
+-- each call is on a smaller node, or on the same node and a later function of this list
 
 abbrev pub decreases-sweep : goal.decreases-sweep
 decreases-sweep g l = 5 * units (tree l.node.now) + 3

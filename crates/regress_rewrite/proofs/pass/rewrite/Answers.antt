@@ -1,4 +1,4 @@
--- What was answered is done.
+-- The action is carried out.
 use Rattle.regress_tree.specs.Tree.{tree}
 use Rattle.regress_tree.specs.Walk.{direction_of}
 use Rattle.regress_rewrite.proofs.SweepLemmas.{Swept-carried}

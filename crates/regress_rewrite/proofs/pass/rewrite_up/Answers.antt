@@ -1,4 +1,4 @@
--- One alternative more.
+-- One more alternative.
 use Rattle.std.proofs.Common.{true, false, refl}
 use Rattle.regress_tree.specs.Tree.{tree}
 use Rattle.regress_tree.proofs.laws.Visits.{further-inside}

@@ -1,4 +1,4 @@
--- What the rewriting of the alternatives so far has made of the whole.
+-- The effect of rewriting the alternatives so far on the whole tree.
 use Rattle.std.proofs.Common.{◌≡◌, true, Ok}
 use Rattle.regress_tree.specs.Tree.{Tree, tree}
 use Rattle.regress_tree.specs.Climbs.{ClimbedMut}

@@ -8,7 +8,7 @@ use Rattle.regress_rewrite.specs.Passes.{Passed}
 use Rattle.regress_tree.proofs.laws.Falling.{changes_left}
 use Rattle.regress_rewrite.proofs.pass.run_pass.Given as goal
 
--- each sweep so far has changed something, so nothing is known to be clean
+-- each traversal so far changed something, so no shape is known to be removed
 abbrev pub invariant-loop-changed : goal.invariant-loop-changed
 invariant-loop-changed g l = record {
   flags : l.r.flags ≡ l.initial.r.flags;

@@ -1,4 +1,4 @@
--- The law, from what became of the body.
+-- The law, from what happened to the body.
 use Rattle.regress_tree.specs.Tree.{tree}
 use Rattle.regress_tree.proofs.laws.Levels.{out-Loop}
 use Rattle.regress_tree.proofs.laws.Nodes.{tree-Loop}

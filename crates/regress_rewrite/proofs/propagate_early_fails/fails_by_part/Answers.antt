@@ -1,4 +1,4 @@
--- What `any` answered tells whether a part always fails.
+-- `any` returns whether a part always fails.
 use Rattle.std.proofs.Common.{sym, ◌∙◌, ap, rules, tests}
 use Rattle.std.proofs.lemmas.Iterator.{YieldsList-from_slice}
 use Rattle.std.proofs.lemmas.Iterator.Search.{any_from_yields_List}

@@ -1,4 +1,4 @@
--- What `any` answered tells whether a part is `Empty`.
+-- `any` returns whether a part is `Empty`.
 use Rattle.std.proofs.Common.{sym, ◌∙◌, ap, rules, tests}
 use Rattle.std.proofs.lemmas.Iterator.{YieldsList-from_slice}
 use Rattle.std.proofs.lemmas.Iterator.Search.{any_from_yields_List}

@@ -1,4 +1,4 @@
--- What `retain` kept are the parts that are not `Empty`.
+-- `retain` keeps the parts that are not `Empty`.
 use Rattle.std.proofs.Common.{not, rules, tests, ap, ◌∙◌}
 use Rattle.std.proofs.lemmas.Fn.{filter_same}
 use Rattle.regress_tree.specs.Tree.{tree, trees}

@@ -1,4 +1,4 @@
--- The law, from what became of the parts, or of the whole node.
+-- The law, from what happened to the parts, or to the whole node.
 use Rattle.std.proofs.Common.{◌≡◌, true, false, rules, sym, ap, ◌∙◌}
 use Rattle.regress_tree.specs.declared.ir.node.Node.{the_lemmas}
 use Rattle.regress_tree.specs.Tree.{tree, trees}

@@ -1,4 +1,4 @@
--- The law, from what became of the contents.
+-- The law, from what happened to the contents.
 use Rattle.std.proofs.Common.{◌≡◌, rules}
 use Rattle.regress_base.specs.declared.types.bracket.BracketContents.{BracketContents}
 use Rattle.regress_tree.specs.declared.ir.node.Node.{out-Node, the_lemmas}

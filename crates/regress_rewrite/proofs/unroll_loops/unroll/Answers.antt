@@ -1,4 +1,4 @@
--- What became of the loop and the copies.
+-- What happened to the loop and the copies.
 use Rattle.std.proofs.Common.{◌≡◌, true, List, Vec, Global, rules, sym, ap, subst, ◌∙◌, tests}
 use Rattle.regress_tree.specs.declared.ir.node.Node.{Node}
 use Rattle.regress_tree.specs.declared.ir.node.Node.TheVariants.{Cat}
@@ -23,7 +23,7 @@ copy_times-requires-clause-groups c =
     let facts = MayUnroll-from at.quant at.enclosed_groups.start at.enclosed_groups.end body may in
     rw (c.deref.ensures, at.loopee-is) (body_groupless at.quant at.enclosed_groups.start at.enclosed_groups.end body facts part)
 
--- the node is the loop, unrolled
+-- the node is the unrolled loop
 pub returns-clause-unrolled : goal.returns-clause-unrolled
 returns-clause-unrolled c =
     let at = c.in-Loop in

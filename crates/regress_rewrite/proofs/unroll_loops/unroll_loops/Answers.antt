@@ -1,4 +1,4 @@
--- The law, from what became of the loop.
+-- The law, from what happened to the loop.
 use Rattle.std.proofs.Common.{sym, ◌∙◌}
 use Rattle.regress_tree.specs.Tree.{tree}
 use Rattle.regress_rewrite.proofs.laws.Unrolling.{loop_lawful}

@@ -1,4 +1,4 @@
--- What was written before, the node, and what is still to come.
+-- The text written before, the node, and the remaining text.
 use Rattle.std.proofs.Common.{◌≡◌, ◌+◌, ◌∷◌, ◌∙◌, refl, sym, ap, arith, rules, drop}
 use Rattle.std.specs.Prelude.{Result, Ok, Err, OnOk}
 use Rattle.std.specs.Slice.Iter.{iter_rest}

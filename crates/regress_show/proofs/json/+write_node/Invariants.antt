@@ -1,4 +1,4 @@
--- What is still to come completes the whole, and passes the spans that are still to be passed.
+-- The remaining text completes the whole, and consumes the remaining spans.
 use Rattle.std.proofs.Common.{◌≡◌, ◌≤◌, ℕ, List, true, drop}
 use Rattle.std.specs.Slice.Iter.{iter_rest}
 use Rattle.std.specs.Fmt.{IsPlainFormatter}

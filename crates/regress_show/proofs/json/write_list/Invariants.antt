@@ -6,7 +6,7 @@ use Rattle.regress_show.proofs.json.write_list.Given as goal
 use denote.Text.{Utf8}
 use denote.Shadow.{shadow}
 
--- those so far
+-- the values so far
 abbrev pub invariant-loop-value : goal.invariant-loop-value
 invariant-loop-value g l = record {
   text : shadow (Utf8 l.comma);

@@ -5,7 +5,7 @@ use Rattle.regress_tree.specs.Visits.{nodes}
 use Rattle.regress_spans.specs.Reading.{IsFlat}
 use Rattle.regress_spans.proofs.list.push_nodes.Given as goal
 
--- those of the nodes further down are still to come
+-- The spans of the remaining nodes are still to be appended.
 abbrev pub invariant-loop-last : goal.invariant-loop-last
 invariant-loop-last l = IsFlat (tree l.item) → IsFlat (tree l.last)
     × (l.spans.items ++ replicate (nodes (tree l.last)) l.span ≡ l.fn.spans.items ++ replicate (nodes (tree l.item)) l.span)

@@ -1,4 +1,4 @@
--- Each answer is a lemma on what was read, at the values of the call.
+-- Each obligation is an instance of a lemma on what was parsed, at the values of the call.
 use Rattle.std.proofs.Common.{◌≡◌, ℕ, Bool, not, ◌==◌, cond, List, [], ◌∷◌, ◌++◌, None, Ok, Err, length, refl, sym, ap, ◌∙◌, subst, arith, length-drop}
 use Rattle.std.proofs.lemmas.Bool.{cond-true, cond-false}
 use Rattle.std.proofs.lemmas.Result.{err_from_is_err_and}

@@ -1,4 +1,4 @@
--- What is read so far, and the spans of what is still to come.
+-- The loops' invariants: the spans so far, and those of the remaining source.
 use Rattle.std.proofs.Common.{◌≤◌, ◌+◌, ◌*◌, length}
 use Rattle.regress_lexical.specs.Views.{source}
 use Rattle.regress_spans.specs.Reading.{context_in, direction_of}
@@ -6,7 +6,8 @@ use Rattle.regress_spans.proofs.TermsLemmas.{ForwardsSoFar, BackwardsSoFar}
 use Rattle.regress_spans.proofs.DisjunctionLemmas.{AlternativesSoFar}
 use Rattle.regress_spans.proofs.reading.+reading.Given as goal
 
--- What an item begins with takes a code point. Between two of them the calls go from an item to a term.
+-- The start of an item takes a code point. Between two items the calls decrease in the order from an alternative to an
+-- item.
 abbrev pub decreases-read_disjunction : goal.decreases-read_disjunction
 decreases-read_disjunction l = 8 * length (source l.cursor.now) + 6
 

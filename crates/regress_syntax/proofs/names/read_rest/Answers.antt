@@ -1,4 +1,4 @@
--- A turn reads one character more.
+-- Each iteration parses one more character.
 use Rattle.std.proofs.Common.{sym, ap, ◌∙◌}
 use Rattle.regress_unicode.specs.TableOf.{table_of}
 use Rattle.regress_syntax.specs.Syntax.{Name}

@@ -1,4 +1,4 @@
--- What is left, behind the characters so far, is the whole.
+-- The characters so far, followed by the rest that remains to be parsed, are the whole name.
 use Rattle.std.proofs.Common.{◌≡◌, length}
 use Rattle.regress_unicode.specs.TableOf.{table_of}
 use Rattle.regress_syntax.proofs.NameLemmas.{left_of_name, behind_read}

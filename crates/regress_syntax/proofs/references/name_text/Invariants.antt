@@ -1,4 +1,4 @@
--- The characters so far are written.
+-- The text is the UTF-8 of the characters so far.
 use Rattle.std.proofs.Common.{◌≡◌, take, string_bytes, encode_utf8_all}
 use Rattle.regress_syntax.proofs.references.name_text.Given as goal
 

@@ -1,6 +1,6 @@
--- What was found so far, and what the marks of the rest give, is what the marks of the whole give; and so for what is
--- misplaced. No more classes are open,
--- and no number of the place is higher, than code points are passed.
+-- What was found so far, with what the marks of the remaining source add, is what the marks of the whole pattern
+-- determine. The same holds of misplaced code points. The number of open classes, and each number in the position, is
+-- at most the number of code points passed.
 use Rattle.std.proofs.Common.{◌≡◌, ◌+◌, ◌≤◌, length}
 use Rattle.std.specs.Option.{option_or}
 use Rattle.regress_unicode.specs.TableOf.{table_of}

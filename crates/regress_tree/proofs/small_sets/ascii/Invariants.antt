@@ -1,4 +1,4 @@
--- All so far are ASCII, and stand in the list.
+-- All members so far are ASCII, and are the first of the list.
 use Rattle.std.proofs.Common.{◌≡◌, drop, take}
 use Rattle.regress_tree.specs.SmallSets.{is_ascii}
 use Rattle.regress_tree.proofs.small_sets.ascii.Given as goal

@@ -1,4 +1,4 @@
--- The next pair of ends is an interval, and behind the last there is none.
+-- The next pair of ends is an interval, and after the last pair there is none.
 use Rattle.regress_ucd.proofs.DataLemmas.{interval_there, intervals_left, pair_taken, all_taken}
 use Rattle.regress_ucd.proofs.tables.intervals.Goals as goal
 

@@ -1,4 +1,4 @@
--- The intervals of the pairs taken so far, and what is left of the ends.
+-- The list has the intervals of the pairs so far, and the remaining ends are intervals.
 use Rattle.std.proofs.Common.{◌≡◌, ◌++◌, ◌*◌, All, drop}
 use Rattle.regress_base.specs.Intervals.{IsInterval}
 use Rattle.regress_ucd.specs.Data.{paired}

@@ -1,4 +1,4 @@
--- What stands at the places of a name.
+-- The range of a name contains a canonical set.
 use Rattle.std.proofs.Common.{IsTrue}
 use Rattle.regress_ucd.specs.Data.{is_set_at}
 use Rattle.regress_ucd.proofs.DataLemmas.{places_at}

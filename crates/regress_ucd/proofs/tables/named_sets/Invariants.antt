@@ -1,4 +1,4 @@
--- The sets of the names taken so far.
+-- The list has the sets of the names so far.
 use Rattle.std.proofs.Common.{◌≡◌, map, take}
 use Rattle.regress_unicode.specs.Parts.{sets_of}
 use Rattle.regress_ucd.specs.Data.{named_set}

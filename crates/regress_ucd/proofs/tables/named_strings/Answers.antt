@@ -1,4 +1,4 @@
--- What stands at the places of a name.
+-- The range of a name contains strings.
 use Rattle.regress_ucd.specs.Data.{AreStringsAt}
 use Rattle.regress_ucd.proofs.DataLemmas.{places_at}
 use Rattle.regress_ucd.proofs.tables.named_strings.Goals as goal

@@ -1,4 +1,4 @@
--- The strings of the places taken so far.
+-- The list has the strings of the ranges so far.
 use Rattle.std.proofs.Common.{◌≡◌, map, take, slice_range}
 use Rattle.regress_ucd.proofs.tables.strings.Given as goal
 

@@ -1,4 +1,4 @@
--- What the constants keep.
+-- The constants have the properties that the table requires.
 use Rattle.std.proofs.Common.{◌∙◌, ap, sym, subst, IsTrue, List, ℕ, map}
 use Rattle.regress_unicode.specs.Parts.{IsSound, table_from}
 use Rattle.regress_ucd.specs.Data.{is_set_at}

@@ -1,4 +1,4 @@
--- Each test is asked after those before it were met.
+-- Each test is made only after those before it pass.
 use Rattle.std.proofs.Common.{◌≡◌, List, String, Global, true, sym, subst, ap, ◌∙◌}
 use Rattle.std.proofs.lemmas.Result.{err_from_is_err_and}
 use Rattle.std.specs.List.{list_all}

@@ -1,4 +1,4 @@
--- The parts are those of the small table, which is lawful.
+-- The parts are those of the small table, which satisfies the invariants of tables.
 use Rattle.std.proofs.Common.{ap, sym, subst}
 use Rattle.regress_unicode.specs.Parts.{IsSound, table_from}
 use Rattle.regress_unicode.specs.SmallTable.{small_table}

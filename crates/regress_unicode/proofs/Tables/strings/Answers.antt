@@ -1,4 +1,4 @@
--- The strings are read as lists of numbers.
+-- The strings are represented as lists of numbers.
 use Rattle.std.proofs.Common.{ℕ, Vec, Global, Some, ap, ◌∙◌, map, option_map, List}
 use Rattle.regress_base.specs.Table.{named}
 use Rattle.regress_unicode.specs.Parts.{strings_of}

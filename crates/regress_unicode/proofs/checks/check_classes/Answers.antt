@@ -1,4 +1,4 @@
--- A sort keeps how often each number stands.
+-- Sorting keeps the number of occurrences of each number.
 use Rattle.std.proofs.Common.{◌≡◌, ℕ, ◌+◌, ◌<◌, List, length, get_or, refl, inr, subst}
 use Rattle.regress_unicode.specs.Moves.{HasNoFour}
 use Rattle.regress_unicode.proofs.CaseMapLemmas.{few_after_sort, many_after_sort}

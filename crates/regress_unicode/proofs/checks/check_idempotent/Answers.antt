@@ -1,4 +1,4 @@
--- What is not moved is its own image.
+-- A code point that is not mapped to another one is its own canonical form.
 use Rattle.std.proofs.Common.{◌≡◌, ℕ, List, All, true, refl, sym, subst}
 use Rattle.regress_unicode.specs.FoldRows.{image}
 use Rattle.regress_unicode.proofs.CaseMapLemmas.{idempotent_from_images, images_from_idempotent}

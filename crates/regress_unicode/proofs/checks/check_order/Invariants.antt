@@ -1,4 +1,4 @@
--- The rows so far are in order, and the others are to begin at `low`.
+-- The entries so far are in order, and the next one has to begin at `low` or above.
 use Rattle.std.proofs.Common.{◌≡◌, ◌^◌, ◌≤◌, drop}
 use Rattle.regress_unicode.specs.FoldRows.{is_in_order_from, is_in_order}
 use Rattle.regress_unicode.proofs.checks.check_order.Given as goal

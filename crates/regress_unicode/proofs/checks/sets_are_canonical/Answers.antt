@@ -1,4 +1,4 @@
--- The type of each set says that it is canonical.
+-- The type of each set guarantees that it is canonical.
 use Rattle.std.proofs.Common.{List, All, String, Global, subst}
 use Rattle.std.proofs.lemmas.List.{take_all}
 use Rattle.std.proofs.lemmas.List.Elements.{All-more, All-map}

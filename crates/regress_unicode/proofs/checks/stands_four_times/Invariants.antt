@@ -1,4 +1,4 @@
--- No number so far stood three places before.
+-- No number so far is equal to the number three indices before it.
 use Rattle.std.proofs.Common.{◌≢◌, ℕ, ◌+◌, ◌<◌, get_or}
 use Rattle.regress_unicode.proofs.checks.stands_four_times.Given as goal
 

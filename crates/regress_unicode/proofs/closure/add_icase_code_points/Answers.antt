@@ -1,4 +1,4 @@
--- The images of the members, and then what goes to them, are the closure.
+-- The canonical forms of the members, followed by the code points that are mapped to them, are the closure.
 use Rattle.std.proofs.Common.{◌≤◌, ◌||◌, List, All, refl, subst, ap, ◌∙◌}
 use Rattle.regress_base.specs.Intervals.{is_member}
 use Rattle.regress_base.proofs.laws.Sets.{member_above, canonical_unique}

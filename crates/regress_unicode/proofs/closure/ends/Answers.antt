@@ -1,4 +1,4 @@
--- No member lies before the first interval or behind the last.
+-- No member is before the first interval or after the last.
 use Rattle.std.proofs.Common.{◌-◌, ◌<◌, ◌≤◌, length, sym, subst, arith}
 use Rattle.std.proofs.lemmas.Bool.{eqb-true}
 use Rattle.regress_base.specs.Intervals.{Bounds}

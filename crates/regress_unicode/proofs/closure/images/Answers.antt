@@ -1,4 +1,4 @@
--- Each row adds what it moves of the intervals that are left, and those passed over hold nothing that it moves.
+-- Each entry adds what it maps of the remaining intervals. The intervals before these have no code point that it maps.
 use Rattle.std.proofs.Common.{◌≡◌, ℕ, ◌+◌, ◌<◌, ◌≤◌, ◌∙◌, IsTrue, length, le_refl, refl, sym, subst, arith}
 use Rattle.std.proofs.lemmas.Bool.{eqb-true}
 use Rattle.regress_base.specs.Intervals.{Bounds, is_member}

@@ -1,4 +1,4 @@
--- The list has what the rows so far move. What is left of the intervals has all that the other rows may move.
+-- The list has what the entries so far map. The remaining intervals have every member that the other entries map.
 use Rattle.std.proofs.Common.{◌≡◌, ℕ, ◌<◌, ◌≤◌, length, get_or, take}
 use Rattle.regress_base.specs.Intervals.{is_member, IsCanonical}
 use Rattle.regress_unicode.specs.FoldRows.{FoldRow}

@@ -1,4 +1,4 @@
--- What is passed over holds no code point from `low` on.
+-- The intervals that are left out have no code point from `low` on.
 use Rattle.std.proofs.Common.{arith}
 use Rattle.regress_unicode.proofs.ClosingLemmas.{slice_canonical, slice_members}
 use Rattle.regress_unicode.proofs.closure.pass_over.Goals as goal

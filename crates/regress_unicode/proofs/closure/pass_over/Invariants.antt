@@ -1,4 +1,4 @@
--- The intervals before the place end below.
+-- The intervals before the index end below `low`.
 use Rattle.std.proofs.Common.{◌-◌, ◌<◌, ◌≤◌, length}
 use Rattle.std.specs.List.{AllWithin}
 use Rattle.regress_unicode.proofs.closure.pass_over.Given as goal

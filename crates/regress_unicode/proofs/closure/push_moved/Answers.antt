@@ -1,4 +1,4 @@
--- Each interval adds what it is moved to, and behind the run nothing moves.
+-- Each interval adds what it is mapped to. After the range nothing is mapped.
 use Rattle.std.proofs.Common.{◌||◌, ◌∙◌, ap, arith}
 use Rattle.regress_base.specs.Intervals.{is_member}
 use Rattle.regress_unicode.proofs.ShiftLemmas.{intervals_none, intervals_more, intervals_all}

@@ -1,4 +1,4 @@
--- The list has what the intervals so far are moved to.
+-- The list has what the intervals so far are mapped to.
 use Rattle.std.proofs.Common.{◌≡◌, ℕ, ◌||◌, take}
 use Rattle.regress_base.specs.Intervals.{is_member}
 use Rattle.regress_unicode.specs.Shifts.{lands}

@@ -1,4 +1,4 @@
--- Either the interval moves as a whole, or its code points one by one.
+-- The interval is mapped as a whole, or its code points one by one.
 use Rattle.std.proofs.Common.{◌≡◌, ◌+◌, ◌||◌, min, max, sym, ap, ◌∙◌, arith}
 use Rattle.regress_base.specs.Intervals.{is_member, is_within}
 use Rattle.std.proofs.Math.Bool.{or-false}

@@ -1,4 +1,4 @@
--- What is passed over holds no code point from `low` on.
+-- The intervals that are left out have no code point from `low` on.
 use Rattle.std.proofs.Common.{ltb, arith, rules}
 use borrow.Author.Tests.{ltb-true}
 use Rattle.std.proofs.lemmas.List.Sorted.{IsPartitionPoint-from_clause, IsPartitionedBy-ltb}

@@ -1,4 +1,4 @@
--- Each row adds what it moves, and one whose images lie beyond the ends moves nothing.
+-- Each entry adds what it maps. An entry with all its canonical forms beyond the ends maps nothing.
 use Rattle.std.proofs.Common.{◌≡◌, ℕ, ◌<◌, ◌≤◌, ◌∙◌, List, All, inl, inr, ap, subst, arith}
 use Rattle.std.proofs.lemmas.List.{take_all}
 use Rattle.std.proofs.lemmas.List.Elements.{All-nil, All-more}
@@ -10,7 +10,7 @@ use Rattle.regress_unicode.proofs.ClosingLemmas.{found_none, row_more, row_no_mo
 use Rattle.regress_unicode.proofs.closure.sources.Goals as goal
 use Rattle.regress_unicode.proofs.closure.sources.Goals.{then-first-high+then-low-shifted+in_ok-push_moved, else-first-high, else-first-high-via-then-first-high+else-low-shifted, else-first-high-via-else-first-high}
 
--- a code point at most the last one is below what that is below, and one from the first one on above what that is above
+-- a code point up to the last one is below every number that the last one is below; likewise above for the first one
 below : (y last found low : ℕ) → y ≤ last → found ≡ last → found < low → y < low
 below y last found low le is lt = omega arith
 

@@ -1,4 +1,4 @@
--- The list has what the rows so far move.
+-- The list has what the entries so far map.
 use Rattle.std.proofs.Common.{◌≡◌, ℕ, ◌≤◌, All, take}
 use Rattle.regress_base.specs.Intervals.{is_member}
 use Rattle.regress_unicode.specs.Shifts.{lands_by, backward}

@@ -1,4 +1,4 @@
--- The search compares by the place of each row, and the places rise.
+-- The search compares each entry with `c`, and the results do not decrease.
 use Rattle.std.proofs.Common.{ap, sym, subst, ◌∙◌, get_or, IsTrue, rules}
 use Rattle.std.proofs.lemmas.Fn.{always_returns_same}
 use Rattle.regress_unicode.specs.FoldRows.{FoldRow, is_in_row, image_in_row, is_target_in_range}

@@ -1,4 +1,4 @@
--- Each entry passed has another name.
+-- Each entry so far has another name.
 use Rattle.std.proofs.Common.{sym, ap, ◌∙◌}
 use Rattle.std.specs.Str.{bytes_eq}
 use Rattle.regress_unicode.proofs.NamedLemmas.{named_found, named_passed, named_none}

@@ -1,4 +1,4 @@
--- The first entry of that name is not among those passed.
+-- No entry so far has the name.
 use Rattle.std.proofs.Common.{◌≡◌, map, drop}
 use Rattle.regress_unicode.specs.Parts.{entry_of}
 use Rattle.regress_base.specs.Table.{named}

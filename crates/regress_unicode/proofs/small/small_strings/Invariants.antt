@@ -1,4 +1,4 @@
--- The keycaps of the keys taken so far.
+-- The list has the keycaps of the keys so far.
 use Rattle.std.proofs.Common.{◌≡◌, [], ◌∷◌, map, take}
 use Rattle.regress_unicode.proofs.small.small_strings.Given as goal
 

@@ -1,4 +1,4 @@
--- The number stands behind the smaller ones and before the greater ones.
+-- The number is after the smaller ones and before the greater ones.
 use Rattle.std.proofs.Common.{◌≡◌, ℕ, ◌<◌, ◌≤◌, IsTrue, List, insert, length, get_or, subst, sym, ap, ◌∙◌, arith}
 use Rattle.std.proofs.lemmas.List.{get_or_read}
 use Rattle.std.proofs.lemmas.Result.{on_ok_weaker}
@@ -7,7 +7,7 @@ use Rattle.regress_base.proofs.laws.Listings.{put_ascending, put_lists}
 use Rattle.regress_unicode.proofs.unfold.add_in_place.Goals as goal
 use Rattle.regress_unicode.proofs.unfold.add_in_place.Goals.{else-place-len-via-then-place-len+else-index-c, else-place-len-via-else-place-len}
 
--- what stands at the place is greater
+-- the number at the index is greater
 greater : (c : goal.After-put) → c.first_from-place.result < length c.deref.result.now → (d : ℕ) →
     c.args.c < get_or c.deref.result.now c.first_from-place.result d
 greater c inside d =

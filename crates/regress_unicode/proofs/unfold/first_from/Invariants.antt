@@ -1,4 +1,4 @@
--- The numbers before the place are smaller.
+-- The numbers before the index are smaller.
 use Rattle.std.proofs.Common.{◌-◌, ◌<◌, ◌≤◌, length}
 use Rattle.std.specs.List.{AllWithin}
 use Rattle.regress_unicode.proofs.unfold.first_from.Given as goal

@@ -1,4 +1,4 @@
--- Few code points share an image.
+-- At most four code points have the same canonical form.
 use Rattle.std.proofs.Common.{ℕ, ◌≤◌, ◌==◌, length, List, Vec, Global, sym, subst}
 use Rattle.std.proofs.lemmas.Result.{IfOk-weaker}
 use Rattle.regress_unicode.specs.FoldRows.{FoldRow, image}

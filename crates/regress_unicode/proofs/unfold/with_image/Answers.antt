@@ -1,4 +1,4 @@
--- Each row adds the code point that it moves to the target behind the others, and at last the target itself is added.
+-- Each entry appends the code point that it maps to the target. At the end the target itself is inserted.
 use Rattle.std.proofs.Common.{◌<◌, ℕ, false, ◌==◌, ◌&&◌, ◌||◌, ◌∙◌, nat_le, IsTrue, List, le_refl, sym, ap, subst, refl, arith}
 use Rattle.std.proofs.lemmas.List.{take_all}
 use Rattle.regress_base.specs.Intervals.{code_point_max}

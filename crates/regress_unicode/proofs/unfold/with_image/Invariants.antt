@@ -1,4 +1,4 @@
--- What is found is what the rows so far move to the target, and lies below the rows to come.
+-- The list has the code points that the entries so far map to the target, all of which are below the remaining entries.
 use Rattle.std.proofs.Common.{◌≡◌, ℕ, ◌<◌, ◌≤◌, true, ◌&&◌, nat_le, IsTrue, length, get_or, take}
 use Rattle.regress_base.specs.Intervals.{code_point_max}
 use Rattle.regress_unicode.specs.FoldRows.{FoldRow}

@@ -4,7 +4,7 @@ use Rattle.regress_tree.specs.Tree.{tree, trees}
 use Rattle.regress_words.specs.Words.{encode, encode_row}
 use Rattle.regress_words.proofs.tree_words.+push.Given as goal
 
--- What is still to be pushed completes the whole. The loop goes down, and the calls in it go further.
+-- The remaining words complete the whole. The loop descends, and the calls in it are on smaller nodes.
 abbrev pub invariant-push_tree-loop-parts : goal.invariant-push_tree-loop-parts
 invariant-push_tree-loop-parts l = record {
   smaller : size-Node l.node ≤ size-Node l.initial.node;

@@ -1,4 +1,4 @@
--- the span, and the groups so far
+-- the span of the match, and the fields of the groups so far
 use Rattle.std.proofs.Common.{◌++◌, take}
 use Rattle.std.specs.Fmt.{HasWritten, IsPlainFormatter}
 use Rattle.regress_match.specs.Matched.{start_of, state_of}

@@ -1,4 +1,4 @@
--- What the intervals lie over is replaced by what is left of it.
+-- The range of intervals within the span is replaced by its intersection with the gaps.
 use Rattle.std.proofs.Common.{◌≡◌, ℕ, ◌-◌, ◌&&◌, ◌∙◌, ◌++◌, not, take, drop, List, ap, ap₂, sym, subst}
 use Rattle.std.proofs.lemmas.Iterator.{items_from_drains}
 use Rattle.std.proofs.lemmas.Iterator.Adapters.{YieldsList-from_vec}

@@ -1,4 +1,4 @@
--- The search compares by the place of each interval, and the places rise.
+-- The search compares each interval with `cp`, and the results do not decrease.
 use Rattle.std.proofs.Common.{◌∙◌, rules}
 use Rattle.std.proofs.lemmas.Fn.{always_returns_same}
 use Rattle.regress_base.proofs.SearchLemmas.{place_of, found_member}

@@ -1,4 +1,4 @@
--- The intervals so far are canonical, and the others are to begin at `low`.
+-- The intervals so far are canonical, and the next one has to begin at `low` or above.
 use Rattle.std.proofs.Common.{◌≡◌, drop}
 use Rattle.regress_base.specs.Intervals.{is_canonical_from}
 use Rattle.regress_base.proofs.codepointset.canonical.is_canonical.Given as goal

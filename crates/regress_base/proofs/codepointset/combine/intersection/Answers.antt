@@ -1,4 +1,4 @@
--- Of two intervals the one that ends first overlaps nothing that is left on the other side.
+-- Of two intervals, the one that ends first overlaps none of the remaining intervals on the other side.
 use Rattle.std.proofs.Common.{inl, inr, arith, rules}
 use Rattle.regress_base.proofs.CombineLemmas.{met_left, met_right, met_none, meet_done}
 use Rattle.regress_base.proofs.codepointset.combine.intersection.Goals as goal

@@ -1,4 +1,4 @@
--- The list has the common members, but for those of the intervals left on both sides.
+-- The list has the common members except for those of the remaining intervals on both sides.
 use Rattle.std.proofs.Common.{◌+◌, ◌-◌, ◌≤◌, length}
 use Rattle.regress_base.proofs.CombineLemmas.{Met}
 use Rattle.regress_base.proofs.codepointset.combine.intersection.Given as goal

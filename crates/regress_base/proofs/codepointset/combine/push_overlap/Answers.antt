@@ -1,4 +1,4 @@
--- The overlap runs from the later first to the earlier last.
+-- The overlap extends from the higher first to the lower last.
 use Rattle.std.proofs.Common.{◌∙◌, min, max, ap, ap₂, refl}
 use Rattle.std.proofs.lemmas.Bool.{false≢true}
 use Rattle.regress_base.proofs.CombineLemmas.{pushed_some, pushed_none}

@@ -1,4 +1,4 @@
--- The members lie between the first and the last.
+-- All members are between the first and the last one.
 use Rattle.std.proofs.Common.{◌∙◌, sym, arith}
 use Rattle.regress_base.proofs.CutLemmas.{span_ordered, within_span}
 use Rattle.regress_base.proofs.WithinLemmas.{pair}

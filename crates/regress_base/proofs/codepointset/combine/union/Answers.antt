@@ -1,4 +1,4 @@
--- Each turn takes one interval more of one list.
+-- Each iteration adds one interval of one list.
 use Rattle.std.proofs.Common.{arith, rules}
 use Rattle.std.proofs.lemmas.Grind.{common_steps}
 use Rattle.regress_base.proofs.CombineLemmas.{union_left, union_right}

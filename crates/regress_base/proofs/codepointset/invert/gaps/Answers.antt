@@ -1,4 +1,4 @@
--- The list is that of the complement.
+-- The list is the complement.
 use Rattle.std.proofs.Common.{◌≡◌, ◌-◌, ◌++◌, [], ◌∷◌, ◌∙◌, ap, arith, rules}
 use Rattle.regress_base.proofs.GapsLemmas.{gaps_from, gaps_step_gap, gaps_step_none, gaps_end, gaps_full, complement_from}
 use Rattle.regress_base.proofs.codepointset.invert.gaps.Goals as goal

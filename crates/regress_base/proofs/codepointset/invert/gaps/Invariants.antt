@@ -1,4 +1,4 @@
--- The gaps so far, and those from `start` on.
+-- The gaps so far, followed by those from `start` on, are all gaps.
 use Rattle.std.proofs.Common.{◌≡◌, ◌++◌, drop}
 use Rattle.regress_base.proofs.GapsLemmas.{gaps_from}
 use Rattle.regress_base.proofs.codepointset.invert.gaps.Given as goal

@@ -1,4 +1,4 @@
--- The later of the two firsts is shared where the ends reach each other.
+-- If the ends overlap, the higher first is in both intervals.
 use Rattle.std.proofs.Common.{subst, arith, rules}
 use Rattle.std.proofs.lemmas.Bool.Decides.{nat_tests}
 use Rattle.regress_base.specs.Intervals.{IsInterval}

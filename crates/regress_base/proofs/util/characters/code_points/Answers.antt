@@ -4,7 +4,7 @@ use Rattle.std.proofs.lemmas.Iterator.Consumers.{YieldsList-end}
 use Rattle.std.proofs.lemmas.List.{map-id}
 use Rattle.regress_base.proofs.util.characters.code_points.Goals as goal
 
--- once there is no further character, those so far are all
+-- at the end of the text the list has all characters
 pub returns-clause-characters : goal.returns-clause-characters
 returns-clause-characters c =
     let yields = YieldsList-from_chars c.args.text.now c.utf8.text cc in

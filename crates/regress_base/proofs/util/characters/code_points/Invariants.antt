@@ -1,7 +1,7 @@
 use Rattle.std.proofs.Common.{◌≡◌, ◌≤◌, All}
 use Rattle.regress_base.proofs.util.characters.code_points.Given as goal
 
--- the characters so far, each at most U+10FFFF
+-- the list has the characters so far, each at most U+10FFFF
 abbrev pub invariant-loop-c : goal.invariant-loop-c
 invariant-loop-c l = record {
   so_far : l.points.items ≡ l.yielded;

@@ -1,4 +1,4 @@
--- The answer at the middle tells which half goes.
+-- The result at the middle determines which half is dropped.
 use Rattle.std.proofs.Common.{◌+◌, ◌-◌, ◌/◌, arith, of_calls}
 use Rattle.std.specs.Fn.{ComputesKey}
 use Rattle.std.specs.Ordering.{ordering_index}

@@ -1,4 +1,4 @@
--- The answers before `low` are below the least, and those from `high` on are not.
+-- The results before `low` are below `least`, and those from `high` on are not.
 use Rattle.std.proofs.Common.{◌-◌, ◌<◌, ◌≤◌, length}
 use denote.Param.Always.{always_mut}
 use Rattle.std.specs.List.{AllWithin}

@@ -1,4 +1,4 @@
--- What is left of code points are code points.
+-- What remains of a list of code points is one too.
 use Rattle.std.proofs.Common.{◌∷◌, sym, ap, ◌∙◌}
 use Rattle.std.proofs.lemmas.Bool.{cond-true, cond-false, ne_eqb}
 use Rattle.regress_lexical.specs.Escapes.{escape_at}

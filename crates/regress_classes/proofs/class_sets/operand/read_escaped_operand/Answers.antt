@@ -1,4 +1,4 @@
--- Which row it is.
+-- Each branch is the production that the grammar selects.
 use Rattle.std.proofs.Common.{Bool, ◌==◌, refl, sym, ap, subst, ◌∙◌}
 use Rattle.std.proofs.lemmas.Bool.{ne_eqb}
 use Rattle.std.proofs.lemmas.List.{nil_from_length}

@@ -1,4 +1,4 @@
--- What was found, and what it holds.
+-- The property that was found, and its members or strings.
 use Rattle.std.proofs.Common.{◌||◌, true, Some, refl, ap, ap₂, ◌∙◌}
 use Rattle.std.proofs.lemmas.Bool.{cond-false}
 use Rattle.regress_unicode.specs.TableOf.{table_of}

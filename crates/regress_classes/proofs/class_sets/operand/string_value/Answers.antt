@@ -1,4 +1,4 @@
--- A turn adds one string.
+-- Each iteration adds one string.
 use Rattle.std.proofs.Common.{sym, subst, ◌∙◌}
 use Rattle.std.specs.List.{All}
 use Rattle.regress_lexical.specs.Source.{IsCodePoint}

@@ -1,4 +1,4 @@
--- The strings taken so far are held.
+-- The value has the strings of the iterations so far.
 use Rattle.std.proofs.Common.{take}
 use Rattle.regress_classes.specs.ClassSets.{value_of_strings}
 use Rattle.regress_classes.specs.ClassViews.{strings_of, IsValue}

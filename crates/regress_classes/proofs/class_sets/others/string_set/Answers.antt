@@ -1,4 +1,4 @@
--- A turn adds one string.
+-- Each iteration adds one string.
 use Rattle.std.proofs.Common.{◌∙◌}
 use Rattle.regress_classes.proofs.ClassSetLemmas.{one_more_string, all_strings}
 use Rattle.regress_classes.proofs.class_sets.others.string_set.Goals as goal

@@ -1,4 +1,4 @@
--- The set has the strings taken so far.
+-- The set has the strings of the iterations so far.
 use Rattle.std.proofs.Common.{◌≡◌, ℕ, List, take}
 use Rattle.std.specs.BTreeSet.{contains_by}
 use Rattle.std.specs.Cmp.Lexicographic.{slice_cmp}

@@ -1,4 +1,4 @@
--- A turn reads one character more, or begins one more string.
+-- Each iteration parses one more character, or starts one more string.
 use Rattle.std.proofs.Common.{◌≡◌, length, sym, ap, arith, ◌∙◌}
 use Rattle.std.proofs.lemmas.Bool.{cond-true, cond-false}
 use Rattle.std.proofs.lemmas.Result.{err_from_is_err_and}

@@ -1,4 +1,4 @@
--- The strings so far were read.
+-- The strings before the cursor are parsed.
 use Rattle.std.proofs.Common.{length}
 use Rattle.regress_lexical.specs.Views.{source}
 use Rattle.regress_classes.proofs.ClassStringLemmas.{StringsUpTo}

@@ -1,4 +1,4 @@
--- The interval is the last one of those behind the set.
+-- The interval is the last one in the list after the set.
 use Rattle.std.proofs.Common.{◌||◌, ◌∙◌, List, ap}
 use Rattle.regress_base.specs.Intervals.{Bounds, is_member, is_within}
 use Rattle.regress_classes.proofs.GatheredLemmas.{put_behind}

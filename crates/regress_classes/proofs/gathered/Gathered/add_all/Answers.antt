@@ -1,4 +1,4 @@
--- Each turn adds one interval.
+-- Each iteration adds one interval.
 use Rattle.std.proofs.Common.{◌||◌, ◌∙◌, ap, sym, take}
 use Rattle.std.proofs.Math.Bool.{or-false}
 use Rattle.regress_base.specs.Intervals.{is_member, is_within}

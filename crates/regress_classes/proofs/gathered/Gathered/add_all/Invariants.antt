@@ -1,4 +1,4 @@
--- The set has the members of the intervals taken so far.
+-- The set has the members of the intervals of the iterations so far.
 use Rattle.std.proofs.Common.{◌≡◌, ℕ, ◌||◌, take}
 use Rattle.regress_base.specs.Intervals.{is_member}
 use Rattle.regress_classes.proofs.gathered.Gathered.add_all.Given as goal

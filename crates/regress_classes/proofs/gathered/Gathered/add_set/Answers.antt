@@ -1,4 +1,4 @@
--- The set alone, where nothing was in it.
+-- The set as it is, where there was none before.
 use Rattle.std.proofs.Common.{ap, ◌||◌, List, ◌∙◌}
 use Rattle.regress_base.specs.Intervals.{Bounds, is_member}
 use Rattle.regress_classes.proofs.GatheredLemmas.{set_taken}

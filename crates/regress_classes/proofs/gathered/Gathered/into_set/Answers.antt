@@ -1,4 +1,4 @@
--- Those behind the set are added to it, one by one or all at once.
+-- The intervals after the set are added to it, one by one or all at once.
 use Rattle.std.proofs.Common.{◌||◌, List, ap, subst, ◌∙◌}
 use Rattle.regress_base.specs.Intervals.{Bounds, is_member}
 use Rattle.regress_classes.specs.ClassViews.{HasMembers}

@@ -1,4 +1,4 @@
--- The groups up to here are forgotten, and each change is noted.
+-- The groups with smaller ids are unset, and each change is recorded.
 use Rattle.std.proofs.Common.{◌≡◌, length, min}
 use Rattle.regress_tree.specs.Repetition.{unset_from}
 use Rattle.regress_match.specs.Captures.{Later}

@@ -1,4 +1,4 @@
--- The sums and tests over the row with one part more.
+-- The sums and tests over a list with one more part.
 use Rattle.std.proofs.Common.{◌≡◌, ℕ, ◌+◌, ◌||◌, max, ap, ap₂, sym, ◌∙◌, arith}
 use mir.Val.{bool_byte}
 use Rattle.regress_tree.specs.Measures.{levels}

@@ -1,4 +1,4 @@
--- Each answer is a lemma on what was read, at the values of the call.
+-- Each clause follows from a lemma on what was parsed, at the values of the call.
 use Rattle.std.proofs.Common.{◌≡◌, ◌+◌, ◌-◌, ◌<◌, Bool, false, not, ◌∷◌, inr, drop, Some, None, Ok, Err, length, refl, sym, ap, ◌∙◌, subst, arith, length-drop}
 use Rattle.std.proofs.lemmas.Result.{err_from_is_err_and}
 use Rattle.regress_lexical.specs.declared.fault.FaultKind.TheVariants.{TooDeep}
@@ -25,7 +25,7 @@ use Rattle.regress_parse.proofs.TermLemmas.{front_is, times-fail, too_deep, plai
 use Rattle.regress_parse.proofs.ParserLemmas.{built, built_here, of_built}
 use Rattle.regress_parse.proofs.parser.Parser.+parser.Goals as goal
 
--- a bar takes a code point
+-- A `|` takes one code point.
 behind_bar_spends : (now : Counts) (t rest : Source) → rest ≡ drop 1 t → Spends now now t rest
 behind_bar_spends now t rest same = spends_read now t rest (omega (arith, ap length same, length-drop 1 t))
 
@@ -441,7 +441,7 @@ consume_term-returns-in_err-kind-clause-reached t c =
     rw (p.1, p.2) (on_kind_then c.in_err-kind.field-0.0
     (no_limit (counted c.args.self.now) c.args.around.now.depth (text c.args.self.now)) c.in_err-kind.ensures.kind)
 
--- what a parenthesis opens leaves less
+-- What follows an opening parenthesis is shorter.
 opened_shorter : (ctx : Context) (t here there : Source) (kind : Group) → t ≡ opening ∷ here → group_at ctx.setting.table here ≡ Some (opens kind, there) →
     length there < length t
 opened_shorter ctx t here there kind front found =

@@ -7,7 +7,7 @@ use Rattle.regress_parse.proofs.SoFarLemmas.{TermsSoFar}
 use Rattle.regress_parse.proofs.AlternativesLemmas.{AlternativesSoFar}
 use Rattle.regress_parse.proofs.parser.Parser.+parser.Given as goal
 
--- What an item begins with takes a code point. Between two of them the calls go from an item to a term.
+-- Every item starts with a code point that it consumes. Until then the calls go from an item to a term.
 abbrev pub decreases-consume_group : goal.decreases-consume_group
 decreases-consume_group l = 8 * length (text l.self.now) + 6
 
@@ -26,7 +26,7 @@ decreases-consume_term l = 8 * length (text l.self.now) + 2
 abbrev pub decreases-consume_terms : goal.decreases-consume_terms
 decreases-consume_terms l = 8 * length (text l.self.now) + 3
 
--- Wherever the first term began, the loop's list holds the terms from there.
+-- The list of the loop has the nodes of the terms parsed since the first one, wherever that started.
 abbrev pub invariant-consume_terms-loop-self : goal.invariant-consume_terms-loop-self
 invariant-consume_terms-loop-self l =
     ((t : Source) (before : Counts) (x : Term) → ends_alternative t ≡ false → term_at (context_in l.around) t ≡ Some (x, text l.fn.self) →

@@ -1,4 +1,4 @@
--- What is read of the quantifier, behind the item that was found.
+-- The quantifier is parsed after the item that was found.
 use Rattle.std.proofs.Common.{◌≡◌, ◌+◌, Some, None, Ok, refl, sym, ap, ap₂, ◌∙◌, arith}
 use Rattle.std.proofs.lemmas.Result.{err_from_is_err_and}
 use Rattle.regress_lexical.specs.Views.{source}

@@ -20,7 +20,7 @@ quiet_skipped : (sets : Bool) (table : Table) (mode : Mode) (c : ℕ) (rest behi
 quiet_skipped sets table mode c rest behind split quiet =
     let (w, is) = home_of mode in rw (split, is) (pass_quiet w c behind quiet).same
 
--- a backslash at the end is no mark either
+-- A backslash at the end of the source is no mark either.
 behind_escape : (sets : Bool) (table : Table) (w : Home) (t : Source) → marks sets table (home w) (92 ∷ t) ≡ marks sets table (home w) (drop 1 t)
 unfolding marks
 behind_escape sets table in_text [] = refl

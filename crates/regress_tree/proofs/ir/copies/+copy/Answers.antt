@@ -1,4 +1,4 @@
--- One more copy.
+-- One more node is copied.
 use Rattle.std.proofs.Common.{ap}
 use Rattle.regress_tree.specs.Tree.{tree, row}
 use Rattle.regress_tree.proofs.LoopLemmas.{copied_next, copied_all}

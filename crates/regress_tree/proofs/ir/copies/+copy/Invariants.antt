@@ -1,4 +1,4 @@
--- What is copied so far, and what is still to be copied.
+-- The copies so far, and the remaining nodes.
 use Rattle.std.proofs.Common.{◌≡◌, ◌≤◌, map, take}
 use Rattle.regress_tree.specs.declared.ir.node.Node.{size-Node}
 use Rattle.regress_tree.specs.Tree.{tree}

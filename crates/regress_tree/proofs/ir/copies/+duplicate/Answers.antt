@@ -1,4 +1,4 @@
--- What a part copied says of the row.
+-- A copied part, and the list that it is in.
 use Rattle.std.proofs.Common.{rules, sym, ap, ◌∙◌}
 use Rattle.std.proofs.lemmas.List.{drop_all}
 use Rattle.std.proofs.lemmas.Result.{IfOk-from_err}

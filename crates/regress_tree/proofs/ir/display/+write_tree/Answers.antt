@@ -1,4 +1,4 @@
--- The line of a node, and what is still to come.
+-- The line of a node, and the remaining lines.
 use Rattle.std.proofs.Common.{true, refl, le_trans, arith}
 use Rattle.std.proofs.lemmas.List.{drop_all}
 use Rattle.std.proofs.Output.{has_written_append}

@@ -5,7 +5,7 @@ use Rattle.regress_tree.specs.Tree.{tree, trees}
 use Rattle.regress_tree.specs.Display.{printed_at, printed_in_row}
 use Rattle.regress_tree.proofs.ir.display.+write_tree.Given as goal
 
--- What is still to be written completes the whole. The loop goes down, and the calls in it go further.
+-- The remaining lines complete the whole. The loop descends, and the calls in it are on smaller nodes.
 abbrev pub invariant-write_tree-loop-depth : goal.invariant-write_tree-loop-depth
 invariant-write_tree-loop-depth g l =
     let took = g.W.Write.write_str_gives in

@@ -1,4 +1,4 @@
--- What is written so far, and one more.
+-- The text written so far, and one more byte.
 use Rattle.std.proofs.Common.{◌++◌, true, length, flat_map, codes, refl, sym, ap, append-nil}
 use Rattle.std.proofs.lemmas.List.{take_all}
 use Rattle.std.proofs.Output.{has_written_append, has_written_of_eq}

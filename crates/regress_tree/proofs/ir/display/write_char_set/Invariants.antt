@@ -4,7 +4,7 @@ use Rattle.regress_tree.specs.Tree.{char_set}
 use Rattle.regress_tree.specs.Display.{leaf_text}
 use Rattle.regress_tree.proofs.ir.display.write_char_set.Given as goal
 
--- the set of those so far
+-- the code points so far
 abbrev pub invariant-loop-c : goal.invariant-loop-c
 invariant-loop-c g l =
     let so_far = get_or l.characters 0 0 ∷ take l.c-index l.rest in

@@ -1,4 +1,4 @@
--- What is written is the text of the node's tree.
+-- The text that is written is that of the node's tree.
 use Rattle.regress_tree.proofs.laws.Nodes.{tree-Empty, tree-Goal, tree-ByteSequence, tree-ByteSet, tree-CharSet, tree-Cat, tree-Alt, tree-CaptureGroup, tree-Anchor, tree-Bracket, tree-Loop, tree-LookaroundAssertion}
 use Rattle.regress_tree.proofs.ir.display.write_node.Goals as goal
 

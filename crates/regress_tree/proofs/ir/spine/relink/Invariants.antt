@@ -1,4 +1,4 @@
--- The whole stays, as the way up gets shorter.
+-- The whole tree is unchanged while the reversed spine gets shorter.
 use Rattle.std.proofs.Common.{◌≡◌}
 use Rattle.regress_tree.specs.Tree.{tree}
 use Rattle.regress_tree.specs.Spine.{reattach, spine_length}

@@ -1,4 +1,4 @@
--- The calls that are still to come, further up, complete those of the whole way.
+-- The remaining calls, further up, complete the calls on the whole spine.
 use Rattle.std.proofs.Common.{◌≤◌}
 use Rattle.regress_tree.specs.Tree.{tree}
 use Rattle.regress_tree.specs.Visits.{Calls}

@@ -1,4 +1,4 @@
--- Each answer puts the visits of the calls together.
+-- The visits of a node are composed of those of its calls.
 use Rattle.std.proofs.Common.{◌∙◌, sym, ap, refl, le_refl, le_trans, drop, ◌+◌, ◌∷◌}
 use Rattle.std.proofs.lemmas.List.{drop_more, drop_all}
 use Rattle.regress_tree.specs.Tree.{tree}

@@ -1,4 +1,4 @@
--- What is still to come completes the visits of the whole.
+-- The remaining visits complete those of the whole.
 use Rattle.std.proofs.Common.{◌≡◌, ◌≤◌, true, false, drop}
 use Rattle.regress_tree.specs.declared.ir.node.Node.{size-Node}
 use Rattle.regress_tree.specs.Tree.{tree, trees}

@@ -1,4 +1,4 @@
--- Each answer puts the visits of the calls together.
+-- The visits of a node are composed of those of its calls.
 use Rattle.std.proofs.Common.{rules, arith, refl, ◌∙◌, ap, ◌≡◌, true, false, sym, length-set, [], take, drop}
 use Rattle.std.proofs.lemmas.List.{drop_all, take_all}
 use Rattle.regress_tree.proofs.laws.Rows.{row_append-none}

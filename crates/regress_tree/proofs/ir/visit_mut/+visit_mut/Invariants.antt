@@ -1,4 +1,4 @@
--- What is still to come completes the visits of the whole.
+-- The remaining visits complete those of the whole.
 use Rattle.std.proofs.Common.{◌≡◌, ◌≤◌, ◌+◌, ◌*◌, true, false, take, drop, length}
 use Rattle.regress_tree.specs.Tree.{tree, trees, row_append}
 use Rattle.regress_tree.specs.Spine.{reattach, spine_length}
@@ -54,7 +54,7 @@ invariant-visit_row-loop-i g l =
           RowVisited Call l.postorder l.walk.depth behind (trees old) (row_append (trees (take l.i l.parts.items)) ts) l.initial.func b;
     }
 
--- each call is on a part, or on what is further down in this list
+-- each call is on a part, or on a later function of this list
 
 abbrev pub decreases-visit_mut : goal.decreases-visit_mut
 decreases-visit_mut g l = 5 * nodes (tree l.n.now) + 4

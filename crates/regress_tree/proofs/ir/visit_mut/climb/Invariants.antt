@@ -1,4 +1,4 @@
--- The calls that are still to come complete those of the whole way.
+-- The remaining calls complete those of the whole spine.
 use Rattle.std.proofs.Common.{◌≡◌}
 use Rattle.regress_tree.specs.Tree.{tree}
 use Rattle.regress_tree.specs.Spine.{spine_length}

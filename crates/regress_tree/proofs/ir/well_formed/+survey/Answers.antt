@@ -1,4 +1,4 @@
--- Each answer is a lemma on plain trees, at the values of the call.
+-- Each proof applies a lemma about trees to the values of the call.
 use Rattle.std.proofs.Common.{◌≡◌, ◌<◌, true, false, length, inl, inr, le_trans, rules, arith, sym, ap, subst, ◌∙◌}
 use Rattle.std.specs.Prelude.{option_map, string_bytes}
 use Rattle.std.proofs.lemmas.Bool.{false≢true, not-true}

@@ -1,4 +1,4 @@
--- What the pass has gone over so far.
+-- The part of the tree that is surveyed so far.
 use Rattle.std.proofs.Common.{◌≤◌, take}
 use Rattle.regress_tree.specs.declared.ir.node.Node.{size-Node}
 use Rattle.regress_tree.specs.Tree.{tree, trees, cat}

@@ -1,4 +1,4 @@
--- A leaf stands inside where it is as it must be, whatever the number of groups.
+-- The test of a leaf is correct, whatever the number of groups.
 use Rattle.std.proofs.lemmas.Bool.{leb-true, le-leb}
 use Rattle.regress_tree.proofs.laws.Nodes.{tree-Char, tree-ByteSequence, tree-ByteSet, tree-CharSet, tree-Bracket, tree-BackRef}
 use Rattle.regress_tree.proofs.NodeLemmas.{tree-StringSet}

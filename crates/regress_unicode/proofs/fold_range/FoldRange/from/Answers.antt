@@ -1,4 +1,4 @@
--- What was packed is read back.
+-- Unpacking a packed entry gives the entry.
 use Rattle.std.proofs.Common.{◌≡◌, ℕ, ◌+◌, ◌-◌, ◌<◌, pos, unsigned_abs, ap, arith}
 use Rattle.std.specs.Int.{int_rem_euclid}
 use Rattle.regress_unicode.specs.FoldRows.{IsModulo}

@@ -1,4 +1,4 @@
--- Each turn adds the bytes of one word.
+-- Each iteration adds the bytes of one word.
 use Rattle.std.proofs.Common.{◌≡◌, ◌/◌, ◌&&◌, ◌||◌, ◌∙◌, ap, eqb, leb, length, arith, rules}
 use Rattle.std.proofs.lemmas.Bool.Decides.{nat_tests}
 use Rattle.regress_base.specs.ByteBitmap.{contains}

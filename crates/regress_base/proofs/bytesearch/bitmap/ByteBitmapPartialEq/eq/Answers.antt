@@ -5,7 +5,7 @@ use Rattle.regress_base.specs.ByteSets.{SameMembers}
 use Rattle.regress_base.proofs.BitmapLemmas.{different_word, equal_words, same_members-Decides}
 use Rattle.regress_base.proofs.bytesearch.bitmap.ByteBitmapPartialEq.eq.Goals as goal
 
--- the two differ at the word where the loop stops
+-- the sets differ in the word at which the loop returns
 differ : (c : goal.Then-self-i) → Decides false (SameMembers (contains c.args.self.now) (contains c.args.other.now))
 differ c =
     let s = c.args.self.now in

@@ -1,4 +1,4 @@
--- What is left before the last operand.
+-- What is kept before the last operand.
 use Rattle.regress_classes.proofs.class_sets.chain.Chain.close.Goals as goal
 use Rattle.regress_classes.proofs.class_sets.chain.Chain.close.Goals.{in-Some+in_ok-first-in-Some, in-None}
 

@@ -1,4 +1,4 @@
--- The points, and the others.
+-- The code points, and the strings.
 use Rattle.std.proofs.Common.{◌&&◌, sym, ap₂, subst, ◌∙◌}
 use Rattle.regress_base.specs.Intervals.{is_member}
 use Rattle.regress_classes.specs.ClassViews.{IsValue, kept}
