@@ -1,0 +1,35 @@
+/* Checks the syntax of a pattern: check PATTERN. The status is 0 if it is accepted, and 1 if it is rejected. */
+
+#include <stdio.h>
+#include <string.h>
+
+#include <regress_front.h>
+
+int main(int count, char **arguments) {
+    if (count != 2) {
+        fprintf(stderr, "usage: check PATTERN\n");
+        return 2;
+    }
+    const char *pattern = arguments[1];
+    size_t length = strlen(pattern), needed, place;
+    /* With a buffer of capacity 0 the call only reports the size of the tree. */
+    switch (regress_front_parse_utf8(pattern, length, 0, REGRESS_FRONT_PARSED, NULL, 0, &needed, &place)) {
+    case REGRESS_FRONT_ROOM:
+        printf("accepted: the tree takes %zu words\n", needed);
+        return 0;
+    case REGRESS_FRONT_FAULT: {
+        char text[512];
+        if (regress_front_fault_utf8(pattern, length, 0, text, sizeof text, &needed) != REGRESS_FRONT_FAULT) {
+            needed = 0;
+        }
+        printf("rejected at code point %zu: %.*s\n", place, (int)needed, text);
+        return 1;
+    }
+    case REGRESS_FRONT_MEMORY:
+        fprintf(stderr, "out of memory\n");
+        return 3;
+    default:
+        fprintf(stderr, "the pattern is not UTF-8\n");
+        return 2;
+    }
+}
