@@ -1,12 +1,12 @@
-/* The pattern layer of a regular expression engine for ECMAScript syntax, called from C: from a pattern to its tree.
+/* The pattern layer of a regular expression engine for ECMAScript syntax, for C: parses a pattern to a tree.
 
-   Every call answers a status, keeps no state, and touches nothing but what it is handed; what it takes of memory it
-   takes from malloc, and gives back before it answers. So any threads may call at once, each with rooms of its own. A
-   call wants stack, at most 800 KiB in what was measured: patterns as deep as the limits allow, 256 levels of groups and
-   classes. Alternatives take none.
+   Every function returns a status, keeps no state, and accesses only its arguments. It allocates with malloc, and frees
+   everything before it returns. Any number of threads may call at the same time, each with its own buffers. A call uses
+   stack, at most 800 KiB in measurements of patterns with the greatest nesting depth: 255 parentheses or 256 class
+   brackets. Alternatives take no stack.
 
-   A pointer may be NULL where its length is 0. A pointer to a size, `needed` or `place`, is never NULL. Rooms don't
-   overlap one another or the pattern. */
+   A pointer may be NULL if its length is 0. A pointer to a size, `needed` or `place`, must not be NULL. Buffers must
+   not overlap each other or the pattern. */
 
 #ifndef REGRESS_FRONT_H
 #define REGRESS_FRONT_H
@@ -19,31 +19,40 @@ extern "C" {
 #endif
 
 /* Statuses. */
-#define REGRESS_FRONT_OK 0        /* all is written */
-#define REGRESS_FRONT_FAULT 1     /* the pattern has a fault */
-#define REGRESS_FRONT_MEMORY 2    /* memory was wanting, which says nothing of the pattern */
-#define REGRESS_FRONT_ROOM 3      /* the room is too little: nothing is written to it, and `needed` says what it takes */
-#define REGRESS_FRONT_BAD_INPUT 4 /* the arguments are none: a value past 10FFFF, bad UTF-8, an unknown bit, NULL */
+#define REGRESS_FRONT_OK 0        /* success: the result is written */
+#define REGRESS_FRONT_FAULT 1     /* the pattern is rejected: a syntax error */
+#define REGRESS_FRONT_MEMORY 2    /* out of memory: the pattern may be valid or not */
+#define REGRESS_FRONT_ROOM 3      /* the buffer is too small and unchanged: `needed` is the size it has to have */
+#define REGRESS_FRONT_BAD_INPUT 4 /* invalid arguments: a value above 10FFFF, invalid UTF-8, an unknown bit, NULL */
 
-/* Flags of a pattern, each read by itself: the v of JavaScript is UNICODE and UNICODE_SETS. */
+/* Flags of a pattern, independent of each other: the flag v of JavaScript is UNICODE and UNICODE_SETS together. */
 #define REGRESS_FRONT_ICASE 1u        /* i */
 #define REGRESS_FRONT_MULTILINE 2u    /* m */
 #define REGRESS_FRONT_DOT_ALL 4u      /* s */
 #define REGRESS_FRONT_UNICODE 8u      /* u */
 #define REGRESS_FRONT_UNICODE_SETS 16u /* v */
-/* The small table of Unicode in place of the whole one, which takes a call half a millisecond or more to make: for patterns
-   of ASCII, and for tests. It knows few properties, and for names the letters of ASCII and those from U+00C0 to U+00F6. */
+/* Use the small table instead of the one of all of Unicode, which each call takes half a millisecond or more to make:
+   for patterns in ASCII, and for tests. It has few properties; letters in names are those of ASCII and from U+00C0 to
+   U+00F6. */
 #define REGRESS_FRONT_SMALL_TABLE 32u
 
-/* Which tree: as the pattern is parsed, or in normal form. */
+/* Which tree: as parsed, or optimized to normal form. */
 #define REGRESS_FRONT_PARSED 0u
 #define REGRESS_FRONT_OPTIMIZED 1u
 
-/* The tree, in words.
+/* The encoding of a tree, as 32-bit words.
 
-   Each node stands before those inside it: a word for its kind, then its fields in this order, then the nodes inside. A
-   field takes a word; a truth value is 0 or 1. A number marked "wide" has 64 bits and takes two words, the low half
-   first. "list of X" is a wide number of how many, and then each.
+   A node is a word for its kind, its fields in the order of this table, and then the nodes inside it. A field is one
+   word; a Boolean is 0 or 1. A number marked "wide" has 64 bits and takes two words, the low half first. "list of X" is
+   a wide number, the length, and then that many X.
+
+   What an emitter or matcher has to know:
+   - In a lookbehind the parts of a CAT are in reverse order, which is the order in which they are matched. A lookahead
+     inside a lookbehind has its parts in the pattern's order again. The bytes of a BYTE_SEQUENCE and the code points of
+     a STRING_SET are in the order of the text everywhere.
+   - An iteration of a loop past the minimum that does not advance fails, which ends the loop.
+   - The groups inside a LOOP are unset at the start of each iteration.
+   - A BACK_REF to a group that is unset matches the empty text.
 
      kind                                        fields                                          nodes inside */
 #define REGRESS_FRONT_EMPTY 0u                /*                                                                   */
@@ -52,7 +61,7 @@ extern "C" {
 #define REGRESS_FRONT_BYTE_SEQUENCE 3u        /* list of bytes, a byte a word                                      */
 #define REGRESS_FRONT_BYTE_SET 4u             /* list of bytes, a byte a word                                      */
 #define REGRESS_FRONT_CHAR_SET 5u             /* list of code points                                               */
-#define REGRESS_FRONT_CAT 6u                  /* wide: how many nodes are inside                     that many     */
+#define REGRESS_FRONT_CAT 6u                  /* wide: the number of parts                           the parts     */
 #define REGRESS_FRONT_ALT 7u                  /*                                                     left, right   */
 #define REGRESS_FRONT_MATCH_ANY 8u            /*                                                                   */
 #define REGRESS_FRONT_MATCH_ANY_EXCEPT_LINE_TERMINATOR 9u /*                                                       */
@@ -61,16 +70,17 @@ extern "C" {
 #define REGRESS_FRONT_CAPTURE_GROUP 12u       /* id, from 0; whether it has a name; if so, the name
                                                  as list of bytes of UTF-8, a byte a word            contents      */
 #define REGRESS_FRONT_BRACKET 13u             /* invert; list of intervals: first, last                            */
-#define REGRESS_FRONT_LOOP 14u                /* the groups inside: first id, behind the last;
+#define REGRESS_FRONT_LOOP 14u                /* the groups inside: first id, id after the last;
                                                  quantifier                                          body          */
 #define REGRESS_FRONT_LOOP_1_CHAR_BODY 15u    /* quantifier                                          body          */
 #define REGRESS_FRONT_LOOKAROUND_ASSERTION 16u /* negate; backwards; the groups inside: first id,
-                                                 behind the last                                     contents      */
+                                                 id after the last                                   contents      */
 #define REGRESS_FRONT_BACK_REF 17u            /* group, from 1; icase                                              */
 #define REGRESS_FRONT_STRING_SET 18u          /* icase; list of strings, each a list of code points                */
-/* A quantifier is: greedy; wide: the least number of turns; whether there is a most; if so, wide: that. */
+/* A quantifier is: greedy; wide: the minimum number of iterations; whether there is a maximum; if so, wide: the
+   maximum. */
 
-/* The calls of the library. They are as those below, but no pointer is NULL. */
+/* The functions of the library. They are as those below, but no pointer may be NULL. */
 uint32_t regress_front_parse_code_points(const uint32_t *pattern, size_t pattern_length, uint32_t flags,
                                         uint32_t optimize, uint32_t *words, size_t room, size_t *needed,
                                         size_t *place);
@@ -81,11 +91,12 @@ uint32_t regress_front_tell_fault(const uint32_t *pattern, size_t pattern_length
 uint32_t regress_front_tell_fault_of_text(const uint8_t *pattern, size_t pattern_length, uint32_t flags, uint8_t *text,
                                          size_t room, size_t *needed);
 
-/* The tree of a pattern of code points, each at most 10FFFF; surrogates are allowed.
+/* Parses a pattern of code points, each at most 10FFFF, surrogates included.
 
-   Writes the words of the tree to `words`, which has room for `room` of them, and leaves what is behind them. `needed`
-   is how many words the tree takes, for OK and ROOM, else 0: a caller asks with room 0, and again with room enough.
-   `place` is for FAULT where that is, as an index of a code point, 0 to the length, else 0. */
+   Writes the encoding of its tree to `words`, a buffer of `room` words; words after the encoding are unchanged. For OK
+   and ROOM `needed` is the length of the encoding in words, else 0: call with `room` 0 first, and then with a buffer of
+   that size. For FAULT `place` is the position of the syntax error, a code-point index from 0 to the pattern's length,
+   else 0. */
 static inline uint32_t regress_front_parse(const uint32_t *pattern, size_t pattern_length, uint32_t flags,
                                           uint32_t optimize, uint32_t *words, size_t room, size_t *needed,
                                           size_t *place) {
@@ -97,7 +108,8 @@ static inline uint32_t regress_front_parse(const uint32_t *pattern, size_t patte
                                            words ? words : &none, room, needed, place);
 }
 
-/* The same of a pattern in UTF-8. The place counts code points here too. */
+/* Parses a pattern in UTF-8, as regress_front_parse. `pattern_length` is in bytes; `place` counts code points here
+   too. */
 static inline uint32_t regress_front_parse_utf8(const char *pattern, size_t pattern_length, uint32_t flags,
                                                uint32_t optimize, uint32_t *words, size_t room, size_t *needed,
                                                size_t *place) {
@@ -110,10 +122,12 @@ static inline uint32_t regress_front_parse_utf8(const char *pattern, size_t patt
                                     words ? words : &none, room, needed, place);
 }
 
-/* The text of the fault of a pattern of code points, which is parsed for it: UTF-8, with no zero at its end.
+/* Parses a pattern of code points, and writes the text of its syntax error to `text`, a buffer of `room` bytes: in
+   UTF-8, not terminated by a zero.
 
-   FAULT where the pattern has one: the text is written to `text`, which has room for `room` bytes, and `needed` is how
-   many it takes, as for ROOM; OK where it has none, and nothing is written. */
+   Returns FAULT if the pattern is rejected and the text is written, ROOM if the buffer is too small for it, and OK if
+   the pattern is accepted, with nothing written. For FAULT and ROOM `needed` is the length of the text in bytes, else
+   0. */
 static inline uint32_t regress_front_fault(const uint32_t *pattern, size_t pattern_length, uint32_t flags, char *text,
                                           size_t room, size_t *needed) {
     uint32_t none = 0;
@@ -125,7 +139,7 @@ static inline uint32_t regress_front_fault(const uint32_t *pattern, size_t patte
                                     room, needed);
 }
 
-/* The same of a pattern in UTF-8. */
+/* As regress_front_fault, for a pattern in UTF-8. */
 static inline uint32_t regress_front_fault_utf8(const char *pattern, size_t pattern_length, uint32_t flags, char *text,
                                                size_t room, size_t *needed) {
     uint8_t no_byte = 0;

@@ -1,8 +1,8 @@
-/* Stands before the C library's memory: it counts the requests of a program, from the start of `main` on, and refuses
-   one of them.
+/* Replaces malloc and realloc of the C library: counts the allocations of a program from the start of `main` on, and makes
+   one of them fail.
 
-   REFUSED_GROWTH is the number of the request that is refused, counted from 0; without it none is. When the program
-   ends, the number of requests is written to the file descriptor REQUESTS_TO. */
+   REFUSED_GROWTH is the number of the allocation that fails, from 0; without it none does. When the program ends, the
+   number of allocations is written to the file descriptor REQUESTS_TO. */
 
 extern void *__libc_malloc(unsigned long size);
 extern void *__libc_realloc(void *block, unsigned long size);

@@ -8,7 +8,7 @@
 
 #include <regress_front.h>
 
-/* The words that are left. */
+/* The remaining words. */
 static const uint32_t *at;
 
 static uint32_t word(void) {
@@ -39,7 +39,7 @@ static void print_quantifier(void) {
     printf(", greedy: %s", greedy);
 }
 
-/* Prints a node and those inside it, at that depth. */
+/* Prints a node and those inside it, at that nesting depth. */
 static void print_node(unsigned depth) {
     for (unsigned level = 0; level < depth; level++) {
         printf("..");
@@ -198,7 +198,7 @@ int main(int count, char **arguments) {
             return 3;
         default:
             free(words);
-            fprintf(stderr, "the pattern isn't UTF-8\n");
+            fprintf(stderr, "the pattern is not UTF-8\n");
             return 2;
         }
     }

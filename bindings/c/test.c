@@ -1,4 +1,5 @@
-/* Tests of the calls from C. Linked with --wrap=malloc and --wrap=realloc, so that one request for memory can be refused. */
+/* Tests of the functions for C. Linked with --wrap=malloc and --wrap=realloc, so that one allocation can be made to
+   fail. */
 
 #include <stdio.h>
 #include <stdlib.h>
@@ -33,7 +34,7 @@ static void check(int holds, const char *what, int line) {
 
 #define SMALL REGRESS_FRONT_SMALL_TABLE
 
-/* Room for words, and one word more that stays as it was. */
+/* A buffer for words, and one more word that must stay unchanged. */
 #define ROOM 256
 #define MARK 0xA5A5A5A5u
 static uint32_t words[ROOM + 1];
@@ -52,7 +53,7 @@ static int are(const uint32_t *expected, size_t count) {
 
 #define ARE(...) are((const uint32_t[]){__VA_ARGS__}, sizeof((const uint32_t[]){__VA_ARGS__}) / sizeof(uint32_t))
 
-/* One pattern for each kind, its words by the table in the header. */
+/* One pattern for each kind, with its encoding by the table in the header. */
 static void kinds(void) {
     CHECK(parsed("", SMALL, 0, ROOM) == REGRESS_FRONT_OK && ARE(6, 2, 0, 0, 1));
     CHECK(parsed("", SMALL, 1, ROOM) == REGRESS_FRONT_OK && ARE(1));
@@ -85,7 +86,7 @@ static void kinds(void) {
     CHECK(found);
 }
 
-/* With too little room nothing is written, and the words needed are told. */
+/* If the buffer is too small, nothing is written, and the length of the encoding is returned. */
 static void rooms(void) {
     for (size_t room = 0; room < 6; room++) {
         CHECK(parsed("a", SMALL, 0, room) == REGRESS_FRONT_ROOM && needed == 6);
@@ -129,7 +130,7 @@ static void faults(void) {
     CHECK(regress_front_fault_utf8("\xFF", 1, SMALL, NULL, 0, &needed) == REGRESS_FRONT_BAD_INPUT);
 }
 
-/* Each request refused in turn answers want of memory, or what ample memory does. */
+/* With each allocation failing in order, the status is MEMORY, or the result is that of a run without failures. */
 static void refuse(const char *pattern, uint32_t flags, uint32_t optimize) {
     requests = 0;
     uint32_t ample = parsed(pattern, flags, optimize, ROOM);
@@ -150,7 +151,7 @@ static void refuse(const char *pattern, uint32_t flags, uint32_t optimize) {
     }
     refused = -1;
     CHECK(wanting > 0);
-    printf("%s: want of memory in %zu of %ld runs\n", pattern, wanting, most);
+    printf("%s: out of memory in %zu of %ld runs\n", pattern, wanting, most);
 }
 
 static void refuse_text(const char *pattern, uint32_t flags) {
@@ -170,7 +171,7 @@ static void refuse_text(const char *pattern, uint32_t flags) {
 }
 
 int main(int count, char **arguments) {
-    /* With the word `small` the whole table's requests, which are thousands, are left out. */
+    /* With `small`, the table of all of Unicode, which takes thousands of allocations, is skipped. */
     int small = count > 1 && strcmp(arguments[1], "small") == 0;
     kinds();
     rooms();
@@ -187,6 +188,6 @@ int main(int count, char **arguments) {
         fprintf(stderr, "%d checks fail\n", wrong);
         return 1;
     }
-    puts("all checks hold");
+    puts("all checks pass");
     return 0;
 }

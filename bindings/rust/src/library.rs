@@ -1,4 +1,4 @@
-//! The calls of the library.
+//! The functions of the library.
 
 use crate::node::Node;
 use crate::words::decode;
@@ -32,7 +32,8 @@ const FAULT: u32 = 1;
 const MEMORY: u32 = 2;
 const ROOM: u32 = 3;
 
-/// The flags of a pattern, each read by itself: the v of JavaScript is `unicode` and `unicode_sets`.
+/// The flags of a pattern, independent of each other: the flag v of JavaScript is `unicode` and `unicode_sets`
+/// together.
 #[derive(Clone, Copy, Debug, Default, PartialEq, Eq)]
 pub struct Flags {
     pub icase: bool,
@@ -42,24 +43,25 @@ pub struct Flags {
     pub unicode_sets: bool,
 }
 
-/// Which table of Unicode a pattern is read by.
+/// The table of Unicode data under which a pattern is parsed.
 #[derive(Clone, Copy, Debug, Default, PartialEq, Eq)]
 pub enum Table {
-    /// All of Unicode; a call takes half a millisecond to make it.
+    /// All of Unicode. Each call takes half a millisecond or more to make it.
     #[default]
     Whole,
-    /// A small one, for patterns of ASCII and for tests.
+    /// A small table, for patterns in ASCII and for tests.
     Small,
 }
 
-/// Why a pattern has no tree.
+/// Why parsing fails.
 #[derive(Clone, Debug, PartialEq, Eq)]
 pub enum Fault {
-    /// The pattern has a fault, at the code point of that index.
+    /// The pattern is rejected: the text of the syntax error, and its position, a code-point index from 0 to the
+    /// length.
     Syntax { text: String, place: usize },
-    /// Memory was wanting.
+    /// The library is out of memory.
     Memory,
-    /// A number of the pattern is past U+10FFFF.
+    /// A number in the pattern is above U+10FFFF.
     NoCodePoint,
 }
 
@@ -75,12 +77,26 @@ impl fmt::Display for Fault {
 
 impl Error for Fault {}
 
-/// The tree of a pattern of code points, as it is parsed. A `&str` gives them by `chars().map(u32::from)`.
+/// Parses a pattern of code points, surrogates included, and returns its tree. For a `&str` they are
+/// `chars().map(u32::from)`.
+///
+/// # Errors
+/// Returns [`Fault::Syntax`] if the pattern is rejected, [`Fault::Memory`] if the library is out of memory, and
+/// [`Fault::NoCodePoint`] if a number is not a code point.
+///
+/// # Panics
+/// Panics if an allocation of this crate's own fails, as `Vec` does.
 pub fn parse(pattern: &[u32], flags: Flags, table: Table) -> Result<Node, Fault> {
     tree(pattern, bits(flags, table), 0)
 }
 
-/// The tree in normal form.
+/// Parses a pattern and returns its optimized tree, in normal form.
+///
+/// # Errors
+/// As [`parse`].
+///
+/// # Panics
+/// As [`parse`].
 pub fn parse_and_optimize(pattern: &[u32], flags: Flags, table: Table) -> Result<Node, Fault> {
     tree(pattern, bits(flags, table), 1)
 }
@@ -95,7 +111,7 @@ fn bits(flags: Flags, table: Table) -> u32 {
 }
 
 fn tree(pattern: &[u32], bits: u32, optimize: u32) -> Result<Node, Fault> {
-    // Most trees find room at once.
+    // Most trees fit at the first call.
     let mut words = vec![0; 16 * pattern.len() + 64];
     let mut answer = words_into(pattern, bits, optimize, &mut words);
     if answer.status == ROOM {
@@ -103,7 +119,7 @@ fn tree(pattern: &[u32], bits: u32, optimize: u32) -> Result<Node, Fault> {
         answer = words_into(pattern, bits, optimize, &mut words);
     }
     match answer.status {
-        OK => Ok(decode(&words[..answer.needed]).expect("the words of a tree")),
+        OK => Ok(decode(&words[..answer.needed]).expect("the encoding of a tree")),
         FAULT => {
             let text = fault_text(pattern, bits)?;
             let place = answer.place;

@@ -1,26 +1,26 @@
-//! The tree.
+//! Trees.
 
 use std::mem;
 use std::ops::Range;
 
-/// A node of the tree of a pattern.
+/// A node of a pattern's tree. The crate's documentation has what an emitter has to know.
 #[derive(Debug, PartialEq, Eq)]
 pub enum Node {
     /// Matches the empty text.
     Empty,
-    /// The end of the pattern, where a match has succeeded.
+    /// Matches the empty text, at the end of the pattern: the match has succeeded.
     Goal,
-    /// One character. A surrogate is none, and matches nothing.
+    /// One character. A surrogate never matches.
     Char { c: u32 },
-    /// These bytes as they stand, whole UTF-8 of characters.
+    /// These bytes in the order of the text, the whole UTF-8 of characters.
     ByteSequence(Vec<u8>),
     /// One character of a set of at most four ASCII bytes.
     ByteSet(Vec<u8>),
     /// One character of a set of at most four code points.
     CharSet(Vec<u32>),
-    /// The parts one after another.
+    /// The parts in the order in which they are matched, which is reversed in a lookbehind.
     Cat(Vec<Node>),
-    /// What the left side matches, and then what the right side does.
+    /// The outcomes of the left side, and then those of the right side.
     Alt(Box<Node>, Box<Node>),
     /// Any character.
     MatchAny,
@@ -31,9 +31,9 @@ pub enum Node {
         anchor_type: AnchorType,
         multiline: bool,
     },
-    /// A place with a word character on exactly one side, or with `invert` none such.
+    /// A position with a word character on exactly one side or, with `invert`, one without.
     WordBoundary { invert: bool, unicode_icase: bool },
-    /// A capture group. Ids count from 0.
+    /// A capture group. Ids begin at 0.
     CaptureGroup {
         id: u16,
         contents: Box<Node>,
@@ -41,18 +41,20 @@ pub enum Node {
     },
     /// One character that the bracket accepts.
     Bracket(BracketContents),
-    /// As many turns of the body as the quantifier says; the groups are those inside.
+    /// A loop over the body. Each iteration begins with the groups inside, `enclosed_groups`, unset; one past the
+    /// minimum that does not advance fails.
     Loop {
         enclosed_groups: Range<u16>,
         loopee: Box<Node>,
         quant: Quantifier,
     },
-    /// A loop whose body takes exactly one character or fails.
+    /// A loop whose body matches exactly one character or fails, and has no group inside.
     Loop1CharBody {
         loopee: Box<Node>,
         quant: Quantifier,
     },
-    /// A place from which the body matches, or with `negate` doesn't; with `backwards` it is matched before the place.
+    /// A position from which the contents match or, with `negate`, do not: after it or, with `backwards`, before it.
+    /// The groups inside have the ids from `start_group` up to but not including `end_group`.
     LookaroundAssertion {
         negate: bool,
         backwards: bool,
@@ -60,16 +62,16 @@ pub enum Node {
         end_group: u16,
         contents: Box<Node>,
     },
-    /// What a group has captured, once more. Groups count from 1.
+    /// The text that a group has captured; the empty text if the group is unset. Groups are numbered from 1.
     BackRef { group: u32, icase: bool },
-    /// One of these strings of characters, tried in their order.
+    /// One of these strings of characters, tried in this order.
     StringSet {
         alternatives: Vec<Box<[u32]>>,
         icase: bool,
     },
 }
 
-// There may be as many levels of right sides as alternatives: these take no stack.
+// There may be as many nested right sides as alternatives, so that they are dropped in a loop.
 impl Drop for Node {
     fn drop(&mut self) {
         let Node::Alt(_, right) = self else {
@@ -83,14 +85,14 @@ impl Drop for Node {
     }
 }
 
-/// Which end of the text, or of a line.
+/// The start or the end of the text, or of a line.
 #[derive(Clone, Copy, Debug, PartialEq, Eq)]
 pub enum AnchorType {
     StartOfLine,
     EndOfLine,
 }
 
-/// How often the body of a loop is matched; with no `max` as often as it does.
+/// The number of iterations of a loop, without a maximum if `max` is `None`.
 #[derive(Clone, Copy, Debug, PartialEq, Eq)]
 pub struct Quantifier {
     pub min: usize,
@@ -98,15 +100,15 @@ pub struct Quantifier {
     pub greedy: bool,
 }
 
-/// A code point is accepted where its membership in `cps` and `invert` differ.
+/// A set of code points or, with `invert`, its complement.
 #[derive(Clone, Debug, PartialEq, Eq)]
 pub struct BracketContents {
     pub invert: bool,
-    /// In order, and apart.
+    /// Ascending intervals, at least one code point apart.
     pub cps: Vec<Interval>,
 }
 
-/// The code points from the first to the last, both included.
+/// The code points from `first` to `last`, both inclusive.
 #[derive(Clone, Copy, Debug, PartialEq, Eq)]
 pub struct Interval {
     pub first: u32,

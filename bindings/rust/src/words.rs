@@ -1,21 +1,21 @@
-//! A tree, read from its words.
+//! Decodes trees.
 
 use crate::node::{AnchorType, BracketContents, Interval, Node, Quantifier};
 
-/// The tree that the words are of, or nothing where they are of none.
+/// Returns the tree with this encoding, or `None` if it is not the encoding of a tree.
 pub(crate) fn decode(words: &[u32]) -> Option<Node> {
     let mut reader = Reader { words };
     let node = reader.node()?;
     reader.words.is_empty().then_some(node)
 }
 
-/// The words that are left.
+/// The remaining words.
 struct Reader<'a> {
     words: &'a [u32],
 }
 
 impl Reader<'_> {
-    // It goes down the right sides of alternatives in a loop: there may be as many levels as alternatives.
+    // Right sides of alternatives are decoded in a loop: there may be as many nested ones as alternatives.
     fn node(&mut self) -> Option<Node> {
         let mut lefts = Vec::new();
         let mut kind = self.word()?;

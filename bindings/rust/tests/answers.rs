@@ -1,10 +1,12 @@
-//! Trees and faults over the small table, against a file of answers that REGRESS_FRONT_ANSWERS names. Its lines:
+//! Compares trees and syntax errors over the small table with the expected ones in a file that REGRESS_FRONT_ANSWERS
+//! names. Its lines:
 //!
-//!     FLAGS <TAB> hex code points <TAB> E <TAB> fault
-//!     FLAGS <TAB> hex code points <TAB> T <TAB> parsed tree <TAB> another one <TAB> optimized tree
+//!     FLAGS <TAB> hex code points <TAB> E <TAB> text of the syntax error
+//!     FLAGS <TAB> hex code points <TAB> T <TAB> parsed tree <TAB> ignored <TAB> optimized tree
 //!
-//! In a tree each newline is the two characters `\n`. A name that ends in `.gz` is unpacked by gzip. An optimized tree may
-//! be another one than the file's, and is then the one that the program prints, if REGRESS_FRONT_PROGRAM names it.
+//! In a tree each newline is the two characters `\n`. A file whose name ends in `.gz` is unpacked with gzip. An
+//! optimized tree may differ from the file's; it is then compared with the output of the program that
+//! REGRESS_FRONT_PROGRAM names.
 
 mod printed;
 
@@ -14,9 +16,9 @@ use std::process::Command;
 use std::{env, fs};
 
 #[test]
-fn answers_are_those_of_the_file() {
+fn results_are_those_of_the_file() {
     let Ok(path) = env::var("REGRESS_FRONT_ANSWERS") else {
-        println!("SKIPPED: REGRESS_FRONT_ANSWERS names no file of answers");
+        println!("SKIPPED: REGRESS_FRONT_ANSWERS is not set");
         return;
     };
     let text = read(&path);
@@ -45,12 +47,12 @@ fn answers_are_those_of_the_file() {
             }
         }
     }
-    println!("{trees} patterns have both trees of the file, {faults} its fault");
-    println!("{others} have its parsed tree and another optimized one");
+    println!("{trees} patterns have both trees of the file, {faults} its syntax error");
+    println!("{others} have its parsed tree and a different optimized one");
     assert!(trees > 0 && faults > 0 && others < trees / 100);
 }
 
-/// The optimized tree that the program prints.
+/// Returns the optimized tree that the program prints.
 fn by_program(program: &str, flags: &str, pattern: &[u32]) -> String {
     let text: String = pattern
         .iter()
@@ -65,7 +67,7 @@ fn by_program(program: &str, flags: &str, pattern: &[u32]) -> String {
         .output()
         .expect("the program");
     let printed = String::from_utf8(printed.stdout).expect("UTF-8");
-    let (_, optimized) = printed.split_once("--\n").expect("the line between");
+    let (_, optimized) = printed.split_once("--\n").expect("the line --");
     optimized.replace('\n', "\\n")
 }
 
@@ -75,10 +77,10 @@ fn read(path: &str) -> String {
             .args(["-dc", path])
             .output()
             .expect("gzip");
-        assert!(unpacked.status.success(), "{path} can't be unpacked");
+        assert!(unpacked.status.success(), "{path} cannot be unpacked");
         unpacked.stdout
     } else {
-        fs::read(path).expect("the file of answers")
+        fs::read(path).expect("the file of expected results")
     };
     String::from_utf8(bytes).expect("UTF-8")
 }

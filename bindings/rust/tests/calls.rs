@@ -1,4 +1,4 @@
-//! What a caller of the crate sees.
+//! Tests of the public functions.
 
 mod printed;
 
@@ -28,7 +28,7 @@ fn a_pattern_has_a_tree() {
 }
 
 #[test]
-fn the_whole_table_is_there() {
+fn the_table_of_all_of_unicode_is_used() {
     let flags = Flags {
         unicode: true,
         ..Flags::default()
@@ -53,7 +53,7 @@ fn the_whole_table_is_there() {
 }
 
 #[test]
-fn the_optimized_tree_is_another() {
+fn the_optimized_tree_differs() {
     let tree =
         parse_and_optimize(&points("(?:ab){2}|[c-d]"), Flags::default(), Table::Small).unwrap();
     assert_eq!(
@@ -63,7 +63,7 @@ fn the_optimized_tree_is_another() {
 }
 
 #[test]
-fn a_fault_has_a_text_and_a_place() {
+fn a_syntax_error_has_a_text_and_a_position() {
     let fault = parse(&points("ab)"), Flags::default(), Table::Whole).unwrap_err();
     let Fault::Syntax { text, place } = fault else {
         panic!("{fault:?}")
@@ -73,7 +73,7 @@ fn a_fault_has_a_text_and_a_place() {
 }
 
 #[test]
-fn what_is_no_code_point_is_refused() {
+fn a_number_that_is_no_code_point_is_rejected() {
     assert_eq!(
         parse(&[0x110000], Flags::default(), Table::Whole),
         Err(Fault::NoCodePoint)

@@ -1,8 +1,8 @@
-//! Trees as the program `regex-front` prints them; docs/GRAMMAR.md has the lines.
+//! Trees in the printed form of the program `regex-front`, which docs/ir.md specifies.
 
 use regress_front::{AnchorType, Interval, Node, Quantifier};
 
-/// The lines of a tree.
+/// Returns the printed form of a tree.
 pub fn printed(node: &Node) -> String {
     let mut text = String::new();
     print(node, 0, &mut text);
