@@ -1,5 +1,5 @@
-//! Callers of the library, a linter and a recursion, as another crate would write them. Their tests stand in
-//! `regress_calls_tests`.
+//! Callers of the library, as another crate would write them: a linter, a recursive function, and more. Their tests are
+//! in `regress_calls_tests`.
 #![tactic(auto)]
 
 pub mod bounded;
@@ -7,4 +7,7 @@ pub mod caller;
 pub mod caret;
 pub mod length;
 pub mod linter;
+pub mod quickstart;
 pub mod underline;
+
+pub use quickstart::{compile, find_matches};

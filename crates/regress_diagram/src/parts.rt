@@ -119,9 +119,9 @@ pub(crate) fn draw_frame(
         FrameKind::Group => ("frame", "What is matched here is captured."),
         FrameKind::Around => (
             "frame around",
-            "This has to be matched there, and isn't taken.",
+            "This has to match there, and consumes nothing.",
         ),
-        FrameKind::Without => ("frame without", "This must not be matched there."),
+        FrameKind::Without => ("frame without", "This must not match there."),
     };
     let title = title.map_or(meaning, |title| title.as_str());
     sheet.draw(Element::Title(title))?;

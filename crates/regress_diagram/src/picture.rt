@@ -76,8 +76,8 @@ fn draw_paper(width: u32, height: u32, sheet: &mut Sheet) -> Drawn
 {
     sheet.draw(Element::Title("Railroad diagram of a regular expression"))?;
     sheet.draw(Element::Description(
-        "It is read from left to right along the lines. Boxes are what is matched. Of tracks one above the other one is \
-         taken. A line that turns back below is a further turn of a loop, and a line above goes by.",
+        "Follow the lines from left to right. A box is what is matched. Of branches one above the other, one is taken. \
+         A line that leads back below is a further iteration of a loop, and a line above bypasses it.",
     ))?;
     sheet.draw(Element::Style(STYLE))?;
     sheet.draw(Element::Rectangle {

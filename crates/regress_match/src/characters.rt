@@ -48,6 +48,7 @@ pub fn is_word_character(known: Known<'_>, unicode_icase: bool, c: u32) -> bool
     }
 }
 
+/// Returns whether `c` is a word character: an ASCII letter, a digit or `_` (ECMA-262, WordCharacters, without folding).
 #[tactic(auto, unfolding(regress_base::specs::Intervals::is_member, regress_base::specs::Intervals::is_within))]
 pub fn is_word(c: u32) -> bool
     ensures { result ≡ is_member word_characters c }

@@ -196,6 +196,7 @@ pub struct Scratch<'a> {
 }
 
 impl<'a> Scratch<'a> {
+    /// Returns scratch memory with nothing allocated yet.
     pub fn new(alloc: Global) -> Scratch<'a> {
         Scratch {
             machine: Machine::new(alloc),

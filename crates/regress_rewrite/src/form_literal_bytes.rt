@@ -137,6 +137,7 @@ fn have_bytes(parts: &[Node], earlier: usize, later: usize) -> bool
     has_bytes(&parts[earlier]) && has_bytes(&parts[later])
 }
 
+/// Returns whether `node` is a `ByteSequence` of at least one byte.
 pub fn has_bytes(node: &Node) -> bool
     ensures { result ≡ has_bytes (tree node.now) }
 {

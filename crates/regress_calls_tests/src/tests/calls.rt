@@ -2,6 +2,7 @@
 
 use regress_calls::caller::optimized_text;
 use regress_calls::caret::pointed_at;
+use regress_calls::quickstart::{compile, find_matches};
 use regress_calls::underline::underlined_loop;
 use regress_front::codepointset::canonical_form_is_unique;
 use regress_front::types::{Flags, limits_are_as_defined};
@@ -53,5 +54,20 @@ fn a_loop_without_a_bound_is_underlined(rt: HostRuntime) -> Result<(), Fail> {
         None => assert!(rt; false, "there is a loop"),
     }
     assert!(rt; underlined_loop(alloc, "a{2}", Flags::default(), &tables)?.is_none());
+    Ok(())
+}
+
+#[test]
+fn the_matches_of_a_pattern_are_found(rt: HostRuntime) -> Result<(), Fail> {
+    let alloc = rt.alloc();
+    let tables = Tables::small(alloc)?;
+    let regex = compile(alloc, "a?b", Flags::default(), &tables)?;
+    match find_matches(alloc, &regex, &tables, "ab ba aab", 9)? {
+        Some(spans) => {
+            assert_eq!(rt; spans.len(), 3);
+            assert_eq!(rt; spans[2], (7, 9));
+        }
+        None => assert!(rt; false, "the steps are enough"),
+    }
     Ok(())
 }

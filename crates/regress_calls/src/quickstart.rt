@@ -1,0 +1,54 @@
+//! The callers that README.md shows: one parses a pattern, the other one finds its matches in a text.
+use regress_front::ir::Regex;
+use regress_front::optimizer::parse_and_optimize;
+use regress_front::parse::ParseFault;
+use regress_front::types::Flags;
+use regress_front::unicode::Tables;
+use regress_front::util::code_points;
+use regress_match::{Matches, Outcome};
+use std::alloc::{AllocError, Global};
+
+/// The number of steps that a search may take.
+const STEPS: u64 = 1_000_000;
+
+/// Returns the optimized tree of a pattern. The caller makes the tables once, for all patterns.
+///
+/// # Errors
+/// Returns [`ParseFault::Syntax`] if the pattern is rejected, and [`ParseFault::Memory`] if an allocation fails.
+pub fn compile(
+    alloc: Global,
+    pattern: &str,
+    flags: Flags,
+    tables: &Tables,
+) -> Result<Regex, ParseFault> {
+    let points = code_points(alloc, pattern)?;
+    let (regex, optimized) = parse_and_optimize(alloc, &points, flags, tables)?;
+    optimized?;
+    Ok(regex)
+}
+
+/// Returns the spans of the first `most` matches of `regex` in `text`, in bytes, or of all matches if there are fewer;
+/// `None` if the search takes too many steps.
+///
+/// # Errors
+/// Returns [`AllocError`] if an allocation fails.
+pub fn find_matches(
+    alloc: Global,
+    regex: &Regex,
+    tables: &Tables,
+    text: &str,
+    most: usize,
+) -> Result<Option<Vec<(usize, usize)>>, AllocError> {
+    let mut spans = Vec::new(alloc);
+    let mut matches = Matches::new(regex, tables, text, 0, STEPS);
+    for _ in 0..most {
+        match matches.next(alloc)? {
+            Outcome::Matched(found) => {
+                spans.push((found.start(), found.end()))?;
+            }
+            Outcome::NoMatch => return Ok(Some(spans)),
+            Outcome::OutOfSteps => return Ok(None),
+        }
+    }
+    Ok(Some(spans))
+}
