@@ -15,6 +15,13 @@ use regress_base::types::Flags;
 ///
 /// # Complexity
 /// Linear in the length of the pattern: each code point is visited twice. Nothing is allocated.
+///
+/// # Examples
+/// ```
+/// let points = code_points(alloc, "a|b")?;
+/// // 3, one for each code point, and one more for the bar
+/// assert_eq!(rt; node_bound(&points, Flags::default()), 7);
+/// ```
 pub fn node_bound(pattern: &[u32], flags: Flags) -> usize
     ensures nodes { result < 2 ^ 64 - 1 → HasAtMost flags pattern.now result }
     ensures value { result ≡ min (node_bound flags.unicode_sets pattern.now) (2 ^ 64 - 1) }

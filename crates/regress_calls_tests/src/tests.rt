@@ -5,6 +5,7 @@ ghost use Rattle.regress_front.specs.Tree.{tree};
 ghost use Rattle.regress_front.specs.WellFormed.{IsWellFormed};
 
 mod calls;
+mod examples;
 mod lengths;
 mod linting;
 mod passes;

@@ -87,6 +87,18 @@ impl From<Piece> for Node {
 ///
 /// # Complexity
 /// Linear in the number of literals; with `icase` each of them takes one pass over the entries of the case table.
+///
+/// # Examples
+/// ```
+/// let tables = Tables::small(alloc)?;
+/// let points = code_points(alloc, "12éK")?;
+/// let pieces = lower_code_point_sequence(alloc, &points, true, false, &tables)?;
+/// let printed = format!(in alloc; "{pieces:?}")?;
+/// assert_eq!(rt;
+///     printed.as_str(),
+///     "[ByteSequence([49, 50]), CharSet([201, 233]), ByteSet([75, 107])]"
+/// );
+/// ```
 pub fn lower_code_point_sequence(
     alloc: Global,
     cps: &[u32],

@@ -101,6 +101,19 @@ pub enum Outcome {
 ///
 /// # Errors
 /// Returns [`AllocError`] if an allocation fails. The arguments are unchanged.
+///
+/// # Examples
+/// ```
+/// let tables = Tables::small(alloc)?;
+/// let points = code_points(alloc, "b+")?;
+/// let regex = try_parse(alloc, &points, Flags::default(), &tables)?;
+/// match match_at(alloc, &regex, &tables, "abb", 1, 1000)? {
+///     Outcome::Matched(found) => assert_eq!(rt; found.end(), 3),
+///     _ => assert!(rt; false, "it matches"),
+/// }
+/// let outcome = match_at(alloc, &regex, &tables, "abb", 0, 1000)?;
+/// assert!(rt; matches!(&outcome, Outcome::NoMatch));
+/// ```
 pub fn match_at(
     alloc: Global,
     regex: &Regex,

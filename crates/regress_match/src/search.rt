@@ -31,6 +31,21 @@ use std::alloc::{AllocError, Global};
 ///
 /// # Errors
 /// Returns [`AllocError`] if an allocation fails. The arguments are unchanged.
+///
+/// # Examples
+/// ```
+/// let tables = Tables::small(alloc)?;
+/// let points = code_points(alloc, "(\\d+)-(\\d+)")?;
+/// let regex = try_parse(alloc, &points, Flags::default(), &tables)?;
+/// match find(alloc, &regex, &tables, "on 12-31", 0, 1000)? {
+///     Outcome::Matched(found) => {
+///         assert_eq!(rt; found.start(), 3);
+///         assert_eq!(rt; found.end(), 8);
+///         assert_eq!(rt; found.group(1), Some((6, 8)));
+///     }
+///     _ => assert!(rt; false, "it matches"),
+/// }
+/// ```
 pub fn find(
     alloc: Global,
     regex: &Regex,
@@ -135,6 +150,21 @@ impl<'a> Matches<'a> {
     /// # Errors
     /// Returns [`AllocError`] if an allocation fails. The position of the search stays as it is, so that the call may
     /// be repeated; the steps taken are used up.
+    ///
+    /// # Examples
+    /// ```
+    /// let tables = Tables::small(alloc)?;
+    /// let points = code_points(alloc, "a+")?;
+    /// let regex = try_parse(alloc, &points, Flags::default(), &tables)?;
+    /// let mut matches = Matches::new(&regex, &tables, "aabxa", 0, 1000);
+    /// let mut ends = Vec::new(alloc);
+    /// for _ in 0..10 {
+    ///     if let Outcome::Matched(found) = matches.next(alloc)? {
+    ///         ends.push(found.end())?;
+    ///     }
+    /// }
+    /// assert_eq!(rt; ends.as_slice(), [2, 5].as_slice());
+    /// ```
     pub fn next(&mut self, alloc: Global) -> Result<Outcome, AllocError>
         ensures finds { IfOk result (Finds (searched_text self.old) (searched_outcomes self.old) (next_from self.old)) }
         ensures goes_on { IfOk result (λ outcome. next_from self.new ≡ goes_on_from (searched_text self.old) (next_from self.old) outcome) }

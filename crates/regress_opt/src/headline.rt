@@ -37,6 +37,16 @@ use std::alloc::{AllocError, Global};
 ///
 /// # Complexity
 /// As for `try_parse` and [`optimize`] together.
+///
+/// # Examples
+/// ```
+/// let tables = Tables::small(alloc)?;
+/// let points = code_points(alloc, "abc")?;
+/// let (regex, optimized) = parse_and_optimize(alloc, &points, Flags::default(), &tables)?;
+/// optimized?;
+/// let printed = regex.to_string(alloc)?;
+/// assert_eq!(rt; printed.as_str(), "Cat\n..ByteSeq3 0x616263\n..Goal\n");
+/// ```
 pub fn parse_and_optimize(
     alloc: Global,
     pattern: &[u32],

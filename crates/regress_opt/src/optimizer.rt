@@ -28,6 +28,16 @@ use std::alloc::{AllocError, Global};
 /// One traversal, children before parents, which visits each node of the old tree once. Unrolling adds at most 6401
 /// units for each loop with a minimum of at least one. The recursion is as deep as nodes are nested, where right sides
 /// of alternatives do not count.
+///
+/// # Examples
+/// ```
+/// let tables = Tables::small(alloc)?;
+/// let points = code_points(alloc, "[ab]")?;
+/// let mut regex = try_parse(alloc, &points, Flags::default(), &tables)?;
+/// optimize(alloc, &mut regex)?;
+/// let printed = regex.to_string(alloc)?;
+/// assert_eq!(rt; printed.as_str(), "Cat\n..ByteSet2 0x61 0x62\n..Goal\n");
+/// ```
 pub fn optimize(alloc: Global, r: &mut Regex) -> Result<(), AllocError>
     requires { IsWellFormed (tree r.old.node) }
 

@@ -52,6 +52,18 @@ use std::alloc::Global;
 /// each group with the name, so time and size of the tree can grow as their product. With the flag v the contents of a
 /// class are traversed once for each class around it, and each use of a property copies its set from the table. The
 /// depth of recursion is at most `MAX_NESTING_DEPTH`.
+///
+/// # Examples
+/// ```
+/// let tables = Tables::small(alloc)?;
+/// let points = code_points(alloc, "a|b")?;
+/// let regex = try_parse(alloc, &points, Flags::default(), &tables)?;
+/// let printed = regex.to_string(alloc)?;
+/// assert_eq!(rt;
+///     printed.as_str(),
+///     "Cat\n..Alt\n....'97'\n....'98'\n..Goal\n"
+/// );
+/// ```
 pub fn try_parse(
     alloc: Global,
     pattern: &[u32],
@@ -90,6 +102,19 @@ pub fn try_parse(
 ///
 /// # Complexity
 /// As for [`try_parse`].
+///
+/// # Examples
+/// ```
+/// let tables = Tables::small(alloc)?;
+/// let points = code_points(alloc, "ab[c")?;
+/// match try_parse_with_place(alloc, &points, Flags::default(), &tables) {
+///     Err(PlacedFault::Syntax { error, place }) => {
+///         assert_eq!(rt; error.text.as_str(), "Unbalanced bracket");
+///         assert_eq!(rt; place, 2);
+///     }
+///     _ => assert!(rt; false, "it is accepted"),
+/// }
+/// ```
 pub fn try_parse_with_place(
     alloc: Global,
     pattern: &[u32],

@@ -35,6 +35,39 @@ use std::alloc::AllocError;
 /// # Errors
 /// Returns the error of the rewrite. Some nodes are rewritten then and others not; the tree has the same meaning and is
 /// well formed.
+///
+/// # Examples
+/// This rewrite keeps each node, and counts its calls:
+/// ```
+/// #[derive(Drop)]
+/// struct Counter {
+///     nodes: usize,
+/// }
+///
+/// impl Rewrite for Counter {
+///     ghost use Rattle.std.specs.Prelude.{true, false};
+///
+///     ghost removes = { λ t. false };
+///
+///     ghost is_exact = { true };
+///
+///     fn apply(&mut self, _node: &mut Node, _walk: &Walk) -> Result<PassAction, AllocError> {
+///         self.nodes = self.nodes.wrapping_add(1);
+///         Ok(PassAction::Keep)
+///     }
+/// }
+/// ```
+/// It is called once for each node:
+/// ```
+/// let tables = Tables::small(alloc)?;
+/// let points = code_points(alloc, "a|b")?;
+/// let mut regex = try_parse(alloc, &points, Flags::default(), &tables)?;
+/// let mut counter = Counter { nodes: 0 };
+/// let changed = run_pass(&mut regex, &mut counter)?;
+/// assert!(rt; !changed);
+/// // the two letters, the alternation, the end, and the root
+/// assert_eq!(rt; counter.nodes, 5);
+/// ```
 pub fn run_pass<R: Rewrite>(r: &mut Regex, pass: &mut R) -> Result<bool, AllocError>
     requires { IsWellFormed (tree r.old.node) }
 

@@ -60,6 +60,19 @@ pub struct SpannedRegex {
 /// # Complexity
 /// The pattern is parsed twice. A span is copied once for each lookbehind around it. The depth of recursion is at most
 /// `MAX_NESTING_DEPTH`.
+///
+/// # Examples
+/// ```
+/// let tables = Tables::small(alloc)?;
+/// let points = code_points(alloc, "a*")?;
+/// let parsed = try_parse_with_spans(alloc, &points, Flags::default(), &tables)?;
+/// // the letter, the loop, the end, and the whole pattern
+/// assert_eq!(rt; parsed.spans.len(), 4);
+/// assert_eq!(rt; parsed.spans[0], Span { start: 0, end: 1 });
+/// assert_eq!(rt; parsed.spans[1], Span { start: 0, end: 2 });
+/// assert_eq!(rt; parsed.spans[2], Span { start: 2, end: 2 });
+/// assert_eq!(rt; parsed.spans[3], Span { start: 0, end: 2 });
+/// ```
 pub fn try_parse_with_spans(
     alloc: Global,
     pattern: &[u32],

@@ -26,6 +26,17 @@ use std::alloc::{AllocError, Global};
 ///
 /// # Complexity
 /// Linear in the size of the data, all of which is copied to memory from `alloc`.
+///
+/// # Examples
+/// ```
+/// let tables = unicode_tables(alloc)?;
+/// // the simple case folding of LATIN CAPITAL LETTER SHARP S
+/// assert_eq!(rt; fold(0x1E9E, &tables), 0xDF);
+/// match tables.script("Greek") {
+///     Some(greek) => assert!(rt; greek.contains(0x3B1)),
+///     None => assert!(rt; false, "Unicode has this script"),
+/// }
+/// ```
 pub fn unicode_tables(alloc: Global) -> Result<Tables, AllocError>
     ensures { IfOk result (λ tables. table_of tables ≡ unicode_table) }
 {

@@ -24,6 +24,16 @@ use std::alloc::{AllocError, Global};
 /// Two passes over the table and the intervals, with a binary search for each entry. An entry that maps every code
 /// point of its range adds one interval for each interval that its range overlaps; any other entry adds single code
 /// points. Members outside the ranges of the table are never traversed one by one.
+///
+/// # Examples
+/// ```
+/// let tables = Tables::small(alloc)?;
+/// let mut set = CodePointSet::new(alloc);
+/// set.add_one(0x6B)?;
+/// let closure = add_icase_code_points(set, &tables)?;
+/// assert!(rt; closure.contains(0x4B));
+/// assert!(rt; closure.contains(0x212A));
+/// ```
 pub fn add_icase_code_points(
     input: CodePointSet,
     tables: &Tables,

@@ -22,6 +22,14 @@ pub(super) fn image(rows: &[FoldRange], c: u32) -> u32
 ///
 /// # Complexity
 /// A binary search in the entries.
+///
+/// # Examples
+/// ```
+/// let tables = Tables::small(alloc)?;
+/// // K, and KELVIN SIGN
+/// assert_eq!(rt; fold(0x4B, &tables), 0x6B);
+/// assert_eq!(rt; fold(0x212A, &tables), 0x6B);
+/// ```
 pub fn fold(c: u32, tables: &Tables) -> u32
     ensures { result ≡ (table_of tables.now).fold c }
 {
@@ -33,6 +41,14 @@ pub fn fold(c: u32, tables: &Tables) -> u32
 ///
 /// # Complexity
 /// A binary search in the entries.
+///
+/// # Examples
+/// ```
+/// let tables = Tables::small(alloc)?;
+/// assert_eq!(rt; uppercase(0x6B, &tables), 0x4B);
+/// // the upper case of LATIN SMALL LETTER SHARP S is two letters
+/// assert_eq!(rt; uppercase(0xDF, &tables), 0xDF);
+/// ```
 pub fn uppercase(c: u32, tables: &Tables) -> u32
     ensures { result ≡ (table_of tables.now).uppercase c }
 {

@@ -52,6 +52,30 @@ impl Tables {
     /// # Complexity
     /// With n code points in the ranges of the entries: time n log n, and memory for n numbers. Linear in the named
     /// sets and strings.
+    ///
+    /// # Examples
+    /// ```
+    /// // the letters of ASCII and their cases
+    /// let folds = vec![in alloc; FoldRange::from(0x41, 26, 32, 1)]?;
+    /// let uppers = vec![in alloc; FoldRange::from(0x61, 26, -32, 1)]?;
+    /// let mut letters = CodePointSet::new(alloc);
+    /// letters.add(Interval::new(0x41, 0x5A))?;
+    /// letters.add(Interval::new(0x61, 0x7A))?;
+    /// let tables = Tables::new(
+    ///     alloc,
+    ///     folds,
+    ///     uppers,
+    ///     letters.try_clone(alloc)?,
+    ///     letters,
+    ///     Vec::new(alloc),
+    ///     Vec::new(alloc),
+    ///     Vec::new(alloc),
+    ///     Vec::new(alloc),
+    ///     Vec::new(alloc),
+    /// )?;
+    /// assert_eq!(rt; fold(0x41, &tables), 0x61);
+    /// assert!(rt; tables.id_start().contains(0x61));
+    /// ```
     pub fn new(
         alloc: Global,
         folds: Vec<FoldRange>,

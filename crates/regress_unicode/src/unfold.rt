@@ -24,6 +24,14 @@ const MOST: usize = 4;
 ///
 /// # Complexity
 /// Linear in the number of entries of the table.
+///
+/// # Examples
+/// ```
+/// let tables = Tables::small(alloc)?;
+/// // K, k and KELVIN SIGN
+/// let points = unfold_char(alloc, 0x6B, &tables)?;
+/// assert_eq!(rt; points.as_slice(), [0x4B, 0x6B, 0x212A].as_slice());
+/// ```
 pub fn unfold_char(alloc: Global, c: u32, tables: &Tables) -> Result<Vec<u32>, AllocError>
     requires { c ≤ code_point_max }
     ensures listing { IfOk result (λ list.
@@ -65,6 +73,16 @@ pub fn unfold_uppercase_char(alloc: Global, c: u32, tables: &Tables) -> Result<V
 ///
 /// # Complexity
 /// At most linear in the number of entries of the table.
+///
+/// # Examples
+/// ```
+/// let tables = Tables::small(alloc)?;
+/// let folded = expand_code_point(alloc, 0x6B, true, true, &tables)?;
+/// assert_eq!(rt; folded.as_slice(), [0x4B, 0x6B, 0x212A].as_slice());
+/// // without the flag u: KELVIN SIGN is its own upper case
+/// let upper = expand_code_point(alloc, 0x6B, true, false, &tables)?;
+/// assert_eq!(rt; upper.as_slice(), [0x4B, 0x6B].as_slice());
+/// ```
 pub fn expand_code_point(
     alloc: Global,
     c: u32,

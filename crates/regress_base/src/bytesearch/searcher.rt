@@ -15,6 +15,13 @@ pub trait ByteSearcher {
     ///
     /// # Complexity
     /// A byte set tests each byte up to there once.
+    ///
+    /// # Examples
+    /// ```
+    /// let needle = Needle::new(b"na");
+    /// assert_eq!(rt; needle.find_in(b"banana"), Some(2));
+    /// assert_eq!(rt; needle.find_in(b"band"), None);
+    /// ```
     fn find_in(&self, rhs: &[u8]) -> Option<usize>
         ensures { IsLeast (stands_at self.now rhs.now) (length rhs.now) result };
 }

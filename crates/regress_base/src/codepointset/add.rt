@@ -20,6 +20,16 @@ impl CodePointSet {
     ///
     /// # Complexity
     /// A binary search, and a move of the intervals after the new one. Amortized constant at the end of the list.
+    ///
+    /// # Examples
+    /// ```
+    /// let mut set = CodePointSet::new(alloc);
+    /// set.add(Interval::new(0x61, 0x66))?;
+    /// set.add(Interval::new(0x67, 0x7A))?;
+    /// assert!(rt; set.contains(0x62));
+    /// // the two intervals touch, and are one
+    /// assert_eq!(rt; set.intervals(), [Interval::new(0x61, 0x7A)].as_slice());
+    /// ```
     pub fn add(&mut self, new_iv: Interval) -> Result<(), AllocError>
         ensures members { OnOk result ((c : ℕ) →
             is_member self.new c ≡ (is_member self.old c || is_within new_iv c)) }

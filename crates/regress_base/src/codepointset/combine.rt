@@ -41,6 +41,16 @@ impl CodePointSet {
     ///
     /// # Complexity
     /// Linear in the number of intervals of both.
+    ///
+    /// # Examples
+    /// ```
+    /// let mut set = CodePointSet::new(alloc);
+    /// set.add(Interval::new(0x61, 0x66))?;
+    /// let mut other = CodePointSet::new(alloc);
+    /// other.add(Interval::new(0x65, 0x7A))?;
+    /// set.intersect(other.intervals())?;
+    /// assert_eq!(rt; set.intervals(), [Interval::new(0x65, 0x66)].as_slice());
+    /// ```
     pub fn intersect(&mut self, intervals: &[Interval]) -> Result<(), AllocError>
         requires { IsCanonical intervals.now }
         ensures members { OnOk result ((c : ℕ) →

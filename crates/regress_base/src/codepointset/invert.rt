@@ -34,6 +34,17 @@ impl CodePointSet {
     ///
     /// # Complexity
     /// Linear in the number of intervals.
+    ///
+    /// # Examples
+    /// ```
+    /// let mut set = CodePointSet::new(alloc);
+    /// set.add(Interval::new(0, 0x60))?;
+    /// let inverted = set.inverted()?;
+    /// assert_eq!(rt;
+    ///     inverted.intervals(),
+    ///     [Interval::new(0x61, 0x10FFFF)].as_slice()
+    /// );
+    /// ```
     #[must_use]
     pub fn inverted(&self) -> Result<CodePointSet, AllocError>
         ensures members { IfOk result (λ set. IsComplement self.now set) }

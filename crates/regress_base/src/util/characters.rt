@@ -8,6 +8,12 @@ use std::alloc::{AllocError, Global};
 ///
 /// # Errors
 /// Returns [`AllocError`] if an allocation fails.
+///
+/// # Examples
+/// ```
+/// let points = code_points(alloc, "aé😀")?;
+/// assert_eq!(rt; points.as_slice(), [0x61, 0xE9, 0x1F600].as_slice());
+/// ```
 pub fn code_points(alloc: Global, text: &str) -> Result<Vec<u32>, AllocError>
     ensures characters { IfOk result (λ points. points.items ≡ chars text.now) }
     ensures in_range { IfOk result (λ points. All (λ c. c ≤ CODE_POINT_MAX) points.items) }

@@ -52,6 +52,14 @@ impl Node {
     ///
     /// # Complexity
     /// Linear in the size of the node. The recursion is at most 102 nodes deep.
+    ///
+    /// # Examples
+    /// ```
+    /// let node = Node::Char { c: 0x61 };
+    /// let copy = node.try_duplicate(alloc, 100)?;
+    /// assert!(rt; matches!(&copy, Some(Node::Char { c: 0x61 })));
+    /// assert!(rt; node.try_duplicate(alloc, 101)?.is_none());
+    /// ```
     pub fn try_duplicate(&self, alloc: Global, depth: usize) -> Result<Option<Node>, AllocError>
         requires { HasNoGroup (tree self.now) }
         ensures copy { IfOk result (λ found. IfSome found (λ copy. tree copy ≡ tree self.now)) }

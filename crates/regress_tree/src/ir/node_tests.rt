@@ -38,6 +38,12 @@ impl Node {
     ///
     /// # Complexity
     /// Constant.
+    ///
+    /// # Examples
+    /// ```
+    /// assert!(rt; Node::MatchAny.matches_exactly_one_char());
+    /// assert!(rt; !Node::Empty.matches_exactly_one_char());
+    /// ```
     pub fn matches_exactly_one_char(&self) -> bool
         ensures { result ≡ matches_exactly_one_char (tree self.now) }
     {
@@ -54,6 +60,12 @@ impl Node {
     ///
     /// # Complexity
     /// Constant.
+    ///
+    /// # Examples
+    /// ```
+    /// assert!(rt; Node::make_always_fails(alloc).match_always_fails());
+    /// assert!(rt; !Node::Empty.match_always_fails());
+    /// ```
     pub fn match_always_fails(&self) -> bool
         ensures { result ≡ match_always_fails (tree self.now) }
     {

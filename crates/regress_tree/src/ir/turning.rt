@@ -16,6 +16,17 @@ impl Node {
     ///
     /// # Complexity
     /// Linear in the number of parts.
+    ///
+    /// # Examples
+    /// ```
+    /// let parts = vec![in alloc; Node::Char { c: 0x61 }, Node::Char { c: 0x62 }]?;
+    /// let mut node = Node::Cat(parts);
+    /// // inside a lookbehind
+    /// let mut walk = Walk::root(false).looking(true);
+    /// node.reverse_cats(&mut walk);
+    /// let printed = node.to_string(alloc)?;
+    /// assert_eq!(rt; printed.as_str(), "Cat\n..'98'\n..'97'\n");
+    /// ```
     pub fn reverse_cats(&mut self, w: &mut Walk)
         requires { is_byte_sequence (tree self.old) ≡ false }
         ensures behind { w.old.in_lookbehind ≡ true → tree self.new ≡ parts_turned (tree self.old) }

@@ -18,6 +18,25 @@ use super::{Node, Walk};
 /// Preorder makes a linear number of steps; in postorder an alternation of n alternatives takes a number of steps
 /// proportional to n log n. The recursion is as deep as nodes are nested, where right sides of alternatives do not
 /// count; in postorder it is deeper by the binary logarithm of the number of alternatives. Nothing is allocated.
+///
+/// # Examples
+/// ```
+/// let tables = Tables::small(alloc)?;
+/// let points = code_points(alloc, "ab*|.")?;
+/// let regex = try_parse(alloc, &points, Flags::default(), &tables)?;
+/// let mut literals = 0_usize;
+/// walk(
+///     false,
+///     regex.flags.unicode,
+///     &regex.node,
+///     &mut |node: &Node, _walk: &mut Walk| {
+///         if matches!(node, Node::Char { .. }) {
+///             literals = literals.wrapping_add(1);
+///         }
+///     },
+/// );
+/// assert_eq!(rt; literals, 2);
+/// ```
 pub fn walk<F: FnMut(&Node, &mut Walk)>(postorder: bool, unicode: bool, n: &Node, func: &mut F)
     requires { F.IsAlwaysCallable func.old }
     ensures callable { F.IsAlwaysCallable func.new }

@@ -21,6 +21,28 @@ use super::{Node, NodeList, Walk};
 /// # Complexity
 /// Linear in the number of nodes. The recursion is as deep as nodes are nested, where right sides of alternatives do
 /// not count. Nothing is allocated.
+///
+/// # Examples
+/// ```
+/// let tables = Tables::small(alloc)?;
+/// let points = code_points(alloc, "a.")?;
+/// let mut regex = try_parse(alloc, &points, Flags::default(), &tables)?;
+/// walk_mut(
+///     true,
+///     regex.flags.unicode,
+///     &mut regex.node,
+///     &mut |node: &mut Node, _walk: &mut Walk| {
+///         if matches!(node, Node::MatchAnyExceptLineTerminator) {
+///             *node = Node::MatchAny;
+///         }
+///     },
+/// );
+/// let printed = regex.to_string(alloc)?;
+/// assert_eq!(rt;
+///     printed.as_str(),
+///     "Cat\n..Cat\n....'97'\n....MatchAny\n..Goal\n"
+/// );
+/// ```
 pub fn walk_mut<F: FnMut(&mut Node, &mut Walk)>(
     postorder: bool,
     unicode: bool,

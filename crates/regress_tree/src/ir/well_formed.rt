@@ -30,6 +30,19 @@ impl Regex {
     /// # Complexity
     /// One pass over the tree. It allocates nothing and takes 8 KiB of stack for the set of ids. The recursion is as
     /// deep as nodes are nested, where right sides of alternatives do not count.
+    ///
+    /// # Examples
+    /// ```
+    /// let node = Node::CaptureGroup {
+    ///     id: 1,
+    ///     contents: Box::new(alloc, Node::Empty)?,
+    ///     name: None,
+    /// };
+    /// let flags = Flags::default();
+    /// let regex = Regex { node, flags };
+    /// // the id of the first group is 0
+    /// assert!(rt; !regex.is_well_formed());
+    /// ```
     pub fn is_well_formed(&self) -> bool
         ensures { IsTrue result ↔ IsWellFormed (tree self.now.node) }
     {
